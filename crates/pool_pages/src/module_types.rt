@@ -1,0 +1,188 @@
+ghost use Rattle.std.specs.Prelude.{◌≡◌, ◌+◌, ◌*◌, ◌^◌, ◌<◌, ◌≤◌, ◌&&◌, nat_le};
+ghost use Rattle.std.specs.Option.{SomeIff};
+ghost use Rattle.pool_pages.specs.MemoryTypes.{minimum_byte_size, page_size, can_use_virtual_memory, reservation, guard_size, reservation_for_growth, may_move};
+
+use crate::byte_count::PageSize;
+use crate::plain_list::{ByteList, PlainList};
+
+/// The name of a compiled module: its number in the input.
+#[derive(Clone, Copy, Debug, PartialEq, Eq, PartialOrd, Ord, Hash)]
+pub struct CompiledModuleId(pub u64);
+
+/// The number of a memory among those that a module defines.
+#[derive(Clone, Copy, Debug, PartialEq, Eq, PartialOrd, Ord, Hash)]
+pub struct DefinedMemoryIndex(pub u32);
+
+/// The type of the addresses of a memory or table.
+#[derive(Clone, Copy, Debug, PartialEq, Eq)]
+pub enum IndexType {
+    I32,
+    I64,
+}
+
+/// The least and the greatest size: of a memory in its pages, of a table in elements.
+#[derive(Clone, Copy, Debug, PartialEq, Eq)]
+pub struct Limits {
+    pub min: u64,
+    pub max: Option<u64>,
+}
+
+/// The type of a linear memory.
+#[derive(Clone, Copy, Debug, PartialEq, Eq)]
+pub struct MemoryType {
+    pub idx_type: IndexType,
+    pub limits: Limits,
+    pub shared: bool,
+    /// The size of this memory's pages is 2 to this power: 0 or 16.
+    pub page_size_log2: u8,
+}
+
+impl MemoryType {
+    /// The size of this memory's own pages, in bytes. It is not the host's page.
+    pub fn page_size(&self) -> u64
+        requires { self.now.page_size_log2 < 64 }
+        ensures { result ≡ page_size self.now }
+    {
+        1u64 << self.page_size_log2
+    }
+
+    /// The minimum in bytes, where a `u64` can hold it.
+    pub fn minimum_byte_size(&self) -> Option<u64>
+        requires { self.now.page_size_log2 < 64 }
+        ensures { SomeIff result (minimum_byte_size self.now < 2 ^ 64) (minimum_byte_size self.now) }
+    {
+        self.limits.min.checked_mul(self.page_size())
+    }
+
+    /// Whether bounds of this memory may be kept by hidden pages: traps come by signals, and the
+    /// memory's pages are whole pages of the host.
+    pub fn can_use_virtual_memory(&self, tunables: &Tunables, host_page: PageSize) -> bool
+        requires { self.now.page_size_log2 < 64 }
+        ensures { result ≡ can_use_virtual_memory self.now tunables.now host_page }
+    {
+        tunables.signals_based_traps && self.page_size() >= host_page.get() as u64
+    }
+}
+
+/// The bytes that a memory begins with, at their offset.
+#[derive(Debug, Drop)]
+pub struct ImageDecl {
+    /// In bytes.
+    pub offset: u64,
+    pub bytes: ByteList,
+}
+
+/// A memory that a module defines.
+#[derive(Debug, Drop)]
+pub struct MemoryDecl {
+    pub ty: MemoryType,
+    pub image: Option<ImageDecl>,
+}
+
+/// What the allocator has to know of a compiled module.
+#[derive(Debug, Drop)]
+pub struct ModuleInfo {
+    pub memories: PlainList<MemoryDecl>,
+}
+
+/// What a linear memory is for.
+#[derive(Clone, Copy, Debug, PartialEq, Eq)]
+pub enum MemoryKind {
+    LinearMemory,
+    GcHeap,
+}
+
+/// The settings of the engine that memories depend on. Sizes are in bytes.
+#[derive(Clone, Copy, Debug, PartialEq, Eq)]
+pub struct Tunables {
+    pub memory_reservation: u64,
+    pub memory_guard_size: u64,
+    pub memory_reservation_for_growth: u64,
+    pub memory_may_move: bool,
+    pub guard_before_linear_memory: bool,
+    pub signals_based_traps: bool,
+    pub memory_init_cow: bool,
+    pub table_lazy_init: bool,
+    pub collector: bool,
+    pub gc_heap_reservation: u64,
+    pub gc_heap_guard_size: u64,
+    pub gc_heap_reservation_for_growth: u64,
+    pub gc_heap_may_move: bool,
+}
+
+impl Default for Tunables {
+    fn default() -> Self {
+        Tunables {
+            memory_reservation: 1 << 20,
+            memory_guard_size: 1 << 16,
+            memory_reservation_for_growth: 0,
+            memory_may_move: true,
+            guard_before_linear_memory: false,
+            signals_based_traps: true,
+            memory_init_cow: true,
+            table_lazy_init: true,
+            collector: false,
+            gc_heap_reservation: 1 << 20,
+            gc_heap_guard_size: 1 << 16,
+            gc_heap_reservation_for_growth: 0,
+            gc_heap_may_move: true,
+        }
+    }
+}
+
+/// The settings for memories of one kind.
+#[derive(Clone, Copy, Debug, PartialEq, Eq)]
+pub struct MemoryTunables {
+    pub tunables: Tunables,
+    pub kind: MemoryKind,
+}
+
+impl MemoryTunables {
+    pub fn new(tunables: &Tunables, kind: MemoryKind) -> Self
+        ensures { result ≡ record { tunables = tunables.now; kind = kind } }
+    {
+        MemoryTunables {
+            tunables: *tunables,
+            kind,
+        }
+    }
+
+    /// In bytes.
+    pub fn reservation(&self) -> u64
+        ensures { result ≡ reservation self.now }
+    {
+        match self.kind {
+            MemoryKind::LinearMemory => self.tunables.memory_reservation,
+            MemoryKind::GcHeap => self.tunables.gc_heap_reservation,
+        }
+    }
+
+    /// In bytes.
+    pub fn guard_size(&self) -> u64
+        ensures { result ≡ guard_size self.now }
+    {
+        match self.kind {
+            MemoryKind::LinearMemory => self.tunables.memory_guard_size,
+            MemoryKind::GcHeap => self.tunables.gc_heap_guard_size,
+        }
+    }
+
+    /// In bytes.
+    pub fn reservation_for_growth(&self) -> u64
+        ensures { result ≡ reservation_for_growth self.now }
+    {
+        match self.kind {
+            MemoryKind::LinearMemory => self.tunables.memory_reservation_for_growth,
+            MemoryKind::GcHeap => self.tunables.gc_heap_reservation_for_growth,
+        }
+    }
+
+    pub fn may_move(&self) -> bool
+        ensures { result ≡ may_move self.now }
+    {
+        match self.kind {
+            MemoryKind::LinearMemory => self.tunables.memory_may_move,
+            MemoryKind::GcHeap => self.tunables.gc_heap_may_move,
+        }
+    }
+}
