@@ -3,13 +3,19 @@
 
 mod byte_count;
 mod config;
+mod image_data;
 mod module_types;
+mod pages;
 mod plain_list;
+mod region;
 
 pub use byte_count::{ByteCountNotAligned, ByteCountOutOfBounds, HostAlignedByteCount, PageSize};
-pub use config::BadConfig;
+pub use config::{BadConfig, Enabled, InstanceLimits, PoolingAllocationConfig};
+pub use image_data::ImageData;
 pub use module_types::{
     CompiledModuleId, DefinedMemoryIndex, ImageDecl, IndexType, Limits, MemoryDecl, MemoryKind,
     MemoryTunables, MemoryType, ModuleInfo, Tunables,
 };
+pub use pages::{DecommitBehavior, PageCalls, PageFault, Pages, RegionName};
 pub use plain_list::{ByteList, PlainList};
+pub use region::PageRegion;

@@ -111,6 +111,10 @@ pub struct Tunables {
 }
 
 impl Default for Tunables {
+    ghost use Rattle.pool_pages.specs.Config.{IsDefaultTunables};
+
+    ghost is_default = { IsDefaultTunables };
+
     fn default() -> Self {
         Tunables {
             memory_reservation: 1 << 20,

@@ -1,0 +1,66 @@
+-- The settings of a pool where an input leaves them out.
+use Rattle.std.specs.Prelude.{◌≡◌, ℕ, true, false}
+use Rattle.pool_pages.specs.declared.config.Enabled.TheVariants.{No}
+use Rattle.pool_pages.specs.declared.config.InstanceLimits.{InstanceLimits}
+use Rattle.pool_pages.specs.declared.config.PoolingAllocationConfig.{PoolingAllocationConfig}
+use Rattle.pool_pages.specs.declared.module_types.Tunables.{Tunables}
+
+abbrev pub default_limits : InstanceLimits
+default_limits = record {
+  total_core_instances = 1000;
+  total_component_instances = 1000;
+  total_memories = 10;
+  total_tables = 10;
+  total_stacks = 0;
+  total_gc_heaps = 0;
+  max_memories_per_module = 1;
+  max_tables_per_module = 1;
+  max_core_instances_per_component = 1000;
+  max_memories_per_component = 1000;
+  max_tables_per_component = 1000;
+  max_memory_size = 65536;
+  table_elements = 100;
+  core_instance_size = 1048576;
+  component_instance_size = 1048576;
+}
+
+abbrev pub default_config : PoolingAllocationConfig
+default_config = record {
+  limits = default_limits;
+  max_unused_warm_slots = 100;
+  decommit_batch_size = 1;
+  stack_size = 0;
+  async_stack_zeroing = false;
+  async_stack_keep_resident = 0;
+  linear_memory_keep_resident = 0;
+  table_keep_resident = 0;
+  memory_protection_keys = No;
+  max_memory_protection_keys = 15;
+  pagemap_scan = No;
+}
+
+abbrev pub IsDefaultLimits : InstanceLimits → Type 0
+IsDefaultLimits limits = limits ≡ default_limits
+
+abbrev pub IsDefaultConfig : PoolingAllocationConfig → Type 0
+IsDefaultConfig config = config ≡ default_config
+
+abbrev pub default_tunables : Tunables
+default_tunables = record {
+  memory_reservation = 1048576;
+  memory_guard_size = 65536;
+  memory_reservation_for_growth = 0;
+  memory_may_move = true;
+  guard_before_linear_memory = false;
+  signals_based_traps = true;
+  memory_init_cow = true;
+  table_lazy_init = true;
+  collector = false;
+  gc_heap_reservation = 1048576;
+  gc_heap_guard_size = 65536;
+  gc_heap_reservation_for_growth = 0;
+  gc_heap_may_move = true;
+}
+
+abbrev pub IsDefaultTunables : Tunables → Type 0
+IsDefaultTunables tunables = tunables ≡ default_tunables

@@ -1,0 +1,121 @@
+-- What a region tells of itself, and what a call does to that.
+use Rattle.std.specs.Prelude.{◌≡◌, ℕ, ◌+◌, ◌-◌, ◌^◌, ◌<◌, ◌≤◌, ◌⊎◌, ◌==◌, ◌||◌, List, length, min, Bool, true, false, not, if◌then◌else◌, Option, Some, None, IsSome, option_map}
+use Rattle.std.specs.List.{list_any}
+use Rattle.pool_pages.specs.Count.{Count}
+use Rattle.pool_pages.specs.Contents.{Contents, IsShaped, Page, page_at, IsIn, exposed, hidden, image_mapped, image_copied, erased, decommitted, written}
+use Rattle.pool_pages.specs.declared.pages.PageCalls.{PageCalls}
+use Rattle.pool_pages.specs.declared.pages.RegionName.{RegionName}
+use Rattle.pool_pages.specs.declared.pages.DecommitBehavior.{DecommitBehavior}
+use Rattle.pool_pages.specs.declared.pages.DecommitBehavior.TheVariants.{Zero, RestoreOriginalMapping}
+
+-- Its name, page, length in bytes and behaviour. What it holds, and the numbers of its calls that fail, where it
+-- tells them. How many calls it was asked for so far, how many of each kind, and how often one failed.
+pub record Told : Type 0 where
+  pub name : RegionName
+  pub page : ℕ
+  pub len : ℕ
+  pub behaviour : DecommitBehavior
+  pub contents : Option Contents
+  pub plan : Option (List ℕ)
+  pub made : ℕ
+  pub calls : PageCalls
+  pub faults : ℕ
+
+-- one more, for a count that stands still at the end of its type
+abbrev pub risen : ℕ → ℕ
+risen n = min (n + 1) (2 ^ 64 - 1)
+
+-- the count rose, or stands at the end of its type
+abbrev pub Rose : ℕ → ℕ → Type 0
+Rose old new = risen old ≤ new
+
+-- a call on a range of pages: which count it raises, and what it changes
+pub record PageCall : Type 0 where
+  pub start : ℕ
+  pub len : ℕ
+  pub raise : PageCalls → PageCalls
+  pub change : Contents → Contents
+
+abbrev pub exposing : ℕ → ℕ → PageCall
+exposing start len = record {
+  start = start; len = len;
+  raise = λ c. record c { expose = risen c.expose };
+  change = exposed start len;
+}
+
+abbrev pub hiding : ℕ → ℕ → PageCall
+hiding start len = record {
+  start = start; len = len;
+  raise = λ c. record c { hide = risen c.hide };
+  change = hidden start len;
+}
+
+-- what mapping an image does, by the region's behaviour
+abbrev pub mapped : DecommitBehavior → ℕ → List ℕ → Contents → Contents
+mapped RestoreOriginalMapping start image c = image_mapped start image c
+mapped Zero start image c = image_copied start image c
+
+abbrev pub mapping : DecommitBehavior → ℕ → List ℕ → PageCall
+mapping behaviour start image = record {
+  start = start; len = length image;
+  raise = λ c. record c { map_image = risen c.map_image };
+  change = mapped behaviour start image;
+}
+
+abbrev pub erasing : ℕ → ℕ → PageCall
+erasing start len = record {
+  start = start; len = len;
+  raise = λ c. record c { erase = risen c.erase };
+  change = erased start len;
+}
+
+abbrev pub decommitting : ℕ → ℕ → PageCall
+decommitting start len = record {
+  start = start; len = len;
+  raise = λ c. record c { decommit = risen c.decommit };
+  change = decommitted start len;
+}
+
+-- the call is counted, unless its range is empty
+abbrev pub counted : PageCall → Told → Told
+counted call t = if call.len == 0 then t else record t { made = risen t.made; calls = call.raise t.calls }
+
+-- the call succeeded: it is counted, and its pages are changed
+abbrev pub succeeded : PageCall → Told → Told
+succeeded call t = record (counted call t) { contents = option_map call.change t.contents }
+
+-- under this plan the call succeeds: its range is empty, or its number isn't in the plan
+abbrev pub passes : List ℕ → PageCall → Told → Bool
+passes plan call t = (call.len == 0) || not (list_any (λ n. n == risen t.made) plan)
+
+-- Each page of the range is as before or as a success leaves it, and each other page is as before. The columns stay
+-- as long as the region.
+pub record IsPartly (call : PageCall) (old new : Contents) : Type 0 where
+  pub inside : (k : ℕ) → IsIn call.start call.len old.page k → (page_at k new ≡ page_at k old) ⊎ (page_at k new ≡ page_at k (call.change old))
+  pub outside : (k : ℕ) → (IsIn call.start call.len old.page k → ⊥) → page_at k new ≡ page_at k old
+  pub shaped : (len : ℕ) → IsShaped old.page len old → IsShaped old.page len new
+
+-- a region tells after the call what it told before it, up to a part of the call's change
+abbrev pub MayChangePartly : PageCall → Option Contents → Option Contents → Type 0
+MayChangePartly call None None = Unit {0}
+MayChangePartly call None (Some new) = ⊥
+MayChangePartly call (Some old) None = ⊥
+MayChangePartly call (Some old) (Some new) = IsPartly call old new
+
+-- The call failed: it is counted, and the count of faults rose. A region that tells its plan holds what it held.
+pub record Faulted (call : PageCall) (old new : Told) : Type 0 where
+  pub nonempty : 0 < call.len
+  pub same : new ≡ record (counted call old) { contents = new.contents; faults = new.faults }
+  pub rose : Rose old.faults new.faults
+  pub partly : MayChangePartly call old.contents new.contents
+  pub planned : IsSome old.plan → (new.contents ≡ old.contents) × (new.faults ≡ risen old.faults)
+
+-- the bytes of a told region are written; its counts stay
+abbrev pub overwritten : ℕ → List ℕ → Told → Told
+overwritten start new t = record t { contents = option_map (written start new) t.contents }
+
+-- a range of whole pages inside the region
+pub record IsRange (start len : Count) (t : Told) : Type 0 where
+  pub start_page : start.page ≡ t.page
+  pub len_page : len.page ≡ t.page
+  pub inside : start.bytes + len.bytes ≤ t.len

@@ -1,0 +1,150 @@
+ghost use Rattle.std.specs.Prelude.{◌≡◌, ℕ, ◌+◌, ◌≤◌, List, length, replicate, slice_range, is_ok, OnOk, OnErr, IfSome};
+ghost use Rattle.pool_pages.specs.Count.{count, IsPageSize};
+ghost use Rattle.pool_pages.specs.Contents.{CanReach, HasNoOtherImage, IsShaped};
+ghost use Rattle.pool_pages.specs.Told.{Told, IsRange, Faulted, succeeded, overwritten, passes, exposing, hiding, mapping, erasing, decommitting};
+
+use crate::byte_count::{HostAlignedByteCount, PageSize};
+use crate::image_data::ImageData;
+use crate::pages::{DecommitBehavior, PageCalls, PageFault, Pages, RegionName};
+use std::marker::Model;
+
+/// A region as the layers above own it: contracts see it as what it tells, as plain data.
+#[derive(Drop)]
+pub struct PageRegion<P: Pages> {
+    pages: P,
+}
+
+impl<P: Pages> Model for PageRegion<P> {
+    ghost use Rattle.pool_pages.specs.Told.{Told};
+
+    ghost Value = { Told };
+
+    ghost view = { λ r. P.told r.pages };
+}
+
+impl<P: Pages> PageRegion<P> {
+    pub fn new(pages: P) -> Self
+        ensures { result ≡ P.told pages }
+    {
+        PageRegion { pages }
+    }
+
+    pub fn pages(&self) -> &P
+        ensures { P.told result.now ≡ self.now }
+    {
+        &self.pages
+    }
+
+    pub fn into_pages(self) -> P
+        ensures { P.told result ≡ self }
+    {
+        self.pages
+    }
+
+    pub fn name(&self) -> RegionName
+        ensures { result ≡ self.now.name }
+    {
+        self.pages.name()
+    }
+
+    pub fn page(&self) -> PageSize
+        ensures { result ≡ self.now.page }
+    {
+        self.pages.page()
+    }
+
+    pub fn len(&self) -> HostAlignedByteCount
+        ensures value { result ≡ count self.now.page self.now.len }
+        ensures shaped { IfSome self.now.contents (IsShaped self.now.page self.now.len) }
+    {
+        self.pages.len()
+    }
+
+    pub fn faults(&self) -> u64
+        ensures { result ≡ self.now.faults }
+    {
+        self.pages.faults()
+    }
+
+    pub fn calls(&self) -> PageCalls
+        ensures { result ≡ self.now.calls }
+    {
+        self.pages.calls()
+    }
+
+    pub fn behaviour(&self) -> DecommitBehavior
+        ensures { result ≡ self.now.behaviour }
+    {
+        self.pages.behaviour()
+    }
+
+    pub fn expose(&mut self, start: HostAlignedByteCount, len: HostAlignedByteCount) -> Result<(), PageFault>
+        requires { IsRange start len self.old }
+        ensures ok { OnOk result (self.new ≡ succeeded (exposing start.bytes len.bytes) self.old) }
+        ensures fault { OnErr result (Faulted (exposing start.bytes len.bytes) self.old self.new) }
+        ensures planned { IfSome self.old.plan (λ plan. is_ok result ≡ passes plan (exposing start.bytes len.bytes) self.old) }
+    {
+        self.pages.expose(start, len)
+    }
+
+    pub fn hide(&mut self, start: HostAlignedByteCount, len: HostAlignedByteCount) -> Result<(), PageFault>
+        requires { IsRange start len self.old }
+        ensures ok { OnOk result (self.new ≡ succeeded (hiding start.bytes len.bytes) self.old) }
+        ensures fault { OnErr result (Faulted (hiding start.bytes len.bytes) self.old self.new) }
+        ensures planned { IfSome self.old.plan (λ plan. is_ok result ≡ passes plan (hiding start.bytes len.bytes) self.old) }
+    {
+        self.pages.hide(start, len)
+    }
+
+    pub fn map_image(&mut self, start: HostAlignedByteCount, image: &ImageData) -> Result<(), PageFault>
+        requires range { IsRange start (count image.now.page (length image.now.bytes)) self.old }
+        requires one_image { IfSome self.old.contents (HasNoOtherImage start.bytes image.now.bytes) }
+        ensures ok { OnOk result (self.new ≡ succeeded (mapping self.old.behaviour start.bytes image.now.bytes) self.old) }
+        ensures fault { OnErr result (Faulted (mapping self.old.behaviour start.bytes image.now.bytes) self.old self.new) }
+        ensures planned { IfSome self.old.plan (λ plan. is_ok result ≡ passes plan (mapping self.old.behaviour start.bytes image.now.bytes) self.old) }
+    {
+        self.pages.map_image(start, image)
+    }
+
+    pub fn erase(&mut self, start: HostAlignedByteCount, len: HostAlignedByteCount) -> Result<(), PageFault>
+        requires { IsRange start len self.old }
+        ensures ok { OnOk result (self.new ≡ succeeded (erasing start.bytes len.bytes) self.old) }
+        ensures fault { OnErr result (Faulted (erasing start.bytes len.bytes) self.old self.new) }
+        ensures planned { IfSome self.old.plan (λ plan. is_ok result ≡ passes plan (erasing start.bytes len.bytes) self.old) }
+    {
+        self.pages.erase(start, len)
+    }
+
+    pub fn decommit(&mut self, start: HostAlignedByteCount, len: HostAlignedByteCount) -> Result<(), PageFault>
+        requires { IsRange start len self.old }
+        ensures ok { OnOk result (self.new ≡ succeeded (decommitting start.bytes len.bytes) self.old) }
+        ensures fault { OnErr result (Faulted (decommitting start.bytes len.bytes) self.old self.new) }
+        ensures planned { IfSome self.old.plan (λ plan. is_ok result ≡ passes plan (decommitting start.bytes len.bytes) self.old) }
+    {
+        self.pages.decommit(start, len)
+    }
+
+    pub fn read(&self, at: usize, out: &mut [u8])
+        requires inside { at + length out.old ≤ self.now.len }
+        requires reachable { IfSome self.now.contents (CanReach at (length out.old)) }
+        ensures { IfSome self.now.contents (λ c. out.new ≡ slice_range c.bytes at (at + length out.old)) }
+    {
+        self.pages.read(at, out)
+    }
+
+    pub fn write(&mut self, at: usize, bytes: &[u8])
+        requires inside { at + length bytes.now ≤ self.old.len }
+        requires reachable { IfSome self.old.contents (CanReach at (length bytes.now)) }
+        ensures { self.new ≡ overwritten at bytes.now self.old }
+    {
+        self.pages.write(at, bytes)
+    }
+
+    pub fn fill(&mut self, at: usize, len: usize, byte: u8)
+        requires inside { at + len ≤ self.old.len }
+        requires reachable { IfSome self.old.contents (CanReach at len) }
+        ensures { self.new ≡ overwritten at (replicate len byte) self.old }
+    {
+        self.pages.fill(at, len, byte)
+    }
+}
