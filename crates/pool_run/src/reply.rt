@@ -1,0 +1,36 @@
+use pool_pages::{ByteList, PlainList};
+use pool_slots::AllocError;
+
+/// The slots of a grant, in order.
+pub type SlotList = PlainList<u32>;
+
+/// The replies to one party's commands, in order.
+pub type ReplyList = PlainList<Reply>;
+
+/// A rule of the machine that a command broke. Nothing changes then.
+#[derive(Clone, Copy, Debug, PartialEq, Eq)]
+pub enum Trap {
+    MemoryOutOfBounds,
+}
+
+/// Why a command was refused.
+#[derive(Clone, Copy, Debug, PartialEq, Eq)]
+pub enum Refusal {
+    /// The command named was refused, or its grant was given back.
+    NoSuchGrant,
+    Alloc(AllocError),
+}
+
+/// The reply to a command.
+#[derive(Debug, Drop)]
+pub enum Reply {
+    Instance {
+        memories: SlotList,
+        tables: SlotList,
+    },
+    Bytes(ByteList),
+    Done,
+    Returned,
+    Refused(Refusal),
+    Trap(Trap),
+}

@@ -1,0 +1,92 @@
+ghost use Rattle.std.specs.Prelude.{◌≡◌, Some};
+ghost use Rattle.pool_slots.specs.Texts.{kind_text, limit_text};
+
+use std::error::Error;
+use std::fmt;
+
+use pool_pages::BadConfig;
+
+/// What there is a greatest number of at once.
+#[derive(Clone, Copy, Debug, PartialEq, Eq)]
+pub enum ConcurrencyKind {
+    /// Memories of the stripe with this number.
+    MemoryStripe(u32),
+    Tables,
+    Fibers,
+    GcHeaps,
+    CoreInstances,
+    ComponentInstances,
+}
+
+impl fmt::Display for ConcurrencyKind {
+    ghost output = { λ kind. Some (kind_text kind) };
+
+    fn fmt<W: fmt::Write>(&self, f: &mut fmt::Formatter<W>) -> fmt::Result {
+        match self {
+            ConcurrencyKind::MemoryStripe(stripe) => write!(f, "memory stripe {stripe}"),
+            ConcurrencyKind::Tables => write!(f, "tables"),
+            ConcurrencyKind::Fibers => write!(f, "fibers"),
+            ConcurrencyKind::GcHeaps => write!(f, "GC heaps"),
+            ConcurrencyKind::CoreInstances => write!(f, "core instances"),
+            ConcurrencyKind::ComponentInstances => write!(f, "component instances"),
+        }
+    }
+}
+
+/// As many of a kind are live as the pool has.
+#[derive(Clone, Copy, Debug, PartialEq, Eq)]
+pub struct PoolConcurrencyLimitError {
+    pub limit: usize,
+    pub kind: ConcurrencyKind,
+}
+
+impl fmt::Display for PoolConcurrencyLimitError {
+    ghost output = { λ e. Some (limit_text e) };
+
+    fn fmt<W: fmt::Write>(&self, f: &mut fmt::Formatter<W>) -> fmt::Result {
+        let limit = self.limit;
+        let kind = self.kind;
+        write!(f, "maximum concurrent limit of {limit} for {kind} reached")
+    }
+}
+
+impl Error for PoolConcurrencyLimitError {}
+
+/// Why an allocation was refused.
+#[derive(Clone, Copy, Debug, PartialEq, Eq)]
+pub enum AllocError {
+    /// No memory was to be had.
+    Memory,
+    /// No slot is free, or a counter is at its limit.
+    Limit(PoolConcurrencyLimitError),
+    /// A call on the pages of the slot failed.
+    PageFault,
+}
+
+/// Why a pool can't be made.
+#[derive(Clone, Copy, Debug, PartialEq, Eq)]
+pub enum PoolNewError {
+    BadConfig(BadConfig),
+    /// A region couldn't be made, or a call on it failed.
+    PageFault,
+    Memory,
+}
+
+/// The slot that a memory is in.
+#[derive(Clone, Copy, Debug, PartialEq, Eq, PartialOrd, Ord, Hash)]
+pub struct MemoryAllocationIndex(pub u32);
+
+impl MemoryAllocationIndex {
+    pub fn index(self) -> usize
+        ensures { result ≡ self.0 }
+    {
+        self.0 as usize
+    }
+}
+
+impl Default for MemoryAllocationIndex {
+    /// The index of a memory that is in no slot.
+    fn default() -> Self {
+        MemoryAllocationIndex(u32::MAX)
+    }
+}
