@@ -4,6 +4,7 @@
 mod byte_count;
 mod config;
 mod image_data;
+mod maker;
 mod module_types;
 mod pages;
 mod plain_list;
@@ -12,6 +13,7 @@ mod region;
 pub use byte_count::{ByteCountNotAligned, ByteCountOutOfBounds, HostAlignedByteCount, PageSize};
 pub use config::{BadConfig, Enabled, InstanceLimits, PoolingAllocationConfig};
 pub use image_data::ImageData;
+pub use maker::{MakeFault, PageMaker};
 pub use module_types::{
     CompiledModuleId, DefinedMemoryIndex, ImageDecl, IndexType, Limits, MemoryDecl, MemoryKind,
     MemoryTunables, MemoryType, ModuleInfo, Tunables,

@@ -1,0 +1,10 @@
+-- What a failed making does to the count of faults.
+use Rattle.std.specs.Prelude.{◌≡◌, ℕ}
+use Rattle.pool_pages.specs.Told.{Rose}
+use Rattle.pool_pages.specs.declared.maker.MakeFault.{MakeFault}
+use Rattle.pool_pages.specs.declared.maker.MakeFault.TheVariants.{Memory, PageFault}
+
+-- a page fault raises the count, and want of memory leaves it
+abbrev pub RaisesFaults : ℕ → ℕ → MakeFault → Type 0
+RaisesFaults old new Memory = new ≡ old
+RaisesFaults old new PageFault = Rose old new

@@ -1,0 +1,51 @@
+ghost use Rattle.std.specs.Prelude.{◌≡◌, ℕ, ◌≤◌, false, true, IfOk, IfSome, OnOk, MatchResult};
+ghost use Rattle.pool_pages.specs.MakeFaults.{RaisesFaults};
+ghost use Rattle.pool_pages.specs.MakerTold.{MakerTold, made_region, next_after, fails_making, fails_images};
+
+use crate::byte_count::{HostAlignedByteCount, PageSize};
+use crate::pages::{Pages, RegionName};
+use std::alloc::Global;
+
+/// Why a region or an image can't be made.
+#[derive(Clone, Copy, Debug, PartialEq, Eq)]
+pub enum MakeFault {
+    Memory,
+    PageFault,
+}
+
+/// Makes regions, and the backing files of images.
+///
+/// A making that answers `PageFault` raises `faults`, and each other leaves it. A maker may tell contracts
+/// which makings fail, and which calls on the regions that it makes.
+pub trait PageMaker {
+    type Region: Pages;
+
+    ghost told: { Self → MakerTold };
+
+    /// How many makings have failed. Never falls.
+    fn faults(&self) -> u64
+        ensures { result ≡ (told self.now).faults };
+
+    /// The page size of a region that isn't given one. Never changes.
+    fn page(&self) -> PageSize
+        ensures { result ≡ (told self.now).page };
+
+    /// How many regions on demand were asked for so far; stands still at the end of its type.
+    fn next(&self) -> u32
+        ensures { result ≡ (told self.now).next };
+
+    /// A region of zeros, of which the bytes below `accessible` can be reached.
+    fn make(&mut self, alloc: Global, name: RegionName, accessible: HostAlignedByteCount, len: HostAlignedByteCount) -> Result<Self::Region, MakeFault>
+        requires page { accessible.page ≡ len.page }
+        requires within { accessible.bytes ≤ len.bytes }
+        ensures region { IfOk result (λ region. Self.Region.told region ≡ made_region name accessible len (told self.old)) }
+        ensures maker { told self.new ≡ record (told self.old) { next = next_after name (told self.old).next; faults = (told self.new).faults } }
+        ensures faults { MatchResult result (λ _. (told self.new).faults ≡ (told self.old).faults) (RaisesFaults (told self.old).faults (told self.new).faults) }
+        ensures planned { IfSome (told self.old).plan (λ plan. MatchResult result (λ _. fails_making name plan ≡ false) (λ e. e ≡ MakeFault.PageFault → fails_making name plan ≡ true)) };
+
+    /// Stands for making the file behind the image of a memory of the module `id`. `len` is that of the image.
+    fn image(&mut self, alloc: Global, id: u64, memory: u32, len: HostAlignedByteCount) -> Result<(), MakeFault>
+        ensures maker { told self.new ≡ record (told self.old) { faults = (told self.new).faults } }
+        ensures faults { MatchResult result (λ _. (told self.new).faults ≡ (told self.old).faults) (RaisesFaults (told self.old).faults (told self.new).faults) }
+        ensures planned { IfSome (told self.old).plan (λ plan. MatchResult result (λ _. fails_images id plan ≡ false) (λ e. e ≡ MakeFault.PageFault → fails_images id plan ≡ true)) };
+}
