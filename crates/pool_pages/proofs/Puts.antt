@@ -1,0 +1,132 @@
+-- Lists with others put into them, and ranges of lists: elements, lengths, and what a range shows of a change.
+use Rattle.std.proofs.Common.{◌≡◌, ℕ, ◌+◌, ◌-◌, ◌<◌, ◌≤◌, List, [], ◌∷◌, ◌++◌, length, get_or, take, drop, replicate, refl, sym, ap, ◌∙◌, arith, inl, inr, slice_range}
+use Rattle.std.proofs.lemmas.List.{length-take, length-drop, length-append, length-replicate, length-take-le, take-append-drop, get_or_append_left, get_or-append_right, get_or-take, get_or-drop, get_or-replicate, get_or_past, same_lists, append_assoc, drop-drop, take_at, drop_at, take_all, drop_all}
+use Rattle.std.proofs.lemmas.Bool.{cases_lt}
+use Rattle.pool_pages.specs.Contents.{put, put_all}
+
+module _ {X : Type 0} where
+  pub length-put : (i : ℕ) (ys xs : List X) → i + length ys ≤ length xs → length (put i ys xs) ≡ length xs
+  length-put i ys xs fits =
+      omega (arith, length-append (take i xs) (ys ++ drop (i + length ys) xs), length-append ys (drop (i + length ys) xs), length-drop (i + length ys) xs, length-take-le i xs (omega arith))
+
+  pub get_or-put_below : (i : ℕ) (ys xs : List X) (k : ℕ) (d : X) → i ≤ length xs → k < i → get_or (put i ys xs) k d ≡ get_or xs k d
+  get_or-put_below i ys xs k d fits below =
+      get_or_append_left (take i xs) (ys ++ drop (i + length ys) xs) d k (omega (arith, length-take-le i xs fits))
+      ∙ get_or-take i xs k d below
+
+  pub get_or-put_in : (i : ℕ) (ys xs : List X) (k : ℕ) (d : X) → i ≤ length xs → i ≤ k → k < i + length ys → get_or (put i ys xs) k d ≡ get_or ys (k - i) d
+  get_or-put_in i ys xs k d fits from below =
+      get_or-append_right (take i xs) (ys ++ drop (i + length ys) xs) i k d (length-take-le i xs fits) from
+      ∙ get_or_append_left ys (drop (i + length ys) xs) d (k - i) (omega arith)
+
+  pub get_or-put_above : (i : ℕ) (ys xs : List X) (k : ℕ) (d : X) → i ≤ length xs → i + length ys ≤ k → get_or (put i ys xs) k d ≡ get_or xs k d
+  get_or-put_above i ys xs k d fits from =
+      let place : i + length ys + (k - i - length ys) ≡ k = omega arith in
+      get_or-append_right (take i xs) (ys ++ drop (i + length ys) xs) i k d (length-take-le i xs fits) (omega arith)
+      ∙ get_or-append_right ys (drop (i + length ys) xs) (length ys) (k - i) d refl (omega arith)
+      ∙ get_or-drop (i + length ys) xs (k - i - length ys) d
+      ∙ ap (λ n. get_or xs n d) place
+
+  pub length-range : (xs : List X) (a b : ℕ) → b ≤ length xs → length (slice_range xs a b) ≡ b - a
+  length-range xs a b fits = omega (arith, length-take (b - a) (drop a xs), length-drop a xs)
+
+  pub get_or-range : (xs : List X) (a b k : ℕ) (d : X) → k < b - a → get_or (slice_range xs a b) k d ≡ get_or xs (a + k) d
+  get_or-range xs a b k d below = get_or-take (b - a) (drop a xs) k d below ∙ get_or-drop a xs k d
+
+  -- two lists with the same elements from a to b have the same range there
+  pub same_range : (xs ys : List X) (a b : ℕ) → b ≤ length xs → b ≤ length ys → ((k : ℕ) (d : X) → a ≤ k → k < b → get_or xs k d ≡ get_or ys k d) → slice_range xs a b ≡ slice_range ys a b
+  same_range xs ys a b left right same =
+      same_lists (slice_range xs a b) (slice_range ys a b) (length-range xs a b left ∙ sym (length-range ys a b right))
+      (λ k d below. let inside : k < b - a = omega (arith, length-range xs a b left) in
+          get_or-range xs a b k d inside ∙ same (a + k) d (omega arith) (omega arith) ∙ sym (get_or-range ys a b k d inside))
+
+  pub range-put_below : (i : ℕ) (ys xs : List X) (a b : ℕ) → i + length ys ≤ length xs → b ≤ i → slice_range (put i ys xs) a b ≡ slice_range xs a b
+  range-put_below i ys xs a b fits below =
+      same_range (put i ys xs) xs a b (omega (arith, length-put i ys xs fits)) (omega arith)
+      (λ k d from under. get_or-put_below i ys xs k d (omega arith) (omega arith))
+
+  pub range-put_above : (i : ℕ) (ys xs : List X) (a b : ℕ) → i + length ys ≤ length xs → b ≤ length xs → i + length ys ≤ a → slice_range (put i ys xs) a b ≡ slice_range xs a b
+  range-put_above i ys xs a b fits inside above =
+      same_range (put i ys xs) xs a b (omega (arith, length-put i ys xs fits)) inside
+      (λ k d from under. get_or-put_above i ys xs k d (omega arith) (omega arith))
+
+  -- a range of what was put
+  pub range-put_in : (i : ℕ) (ys xs : List X) (a b : ℕ) → i + length ys ≤ length xs → i ≤ a → b ≤ i + length ys → slice_range (put i ys xs) a b ≡ slice_range ys (a - i) (b - i)
+  range-put_in i ys xs a b fits from below =
+      let long : b ≤ length (put i ys xs) = omega (arith, length-put i ys xs fits) in
+      let short : b - i ≤ length ys = omega arith in
+      same_lists (slice_range (put i ys xs) a b) (slice_range ys (a - i) (b - i))
+      (omega (arith, length-range (put i ys xs) a b long, length-range ys (a - i) (b - i) short))
+      (λ k d under. let inside : k < b - a = omega (arith, length-range (put i ys xs) a b long) in
+          let place : a + k - i ≡ a - i + k = omega arith in
+          get_or-range (put i ys xs) a b k d inside
+          ∙ get_or-put_in i ys xs (a + k) d (omega arith) (omega arith) (omega arith)
+          ∙ ap (λ n. get_or ys n d) place
+          ∙ sym (get_or-range ys (a - i) (b - i) k d (omega arith)))
+
+  pub range-put : (i : ℕ) (ys xs : List X) → i + length ys ≤ length xs → slice_range (put i ys xs) i (i + length ys) ≡ ys
+  range-put i ys xs fits =
+      let start : i - i ≡ 0 = omega arith in
+      let end : i + length ys - i ≡ length ys = omega arith in
+      let count : length ys - 0 ≡ length ys = omega arith in
+      range-put_in i ys xs i (i + length ys) fits (omega arith) (omega arith)
+      ∙ ap (λ n. slice_range ys n (i + length ys - i)) start
+      ∙ ap (λ n. slice_range ys 0 n) end
+      ∙ ap (λ n. take n ys) count
+      ∙ take_all (length ys) ys (omega arith)
+
+  -- what lies there already, put there again
+  pub put_range : (xs : List X) (a b : ℕ) → a ≤ b → b ≤ length xs → put a (slice_range xs a b) xs ≡ xs
+  put_range xs a b order fits =
+      let fact : a + length (slice_range xs a b) ≡ b = omega (arith, length-range xs a b fits) in
+      let fits_too : a + length (slice_range xs a b) ≤ length xs = omega arith in
+      same_lists (put a (slice_range xs a b) xs) xs (length-put a (slice_range xs a b) xs fits_too)
+      (λ k d below. elim (cases_lt k a) [
+        | inl under ↦ get_or-put_below a (slice_range xs a b) xs k d (omega arith) under
+        | inr from ↦ elim (cases_lt k b) [
+          | inl inside ↦
+            let place : a + (k - a) ≡ k = omega arith in
+            get_or-put_in a (slice_range xs a b) xs k d (omega arith) from (omega arith)
+            ∙ get_or-range xs a b (k - a) d (omega arith)
+            ∙ ap (λ n. get_or xs n d) place
+          | inr above ↦ get_or-put_above a (slice_range xs a b) xs k d (omega arith) (omega arith)
+        ]
+      ])
+
+  -- one list put right behind another
+  pub put-put : (i : ℕ) (ys zs xs : List X) → i + length ys ≤ length xs → i + length ys + length zs ≤ length xs → put (i + length ys) zs (put i ys xs) ≡ put i (ys ++ zs) xs
+  put-put i ys zs xs fits both =
+      let long : length (put i ys xs) ≡ length xs = length-put i ys xs fits in
+      let joined : length (ys ++ zs) ≡ length ys + length zs = length-append ys zs in
+      let second : i + length ys + length zs ≤ length (put i ys xs) = omega arith in
+      let whole : i + length (ys ++ zs) ≤ length xs = omega arith in
+      same_lists (put (i + length ys) zs (put i ys xs)) (put i (ys ++ zs) xs)
+      (length-put (i + length ys) zs (put i ys xs) second ∙ long ∙ sym (length-put i (ys ++ zs) xs whole))
+      (λ k d below. elim (cases_lt k (i + length ys)) [
+        | inl under ↦
+          get_or-put_below (i + length ys) zs (put i ys xs) k d (omega arith) under
+          ∙ elim (cases_lt k i) [
+            | inl first ↦ get_or-put_below i ys xs k d (omega arith) first ∙ sym (get_or-put_below i (ys ++ zs) xs k d (omega arith) first)
+            | inr from ↦
+              get_or-put_in i ys xs k d (omega arith) from under
+              ∙ sym (get_or_append_left ys zs d (k - i) (omega arith))
+              ∙ sym (get_or-put_in i (ys ++ zs) xs k d (omega arith) from (omega arith))
+          ]
+        | inr from ↦ elim (cases_lt k (i + length ys + length zs)) [
+          | inl inside ↦
+            let place : k - (i + length ys) ≡ k - i - length ys = omega arith in
+            get_or-put_in (i + length ys) zs (put i ys xs) k d (omega arith) from inside
+            ∙ ap (λ n. get_or zs n d) place
+            ∙ sym (get_or-append_right ys zs (length ys) (k - i) d refl (omega arith))
+            ∙ sym (get_or-put_in i (ys ++ zs) xs k d (omega arith) (omega arith) (omega arith))
+          | inr above ↦
+            get_or-put_above (i + length ys) zs (put i ys xs) k d (omega arith) above
+            ∙ get_or-put_above i ys xs k d (omega arith) (omega arith)
+            ∙ sym (get_or-put_above i (ys ++ zs) xs k d (omega arith) (omega arith))
+        ]
+      ])
+
+  pub put_empty : (i : ℕ) (xs : List X) → put i [] xs ≡ xs
+  put_empty i xs =
+      let place : i + 0 ≡ i = omega arith in
+      ap (λ n. take i xs ++ drop n xs) place ∙ take-append-drop i xs
