@@ -38,7 +38,7 @@ module _ {X : Type 0} where
   same_range xs ys a b left right same =
       same_lists (slice_range xs a b) (slice_range ys a b) (length-range xs a b left ∙ sym (length-range ys a b right))
       (λ k d below. let inside : k < b - a = omega (arith, length-range xs a b left) in
-          get_or-range xs a b k d inside ∙ same (a + k) d (omega arith) (omega arith) ∙ sym (get_or-range ys a b k d inside))
+      get_or-range xs a b k d inside ∙ same (a + k) d (omega arith) (omega arith) ∙ sym (get_or-range ys a b k d inside))
 
   pub range-put_below : (i : ℕ) (ys xs : List X) (a b : ℕ) → i + length ys ≤ length xs → b ≤ i → slice_range (put i ys xs) a b ≡ slice_range xs a b
   range-put_below i ys xs a b fits below =
@@ -58,11 +58,11 @@ module _ {X : Type 0} where
       same_lists (slice_range (put i ys xs) a b) (slice_range ys (a - i) (b - i))
       (omega (arith, length-range (put i ys xs) a b long, length-range ys (a - i) (b - i) short))
       (λ k d under. let inside : k < b - a = omega (arith, length-range (put i ys xs) a b long) in
-          let place : a + k - i ≡ a - i + k = omega arith in
-          get_or-range (put i ys xs) a b k d inside
-          ∙ get_or-put_in i ys xs (a + k) d (omega arith) (omega arith) (omega arith)
-          ∙ ap (λ n. get_or ys n d) place
-          ∙ sym (get_or-range ys (a - i) (b - i) k d (omega arith)))
+      let place : a + k - i ≡ a - i + k = omega arith in
+      get_or-range (put i ys xs) a b k d inside
+      ∙ get_or-put_in i ys xs (a + k) d (omega arith) (omega arith) (omega arith)
+      ∙ ap (λ n. get_or ys n d) place
+      ∙ sym (get_or-range ys (a - i) (b - i) k d (omega arith)))
 
   pub range-put : (i : ℕ) (ys xs : List X) → i + length ys ≤ length xs → slice_range (put i ys xs) i (i + length ys) ≡ ys
   range-put i ys xs fits =
@@ -85,10 +85,10 @@ module _ {X : Type 0} where
         | inl under ↦ get_or-put_below a (slice_range xs a b) xs k d (omega arith) under
         | inr from ↦ elim (cases_lt k b) [
           | inl inside ↦
-            let place : a + (k - a) ≡ k = omega arith in
-            get_or-put_in a (slice_range xs a b) xs k d (omega arith) from (omega arith)
-            ∙ get_or-range xs a b (k - a) d (omega arith)
-            ∙ ap (λ n. get_or xs n d) place
+              let place : a + (k - a) ≡ k = omega arith in
+              get_or-put_in a (slice_range xs a b) xs k d (omega arith) from (omega arith)
+              ∙ get_or-range xs a b (k - a) d (omega arith)
+              ∙ ap (λ n. get_or xs n d) place
           | inr above ↦ get_or-put_above a (slice_range xs a b) xs k d (omega arith) (omega arith)
         ]
       ])
@@ -104,25 +104,25 @@ module _ {X : Type 0} where
       (length-put (i + length ys) zs (put i ys xs) second ∙ long ∙ sym (length-put i (ys ++ zs) xs whole))
       (λ k d below. elim (cases_lt k (i + length ys)) [
         | inl under ↦
-          get_or-put_below (i + length ys) zs (put i ys xs) k d (omega arith) under
-          ∙ elim (cases_lt k i) [
-            | inl first ↦ get_or-put_below i ys xs k d (omega arith) first ∙ sym (get_or-put_below i (ys ++ zs) xs k d (omega arith) first)
-            | inr from ↦
-              get_or-put_in i ys xs k d (omega arith) from under
-              ∙ sym (get_or_append_left ys zs d (k - i) (omega arith))
-              ∙ sym (get_or-put_in i (ys ++ zs) xs k d (omega arith) from (omega arith))
-          ]
+            get_or-put_below (i + length ys) zs (put i ys xs) k d (omega arith) under
+            ∙ elim (cases_lt k i) [
+              | inl first ↦ get_or-put_below i ys xs k d (omega arith) first ∙ sym (get_or-put_below i (ys ++ zs) xs k d (omega arith) first)
+              | inr from ↦
+                  get_or-put_in i ys xs k d (omega arith) from under
+                  ∙ sym (get_or_append_left ys zs d (k - i) (omega arith))
+                  ∙ sym (get_or-put_in i (ys ++ zs) xs k d (omega arith) from (omega arith))
+            ]
         | inr from ↦ elim (cases_lt k (i + length ys + length zs)) [
           | inl inside ↦
-            let place : k - (i + length ys) ≡ k - i - length ys = omega arith in
-            get_or-put_in (i + length ys) zs (put i ys xs) k d (omega arith) from inside
-            ∙ ap (λ n. get_or zs n d) place
-            ∙ sym (get_or-append_right ys zs (length ys) (k - i) d refl (omega arith))
-            ∙ sym (get_or-put_in i (ys ++ zs) xs k d (omega arith) (omega arith) (omega arith))
+              let place : k - (i + length ys) ≡ k - i - length ys = omega arith in
+              get_or-put_in (i + length ys) zs (put i ys xs) k d (omega arith) from inside
+              ∙ ap (λ n. get_or zs n d) place
+              ∙ sym (get_or-append_right ys zs (length ys) (k - i) d refl (omega arith))
+              ∙ sym (get_or-put_in i (ys ++ zs) xs k d (omega arith) (omega arith) (omega arith))
           | inr above ↦
-            get_or-put_above (i + length ys) zs (put i ys xs) k d (omega arith) above
-            ∙ get_or-put_above i ys xs k d (omega arith) (omega arith)
-            ∙ sym (get_or-put_above i (ys ++ zs) xs k d (omega arith) (omega arith))
+              get_or-put_above (i + length ys) zs (put i ys xs) k d (omega arith) above
+              ∙ get_or-put_above i ys xs k d (omega arith) (omega arith)
+              ∙ sym (get_or-put_above i (ys ++ zs) xs k d (omega arith) (omega arith))
         ]
       ])
 

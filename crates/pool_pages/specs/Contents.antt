@@ -59,6 +59,10 @@ erased start len c = record c {
   colour = put_all (start / c.page) (len / c.page) 0 c.colour;
 }
 
+-- the same, but that the pages can be reached
+abbrev pub remapped : ℕ → ℕ → Contents → Contents
+remapped start len c = record (erased start len c) { accessible = put_all (start / c.page) (len / c.page) true c.accessible }
+
 -- the pages hold what they go back to
 abbrev pub decommitted : ℕ → ℕ → Contents → Contents
 decommitted start len c = record c {

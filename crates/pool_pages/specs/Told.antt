@@ -1,8 +1,8 @@
 -- What a region tells of itself, and what a call does to that.
-use Rattle.std.specs.Prelude.{◌≡◌, ℕ, ◌+◌, ◌-◌, ◌^◌, ◌<◌, ◌≤◌, ◌⊎◌, ◌==◌, ◌||◌, List, length, min, Bool, true, false, not, if◌then◌else◌, Option, Some, None, IsSome, option_map}
+use Rattle.std.specs.Prelude.{◌≡◌, ℕ, ◌+◌, ◌-◌, ◌^◌, ◌<◌, ◌≤◌, ◌⊎◌, ◌==◌, ◌||◌, List, length, min, Bool, true, false, not, if◌then◌else◌, Option, Some, None, IsSome, IfSome, option_map}
 use Rattle.std.specs.List.{list_any}
 use Rattle.pool_pages.specs.Count.{Count}
-use Rattle.pool_pages.specs.Contents.{Contents, IsShaped, Page, page_at, IsIn, exposed, hidden, image_mapped, image_copied, erased, decommitted, written}
+use Rattle.pool_pages.specs.Contents.{Contents, IsShaped, Page, page_at, IsIn, exposed, hidden, image_mapped, image_copied, erased, remapped, decommitted, written}
 use Rattle.pool_pages.specs.declared.pages.PageCalls.{PageCalls}
 use Rattle.pool_pages.specs.declared.pages.RegionName.{RegionName}
 use Rattle.pool_pages.specs.declared.pages.DecommitBehavior.{DecommitBehavior}
@@ -38,14 +38,16 @@ pub record PageCall : Type 0 where
 
 abbrev pub exposing : ℕ → ℕ → PageCall
 exposing start len = record {
-  start = start; len = len;
+  start = start;
+  len = len;
   raise = λ c. record c { expose = risen c.expose };
   change = exposed start len;
 }
 
 abbrev pub hiding : ℕ → ℕ → PageCall
 hiding start len = record {
-  start = start; len = len;
+  start = start;
+  len = len;
   raise = λ c. record c { hide = risen c.hide };
   change = hidden start len;
 }
@@ -57,21 +59,32 @@ mapped Zero start image c = image_copied start image c
 
 abbrev pub mapping : DecommitBehavior → ℕ → List ℕ → PageCall
 mapping behaviour start image = record {
-  start = start; len = length image;
+  start = start;
+  len = length image;
   raise = λ c. record c { map_image = risen c.map_image };
   change = mapped behaviour start image;
 }
 
 abbrev pub erasing : ℕ → ℕ → PageCall
 erasing start len = record {
-  start = start; len = len;
+  start = start;
+  len = len;
   raise = λ c. record c { erase = risen c.erase };
   change = erased start len;
 }
 
+abbrev pub remapping : ℕ → ℕ → PageCall
+remapping start len = record {
+  start = start;
+  len = len;
+  raise = λ c. record c { remap_zeros = risen c.remap_zeros };
+  change = remapped start len;
+}
+
 abbrev pub decommitting : ℕ → ℕ → PageCall
 decommitting start len = record {
-  start = start; len = len;
+  start = start;
+  len = len;
   raise = λ c. record c { decommit = risen c.decommit };
   change = decommitted start len;
 }
@@ -88,12 +101,10 @@ succeeded call t = record (counted call t) { contents = option_map call.change t
 abbrev pub passes : List ℕ → PageCall → Told → Bool
 passes plan call t = (call.len == 0) || not (list_any (λ n. n == risen t.made) plan)
 
--- Each page of the range is as before or as a success leaves it, and each other page is as before. The columns stay
--- as long as the region.
+-- each page of the range is as before or as a success leaves it, and each other page is as before
 pub record IsPartly (call : PageCall) (old new : Contents) : Type 0 where
   pub inside : (k : ℕ) → IsIn call.start call.len old.page k → (page_at k new ≡ page_at k old) ⊎ (page_at k new ≡ page_at k (call.change old))
   pub outside : (k : ℕ) → (IsIn call.start call.len old.page k → ⊥) → page_at k new ≡ page_at k old
-  pub shaped : (len : ℕ) → IsShaped old.page len old → IsShaped old.page len new
 
 -- a region tells after the call what it told before it, up to a part of the call's change
 abbrev pub MayChangePartly : PageCall → Option Contents → Option Contents → Type 0
@@ -113,6 +124,10 @@ pub record Faulted (call : PageCall) (old new : Told) : Type 0 where
 -- the bytes of a told region are written; its counts stay
 abbrev pub overwritten : ℕ → List ℕ → Told → Told
 overwritten start new t = record t { contents = option_map (written start new) t.contents }
+
+-- what is told of pages has the region's shape
+abbrev pub TellsShaped : Told → Type 0
+TellsShaped t = IfSome t.contents (IsShaped t.page t.len)
 
 -- a range of whole pages inside the region
 pub record IsRange (start len : Count) (t : Told) : Type 0 where

@@ -204,4 +204,17 @@ impl HostAlignedByteCount {
             bytes: self.bytes.saturating_sub(other.bytes),
         }
     }
+
+    /// The sum, which the caller knows to be in range.
+    #[tactic(auto, using(crate::proofs::Multiples::add_whole))]
+    pub fn unchecked_add(self, other: HostAlignedByteCount) -> HostAlignedByteCount
+        requires page { self.page ≡ other.page }
+        requires fits { self.bytes + other.bytes < 2 ^ 64 }
+        ensures { result ≡ count self.page (self.bytes + other.bytes) }
+    {
+        HostAlignedByteCount {
+            page: self.page,
+            bytes: self.bytes + other.bytes,
+        }
+    }
 }

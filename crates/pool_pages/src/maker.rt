@@ -35,7 +35,13 @@ pub trait PageMaker {
         ensures { result ≡ (told self.now).next };
 
     /// A region of zeros, of which the bytes below `accessible` can be reached.
-    fn make(&mut self, alloc: Global, name: RegionName, accessible: HostAlignedByteCount, len: HostAlignedByteCount) -> Result<Self::Region, MakeFault>
+    fn make(
+        &mut self,
+        alloc: Global,
+        name: RegionName,
+        accessible: HostAlignedByteCount,
+        len: HostAlignedByteCount,
+    ) -> Result<Self::Region, MakeFault>
         requires page { accessible.page ≡ len.page }
         requires within { accessible.bytes ≤ len.bytes }
         ensures region { IfOk result (λ region. Self.Region.told region ≡ made_region name accessible len (told self.old)) }
@@ -44,7 +50,13 @@ pub trait PageMaker {
         ensures planned { IfSome (told self.old).plan (λ plan. MatchResult result (λ _. fails_making name plan ≡ false) (λ e. e ≡ MakeFault.PageFault → fails_making name plan ≡ true)) };
 
     /// Stands for making the file behind the image of a memory of the module `id`. `len` is that of the image.
-    fn image(&mut self, alloc: Global, id: u64, memory: u32, len: HostAlignedByteCount) -> Result<(), MakeFault>
+    fn image(
+        &mut self,
+        alloc: Global,
+        id: u64,
+        memory: u32,
+        len: HostAlignedByteCount,
+    ) -> Result<(), MakeFault>
         ensures maker { told self.new ≡ record (told self.old) { faults = (told self.new).faults } }
         ensures faults { MatchResult result (λ _. (told self.new).faults ≡ (told self.old).faults) (RaisesFaults (told self.old).faults (told self.new).faults) }
         ensures planned { IfSome (told self.old).plan (λ plan. MatchResult result (λ _. fails_images id plan ≡ false) (λ e. e ≡ MakeFault.PageFault → fails_images id plan ≡ true)) };

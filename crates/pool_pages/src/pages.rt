@@ -1,7 +1,7 @@
 ghost use Rattle.std.specs.Prelude.{◌≡◌, ℕ, ◌+◌, ◌≤◌, List, length, replicate, slice_range, is_ok, OnOk, OnErr, IfSome};
 ghost use Rattle.pool_pages.specs.Count.{count, IsPageSize};
-ghost use Rattle.pool_pages.specs.Contents.{CanReach, HasNoOtherImage, IsShaped};
-ghost use Rattle.pool_pages.specs.Told.{Told, IsRange, Faulted, succeeded, overwritten, passes, exposing, hiding, mapping, erasing, decommitting};
+ghost use Rattle.pool_pages.specs.Contents.{CanReach, HasNoOtherImage};
+ghost use Rattle.pool_pages.specs.Told.{Told, IsRange, Faulted, succeeded, TellsShaped, overwritten, passes, exposing, hiding, mapping, remapping, erasing, decommitting};
 
 use crate::byte_count::{HostAlignedByteCount, PageSize};
 use crate::image_data::ImageData;
@@ -56,7 +56,7 @@ pub trait Pages: Send + Drop {
 
     fn len(&self) -> HostAlignedByteCount
         ensures value { result ≡ count (told self.now).page (told self.now).len }
-        ensures shaped { IfSome (told self.now).contents (IsShaped (told self.now).page (told self.now).len) };
+        ensures shaped { TellsShaped (told self.now) };
 
     /// How many calls have failed. Never falls.
     fn faults(&self) -> u64
@@ -69,18 +69,28 @@ pub trait Pages: Send + Drop {
         ensures { result ≡ (told self.now).behaviour };
 
     /// The pages can be reached; what they hold stays.
-    fn expose(&mut self, start: HostAlignedByteCount, len: HostAlignedByteCount) -> Result<(), PageFault>
+    fn expose(
+        &mut self,
+        start: HostAlignedByteCount,
+        len: HostAlignedByteCount,
+    ) -> Result<(), PageFault>
         requires { IsRange start len (told self.old) }
         ensures ok { OnOk result (told self.new ≡ succeeded (exposing start.bytes len.bytes) (told self.old)) }
         ensures fault { OnErr result (Faulted (exposing start.bytes len.bytes) (told self.old) (told self.new)) }
-        ensures planned { IfSome (told self.old).plan (λ plan. is_ok result ≡ passes plan (exposing start.bytes len.bytes) (told self.old)) };
+        ensures planned { IfSome (told self.old).plan (λ plan. is_ok result ≡ passes plan (exposing start.bytes len.bytes) (told self.old)) }
+        ensures shaped { TellsShaped (told self.new) };
 
     /// The pages can't be reached; what they hold stays.
-    fn hide(&mut self, start: HostAlignedByteCount, len: HostAlignedByteCount) -> Result<(), PageFault>
+    fn hide(
+        &mut self,
+        start: HostAlignedByteCount,
+        len: HostAlignedByteCount,
+    ) -> Result<(), PageFault>
         requires { IsRange start len (told self.old) }
         ensures ok { OnOk result (told self.new ≡ succeeded (hiding start.bytes len.bytes) (told self.old)) }
         ensures fault { OnErr result (Faulted (hiding start.bytes len.bytes) (told self.old) (told self.new)) }
-        ensures planned { IfSome (told self.old).plan (λ plan. is_ok result ≡ passes plan (hiding start.bytes len.bytes) (told self.old)) };
+        ensures planned { IfSome (told self.old).plan (λ plan. is_ok result ≡ passes plan (hiding start.bytes len.bytes) (told self.old)) }
+        ensures shaped { TellsShaped (told self.new) };
 
     /// The pages can be reached, have no colour and hold the image. They go back to it, except under
     /// behaviour `Zero`, where the image is as if it had been written.
@@ -89,21 +99,44 @@ pub trait Pages: Send + Drop {
         requires one_image { IfSome (told self.old).contents (HasNoOtherImage start.bytes image.now.bytes) }
         ensures ok { OnOk result (told self.new ≡ succeeded (mapping (told self.old).behaviour start.bytes image.now.bytes) (told self.old)) }
         ensures fault { OnErr result (Faulted (mapping (told self.old).behaviour start.bytes image.now.bytes) (told self.old) (told self.new)) }
-        ensures planned { IfSome (told self.old).plan (λ plan. is_ok result ≡ passes plan (mapping (told self.old).behaviour start.bytes image.now.bytes) (told self.old)) };
+        ensures planned { IfSome (told self.old).plan (λ plan. is_ok result ≡ passes plan (mapping (told self.old).behaviour start.bytes image.now.bytes) (told self.old)) }
+        ensures shaped { TellsShaped (told self.new) };
+
+    /// The pages can be reached, have no colour and hold zeros, which they go back to.
+    fn remap_zeros(
+        &mut self,
+        start: HostAlignedByteCount,
+        len: HostAlignedByteCount,
+    ) -> Result<(), PageFault>
+        requires { IsRange start len (told self.old) }
+        ensures ok { OnOk result (told self.new ≡ succeeded (remapping start.bytes len.bytes) (told self.old)) }
+        ensures fault { OnErr result (Faulted (remapping start.bytes len.bytes) (told self.old) (told self.new)) }
+        ensures planned { IfSome (told self.old).plan (λ plan. is_ok result ≡ passes plan (remapping start.bytes len.bytes) (told self.old)) }
+        ensures shaped { TellsShaped (told self.new) };
 
     /// The pages can't be reached, have no colour and hold zeros, which they go back to.
-    fn erase(&mut self, start: HostAlignedByteCount, len: HostAlignedByteCount) -> Result<(), PageFault>
+    fn erase(
+        &mut self,
+        start: HostAlignedByteCount,
+        len: HostAlignedByteCount,
+    ) -> Result<(), PageFault>
         requires { IsRange start len (told self.old) }
         ensures ok { OnOk result (told self.new ≡ succeeded (erasing start.bytes len.bytes) (told self.old)) }
         ensures fault { OnErr result (Faulted (erasing start.bytes len.bytes) (told self.old) (told self.new)) }
-        ensures planned { IfSome (told self.old).plan (λ plan. is_ok result ≡ passes plan (erasing start.bytes len.bytes) (told self.old)) };
+        ensures planned { IfSome (told self.old).plan (λ plan. is_ok result ≡ passes plan (erasing start.bytes len.bytes) (told self.old)) }
+        ensures shaped { TellsShaped (told self.new) };
 
     /// The pages hold what they go back to.
-    fn decommit(&mut self, start: HostAlignedByteCount, len: HostAlignedByteCount) -> Result<(), PageFault>
+    fn decommit(
+        &mut self,
+        start: HostAlignedByteCount,
+        len: HostAlignedByteCount,
+    ) -> Result<(), PageFault>
         requires { IsRange start len (told self.old) }
         ensures ok { OnOk result (told self.new ≡ succeeded (decommitting start.bytes len.bytes) (told self.old)) }
         ensures fault { OnErr result (Faulted (decommitting start.bytes len.bytes) (told self.old) (told self.new)) }
-        ensures planned { IfSome (told self.old).plan (λ plan. is_ok result ≡ passes plan (decommitting start.bytes len.bytes) (told self.old)) };
+        ensures planned { IfSome (told self.old).plan (λ plan. is_ok result ≡ passes plan (decommitting start.bytes len.bytes) (told self.old)) }
+        ensures shaped { TellsShaped (told self.new) };
 
     /// Reads the bytes from `at` on into `out`.
     fn read(&self, at: usize, out: &mut [u8])
@@ -115,11 +148,13 @@ pub trait Pages: Send + Drop {
     fn write(&mut self, at: usize, bytes: &[u8])
         requires inside { at + length bytes.now ≤ (told self.old).len }
         requires reachable { IfSome (told self.old).contents (CanReach at (length bytes.now)) }
-        ensures { told self.new ≡ overwritten at bytes.now (told self.old) };
+        ensures written { told self.new ≡ overwritten at bytes.now (told self.old) }
+        ensures shaped { TellsShaped (told self.new) };
 
     /// Writes one byte `len` times from `at` on. The touched pages are dirty.
     fn fill(&mut self, at: usize, len: usize, byte: u8)
         requires inside { at + len ≤ (told self.old).len }
         requires reachable { IfSome (told self.old).contents (CanReach at len) }
-        ensures { told self.new ≡ overwritten at (replicate len byte) (told self.old) };
+        ensures written { told self.new ≡ overwritten at (replicate len byte) (told self.old) }
+        ensures shaped { TellsShaped (told self.new) };
 }

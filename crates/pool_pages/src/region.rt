@@ -1,7 +1,7 @@
 ghost use Rattle.std.specs.Prelude.{◌≡◌, ℕ, ◌+◌, ◌≤◌, List, length, replicate, slice_range, is_ok, OnOk, OnErr, IfSome};
 ghost use Rattle.pool_pages.specs.Count.{count, IsPageSize};
-ghost use Rattle.pool_pages.specs.Contents.{CanReach, HasNoOtherImage, IsShaped};
-ghost use Rattle.pool_pages.specs.Told.{Told, IsRange, Faulted, succeeded, overwritten, passes, exposing, hiding, mapping, erasing, decommitting};
+ghost use Rattle.pool_pages.specs.Contents.{CanReach, HasNoOtherImage};
+ghost use Rattle.pool_pages.specs.Told.{Told, IsRange, Faulted, succeeded, TellsShaped, overwritten, passes, exposing, hiding, mapping, remapping, erasing, decommitting};
 
 use crate::byte_count::{HostAlignedByteCount, PageSize};
 use crate::image_data::ImageData;
@@ -55,7 +55,7 @@ impl<P: Pages> PageRegion<P> {
 
     pub fn len(&self) -> HostAlignedByteCount
         ensures value { result ≡ count self.now.page self.now.len }
-        ensures shaped { IfSome self.now.contents (IsShaped self.now.page self.now.len) }
+        ensures shaped { TellsShaped self.now }
     {
         self.pages.len()
     }
@@ -78,48 +78,87 @@ impl<P: Pages> PageRegion<P> {
         self.pages.behaviour()
     }
 
-    pub fn expose(&mut self, start: HostAlignedByteCount, len: HostAlignedByteCount) -> Result<(), PageFault>
+    pub fn expose(
+        &mut self,
+        start: HostAlignedByteCount,
+        len: HostAlignedByteCount,
+    ) -> Result<(), PageFault>
         requires { IsRange start len self.old }
         ensures ok { OnOk result (self.new ≡ succeeded (exposing start.bytes len.bytes) self.old) }
         ensures fault { OnErr result (Faulted (exposing start.bytes len.bytes) self.old self.new) }
         ensures planned { IfSome self.old.plan (λ plan. is_ok result ≡ passes plan (exposing start.bytes len.bytes) self.old) }
+        ensures shaped { TellsShaped self.new }
     {
         self.pages.expose(start, len)
     }
 
-    pub fn hide(&mut self, start: HostAlignedByteCount, len: HostAlignedByteCount) -> Result<(), PageFault>
+    pub fn hide(
+        &mut self,
+        start: HostAlignedByteCount,
+        len: HostAlignedByteCount,
+    ) -> Result<(), PageFault>
         requires { IsRange start len self.old }
         ensures ok { OnOk result (self.new ≡ succeeded (hiding start.bytes len.bytes) self.old) }
         ensures fault { OnErr result (Faulted (hiding start.bytes len.bytes) self.old self.new) }
         ensures planned { IfSome self.old.plan (λ plan. is_ok result ≡ passes plan (hiding start.bytes len.bytes) self.old) }
+        ensures shaped { TellsShaped self.new }
     {
         self.pages.hide(start, len)
     }
 
-    pub fn map_image(&mut self, start: HostAlignedByteCount, image: &ImageData) -> Result<(), PageFault>
+    pub fn map_image(
+        &mut self,
+        start: HostAlignedByteCount,
+        image: &ImageData,
+    ) -> Result<(), PageFault>
         requires range { IsRange start (count image.now.page (length image.now.bytes)) self.old }
         requires one_image { IfSome self.old.contents (HasNoOtherImage start.bytes image.now.bytes) }
         ensures ok { OnOk result (self.new ≡ succeeded (mapping self.old.behaviour start.bytes image.now.bytes) self.old) }
         ensures fault { OnErr result (Faulted (mapping self.old.behaviour start.bytes image.now.bytes) self.old self.new) }
         ensures planned { IfSome self.old.plan (λ plan. is_ok result ≡ passes plan (mapping self.old.behaviour start.bytes image.now.bytes) self.old) }
+        ensures shaped { TellsShaped self.new }
     {
         self.pages.map_image(start, image)
     }
 
-    pub fn erase(&mut self, start: HostAlignedByteCount, len: HostAlignedByteCount) -> Result<(), PageFault>
+    pub fn remap_zeros(
+        &mut self,
+        start: HostAlignedByteCount,
+        len: HostAlignedByteCount,
+    ) -> Result<(), PageFault>
+        requires { IsRange start len self.old }
+        ensures ok { OnOk result (self.new ≡ succeeded (remapping start.bytes len.bytes) self.old) }
+        ensures fault { OnErr result (Faulted (remapping start.bytes len.bytes) self.old self.new) }
+        ensures planned { IfSome self.old.plan (λ plan. is_ok result ≡ passes plan (remapping start.bytes len.bytes) self.old) }
+        ensures shaped { TellsShaped self.new }
+    {
+        self.pages.remap_zeros(start, len)
+    }
+
+    pub fn erase(
+        &mut self,
+        start: HostAlignedByteCount,
+        len: HostAlignedByteCount,
+    ) -> Result<(), PageFault>
         requires { IsRange start len self.old }
         ensures ok { OnOk result (self.new ≡ succeeded (erasing start.bytes len.bytes) self.old) }
         ensures fault { OnErr result (Faulted (erasing start.bytes len.bytes) self.old self.new) }
         ensures planned { IfSome self.old.plan (λ plan. is_ok result ≡ passes plan (erasing start.bytes len.bytes) self.old) }
+        ensures shaped { TellsShaped self.new }
     {
         self.pages.erase(start, len)
     }
 
-    pub fn decommit(&mut self, start: HostAlignedByteCount, len: HostAlignedByteCount) -> Result<(), PageFault>
+    pub fn decommit(
+        &mut self,
+        start: HostAlignedByteCount,
+        len: HostAlignedByteCount,
+    ) -> Result<(), PageFault>
         requires { IsRange start len self.old }
         ensures ok { OnOk result (self.new ≡ succeeded (decommitting start.bytes len.bytes) self.old) }
         ensures fault { OnErr result (Faulted (decommitting start.bytes len.bytes) self.old self.new) }
         ensures planned { IfSome self.old.plan (λ plan. is_ok result ≡ passes plan (decommitting start.bytes len.bytes) self.old) }
+        ensures shaped { TellsShaped self.new }
     {
         self.pages.decommit(start, len)
     }
@@ -135,7 +174,8 @@ impl<P: Pages> PageRegion<P> {
     pub fn write(&mut self, at: usize, bytes: &[u8])
         requires inside { at + length bytes.now ≤ self.old.len }
         requires reachable { IfSome self.old.contents (CanReach at (length bytes.now)) }
-        ensures { self.new ≡ overwritten at bytes.now self.old }
+        ensures written { self.new ≡ overwritten at bytes.now self.old }
+        ensures shaped { TellsShaped self.new }
     {
         self.pages.write(at, bytes)
     }
@@ -143,7 +183,8 @@ impl<P: Pages> PageRegion<P> {
     pub fn fill(&mut self, at: usize, len: usize, byte: u8)
         requires inside { at + len ≤ self.old.len }
         requires reachable { IfSome self.old.contents (CanReach at len) }
-        ensures { self.new ≡ overwritten at (replicate len byte) self.old }
+        ensures written { self.new ≡ overwritten at (replicate len byte) self.old }
+        ensures shaped { TellsShaped self.new }
     {
         self.pages.fill(at, len, byte)
     }

@@ -1,0 +1,50 @@
+-- The images of a module, and the bytes that a memory begins with.
+use Rattle.std.specs.Prelude.{◌≡◌, ℕ, ◌+◌, ◌-◌, ◌*◌, ◌/◌, ◌%◌, ◌≤◌, ◌==◌, ◌&&◌, List, [], ◌∷◌, ◌++◌, length, map, replicate, Bool, true, false, nat_le, if◌then◌else◌, Option, Some, None, option_map}
+use Rattle.std.specs.Option.{option_map_or}
+use Rattle.std.specs.List.{list_all}
+use Rattle.pool_pages.specs.Count.{rounded_up}
+use Rattle.pool_pages.specs.Contents.{put}
+use Rattle.pool_pages.specs.MemoryTypes.{minimum_byte_size}
+use Rattle.pool_pages.specs.declared.module_types.CompiledModuleId.{CompiledModuleId}
+use Rattle.pool_pages.specs.declared.module_types.DefinedMemoryIndex.{DefinedMemoryIndex}
+use Rattle.pool_pages.specs.declared.module_types.ImageDecl.{ImageDecl}
+use Rattle.pool_pages.specs.declared.module_types.MemoryDecl.{MemoryDecl}
+
+-- the image of a module's memory: whole pages of bytes, at an offset
+pub record Image : Type 0 where
+  pub id : CompiledModuleId
+  pub memory : DefinedMemoryIndex
+  pub page : ℕ
+  pub offset : ℕ
+  pub bytes : List ℕ
+
+-- an image begins and ends at a page
+pub record IsWhole (i : Image) : Type 0 where
+  pub offset : i.offset % i.page ≡ 0
+  pub bytes : length i.bytes % i.page ≡ 0
+
+-- the first n bytes of a memory that begins with this image: its bytes at its offset, and zeros elsewhere
+abbrev pub start : Option Image → ℕ → List ℕ
+start None n = replicate n 0
+start (Some image) n = put image.offset image.bytes (replicate n 0)
+
+-- the bytes with zeros behind them, up to whole pages
+abbrev pub padded : ℕ → List ℕ → List ℕ
+padded page bytes = bytes ++ replicate (rounded_up page (length bytes) - length bytes) 0
+
+-- the image that a module declares for a memory
+abbrev pub image_of : CompiledModuleId → ℕ → ℕ → ImageDecl → Image
+image_of id page memory decl = record { id = id; memory = record { 0 = memory }; page = page; offset = decl.offset; bytes = padded page decl.bytes }
+
+-- the images of a module's memories, of which the first has this number
+abbrev pub images_from : CompiledModuleId → ℕ → ℕ → List MemoryDecl → List (Option Image)
+images_from id page memory [] = []
+images_from id page memory (decl ∷ decls) = option_map (image_of id page memory) decl.image ∷ images_from id page (memory + 1) decls
+
+-- the offset of the memory's image, if it has one, is a page's
+abbrev pub begins_at_page : ℕ → MemoryDecl → Bool
+begins_at_page page decl = option_map_or (λ image. image.offset % page == 0) decl.image true
+
+-- the memory's image, if it has one, ends within the memory's minimum
+abbrev pub ends_in_minimum : ℕ → MemoryDecl → Bool
+ends_in_minimum page decl = option_map_or (λ image. nat_le (image.offset + rounded_up page (length image.bytes)) (minimum_byte_size decl.ty)) decl.image true
