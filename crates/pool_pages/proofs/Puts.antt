@@ -1,8 +1,9 @@
 -- Lists with others put into them, and ranges of lists: elements, lengths, and what a range shows of a change.
-use Rattle.std.proofs.Common.{◌≡◌, ℕ, ◌+◌, ◌-◌, ◌<◌, ◌≤◌, List, [], ◌∷◌, ◌++◌, length, get_or, take, drop, replicate, refl, sym, ap, ◌∙◌, arith, inl, inr, slice_range}
+use Rattle.std.proofs.Common.{◌≡◌, ℕ, ◌+◌, ◌-◌, ◌*◌, ◌/◌, ◌%◌, ◌<◌, ◌≤◌, List, [], ◌∷◌, ◌++◌, length, get_or, take, drop, replicate, refl, sym, ap, ◌∙◌, arith, inl, inr, slice_range}
 use Rattle.std.proofs.lemmas.List.{length-take, length-drop, length-append, length-replicate, length-take-le, take-append-drop, get_or_append_left, get_or-append_right, get_or-take, get_or-drop, get_or-replicate, get_or_past, same_lists, append_assoc, drop-drop, take_at, drop_at, take_all, drop_all}
 use Rattle.std.proofs.lemmas.Bool.{cases_lt}
 use Rattle.pool_pages.specs.Contents.{put, put_all}
+use Rattle.pool_pages.proofs.Multiples.{page_of, page_within}
 
 module _ {X : Type 0} where
   pub length-put : (i : ℕ) (ys xs : List X) → i + length ys ≤ length xs → length (put i ys xs) ≡ length xs
@@ -39,6 +40,17 @@ module _ {X : Type 0} where
       same_lists (slice_range xs a b) (slice_range ys a b) (length-range xs a b left ∙ sym (length-range ys a b right))
       (λ k d below. let inside : k < b - a = omega (arith, length-range xs a b left) in
       get_or-range xs a b k d inside ∙ same (a + k) d (omega arith) (omega arith) ∙ sym (get_or-range ys a b k d inside))
+
+  -- the elements of lists that agree from a to b
+  pub same_at : (xs ys : List X) (a b k : ℕ) (d : X) → slice_range xs a b ≡ slice_range ys a b → a ≤ k → k < b → get_or xs k d ≡ get_or ys k d
+  same_at xs ys a b k d same from below =
+      let place : a + (k - a) ≡ k = omega arith in
+      let inside : k - a < b - a = omega arith in
+      ap (λ n. get_or xs n d) (sym place)
+      ∙ sym (get_or-range xs a b (k - a) d inside)
+      ∙ ap (λ l. get_or l (k - a) d) same
+      ∙ get_or-range ys a b (k - a) d inside
+      ∙ ap (λ n. get_or ys n d) place
 
   pub range-put_below : (i : ℕ) (ys xs : List X) (a b : ℕ) → i + length ys ≤ length xs → b ≤ i → slice_range (put i ys xs) a b ≡ slice_range xs a b
   range-put_below i ys xs a b fits below =
@@ -130,3 +142,40 @@ module _ {X : Type 0} where
   put_empty i xs =
       let place : i + 0 ≡ i = omega arith in
       ap (λ n. take i xs ++ drop n xs) place ∙ take-append-drop i xs
+
+  -- the same put into two lists that agree from a to b
+  pub range-put_both : (i : ℕ) (ys xs zs : List X) (a b : ℕ) → i + length ys ≤ length xs → length zs ≡ length xs → b ≤ length xs → slice_range xs a b ≡ slice_range zs a b → slice_range (put i ys xs) a b ≡ slice_range (put i ys zs) a b
+  range-put_both i ys xs zs a b fits long inside same =
+      let fits_too : i + length ys ≤ length zs = omega arith in
+      same_range (put i ys xs) (put i ys zs) a b (omega (arith, length-put i ys xs fits)) (omega (arith, length-put i ys zs fits_too))
+      (λ k d from below. elim (cases_lt k i) [
+        | inl under ↦ get_or-put_below i ys xs k d (omega arith) under ∙ same_at xs zs a b k d same from below ∙ sym (get_or-put_below i ys zs k d (omega arith) under)
+        | inr over ↦ elim (cases_lt k (i + length ys)) [
+          | inl within ↦ get_or-put_in i ys xs k d (omega arith) over within ∙ sym (get_or-put_in i ys zs k d (omega arith) over within)
+          | inr above ↦ get_or-put_above i ys xs k d (omega arith) above ∙ same_at xs zs a b k d same from below ∙ sym (get_or-put_above i ys zs k d (omega arith) above)
+        ]
+      ])
+
+  -- lists that agree from a to b and from b to e agree from a to e
+  pub range_joined : (xs ys : List X) (a b e : ℕ) → e ≤ length xs → e ≤ length ys → slice_range xs a b ≡ slice_range ys a b → slice_range xs b e ≡ slice_range ys b e → slice_range xs a e ≡ slice_range ys a e
+  range_joined xs ys a b e left right first second =
+      same_range xs ys a e left right
+      (λ k d from below. elim (cases_lt k b) [
+        | inl under ↦ same_at xs ys a b k d first from under
+        | inr over ↦ same_at xs ys b e k d second over below
+      ])
+
+  -- lists that agree from a to b agree on a range inside
+  pub range_within : (xs ys : List X) (a b i j : ℕ) → b ≤ length xs → b ≤ length ys → a ≤ i → j ≤ b → slice_range xs a b ≡ slice_range ys a b → slice_range xs i j ≡ slice_range ys i j
+  range_within xs ys a b i j left right from to same =
+      same_range xs ys i j (omega arith) (omega arith)
+      (λ k d start end. same_at xs ys a b k d same (omega arith) (omega arith))
+
+  -- lists that agree on each page are one
+  pub same_by_pages : (xs ys : List X) (page : ℕ) → 0 < page → length xs % page ≡ 0 → length xs ≡ length ys → ((k : ℕ) → k < length xs / page → slice_range xs (k * page) (k * page + page) ≡ slice_range ys (k * page) (k * page + page)) → xs ≡ ys
+  same_by_pages xs ys page some is long same =
+      same_lists xs ys long
+      (λ i d below.
+      let place = page_of i page some in
+      let under : i / page < length xs / page = page_within i (length xs) page some is below in
+      same_at xs ys (i / page * page) (i / page * page + page) i d (same (i / page) under) place.0 place.1)
