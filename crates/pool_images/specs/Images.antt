@@ -1,9 +1,10 @@
 -- The images of a module, and the bytes that a memory begins with.
-use Rattle.std.specs.Prelude.{◌≡◌, ℕ, ◌+◌, ◌-◌, ◌*◌, ◌/◌, ◌%◌, ◌≤◌, ◌==◌, ◌&&◌, List, [], ◌∷◌, ◌++◌, length, map, replicate, Bool, true, false, nat_le, if◌then◌else◌, Option, Some, None, option_map}
+use Rattle.std.specs.Prelude.{◌≡◌, ℕ, ◌+◌, ◌-◌, ◌*◌, ◌/◌, ◌%◌, ◌≤◌, ◌==◌, ◌&&◌, List, [], ◌∷◌, ◌++◌, length, map, replicate, Bool, true, false, nat_le, if◌then◌else◌, Option, Some, None, is_some, option_map, option_and_then}
 use Rattle.std.specs.Option.{option_map_or}
-use Rattle.std.specs.List.{list_all}
+use Rattle.std.specs.List.{list_any}
 use Rattle.pool_pages.specs.Count.{rounded_up}
 use Rattle.pool_pages.specs.Contents.{put}
+use Rattle.pool_pages.specs.MakerTold.{Planned, fails_images}
 use Rattle.pool_pages.specs.MemoryTypes.{minimum_byte_size}
 use Rattle.pool_pages.specs.declared.module_types.CompiledModuleId.{CompiledModuleId}
 use Rattle.pool_pages.specs.declared.module_types.DefinedMemoryIndex.{DefinedMemoryIndex}
@@ -41,10 +42,19 @@ abbrev pub images_from : CompiledModuleId → ℕ → ℕ → List MemoryDecl �
 images_from id page memory [] = []
 images_from id page memory (decl ∷ decls) = option_map (image_of id page memory) decl.image ∷ images_from id page (memory + 1) decls
 
--- the offset of the memory's image, if it has one, is a page's
-abbrev pub begins_at_page : ℕ → MemoryDecl → Bool
-begins_at_page page decl = option_map_or (λ image. image.offset % page == 0) decl.image true
+-- the offset of the memory's image, where that is inside a page
+abbrev pub misplaced : ℕ → MemoryDecl → Option ℕ
+misplaced page decl = option_and_then (λ image. if image.offset % page == 0 then None else Some image.offset) decl.image
+
+-- the first such offset
+abbrev pub first_misplaced : ℕ → List MemoryDecl → Option ℕ
+first_misplaced page [] = None
+first_misplaced page (decl ∷ decls) = if is_some (misplaced page decl) then misplaced page decl else first_misplaced page decls
 
 -- the memory's image, if it has one, ends within the memory's minimum
 abbrev pub ends_in_minimum : ℕ → MemoryDecl → Bool
 ends_in_minimum page decl = option_map_or (λ image. nat_le (image.offset + rounded_up page (length image.bytes)) (minimum_byte_size decl.ty)) decl.image true
+
+-- some memory has an image, and the making of this module's images is listed as one that fails
+abbrev pub makes_listed : CompiledModuleId → List Planned → List MemoryDecl → Bool
+makes_listed id plan decls = list_any (λ decl. is_some decl.image && fails_images id.0 plan) decls

@@ -136,6 +136,18 @@ impl HostAlignedByteCount {
         })
     }
 
+    /// The next multiple of the page at or above `bytes`, which the caller knows to be in range.
+    pub fn rounded_up_unchecked(page: PageSize, bytes: usize) -> HostAlignedByteCount
+        requires { bytes + page - 1 < 2 ^ 64 }
+        ensures { result ≡ count page (rounded_up page bytes) }
+    {
+        let size = page.get();
+        HostAlignedByteCount {
+            page,
+            bytes: (bytes + (size - 1)) / size * size,
+        }
+    }
+
     pub fn page(self) -> PageSize
         ensures { result ≡ self.page }
     {

@@ -9,6 +9,7 @@ mod module_types;
 mod pages;
 mod plain_list;
 mod region;
+mod unsupported;
 
 pub use byte_count::{ByteCountNotAligned, ByteCountOutOfBounds, HostAlignedByteCount, PageSize};
 pub use config::{BadConfig, Enabled, InstanceLimits, PoolingAllocationConfig};
@@ -21,3 +22,4 @@ pub use module_types::{
 pub use pages::{DecommitBehavior, PageCalls, PageFault, Pages, RegionName};
 pub use plain_list::{ByteList, PlainList};
 pub use region::PageRegion;
+pub use unsupported::Unsupported;

@@ -1,0 +1,56 @@
+-- The images of a module, one memory after another.
+use Rattle.std.proofs.Common.{◌≡◌, ℕ, zero, suc, ◌+◌, ◌<◌, List, [], ◌∷◌, ◌++◌, length, get_or, take, drop, refl, sym, ap, ◌∙◌, arith, Option, Some, None, Bool, true, false}
+use Rattle.std.specs.Prelude.{is_some, IfSome, option_map, ◌&&◌, ◌||◌, if◌then◌else◌}
+use Rattle.std.proofs.lemmas.List.{take_more, length-take-le}
+use Rattle.pool_pages.specs.declared.module_types.CompiledModuleId.{CompiledModuleId}
+use Rattle.pool_pages.specs.declared.module_types.MemoryDecl.{MemoryDecl}
+use Rattle.pool_pages.specs.MakerTold.{Planned, fails_images}
+use Rattle.pool_images.specs.Images.{image_of, images_from, makes_listed, misplaced, first_misplaced}
+
+-- one more memory
+pub images_from_push : (id : CompiledModuleId) (page n : ℕ) (decls : List MemoryDecl) (decl : MemoryDecl) → images_from id page n (decls ++ decl ∷ []) ≡ images_from id page n decls ++ option_map (image_of id page (n + length decls)) decl.image ∷ []
+images_from_push id page n [] decl = let place : n ≡ n + 0 = omega arith in ap (λ k. option_map (image_of id page k) decl.image ∷ []) place
+images_from_push id page n (d ∷ decls) decl =
+    let place : n + 1 + length decls ≡ n + length (d ∷ decls) = omega arith in
+    ap (λ l. option_map (image_of id page n) d.image ∷ l) (images_from_push id page (n + 1) decls decl ∙ ap (λ k. images_from id page (n + 1) decls ++ option_map (image_of id page k) decl.image ∷ []) place)
+
+pub images_from_more : (id : CompiledModuleId) (page : ℕ) (decls : List MemoryDecl) (i : ℕ) (d : MemoryDecl) → i < length decls → images_from id page 0 (take (i + 1) decls) ≡ images_from id page 0 (take i decls) ++ option_map (image_of id page i) (get_or decls i d).image ∷ []
+images_from_more id page decls i d below =
+    let count : 0 + length (take i decls) ≡ i = omega (arith, length-take-le i decls (omega arith)) in
+    ap (images_from id page 0) (take_more decls i d below)
+    ∙ images_from_push id page 0 (take i decls) (get_or decls i d)
+    ∙ ap (λ k. images_from id page 0 (take i decls) ++ option_map (image_of id page k) (get_or decls i d).image ∷ []) count
+
+or_false : (a : Bool) → (a || false) ≡ a
+or_false false = refl
+or_false true = refl
+
+or_assoc : (a b c : Bool) → (a || (b || c)) ≡ ((a || b) || c)
+or_assoc false b c = refl
+or_assoc true b c = refl
+
+-- one more memory, for the list of those whose making fails
+pub makes_listed_push : (id : CompiledModuleId) (plan : List Planned) (decls : List MemoryDecl) (decl : MemoryDecl) → makes_listed id plan (decls ++ decl ∷ []) ≡ makes_listed id plan decls || (is_some decl.image && fails_images id.0 plan)
+makes_listed_push id plan [] decl = or_false (is_some decl.image && fails_images id.0 plan)
+makes_listed_push id plan (d ∷ decls) decl =
+    ap (λ b. (is_some d.image && fails_images id.0 plan) || b) (makes_listed_push id plan decls decl)
+    ∙ or_assoc (is_some d.image && fails_images id.0 plan) (makes_listed id plan decls) (is_some decl.image && fails_images id.0 plan)
+
+neither : (o r : Option ℕ) → (if is_some o then o else r) ≡ None → (o ≡ None) × (r ≡ None)
+neither None r none = (refl, none)
+neither (Some n) r none = absurd cc
+
+-- where no offset is inside a page, none of them is
+pub none_misplaced : (page : ℕ) (decls : List MemoryDecl) (i : ℕ) (d : MemoryDecl) → i < length decls → first_misplaced page decls ≡ None → misplaced page (get_or decls i d) ≡ None
+none_misplaced page [] i d below none = absurd (omega arith)
+none_misplaced page (x ∷ xs) zero d below none = (neither (misplaced page x) (first_misplaced page xs) none).0
+none_misplaced page (x ∷ xs) (suc i) d below none = none_misplaced page xs i d (omega arith) (neither (misplaced page x) (first_misplaced page xs) none).1
+
+-- none of the makings so far is listed, and the next isn't
+pub planned_more : (plan : Option (List Planned)) (id : CompiledModuleId) (decls : List MemoryDecl) (i : ℕ) (d : MemoryDecl) → i < length decls → IfSome plan (λ p. makes_listed id p (take i decls) ≡ false) → IfSome plan (λ p. (is_some (get_or decls i d).image && fails_images id.0 p) ≡ false) → IfSome plan (λ p. makes_listed id p (take (i + 1) decls) ≡ false)
+planned_more None id decls i d below before next = before
+planned_more (Some p) id decls i d below before next =
+    ap (makes_listed id p) (take_more decls i d below)
+    ∙ makes_listed_push id p (take i decls) (get_or decls i d)
+    ∙ ap (λ b. b || (is_some (get_or decls i d).image && fails_images id.0 p)) before
+    ∙ next

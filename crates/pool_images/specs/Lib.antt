@@ -1,0 +1,2 @@
+pub mod ImageErrors
+pub mod Images

@@ -1,0 +1,8 @@
+//! Images of memories, and the slots that they are mapped into.
+#![tactic(auto)]
+
+mod memory_image;
+mod ranges;
+
+pub use memory_image::{ImageError, MemoryImage, ModuleMemoryImages};
+pub use ranges::{ByteRange, MAX_RANGES, Ranges};
