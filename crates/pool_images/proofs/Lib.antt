@@ -1,1 +1,5 @@
+pub mod Fitting
 pub mod Images
+pub mod Making
+pub mod Marks
+pub mod Ready

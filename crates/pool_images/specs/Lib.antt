@@ -1,2 +1,3 @@
 pub mod ImageErrors
 pub mod Images
+pub mod Slots

@@ -91,7 +91,10 @@ decommitting start len = record {
 
 -- the call is counted, unless its range is empty
 abbrev pub counted : PageCall → Told → Told
-counted call t = if call.len == 0 then t else record t { made = risen t.made; calls = call.raise t.calls }
+counted call t = record t {
+  made = if call.len == 0 then t.made else risen t.made;
+  calls = if call.len == 0 then t.calls else call.raise t.calls;
+}
 
 -- the call succeeded: it is counted, and its pages are changed
 abbrev pub succeeded : PageCall → Told → Told

@@ -22,5 +22,5 @@ loop-decl-preserved g c =
       images = pushed.ok ∙ rw (before.images, before.count) (sym (rw (← c.decl-item.is) at more));
       maker = same ∙ before.maker;
       planned = planned_more (g.M.PageMaker.told c.args.maker.now).plan c.args.id c.args.memories.now c.loop-decl.decl-index c.decl-item.result c.loop-decl-test.true before.planned
-        (subst P c.decl-item.is (rw before.maker at pushed.planned));
+          (subst P c.decl-item.is (rw before.maker at pushed.planned));
     }

@@ -1,0 +1,186 @@
+-- What each call makes of a slot that is clean or in use.
+use Rattle.std.proofs.Common.{◌≡◌, ℕ, ◌+◌, ◌-◌, ◌*◌, ◌/◌, ◌%◌, ◌<◌, ◌≤◌, Bool, true, false, List, [], ◌∷◌, length, get_or, replicate, refl, sym, ap, ◌∙◌, subst, inl, inr, arith, slice_range, Option, Some, None}
+use Rattle.std.specs.Prelude.{IfSome, option_map}
+use Rattle.std.proofs.lemmas.List.{length-replicate}
+use Rattle.pool_pages.specs.Count.{Count, count, rounded_up}
+use Rattle.pool_pages.specs.Contents.{Contents, IsShaped, CanReach, IsIn, HasNoOtherImage, page_origin, put, put_all, exposed, hidden, image_mapped, remapped, erased, decommitted, written}
+use Rattle.pool_pages.specs.Told.{Told, exposing, hiding, mapping, remapping, erasing, decommitting, overwritten}
+use Rattle.std.proofs.Math.Nat.{div-mul-le_self, le-div_iff_mul-le}
+use Rattle.pool_pages.proofs.Multiples.{add_whole, sub_whole, whole, page_below}
+use Rattle.pool_pages.proofs.Puts.{length-put, length-range, range-put, range-put_below, range-put_above, range-put_both, range_within, range_joined, put_range}
+use Rattle.pool_images.specs.Images.{Image, start}
+use Rattle.pool_images.specs.declared.image_slot.ImageName.{ImageName}
+use Rattle.pool_images.specs.Slots.{Slot, Fits, IsSound, IsPlaced, IsReady, IsClean, IsInUse, Holds, Reads, FitsInto, HasImage, size_of, name_of, image_bytes, placed, called, resized, without, without_image, with_image}
+use Rattle.pool_images.proofs.Marks.{reach_marked, reach_exposed, reach_hidden, range-zeros, put-zeros, range-put_around}
+
+-- what holds of a told region that a clean slot is in
+pub record IsGood (s : Slot) (c : Contents) : Type 0 where
+  pub sound : IsSound s.region.page s.region.len s.base.bytes (size_of s) c
+  pub ready : IsReady s c
+  pub holds : Holds s 0 (size_of s) c
+
+good_of : (s : Slot) (o : Option Contents) → IfSome o (IsSound s.region.page s.region.len s.base.bytes (size_of s)) → IfSome o (IsReady s) → IfSome o (Holds s 0 (size_of s)) → IfSome o (IsGood s)
+good_of s None sound ready holds = sound
+good_of s (Some c) sound ready holds = record { sound = sound; ready = ready; holds = holds }
+
+pub good : (s : Slot) → Fits s → IsClean s → IfSome s.region.contents (IsGood s)
+good s fits clean = good_of s s.region.contents fits.told clean.ready clean.holds
+
+-- what holds of told pages that are what they go back to
+pub record IsStarted (s : Slot) (c : Contents) : Type 0 where
+  pub ready : IsReady s c
+  pub holds : Holds s 0 (size_of s) c
+
+-- from what is told before a call to what is told after it
+pub lifted : (P Q : Contents → Type 0) (f : Contents → Contents) (o : Option Contents) → ((c : Contents) → P c → Q (f c)) → IfSome o P → IfSome (option_map f o) Q
+lifted P Q f None step told = told
+lifted P Q f (Some c) step told = step c told
+
+pub followed : (P Q : Contents → Type 0) (o : Option Contents) → ((c : Contents) → P c → Q c) → IfSome o P → IfSome o Q
+followed P Q None step told = told
+followed P Q (Some c) step told = step c told
+
+pub paired : (P Q : Contents → Type 0) (o : Option Contents) → IfSome o P → IfSome o Q → IfSome o (λ c. P c × Q c)
+paired P Q None left right = left
+paired P Q (Some c) left right = (left, right)
+
+-- a part of what holds of a whole slot
+part_holds : (s : Slot) (c : Contents) (from to : ℕ) → Fits s → IsSound s.region.page s.region.len s.base.bytes (size_of s) c → to ≤ size_of s → Holds s 0 (size_of s) c → Holds s from to c
+part_holds s c from to fits sound within holds =
+    range_within c.bytes c.origin (s.base.bytes + 0) (s.base.bytes + size_of s) (s.base.bytes + from) (s.base.bytes + to)
+    (omega (arith, sound.shaped.bytes, fits.inside)) (omega (arith, sound.shaped.origin, fits.inside)) (omega arith) (omega arith) holds
+
+-- the first bytes of such a slot
+held : (s : Slot) (n : ℕ) (c : Contents) → Fits s → IsSound s.region.page s.region.len s.base.bytes (size_of s) c → n ≤ size_of s → Holds s 0 (size_of s) c → slice_range c.bytes s.base.bytes (s.base.bytes + n) ≡ slice_range c.origin s.base.bytes (s.base.bytes + n)
+held s n c fits sound within holds =
+    range_within c.bytes c.origin (s.base.bytes + 0) (s.base.bytes + size_of s) s.base.bytes (s.base.bytes + n)
+    (omega (arith, sound.shaped.bytes, fits.inside)) (omega (arith, sound.shaped.origin, fits.inside)) (omega arith) (omega arith) holds
+
+-- the page of the contents is the region's, and can be told from zero
+pub page_some : (s : Slot) (c : Contents) → Fits s → IsSound s.region.page s.region.len s.base.bytes (size_of s) c → 0 < c.page
+page_some s c fits sound = rw sound.shaped.same_page (omega (arith, fits.page_size.at_least))
+
+-- a place inside the slot is in a page of the region
+page_inside : (s : Slot) (c : Contents) (n : ℕ) → Fits s → IsSound s.region.page s.region.len s.base.bytes (size_of s) c → n ≤ size_of s → (s.base.bytes + n) / c.page ≤ length c.accessible
+page_inside s c n fits sound within =
+    let some : 0 < s.region.page = omega (arith, fits.page_size.at_least) in
+    rw (sound.shaped.same_page, sound.shaped.accessible) ((le-div_iff_mul-le some).1 (omega (arith, fits.inside, div-mul-le_self (s.base.bytes + n) s.region.page)))
+
+ready_exposed : (s : Slot) (size : ℕ) → Fits s → s.accessible.bytes ≤ size → size ≤ size_of s → size % s.region.page ≡ 0 → (c : Contents) → IsGood s c → IsReady (record (called (exposing (s.base.bytes + s.accessible.bytes) (size - s.accessible.bytes)) s) { accessible = count s.region.page size }) (exposed (s.base.bytes + s.accessible.bytes) (size - s.accessible.bytes) c)
+ready_exposed s size fits more within size_whole c g =
+    let page : c.page ≡ s.region.page = g.sound.shaped.same_page in
+    let rest : (size - s.accessible.bytes) % s.region.page ≡ 0 = sub_whole size s.accessible.bytes s.region.page size_whole fits.accessible_whole in
+    let sum : s.accessible.bytes + (size - s.accessible.bytes) ≡ size = omega arith in
+    let reached : CanReach s.base.bytes (s.accessible.bytes + (size - s.accessible.bytes)) (exposed (s.base.bytes + s.accessible.bytes) (size - s.accessible.bytes) c) =
+    reach_exposed s.base.bytes s.accessible.bytes (size - s.accessible.bytes) c (page_some s c fits g.sound) (rw page fits.base_whole) (rw page fits.accessible_whole) (rw page rest) (page_inside s c s.accessible.bytes fits g.sound fits.within) g.ready.reach in
+    let P : ℕ → Type 0 = λ n. CanReach s.base.bytes n (exposed (s.base.bytes + s.accessible.bytes) (size - s.accessible.bytes) c) in
+    record {
+      reach = subst P sum reached;
+      origin = g.ready.origin;
+      beyond = part_holds s c size (size_of s) fits g.sound (omega arith) g.holds;
+    }
+
+-- more of a clean slot is exposed
+pub clean_exposed : (s : Slot) (size : ℕ) → Fits s → IsClean s → s.accessible.bytes ≤ size → size ≤ size_of s → size % s.region.page ≡ 0 → IsClean (record (called (exposing (s.base.bytes + s.accessible.bytes) (size - s.accessible.bytes)) s) { accessible = count s.region.page size })
+clean_exposed s size fits clean more within size_whole =
+    let f : Contents → Contents = exposed (s.base.bytes + s.accessible.bytes) (size - s.accessible.bytes) in
+    let t : Slot = record (called (exposing (s.base.bytes + s.accessible.bytes) (size - s.accessible.bytes)) s) { accessible = count s.region.page size } in
+    record {
+      not_dirty = clean.not_dirty;
+      ready = lifted (IsGood s) (IsReady t) f s.region.contents (ready_exposed s size fits more within size_whole) (good s fits clean);
+      holds = lifted (Holds s 0 (size_of s)) (Holds t 0 (size_of t)) f s.region.contents (λ c h. h) clean.holds;
+    }
+
+ready_hidden : (s : Slot) (size : ℕ) → Fits s → size ≤ s.accessible.bytes → size % s.region.page ≡ 0 → (c : Contents) → IsGood s c → IsReady (record (called (hiding (s.base.bytes + size) (s.accessible.bytes - size)) s) { accessible = count s.region.page size }) (hidden (s.base.bytes + size) (s.accessible.bytes - size) c)
+ready_hidden s size fits less size_whole c g =
+    let page : c.page ≡ s.region.page = g.sound.shaped.same_page in
+    let sum : s.accessible.bytes ≡ size + (s.accessible.bytes - size) = omega arith in
+    let P : ℕ → Type 0 = λ n. CanReach s.base.bytes n c in
+    record {
+      reach = reach_hidden s.base.bytes size (s.accessible.bytes - size) c (page_some s c fits g.sound) (rw page fits.base_whole) (rw page size_whole) (page_inside s c size fits g.sound (omega (arith, fits.within))) (subst P sum g.ready.reach);
+      origin = g.ready.origin;
+      beyond = part_holds s c size (size_of s) fits g.sound (omega arith) g.holds;
+    }
+
+-- a part of a clean slot is hidden
+pub clean_hidden : (s : Slot) (size : ℕ) → Fits s → IsClean s → size ≤ s.accessible.bytes → size % s.region.page ≡ 0 → IsClean (record (called (hiding (s.base.bytes + size) (s.accessible.bytes - size)) s) { accessible = count s.region.page size })
+clean_hidden s size fits clean less size_whole =
+    let f : Contents → Contents = hidden (s.base.bytes + size) (s.accessible.bytes - size) in
+    let t : Slot = record (called (hiding (s.base.bytes + size) (s.accessible.bytes - size)) s) { accessible = count s.region.page size } in
+    record {
+      not_dirty = clean.not_dirty;
+      ready = lifted (IsGood s) (IsReady t) f s.region.contents (ready_hidden s size fits less size_whole) (good s fits clean);
+      holds = lifted (Holds s 0 (size_of s)) (Holds t 0 (size_of t)) f s.region.contents (λ c h. h) clean.holds;
+    }
+
+-- the image of a clean slot is taken away
+started_without : (s : Slot) (name : ImageName) → s.image ≡ Some name → Fits s → IsPlaced s.region.page s.accessible.bytes name → (c : Contents) → IsGood s c → IsStarted (without (Some name) s) (remapped (s.base.bytes + name.offset) name.len c)
+started_without s name is fits at c g =
+    let all : length c.origin ≡ s.region.len = g.sound.shaped.origin in
+    let every : length c.bytes ≡ s.region.len = g.sound.shaped.bytes in
+    let O : Option ImageName → Type 0 = λ o. c.origin ≡ placed s.base.bytes o c.origin in
+    let mapped : c.origin ≡ placed s.base.bytes (Some name) c.origin = subst O is g.ready.origin in
+    let image : List ℕ = image_bytes s.base.bytes name c.origin in
+    let ends : s.base.bytes + name.offset + name.len ≤ length c.origin = omega (arith, fits.inside, fits.within, at.inside) in
+    let len : length (image_bytes s.base.bytes name c.origin) ≡ name.len = length-range c.origin (s.base.bytes + name.offset) (s.base.bytes + name.offset + name.len) ends ∙ omega arith in
+    let zeros : length (replicate {A = ℕ} name.len 0) ≡ name.len = length-replicate {A = ℕ} name.len 0 in
+    let P : List ℕ → Type 0 = λ l. put_all (s.base.bytes + name.offset) name.len 0 l ≡ replicate (length c.origin) 0 in
+    let cleared : put_all (s.base.bytes + name.offset) name.len 0 c.origin ≡ replicate (length c.origin) 0 =
+    subst P (sym mapped) (put-zeros (s.base.bytes + name.offset) name.len (length c.origin) (image_bytes s.base.bytes name c.origin) len ends) in
+    let same : length (put_all (s.base.bytes + name.offset) name.len 0 c.origin) ≡ length c.origin = length-put (s.base.bytes + name.offset) (replicate {A = ℕ} name.len 0) c.origin (omega arith) in
+    let both : (from to : ℕ) → to ≤ size_of s → Holds s from to c → Holds (without (Some name) s) from to (remapped (s.base.bytes + name.offset) name.len c) =
+    λ from to within h. range-put_both (s.base.bytes + name.offset) (replicate {A = ℕ} name.len 0) c.bytes c.origin (s.base.bytes + from) (s.base.bytes + to) (omega arith) (omega arith) (omega (arith, fits.inside)) h in
+    record {
+      ready = record {
+        reach = reach_marked s.base.bytes s.accessible.bytes ((s.base.bytes + name.offset) / c.page) (name.len / c.page) c (page_inside s c name.offset fits g.sound (omega (arith, fits.within, at.inside))) g.ready.reach;
+        origin = cleared ∙ ap (λ (n : ℕ). replicate {A = ℕ} n 0) (sym same);
+        beyond = both s.accessible.bytes (size_of s) (omega arith) g.ready.beyond;
+      };
+      holds = both 0 (size_of s) (omega arith) g.holds;
+    }
+
+-- an image is mapped into a clean slot that has none
+started_with : (s : Slot) (i : Image) → s.image ≡ None → Fits s → i.offset + length i.bytes ≤ s.accessible.bytes → (c : Contents) → IsGood s c → IsStarted (with_image (Some i) s) (image_mapped (s.base.bytes + i.offset) i.bytes c) × HasImage (with_image (Some i) s) (Some i) (image_mapped (s.base.bytes + i.offset) i.bytes c)
+started_with s i none fits inside c g =
+    let all : length c.origin ≡ s.region.len = g.sound.shaped.origin in
+    let every : length c.bytes ≡ s.region.len = g.sound.shaped.bytes in
+    let O : Option ImageName → Type 0 = λ o. c.origin ≡ placed s.base.bytes o c.origin in
+    let zeros : c.origin ≡ replicate (length c.origin) 0 = subst O none g.ready.origin in
+    let ends : s.base.bytes + i.offset + length i.bytes ≤ length c.origin = omega (arith, fits.inside, fits.within) in
+    let same : length (put (s.base.bytes + i.offset) i.bytes c.origin) ≡ length c.origin = length-put (s.base.bytes + i.offset) i.bytes c.origin ends in
+    let image : image_bytes s.base.bytes (name_of i) (put (s.base.bytes + i.offset) i.bytes c.origin) ≡ i.bytes = range-put (s.base.bytes + i.offset) i.bytes c.origin ends in
+    let P : List ℕ → Type 0 = λ l. put (s.base.bytes + i.offset) i.bytes c.origin ≡ put (s.base.bytes + i.offset) l (replicate (length (put (s.base.bytes + i.offset) i.bytes c.origin)) 0) in
+    let over : put (s.base.bytes + i.offset) i.bytes c.origin ≡ put (s.base.bytes + i.offset) i.bytes (replicate (length (put (s.base.bytes + i.offset) i.bytes c.origin)) 0) =
+    ap (put (s.base.bytes + i.offset) i.bytes) (zeros ∙ ap (λ (n : ℕ). replicate {A = ℕ} n 0) (sym same)) in
+    let both : (from to : ℕ) → to ≤ size_of s → Holds s from to c → Holds (with_image (Some i) s) from to (image_mapped (s.base.bytes + i.offset) i.bytes c) =
+    λ from to within h. range-put_both (s.base.bytes + i.offset) i.bytes c.bytes c.origin (s.base.bytes + from) (s.base.bytes + to) (omega arith) (omega arith) (omega (arith, fits.inside)) h in (
+      record {
+        ready = record {
+          reach = reach_marked s.base.bytes s.accessible.bytes ((s.base.bytes + i.offset) / c.page) (length i.bytes / c.page) c (page_inside s c i.offset fits g.sound (omega (arith, fits.within))) g.ready.reach;
+          origin = subst P (sym image) over;
+          beyond = both s.accessible.bytes (size_of s) (omega arith) g.ready.beyond;
+        };
+        holds = both 0 (size_of s) (omega arith) g.holds;
+      },
+      (refl, image),
+    )
+
+-- what a slot that holds what it goes back to reads as
+pub reads_start : (s : Slot) (image : Option Image) (n : ℕ) (c : Contents) → Fits s → IsSound s.region.page s.region.len s.base.bytes (size_of s) c → n ≤ size_of s → IfSome image (λ i. i.offset + length i.bytes ≤ n) → IsStarted s c → HasImage s image c → slice_range c.bytes s.base.bytes (s.base.bytes + n) ≡ start image n
+reads_start s None n c fits sound within inside st has =
+    let all : length c.origin ≡ s.region.len = sound.shaped.origin in
+    let O : Option ImageName → Type 0 = λ o. c.origin ≡ placed s.base.bytes o c.origin in
+    let zeros : c.origin ≡ replicate (length c.origin) 0 = subst O has st.ready.origin in
+    let size : s.base.bytes + n - s.base.bytes ≡ n = omega arith in
+    held s n c fits sound within st.holds
+    ∙ ap (λ (l : List ℕ). slice_range l s.base.bytes (s.base.bytes + n)) zeros
+    ∙ range-zeros (length c.origin) s.base.bytes (s.base.bytes + n) (omega (arith, fits.inside))
+    ∙ ap (λ (k : ℕ). replicate {A = ℕ} k 0) size
+reads_start s (Some i) n c fits sound within inside st has =
+    let all : length c.origin ≡ s.region.len = sound.shaped.origin in
+    let O : Option ImageName → Type 0 = λ o. c.origin ≡ placed s.base.bytes o c.origin in
+    let mapped : c.origin ≡ put (s.base.bytes + i.offset) (image_bytes s.base.bytes (name_of i) c.origin) (replicate (length c.origin) 0) = subst O has.0 st.ready.origin in
+    let exact : c.origin ≡ put (s.base.bytes + i.offset) i.bytes (replicate (length c.origin) 0) = mapped ∙ ap (λ (l : List ℕ). put (s.base.bytes + i.offset) l (replicate (length c.origin) 0)) has.1 in
+    held s n c fits sound within st.holds
+    ∙ ap (λ (l : List ℕ). slice_range l s.base.bytes (s.base.bytes + n)) exact
+    ∙ range-put_around i.offset i.bytes (length c.origin) s.base.bytes n (omega (arith, fits.inside)) inside (omega (arith, fits.inside))
