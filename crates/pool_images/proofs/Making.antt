@@ -30,7 +30,7 @@ fresh_sound page len base size None some shaped zeros = shaped
 fresh_sound page len base size (Some c) some shaped zeros = record {
   shaped = shaped;
   outside = λ k below out.
-    rw shaped.same_page (ap (λ (l : List ℕ). slice_range l (k * page) (k * page + page)) zeros ∙ zero_page page len k some shaped.whole below);
+      rw shaped.same_page (ap (λ (l : List ℕ). slice_range l (k * page) (k * page + page)) zeros ∙ zero_page page len k some shaped.whole below);
 }
 
 pub fresh_keeps : (t : Told) (base accessible : Count) (static_size : ℕ) (colour : Option ℕ) → IsFresh base accessible static_size t → IsPageSize t.page → base.bytes % base.page ≡ 0 → accessible.bytes % accessible.page ≡ 0 → t.len < 2 ^ 64 → TellsShaped t → Keeps (count t.page (rounded_up t.page static_size)) (fresh_slot t base accessible static_size colour)
@@ -130,12 +130,12 @@ written_ready s at new fits ready within = ready_told s at new s.region.contents
 no_image : (page len start : ℕ) (image : List ℕ) (c : Contents) → 0 < page → IsShaped page len c → c.origin ≡ replicate (length c.origin) 0 → start + length image ≤ len → HasNoOtherImage start image c
 no_image page len start image c some shaped zeros fits =
     let all : (k : ℕ) → k < len / page → page_origin k c ≡ replicate c.page 0 =
-      λ k below. rw shaped.same_page (ap (λ (l : List ℕ). slice_range l (k * page) (k * page + page)) (zeros ∙ ap (λ (n : ℕ). replicate {A = ℕ} n 0) shaped.origin) ∙ zero_page page len k some shaped.whole below) in
+    λ k below. rw shaped.same_page (ap (λ (l : List ℕ). slice_range l (k * page) (k * page + page)) (zeros ∙ ap (λ (n : ℕ). replicate {A = ℕ} n 0) shaped.origin) ∙ zero_page page len k some shaped.whole below) in
     record {
       outside = λ k below out. all k (rw shaped.accessible at below);
       inside = λ k at. inl (all k (
-        let under : k * page < len = rw (← shaped.same_page) (omega (arith, at.below)) in
-        page_lt k (len / page) page (omega (arith, under, whole len page shaped.whole))));
+          let under : k * page < len = rw (← shaped.same_page) (omega (arith, at.below)) in
+          page_lt k (len / page) page (omega (arith, under, whole len page shaped.whole))));
     }
 
 no_image_told : (s : Slot) (start : ℕ) (image : List ℕ) (o : Option Contents) → Fits s → s.image ≡ None → start + length image ≤ s.region.len → IfSome o (IsSound s.region.page s.region.len s.base.bytes (size_of s)) → IfSome o (IsReady s) → IfSome o (HasNoOtherImage start image)

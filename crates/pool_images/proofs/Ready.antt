@@ -184,3 +184,43 @@ reads_start s (Some i) n c fits sound within inside st has =
     held s n c fits sound within st.holds
     ∙ ap (λ (l : List ℕ). slice_range l s.base.bytes (s.base.bytes + n)) exact
     ∙ range-put_around i.offset i.bytes (length c.origin) s.base.bytes n (omega (arith, fits.inside)) inside (omega (arith, fits.inside))
+
+clean_of : (s : Slot) (name : ImageName) → s.image ≡ Some name → Fits s → IsPlaced s.region.page s.accessible.bytes name → IsClean s → IsClean (without (Some name) s)
+clean_of s name is fits at clean =
+    let f : Contents → Contents = remapped (s.base.bytes + name.offset) name.len in
+    let t : Slot = without (Some name) s in
+    record {
+      not_dirty = clean.not_dirty;
+      ready = lifted (IsGood s) (IsReady t) f s.region.contents (λ c g. (started_without s name is fits at c g).ready) (good s fits clean);
+      holds = lifted (IsGood s) (Holds t 0 (size_of t)) f s.region.contents (λ c g. (started_without s name is fits at c g).holds) (good s fits clean);
+    }
+
+-- a clean slot's image is taken away
+pub clean_without : (s : Slot) (name : ImageName) → s.image ≡ Some name → Fits s → IsClean s → IsClean (without (Some name) s)
+clean_without s name is fits clean =
+    let P : Option ImageName → Type 0 = λ o. IfSome o (IsPlaced s.region.page s.accessible.bytes) in
+    clean_of s name is fits (subst P is fits.image) clean
+
+-- The same as the code says them, with the range and the size as it has them.
+pub exposed_clean : (s : Slot) (size : Count) (from len : ℕ) → Fits s → IsClean s → from ≡ s.base.bytes + s.accessible.bytes → len ≡ size.bytes - s.accessible.bytes → size.page ≡ s.region.page → size.bytes % size.page ≡ 0 → s.accessible.bytes ≤ size.bytes → size.bytes ≤ size_of s → IsClean (record (called (exposing from len) s) { accessible = size })
+exposed_clean s size from len fits clean at long page is more within =
+    let P : ℕ → ℕ → ℕ → Type 0 = λ p f l. IsClean (record (called (exposing f l) s) { accessible = count p size.bytes }) in
+    let start : P s.region.page (s.base.bytes + s.accessible.bytes) (size.bytes - s.accessible.bytes) = clean_exposed s size.bytes fits clean more within (rw page at is) in
+    let first = subst (λ (p : ℕ). P p (s.base.bytes + s.accessible.bytes) (size.bytes - s.accessible.bytes)) (sym page) start in
+    let second = subst (λ (f : ℕ). P size.page f (size.bytes - s.accessible.bytes)) (sym at) first in
+    subst (λ (l : ℕ). P size.page from l) (sym long) second
+
+pub hidden_clean : (s : Slot) (size : Count) (from len : ℕ) → Fits s → IsClean s → from ≡ s.base.bytes + size.bytes → len ≡ s.accessible.bytes - size.bytes → size.page ≡ s.region.page → size.bytes % size.page ≡ 0 → size.bytes ≤ s.accessible.bytes → IsClean (record (called (hiding from len) s) { accessible = size })
+hidden_clean s size from len fits clean at long page is less =
+    let P : ℕ → ℕ → ℕ → Type 0 = λ p f l. IsClean (record (called (hiding f l) s) { accessible = count p size.bytes }) in
+    let start : P s.region.page (s.base.bytes + size.bytes) (s.accessible.bytes - size.bytes) = clean_hidden s size.bytes fits clean less (rw page at is) in
+    let first = subst (λ (p : ℕ). P p (s.base.bytes + size.bytes) (s.accessible.bytes - size.bytes)) (sym page) start in
+    let second = subst (λ (f : ℕ). P size.page f (s.accessible.bytes - size.bytes)) (sym at) first in
+    subst (λ (l : ℕ). P size.page from l) (sym long) second
+
+pub unmapped_clean : (s : Slot) (name : ImageName) (from len : ℕ) → s.image ≡ Some name → Fits s → IsClean s → from ≡ s.base.bytes + name.offset → len ≡ name.len → IsClean (record (called (remapping from len) s) { image = None })
+unmapped_clean s name from len is fits clean at long =
+    let P : ℕ → ℕ → Type 0 = λ f l. IsClean (record (called (remapping f l) s) { image = None }) in
+    let start : P (s.base.bytes + name.offset) name.len = clean_without s name is fits clean in
+    let first = subst (λ (f : ℕ). P f name.len) (sym at) start in
+    subst (λ (l : ℕ). P from l) (sym long) first

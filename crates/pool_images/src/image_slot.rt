@@ -1,9 +1,9 @@
-ghost use Rattle.std.specs.Prelude.{◌≡◌, ◌+◌, ◌^◌, ◌<◌, ◌≤◌, [], ◌∷◌, length, slice_range, false, true, None, Some, is_ok, is_some, IfSome, OnOk, OnErr, option_map};
+ghost use Rattle.std.specs.Prelude.{◌≡◌, ◌+◌, ◌-◌, ◌%◌, ◌^◌, ◌<◌, ◌≤◌, [], ◌∷◌, length, slice_range, false, true, None, Some, is_ok, is_some, IfSome, OnOk, OnErr, option_map};
 ghost use Rattle.std.specs.Arc.{arc_value};
 ghost use Rattle.pool_pages.specs.Count.{Count, count, rounded_up};
 ghost use Rattle.pool_pages.specs.Contents.{CanReach};
 ghost use Rattle.pool_pages.specs.Told.{Told, exposing, hiding, mapping, remapping, erasing, decommitting, passes};
-ghost use Rattle.pool_images.specs.Slots.{Slot, size_of, IsRangeOf, CallFaulted, IsFresh, IsReady, IsClean, FitsInto, called, written_at};
+ghost use Rattle.pool_images.specs.Slots.{Slot, size_of, IsRangeOf, CallFaulted, IsFresh, IsReady, IsClean, IsLeft, Fits, FitsInto, called, resized, without, without_image, written_at};
 
 use crate::memory_image::MemoryImage;
 use pool_pages::{
@@ -216,5 +216,97 @@ impl<P: Pages> MemoryImageSlot<P> {
         let start = HostAlignedByteCount::new_unchecked(image.data().page(), image.offset());
         let from = self.base.unchecked_add(start);
         self.region.map_image(from, image.data())
+    }
+
+    // What holds of every slot, for the proofs of its callers here.
+    fn fits(&self)
+        ensures { Fits self.now }
+    {
+        let _region = &self.region;
+    }
+
+    /// Takes the image away; its pages become zeros. Makes no page call where there is no image.
+    pub fn remove_image(&mut self) -> Result<(), PageFault>
+        requires { IsClean self.old }
+        ensures ok { OnOk result (self.new ≡ without_image self.old) }
+        ensures clean { OnOk result (IsClean self.new) }
+        ensures fault { OnErr result (IsLeft self.old self.new) }
+    {
+        self.fits();
+        match self.image {
+            None => Ok(()),
+            Some(name) => self.unmap(name),
+        }
+    }
+
+    fn unmap(&mut self, name: ImageName) -> Result<(), PageFault>
+        requires clean { IsClean self.old }
+        requires fits { Fits self.old }
+        requires image { self.old.image ≡ Some name }
+        ensures ok { OnOk result (self.new ≡ without (Some name) self.old) }
+        ensures clean { OnOk result (IsClean self.new) }
+        ensures fault { OnErr result (IsLeft self.old self.new) }
+    {
+        let page = self.region.page();
+        let start = HostAlignedByteCount::new_unchecked(page, name.offset);
+        let len = HostAlignedByteCount::new_unchecked(page, name.len);
+        self.remap_zeros(start, len)?;
+        self.image = None;
+        Ok(())
+    }
+
+    // Exposes what is missing up to `size`, and hides what is more where that is wanted.
+    fn resize(&mut self, size: HostAlignedByteCount, hides: bool) -> Result<(), PageFault>
+        requires clean { IsClean self.old }
+        requires page { size.page ≡ self.old.region.page }
+        requires whole { size.bytes % size.page ≡ 0 }
+        requires within { size.bytes ≤ size_of self.old }
+        requires image { IfSome self.old.image (λ name. name.offset + name.len ≤ size.bytes) }
+        ensures ok { OnOk result (self.new ≡ resized size.bytes hides self.old) }
+        ensures clean { OnOk result (IsClean self.new) }
+        ensures fault { OnErr result (IsLeft self.old self.new) }
+    {
+        self.fits();
+        if self.accessible.byte_count() < size.byte_count() {
+            self.expose_to(size)
+        } else if hides && size.byte_count() < self.accessible.byte_count() {
+            self.hide_from(size)
+        } else {
+            Ok(())
+        }
+    }
+
+    fn expose_to(&mut self, size: HostAlignedByteCount) -> Result<(), PageFault>
+        requires clean { IsClean self.old }
+        requires fits { Fits self.old }
+        requires page { size.page ≡ self.old.region.page }
+        requires whole { size.bytes % size.page ≡ 0 }
+        requires within { size.bytes ≤ size_of self.old }
+        requires more { self.old.accessible.bytes ≤ size.bytes }
+        ensures ok { OnOk result (self.new ≡ record (called (exposing (self.old.base.bytes + self.old.accessible.bytes) (size.bytes - self.old.accessible.bytes)) self.old) { accessible = count self.old.region.page size.bytes }) }
+        ensures clean { OnOk result (IsClean self.new) }
+        ensures fault { OnErr result (IsLeft self.old self.new) }
+    {
+        let had = self.accessible;
+        self.expose(had, size.saturating_sub(had))?;
+        self.accessible = size;
+        Ok(())
+    }
+
+    fn hide_from(&mut self, size: HostAlignedByteCount) -> Result<(), PageFault>
+        requires clean { IsClean self.old }
+        requires fits { Fits self.old }
+        requires page { size.page ≡ self.old.region.page }
+        requires whole { size.bytes % size.page ≡ 0 }
+        requires less { size.bytes ≤ self.old.accessible.bytes }
+        requires image { IfSome self.old.image (λ name. name.offset + name.len ≤ size.bytes) }
+        ensures ok { OnOk result (self.new ≡ record (called (hiding (self.old.base.bytes + size.bytes) (self.old.accessible.bytes - size.bytes)) self.old) { accessible = count self.old.region.page size.bytes }) }
+        ensures clean { OnOk result (IsClean self.new) }
+        ensures fault { OnErr result (IsLeft self.old self.new) }
+    {
+        let had = self.accessible;
+        self.hide(size, had.saturating_sub(size))?;
+        self.accessible = size;
+        Ok(())
     }
 }

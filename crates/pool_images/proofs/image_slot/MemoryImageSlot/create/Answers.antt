@@ -12,8 +12,8 @@ invariant_of-result g c =
     let bytes : c.len.result.bytes ≡ t.len = ap (λ (n : Count). n.bytes) c.len.ensures.value in
     rw (c.rounded_up_unchecked-size.ensures, c.page.ensures)
     (fresh_keeps t c.args.base c.args.accessible c.args.static_size c.args.colour (subst P (sym c.new-region.ensures) c.requires)
-      (rw c.len.ensures.value at c.byte_count-len.ensures.page) c.byte_count-base.ensures.aligned c.byte_count-accessible.ensures.aligned
-      (omega (arith, c.byte_count-len.ensures.value, c.byte_count-len.type_inv)) c.len.ensures.shaped)
+    (rw c.len.ensures.value at c.byte_count-len.ensures.page) c.byte_count-base.ensures.aligned c.byte_count-accessible.ensures.aligned
+    (omega (arith, c.byte_count-len.ensures.value, c.byte_count-len.type_inv)) c.len.ensures.shaped)
 
 pub returns-clause-clean : goal.returns-clause-clean
 returns-clause-clean g c =

@@ -16,7 +16,7 @@ map_image-requires-clause-one_image g c κs within =
     let fits = c.self.invariant.fits in
     let inside = rw (← c.self.view_is) at c.requires.fits.inside in
     rw c.data-2.ensures (none_mapped s c.unchecked_add-from.result.bytes c.args.image.now.bytes fits (rw (← c.self.view_is) at c.requires.clean.ready) (rw (← c.self.view_is) at c.requires.none)
-      (omega (arith, from, start, c.offset.ensures.value, inside, fits.inside, fits.within)))
+    (omega (arith, from, start, c.offset.ensures.value, inside, fits.inside, fits.within)))
 
 pub invariant_of-self : goal.invariant_of-self
 invariant_of-self g c =
