@@ -1,3 +1,4 @@
+pub mod Begun
 pub mod Fitting
 pub mod Images
 pub mod Making

@@ -19,7 +19,7 @@ abbrev pub fresh_slot : Told → Count → Count → ℕ → Option ℕ → Slot
 fresh_slot t base accessible static_size colour = record { region = t; base = base; accessible = accessible; static_size = static_size; image = None; dirty = false; colour = colour }
 
 -- a page of zeros
-zero_page : (page len k : ℕ) → 0 < page → len % page ≡ 0 → k < len / page → slice_range (replicate {A = ℕ} len 0) (k * page) (k * page + page) ≡ replicate page 0
+pub zero_page : (page len k : ℕ) → 0 < page → len % page ≡ 0 → k < len / page → slice_range (replicate {A = ℕ} len 0) (k * page) (k * page + page) ≡ replicate page 0
 zero_page page len k some is below =
     let inside : k * page + page ≤ len = page_below k len page is (mul_under k len page some is below) in
     let size : k * page + page - k * page ≡ page = omega arith in

@@ -8,6 +8,7 @@ use Rattle.pool_pages.specs.Told.{Told, exposing, hiding, mapping, remapping, er
 use Rattle.std.proofs.Math.Nat.{div-mul-le_self, le-div_iff_mul-le}
 use Rattle.pool_pages.proofs.Multiples.{add_whole, sub_whole, whole, page_below}
 use Rattle.pool_pages.proofs.Puts.{length-put, length-range, range-put, range-put_below, range-put_above, range-put_both, range_within, range_joined, put_range}
+use Rattle.pool_pages.specs.declared.pages.DecommitBehavior.{DecommitBehavior}
 use Rattle.pool_images.specs.Images.{Image, start}
 use Rattle.pool_images.specs.declared.image_slot.ImageName.{ImageName}
 use Rattle.pool_images.specs.Slots.{Slot, Fits, IsSound, IsPlaced, IsReady, IsClean, IsInUse, Holds, Reads, FitsInto, HasImage, size_of, name_of, image_bytes, placed, called, resized, without, without_image, with_image}
@@ -61,7 +62,7 @@ pub page_some : (s : Slot) (c : Contents) → Fits s → IsSound s.region.page s
 page_some s c fits sound = rw sound.shaped.same_page (omega (arith, fits.page_size.at_least))
 
 -- a place inside the slot is in a page of the region
-page_inside : (s : Slot) (c : Contents) (n : ℕ) → Fits s → IsSound s.region.page s.region.len s.base.bytes (size_of s) c → n ≤ size_of s → (s.base.bytes + n) / c.page ≤ length c.accessible
+pub page_inside : (s : Slot) (c : Contents) (n : ℕ) → Fits s → IsSound s.region.page s.region.len s.base.bytes (size_of s) c → n ≤ size_of s → (s.base.bytes + n) / c.page ≤ length c.accessible
 page_inside s c n fits sound within =
     let some : 0 < s.region.page = omega (arith, fits.page_size.at_least) in
     rw (sound.shaped.same_page, sound.shaped.accessible) ((le-div_iff_mul-le some).1 (omega (arith, fits.inside, div-mul-le_self (s.base.bytes + n) s.region.page)))
@@ -139,9 +140,13 @@ started_without s name is fits at c g =
       holds = both 0 (size_of s) (omega arith) g.holds;
     }
 
+-- the slot with an image mapped, as it is under any behaviour
+abbrev pub mapped_slot : DecommitBehavior → Image → Slot → Slot
+mapped_slot b i s = record (called (mapping b (s.base.bytes + i.offset) i.bytes) s) { image = Some (name_of i) }
+
 -- an image is mapped into a clean slot that has none
-started_with : (s : Slot) (i : Image) → s.image ≡ None → Fits s → i.offset + length i.bytes ≤ s.accessible.bytes → (c : Contents) → IsGood s c → IsStarted (with_image (Some i) s) (image_mapped (s.base.bytes + i.offset) i.bytes c) × HasImage (with_image (Some i) s) (Some i) (image_mapped (s.base.bytes + i.offset) i.bytes c)
-started_with s i none fits inside c g =
+pub started_with : (b : DecommitBehavior) (s : Slot) (i : Image) → s.image ≡ None → Fits s → i.offset + length i.bytes ≤ s.accessible.bytes → (c : Contents) → IsGood s c → IsStarted (mapped_slot b i s) (image_mapped (s.base.bytes + i.offset) i.bytes c) × HasImage (mapped_slot b i s) (Some i) (image_mapped (s.base.bytes + i.offset) i.bytes c)
+started_with b s i none fits inside c g =
     let all : length c.origin ≡ s.region.len = g.sound.shaped.origin in
     let every : length c.bytes ≡ s.region.len = g.sound.shaped.bytes in
     let O : Option ImageName → Type 0 = λ o. c.origin ≡ placed s.base.bytes o c.origin in
@@ -152,7 +157,7 @@ started_with s i none fits inside c g =
     let P : List ℕ → Type 0 = λ l. put (s.base.bytes + i.offset) i.bytes c.origin ≡ put (s.base.bytes + i.offset) l (replicate (length (put (s.base.bytes + i.offset) i.bytes c.origin)) 0) in
     let over : put (s.base.bytes + i.offset) i.bytes c.origin ≡ put (s.base.bytes + i.offset) i.bytes (replicate (length (put (s.base.bytes + i.offset) i.bytes c.origin)) 0) =
     ap (put (s.base.bytes + i.offset) i.bytes) (zeros ∙ ap (λ (n : ℕ). replicate {A = ℕ} n 0) (sym same)) in
-    let both : (from to : ℕ) → to ≤ size_of s → Holds s from to c → Holds (with_image (Some i) s) from to (image_mapped (s.base.bytes + i.offset) i.bytes c) =
+    let both : (from to : ℕ) → to ≤ size_of s → Holds s from to c → Holds (mapped_slot b i s) from to (image_mapped (s.base.bytes + i.offset) i.bytes c) =
     λ from to within h. range-put_both (s.base.bytes + i.offset) i.bytes c.bytes c.origin (s.base.bytes + from) (s.base.bytes + to) (omega arith) (omega arith) (omega (arith, fits.inside)) h in (
       record {
         ready = record {

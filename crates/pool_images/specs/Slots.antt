@@ -193,3 +193,17 @@ pub record IsFresh (base accessible : Count) (static_size : ℕ) (t : Told) : Ty
   pub origin : IfSome t.contents (λ c. c.origin ≡ replicate t.len 0)
   pub zeros : IfSome t.contents (λ c. slice_range c.bytes base.bytes (base.bytes + rounded_up t.page static_size) ≡ replicate (rounded_up t.page static_size) 0)
   pub reach : IfSome t.contents (CanReach base.bytes accessible.bytes)
+
+-- The slot as a memory begins in it: in use, and its first bytes are the image at its offset and zeros elsewhere.
+pub record IsBegun (image : Option Image) (s : Slot) : Type 0 where
+  pub dirty : s.dirty ≡ true
+  pub ready : IfSome s.region.contents (IsReady s)
+  pub reads : Reads s s.static_size (start image s.static_size)
+
+-- no page of the slot from `accessible` on can be reached
+abbrev pub IsShut : Slot → Contents → Type 0
+IsShut s c = (k : ℕ) → s.base.bytes + s.accessible.bytes ≤ k * s.region.page → k * s.region.page < s.base.bytes + size_of s → slice_index_or c.accessible k false ≡ false
+
+-- the ranges that a reset leaves: all that could be reached, unless that is nothing
+abbrev pub reset_ranges : ℕ → List ByteRange
+reset_ranges accessible = if accessible == 0 then [] else record { start = 0; len = accessible } ∷ []
