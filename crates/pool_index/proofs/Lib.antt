@@ -1,0 +1,4 @@
+pub mod LastPlaces
+pub mod Layouts
+pub mod Positions
+pub mod Shards

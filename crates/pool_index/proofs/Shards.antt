@@ -1,0 +1,162 @@
+-- What is known of the slots that a pick takes.
+use Rattle.std.proofs.Common.{◌≡◌, ℕ, ◌+◌, ◌^◌, ◌<◌, ◌≤◌, length, arith, Bool, true, false, List, refl, suc, ap, ◌∙◌, ◌≢◌, sym, subst, inl, inr, get_or-set_same, get_or-set_other, take, drop}
+use Rattle.std.specs.Prelude.{Some, None, Option, IsSome, is_some, ◌==◌, if◌then◌else◌, slice_index_or, slice_set, remove, count_by, nat_lt}
+use Rattle.std.proofs.lemmas.Bool.Decides.{nat_tests}
+use Rattle.std.proofs.lemmas.List.{length-set}
+use Rattle.std.proofs.lemmas.Bool.{cases_eq}
+use Rattle.std.proofs.lemmas.List.Edits.{length-remove}
+use Rattle.std.proofs.lemmas.List.Elements.{All-append, All-take, All-drop}
+use Rattle.std.proofs.lemmas.List.Sums.{sum_by-le, sum_by-remove, sum_by-set, get_or-le-sum_by}
+use Rattle.pool_index.specs.Shard.{ShardState, IsShard, one_if, warm_count, entry_at, use_of, is_used, used_count, resident_bytes, after_choice, warm_at, next_cold}
+use Rattle.pool_index.specs.declared.warm_slot.WarmSlot.{WarmSlot}
+use Rattle.pool_index.specs.declared.ids.MemoryInModule.{MemoryInModule}
+
+-- the bytes of all warm slots together fit 64 bits
+pub resident_fits : (s : ShardState) → IsShard s → resident_bytes s < 2 ^ 64
+resident_fits s sound = omega (arith, sum_by-le (λ (e : WarmSlot). e.bytes) (2 ^ 32) s.warm sound.bytes)
+
+counted_once : (a : ℕ) (u t : Bool) → a + one_if u ≡ one_if t → 1 ≤ a → (u ≡ false) × (t ≡ true)
+counted_once a true true e h = absurd (omega arith)
+counted_once a true false e h = absurd (omega arith)
+counted_once a false true e h = (refl, refl)
+counted_once a false false e h = absurd (omega arith)
+
+none_from : {X : Type 0} (o : Option X) → is_some o ≡ false → o ≡ None
+none_from None e = refl
+none_from (Some x) e = cc
+
+-- a warm slot isn't used, and has been
+pub record IsFree (s : ShardState) (n : ℕ) : Type 0 where
+  pub within : n < length s.used
+  pub was : n < s.cold
+  pub unused : use_of s n ≡ None
+
+pub warm_slot_free : (s : ShardState) (i : ℕ) → IsShard s → i < length s.warm → IsFree s (entry_at s i).slot.0
+warm_slot_free s i sound inside =
+    let n : ℕ = (entry_at s i).slot.0 in
+    let one : (if n == n then 1 else 0) ≤ warm_count n s.warm = get_or-le-sum_by (λ (e : WarmSlot). if e.slot.0 == n then 1 else 0) s.warm i _ inside in
+    let self : 1 ≤ warm_count n s.warm = grind (arith, nat_tests) in
+    let once = counted_once (warm_count n s.warm) (is_used s n) _ (sound.partition n) self in
+    let below : n < s.cold = grind (arith, nat_tests) in
+    record { within = omega arith; was = below; unused = none_from (use_of s n) once.0 }
+
+-- the first cold slot is neither warm nor used
+pub record IsCold (s : ShardState) (n : ℕ) : Type 0 where
+  pub not_warm : warm_count n s.warm ≡ 0
+  pub unused : use_of s n ≡ None
+
+none_counted : (a : ℕ) (u t : Bool) → a + one_if u ≡ one_if t → t ≡ false → (a ≡ 0) × (u ≡ false)
+none_counted a true t e h = absurd (let z : one_if t ≡ 0 = rw h refl in omega arith)
+none_counted a false t e h = let z : one_if t ≡ 0 = rw h refl in (omega arith, refl)
+
+pub cold_slot_free : (s : ShardState) → IsShard s → IsCold s s.cold
+cold_slot_free s sound =
+    let none = none_counted (warm_count s.cold s.warm) (is_used s s.cold) _ (sound.partition s.cold) (grind (arith, nat_tests)) in
+    record { not_warm = none.0; unused = none_from (use_of s s.cold) none.1 }
+
+used_once_more : (s : ShardState) (n : ℕ) (want : Option MemoryInModule) → n < length s.used → use_of s n ≡ None → count_by is_some (slice_set s.used n (Some want)) ≡ used_count s + 1
+used_once_more s n want within unused =
+    let before : one_if (is_used s n) ≡ 0 = rw unused refl in
+    let set : count_by is_some (slice_set s.used n (Some want)) + one_if (is_used s n) ≡ used_count s + 1 = sum_by-set (λ (x : Option (Option MemoryInModule)). one_if (is_some x)) s.used n (Some want) None within in
+    omega arith
+
+-- what the partition says of a slot, in numbers
+abbrev uses : List (Option (Option MemoryInModule)) → ℕ → ℕ
+uses used k = one_if (is_some (slice_index_or used k None))
+
+used_here : (used : List (Option (Option MemoryInModule))) (n k : ℕ) (want : Option MemoryInModule) → n < length used → k ≡ n → uses (slice_set used n (Some want)) k ≡ 1
+used_here used n k want within same =
+    let now : slice_index_or (slice_set used n (Some want)) n None ≡ Some want = get_or-set_same used n (Some want) None within in
+    rw (same, now) refl
+
+used_elsewhere : (used : List (Option (Option MemoryInModule))) (n k : ℕ) (want : Option MemoryInModule) → (k ≡ n → ⊥) → uses (slice_set used n (Some want)) k ≡ uses used k
+used_elsewhere used n k want other =
+    let now : slice_index_or (slice_set used n (Some want)) k None ≡ slice_index_or used k None = get_or-set_other used n k (Some want) None other in
+    rw now refl
+
+unused_here : (used : List (Option (Option MemoryInModule))) (n k : ℕ) → slice_index_or used n None ≡ None → k ≡ n → uses used k ≡ 0
+unused_here used n k unused same = rw (same, unused) refl
+
+-- one entry less, of its slot
+removed : (w : List WarmSlot) (i k : ℕ) (d : WarmSlot) → i < length w → warm_count k (remove w i) + one_if ((slice_index_or w i d).slot.0 == k) ≡ warm_count k w
+removed w i k d inside = sum_by-remove (λ (x : WarmSlot). one_if (x.slot.0 == k)) w i d inside
+
+-- a warm slot that is taken leaves a shard
+after_warm : (want : Option MemoryInModule) (s : ShardState) (i : ℕ) → IsShard s → i < length s.warm → IsShard (after_choice want s (warm_at i))
+after_warm want s i sound inside =
+    let n : ℕ = (entry_at s i).slot.0 in
+    let free : IsFree s n = warm_slot_free s i sound inside in
+    record {
+      partition = λ k.
+          let left : warm_count k (remove s.warm i) + one_if (n == k) ≡ warm_count k s.warm = removed s.warm i k _ inside in
+          let was : warm_count k s.warm + uses s.used k ≡ one_if (nat_lt k s.cold) = sound.partition k in
+          elim (cases_eq k n) [
+            | inl h ↦
+                let now : uses (slice_set s.used n (Some want)) k ≡ 1 = used_here s.used n k want free.within h in
+                let before : uses s.used k ≡ 0 = unused_here s.used n k free.unused h in
+                let its : (n == k) ≡ true = grind (arith, nat_tests) in
+                let entry : one_if (n == k) ≡ 1 = rw its refl in
+                omega arith
+            | inr h ↦
+                let now : uses (slice_set s.used n (Some want)) k ≡ uses s.used k = used_elsewhere s.used n k want h in
+                let its : (n == k) ≡ false = grind (arith, nat_tests) in
+                let entry : one_if (n == k) ≡ 0 = rw its refl in
+                omega arith
+          ];
+      total =
+          let fewer : length (remove s.warm i) + 1 ≡ length s.warm = length-remove s.warm i inside in
+          let more : count_by is_some (slice_set s.used n (Some want)) ≡ used_count s + 1 = used_once_more s n want free.within free.unused in
+          omega arith;
+      cold_at_most = sound.cold_at_most;
+      entries = length-set s.used n (Some want) ∙ sound.entries;
+      bytes = All-append (λ (e : WarmSlot). e.bytes ≤ 2 ^ 32) (take i s.warm) (drop (suc i) s.warm) (All-take (λ (e : WarmSlot). e.bytes ≤ 2 ^ 32) i s.warm sound.bytes) (All-drop (λ (e : WarmSlot). e.bytes ≤ 2 ^ 32) (suc i) s.warm sound.bytes);
+      numbers = sound.numbers;
+      small = sound.small;
+      counts = sound.counts;
+    }
+
+pub after_warm_sound : (want : Option MemoryInModule) (s t : ShardState) (i : ℕ) → t ≡ after_choice want s (warm_at i) → IsShard s → i < length s.warm → IsShard t
+after_warm_sound want s t i same sound inside = subst IsShard (sym same) (after_warm want s i sound inside)
+
+-- a cold slot that is taken leaves a shard
+after_cold : (want : Option MemoryInModule) (s : ShardState) → IsShard s → s.cold < s.capacity → IsShard (after_choice want s next_cold)
+after_cold want s sound inside =
+    let cold : IsCold s s.cold = cold_slot_free s sound in
+    let within : s.cold < length s.used = omega arith in
+    record {
+      partition = λ k.
+          let was : warm_count k s.warm + uses s.used k ≡ one_if (nat_lt k s.cold) = sound.partition k in
+          elim (cases_eq k s.cold) [
+            | inl h ↦
+                let now : uses (slice_set s.used s.cold (Some want)) k ≡ 1 = used_here s.used s.cold k want within h in
+                let none : warm_count k s.warm ≡ 0 = ap (λ m. warm_count m s.warm) h ∙ cold.not_warm in
+                let its : nat_lt k (s.cold + 1) ≡ true = grind (arith, nat_tests) in
+                let below : one_if (nat_lt k (s.cold + 1)) ≡ 1 = rw its refl in
+                omega arith
+            | inr h ↦
+                let now : uses (slice_set s.used s.cold (Some want)) k ≡ uses s.used k = used_elsewhere s.used s.cold k want h in
+                let its : nat_lt k (s.cold + 1) ≡ nat_lt k s.cold = grind (arith, nat_tests) in
+                let below : one_if (nat_lt k (s.cold + 1)) ≡ one_if (nat_lt k s.cold) = ap one_if its in
+                omega arith
+          ];
+      total =
+          let more : count_by is_some (slice_set s.used s.cold (Some want)) ≡ used_count s + 1 = used_once_more s s.cold want within cold.unused in
+          omega arith;
+      cold_at_most = omega arith;
+      entries = length-set s.used s.cold (Some want) ∙ sound.entries;
+      bytes = sound.bytes;
+      numbers = sound.numbers;
+      small = sound.small;
+      counts = sound.counts;
+    }
+
+pub after_cold_sound : (want : Option MemoryInModule) (s t : ShardState) → t ≡ after_choice want s next_cold → IsShard s → s.cold < s.capacity → IsShard t
+after_cold_sound want s t same sound inside = subst IsShard (sym same) (after_cold want s sound inside)
+
+-- an unused slot is another than a used one
+pub other_slot : (s : ShardState) (m n : ℕ) → use_of s m ≡ None → IsSome (use_of s n) → m ≢ n
+other_slot s m n unused used same =
+    let none : use_of s n ≡ None = ap (use_of s) (sym same) ∙ unused in
+    let F : Option (Option MemoryInModule) → Type 0 = λ o. IsSome o in
+    let never : IsSome {T = Option MemoryInModule} None = subst F none used in
+    grind arith
