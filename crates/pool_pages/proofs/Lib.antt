@@ -1,2 +1,9 @@
+pub mod DenseCalls
 pub mod Multiples
+pub mod NoImage
+pub mod PageChanges
+pub mod PageNumbers
+pub mod PageRuns
+pub mod Prefixes
 pub mod Puts
+pub mod Shapes

@@ -1,8 +1,8 @@
 -- Lists with others put into them, and ranges of lists: elements, lengths, and what a range shows of a change.
-use Rattle.std.proofs.Common.{◌≡◌, ℕ, ◌+◌, ◌-◌, ◌*◌, ◌/◌, ◌%◌, ◌<◌, ◌≤◌, List, [], ◌∷◌, ◌++◌, length, get_or, take, drop, replicate, refl, sym, ap, ◌∙◌, arith, inl, inr, slice_range}
-use Rattle.std.proofs.lemmas.List.{length-take, length-drop, length-append, length-replicate, length-take-le, take-append-drop, get_or_append_left, get_or-append_right, get_or-take, get_or-drop, get_or-replicate, get_or_past, same_lists, append_assoc, drop-drop, take_at, drop_at, take_all, drop_all}
+use Rattle.std.proofs.Common.{◌≡◌, ℕ, ◌+◌, ◌-◌, ◌*◌, ◌/◌, ◌%◌, ◌<◌, ◌≤◌, List, [], ◌++◌, length, get_or, take, drop, refl, sym, ap, ◌∙◌, arith, inl, inr, slice_range}
+use Rattle.std.proofs.lemmas.List.{length-take, length-drop, length-append, length-take-le, take-append-drop, get_or_append_left, get_or-append_right, get_or-take, get_or-drop, same_lists, take_all}
 use Rattle.std.proofs.lemmas.Bool.{cases_lt}
-use Rattle.pool_pages.specs.Contents.{put, put_all}
+use Rattle.pool_pages.specs.Contents.{put}
 use Rattle.pool_pages.proofs.Multiples.{page_of, page_within}
 
 module _ {X : Type 0} where

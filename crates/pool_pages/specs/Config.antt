@@ -1,5 +1,5 @@
 -- The settings of a pool where an input leaves them out.
-use Rattle.std.specs.Prelude.{◌≡◌, ℕ, true, false}
+use Rattle.std.specs.Prelude.{◌≡◌, true, false}
 use Rattle.pool_pages.specs.declared.config.Enabled.TheVariants.{No}
 use Rattle.pool_pages.specs.declared.config.InstanceLimits.{InstanceLimits}
 use Rattle.pool_pages.specs.declared.config.PoolingAllocationConfig.{PoolingAllocationConfig}

@@ -1,5 +1,5 @@
 -- What a region holds: a row of pages, written as columns, and what each call changes of it.
-use Rattle.std.specs.Prelude.{◌≡◌, ℕ, ◌+◌, ◌-◌, ◌*◌, ◌/◌, ◌%◌, ◌<◌, ◌≤◌, List, [], ◌∷◌, ◌++◌, length, take, drop, replicate, Bool, true, false, slice_range, slice_index_or, ◌==◌, ◌⊎◌, if◌then◌else◌}
+use Rattle.std.specs.Prelude.{◌≡◌, ℕ, ◌+◌, ◌-◌, ◌*◌, ◌/◌, ◌%◌, ◌<◌, ◌≤◌, List, ◌++◌, length, take, drop, replicate, Bool, true, false, slice_range, slice_index_or, ◌==◌, ◌⊎◌, if◌then◌else◌}
 
 -- Byte k of the region is `bytes` at k, and a page goes back to its part of `origin`: zeros, or a part of an
 -- image. `accessible`, `dirty` and `colour` have an entry for each page.

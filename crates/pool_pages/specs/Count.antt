@@ -1,5 +1,5 @@
 -- Byte counts: numbers of bytes that are whole pages.
-use Rattle.std.specs.Prelude.{◌≡◌, ℕ, ◌+◌, ◌-◌, ◌*◌, ◌/◌, ◌≤◌, IsTrue}
+use Rattle.std.specs.Prelude.{ℕ, ◌+◌, ◌-◌, ◌*◌, ◌/◌, ◌≤◌, IsTrue}
 use Rattle.std.specs.Int.{is_power_of_two}
 
 -- a number of bytes beside the size of the pages that it is counted in

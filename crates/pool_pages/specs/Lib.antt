@@ -1,8 +1,11 @@
 pub mod Config
 pub mod Contents
 pub mod Count
+pub mod Dense
 pub mod ImageBytes
 pub mod MakeFaults
 pub mod MakerTold
+pub mod MemoryTold
 pub mod MemoryTypes
+pub mod PageLaws
 pub mod Told

@@ -1,5 +1,5 @@
 -- What a maker of regions tells of itself, and the regions that it makes.
-use Rattle.std.specs.Prelude.{◌≡◌, ℕ, ◌+◌, ◌-◌, ◌^◌, ◌/◌, ◌==◌, ◌&&◌, List, [], ◌∷◌, ◌++◌, min, replicate, Bool, true, false, if◌then◌else◌, Option, Some, None, option_map}
+use Rattle.std.specs.Prelude.{ℕ, ◌+◌, ◌-◌, ◌^◌, ◌/◌, ◌==◌, List, ◌++◌, min, replicate, Bool, true, false, if◌then◌else◌, Option, Some, None, option_map}
 use Rattle.std.specs.List.{list_any, filter_map}
 use Rattle.pool_pages.specs.Count.{Count}
 use Rattle.pool_pages.specs.Contents.{Contents}

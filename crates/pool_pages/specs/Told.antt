@@ -1,8 +1,8 @@
 -- What a region tells of itself, and what a call does to that.
-use Rattle.std.specs.Prelude.{◌≡◌, ℕ, ◌+◌, ◌-◌, ◌^◌, ◌<◌, ◌≤◌, ◌⊎◌, ◌==◌, ◌||◌, List, length, min, Bool, true, false, not, if◌then◌else◌, Option, Some, None, IsSome, IfSome, option_map}
+use Rattle.std.specs.Prelude.{◌≡◌, ℕ, ◌+◌, ◌-◌, ◌^◌, ◌<◌, ◌≤◌, ◌⊎◌, ◌==◌, ◌||◌, List, length, min, Bool, not, if◌then◌else◌, Option, Some, None, IsSome, IfSome, option_map}
 use Rattle.std.specs.List.{list_any}
 use Rattle.pool_pages.specs.Count.{Count}
-use Rattle.pool_pages.specs.Contents.{Contents, IsShaped, Page, page_at, IsIn, exposed, hidden, image_mapped, image_copied, erased, remapped, decommitted, written}
+use Rattle.pool_pages.specs.Contents.{Contents, IsShaped, page_at, IsIn, exposed, hidden, image_mapped, image_copied, erased, remapped, decommitted, written}
 use Rattle.pool_pages.specs.declared.pages.PageCalls.{PageCalls}
 use Rattle.pool_pages.specs.declared.pages.RegionName.{RegionName}
 use Rattle.pool_pages.specs.declared.pages.DecommitBehavior.{DecommitBehavior}
@@ -116,12 +116,14 @@ MayChangePartly call None (Some new) = ⊥
 MayChangePartly call (Some old) None = ⊥
 MayChangePartly call (Some old) (Some new) = IsPartly call old new
 
--- The call failed: it is counted, and the count of faults rose. A region that tells its plan holds what it held.
+-- The call failed: it is counted, and the count of faults rose. A region that tells its plan lists calls that fail, and
+-- holds what it held.
 pub record Faulted (call : PageCall) (old new : Told) : Type 0 where
   pub nonempty : 0 < call.len
   pub same : new ≡ record (counted call old) { contents = new.contents; faults = new.faults }
   pub rose : Rose old.faults new.faults
   pub partly : MayChangePartly call old.contents new.contents
+  pub listed : IfSome old.plan (λ plan. 0 < length plan)
   pub planned : IsSome old.plan → (new.contents ≡ old.contents) × (new.faults ≡ risen old.faults)
 
 -- the bytes of a told region are written; its counts stay

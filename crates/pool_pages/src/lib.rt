@@ -2,10 +2,17 @@
 #![tactic(auto)]
 
 mod byte_count;
+mod column_edits;
 mod config;
+mod dense_pages;
 mod image_data;
 mod maker;
+mod memory_pages;
+mod memory_region;
+#[cfg(test)]
+mod memory_tests;
 mod module_types;
+mod page_laws;
 mod pages;
 mod plain_list;
 mod region;
@@ -15,10 +22,13 @@ pub use byte_count::{ByteCountNotAligned, ByteCountOutOfBounds, HostAlignedByteC
 pub use config::{BadConfig, Enabled, InstanceLimits, PoolingAllocationConfig};
 pub use image_data::ImageData;
 pub use maker::{MakeFault, PageMaker};
+pub use memory_pages::MemoryPages;
+pub use memory_region::MemoryRegion;
 pub use module_types::{
     CompiledModuleId, DefinedMemoryIndex, ImageDecl, IndexType, Limits, MemoryDecl, MemoryKind,
     MemoryTunables, MemoryType, ModuleInfo, Tunables,
 };
+pub use page_laws::calls_change_their_pages;
 pub use pages::{DecommitBehavior, PageCalls, PageFault, Pages, RegionName};
 pub use plain_list::{ByteList, PlainList};
 pub use region::PageRegion;

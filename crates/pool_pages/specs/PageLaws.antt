@@ -1,0 +1,62 @@
+-- What each call on pages changes, page by page.
+use Rattle.std.specs.Prelude.{◌≡◌, ℕ, ◌+◌, ◌-◌, ◌*◌, ◌%◌, ◌<◌, ◌≤◌, List, length, min, replicate, true, false, slice_range}
+use Rattle.pool_pages.specs.Contents.{Contents, IsShaped, Page, page_at, IsIn, put, exposed, hidden, image_mapped, image_copied, erased, remapped, decommitted, written}
+
+-- a range of whole pages of a region that is n bytes long
+pub record IsPages (n start len : ℕ) (c : Contents) : Type 0 where
+  pub positive : 0 < c.page
+  pub shaped : IsShaped c.page n c
+  pub whole_start : start % c.page ≡ 0
+  pub whole_len : len % c.page ≡ 0
+  pub inside : start + len ≤ n
+
+-- each page of the range becomes what f makes of it, and each other page stays
+pub record ChangesExactly (start len : ℕ) (f : ℕ → Page → Page) (old new : Contents) : Type 0 where
+  pub within : (k : ℕ) → IsIn start len old.page k → page_at k new ≡ f k (page_at k old)
+  pub others : (k : ℕ) → k < length old.accessible → (IsIn start len old.page k → ⊥) → page_at k new ≡ page_at k old
+
+-- the part of an image that lies on page k
+abbrev pub image_part : ℕ → List ℕ → ℕ → ℕ → List ℕ
+image_part start image page k = slice_range image (k * page - start) (k * page - start + page)
+
+abbrev pub ExposeChangesItsPages : Type 0
+ExposeChangesItsPages = (n start len : ℕ) (c : Contents) → IsPages n start len c → ChangesExactly start len (λ k p. record p { accessible = true }) c (exposed start len c)
+
+abbrev pub HideChangesItsPages : Type 0
+HideChangesItsPages = (n start len : ℕ) (c : Contents) → IsPages n start len c → ChangesExactly start len (λ k p. record p { accessible = false }) c (hidden start len c)
+
+abbrev pub MapChangesItsPages : Type 0
+MapChangesItsPages = (n start : ℕ) (image : List ℕ) (c : Contents) → IsPages n start (length image) c → ChangesExactly start (length image) (λ k p. record { accessible = true; bytes = image_part start image c.page k; origin = image_part start image c.page k; dirty = false; colour = 0 }) c (image_mapped start image c)
+
+abbrev pub CopyChangesItsPages : Type 0
+CopyChangesItsPages = (n start : ℕ) (image : List ℕ) (c : Contents) → IsPages n start (length image) c → ChangesExactly start (length image) (λ k p. record { accessible = true; bytes = image_part start image c.page k; origin = p.origin; dirty = true; colour = 0 }) c (image_copied start image c)
+
+abbrev pub EraseChangesItsPages : Type 0
+EraseChangesItsPages = (n start len : ℕ) (c : Contents) → IsPages n start len c → ChangesExactly start len (λ k p. record { accessible = false; bytes = replicate c.page 0; origin = replicate c.page 0; dirty = false; colour = 0 }) c (erased start len c)
+
+abbrev pub RemapChangesItsPages : Type 0
+RemapChangesItsPages = (n start len : ℕ) (c : Contents) → IsPages n start len c → ChangesExactly start len (λ k p. record { accessible = true; bytes = replicate c.page 0; origin = replicate c.page 0; dirty = false; colour = 0 }) c (remapped start len c)
+
+abbrev pub DecommitChangesItsPages : Type 0
+DecommitChangesItsPages = (n start len : ℕ) (c : Contents) → IsPages n start len c → ChangesExactly start len (λ k p. record p { bytes = p.origin; dirty = false }) c (decommitted start len c)
+
+-- page k has one of the len bytes from a place on
+pub record IsTouched (start len page k : ℕ) : Type 0 where
+  pub some : 0 < len
+  pub below : k * page < start + len
+  pub above : start < k * page + page
+
+-- the page with what falls on it of the bytes that are written
+abbrev pub page_written : ℕ → List ℕ → ℕ → ℕ → Page → Page
+page_written start new page k p = record p {
+  bytes = put (start - k * page) (slice_range new (k * page - start) (min (length new) (k * page + page - start))) p.bytes;
+  dirty = true;
+}
+
+-- each page that the bytes touch becomes that, and each other page stays
+pub record WritesExactly (start : ℕ) (new : List ℕ) (old after : Contents) : Type 0 where
+  pub within : (k : ℕ) → IsTouched start (length new) old.page k → page_at k after ≡ page_written start new old.page k (page_at k old)
+  pub others : (k : ℕ) → k < length old.accessible → (IsTouched start (length new) old.page k → ⊥) → page_at k after ≡ page_at k old
+
+abbrev pub WriteChangesItsPages : Type 0
+WriteChangesItsPages = (n start : ℕ) (new : List ℕ) (c : Contents) → 0 < c.page → IsShaped c.page n c → start + length new ≤ n → WritesExactly start new c (written start new c)

@@ -1,0 +1,91 @@
+ghost use Rattle.std.specs.Prelude.{◌≡◌};
+ghost use Rattle.pool_pages.specs.MakerTold.{next_after};
+ghost use Rattle.pool_pages.specs.MemoryTold.{memory_maker};
+
+use crate::byte_count::{HostAlignedByteCount, PageSize};
+use crate::dense_pages::DensePages;
+use crate::maker::{MakeFault, PageMaker};
+use crate::memory_region::MemoryRegion;
+use crate::pages::RegionName;
+use std::alloc::Global;
+use std::marker::Model;
+
+/// Makes regions in memory. It fails only for want of memory; its regions tell what they hold, and that no
+/// call on them fails.
+#[derive(Debug, Drop)]
+pub struct MemoryPages {
+    page: PageSize,
+    next: u32,
+}
+
+impl Model for MemoryPages {
+    ghost use Rattle.pool_pages.specs.MakerTold.{MakerTold};
+    ghost use Rattle.pool_pages.specs.MemoryTold.{memory_maker};
+
+    ghost Value = { MakerTold };
+
+    ghost view = { λ m. memory_maker m.page m.next };
+}
+
+impl MemoryPages {
+    /// `page` is that of a region that isn't given one.
+    pub fn new(page: PageSize) -> Self
+        ensures { result ≡ memory_maker page 0 }
+    {
+        MemoryPages { page, next: 0 }
+    }
+}
+
+/// The number of the next region on demand, once this one was asked for.
+fn next_after(name: RegionName, next: u32) -> u32
+    ensures { result ≡ next_after name next }
+{
+    match name {
+        RegionName::OnDemand(_) => next.saturating_add(1),
+        RegionName::Memory(_) | RegionName::Table(_) | RegionName::Stack(_) => next,
+    }
+}
+
+impl PageMaker for MemoryPages {
+    type Region = MemoryRegion;
+
+    ghost told = { λ m. m };
+
+    fn faults(&self) -> u64 {
+        let _page = &self.page;
+        0
+    }
+
+    fn page(&self) -> PageSize {
+        self.page
+    }
+
+    fn next(&self) -> u32 {
+        self.next
+    }
+
+    fn make(
+        &mut self,
+        alloc: Global,
+        name: RegionName,
+        accessible: HostAlignedByteCount,
+        len: HostAlignedByteCount,
+    ) -> Result<MemoryRegion, MakeFault> {
+        self.next = next_after(name, self.next);
+        match DensePages::new(alloc, len.page(), accessible.byte_count(), len.byte_count()) {
+            Ok(pages) => Ok(MemoryRegion::new(name, pages)),
+            Err(_) => Err(MakeFault::Memory),
+        }
+    }
+
+    fn image(
+        &mut self,
+        _alloc: Global,
+        _id: u64,
+        _memory: u32,
+        _len: HostAlignedByteCount,
+    ) -> Result<(), MakeFault> {
+        let _page = &self.page;
+        Ok(())
+    }
+}
