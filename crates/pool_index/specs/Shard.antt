@@ -5,7 +5,7 @@ use Rattle.pool_index.specs.Affinity.{is_affine}
 use Rattle.pool_index.specs.Positions.{last_position}
 use Rattle.pool_index.specs.declared.ids.MemoryInModule.{MemoryInModule}
 use Rattle.pool_index.specs.declared.ids.SlotId.{SlotId}
-use Rattle.pool_index.specs.declared.ids.SlotKind.{SlotKind}
+use Rattle.pool_hall.specs.declared.unit_name.SlotKind.{SlotKind}
 use Rattle.pool_index.specs.declared.warm_slot.WarmSlot.{WarmSlot}
 
 -- Slots from `cold` up to the capacity were never used. `warm` has the others that are free, in the order in which

@@ -37,12 +37,3 @@ impl ShardId {
 /// slot, since the slot may still hold that memory's image.
 #[derive(Clone, Copy, Debug, PartialEq, Eq, PartialOrd, Ord, Hash)]
 pub struct MemoryInModule(pub CompiledModuleId, pub DefinedMemoryIndex);
-
-/// What a slot is for.
-#[derive(Clone, Copy, Debug, PartialEq, Eq)]
-pub enum SlotKind {
-    Memory,
-    Table,
-    Stack,
-    Heap,
-}

@@ -10,8 +10,9 @@ mod shard;
 mod tests;
 mod warm_slot;
 
-pub use ids::{MemoryInModule, ShardId, SlotId, SlotKind};
+pub use ids::{MemoryInModule, ShardId, SlotId};
 pub use laws::affine_slot_first;
 pub use layout::ShardLayout;
+pub use pool_hall::SlotKind;
 pub use shard::{FullNote, Shard};
 pub use warm_slot::WarmSlot;

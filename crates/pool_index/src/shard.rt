@@ -2,8 +2,9 @@ ghost use Rattle.std.specs.Prelude.{◌≡◌, ◌^◌, ◌<◌, ◌≤◌, ◌=
 ghost use Rattle.std.specs.Result.{result_ok};
 ghost use Rattle.pool_index.specs.Shard.{IsShard, IsSameShard, NumbersFit, KeepsOthers, KeepsUsed, fresh_shard, use_of, used_count, resident_bytes, slot_number, warm_at, next_cold, affine_choice, slot_and_bytes, after_choice, pick_answer, after_full, after_pick, after_free};
 
-use crate::ids::{MemoryInModule, SlotId, SlotKind};
+use crate::ids::{MemoryInModule, SlotId};
 use crate::warm_slot::{WarmSlot, bytes_of, last_affine_of};
+use pool_hall::SlotKind;
 use std::alloc::{AllocError, Global};
 use std::marker::Model;
 

@@ -1,6 +1,7 @@
-use crate::ids::{MemoryInModule, SlotKind};
+use crate::ids::MemoryInModule;
 use crate::layout::ShardLayout;
 use crate::shard::Shard;
+use pool_hall::SlotKind;
 use pool_pages::{CompiledModuleId, DefinedMemoryIndex};
 use std::test::Fail;
 

@@ -1,0 +1,10 @@
+pub mod Totals
+pub mod Units
+pub mod Keeps
+pub mod Told
+pub mod Hands
+pub mod Sharing
+pub mod Opening
+pub mod Counting
+pub mod Seated
+pub mod Callers

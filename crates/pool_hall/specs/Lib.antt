@@ -1,0 +1,9 @@
+pub mod Sum
+pub mod Unit
+pub mod Tally
+pub mod Meaning
+pub mod Rule
+pub mod Step
+pub mod Room
+pub mod Made
+pub mod Seat

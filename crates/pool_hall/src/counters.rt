@@ -1,0 +1,64 @@
+//! Adding on a counter, subtracting from it, and reading it.
+ghost use Rattle.std.specs.Prelude.{◌≡◌, ◌+◌, ◌<◌, length};
+ghost use Rattle.pool_hall.specs.Tally.{additions, subtractions, number, all_portions};
+ghost use Rattle.pool_hall.specs.Rule.{word_of};
+ghost use Rattle.pool_hall.specs.Step.{add_view, subtract_view, Loaded};
+ghost use Rattle.pool_hall.specs.Seat.{made_with, limits_of, view, IsSeatOf, IsFree, SamePlace};
+
+use crate::calls::STRIDE;
+use crate::hall::{Hall, HallSeat};
+use crate::law::{Add, Load, Subtract};
+use crate::part::Part;
+
+impl<T: Part> Hall<T> {
+    fn counter_word(&self, counter: u32) -> usize
+        requires { counter < length (limits_of self.now) }
+        ensures value { result ≡ word_of (length (made_with self.now) + counter) }
+        ensures within { result < self.now.table.shared.table_id.words }
+    {
+        (self.table.slot_count() + counter as usize) * STRIDE
+    }
+
+    /// Adds one, and answers what the counter was. The addition is low where that was below the counter's limit.
+    pub fn add(&self, seat: &mut HallSeat<T>, counter: u32) -> u64
+        requires own { IsSeatOf self.now seat.old }
+        requires counter { counter < length (limits_of self.now) }
+        ensures view { view seat.new ≡ add_view counter result (view seat.old) }
+        ensures own { IsSeatOf self.now seat.new }
+        ensures same { SamePlace seat.old seat.new }
+        ensures still_free { IsFree seat.old → IsFree seat.new }
+    {
+        let word = self.counter_word(counter);
+        self.table.shared.fetch_add::<Add>(&mut seat.seat, word, 1)
+    }
+
+    /// Takes one off. The seat has added on the counter more often than it has subtracted.
+    pub fn subtract(&self, seat: &mut HallSeat<T>, counter: u32)
+        requires own { IsSeatOf self.now seat.old }
+        requires counter { counter < length (limits_of self.now) }
+        requires more { number (subtractions counter) (view seat.old) < number (additions counter) (view seat.old) }
+        ensures view { view seat.new ≡ subtract_view counter (view seat.old) }
+        ensures own { IsSeatOf self.now seat.new }
+        ensures same { SamePlace seat.old seat.new }
+        ensures still_free { IsFree seat.old → IsFree seat.new }
+    {
+        let word = self.counter_word(counter);
+        self.table
+            .shared
+            .fetch_sub::<Subtract>(&mut seat.seat, word, 1);
+    }
+
+    /// Reads the counter.
+    pub fn load(&self, seat: &mut HallSeat<T>, counter: u32) -> u64
+        requires own { IsSeatOf self.now seat.old }
+        requires counter { counter < length (limits_of self.now) }
+        ensures value { (view seat.old).portions ≡ all_portions → Loaded counter result (view seat.old) }
+        ensures view { view seat.new ≡ view seat.old }
+        ensures own { IsSeatOf self.now seat.new }
+        ensures same { SamePlace seat.old seat.new }
+        ensures still_free { IsFree seat.old → IsFree seat.new }
+    {
+        let word = self.counter_word(counter);
+        self.table.shared.load::<Load>(&mut seat.seat, word)
+    }
+}

@@ -1,0 +1,8 @@
+//! What a hall keeps behind a lock.
+
+/// A value behind a lock of a hall. `meaning` says what clauses see of it.
+pub trait Part: Send + Drop {
+    ghost use Rattle.pool_hall.specs.Meaning.{Meaning};
+
+    ghost meaning: { Meaning Self };
+}
