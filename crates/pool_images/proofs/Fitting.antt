@@ -1,18 +1,17 @@
 -- A slot's sizes still fit after a call on its region, which leaves the pages outside the slot alone.
-use Rattle.std.proofs.Common.{◌≡◌, ℕ, ◌+◌, ◌-◌, ◌*◌, ◌/◌, ◌%◌, ◌<◌, ◌≤◌, Bool, true, false, List, length, get_or, replicate, refl, sym, ap, ◌∙◌, subst, inl, inr, arith, slice_range, Option, Some, None, Result, Ok, Err}
+use Rattle.std.proofs.Common.{◌≡◌, ℕ, ◌+◌, ◌*◌, ◌/◌, ◌%◌, ◌<◌, ◌≤◌, List, length, replicate, refl, sym, ap, ◌∙◌, subst, inl, inr, arith, slice_range, Option, Some, None, Result, Ok, Err}
 use Rattle.std.specs.Prelude.{IfSome, OnOk, OnErr, option_map}
 use Rattle.std.proofs.lemmas.Bool.{cases_lt}
 use Rattle.std.proofs.Math.Nat.{mul-le-mul_right}
-use Rattle.pool_pages.specs.Count.{Count, count, rounded_up}
-use Rattle.pool_pages.specs.Contents.{Contents, IsShaped, IsIn, Page, page_at, page_origin, put, put_all}
-use Rattle.pool_pages.specs.Told.{Told, PageCall, IsPartly, MayChangePartly, Faulted, TellsShaped, counted, succeeded, exposing, hiding, mapped, mapping, remapping, erasing, decommitting}
+use Rattle.pool_pages.specs.Count.{Count, count}
+use Rattle.pool_pages.specs.Contents.{Contents, IsShaped, IsIn, Page, page_origin, put}
+use Rattle.pool_pages.specs.Told.{Told, PageCall, MayChangePartly, Faulted, TellsShaped, succeeded, exposing, hiding, mapped, mapping, remapping, erasing, decommitting}
 use Rattle.pool_pages.specs.declared.pages.DecommitBehavior.{DecommitBehavior}
 use Rattle.pool_pages.specs.declared.pages.DecommitBehavior.TheVariants.{Zero, RestoreOriginalMapping}
 use Rattle.std.proofs.lemmas.List.{length-replicate}
-use Rattle.pool_pages.proofs.Multiples.{page_below, page_of, whole}
+use Rattle.pool_pages.proofs.Multiples.{page_below, whole}
 use Rattle.pool_pages.proofs.Puts.{range-put_below, range-put_above}
-use Rattle.pool_images.specs.Slots.{Slot, Fits, Keeps, IsSound, CallFaulted, size_of, called}
-use Rattle.pool_images.proofs.Marks.{page_lt}
+use Rattle.pool_images.specs.Slots.{Slot, Keeps, IsSound, size_of, called}
 
 -- the call lies inside the slot, and leaves what the pages outside it go back to
 pub record KeepsOutside (call : PageCall) (page len base size : ℕ) : Type 0 where
@@ -51,6 +50,7 @@ keeps_ok whole call s keeps outside shaped = record {
     accessible_whole = keeps.fits.accessible_whole;
     inside = keeps.fits.inside;
     bounded = keeps.fits.bounded;
+    roomy = keeps.fits.roomy;
     within = keeps.fits.within;
     image = keeps.fits.image;
     behaviour = keeps.fits.behaviour;
@@ -76,6 +76,7 @@ keeps_err whole call s new keeps outside faulted shaped =
         accessible_whole = keeps.fits.accessible_whole;
         inside = keeps.fits.inside;
         bounded = keeps.fits.bounded;
+        roomy = keeps.fits.roomy;
         within = keeps.fits.within;
         image = keeps.fits.image;
         behaviour = keeps.fits.behaviour;

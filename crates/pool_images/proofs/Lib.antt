@@ -1,6 +1,11 @@
 pub mod Begun
+pub mod Decommits
+pub mod Emptied
 pub mod Fitting
 pub mod Images
 pub mod Making
 pub mod Marks
+pub mod Pieces
 pub mod Ready
+pub mod Resets
+pub mod Sizes

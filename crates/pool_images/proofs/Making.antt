@@ -1,18 +1,17 @@
 -- A slot as it is made, and as it is read and written.
-use Rattle.std.proofs.Common.{◌≡◌, ℕ, ◌+◌, ◌-◌, ◌*◌, ◌/◌, ◌%◌, ◌^◌, ◌<◌, ◌≤◌, Bool, true, false, List, length, get_or, replicate, refl, sym, ap, ◌∙◌, subst, inl, inr, arith, slice_range, Option, Some, None}
+use Rattle.std.proofs.Common.{◌≡◌, ℕ, ◌+◌, ◌-◌, ◌*◌, ◌/◌, ◌%◌, ◌^◌, ◌<◌, ◌≤◌, false, List, length, replicate, refl, sym, ap, ◌∙◌, subst, inl, arith, slice_range, Option, Some, None}
 use Rattle.std.specs.Prelude.{IfSome, option_map}
-use Rattle.std.proofs.lemmas.List.{length-replicate}
 use Rattle.std.proofs.Math.Nat.{div-mul-le_self, le-div_iff_mul-le}
 use Rattle.pool_pages.specs.Count.{Count, count, IsPageSize, rounded_up}
-use Rattle.pool_pages.specs.Contents.{Contents, IsShaped, CanReach, IsIn, HasNoOtherImage, page_origin, put, written}
-use Rattle.pool_pages.specs.Told.{Told, TellsShaped, overwritten}
+use Rattle.pool_pages.specs.Contents.{Contents, IsShaped, CanReach, HasNoOtherImage, page_origin, written}
+use Rattle.pool_pages.specs.Told.{Told, TellsShaped}
 use Rattle.pool_pages.proofs.Multiples.{page_below, whole}
-use Rattle.pool_pages.proofs.Puts.{length-put, range-put_above, range_within}
+use Rattle.pool_pages.proofs.Puts.{range-put_above, range_within}
 use Rattle.pool_images.specs.declared.image_slot.ImageName.{ImageName}
 use Rattle.pool_images.specs.Slots.{Slot, Fits, Keeps, IsSound, IsReady, IsClean, IsFresh, Holds, size_of, placed, written_at}
 use Rattle.pool_images.proofs.Marks.{page_lt, range-zeros}
 use Rattle.pool_images.proofs.Fitting.{mul_under}
-use Rattle.pool_images.proofs.Ready.{IsGood, good, lifted, followed, paired, page_some}
+use Rattle.pool_images.proofs.Ready.{page_some}
 
 -- the slot as it is made
 abbrev pub fresh_slot : Told → Count → Count → ℕ → Option ℕ → Slot
@@ -44,6 +43,7 @@ fresh_keeps t base accessible static_size colour fresh page_size base_whole acce
     accessible_whole = rw fresh.accessible_page at accessible_whole;
     inside = fresh.inside;
     bounded = bounded;
+    roomy = fresh.bounded;
     within = fresh.within;
     image = tt;
     behaviour = fresh.behaviour;
@@ -108,6 +108,7 @@ written_keeps whole s at new keeps shaped = record {
     accessible_whole = keeps.fits.accessible_whole;
     inside = keeps.fits.inside;
     bounded = keeps.fits.bounded;
+    roomy = keeps.fits.roomy;
     within = keeps.fits.within;
     image = keeps.fits.image;
     behaviour = keeps.fits.behaviour;

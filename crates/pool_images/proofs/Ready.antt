@@ -1,17 +1,17 @@
 -- What each call makes of a slot that is clean or in use.
-use Rattle.std.proofs.Common.{◌≡◌, ℕ, ◌+◌, ◌-◌, ◌*◌, ◌/◌, ◌%◌, ◌<◌, ◌≤◌, Bool, true, false, List, [], ◌∷◌, length, get_or, replicate, refl, sym, ap, ◌∙◌, subst, inl, inr, arith, slice_range, Option, Some, None}
+use Rattle.std.proofs.Common.{◌≡◌, ℕ, ◌+◌, ◌-◌, ◌/◌, ◌%◌, ◌<◌, ◌≤◌, List, length, replicate, refl, sym, ap, ◌∙◌, subst, arith, slice_range, Option, Some, None}
 use Rattle.std.specs.Prelude.{IfSome, option_map}
 use Rattle.std.proofs.lemmas.List.{length-replicate}
-use Rattle.pool_pages.specs.Count.{Count, count, rounded_up}
-use Rattle.pool_pages.specs.Contents.{Contents, IsShaped, CanReach, IsIn, HasNoOtherImage, page_origin, put, put_all, exposed, hidden, image_mapped, remapped, erased, decommitted, written}
-use Rattle.pool_pages.specs.Told.{Told, exposing, hiding, mapping, remapping, erasing, decommitting, overwritten}
+use Rattle.pool_pages.specs.Count.{Count, count}
+use Rattle.pool_pages.specs.Contents.{Contents, CanReach, put, put_all, exposed, hidden, image_mapped, remapped}
+use Rattle.pool_pages.specs.Told.{exposing, hiding, mapping, remapping}
 use Rattle.std.proofs.Math.Nat.{div-mul-le_self, le-div_iff_mul-le}
-use Rattle.pool_pages.proofs.Multiples.{add_whole, sub_whole, whole, page_below}
-use Rattle.pool_pages.proofs.Puts.{length-put, length-range, range-put, range-put_below, range-put_above, range-put_both, range_within, range_joined, put_range}
+use Rattle.pool_pages.proofs.Multiples.{sub_whole}
+use Rattle.pool_pages.proofs.Puts.{length-put, length-range, range-put, range-put_both, range_within}
 use Rattle.pool_pages.specs.declared.pages.DecommitBehavior.{DecommitBehavior}
 use Rattle.pool_images.specs.Images.{Image, start}
 use Rattle.pool_images.specs.declared.image_slot.ImageName.{ImageName}
-use Rattle.pool_images.specs.Slots.{Slot, Fits, IsSound, IsPlaced, IsReady, IsClean, IsInUse, Holds, Reads, FitsInto, HasImage, size_of, name_of, image_bytes, placed, called, resized, without, without_image, with_image}
+use Rattle.pool_images.specs.Slots.{Slot, Fits, IsSound, IsPlaced, IsReady, IsClean, Holds, HasImage, size_of, name_of, image_bytes, placed, called, without}
 use Rattle.pool_images.proofs.Marks.{reach_marked, reach_exposed, reach_hidden, range-zeros, put-zeros, range-put_around}
 
 -- what holds of a told region that a clean slot is in

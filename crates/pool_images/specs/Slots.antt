@@ -1,9 +1,12 @@
 -- A slot for a memory: a region with at most one image mapped, what it reads as, and what each call makes of it.
-use Rattle.std.specs.Prelude.{◌≡◌, ℕ, ◌+◌, ◌-◌, ◌*◌, ◌/◌, ◌%◌, ◌^◌, ◌<◌, ◌≤◌, ◌==◌, ◌&&◌, List, [], ◌∷◌, ◌++◌, length, replicate, slice_range, slice_index_or, Bool, true, false, not, nat_lt, if◌then◌else◌, Option, Some, None, IfSome, is_some, option_map}
+use Rattle.std.specs.Prelude.{◌≡◌, ℕ, ◌+◌, ◌-◌, ◌*◌, ◌/◌, ◌%◌, ◌^◌, ◌<◌, ◌≤◌, ◌==◌, ◌&&◌, ◌||◌, List, [], ◌∷◌, length, replicate, slice_range, slice_index_or, Bool, true, false, nat_lt, if◌then◌else◌, Option, Some, None, IfSome, is_some}
 use Rattle.pool_pages.specs.Count.{Count, count, IsPageSize, rounded_up}
 use Rattle.pool_pages.specs.Contents.{Contents, IsShaped, CanReach, IsIn, page_origin, put}
 use Rattle.pool_pages.specs.Told.{Told, PageCall, Faulted, Rose, succeeded, overwritten, exposing, hiding, mapping, remapping, erasing, decommitting}
 use Rattle.pool_pages.specs.declared.pages.DecommitBehavior.TheVariants.{RestoreOriginalMapping}
+use Rattle.pool_pages.specs.MemoryTypes.{guard_size, can_use_virtual_memory}
+use Rattle.pool_pages.specs.declared.module_types.MemoryType.{MemoryType}
+use Rattle.pool_pages.specs.declared.module_types.MemoryTunables.{MemoryTunables}
 use Rattle.pool_images.specs.Images.{Image, start}
 use Rattle.pool_images.specs.declared.image_slot.ImageName.{ImageName}
 use Rattle.pool_images.specs.declared.ranges.ByteRange.{ByteRange}
@@ -56,6 +59,7 @@ pub record Fits (s : Slot) : Type 0 where
   pub accessible_whole : s.accessible.bytes % s.region.page ≡ 0
   pub inside : s.base.bytes + size_of s ≤ s.region.len
   pub bounded : s.region.len < 2 ^ 64
+  pub roomy : s.static_size + s.region.page ≤ 2 ^ 64
   pub within : s.accessible.bytes ≤ size_of s
   pub image : IfSome s.image (IsPlaced s.region.page s.accessible.bytes)
   pub behaviour : s.region.behaviour ≡ RestoreOriginalMapping
@@ -168,8 +172,8 @@ pub record CallFaulted (call : PageCall) (old new : Slot) : Type 0 where
   pub region : Faulted call old.region new.region
   pub same : new ≡ record old { region = new.region }
 
--- The slot after a fault: its region, base and size are the same, and the region's count of faults rose. Nothing is
--- said of what it holds.
+-- The slot after a fault: its region, base and size are the same, and the region's count of faults rose, which only a
+-- call that the region's plan lists does, where it tells one. Nothing is said of what it holds.
 pub record IsLeft (old new : Slot) : Type 0 where
   pub base : new.base ≡ old.base
   pub static_size : new.static_size ≡ old.static_size
@@ -180,6 +184,7 @@ pub record IsLeft (old new : Slot) : Type 0 where
   pub plan : new.region.plan ≡ old.region.plan
   pub tells : is_some new.region.contents ≡ is_some old.region.contents
   pub rose : Rose old.region.faults new.region.faults
+  pub listed : IfSome old.region.plan (λ plan. 0 < length plan)
 
 -- the slot can be made of this region: its pages go back to zeros, and those of the slot hold zeros and can be reached
 -- below `accessible`
@@ -207,3 +212,20 @@ IsShut s c = (k : ℕ) → s.base.bytes + s.accessible.bytes ≤ k * s.region.pa
 -- the ranges that a reset leaves: all that could be reached, unless that is nothing
 abbrev pub reset_ranges : ℕ → List ByteRange
 reset_ranges accessible = if accessible == 0 then [] else record { start = 0; len = accessible } ∷ []
+
+-- what is accessible and not wanted is hidden: the memory has a guard, or its bounds rest on hidden pages
+abbrev pub hides : MemoryType → MemoryTunables → ℕ → Bool
+hides ty tunables page = nat_lt 0 (guard_size tunables) || can_use_virtual_memory ty tunables.tunables page
+
+-- the slot after an instantiation: its parts but the region's pages are told by those before
+pub record IsSized (initial : ℕ) (hide : Bool) (old new : Slot) : Type 0 where
+  pub base : new.base ≡ old.base
+  pub static_size : new.static_size ≡ old.static_size
+  pub colour : new.colour ≡ old.colour
+  pub accessible : new.accessible ≡ (resized (rounded_up old.region.page initial) hide old).accessible
+  pub name : new.region.name ≡ old.region.name
+  pub page : new.region.page ≡ old.region.page
+  pub len : new.region.len ≡ old.region.len
+  pub plan : new.region.plan ≡ old.region.plan
+  pub tells : is_some new.region.contents ≡ is_some old.region.contents
+  pub faults : new.region.faults ≡ old.region.faults

@@ -1,6 +1,6 @@
-use Rattle.std.proofs.Common.{◌≡◌, ◌+◌, Some, None, Option, List, IfSome, sym, ◌∙◌, subst, arith, get_or, option_map, is_some, false, ◌&&◌}
+use Rattle.std.proofs.Common.{◌≡◌, None, IfSome, sym, ◌∙◌, subst, arith, is_some, false, ◌&&◌}
 use Rattle.pool_pages.specs.declared.module_types.MemoryDecl.{MemoryDecl}
-use Rattle.pool_pages.specs.MakerTold.{Planned, fails_images}
+use Rattle.pool_pages.specs.MakerTold.{fails_images}
 use Rattle.pool_images.specs.Images.{misplaced}
 use Rattle.pool_images.proofs.Images.{images_from_more, none_misplaced, planned_more}
 use Rattle.pool_images.proofs.memory_image.make_images.Goals as goal

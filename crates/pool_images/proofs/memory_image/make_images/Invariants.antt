@@ -1,4 +1,4 @@
-use Rattle.std.proofs.Common.{◌≡◌, length, take, map, vec_len, false}
+use Rattle.std.proofs.Common.{◌≡◌, take, map, vec_len, false}
 use Rattle.std.specs.Prelude.{option_map, IfSome}
 use Rattle.std.specs.Arc.{arc_value}
 use Rattle.pool_images.specs.Images.{images_from, makes_listed}

@@ -1,8 +1,7 @@
-use Rattle.std.proofs.Common.{◌≡◌, ◌+◌, ◌≤◌, ◌%◌, ℕ, Option, Some, None, Bor, length, false, true, sym, ap, subst, ◌∙◌, arith, refl}
-use Rattle.std.specs.Prelude.{IfSome, option_map}
-use Rattle.pool_pages.specs.Count.{Count, count}
+use Rattle.std.proofs.Common.{◌+◌, ◌≤◌, Option, Bor, length, true, sym, ap, subst}
+use Rattle.std.specs.Prelude.{option_map}
 use Rattle.pool_images.specs.Images.{Image}
-use Rattle.pool_images.specs.Slots.{Slot, IsClean, IsBegun, IsShut, HasImage, name_of, size_of}
+use Rattle.pool_images.specs.Slots.{Slot, IsBegun}
 use Rattle.pool_images.proofs.Begun.{begun, if_mapped}
 use Rattle.pool_images.proofs.image_slot.MemoryImageSlot.begin.Goals as goal
 

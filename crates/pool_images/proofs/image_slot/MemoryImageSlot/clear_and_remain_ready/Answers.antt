@@ -1,9 +1,7 @@
-use Rattle.std.proofs.Common.{◌≡◌, ◌+◌, ◌≤◌, ◌%◌, ℕ, Option, Some, None, List, false, true, sym, ap, subst, ◌∙◌, arith, refl}
-use Rattle.std.specs.Prelude.{IfSome, option_map}
-use Rattle.pool_pages.specs.Count.{Count, count}
+use Rattle.std.proofs.Common.{◌≡◌, List, false, sym, subst}
 use Rattle.pool_images.specs.declared.ranges.ByteRange.{ByteRange}
-use Rattle.pool_images.specs.Slots.{Slot, IsClean, IsBegun, IsShut, HasImage, name_of, size_of, reset_ranges, decommitted_all}
-use Rattle.pool_images.proofs.Begun.{reset_clean}
+use Rattle.pool_images.specs.Slots.{Slot, IsClean, reset_ranges, decommitted_all}
+use Rattle.pool_images.proofs.Resets.{reset_clean}
 use Rattle.pool_images.proofs.image_slot.MemoryImageSlot.clear_and_remain_ready.Goals as goal
 
 pub returns-clause-clean_after : goal.returns-clause-clean_after

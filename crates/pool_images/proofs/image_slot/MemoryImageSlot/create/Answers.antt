@@ -1,7 +1,7 @@
-use Rattle.std.proofs.Common.{◌≡◌, ◌+◌, List, ℕ, length, sym, ap, subst, arith, true}
+use Rattle.std.proofs.Common.{◌≡◌, sym, ap, subst, arith}
 use Rattle.pool_pages.specs.Count.{Count}
-use Rattle.pool_pages.specs.Told.{Told, TellsShaped, overwritten}
-use Rattle.pool_images.specs.Slots.{Slot, Keeps, IsReady, IsFresh}
+use Rattle.pool_pages.specs.Told.{Told}
+use Rattle.pool_images.specs.Slots.{IsFresh}
 use Rattle.pool_images.proofs.Making.{fresh_keeps, fresh_clean}
 use Rattle.pool_images.proofs.image_slot.MemoryImageSlot.create.Goals as goal
 

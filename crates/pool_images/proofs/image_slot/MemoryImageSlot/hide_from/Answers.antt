@@ -1,4 +1,4 @@
-use Rattle.std.proofs.Common.{◌≡◌, ◌+◌, ◌-◌, ℕ, None, sym, ap, subst, ◌∙◌, arith}
+use Rattle.std.proofs.Common.{◌≡◌, ◌+◌, ◌-◌, sym, ap, subst, ◌∙◌, arith}
 use Rattle.pool_pages.specs.Count.{Count}
 use Rattle.pool_images.specs.Slots.{Slot, IsClean}
 use Rattle.pool_images.proofs.Ready.{hidden_clean}

@@ -1,8 +1,6 @@
-use Rattle.std.proofs.Common.{◌≡◌, ◌+◌, List, ℕ, length, sym, ap, subst, arith, true}
+use Rattle.std.proofs.Common.{◌≡◌, ◌+◌, ap, arith}
 use Rattle.pool_pages.specs.Count.{Count}
-use Rattle.pool_pages.specs.Told.{Told, TellsShaped, overwritten}
-use Rattle.pool_images.specs.Slots.{Slot, Keeps, IsReady, IsFresh}
-use Rattle.pool_images.specs.Images.{Image}
+use Rattle.pool_images.specs.Slots.{Slot}
 use Rattle.pool_images.proofs.Making.{none_mapped}
 use Rattle.pool_images.proofs.Fitting.{keeps_mapped}
 use Rattle.pool_images.proofs.image_slot.MemoryImageSlot.map_image.Goals as goal

@@ -1,8 +1,7 @@
-use Rattle.std.proofs.Common.{◌≡◌, ◌+◌, ◌≤◌, ◌%◌, ℕ, Option, Some, None, Bor, length, false, true, sym, ap, subst, ◌∙◌, arith, refl}
-use Rattle.std.specs.Prelude.{IfSome, option_map}
-use Rattle.pool_pages.specs.Count.{Count, count}
+use Rattle.std.proofs.Common.{Some, sym, ap, subst, ◌∙◌}
+use Rattle.std.specs.Prelude.{IfSome}
 use Rattle.pool_images.specs.Images.{Image}
-use Rattle.pool_images.specs.Slots.{Slot, IsClean, IsBegun, IsShut, HasImage, name_of, size_of}
+use Rattle.pool_images.specs.Slots.{Slot, IsClean, HasImage}
 use Rattle.pool_images.proofs.Begun.{mapped_clean, mapped_has}
 use Rattle.pool_images.proofs.image_slot.MemoryImageSlot.map_one.Goals as goal
 

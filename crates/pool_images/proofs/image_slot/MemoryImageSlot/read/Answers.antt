@@ -1,7 +1,5 @@
-use Rattle.std.proofs.Common.{◌≡◌, ◌+◌, List, ℕ, length, sym, ap, subst, arith, true}
-use Rattle.pool_pages.specs.Count.{Count}
-use Rattle.pool_pages.specs.Told.{Told, TellsShaped, overwritten}
-use Rattle.pool_images.specs.Slots.{Slot, Keeps, IsReady, IsFresh}
+use Rattle.std.proofs.Common.{length}
+use Rattle.pool_images.specs.Slots.{Slot}
 use Rattle.pool_images.proofs.Making.{reach_slot}
 use Rattle.pool_images.proofs.image_slot.MemoryImageSlot.read.Goals as goal
 

@@ -1,9 +1,8 @@
-use Rattle.std.proofs.Common.{◌≡◌, ◌+◌, ◌≤◌, ◌%◌, ℕ, Option, Some, None, List, false, true, sym, ap, subst, ◌∙◌, arith, refl}
-use Rattle.std.specs.Prelude.{IfSome, option_map}
+use Rattle.std.proofs.Common.{◌≡◌, ◌+◌, None, false, sym, ap, subst, ◌∙◌, arith}
+use Rattle.std.specs.Prelude.{IfSome}
 use Rattle.pool_pages.specs.Count.{Count, count}
-use Rattle.pool_images.specs.declared.ranges.ByteRange.{ByteRange}
-use Rattle.pool_images.specs.Slots.{Slot, IsClean, IsBegun, IsShut, HasImage, name_of, size_of, reset_ranges, decommitted_all}
-use Rattle.pool_images.proofs.Begun.{erased_clean, erased_shut}
+use Rattle.pool_images.specs.Slots.{Slot, IsClean, IsShut, size_of}
+use Rattle.pool_images.proofs.Emptied.{erased_clean, erased_shut}
 use Rattle.pool_images.proofs.image_slot.MemoryImageSlot.reset_with_anon_memory.Goals as goal
 
 pub returns-clause-clean : goal.returns-clause-clean

@@ -1,8 +1,7 @@
-use Rattle.std.proofs.Common.{◌≡◌, ◌+◌, List, ℕ, length, sym, ap, subst, arith, true}
+use Rattle.std.proofs.Common.{◌≡◌, ◌+◌, length, sym, subst, true}
 use Rattle.std.specs.Prelude.{IfSome}
-use Rattle.pool_pages.specs.Count.{Count}
 use Rattle.pool_pages.specs.Told.{Told, TellsShaped, overwritten}
-use Rattle.pool_images.specs.Slots.{Slot, Keeps, IsReady, IsFresh}
+use Rattle.pool_images.specs.Slots.{Slot, Keeps, IsReady}
 use Rattle.pool_images.proofs.Making.{reach_slot, written_keeps, written_ready}
 use Rattle.pool_images.proofs.image_slot.MemoryImageSlot.write.Goals as goal
 
