@@ -1,1 +1,7 @@
+pub mod CellOf
+pub mod Cells
+pub mod Memories
+pub mod Pools
 pub mod Texts
+pub mod Turns
+pub mod Uses

@@ -1,10 +1,9 @@
 ghost use Rattle.std.specs.Prelude.{◌≡◌, Some};
 ghost use Rattle.pool_slots.specs.Texts.{kind_text, limit_text};
 
+use pool_pages::BadConfig;
 use std::error::Error;
 use std::fmt;
-
-use pool_pages::BadConfig;
 
 /// What there is a greatest number of at once.
 #[derive(Clone, Copy, Debug, PartialEq, Eq)]

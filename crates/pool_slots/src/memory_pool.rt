@@ -1,0 +1,201 @@
+ghost use Rattle.std.specs.Prelude.{◌≡◌, ◌+◌, ◌^◌, ◌<◌, ◌≤◌, ◌==◌, length, false, true, IfOk, IfErr, IfSome, MatchResult, MatchOption, option_map};
+ghost use Rattle.std.specs.Arc.{arc_value};
+ghost use Rattle.pool_pages.specs.MakerTold.{MakerTold};
+ghost use Rattle.pool_index.specs.Shard.{used_count, resident_bytes, is_used};
+ghost use Rattle.pool_images.specs.Slots.{FitsInto};
+ghost use Rattle.pool_slots.specs.Cells.{calls_of_all};
+ghost use Rattle.pool_slots.specs.CellOf.{cell_of};
+ghost use Rattle.pool_slots.specs.Pools.{PoolState, IsPool, IsMade, IsLeaseOf, Begins, IsRefused, IsGivenBack, RaisesFaults, makes_listed, IsListed};
+ghost use Rattle.pool_slots.specs.Turns.{TakesSlot, PutsSlot, IsFullNow};
+
+use crate::cells::{ImageSlot, MemoryCell, add_calls, no_calls};
+use crate::lease::MemoryLease;
+use crate::making::make_cells;
+use crate::request::{
+    AllocError, ConcurrencyKind, MemoryAllocationIndex, PoolConcurrencyLimitError, PoolNewError,
+};
+use crate::uses::{begin, reset};
+use pool_images::MemoryImage;
+use pool_index::{MemoryInModule, Shard, SlotId, SlotKind};
+use pool_pages::{
+    HostAlignedByteCount, MakeFault, MemoryTunables, MemoryType, PageCalls, PageMaker, PageSize,
+    Pages, RegionName,
+};
+use std::alloc::Global;
+use std::marker::Model;
+use std::sync::Arc;
+
+/// The slots for linear memories. Each slot has a region, which lies in the slot's cell while the slot is free, and in
+/// the lease while it is used.
+#[derive(Drop)]
+pub struct MemoryPool<P: Pages> {
+    shard: Shard,
+    cells: Vec<MemoryCell<P>>,
+    page: PageSize,
+    static_size: usize,
+}
+
+impl<P: Pages> Model for MemoryPool<P> {
+    ghost use Rattle.pool_slots.specs.Pools.{PoolState};
+
+    ghost Value = { PoolState };
+
+    ghost view = { λ p. record { shard = p.shard; cells = p.cells.items; page = p.page; static_size = p.static_size } };
+}
+
+impl<P: Pages> MemoryPool<P> {
+    /// Makes `total` regions of `max_memory_size` bytes, rounded up to pages of the maker. None of them is accessible.
+    /// A slot that was never used is picked before a free one that was, while there are fewer than `warm` of those.
+    pub fn new<M: PageMaker<Region = P>>(
+        alloc: Global,
+        maker: &mut M,
+        total: u32,
+        max_memory_size: usize,
+        warm: u32,
+    ) -> Result<Self, PoolNewError>
+        requires { max_memory_size + 131072 < 2 ^ 64 }
+        ensures pool { IfOk result (IsPool (M.told maker.old)) }
+        ensures made { IfOk result (IsMade (M.told maker.old) total max_memory_size warm) }
+        ensures maker { M.told maker.new ≡ record (M.told maker.old) { faults = (M.told maker.new).faults } }
+        ensures faults { MatchResult result (λ _. (M.told maker.new).faults ≡ (M.told maker.old).faults) (RaisesFaults (M.told maker.old).faults (M.told maker.new).faults) }
+        ensures planned { MatchResult result (λ _. IfSome (M.told maker.old).plan (λ plan. makes_listed plan total ≡ false)) (λ e. IfSome (M.told maker.old).plan (λ plan. IsListed (makes_listed plan total) e)) }
+    {
+        let page = maker.page();
+        let _bytes = page.get();
+        let len = HostAlignedByteCount::rounded_up_unchecked(page, max_memory_size);
+        let Ok(shard) = Shard::new(alloc, SlotKind::Memory, 0, 1, total, warm) else {
+            return Err(PoolNewError::Memory);
+        };
+        let cells = make_cells(alloc, maker, total, len)?;
+        Ok(MemoryPool {
+            shard,
+            cells,
+            page,
+            static_size: max_memory_size,
+        })
+    }
+
+    /// The number of slots.
+    pub fn len(&self) -> usize
+        ensures { result ≡ length self.now.cells }
+    {
+        self.cells.len()
+    }
+
+    /// Whether no slot is used.
+    pub fn is_empty(&self) -> bool
+        ensures { result ≡ (used_count self.now.shard == 0) }
+    {
+        self.shard.is_empty()
+    }
+
+    /// How many free slots were used before.
+    pub fn unused_warm_slots(&self) -> u32
+        ensures { result ≡ length self.now.shard.warm }
+    {
+        self.shard.unused_warm_slots()
+    }
+
+    /// How many bytes such slots keep resident, together.
+    pub fn unused_bytes_resident(&self) -> usize
+        ensures { result ≡ resident_bytes self.now.shard }
+    {
+        self.shard.unused_bytes_resident()
+    }
+
+    /// The calls made so far on the regions of the free slots, together.
+    pub fn page_calls(&self) -> PageCalls
+        ensures { result ≡ calls_of_all self.now.cells }
+    {
+        let mut calls = no_calls();
+        for cell in &self.cells {
+            calls = add_calls(calls, cell.page_calls());
+        }
+        calls
+    }
+
+    // Picks a slot, and takes out what its cell holds.
+    fn take_slot(&mut self, want: MemoryInModule) -> Option<(SlotId, ImageSlot<P>)>
+        requires { length self.old.cells ≡ self.old.shard.capacity }
+        ensures { MatchOption result (IsFullNow self.old self.new) (λ t. TakesSlot t.0.0 (cell_of t.1) self.old self.new) }
+    {
+        match self.shard.pick(Some(want)) {
+            Ok((slot, _)) => {
+                let cell = &mut self.cells[slot.index()];
+                Some((slot, cell.take()))
+            }
+            Err(_) => None,
+        }
+    }
+
+    // Frees a slot that is used, and puts something into its cell.
+    fn put_slot(&mut self, slot: SlotId, into: ImageSlot<P>)
+        requires inside { slot.0 < length self.old.cells }
+        requires used { is_used self.old.shard slot.0 ≡ true }
+        ensures { PutsSlot slot (cell_of into) self.old self.new }
+    {
+        let cell = &mut self.cells[slot.index()];
+        cell.put(into);
+        self.shard.free(slot, 0);
+    }
+
+    /// Picks a slot and begins a memory in it: one that was used last for this memory of this module where there is
+    /// one. Takes no memory. After a `PageFault` the slot is free, and nothing is known of what it holds.
+    pub fn allocate(
+        &mut self,
+        want: MemoryInModule,
+        minimum: usize,
+        image: Option<&Arc<MemoryImage>>,
+        ty: &MemoryType,
+        tunables: &MemoryTunables,
+    ) -> Result<MemoryLease<P>, AllocError>
+        ghost maker: { MakerTold }
+        requires pool { IsPool maker self.old }
+        requires minimum { minimum ≤ self.old.static_size }
+        requires image { IfSome image (λ i. FitsInto self.old.page minimum (arc_value i.now)) }
+        requires page_log2 { ty.now.page_size_log2 < 64 }
+        ensures pool { IsPool maker self.new }
+        ensures count { length self.new.cells ≡ length self.old.cells }
+        ensures sizes { (self.new.page ≡ self.old.page) × (self.new.static_size ≡ self.old.static_size) }
+        ensures granted { IfOk result (Begins maker minimum (option_map (λ i. arc_value i.now) image.entry) self.old self.new) }
+        ensures refused { IfErr result (IsRefused maker self.old self.new) }
+    {
+        let Some((slot, cell)) = self.take_slot(want) else {
+            return Err(AllocError::Limit(PoolConcurrencyLimitError {
+                limit: self.cells.len(),
+                kind: ConcurrencyKind::MemoryStripe(0),
+            }));
+        };
+        match begin(
+            cell,
+            self.page,
+            self.static_size,
+            minimum,
+            image,
+            ty,
+            tunables,
+        ) {
+            Ok(memory) => Ok(MemoryLease {
+                index: MemoryAllocationIndex(slot.0),
+                memory,
+            }),
+            Err(left) => {
+                self.put_slot(slot, ImageSlot::Unknown(left));
+                Err(AllocError::PageFault)
+            }
+        }
+    }
+
+    /// Resets the memory's slot and frees it. The slot is clean then, unless a decommit failed. Takes no memory.
+    pub fn deallocate(&mut self, lease: MemoryLease<P>)
+        ghost maker: { MakerTold }
+        requires pool { IsPool maker self.old }
+        requires lease { IsLeaseOf maker self.old lease }
+        ensures pool { IsPool maker self.new }
+        ensures returned { IsGivenBack maker lease self.old self.new }
+    {
+        let slot = SlotId(lease.index.0);
+        let cell = reset(lease.memory.into_slot());
+        self.put_slot(slot, cell);
+    }
+}
