@@ -1,0 +1,6 @@
+pub mod Built
+pub mod Made
+pub mod Private
+pub mod Runs
+pub mod Turns
+pub mod Validity

@@ -5,7 +5,9 @@ use pool_pages::ByteList;
 #[derive(Debug, Drop)]
 pub enum Command {
     /// Asks for an instance of the module with this number.
-    Instantiate { module: usize },
+    Instantiate {
+        module: usize,
+    },
     /// Reads `len` bytes from `at` on.
     Read {
         of: usize,
@@ -21,5 +23,7 @@ pub enum Command {
         hex: ByteList,
     },
     /// Gives the grant back.
-    Drop { of: usize },
+    Drop {
+        of: usize,
+    },
 }

@@ -1,17 +1,11 @@
 use pool_pages::{ByteList, PlainList};
-use pool_slots::AllocError;
+use pool_slots::{AllocError, Trap};
 
 /// The slots of a grant, in order.
 pub type SlotList = PlainList<u32>;
 
 /// The replies to one party's commands, in order.
 pub type ReplyList = PlainList<Reply>;
-
-/// A rule of the machine that a command broke. Nothing changes then.
-#[derive(Clone, Copy, Debug, PartialEq, Eq)]
-pub enum Trap {
-    MemoryOutOfBounds,
-}
 
 /// Why a command was refused.
 #[derive(Clone, Copy, Debug, PartialEq, Eq)]

@@ -1,0 +1,174 @@
+-- The images of an input's modules, each of which has one memory.
+use Rattle.std.proofs.Common.{◌≡◌, ℕ, zero, suc, ◌+◌, ◌-◌, ◌<◌, List, [], ◌∷◌, ◌++◌, length, replicate, take, get_or, refl, sym, ap, ◌∙◌, subst, arith, Option, Some, None, Result, Err, Bool, true, false}
+use Rattle.std.specs.Prelude.{◌≢◌, ◌%◌, ◌*◌, IfSome, is_some, option_map, option_and_then, slice_get, slice_index_or, nat_le, ◌==◌, ◌&&◌, ◌||◌, if◌then◌else◌}
+use Rattle.std.specs.List.{list_all}
+use Rattle.std.specs.Option.{option_map_or}
+use Rattle.std.proofs.lemmas.Bool.{eqb-true, leb-true}
+use Rattle.std.proofs.Math.Nat.{zero-mod}
+use Rattle.std.proofs.lemmas.List.{length-append, length-replicate, take_more, length-take-le}
+use Rattle.pool_pages.specs.Count.{IsPageSize, rounded_up}
+use Rattle.pool_pages.specs.MakerTold.{Planned}
+use Rattle.pool_pages.specs.MemoryTypes.{minimum_byte_size}
+use Rattle.pool_pages.specs.declared.module_types.CompiledModuleId.{CompiledModuleId}
+use Rattle.pool_pages.specs.declared.module_types.ImageDecl.{ImageDecl}
+use Rattle.pool_pages.specs.declared.module_types.MemoryDecl.{MemoryDecl}
+use Rattle.pool_pages.specs.declared.module_types.ModuleInfo.{ModuleInfo}
+use Rattle.pool_pages.specs.declared.unsupported.Unsupported.{Unsupported}
+use Rattle.pool_pages.specs.declared.unsupported.Unsupported.TheVariants.{ImageOffset, ImageLength}
+use Rattle.pool_images.specs.declared.memory_image.ImageError.{ImageError}
+use Rattle.pool_images.specs.declared.memory_image.ImageError.TheVariants.{Unsupported as refused}
+use Rattle.pool_images.specs.Images.{Image, image_of, images_from, padded, first_misplaced, ends_in_minimum, makes_listed}
+use Rattle.pool_images.specs.Slots.{FitsInto}
+use Rattle.pool_images.proofs.Begun.{rounded_up_above}
+use Rattle.pool_run.specs.Built.{is_built_memory, is_built_module}
+use Rattle.pool_run.specs.Made.{images_of_module, images_made, first_image}
+use Rattle.pool_run.specs.Private.{World, image_at}
+use Rattle.pool_run.specs.Runs.{images_listed}
+
+-- as many as there are modules
+pub length_made : (page n : ℕ) (modules : List ModuleInfo) → length (images_made page n modules) ≡ length modules
+length_made page n [] = refl
+length_made page n (m ∷ ms) = omega (arith, length_made page (n + 1) ms)
+
+-- the images of the module with a number
+made_at : (page n : ℕ) (modules : List ModuleInfo) (i : ℕ) (m : ModuleInfo) → slice_get modules i ≡ Some m → slice_index_or (images_made page n modules) i None ≡ images_of_module page (n + i) m
+made_at page n [] i m at = absurd cc
+made_at page n (x ∷ xs) zero m at =
+    let same : x ≡ m = cc in
+    let place : n ≡ n + 0 = omega arith in
+    ap (λ k. images_of_module page k x) place ∙ ap (λ y. images_of_module page (n + 0) y) same
+made_at page n (x ∷ xs) (suc i) m at =
+    let place : n + 1 + i ≡ n + suc i = omega arith in
+    made_at page (n + 1) xs i m at ∙ ap (λ k. images_of_module page k m) place
+
+both : (a b : Bool) → (a && b) ≡ true → (a ≡ true) × (b ≡ true)
+both true true is = (refl, refl)
+both true false is = absurd cc
+both false b is = absurd cc
+
+first_of_one : (b : Bool) (o : Option Image) → first_image (if b && true then Some (o ∷ []) else None) ≡ (if b then o else None)
+first_of_one true o = refl
+first_of_one false o = refl
+
+-- the first image of a module with one memory
+one_image : (page n : ℕ) (decls : List MemoryDecl) (decl : MemoryDecl) → (length decls == 1) ≡ true → slice_get decls 0 ≡ Some decl → first_image (if list_all (ends_in_minimum page) decls then Some (images_from (record { 0 = n }) page 0 decls) else None) ≡ (if ends_in_minimum page decl then option_map (image_of (record { 0 = n }) page 0) decl.image else None)
+one_image page n [] decl one at = absurd cc
+one_image page n (d ∷ []) decl one at =
+    let same : d ≡ decl = cc in
+    first_of_one (ends_in_minimum page d) (option_map (image_of (record { 0 = n }) page 0) d.image)
+    ∙ ap (λ (e : MemoryDecl). if ends_in_minimum page e then option_map (image_of (record { 0 = n }) page 0) e.image else None) same
+one_image page n (d ∷ e ∷ rest) decl one at = let is : length (d ∷ e ∷ rest) ≡ 1 = eqb-true _ _ one in absurd (omega (arith, is))
+
+-- the image that a run gives the first memory of a module is the one that was made for it
+pub images_at : (w : World) (number : ℕ) (m : ModuleInfo) (decl : MemoryDecl) → slice_get w.modules number ≡ Some m → is_built_module m ≡ true → slice_get m.memories 0 ≡ Some decl → first_image (slice_index_or (images_made w.maker.page 0 w.modules) number None) ≡ image_at w number decl
+images_at w number m decl at built first =
+    let place : 0 + number ≡ number = omega arith in
+    ap first_image (made_at w.maker.page 0 w.modules number m at ∙ ap (λ k. images_of_module w.maker.page k m) place)
+    ∙ one_image w.maker.page number m.memories decl (both _ _ built).0 first
+
+some_first : (b : Bool) (id : CompiledModuleId) (page : ℕ) (decls : List MemoryDecl) → (length decls == 1) ≡ true → IfSome (if b then Some (images_from id page 0 decls) else None) (λ l. 0 < length l)
+some_first b id page [] one = absurd cc
+some_first true id page (d ∷ decls) one = omega arith
+some_first false id page (d ∷ decls) one = tt
+
+each_first : (page n : ℕ) (modules : List ModuleInfo) (number : ℕ) → list_all is_built_module modules ≡ true → IfSome (slice_index_or (images_made page n modules) number None) (λ l. 0 < length l)
+each_first page n [] number built = tt
+each_first page n (m ∷ ms) zero built =
+    some_first (list_all (ends_in_minimum page) m.memories) (record { 0 = n }) page m.memories (both _ _ (both (is_built_module m) (list_all is_built_module ms) built).0).0
+each_first page n (m ∷ ms) (suc i) built = each_first page (n + 1) ms i (both (is_built_module m) (list_all is_built_module ms) built).1
+
+-- the images of a built module, if it has any, are those of one memory or more
+pub has_first : (page number : ℕ) (modules : List ModuleInfo) → list_all is_built_module modules ≡ true → IfSome (slice_index_or (images_made page 0 modules) number None) (λ l. 0 < length l)
+has_first page number modules built = each_first page 0 modules number built
+
+-- padded bytes are whole pages
+pub length-padded : (page : ℕ) (bytes : List ℕ) → 0 < page → length (padded page bytes) ≡ rounded_up page (length bytes)
+length-padded page bytes some =
+    omega (arith, length-append bytes (replicate (rounded_up page (length bytes) - length bytes) 0), length-replicate {A = ℕ} (rounded_up page (length bytes) - length bytes) 0, rounded_up_above page (length bytes) some)
+
+if_fits : (b : Bool) (i : Image) (P : Image → Type 0) → (b ≡ true → P i) → IfSome (if b then Some i else None) P
+if_fits true i P then_holds = then_holds refl
+if_fits false i P then_holds = tt
+
+image_fits_of : (page n least : ℕ) (o : Option ImageDecl) → 0 < page → IfSome (if option_map_or (λ image. nat_le (image.offset + rounded_up page (length image.bytes)) least) o true then option_map (image_of (record { 0 = n }) page 0) o else None) (FitsInto page least)
+image_fits_of page n least None some = tt
+image_fits_of page n least (Some d) some =
+    if_fits (nat_le (d.offset + rounded_up page (length d.bytes)) least) (image_of (record { 0 = n }) page 0 d) (FitsInto page least) (λ le. record { same_page = refl; inside = omega (arith, leb-true _ _ le, length-padded page d.bytes some) })
+
+-- a memory's image, padded, is within its minimum, or else it is none
+pub image_fits : (w : World) (number : ℕ) (decl : MemoryDecl) → IsPageSize w.maker.page → IfSome (image_at w number decl) (FitsInto w.maker.page (minimum_byte_size decl.ty))
+image_fits w number decl size = image_fits_of w.maker.page number (minimum_byte_size decl.ty) decl.image (omega (arith, size.at_least))
+
+-- an image at a memory's start isn't inside a page
+placed_of : (page least : ℕ) (o : Option ImageDecl) → option_map_or (λ image. (image.offset == 0) && nat_le (length image.bytes) least) o true ≡ true → option_and_then (λ image. if image.offset % page == 0 then None else Some image.offset) o ≡ None
+placed_of page least None is = refl
+placed_of page least (Some d) is =
+    let start : d.offset ≡ 0 = eqb-true _ _ (both _ _ is).0 in
+    ap (λ (n : ℕ). if n % page == 0 then None else Some n) start ∙ ap (λ (k : ℕ). if k == 0 then None else Some 0) (zero-mod page)
+
+none_of_all : (page : ℕ) (decls : List MemoryDecl) → list_all is_built_memory decls ≡ true → first_misplaced page decls ≡ None
+none_of_all page [] built = refl
+none_of_all page (d ∷ ds) built =
+    let this : is_built_memory d ≡ true = (both (is_built_memory d) (list_all is_built_memory ds) built).0 in
+    let rest : list_all is_built_memory ds ≡ true = (both (is_built_memory d) (list_all is_built_memory ds) built).1 in
+    ap (λ (o : Option ℕ). if is_some o then o else first_misplaced page ds) (placed_of page (d.ty.limits.min * 65536) d.image (both _ _ (both _ _ this).1).1)
+    ∙ none_of_all page ds rest
+
+not_both : (o : Option ℕ) (n : ℕ) → o ≡ None → o ≡ Some n → ⊥
+not_both None n none some = absurd cc
+not_both (Some k) n none some = absurd cc
+
+-- so no image is refused for its place, and none for its length
+pub never_unsupported : {X : Type 0} (page : ℕ) (m : ModuleInfo) (u : Unsupported) (r : Result X ImageError) → is_built_module m ≡ true → r ≡ Err (refused u) → ((n : ℕ) → r ≡ Err (refused (ImageOffset n)) → first_misplaced page m.memories ≡ Some n) → ((n : ℕ) → r ≢ Err (refused (ImageLength n))) → ⊥
+never_unsupported page m (ImageOffset n) r built is offset len =
+    not_both (first_misplaced page m.memories) n (none_of_all page m.memories (both _ _ built).1) (offset n is)
+never_unsupported page m (ImageLength n) r built is offset len = len n is
+
+-- one more module
+made_push : (page n : ℕ) (modules : List ModuleInfo) (m : ModuleInfo) → images_made page n (modules ++ m ∷ []) ≡ images_made page n modules ++ images_of_module page (n + length modules) m ∷ []
+made_push page n [] m = let place : n ≡ n + 0 = omega arith in ap (λ k. images_of_module page k m ∷ []) place
+made_push page n (x ∷ xs) m =
+    let place : n + 1 + length xs ≡ n + length (x ∷ xs) = omega arith in
+    ap (λ l. images_of_module page n x ∷ l) (made_push page (n + 1) xs m ∙ ap (λ k. images_made page (n + 1) xs ++ images_of_module page k m ∷ []) place)
+
+made_more : (page : ℕ) (modules : List ModuleInfo) (i : ℕ) (m : ModuleInfo) → i < length modules → images_made page 0 (take (i + 1) modules) ≡ images_made page 0 (take i modules) ++ images_of_module page i (get_or modules i m) ∷ []
+made_more page modules i m below =
+    let count : 0 + length (take i modules) ≡ i = omega (arith, length-take-le i modules (omega arith)) in
+    ap (images_made page 0) (take_more modules i m below)
+    ∙ made_push page 0 (take i modules) (get_or modules i m)
+    ∙ ap (λ k. images_made page 0 (take i modules) ++ images_of_module page k (get_or modules i m) ∷ []) count
+
+-- the images so far, with those of the next module behind them
+pub made_next : (page : ℕ) (modules : List ModuleInfo) (i : ℕ) (m : ModuleInfo) (before after : List (Option (List (Option Image)))) (made : Option (List (Option Image))) → i < length modules → before ≡ images_made page 0 (take i modules) → made ≡ images_of_module page i (get_or modules i m) → after ≡ before ++ made ∷ [] → after ≡ images_made page 0 (take (i + 1) modules)
+made_next page modules i m before after made below so_far next is =
+    is
+    ∙ ap (λ l. l ++ made ∷ []) so_far
+    ∙ ap (λ x. images_made page 0 (take i modules) ++ x ∷ []) next
+    ∙ sym (made_more page modules i m below)
+
+or_right : (a b : Bool) → b ≡ true → (a || b) ≡ true
+or_right true b is = refl
+or_right false b is = is
+
+or_left : (a b : Bool) → a ≡ true → (a || b) ≡ true
+or_left true b is = refl
+or_left false b is = absurd cc
+
+listed_from : (n : ℕ) (plan : List Planned) (modules : List ModuleInfo) (i : ℕ) (d : ModuleInfo) → i < length modules → makes_listed (record { 0 = n + i }) plan (get_or modules i d).memories ≡ true → images_listed n plan modules ≡ true
+listed_from n plan [] i d below is = absurd (omega arith)
+listed_from n plan (m ∷ ms) zero d below is =
+    let place : n + 0 ≡ n = omega arith in
+    let P : ℕ → Type 0 = λ k. makes_listed (record { 0 = k }) plan m.memories ≡ true in
+    or_left _ _ (subst P place is)
+listed_from n plan (m ∷ ms) (suc i) d below is =
+    let place : n + suc i ≡ n + 1 + i = omega arith in
+    let P : ℕ → Type 0 = λ k. makes_listed (record { 0 = k }) plan (get_or ms i d).memories ≡ true in
+    or_right _ _ (listed_from (n + 1) plan ms i d (omega arith) (subst P place is))
+
+-- where the makings of one module are listed, some making is
+pub listed_at : (plan : Option (List Planned)) (modules : List ModuleInfo) (i : ℕ) (d : ModuleInfo) → i < length modules → IfSome plan (λ p. makes_listed (record { 0 = i }) p (get_or modules i d).memories ≡ true) → IfSome plan (λ p. images_listed 0 p modules ≡ true)
+listed_at None modules i d below is = is
+listed_at (Some p) modules i d below is =
+    let place : i ≡ 0 + i = omega arith in
+    let P : ℕ → Type 0 = λ k. makes_listed (record { 0 = k }) p (get_or modules i d).memories ≡ true in
+    listed_from 0 p modules i d below (subst P place is)

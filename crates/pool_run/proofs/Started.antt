@@ -1,0 +1,124 @@
+-- A run as it starts, and what it gives.
+use Rattle.std.proofs.Common.{◌≡◌, ◌≢◌, ℕ, zero, suc, ◌≤◌, Result, Err, List, [], ◌∷◌, length, replicate, Option, Some, None, Bool, true, false, ◌&&◌, ◌||◌, refl, sym, ◌∙◌, subst, arith}
+use Rattle.std.specs.Prelude.{IfSome, nat_le, ◌==◌, slice_index_or}
+use Rattle.std.specs.List.{list_all, slice_get}
+use Rattle.std.proofs.lemmas.Bool.{eqb-true, leb-true}
+use Rattle.pool_pages.specs.Told.{Rose}
+use Rattle.pool_pages.specs.MakerTold.{MakerTold, Planned}
+use Rattle.pool_index.specs.Shard.{used_count}
+use Rattle.pool_slots.specs.Memories.{Lease}
+use Rattle.pool_slots.specs.Pools.{PoolState, IsPool, IsLeaseOf, makes_listed}
+use Rattle.pool_run.specs.Built.{is_built, is_built_module}
+use Rattle.pool_run.specs.Private.{live_count, PrivateRun}
+use Rattle.pool_run.specs.Runs.{RunState, IsRunning, IsRun, PartiesRun, world_of, grants_of, metrics_of, calls_of_run, FaultsInMaking, making_listed, images_listed}
+use Rattle.pool_run.specs.Validity.{is_valid, is_valid_party, are_valid_after, most_commands}
+use Rattle.pool_run.specs.declared.input.Input.{Input}
+use Rattle.pool_run.specs.declared.input.Party.{Party}
+use Rattle.pool_run.specs.declared.reply.Reply.{Reply}
+use Rattle.pool_run.proofs.Asked.{none_leased, of_all}
+
+second : (a b : Bool) → (a && b) ≡ true → b ≡ true
+second true b is = is
+second false b is = absurd cc
+
+first : (a b : Bool) → (a && b) ≡ true → a ≡ true
+first true b is = refl
+first false b is = absurd cc
+
+none_live : (n : ℕ) → live_count (replicate {A = Option Lease} n None) ≡ 0
+none_live zero = refl
+none_live (suc n) = none_live n
+
+-- a run with no grant
+abbrev pub at_start : PoolState → ℕ → RunState
+at_start pool n = record { pool = pool; live = replicate n None; instances = 0; memories = 0 }
+
+pub started : (maker : MakerTold) (pool : PoolState) (n : ℕ) → IsPool maker pool → used_count pool.shard ≡ 0 → IsRunning maker (at_start pool n)
+started maker pool n is_pool unused = record {
+  pool = is_pool;
+  leases = λ i.
+      let P : Option Lease → Type 0 = λ o. IfSome o (IsLeaseOf maker pool) in
+      subst P (sym (none_leased n i)) tt;
+  apart = λ i j differ.
+      let P : Option Lease → Type 0 = λ o. IfSome {T = Lease} o (λ (l : Lease). IfSome {T = Lease} (slice_index_or (replicate n None) j None) (λ (m : Lease). l.index ≢ m.index)) in
+      subst P (sym (none_leased n i)) tt;
+  used = unused ∙ sym (none_live n);
+  instances = sym (none_live n);
+  memories = sym (none_live n);
+}
+
+-- the modules of an input that can be run so far, and its size
+pub built_modules : (input : Input) → is_built input ≡ true → list_all is_built_module input.modules ≡ true
+built_modules input built = second (nat_le (length input.parties) 1) (list_all is_built_module input.modules) (second (input.config.limits.max_memory_size == 65536) (nat_le (length input.parties) 1 && list_all is_built_module input.modules) built)
+
+pub built_size : (input : Input) → is_built input ≡ true → input.config.limits.max_memory_size ≡ 65536
+built_size input built = eqb-true input.config.limits.max_memory_size 65536 (first (input.config.limits.max_memory_size == 65536) (nat_le (length input.parties) 1 && list_all is_built_module input.modules) built)
+
+few_parties : (input : Input) → is_built input ≡ true → length input.parties ≤ 1
+few_parties input built = leb-true (length input.parties) 1 (first (nat_le (length input.parties) 1) (list_all is_built_module input.modules) (second (input.config.limits.max_memory_size == 65536) (nat_le (length input.parties) 1 && list_all is_built_module input.modules) built))
+
+one_party : (parties : List Party) (p : Party) → length parties ≤ 1 → slice_get parties 0 ≡ Some p → parties ≡ p ∷ []
+one_party [] p few is = absurd cc
+one_party (x ∷ []) p few is = cc
+one_party (x ∷ y ∷ rest) p few is = absurd (omega (arith, few))
+
+no_party : (parties : List Party) → slice_get parties 0 ≡ None → parties ≡ []
+no_party [] is = refl
+no_party (x ∷ xs) is = absurd cc
+
+pub valid_commands : (input : Input) (p : Party) → is_valid input ≡ true → slice_get input.parties 0 ≡ Some p → are_valid_after input.modules [] p.commands ≡ true
+valid_commands input p valid is = second (nat_le (length p.commands) most_commands) (are_valid_after input.modules [] p.commands) (of_all (is_valid_party input.modules) input.parties 0 p valid is)
+
+-- the output of a run without a party
+pub run_of_none : (input : Input) (maker : MakerTold) (pool : PoolState) → IsPool maker pool → length pool.cells ≡ input.config.limits.total_memories → used_count pool.shard ≡ 0 → slice_get input.parties 0 ≡ None → IsRun input maker (record { replies = []; metrics = metrics_of (at_start pool 0); calls = calls_of_run (at_start pool 0) })
+run_of_none input maker pool is_pool total unused none =
+    let P : List Party → Type 0 = λ parties. PartiesRun (world_of input maker) parties [] [] in
+    record {
+      state = at_start pool 0;
+      running = started maker pool 0 is_pool unused;
+      slots = total;
+      parties = subst P (sym (no_party input.parties none)) refl;
+      metrics = refl;
+      calls = refl;
+    }
+
+-- the output of a run of one party
+pub run_of_one : (input : Input) (maker : MakerTold) (p : Party) (replies : List Reply) (slots : ℕ) (s : RunState) → is_built input ≡ true → slice_get input.parties 0 ≡ Some p → IsRunning maker s → length s.pool.cells ≡ slots → slots ≡ input.config.limits.total_memories → PrivateRun (record { maker = maker; modules = input.modules; total = slots }) 0 p.commands replies (replicate (length p.commands) None) (grants_of s) → IsRun input maker (record { replies = replies ∷ []; metrics = metrics_of s; calls = calls_of_run s })
+run_of_one input maker p replies slots s built is running count total runs =
+    let P : List Party → Type 0 = λ parties. PartiesRun (world_of input maker) parties (replies ∷ []) (grants_of s) in
+    let Q : ℕ → Type 0 = λ n. PrivateRun (record { maker = maker; modules = input.modules; total = n }) 0 p.commands replies (replicate (length p.commands) None) (grants_of s) in
+    record {
+      state = s;
+      running = running;
+      slots = count ∙ total;
+      parties = subst P (sym (one_party input.parties p (few_parties input built) is)) (subst Q total runs);
+      metrics = refl;
+      calls = refl;
+    }
+
+right_of : (a b : Bool) → b ≡ true → (a || b) ≡ true
+right_of true b is = refl
+right_of false b is = is
+
+left_of : (a b : Bool) → a ≡ true → (a || b) ≡ true
+left_of true b is = refl
+left_of false b is = absurd cc
+
+listed_right : (o : Option (List Planned)) (input : Input) → IfSome o (λ plan. images_listed 0 plan input.modules ≡ true) → IfSome o (λ plan. making_listed input plan ≡ true)
+listed_right None input is = is
+listed_right (Some plan) input is = right_of (makes_listed plan input.config.limits.total_memories) (images_listed 0 plan input.modules) is
+
+listed_left : (o : Option (List Planned)) (input : Input) → IfSome o (λ plan. makes_listed plan input.config.limits.total_memories ≡ true) → IfSome o (λ plan. making_listed input plan ≡ true)
+listed_left None input is = is
+listed_left (Some plan) input is = left_of (makes_listed plan input.config.limits.total_memories) (images_listed 0 plan input.modules) is
+
+-- no region, or no image, could be made
+pub faults_of_pool : (input : Input) (old new : MakerTold) → Rose old.faults new.faults × IfSome old.plan (λ plan. makes_listed plan input.config.limits.total_memories ≡ true) → FaultsInMaking input old new
+faults_of_pool input old new fault = record { rose = fault.0; listed = listed_left old.plan input fault.1 }
+
+pub faults_of_images : (input : Input) (old new : MakerTold) → Rose old.faults new.faults × IfSome old.plan (λ plan. images_listed 0 plan input.modules ≡ true) → FaultsInMaking input old new
+faults_of_images input old new fault = record { rose = fault.0; listed = listed_right old.plan input fault.1 }
+
+-- an error is the same error with any other result
+pub fault_in : {A B E : Type 0} {e f : E} → ◌≡◌ {A = Result A E} (Err e) (Err f) → ◌≡◌ {A = Result B E} (Err e) (Err f)
+fault_in is = cc

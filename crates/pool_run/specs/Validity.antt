@@ -1,0 +1,64 @@
+-- When an input can be run: its sizes are within the limits, and what it names is there.
+use Rattle.std.specs.Prelude.{ℕ, List, [], ◌∷◌, ◌++◌, length, ◌&&◌, nat_lt, nat_le, Bool, true, false, Option, Some, None}
+use Rattle.std.specs.List.{list_all, slice_get}
+use Rattle.pool_pages.specs.declared.module_types.ModuleInfo.{ModuleInfo}
+use Rattle.pool_run.specs.declared.command.Command.{Command}
+use Rattle.pool_run.specs.declared.command.Command.TheVariants.{Instantiate, Read, Write, Drop}
+use Rattle.pool_run.specs.declared.input.Input.{Input}
+use Rattle.pool_run.specs.declared.input.Party.{Party}
+
+-- how many commands a party may have
+abbrev pub most_commands : ℕ
+most_commands = 100000
+
+-- how many bytes a command may read or write
+abbrev pub most_bytes : ℕ
+most_bytes = 1048576
+
+-- how many memories the module of this number has, where there is one
+abbrev pub memories_of : Option ModuleInfo → Option ℕ
+memories_of None = None
+memories_of (Some info) = Some (length info.memories)
+
+-- how many memories the grant has that the command asks for, where it asks for one
+abbrev pub memories_asked : List ModuleInfo → Option Command → Option ℕ
+memories_asked modules None = None
+memories_asked modules (Some (Instantiate number)) = memories_of (slice_get modules number)
+memories_asked modules (Some (Read of memory at len)) = None
+memories_asked modules (Some (Write of memory at hex)) = None
+memories_asked modules (Some (Drop of)) = None
+
+-- there is one with this number
+abbrev pub has : Option ℕ → ℕ → Bool
+has None place = false
+has (Some count) place = nat_lt place count
+
+-- command `of` of the earlier ones asks for a grant that has this memory
+abbrev pub names_memory : List ModuleInfo → List Command → ℕ → ℕ → Bool
+names_memory modules earlier of memory = has (memories_asked modules (slice_get earlier of)) memory
+
+-- the command asks for a grant
+abbrev pub asks_for_grant : Option Command → Bool
+asks_for_grant None = false
+asks_for_grant (Some (Instantiate number)) = true
+asks_for_grant (Some (Read of memory at len)) = false
+asks_for_grant (Some (Write of memory at hex)) = false
+asks_for_grant (Some (Drop of)) = false
+
+-- the command can stand after the earlier ones of its party
+abbrev pub is_valid_after : List ModuleInfo → List Command → Command → Bool
+is_valid_after modules earlier (Instantiate number) = nat_lt number (length modules)
+is_valid_after modules earlier (Read of memory at len) = nat_le len most_bytes && names_memory modules earlier of memory
+is_valid_after modules earlier (Write of memory at hex) = nat_le (length hex) most_bytes && names_memory modules earlier of memory
+is_valid_after modules earlier (Drop of) = asks_for_grant (slice_get earlier of)
+
+-- so can each of the commands, after the earlier ones and those before it
+abbrev pub are_valid_after : List ModuleInfo → List Command → List Command → Bool
+are_valid_after modules earlier [] = true
+are_valid_after modules earlier (command ∷ rest) = is_valid_after modules earlier command && are_valid_after modules (earlier ++ command ∷ []) rest
+
+abbrev pub is_valid_party : List ModuleInfo → Party → Bool
+is_valid_party modules party = nat_le (length party.commands) most_commands && are_valid_after modules [] party.commands
+
+abbrev pub is_valid : Input → Bool
+is_valid input = list_all (is_valid_party input.modules) input.parties

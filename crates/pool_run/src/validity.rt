@@ -1,0 +1,81 @@
+ghost use Rattle.std.specs.Prelude.{◌≡◌, [], List, take};
+ghost use Rattle.std.specs.List.{list_all, slice_get};
+ghost use Rattle.pool_run.specs.Validity.{is_valid, is_valid_party, is_valid_after, are_valid_after, asks_for_grant, names_memory, most_commands, most_bytes};
+
+use crate::command::Command;
+use crate::input::{Input, Party};
+use pool_pages::ModuleInfo;
+
+/// How many commands a party may have.
+pub const MOST_COMMANDS: usize = 100_000;
+
+/// How many bytes a command may read or write.
+pub const MOST_BYTES: usize = 1_048_576;
+
+fn asks_for_grant(earlier: &[Command], of: usize) -> bool
+    ensures { result ≡ asks_for_grant (slice_get earlier.now of) }
+{
+    matches!(earlier.get(of), Some(Command::Instantiate { .. }))
+}
+
+fn names_memory(modules: &[ModuleInfo], earlier: &[Command], of: usize, memory: usize) -> bool
+    ensures { result ≡ names_memory modules.now earlier.now of memory }
+{
+    match earlier.get(of) {
+        Some(Command::Instantiate { module }) => match modules.get(*module) {
+            Some(info) => memory < info.memories.len(),
+            None => false,
+        },
+        _ => false,
+    }
+}
+
+fn is_valid_after(modules: &[ModuleInfo], earlier: &[Command], command: &Command) -> bool
+    ensures { result ≡ is_valid_after modules.now earlier.now command.now }
+{
+    match command {
+        Command::Instantiate { module } => *module < modules.len(),
+        Command::Read {
+            of,
+            memory,
+            len,
+            ..
+        } => { *len <= MOST_BYTES && names_memory(modules, earlier, *of, *memory) }
+        Command::Write {
+            of,
+            memory,
+            hex,
+            ..
+        } => { hex.len() <= MOST_BYTES && names_memory(modules, earlier, *of, *memory) }
+        Command::Drop { of } => asks_for_grant(earlier, *of),
+    }
+}
+
+fn are_valid(modules: &[ModuleInfo], commands: &[Command]) -> bool
+    ensures { result ≡ are_valid_after modules.now [] commands.now }
+{
+    for (k, command) in commands.iter().enumerate() {
+        if !is_valid_after(modules, &commands[..k], command) {
+            return false;
+        }
+    }
+    true
+}
+
+fn is_valid_party(modules: &[ModuleInfo], party: &Party) -> bool
+    ensures { result ≡ is_valid_party modules.now party.now }
+{
+    party.commands.len() <= MOST_COMMANDS && are_valid(modules, party.commands.as_slice())
+}
+
+/// Whether the input can be run: its sizes are within the limits, and what it names is there.
+pub fn is_valid(input: &Input) -> bool
+    ensures { result ≡ is_valid input.now }
+{
+    let modules = input.modules.as_slice();
+    input
+        .parties
+        .as_slice()
+        .iter()
+        .all(|party| is_valid_party(modules, party))
+}
