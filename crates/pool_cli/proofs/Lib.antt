@@ -1,0 +1,6 @@
+mod Items
+mod Lists
+mod Members
+mod Numerals
+mod Pieces
+mod Texts

@@ -1,0 +1,29 @@
+-- Numbers as decimal digits.
+use Rattle.std.proofs.Common.{◌≡◌, ℕ, ◌<◌, ◌^◌, List, length, Bool, true, false, ◌&&◌, nat_lt, Result, Ok, Err, is_ok, refl, ◌∙◌, arith, rules}
+use Rattle.std.proofs.lemmas.Bool.Decides.{nat_tests}
+use Rattle.std.proofs.lemmas.Str.Parse.{IsNumeralModel, numerals_by_fold, parse_digits}
+use Rattle.std.specs.Char.{is_ascii_digit}
+use Rattle.std.specs.List.{list_all}
+use Rattle.std.specs.Result.{OkIff}
+use Rattle.std.specs.Str.Parse.{ParsesUnsigned}
+use Rattle.pool_cli.specs.Words.{number_after, is_number}
+
+digits : IsNumeralModel (λ ds. list_all is_ascii_digit ds ≡ true) (number_after 0)
+digits = numerals_by_fold _ (search rules) number_after (search rules)
+
+decided : {E : Type 0} (r : Result ℕ E) (len n : ℕ) → 0 < len → OkIff r ((0 < len) × (n < 2 ^ 64)) n → is_ok r ≡ nat_lt n (2 ^ 64)
+decided (Ok x) len n some h = let fits : n < 2 ^ 64 = h.0.1 in grind (arith, nat_tests)
+decided (Err e) len n some h = let past : n < 2 ^ 64 → ⊥ = (λ fits. h (some, fits)) in grind (arith, nat_tests)
+
+all_hold : (a b x : Bool) → a ≡ true → b ≡ true → x ≡ (a && b && x)
+all_hold true true x p q = refl
+all_hold true false x p q = cc
+all_hold false b x p q = cc
+
+-- digits alone are read exactly where the number fits
+pub number_is_read : {E : Type 0} (text : List ℕ) (r : Result ℕ E) → ParsesUnsigned 64 10 text r → list_all is_ascii_digit text ≡ true → nat_lt 0 (length text) ≡ true
+    → is_ok r ≡ is_number text
+number_is_read text r h alone some =
+    let above : 0 < length text = grind (arith, nat_tests) in
+    decided r (length text) (number_after 0 text) above (parse_digits digits 64 text r h alone)
+    ∙ all_hold (nat_lt 0 (length text)) (list_all is_ascii_digit text) _ some alone

@@ -1,0 +1,10 @@
+pub mod Fields
+pub mod Forms
+pub mod Lines
+pub mod Output
+pub mod Preparing
+pub mod Reading
+pub mod Statuses
+pub mod Streams
+pub mod Transfers
+pub mod Words

@@ -1,0 +1,116 @@
+-- The text of a run's output.
+use Rattle.std.specs.Prelude.{ℕ, ◌+◌, List, [], ◌∷◌, ◌++◌, codes, Option, Some, None}
+use Rattle.std.specs.Fmt.{decimal}
+use Rattle.hex.specs.Hex.{encode_lower}
+use Rattle.pool_pages.specs.declared.pages.PageCalls.{PageCalls}
+use Rattle.pool_slots.specs.Texts.{limit_text}
+use Rattle.pool_slots.specs.declared.request.AllocError.{AllocError}
+use Rattle.pool_slots.specs.declared.request.AllocError.TheVariants.{Memory as NoMemory, Limit, PageFault}
+use Rattle.pool_slots.specs.declared.static_memory.Trap.{Trap}
+use Rattle.pool_slots.specs.declared.static_memory.Trap.TheVariants.{MemoryOutOfBounds}
+use Rattle.pool_run.specs.declared.metrics.Metrics.{Metrics}
+use Rattle.pool_run.specs.declared.output.RunOutput.{RunOutput}
+use Rattle.pool_run.specs.declared.reply.Refusal.{Refusal}
+use Rattle.pool_run.specs.declared.reply.Refusal.TheVariants.{NoSuchGrant, Alloc}
+use Rattle.pool_run.specs.declared.reply.Reply.{Reply}
+use Rattle.pool_run.specs.declared.reply.Reply.TheVariants.{Instance, Bytes, Done, Returned, Refused, Trap as Trapped}
+
+-- the end of a line
+abbrev pub line_feed : List ℕ
+line_feed = 10 ∷ []
+
+-- numbers after the first, a comma before each
+abbrev pub more_numbers : List ℕ → List ℕ
+more_numbers [] = []
+more_numbers (n ∷ ns) = codes "," ++ decimal n ++ more_numbers ns
+
+-- numbers with commas between them, or a dash where there is none
+abbrev pub numbers_text : List ℕ → List ℕ
+numbers_text [] = codes "-"
+numbers_text (n ∷ ns) = decimal n ++ more_numbers ns
+
+-- bytes in hexadecimal, or a dash where there is none
+abbrev pub bytes_text : List ℕ → List ℕ
+bytes_text [] = codes "-"
+bytes_text (b ∷ bs) = encode_lower (b ∷ bs)
+
+abbrev pub alloc_error_text : AllocError → List ℕ
+alloc_error_text NoMemory = codes "NoMemory"
+alloc_error_text (Limit e) = codes "PoolConcurrencyLimitError: " ++ limit_text e
+alloc_error_text PageFault = codes "PageFault"
+
+abbrev pub refusal_text : Refusal → List ℕ
+refusal_text NoSuchGrant = codes "NoSuchGrant"
+refusal_text (Alloc e) = alloc_error_text e
+
+abbrev pub trap_text : Trap → List ℕ
+trap_text MemoryOutOfBounds = codes "MemoryOutOfBounds"
+
+abbrev pub reply_text : Reply → List ℕ
+reply_text (Instance memories tables) = codes "granted memories " ++ numbers_text memories ++ codes " tables " ++ numbers_text tables
+reply_text (Bytes bytes) = codes "bytes " ++ bytes_text bytes
+reply_text Done = codes "done"
+reply_text Returned = codes "returned"
+reply_text (Refused refusal) = codes "refused " ++ refusal_text refusal
+reply_text (Trapped trap) = codes "trap " ++ trap_text trap
+
+-- the line of the reply to a command of a party
+abbrev pub reply_line : ℕ → ℕ → Reply → List ℕ
+reply_line party command reply = decimal party ++ codes "." ++ decimal command ++ codes ": " ++ reply_text reply ++ line_feed
+
+-- the lines of a party's replies, of which the first is to this command
+abbrev pub reply_lines : ℕ → ℕ → List Reply → List ℕ
+reply_lines party command [] = []
+reply_lines party command (reply ∷ replies) = reply_line party command reply ++ reply_lines party (command + 1) replies
+
+-- the lines of the parties, of which the first has this number
+abbrev pub party_lines : ℕ → List (List Reply) → List ℕ
+party_lines party [] = []
+party_lines party (replies ∷ parties) = reply_lines party 0 replies ++ party_lines (party + 1) parties
+
+-- a number with its name before it
+unfoldable pub named : List ℕ → ℕ → List ℕ
+named name n = name ++ decimal n
+
+-- a number with its name before it, or none where there is no number
+unfoldable pub named_or_none : List ℕ → Option ℕ → List ℕ
+named_or_none name None = name ++ codes "none"
+named_or_none name (Some n) = named name n
+
+-- how many of each kind are live
+abbrev pub live_text : Metrics → List ℕ
+live_text m =
+    named (codes "metrics core=") m.core_instances
+    ++ named (codes " component=") m.component_instances
+    ++ named (codes " memories=") m.memories
+    ++ named (codes " tables=") m.tables
+    ++ named (codes " stacks=") m.stacks
+    ++ named (codes " heaps=") m.gc_heaps
+
+-- how many slots are warm, and how many bytes of them are resident
+abbrev pub warm_text : Metrics → List ℕ
+warm_text m =
+    named (codes " warm_memories=") m.unused_warm_memories
+    ++ named (codes " memory_resident=") m.unused_memory_bytes_resident
+    ++ named (codes " warm_tables=") m.unused_warm_tables
+    ++ named (codes " table_resident=") m.unused_table_bytes_resident
+    ++ named (codes " warm_stacks=") m.unused_warm_stacks
+    ++ named_or_none (codes " stack_resident=") m.unused_stack_bytes_resident
+
+abbrev pub metrics_line : Metrics → List ℕ
+metrics_line m = live_text m ++ warm_text m ++ line_feed
+
+abbrev pub pages_line : PageCalls → List ℕ
+pages_line c =
+    named (codes "pages expose=") c.expose
+    ++ named (codes " hide=") c.hide
+    ++ named (codes " map_image=") c.map_image
+    ++ named (codes " remap_zeros=") c.remap_zeros
+    ++ named (codes " erase=") c.erase
+    ++ named (codes " recolour=") c.recolour
+    ++ named (codes " decommit=") c.decommit
+    ++ line_feed
+
+-- a line for each reply, then the pool's numbers, then the calls on its regions
+abbrev pub output_text : RunOutput → List ℕ
+output_text output = party_lines 0 output.replies ++ metrics_line output.metrics ++ pages_line output.calls

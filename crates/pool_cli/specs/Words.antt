@@ -1,0 +1,35 @@
+-- What the program is asked for by its words.
+use Rattle.std.specs.Prelude.{ℕ, ◌+◌, ◌-◌, ◌*◌, ◌^◌, List, [], ◌∷◌, length, codes, ◌&&◌, ◌||◌, nat_lt, if◌then◌else◌, Bool, String, string_bytes}
+use Rattle.std.specs.declared.alloc.Global.{Global}
+use Rattle.std.specs.Char.{is_ascii_digit}
+use Rattle.std.specs.List.{list_all}
+use Rattle.std.specs.Str.{bytes_eq}
+use Rattle.pool_cli.specs.declared.words.Task.{Task}
+use Rattle.pool_cli.specs.declared.words.Task.TheVariants.{Run, Later, Unknown}
+
+-- the number that decimal digits write after those of n
+abbrev pub number_after : ℕ → List ℕ → ℕ
+number_after n [] = n
+number_after n (digit ∷ digits) = number_after (10 * n + (digit - 48)) digits
+
+-- one or more decimal digits of a number that 64 bits hold
+abbrev pub is_number : List ℕ → Bool
+is_number text = nat_lt 0 (length text) && list_all is_ascii_digit text && nat_lt (number_after 0 text) (2 ^ 64)
+
+abbrev pub one_word : List ℕ → Task
+one_word word =
+    if bytes_eq word (codes "run") then Run
+    else if bytes_eq word (codes "threads") || bytes_eq word (codes "shared") then Later
+    else Unknown
+
+abbrev pub two_words : List ℕ → List ℕ → Task
+two_words first second =
+    if bytes_eq first (codes "run") && bytes_eq second (codes "on-demand") || bytes_eq first (codes "load") && is_number second then Later
+    else Unknown
+
+-- `run` is built; `run on-demand`, `threads`, `shared` and `load` with a number are not yet; there is nothing else
+abbrev pub task_of : List (String Global) → Task
+task_of [] = Unknown
+task_of (word ∷ []) = one_word (string_bytes word)
+task_of (first ∷ second ∷ []) = two_words (string_bytes first) (string_bytes second)
+task_of (first ∷ second ∷ third ∷ more) = Unknown

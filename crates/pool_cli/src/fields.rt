@@ -1,0 +1,77 @@
+ghost use Rattle.std.specs.Prelude.{◌≡◌, map, option_map};
+ghost use Rattle.std.specs.List.{list_any};
+ghost use Rattle.std.specs.Str.{bytes_eq};
+ghost use Rattle.serde_json.specs.View.{view, members_view};
+ghost use Rattle.pool_cli.specs.Fields.{is_among, all_among, has_only, whole_number, required, optional, hex_bytes, IsOfForm};
+ghost use Rattle.serde_json.specs.Find.{as_str};
+
+use crate::form_fault::FormFault;
+use hex::FromHexError;
+use pool_pages::ByteList;
+use serde_json::{Map, Value};
+use std::alloc::Global;
+
+fn is_among(names: &[&str], name: &str) -> bool
+    ensures { result ≡ list_any (λ known. bytes_eq known.now name.now) names.now }
+{
+    names.iter().any(|known| *known == name)
+}
+
+fn all_among(names: &[&str], members: &Map<String, Value>) -> bool
+    ensures { result ≡ all_among (map (λ n. n.now) names.now) (members_view members.now.entries) }
+{
+    for (name, _) in members {
+        if !is_among(names, name.as_str()) {
+            return false;
+        }
+    }
+    true
+}
+
+/// Whether it is an object that has no fields but these.
+pub fn has_only(value: &Value, names: &[&str]) -> bool
+    ensures { result ≡ has_only (map (λ n. n.now) names.now) (view value.now) }
+{
+    match value.as_object() {
+        Some(members) => all_among(names, members),
+        None => false,
+    }
+}
+
+/// A whole number that must be there.
+pub fn number(field: Option<&Value>) -> Option<u64>
+    ensures { result ≡ required whole_number (option_map (λ v. view v.now) field.entry) }
+{
+    field?.as_u64()
+}
+
+/// A whole number that may be left out.
+pub fn number_or(default: u64, field: Option<&Value>) -> Option<u64>
+    ensures { result ≡ optional default whole_number (option_map (λ v. view v.now) field.entry) }
+{
+    match field {
+        None => Some(default),
+        Some(value) => value.as_u64(),
+    }
+}
+
+/// Bytes that must be there, as hexadecimal text.
+pub fn bytes(alloc: Global, field: Option<&Value>) -> Result<ByteList, FormFault>
+    ensures { IsOfForm (required hex_bytes (option_map (λ v. view v.now) field.entry)) result }
+{
+    let Some(text) = text(field) else {
+        return Err(FormFault::OtherForm);
+    };
+    match hex::decode(alloc, text) {
+        Ok(bytes) => Ok(ByteList::from_vec(bytes)),
+        Err(FromHexError::OutOfMemory) => Err(FormFault::Memory),
+        Err(_) => Err(FormFault::OtherForm),
+    }
+}
+
+/// A text that must be there.
+pub fn text(field: Option<&Value>) -> Option<&str>
+    ensures { option_map (λ text. text.now) result ≡ required as_str (option_map (λ v. view v.now) field.entry) }
+{
+    field?.as_str()
+}

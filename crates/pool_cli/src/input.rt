@@ -1,0 +1,75 @@
+ghost use Rattle.std.specs.Prelude.{◌≡◌, option_map};
+ghost use Rattle.serde_json.specs.View.{view};
+ghost use Rattle.pool_pages.specs.Config.{default_config};
+ghost use Rattle.pool_cli.specs.Fields.{IsOfForm, optional};
+ghost use Rattle.pool_cli.specs.Forms.{party_form, config_form, input_form};
+
+use crate::fields::{has_only, number_or};
+use crate::form_fault::FormFault;
+use crate::from_json::{FromJson, list_or_empty};
+use pool_pages::PoolingAllocationConfig;
+use pool_run::{Input, Party};
+use serde_json::Value;
+use std::alloc::Global;
+
+impl FromJson for Party {
+    ghost form = { party_form };
+
+    #[tactic(auto, unfolding(crate::specs::Forms::party_form))]
+    fn from_json(alloc: Global, value: &Value) -> Result<Party, FormFault> {
+        if !has_only(value, &["commands"]) {
+            return Err(FormFault::OtherForm);
+        }
+        let commands = list_or_empty(alloc, value.get("commands"))?;
+        Ok(Party { commands })
+    }
+}
+
+#[tactic(auto, unfolding(crate::specs::Forms::config_form))]
+fn config_of(value: &Value) -> Option<PoolingAllocationConfig>
+    ensures { result ≡ config_form (view value.now) }
+{
+    if !has_only(value, &["total_memories"]) {
+        return None;
+    }
+    let total = number_or(10, value.get("total_memories"))?;
+    if total > 100 {
+        return None;
+    }
+    let mut config = PoolingAllocationConfig::default();
+    config.limits.total_memories = total as u32;
+    Some(config)
+}
+
+/// Settings that may be left out.
+fn config(field: Option<&Value>) -> Option<PoolingAllocationConfig>
+    ensures { result ≡ optional default_config config_form (option_map (λ v. view v.now) field.entry) }
+{
+    match field {
+        None => Some(PoolingAllocationConfig::default()),
+        Some(value) => config_of(value),
+    }
+}
+
+impl FromJson for Input {
+    ghost form = { input_form };
+
+    #[tactic(auto, unfolding(crate::specs::Forms::input_form))]
+    fn from_json(alloc: Global, value: &Value) -> Result<Input, FormFault> {
+        if !has_only(value, &["config", "modules", "parties"]) {
+            return Err(FormFault::OtherForm);
+        }
+        let config = config(value.get("config")).ok_or(FormFault::OtherForm)?;
+        let modules = list_or_empty(alloc, value.get("modules"))?;
+        let parties = list_or_empty(alloc, value.get("parties"))?;
+        if modules.len() <= 1 && parties.len() <= 1 {
+            Ok(Input {
+                config,
+                modules,
+                parties,
+            })
+        } else {
+            Err(FormFault::OtherForm)
+        }
+    }
+}

@@ -1,0 +1,79 @@
+ghost use Rattle.std.specs.Prelude.{◌≡◌, true, IfOk};
+ghost use Rattle.serde_json.specs.Read.{read};
+ghost use Rattle.serde_json.specs.View.{view};
+ghost use Rattle.pool_run.specs.Built.{is_built};
+ghost use Rattle.pool_run.specs.Validity.{is_valid};
+ghost use Rattle.pool_cli.specs.Forms.{input_form};
+ghost use Rattle.pool_cli.specs.Reading.{reading, reading_of_input, reading_of_json, reading_of_form, Reads};
+
+use crate::form_fault::FormFault;
+use crate::from_json::FromJson;
+use pool_run::{Input, is_built, is_valid};
+use serde_json::Value;
+use std::alloc::Global;
+
+/// Why a text isn't read as an input.
+#[derive(Clone, Copy, Debug, PartialEq, Eq)]
+pub enum InputFault {
+    /// It is JSON of a form that is not accepted so far, or an input that asks for what is not built yet.
+    NotBuilt,
+    /// It is no JSON, or an input that breaks a limit or names what isn't there.
+    Invalid,
+    Memory,
+}
+
+/// Only what is built is tested further.
+fn tested(input: Input) -> Result<Input, InputFault>
+    ensures reads { Reads (reading_of_input input) result }
+    ensures built { IfOk result (λ input. is_built input ≡ true) }
+    ensures valid { IfOk result (λ input. is_valid input ≡ true) }
+{
+    if !is_built(&input) {
+        return Err(InputFault::NotBuilt);
+    }
+    if !is_valid(&input) {
+        return Err(InputFault::Invalid);
+    }
+    Ok(input)
+}
+
+fn input_of(alloc: Global, value: &Value) -> Result<Input, InputFault>
+    ensures reads { Reads (reading_of_form (input_form (view value.now))) result }
+    ensures built { IfOk result (λ input. is_built input ≡ true) }
+    ensures valid { IfOk result (λ input. is_valid input ≡ true) }
+{
+    match Input::from_json(alloc, value) {
+        Ok(input) => tested(input),
+        Err(FormFault::OtherForm) => Err(InputFault::NotBuilt),
+        Err(FormFault::Memory) => Err(InputFault::Memory),
+    }
+}
+
+fn read_text(alloc: Global, text: &str) -> Result<Input, InputFault>
+    ensures reads { Reads (reading_of_json (read text.now)) result }
+    ensures built { IfOk result (λ input. is_built input ≡ true) }
+    ensures valid { IfOk result (λ input. is_valid input ≡ true) }
+{
+    match Value::from_str(alloc, text) {
+        Ok(value) => input_of(alloc, &value),
+        Err(e) => {
+            if e.is_memory() {
+                Err(InputFault::Memory)
+            } else {
+                Err(InputFault::Invalid)
+            }
+        }
+    }
+}
+
+/// Reads the input that the bytes are.
+pub fn read_input(alloc: Global, bytes: &[u8]) -> Result<Input, InputFault>
+    ensures reads { Reads (reading bytes.now) result }
+    ensures built { IfOk result (λ input. is_built input ≡ true) }
+    ensures valid { IfOk result (λ input. is_valid input ≡ true) }
+{
+    match str::from_utf8(bytes) {
+        Ok(text) => read_text(alloc, text),
+        Err(_) => Err(InputFault::Invalid),
+    }
+}

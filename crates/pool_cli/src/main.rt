@@ -1,0 +1,62 @@
+//! The program.
+#![tactic(auto)]
+
+mod commands;
+mod fields;
+mod form_fault;
+mod from_json;
+mod input;
+mod json_input;
+mod memory_streams;
+mod modules;
+mod pool_main;
+mod print;
+mod stages;
+mod standard_streams;
+mod status;
+mod streams;
+#[cfg(test)]
+mod tests;
+mod transfers;
+mod words;
+
+use pool_pages::{MemoryPages, PageSize};
+use standard_streams::{ReaderSource, WriterSink};
+use status::Status;
+use std::alloc::{AllocError, Global};
+use std::env;
+use std::io::ErrorKind;
+use std::process::ExitCode;
+
+/// The program's words, without its name. None are there where one of them is no text, which no form has.
+fn arguments(rt: &HostRuntime, alloc: Global) -> Result<Vec<String>, AllocError> {
+    let mut words = Vec::new(alloc);
+    match env::args(rt) {
+        Ok(all) => {
+            for word in all.skip(1) {
+                words.push(word)?;
+            }
+        }
+        Err(e) => {
+            if e.kind() == ErrorKind::OutOfMemory {
+                return Err(AllocError);
+            }
+        }
+    }
+    Ok(words)
+}
+
+fn main(rt: HostRuntime) -> ExitCode {
+    let alloc = rt.alloc();
+    let Ok(words) = arguments(&rt, alloc) else {
+        return ExitCode::from(Status::NoMemory as u8);
+    };
+    let Ok(page) = PageSize::new(4096) else {
+        return ExitCode::from(Status::BadConfig as u8);
+    };
+    let mut source = ReaderSource::new(rt.stdin());
+    let mut sink = WriterSink::new(rt.stdout());
+    let mut pages = MemoryPages::new(page);
+    let status = pool_main::pool_main(alloc, words.as_slice(), &mut source, &mut sink, &mut pages);
+    ExitCode::from(status as u8)
+}

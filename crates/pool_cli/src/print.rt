@@ -1,0 +1,201 @@
+ghost use Rattle.std.specs.Prelude.{◌≡◌, ◌++◌, Some, IfOk, OnOk, string_bytes};
+ghost use Rattle.pool_cli.specs.Output.{numbers_text, bytes_text, refusal_text, alloc_error_text, trap_text, reply_text, reply_line, reply_lines, party_lines, named, named_or_none, live_text, warm_text, metrics_line, pages_line, output_text};
+
+use pool_pages::PageCalls;
+use pool_run::{Metrics, Refusal, Reply, ReplyList, RunOutput, Trap};
+use pool_slots::AllocError as Refused;
+use std::alloc::{AllocError, Global};
+use std::fmt::Write;
+
+/// Adds the numbers, with commas between them, or a dash where there is none.
+fn push_numbers(out: &mut String, numbers: &[u32]) -> Result<(), AllocError>
+    ensures { OnOk result (string_bytes out.new ≡ string_bytes out.old ++ numbers_text numbers.now) }
+{
+    let Some((first, rest)) = numbers.split_first() else {
+        return out.push_str("-");
+    };
+    write!(out, "{first}")?;
+    for number in rest {
+        write!(out, ",{number}")?;
+    }
+    Ok(())
+}
+
+/// Adds the bytes in hexadecimal, or a dash where there is none.
+fn push_bytes(alloc: Global, out: &mut String, bytes: &[u8]) -> Result<(), AllocError>
+    ensures { OnOk result (string_bytes out.new ≡ string_bytes out.old ++ bytes_text bytes.now) }
+{
+    if bytes.is_empty() {
+        return out.push_str("-");
+    }
+    let text = hex::encode(alloc, bytes)?;
+    out.push_str(text.as_str())
+}
+
+fn push_refusal(out: &mut String, refusal: Refusal) -> Result<(), AllocError>
+    ensures { OnOk result (string_bytes out.new ≡ string_bytes out.old ++ refusal_text refusal) }
+{
+    match refusal {
+        Refusal::NoSuchGrant => out.push_str("NoSuchGrant"),
+        Refusal::Alloc(Refused::Memory) => out.push_str("NoMemory"),
+        Refusal::Alloc(Refused::PageFault) => out.push_str("PageFault"),
+        Refusal::Alloc(Refused::Limit(limit)) => write!(out, "PoolConcurrencyLimitError: {limit}"),
+    }
+}
+
+fn push_trap(out: &mut String, trap: Trap) -> Result<(), AllocError>
+    ensures { OnOk result (string_bytes out.new ≡ string_bytes out.old ++ trap_text trap) }
+{
+    match trap {
+        Trap::MemoryOutOfBounds => out.push_str("MemoryOutOfBounds"),
+    }
+}
+
+fn push_reply(alloc: Global, out: &mut String, reply: &Reply) -> Result<(), AllocError>
+    ensures { OnOk result (string_bytes out.new ≡ string_bytes out.old ++ reply_text reply.now) }
+{
+    match reply {
+        Reply::Instance { memories, tables } => {
+            out.push_str("granted memories ")?;
+            push_numbers(out, memories.as_slice())?;
+            out.push_str(" tables ")?;
+            push_numbers(out, tables.as_slice())
+        }
+        Reply::Bytes(bytes) => {
+            out.push_str("bytes ")?;
+            push_bytes(alloc, out, bytes.as_slice())
+        }
+        Reply::Done => out.push_str("done"),
+        Reply::Returned => out.push_str("returned"),
+        Reply::Refused(refusal) => {
+            out.push_str("refused ")?;
+            push_refusal(out, *refusal)
+        }
+        Reply::Trap(trap) => {
+            out.push_str("trap ")?;
+            push_trap(out, *trap)
+        }
+    }
+}
+
+fn push_reply_line(
+    alloc: Global,
+    out: &mut String,
+    party: usize,
+    command: usize,
+    reply: &Reply,
+) -> Result<(), AllocError>
+    ensures { OnOk result (string_bytes out.new ≡ string_bytes out.old ++ reply_line party command reply.now) }
+{
+    write!(out, "{party}.{command}: ")?;
+    push_reply(alloc, out, reply)?;
+    out.push_str("\n")
+}
+
+fn push_reply_lines(
+    alloc: Global,
+    out: &mut String,
+    party: usize,
+    replies: &ReplyList,
+) -> Result<(), AllocError>
+    ensures { OnOk result (string_bytes out.new ≡ string_bytes out.old ++ reply_lines party 0 replies.now) }
+{
+    for (command, reply) in replies.as_slice().iter().enumerate() {
+        push_reply_line(alloc, out, party, command, reply)?;
+    }
+    Ok(())
+}
+
+fn push_party_lines(
+    alloc: Global,
+    out: &mut String,
+    parties: &[ReplyList],
+) -> Result<(), AllocError>
+    ensures { OnOk result (string_bytes out.new ≡ string_bytes out.old ++ party_lines 0 parties.now) }
+{
+    for (party, replies) in parties.iter().enumerate() {
+        push_reply_lines(alloc, out, party, replies)?;
+    }
+    Ok(())
+}
+
+#[tactic(auto, unfolding(crate::specs::Output::named))]
+fn push_named(out: &mut String, name: &str, number: u64) -> Result<(), AllocError>
+    ensures { OnOk result (string_bytes out.new ≡ string_bytes out.old ++ named name.now number) }
+{
+    write!(out, "{name}{number}")
+}
+
+#[tactic(auto, unfolding(crate::specs::Output::named_or_none))]
+fn push_named_or_none(out: &mut String, name: &str, number: Option<usize>) -> Result<(), AllocError>
+    ensures { OnOk result (string_bytes out.new ≡ string_bytes out.old ++ named_or_none name.now number) }
+{
+    match number {
+        None => write!(out, "{name}none"),
+        Some(number) => push_named(out, name, number as u64),
+    }
+}
+
+fn push_live(out: &mut String, m: &Metrics) -> Result<(), AllocError>
+    ensures { OnOk result (string_bytes out.new ≡ string_bytes out.old ++ live_text m.now) }
+{
+    push_named(out, "metrics core=", m.core_instances)?;
+    push_named(out, " component=", m.component_instances)?;
+    push_named(out, " memories=", m.memories as u64)?;
+    push_named(out, " tables=", m.tables as u64)?;
+    push_named(out, " stacks=", m.stacks as u64)?;
+    push_named(out, " heaps=", m.gc_heaps as u64)?;
+    Ok(())
+}
+
+fn push_warm(out: &mut String, m: &Metrics) -> Result<(), AllocError>
+    ensures { OnOk result (string_bytes out.new ≡ string_bytes out.old ++ warm_text m.now) }
+{
+    push_named(out, " warm_memories=", m.unused_warm_memories as u64)?;
+    push_named(
+        out,
+        " memory_resident=",
+        m.unused_memory_bytes_resident as u64,
+    )?;
+    push_named(out, " warm_tables=", m.unused_warm_tables as u64)?;
+    push_named(
+        out,
+        " table_resident=",
+        m.unused_table_bytes_resident as u64,
+    )?;
+    push_named(out, " warm_stacks=", m.unused_warm_stacks as u64)?;
+    push_named_or_none(out, " stack_resident=", m.unused_stack_bytes_resident)?;
+    Ok(())
+}
+
+fn push_metrics(out: &mut String, m: &Metrics) -> Result<(), AllocError>
+    ensures { OnOk result (string_bytes out.new ≡ string_bytes out.old ++ metrics_line m.now) }
+{
+    push_live(out, m)?;
+    push_warm(out, m)?;
+    out.push_str("\n")
+}
+
+fn push_pages(out: &mut String, calls: &PageCalls) -> Result<(), AllocError>
+    ensures { OnOk result (string_bytes out.new ≡ string_bytes out.old ++ pages_line calls.now) }
+{
+    push_named(out, "pages expose=", calls.expose)?;
+    push_named(out, " hide=", calls.hide)?;
+    push_named(out, " map_image=", calls.map_image)?;
+    push_named(out, " remap_zeros=", calls.remap_zeros)?;
+    push_named(out, " erase=", calls.erase)?;
+    push_named(out, " recolour=", calls.recolour)?;
+    push_named(out, " decommit=", calls.decommit)?;
+    out.push_str("\n")
+}
+
+/// The text of a run's output.
+pub fn output_text(alloc: Global, output: &RunOutput) -> Result<String, AllocError>
+    ensures { IfOk result (λ text. string_bytes text ≡ output_text output.now) }
+{
+    let mut out = String::new(alloc);
+    push_party_lines(alloc, &mut out, output.replies.as_slice())?;
+    push_metrics(&mut out, &output.metrics)?;
+    push_pages(&mut out, &output.calls)?;
+    Ok(out)
+}

@@ -1,0 +1,193 @@
+use crate::memory_streams::{MemorySink, MemorySource};
+use crate::pool_main::pool_main;
+use crate::print::output_text;
+use crate::status::Status;
+use pool_pages::{ByteList, MemoryPages, PageCalls, PageSize, PlainList};
+use pool_run::{Metrics, Refusal, Reply, ReplyList, RunOutput, Trap};
+use pool_slots::{AllocError as Refused, ConcurrencyKind, PoolConcurrencyLimitError};
+use std::alloc::{AllocError, Global};
+use std::test::Fail;
+
+fn one(alloc: Global, number: u64) -> Result<PlainList<u64>, AllocError> {
+    Ok(PlainList::from_vec(vec![in alloc; number]?))
+}
+
+fn bytes(alloc: Global, text: &str) -> Result<ByteList, AllocError> {
+    Ok(ByteList::from_vec(Vec::from_slice(alloc, text.as_bytes())?))
+}
+
+/// The program on these words and this input. The read and the write of these numbers fail, and a write takes ten
+/// bytes at most.
+fn ended(
+    alloc: Global,
+    words: &str,
+    input: &str,
+    read: u64,
+    write: u64,
+) -> Result<(Status, MemorySink), AllocError> {
+    let mut all = Vec::new(alloc);
+    for word in words.split_whitespace() {
+        all.push(String::from_str(alloc, word)?)?;
+    }
+    let mut source = MemorySource::new(bytes(alloc, input)?, 7, one(alloc, read)?);
+    let mut sink = MemorySink::new(alloc, 10, one(alloc, write)?);
+    let Ok(page) = PageSize::new(4096) else {
+        return Err(AllocError);
+    };
+    let mut pages = MemoryPages::new(page);
+    let status = pool_main(alloc, all.as_slice(), &mut source, &mut sink, &mut pages);
+    Ok((status, sink))
+}
+
+const USAGE: &str = "error BadUsage: run, run on-demand, threads, shared or load N\n";
+
+const BAD_INPUT: &str = "error BadInput\n";
+
+const NOT_BUILT: &str = "error NotBuilt\n";
+
+#[test]
+fn statuses_of_words(rt: HostRuntime) -> Result<(), Fail> {
+    for (words, read, status, written) in [
+        ("", 0, Status::BadUsage, USAGE),
+        ("walk", 1, Status::BadUsage, USAGE),
+        ("load +5", 0, Status::BadUsage, USAGE),
+        ("load 18446744073709551616", 0, Status::BadUsage, USAGE),
+        (
+            "load 0018446744073709551615",
+            1,
+            Status::NotBuilt,
+            NOT_BUILT,
+        ),
+        ("run on-demand", 1, Status::NotBuilt, NOT_BUILT),
+    ] {
+        let (ends, sink) = ended(rt.alloc(), words, "", read, 0)?;
+        assert_eq!(rt; ends, status, "at {words}");
+        assert_eq!(rt; sink.taken(), written.as_bytes(), "at {words}");
+    }
+    Ok(())
+}
+
+const CUT_OFF: &str = "{\"parties\":[";
+
+const DROPS_NOTHING: &str = "{\"parties\":[{\"commands\":[{\"do\":\"drop\",\"of\":0}]}]}";
+
+const MINUS_NOUGHT: &str = "{\"parties\":[{\"commands\":[{\"do\":\"drop\",\"of\":-0}]}]}";
+
+#[test]
+fn statuses_of_inputs(rt: HostRuntime) -> Result<(), Fail> {
+    for (input, read, write, status, written) in [
+        (CUT_OFF, 0, 0, Status::BadInput, BAD_INPUT),
+        (CUT_OFF, 1, 0, Status::ReadFault, ""),
+        (CUT_OFF, 0, 2, Status::WriteFault, "error BadI"),
+        ("{\"finish\":true}", 0, 0, Status::NotBuilt, NOT_BUILT),
+        (DROPS_NOTHING, 0, 0, Status::BadInput, BAD_INPUT),
+        (MINUS_NOUGHT, 0, 0, Status::NotBuilt, NOT_BUILT),
+    ] {
+        let (ends, sink) = ended(rt.alloc(), "run", input, read, write)?;
+        assert_eq!(rt; ends, status, "at {input}");
+        assert_eq!(rt; sink.taken(), written.as_bytes(), "at {input}");
+    }
+    Ok(())
+}
+
+/// A party's replies, one of each kind.
+fn replies(alloc: Global) -> Result<ReplyList, AllocError> {
+    let mut all = Vec::new(alloc);
+    let memories = PlainList::from_vec(Vec::from_slice(alloc, &[0u32, 12])?);
+    all.push(Reply::Instance {
+        memories,
+        tables: PlainList::new(alloc),
+    })?;
+    all.push(Reply::Bytes(bytes(alloc, "init")?))?;
+    all.push(Reply::Bytes(ByteList::new(alloc)))?;
+    all.push(Reply::Done)?;
+    all.push(Reply::Returned)?;
+    let limit = PoolConcurrencyLimitError {
+        limit: 1,
+        kind: ConcurrencyKind::MemoryStripe(0),
+    };
+    all.push(Reply::Refused(Refusal::Alloc(Refused::Limit(limit))))?;
+    all.push(Reply::Refused(Refusal::Alloc(Refused::PageFault)))?;
+    all.push(Reply::Refused(Refusal::Alloc(Refused::Memory)))?;
+    all.push(Reply::Refused(Refusal::NoSuchGrant))?;
+    all.push(Reply::Trap(Trap::MemoryOutOfBounds))?;
+    Ok(PlainList::from_vec(all))
+}
+
+const OUTPUT: &str = "0.0: granted memories 0,12 tables -\n\
+0.1: bytes 696e6974\n\
+0.2: bytes -\n\
+0.3: done\n\
+0.4: returned\n\
+0.5: refused PoolConcurrencyLimitError: maximum concurrent limit of 1 for memory stripe 0 reached\n\
+0.6: refused PageFault\n\
+0.7: refused NoMemory\n\
+0.8: refused NoSuchGrant\n\
+0.9: trap MemoryOutOfBounds\n\
+metrics core=1 component=0 memories=1 tables=0 stacks=0 heaps=0 warm_memories=0 memory_resident=0 warm_tables=0 table_resident=0 warm_stacks=0 stack_resident=none\n\
+pages expose=1 hide=0 map_image=1 remap_zeros=0 erase=0 recolour=0 decommit=1\n";
+
+#[test]
+fn prints_an_output(rt: HostRuntime) -> Result<(), Fail> {
+    let alloc = rt.alloc();
+    let mut parties = Vec::new(alloc);
+    parties.push(replies(alloc)?)?;
+    let output = RunOutput {
+        replies: PlainList::from_vec(parties),
+        metrics: Metrics {
+            core_instances: 1,
+            component_instances: 0,
+            memories: 1,
+            tables: 0,
+            stacks: 0,
+            gc_heaps: 0,
+            unused_warm_memories: 0,
+            unused_memory_bytes_resident: 0,
+            unused_warm_tables: 0,
+            unused_table_bytes_resident: 0,
+            unused_warm_stacks: 0,
+            unused_stack_bytes_resident: None,
+        },
+        calls: PageCalls {
+            expose: 1,
+            hide: 0,
+            map_image: 1,
+            remap_zeros: 0,
+            erase: 0,
+            recolour: 0,
+            decommit: 1,
+        },
+    };
+    let text = output_text(alloc, &output)?;
+    assert_eq!(rt; text.as_str(), OUTPUT);
+    Ok(())
+}
+
+const FIRST: &str =
+    "{\"config\":{\"total_memories\":1},\"modules\":[{\"memories\":[{\"min\":1,\"image\":{\"offset\":0,\"hex\":\"696e6974\"}}]}],\"parties\":[{\"commands\":[{\"do\":\"instantiate\",\"module\":0},{\"do\":\"write\",\"of\":0,\"at\":4,\"hex\":\"64697274\"},{\"do\":\"drop\",\"of\":0},{\"do\":\"instantiate\",\"module\":0},{\"do\":\"read\",\"of\":3,\"at\":0,\"len\":8}]}]}";
+
+const FIRST_OUTPUT: &str = "0.0: granted memories 0 tables -\n\
+0.1: done\n\
+0.2: returned\n\
+0.3: granted memories 0 tables -\n\
+0.4: bytes 696e697400000000\n\
+metrics core=1 component=0 memories=1 tables=0 stacks=0 heaps=0 warm_memories=0 memory_resident=0 warm_tables=0 table_resident=0 warm_stacks=0 stack_resident=none\n\
+pages expose=1 hide=0 map_image=1 remap_zeros=0 erase=0 recolour=0 decommit=1\n";
+
+const NO_RUN_OUTPUT: &str =
+    "metrics core=0 component=0 memories=0 tables=0 stacks=0 heaps=0 warm_memories=0 memory_resident=0 warm_tables=0 table_resident=0 warm_stacks=0 stack_resident=none\n\
+pages expose=0 hide=0 map_image=0 remap_zeros=0 erase=0 recolour=0 decommit=0\n";
+
+#[test]
+fn runs(rt: HostRuntime) -> Result<(), Fail> {
+    for (input, write, status, written) in [
+        (FIRST, 0, Status::Ok, FIRST_OUTPUT),
+        (FIRST, 2, Status::WriteFault, "0.0: grant"),
+        ("{}", 0, Status::Ok, NO_RUN_OUTPUT),
+    ] {
+        let (ends, sink) = ended(rt.alloc(), "run", input, 0, write)?;
+        assert_eq!(rt; ends, status, "at {input}");
+        assert_eq!(rt; sink.taken(), written.as_bytes(), "at {input}");
+    }
+    Ok(())
+}

@@ -1,0 +1,63 @@
+ghost use Rattle.std.specs.Prelude.{◌≡◌, string_bytes};
+ghost use Rattle.std.specs.Char.{is_ascii_digit};
+ghost use Rattle.std.specs.List.{list_all};
+ghost use Rattle.pool_cli.specs.Words.{is_number, one_word, two_words, task_of};
+
+/// What the program is asked for.
+#[derive(Clone, Copy, Debug, PartialEq, Eq)]
+pub enum Task {
+    /// A run of the schedule.
+    Run,
+    /// What is not built yet.
+    Later,
+    /// Nothing that the program has.
+    Unknown,
+}
+
+fn all_digits(text: &str) -> bool
+    ensures { result ≡ list_all is_ascii_digit text.now }
+{
+    text.bytes().all(|b| b.is_ascii_digit())
+}
+
+fn is_number(text: &str) -> bool
+    ensures { result ≡ is_number text.now }
+{
+    if text.is_empty() || !all_digits(text) {
+        return false;
+    }
+    text.parse::<u64>().is_ok()
+}
+
+fn one_word(word: &str) -> Task
+    ensures { result ≡ one_word word.now }
+{
+    if word == "run" {
+        Task::Run
+    } else if word == "threads" || word == "shared" {
+        Task::Later
+    } else {
+        Task::Unknown
+    }
+}
+
+fn two_words(first: &str, second: &str) -> Task
+    ensures { result ≡ two_words first.now second.now }
+{
+    if first == "run" && second == "on-demand" || first == "load" && is_number(second) {
+        Task::Later
+    } else {
+        Task::Unknown
+    }
+}
+
+/// What the words ask for.
+pub fn task_of(words: &[String]) -> Task
+    ensures { result ≡ task_of words.now }
+{
+    match words {
+        [word] => one_word(word.as_str()),
+        [first, second] => two_words(first.as_str(), second.as_str()),
+        _ => Task::Unknown,
+    }
+}
