@@ -12,11 +12,12 @@ use Rattle.pool_run.specs.Built.{is_built_memory, is_built_module}
 use Rattle.pool_run.specs.Private.{World, memory_decl}
 use Rattle.pool_run.specs.Runs.{grant_of}
 
-second : (a b : Bool) → (a && b) ≡ true → b ≡ true
+-- both parts of a conjunction hold
+pub second : (a b : Bool) → (a && b) ≡ true → b ≡ true
 second true b is = is
 second false b is = absurd cc
 
-first : (a b : Bool) → (a && b) ≡ true → a ≡ true
+pub first : (a b : Bool) → (a && b) ≡ true → a ≡ true
 first true b is = refl
 first false b is = absurd cc
 

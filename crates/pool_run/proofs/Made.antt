@@ -20,6 +20,7 @@ use Rattle.pool_images.specs.declared.memory_image.ImageError.TheVariants.{Unsup
 use Rattle.pool_images.specs.Images.{Image, image_of, images_from, padded, first_misplaced, ends_in_minimum, makes_listed}
 use Rattle.pool_images.specs.Slots.{FitsInto}
 use Rattle.pool_images.proofs.Begun.{rounded_up_above}
+use Rattle.pool_run.proofs.Asked.{first, second}
 use Rattle.pool_run.specs.Built.{is_built_memory, is_built_module}
 use Rattle.pool_run.specs.Made.{images_of_module, images_made, first_image}
 use Rattle.pool_run.specs.Private.{World, image_at}
@@ -42,9 +43,7 @@ made_at page n (x ∷ xs) (suc i) m at =
     made_at page (n + 1) xs i m at ∙ ap (λ k. images_of_module page k m) place
 
 both : (a b : Bool) → (a && b) ≡ true → (a ≡ true) × (b ≡ true)
-both true true is = (refl, refl)
-both true false is = absurd cc
-both false b is = absurd cc
+both a b is = (first a b is, second a b is)
 
 first_of_one : (b : Bool) (o : Option Image) → first_image (if b && true then Some (o ∷ []) else None) ≡ (if b then o else None)
 first_of_one true o = refl

@@ -15,15 +15,7 @@ use Rattle.pool_run.specs.Validity.{is_valid, is_valid_party, are_valid_after, m
 use Rattle.pool_run.specs.declared.input.Input.{Input}
 use Rattle.pool_run.specs.declared.input.Party.{Party}
 use Rattle.pool_run.specs.declared.reply.Reply.{Reply}
-use Rattle.pool_run.proofs.Asked.{none_leased, of_all}
-
-second : (a b : Bool) → (a && b) ≡ true → b ≡ true
-second true b is = is
-second false b is = absurd cc
-
-first : (a b : Bool) → (a && b) ≡ true → a ≡ true
-first true b is = refl
-first false b is = absurd cc
+use Rattle.pool_run.proofs.Asked.{first, second, none_leased, of_all}
 
 none_live : (n : ℕ) → live_count (replicate {A = Option Lease} n None) ≡ 0
 none_live zero = refl

@@ -1,5 +1,5 @@
 -- The commands of a party, one after another.
-use Rattle.std.proofs.Common.{◌≡◌, ◌≢◌, ℕ, zero, suc, ◌+◌, ◌<◌, List, [], ◌∷◌, ◌++◌, length, get_or, take, replicate, Option, Some, None, Bool, true, false, ◌&&◌, refl, sym, ap, ◌∙◌, subst, arith}
+use Rattle.std.proofs.Common.{◌≡◌, ◌≢◌, ℕ, zero, suc, ◌+◌, ◌<◌, List, [], ◌∷◌, ◌++◌, length, get_or, take, replicate, Option, Some, None, Bool, true, false, refl, sym, ap, ◌∙◌, subst, arith}
 use Rattle.std.specs.Prelude.{IfSome, nat_le, option_map, slice_set}
 use Rattle.std.specs.List.{list_all, slice_get}
 use Rattle.std.proofs.lemmas.Bool.{ltb-true}
@@ -16,7 +16,7 @@ use Rattle.pool_run.specs.declared.command.Command.TheVariants.{Instantiate, Rea
 use Rattle.pool_run.specs.declared.reply.Reply.{Reply}
 use Rattle.pool_run.specs.declared.reply.Reply.TheVariants.{Instance, Bytes, Done, Returned, Refused, Trap}
 use Rattle.pool_run.specs.Built.{is_built_module}
-use Rattle.pool_run.proofs.Asked.{is_asked}
+use Rattle.pool_run.proofs.Asked.{first, second, is_asked}
 use Rattle.pool_run.proofs.Grants.{grant_get}
 
 -- what fails of no command holds of a place inside
@@ -26,14 +26,6 @@ get_inside f (x ∷ xs) zero none is = omega arith
 get_inside f (x ∷ xs) (suc i) none is =
     let deeper : i < length xs = get_inside f xs i none is in
     omega (arith, deeper)
-
-second : (a b : Bool) → (a && b) ≡ true → b ≡ true
-second true b is = is
-second false b is = absurd cc
-
-first : (a b : Bool) → (a && b) ≡ true → a ≡ true
-first true b is = refl
-first false b is = absurd cc
 
 -- a valid command names what is there
 pub names_what_is : (modules : List ModuleInfo) (earlier : List Command) (command : Command) → is_valid_after modules earlier command ≡ true → NamesWhatIs (length modules) (length earlier) command
