@@ -84,6 +84,10 @@ impl MemoryAllocationIndex {
 }
 
 impl Default for MemoryAllocationIndex {
+    ghost use Rattle.std.specs.Prelude.{◌≡◌};
+
+    ghost is_default = { λ i. i.0 ≡ 4294967295 };
+
     /// The index of a memory that is in no slot.
     fn default() -> Self {
         MemoryAllocationIndex(u32::MAX)
