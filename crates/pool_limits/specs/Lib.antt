@@ -1,0 +1,4 @@
+pub mod Limits
+pub mod LimiterTold
+pub mod Stores
+pub mod Texts
