@@ -1,4 +1,4 @@
-pub mod Limits
+pub mod Growth
 pub mod LimiterTold
-pub mod Stores
+pub mod StoreLimits
 pub mod Texts

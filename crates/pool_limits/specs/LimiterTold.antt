@@ -4,7 +4,7 @@ use Rattle.std.specs.Borrow.{MutBor}
 use Rattle.std.proofs.Common.{inl, inr}
 use Rattle.pool_pages.specs.Told.{risen}
 use Rattle.pool_limits.specs.declared.errors.LimiterError.{LimiterError}
-use Rattle.pool_limits.specs.Limits.{GrowthRule, always}
+use Rattle.pool_limits.specs.Growth.{GrowthRule, always}
 
 -- how often a limiter has answered no, and how often with an error
 pub record LimiterCounts : Type 0 where

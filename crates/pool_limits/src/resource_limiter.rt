@@ -1,6 +1,6 @@
 ghost use Rattle.std.specs.Prelude.{◌≡◌, ℕ, IsOk};
 ghost use Rattle.std.specs.Option.{option_copied_mut};
-ghost use Rattle.pool_limits.specs.Limits.{memory_answer, table_answer, memory_failure, table_failure};
+ghost use Rattle.pool_limits.specs.Growth.{memory_answer, table_answer, memory_failure, table_failure};
 ghost use Rattle.pool_limits.specs.LimiterTold.{LimiterCounts, LimiterTold, counts_after, answered, reported, told_by_default, unlimited, limiter_told, option_left};
 
 use crate::errors::{GrowError, LimiterError};
@@ -20,8 +20,9 @@ pub const DEFAULT_MEMORY_LIMIT: usize = 10_000;
 /// raises `errors`, and each other call leaves both. A limiter may tell contracts by which rule it decides;
 /// its answers are those of the rule then.
 ///
-/// No function has a body here, since a body would be proved for every limiter, those among them by whose
-/// rule a failure is an error. A type that has only answers to growth to give implements `GrowthLimiter`.
+/// A type that has nothing to say but whether things may grow implements `GrowthLimiter`, which gives it
+/// defaults for the rest. They are no bodies of this trait, because a body is proved for all limiters at
+/// once: none that answers `Ok` fits those by whose rule a reported failure is an error.
 pub trait ResourceLimiter: Send {
     ghost told: { Self → LimiterTold };
 
@@ -76,8 +77,8 @@ pub trait ResourceLimiter: Send {
         ensures { result ≡ (told self.now).counts.errors };
 }
 
-/// A limiter that has only answers to growth to give. As a `ResourceLimiter` it has the defaults for the
-/// rest: it takes no notice of failures, and its host may make 10,000 of each thing.
+/// A limiter that says only whether memories and tables may grow. As a `ResourceLimiter` it has the defaults
+/// for the rest: it takes no notice of failures, and its host may make 10,000 of each thing.
 pub trait GrowthLimiter: Send {
     ghost counts: { Self → LimiterCounts };
 

@@ -1,7 +1,7 @@
 ghost use Rattle.std.specs.Prelude.{◌≡◌, Some};
-ghost use Rattle.pool_limits.specs.Limits.{is_within, growth_answer, failure_answer};
+ghost use Rattle.pool_limits.specs.Growth.{is_within, growth_answer, failure_answer};
 ghost use Rattle.pool_limits.specs.LimiterTold.{counts_after, counts_after_report};
-ghost use Rattle.pool_limits.specs.Stores.{default_limits, told_by_limits};
+ghost use Rattle.pool_limits.specs.StoreLimits.{default_limits, told_by_limits};
 
 use crate::errors::{GrowError, LimiterError};
 use crate::resource_limiter::{
@@ -24,7 +24,7 @@ pub struct StoreLimits {
 }
 
 impl Model for StoreLimits {
-    ghost use Rattle.pool_limits.specs.Stores.{Limits};
+    ghost use Rattle.pool_limits.specs.StoreLimits.{Limits};
 
     ghost Value = { Limits };
 
@@ -40,7 +40,7 @@ impl Model for StoreLimits {
 }
 
 impl Default for StoreLimits {
-    ghost use Rattle.pool_limits.specs.Stores.{IsDefault};
+    ghost use Rattle.pool_limits.specs.StoreLimits.{IsDefault};
 
     ghost is_default = { IsDefault };
 
@@ -158,7 +158,7 @@ pub struct StoreLimitsBuilder {
 }
 
 impl Model for StoreLimitsBuilder {
-    ghost use Rattle.pool_limits.specs.Stores.{Limits};
+    ghost use Rattle.pool_limits.specs.StoreLimits.{Limits};
 
     ghost Value = { Limits };
 

@@ -1,6 +1,6 @@
 -- The limits of a store.
 use Rattle.std.specs.Prelude.{◌≡◌, false, None, Some}
-use Rattle.pool_limits.specs.Limits.{GrowthLimits, limited_by}
+use Rattle.pool_limits.specs.Growth.{GrowthLimits, limited_by}
 use Rattle.pool_limits.specs.LimiterTold.{LimiterCounts, Quotas, LimiterTold, no_counts, default_quotas}
 
 -- fixed limits on growth, quotas, and how often growth was refused
