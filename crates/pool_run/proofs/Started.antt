@@ -11,7 +11,7 @@ use Rattle.pool_slots.specs.Pools.{PoolState, IsPool, IsLeaseOf, makes_listed}
 use Rattle.pool_run.specs.Built.{is_built, is_built_module}
 use Rattle.pool_run.specs.Private.{live_count, PrivateRun}
 use Rattle.pool_run.specs.Runs.{RunState, IsRunning, IsRun, PartiesRun, world_of, grants_of, metrics_of, calls_of_run, FaultsInMaking, making_listed, images_listed}
-use Rattle.pool_run.specs.Validity.{is_valid, is_valid_party, are_valid_after, most_commands}
+use Rattle.pool_run.specs.Validity.{is_valid, is_valid_party, are_valid_after, most_commands, most_modules}
 use Rattle.pool_run.specs.declared.input.Input.{Input}
 use Rattle.pool_run.specs.declared.input.Party.{Party}
 use Rattle.pool_run.specs.declared.reply.Reply.{Reply}
@@ -39,15 +39,21 @@ started maker pool n is_pool unused = record {
   memories = sym (none_live n);
 }
 
+built_rest : (input : Input) → is_built input ≡ true → (nat_le input.config.limits.total_memories 100 && (nat_le (length input.parties) 1 && list_all is_built_module input.modules)) ≡ true
+built_rest input built = second (input.config.limits.max_memory_size == 65536) (nat_le input.config.limits.total_memories 100 && (nat_le (length input.parties) 1 && list_all is_built_module input.modules)) built
+
+built_parts : (input : Input) → is_built input ≡ true → (nat_le (length input.parties) 1 && list_all is_built_module input.modules) ≡ true
+built_parts input built = second (nat_le input.config.limits.total_memories 100) (nat_le (length input.parties) 1 && list_all is_built_module input.modules) (built_rest input built)
+
 -- the modules of an input that can be run so far, and its size
 pub built_modules : (input : Input) → is_built input ≡ true → list_all is_built_module input.modules ≡ true
-built_modules input built = second (nat_le (length input.parties) 1) (list_all is_built_module input.modules) (second (input.config.limits.max_memory_size == 65536) (nat_le (length input.parties) 1 && list_all is_built_module input.modules) built)
+built_modules input built = second (nat_le (length input.parties) 1) (list_all is_built_module input.modules) (built_parts input built)
 
 pub built_size : (input : Input) → is_built input ≡ true → input.config.limits.max_memory_size ≡ 65536
-built_size input built = eqb-true input.config.limits.max_memory_size 65536 (first (input.config.limits.max_memory_size == 65536) (nat_le (length input.parties) 1 && list_all is_built_module input.modules) built)
+built_size input built = eqb-true input.config.limits.max_memory_size 65536 (first (input.config.limits.max_memory_size == 65536) (nat_le input.config.limits.total_memories 100 && (nat_le (length input.parties) 1 && list_all is_built_module input.modules)) built)
 
 few_parties : (input : Input) → is_built input ≡ true → length input.parties ≤ 1
-few_parties input built = leb-true (length input.parties) 1 (first (nat_le (length input.parties) 1) (list_all is_built_module input.modules) (second (input.config.limits.max_memory_size == 65536) (nat_le (length input.parties) 1 && list_all is_built_module input.modules) built))
+few_parties input built = leb-true (length input.parties) 1 (first (nat_le (length input.parties) 1) (list_all is_built_module input.modules) (built_parts input built))
 
 one_party : (parties : List Party) (p : Party) → length parties ≤ 1 → slice_get parties 0 ≡ Some p → parties ≡ p ∷ []
 one_party [] p few is = absurd cc
@@ -59,7 +65,7 @@ no_party [] is = refl
 no_party (x ∷ xs) is = absurd cc
 
 pub valid_commands : (input : Input) (p : Party) → is_valid input ≡ true → slice_get input.parties 0 ≡ Some p → are_valid_after input.modules [] p.commands ≡ true
-valid_commands input p valid is = second (nat_le (length p.commands) most_commands) (are_valid_after input.modules [] p.commands) (of_all (is_valid_party input.modules) input.parties 0 p valid is)
+valid_commands input p valid is = second (nat_le (length p.commands) most_commands) (are_valid_after input.modules [] p.commands) (of_all (is_valid_party input.modules) input.parties 0 p (second (nat_le (length input.modules) most_modules) (list_all (is_valid_party input.modules) input.parties) valid) is)
 
 -- the output of a run without a party
 pub run_of_none : (input : Input) (maker : MakerTold) (pool : PoolState) → IsPool maker pool → length pool.cells ≡ input.config.limits.total_memories → used_count pool.shard ≡ 0 → slice_get input.parties 0 ≡ None → IsRun input maker (record { replies = []; metrics = metrics_of (at_start pool 0); calls = calls_of_run (at_start pool 0) })

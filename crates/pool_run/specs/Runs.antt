@@ -13,6 +13,8 @@ use Rattle.pool_run.specs.Private.{Grant, Grants, World, live_count, PrivateRun}
 use Rattle.pool_run.specs.declared.input.Input.{Input}
 use Rattle.pool_run.specs.declared.input.Party.{Party}
 use Rattle.pool_run.specs.declared.metrics.Metrics.{Metrics}
+use Rattle.pool_run.specs.declared.output.RunFault.{RunFault}
+use Rattle.pool_run.specs.declared.output.RunFault.TheVariants.{BadConfig, PageFault, Memory}
 use Rattle.pool_run.specs.declared.output.RunOutput.{RunOutput}
 use Rattle.pool_run.specs.declared.reply.Reply.{Reply}
 use Rattle.pool_run.specs.declared.reply.Reply.TheVariants.{Instance, Bytes, Done, Returned, Refused, Trap}
@@ -106,6 +108,12 @@ pub record IsRun (input : Input) (maker : MakerTold) (output : RunOutput) : Type
   pub parties : PartiesRun (world_of input maker) input.parties output.replies (grants_of state)
   pub metrics : output.metrics ≡ metrics_of state
   pub calls : output.calls ≡ calls_of_run state
+
+-- a limit of the settings is broken
+abbrev pub is_bad_config : RunFault → Bool
+is_bad_config (BadConfig e) = true
+is_bad_config PageFault = false
+is_bad_config Memory = false
 
 -- each making of an image of a module, of which the first has this number, is listed as one that fails
 abbrev pub images_listed : ℕ → List Planned → List ModuleInfo → Bool

@@ -1,13 +1,15 @@
-ghost use Rattle.std.specs.Prelude.{◌≡◌, ◌<◌, [], ◌∷◌, Err, None, length, replicate, true, IfOk, IfSome, OnOk, option_map};
+ghost use Rattle.std.specs.Prelude.{◌≡◌, ◌↔◌, ◌<◌, [], ◌∷◌, Err, None, Some, length, replicate, true, false, IfOk, IfErr, IfSome, OnOk, option_map};
 ghost use Rattle.std.specs.List.{list_all, slice_get};
+ghost use Rattle.pool_pages.specs.ConfigLimits.{first_broken_limit};
 ghost use Rattle.pool_pages.specs.MakerTold.{MakerTold};
 ghost use Rattle.pool_pages.specs.Told.{Rose};
+ghost use Rattle.pool_pages.specs.declared.bad_config.BadConfig.{BadConfig};
 ghost use Rattle.pool_index.specs.Shard.{used_count};
 ghost use Rattle.pool_slots.specs.Pools.{IsPool, makes_listed};
 ghost use Rattle.pool_run.specs.Built.{is_built, is_built_module};
 ghost use Rattle.pool_run.specs.Made.{images_made};
 ghost use Rattle.pool_run.specs.Private.{World, PrivateStep, PrivateRun};
-ghost use Rattle.pool_run.specs.Runs.{IsRunning, IsRun, KeepsSize, FaultsInMaking, lease_at, grants_of, metrics_of, calls_of_run};
+ghost use Rattle.pool_run.specs.Runs.{IsRunning, IsRun, KeepsSize, FaultsInMaking, is_bad_config, lease_at, grants_of, metrics_of, calls_of_run};
 ghost use Rattle.pool_run.specs.Turns.{NamesWhatIs};
 ghost use Rattle.pool_run.specs.Validity.{is_valid, are_valid_after};
 
@@ -169,7 +171,8 @@ fn output_of<P: Pages>(run: &Run<P>, replies: PlainList<ReplyList>) -> RunOutput
     }
 }
 
-// Makes a pool and images of a maker that is as told, and carries out the commands over them.
+// Makes a pool and images of a maker that is as told, and carries out the commands over them. No limit of the settings
+// is broken.
 fn run_over<P: Pages, M: PageMaker<Region = P>>(
     alloc: Global,
     input: &Input,
@@ -179,8 +182,10 @@ fn run_over<P: Pages, M: PageMaker<Region = P>>(
     requires told { M.told pages.old ≡ maker }
     requires built { is_built input.now ≡ true }
     requires valid { is_valid input.now ≡ true }
+    requires limits { first_broken_limit input.now.config ≡ None }
     ensures ok { IfOk result (IsRun input.now maker) }
     ensures fault { result ≡ Err RunFault.PageFault → FaultsInMaking input.now maker (M.told pages.new) }
+    ensures settings { IfErr result (λ fault. is_bad_config fault ≡ false) }
 {
     let pool = match make_pool(alloc, input, pages) {
         Ok(pool) => pool,
@@ -210,6 +215,7 @@ fn make_pool<P: Pages, M: PageMaker<Region = P>>(
     ensures unused { IfOk result (λ pool. used_count pool.shard ≡ 0) }
     ensures same { OnOk result (M.told pages.new ≡ M.told pages.old) }
     ensures fault { result ≡ Err RunFault.PageFault → Rose (M.told pages.old).faults (M.told pages.new).faults × IfSome (M.told pages.old).plan (λ plan. makes_listed plan input.now.config.limits.total_memories ≡ true) }
+    ensures settings { IfErr result (λ fault. is_bad_config fault ≡ false) }
 {
     let limits = &input.config.limits;
     let warm = input.config.max_unused_warm_slots;
@@ -227,8 +233,8 @@ fn make_pool<P: Pages, M: PageMaker<Region = P>>(
 }
 
 /// Makes a pool of the input's settings and the images of its modules, and carries out the parties' commands over
-/// them. The replies are in the order of the parties and of their commands. Nothing is run where a region or an image
-/// can't be made.
+/// them. The replies are in the order of the parties and of their commands. Nothing is run where a limit of the settings
+/// is broken, which is tested first, or where a region or an image can't be made.
 pub fn run_schedule<P: Pages, M: PageMaker<Region = P>>(
     alloc: Global,
     input: &Input,
@@ -237,7 +243,11 @@ pub fn run_schedule<P: Pages, M: PageMaker<Region = P>>(
     requires built { is_built input.now ≡ true }
     requires valid { is_valid input.now ≡ true }
     ensures ok { IfOk result (λ output. IsRun input.now (M.told pages.old) output) }
+    ensures bad_config { (e : BadConfig) → (result ≡ Err (RunFault.BadConfig e)) ↔ (first_broken_limit input.now.config ≡ Some e) }
     ensures fault { result ≡ Err RunFault.PageFault → FaultsInMaking input.now (M.told pages.old) (M.told pages.new) }
 {
-    run_over(alloc, input, pages)
+    match input.config.check_limits() {
+        Ok(()) => run_over(alloc, input, pages),
+        Err(error) => Err(RunFault::BadConfig(error)),
+    }
 }
