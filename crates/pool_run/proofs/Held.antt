@@ -217,7 +217,7 @@ gone_back maker old new live rest gone items held returns same count slots =
       slots = subst P (sym returns.same.1) slots_rest;
       distinct = distinct_left rest gone held.distinct;
       not_queued = λ i. left_unheld rest gone (slice_index_or live i None) (held.not_queued i);
-      used = omega (arith, returns.used maker held.pool, held.used, count, length-append rest gone);
+      used = omega (arith, returns.used maker held.pool slots, held.used, count, length-append rest gone);
     }
 
 -- a live lease is one of the pool's
