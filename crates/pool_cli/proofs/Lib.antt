@@ -1,3 +1,4 @@
+mod Endings
 mod Items
 mod Lists
 mod Members

@@ -94,18 +94,21 @@ party_form value = do
   commands ← optional [] (list_of command_form) (get (codes "commands") fields)
   Some (record { commands = commands })
 
--- the default settings, but for the number of memories, which is at most 100
+-- the default settings, but for the number of memories, which is at most 100, how many ranges are decommitted together,
+-- and how many bytes of a memory a reset keeps resident
 unfoldable pub config_form : Data → Option PoolingAllocationConfig
 config_form value = do
-  fields ← only (codes "total_memories" ∷ []) value
+  fields ← only (codes "total_memories" ∷ codes "decommit_batch_size" ∷ codes "linear_memory_keep_resident" ∷ []) value
   total ← optional 10 whole_number (get (codes "total_memories") fields)
-  given (nat_le total 100) (record default_config { limits = record default_limits { total_memories = total } })
+  batch ← optional 1 whole_number (get (codes "decommit_batch_size") fields)
+  resident ← optional 0 whole_number (get (codes "linear_memory_keep_resident") fields)
+  given (nat_le total 100) (record default_config { limits = record default_limits { total_memories = total }; decommit_batch_size = batch; linear_memory_keep_resident = resident })
 
--- at most one module and at most one party
+-- at most one party
 unfoldable pub input_form : Data → Option Input
 input_form value = do
   fields ← only (codes "config" ∷ codes "modules" ∷ codes "parties" ∷ []) value
   config ← optional default_config config_form (get (codes "config") fields)
   modules ← optional [] (list_of module_form) (get (codes "modules") fields)
   parties ← optional [] (list_of party_form) (get (codes "parties") fields)
-  given (nat_le (length modules) 1 && nat_le (length parties) 1) (record { config = config; modules = modules; parties = parties })
+  given (nat_le (length parties) 1) (record { config = config; modules = modules; parties = parties })

@@ -2,24 +2,39 @@
 use Rattle.std.specs.Prelude.{◌≡◌, ℕ, List, ◌⊎◌, Result, Ok, Err, String, string_bytes}
 use Rattle.std.specs.declared.alloc.Global.{Global}
 use Rattle.pool_pages.specs.MakerTold.{MakerTold}
+use Rattle.pool_pages.specs.declared.bad_config.BadConfig.{BadConfig}
 use Rattle.pool_run.specs.declared.input.Input.{Input}
 use Rattle.pool_cli.specs.Reading.{accepted}
 use Rattle.pool_cli.specs.Streams.{SourceTold, SinkTold, Wrote, WrotePart}
+use Rattle.pool_cli.specs.Lines.{config_line}
 use Rattle.pool_cli.specs.Statuses.{HasRead, HasRun, Fails}
+use Rattle.pool_cli.specs.declared.failure.Failure.{Failure}
+use Rattle.pool_cli.specs.declared.failure.Failure.TheVariants.{BadUsage, BadInput, BadConfig as BadSettings, PageFault, ReadFault, NoMemory, TooLong, NotBuilt}
 use Rattle.pool_cli.specs.declared.status.Status.{Status}
 use Rattle.pool_cli.specs.declared.status.Status.TheVariants.{WriteFault}
 use Rattle.pool_cli.specs.declared.words.Task.{Task}
 use Rattle.pool_cli.specs.declared.words.Task.TheVariants.{Run}
 
 -- an input was read, or the program fails whatever its maker does
-abbrev pub ReadsInput : SourceTold → SourceTold → Result Input Status → Type 0
+abbrev pub ReadsInput : SourceTold → SourceTold → Result Input Failure → Type 0
 ReadsInput source_old source_new (Ok input) = HasRead (accepted input) source_old source_new
-ReadsInput source_old source_new (Err status) = (maker_old maker_new : MakerTold) → Fails Run status source_old source_new maker_old maker_new
+ReadsInput source_old source_new (Err failure) = (maker_old maker_new : MakerTold) → Fails Run failure source_old source_new maker_old maker_new
+
+-- settings are refused with this error, unless memory ran out
+abbrev pub Refuses : BadConfig → Failure → Type 0
+Refuses error BadUsage = ⊥
+Refuses error BadInput = ⊥
+Refuses error (BadSettings line) = string_bytes line ≡ config_line error
+Refuses error PageFault = ⊥
+Refuses error ReadFault = ⊥
+Refuses error NoMemory = Unit {0}
+Refuses error TooLong = ⊥
+Refuses error NotBuilt = ⊥
 
 -- the text of the output, or why there is none
-abbrev pub Prepares : Task → SourceTold → SourceTold → MakerTold → MakerTold → Result (String Global) Status → Type 0
+abbrev pub Prepares : Task → SourceTold → SourceTold → MakerTold → MakerTold → Result (String Global) Failure → Type 0
 Prepares task source_old source_new maker_old maker_new (Ok text) = (task ≡ Run) × HasRun (string_bytes text) source_old source_new maker_old
-Prepares task source_old source_new maker_old maker_new (Err status) = Fails task status source_old source_new maker_old maker_new
+Prepares task source_old source_new maker_old maker_new (Err failure) = Fails task failure source_old source_new maker_old maker_new
 
 -- the text was written and the status stays, or a write failed
 abbrev pub Finishes : Status → List ℕ → SinkTold → SinkTold → Status → Type 0

@@ -1,16 +1,20 @@
 -- Why the program ends with a status, and what it wrote.
-use Rattle.std.specs.Prelude.{◌≡◌, ℕ, ◌≤◌, ◌<◌, List, length, ◌⊎◌}
+use Rattle.std.specs.Prelude.{◌≡◌, ℕ, ◌≤◌, ◌<◌, List, length, ◌⊎◌, Option, Some, None, string_bytes}
+use Rattle.pool_pages.specs.ConfigLimits.{first_broken_limit}
+use Rattle.pool_pages.specs.declared.bad_config.BadConfig.{BadConfig}
 use Rattle.pool_pages.specs.MakerTold.{MakerTold}
 use Rattle.pool_pages.specs.Told.{Rose}
 use Rattle.pool_run.specs.Runs.{IsRun, FaultsInMaking}
 use Rattle.pool_run.specs.declared.input.Input.{Input}
 use Rattle.pool_run.specs.declared.output.RunOutput.{RunOutput}
-use Rattle.pool_cli.specs.Lines.{line_of}
+use Rattle.pool_cli.specs.Lines.{config_line, line_of}
 use Rattle.pool_cli.specs.Output.{output_text}
 use Rattle.pool_cli.specs.Reading.{Reading, not_built, invalid, accepted, reading}
 use Rattle.pool_cli.specs.Streams.{SourceTold, SinkTold, ReadWhole, ReadTooMuch, Wrote, WrotePart, most_input}
+use Rattle.pool_cli.specs.declared.failure.Failure.{Failure}
+use Rattle.pool_cli.specs.declared.failure.Failure.TheVariants as failure
 use Rattle.pool_cli.specs.declared.status.Status.{Status}
-use Rattle.pool_cli.specs.declared.status.Status.TheVariants.{Ok as Success, BadUsage, BadInput, BadConfig, PageFault, ReadFault, WriteFault, NoMemory, TooLong, NotBuilt}
+use Rattle.pool_cli.specs.declared.status.Status.TheVariants.{Ok as Success, BadUsage, BadInput, BadConfig as BadSettings, PageFault, ReadFault, WriteFault, NoMemory, TooLong, NotBuilt}
 use Rattle.pool_cli.specs.declared.words.Task.{Task}
 use Rattle.pool_cli.specs.declared.words.Task.TheVariants.{Run, Later, Unknown}
 
@@ -20,20 +24,29 @@ pub record HasRead (is : Reading) (source_old source_new : SourceTold) : Type 0 
   pub whole : ReadWhole bytes source_old source_new
   pub reads : reading bytes ≡ is
 
--- The source was read to its end, the bytes read are an input that can be run, and the text is that of the output of
--- a run of it.
+-- The source was read to its end, the bytes read are an input that can be run, no limit of its settings is broken, and
+-- the text is that of the output of a run of it.
 pub record HasRun (text : List ℕ) (source_old source_new : SourceTold) (maker_old : MakerTold) : Type 0 where
   pub input : Input
   pub output : RunOutput
   pub read : HasRead (accepted input) source_old source_new
+  pub limits : first_broken_limit input.config ≡ None
   pub run : IsRun input maker_old output
   pub text_is : text ≡ output_text output
 
--- The source was read to its end, the bytes read are an input that can be run, and a making or a call failed as its
--- pool was made.
+-- The source was read to its end, and the bytes read are an input that can be run but for its settings: this is the
+-- first of their limits that is broken.
+pub record HasBadConfig (error : BadConfig) (source_old source_new : SourceTold) : Type 0 where
+  pub input : Input
+  pub read : HasRead (accepted input) source_old source_new
+  pub broken : first_broken_limit input.config ≡ Some error
+
+-- The source was read to its end, the bytes read are an input that can be run, no limit of its settings is broken, and
+-- a making or a call failed as its pool was made.
 pub record HasNoPool (source_old source_new : SourceTold) (maker_old maker_new : MakerTold) : Type 0 where
   pub input : Input
   pub read : HasRead (accepted input) source_old source_new
+  pub limits : first_broken_limit input.config ≡ None
   pub making : FaultsInMaking input maker_old maker_new
 
 -- nothing was read
@@ -46,23 +59,21 @@ abbrev pub AsksForMore : Task → SourceTold → SourceTold → Type 0
 AsksForMore task source_old source_new = ((task ≡ Later) × Unread source_old source_new) ⊎ ((task ≡ Run) × HasRead not_built source_old source_new)
 
 -- why there is no output
-abbrev pub Fails : Task → Status → SourceTold → SourceTold → MakerTold → MakerTold → Type 0
-Fails task Success source_old source_new maker_old maker_new = ⊥
-Fails task BadUsage source_old source_new maker_old maker_new = (task ≡ Unknown) × Unread source_old source_new
-Fails task BadInput source_old source_new maker_old maker_new = (task ≡ Run) × HasRead invalid source_old source_new
-Fails task BadConfig source_old source_new maker_old maker_new = ⊥
-Fails task PageFault source_old source_new maker_old maker_new = (task ≡ Run) × HasNoPool source_old source_new maker_old maker_new
-Fails task ReadFault source_old source_new maker_old maker_new = (task ≡ Run) × Rose source_old.faults source_new.faults
-Fails task WriteFault source_old source_new maker_old maker_new = ⊥
-Fails task NoMemory source_old source_new maker_old maker_new = task ≡ Run
-Fails task TooLong source_old source_new maker_old maker_new = (task ≡ Run) × ReadTooMuch source_old source_new
-Fails task NotBuilt source_old source_new maker_old maker_new = AsksForMore task source_old source_new
+abbrev pub Fails : Task → Failure → SourceTold → SourceTold → MakerTold → MakerTold → Type 0
+Fails task failure.BadUsage source_old source_new maker_old maker_new = (task ≡ Unknown) × Unread source_old source_new
+Fails task failure.BadInput source_old source_new maker_old maker_new = (task ≡ Run) × HasRead invalid source_old source_new
+Fails task (failure.BadConfig line) source_old source_new maker_old maker_new = (task ≡ Run) × ((error : BadConfig) × HasBadConfig error source_old source_new × (string_bytes line ≡ config_line error))
+Fails task failure.PageFault source_old source_new maker_old maker_new = (task ≡ Run) × HasNoPool source_old source_new maker_old maker_new
+Fails task failure.ReadFault source_old source_new maker_old maker_new = (task ≡ Run) × Rose source_old.faults source_new.faults
+Fails task failure.NoMemory source_old source_new maker_old maker_new = task ≡ Run
+Fails task failure.TooLong source_old source_new maker_old maker_new = (task ≡ Run) × ReadTooMuch source_old source_new
+Fails task failure.NotBuilt source_old source_new maker_old maker_new = AsksForMore task source_old source_new
 
--- what is to be written, and why: the text of an output, or the line of another status
+-- what is to be written, and why: the text of an output, or the line of a failure
 abbrev pub IsToWrite : Task → List ℕ → SourceTold → SourceTold → MakerTold → MakerTold → Type 0
 IsToWrite task text source_old source_new maker_old maker_new =
     ((task ≡ Run) × HasRun text source_old source_new maker_old)
-    ⊎ ((status : Status) × Fails task status source_old source_new maker_old maker_new × (text ≡ line_of status))
+    ⊎ ((cause : Failure) × Fails task cause source_old source_new maker_old maker_new × (text ≡ line_of cause))
 
 -- the output of a run was written, all of it
 pub record WroteOutput (task : Task) (source_old source_new : SourceTold) (sink_old sink_new : SinkTold) (maker_old : MakerTold) : Type 0 where
@@ -70,6 +81,18 @@ pub record WroteOutput (task : Task) (source_old source_new : SourceTold) (sink_
   pub text : List ℕ
   pub run : HasRun text source_old source_new maker_old
   pub wrote : Wrote text sink_old sink_new
+
+-- the settings are refused, and the line that says why was written, all of it
+pub record WroteBadConfig (task : Task) (source_old source_new : SourceTold) (sink_old sink_new : SinkTold) : Type 0 where
+  pub asked : task ≡ Run
+  pub error : BadConfig
+  pub refused : HasBadConfig error source_old source_new
+  pub wrote : Wrote (config_line error) sink_old sink_new
+
+-- there is no output for this cause, and its line was written, all of it
+abbrev pub WroteLine : Task → Failure → SourceTold → SourceTold → SinkTold → SinkTold → MakerTold → MakerTold → Type 0
+WroteLine task cause source_old source_new sink_old sink_new maker_old maker_new =
+    Fails task cause source_old source_new maker_old maker_new × Wrote (line_of cause) sink_old sink_new
 
 -- a write failed, after a part of what was to be written
 pub record WroteLess (task : Task) (source_old source_new : SourceTold) (sink_old sink_new : SinkTold) (maker_old maker_new : MakerTold) : Type 0 where
@@ -81,18 +104,29 @@ pub record WroteLess (task : Task) (source_old source_new : SourceTold) (sink_ol
 abbrev pub Ends : Task → Status → SourceTold → SourceTold → SinkTold → SinkTold → MakerTold → MakerTold → Type 0
 Ends task Success source_old source_new sink_old sink_new maker_old maker_new = WroteOutput task source_old source_new sink_old sink_new maker_old
 Ends task WriteFault source_old source_new sink_old sink_new maker_old maker_new = WroteLess task source_old source_new sink_old sink_new maker_old maker_new
-Ends task status source_old source_new sink_old sink_new maker_old maker_new =
-    Fails task status source_old source_new maker_old maker_new × Wrote (line_of status) sink_old sink_new
+Ends task BadSettings source_old source_new sink_old sink_new maker_old maker_new = WroteBadConfig task source_old source_new sink_old sink_new
+Ends task BadUsage source_old source_new sink_old sink_new maker_old maker_new = WroteLine task failure.BadUsage source_old source_new sink_old sink_new maker_old maker_new
+Ends task BadInput source_old source_new sink_old sink_new maker_old maker_new = WroteLine task failure.BadInput source_old source_new sink_old sink_new maker_old maker_new
+Ends task PageFault source_old source_new sink_old sink_new maker_old maker_new = WroteLine task failure.PageFault source_old source_new sink_old sink_new maker_old maker_new
+Ends task ReadFault source_old source_new sink_old sink_new maker_old maker_new = WroteLine task failure.ReadFault source_old source_new sink_old sink_new maker_old maker_new
+Ends task NoMemory source_old source_new sink_old sink_new maker_old maker_new = WroteLine task failure.NoMemory source_old source_new sink_old sink_new maker_old maker_new
+Ends task TooLong source_old source_new sink_old sink_new maker_old maker_new = WroteLine task failure.TooLong source_old source_new sink_old sink_new maker_old maker_new
+Ends task NotBuilt source_old source_new sink_old sink_new maker_old maker_new = WroteLine task failure.NotBuilt source_old source_new sink_old sink_new maker_old maker_new
 
 -- a fault of the source, of the sink or of a making, or want of memory, stands in the way
 abbrev pub IsHindrance : Status → Type 0
 IsHindrance status = (status ≡ ReadFault) ⊎ (status ≡ WriteFault) ⊎ (status ≡ PageFault) ⊎ (status ≡ NoMemory)
 
+-- the status of an input whose settings are so, where nothing stands in the way
+abbrev pub status_of_limits : Option BadConfig → Status
+status_of_limits None = Success
+status_of_limits (Some error) = BadSettings
+
 -- the status of an input that is read so, where nothing stands in the way
 abbrev pub status_of : Reading → Status
 status_of not_built = NotBuilt
 status_of invalid = BadInput
-status_of (accepted input) = Success
+status_of (accepted input) = status_of_limits (first_broken_limit input.config)
 
 -- the status is the one that the bytes lead to, or a hindrance
 pub record FollowsBytes (status : Status) (bytes : List ℕ) : Type 0 where

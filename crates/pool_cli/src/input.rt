@@ -29,15 +29,26 @@ impl FromJson for Party {
 fn config_of(value: &Value) -> Option<PoolingAllocationConfig>
     ensures { result ≡ config_form (view value.now) }
 {
-    if !has_only(value, &["total_memories"]) {
+    if !has_only(
+        value,
+        &[
+            "total_memories",
+            "decommit_batch_size",
+            "linear_memory_keep_resident",
+        ],
+    ) {
         return None;
     }
     let total = number_or(10, value.get("total_memories"))?;
+    let batch = number_or(1, value.get("decommit_batch_size"))?;
+    let resident = number_or(0, value.get("linear_memory_keep_resident"))?;
     if total > 100 {
         return None;
     }
     let mut config = PoolingAllocationConfig::default();
     config.limits.total_memories = total as u32;
+    config.decommit_batch_size = batch as usize;
+    config.linear_memory_keep_resident = resident as usize;
     Some(config)
 }
 
@@ -62,7 +73,7 @@ impl FromJson for Input {
         let config = config(value.get("config")).ok_or(FormFault::OtherForm)?;
         let modules = list_or_empty(alloc, value.get("modules"))?;
         let parties = list_or_empty(alloc, value.get("parties"))?;
-        if modules.len() <= 1 && parties.len() <= 1 {
+        if parties.len() <= 1 {
             Ok(Input {
                 config,
                 modules,

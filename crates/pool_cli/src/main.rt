@@ -2,6 +2,7 @@
 #![tactic(auto)]
 
 mod commands;
+mod failure;
 mod fields;
 mod form_fault;
 mod from_json;

@@ -1,37 +1,50 @@
-ghost use Rattle.std.specs.Prelude.{◌≡◌, true, IfOk};
+ghost use Rattle.std.specs.Prelude.{◌≡◌, true, IfOk, MatchResult, string_bytes};
+ghost use Rattle.pool_pages.specs.declared.bad_config.BadConfig.{BadConfig};
 ghost use Rattle.pool_run.specs.Built.{is_built};
 ghost use Rattle.pool_run.specs.Validity.{is_valid};
-ghost use Rattle.pool_cli.specs.Preparing.{ReadsInput, Prepares, Finishes};
+ghost use Rattle.pool_cli.specs.Lines.{config_line};
+ghost use Rattle.pool_cli.specs.Preparing.{ReadsInput, Prepares, Finishes, Refuses};
 ghost use Rattle.pool_cli.specs.Words.{task_of};
 ghost use Rattle.pool_cli.specs.declared.words.Task.TheVariants.{Run};
 
+use crate::failure::{Failure, config_line};
 use crate::json_input::{InputFault, read_input};
 use crate::print::output_text;
 use crate::status::Status;
 use crate::streams::{Sink, Source};
 use crate::transfers::{ReadFault, read_all, write_all};
 use crate::words::{Task, task_of};
-use pool_pages::PageMaker;
+use pool_pages::{BadConfig, PageMaker};
 use pool_run::{Input, RunFault, run_schedule};
 use std::alloc::Global;
 
 /// Reads the input.
-fn input_from<S: Source>(alloc: Global, source: &mut S) -> Result<Input, Status>
+fn input_from<S: Source>(alloc: Global, source: &mut S) -> Result<Input, Failure>
     ensures reads { ReadsInput (S.told source.old) (S.told source.new) result }
     ensures built { IfOk result (λ input. is_built input ≡ true) }
     ensures valid { IfOk result (λ input. is_valid input ≡ true) }
 {
     let bytes = match read_all(alloc, source) {
         Ok(bytes) => bytes,
-        Err(ReadFault::Failed) => return Err(Status::ReadFault),
-        Err(ReadFault::TooLong) => return Err(Status::TooLong),
-        Err(ReadFault::Memory) => return Err(Status::NoMemory),
+        Err(ReadFault::Failed) => return Err(Failure::ReadFault),
+        Err(ReadFault::TooLong) => return Err(Failure::TooLong),
+        Err(ReadFault::Memory) => return Err(Failure::NoMemory),
     };
     match read_input(alloc, bytes.as_slice()) {
         Ok(input) => Ok(input),
-        Err(InputFault::NotBuilt) => Err(Status::NotBuilt),
-        Err(InputFault::Invalid) => Err(Status::BadInput),
-        Err(InputFault::Memory) => Err(Status::NoMemory),
+        Err(InputFault::NotBuilt) => Err(Failure::NotBuilt),
+        Err(InputFault::Invalid) => Err(Failure::BadInput),
+        Err(InputFault::Memory) => Err(Failure::NoMemory),
+    }
+}
+
+/// The failure of settings that are refused, with its line.
+fn refused(alloc: Global, error: BadConfig) -> Failure
+    ensures { Refuses error result }
+{
+    match config_line(alloc, error) {
+        Ok(line) => Failure::BadConfig(line),
+        Err(_) => Failure::NoMemory,
     }
 }
 
@@ -40,18 +53,19 @@ fn run<S: Source, M: PageMaker>(
     alloc: Global,
     source: &mut S,
     pages: &mut M,
-) -> Result<String, Status>
+) -> Result<String, Failure>
     ensures { Prepares Run (S.told source.old) (S.told source.new) (M.told pages.old) (M.told pages.new) result }
 {
     let input = input_from(alloc, source)?;
     let output = match run_schedule(alloc, &input, pages) {
         Ok(output) => output,
-        Err(RunFault::PageFault) => return Err(Status::PageFault),
-        Err(RunFault::Memory) => return Err(Status::NoMemory),
+        Err(RunFault::BadConfig(error)) => return Err(refused(alloc, error)),
+        Err(RunFault::PageFault) => return Err(Failure::PageFault),
+        Err(RunFault::Memory) => return Err(Failure::NoMemory),
     };
     match output_text(alloc, &output) {
         Ok(text) => Ok(text),
-        Err(_) => Err(Status::NoMemory),
+        Err(_) => Err(Failure::NoMemory),
     }
 }
 
@@ -61,13 +75,13 @@ pub fn prepare<S: Source, M: PageMaker>(
     words: &[String],
     source: &mut S,
     pages: &mut M,
-) -> Result<String, Status>
+) -> Result<String, Failure>
     ensures { Prepares (task_of words.now) (S.told source.old) (S.told source.new) (M.told pages.old) (M.told pages.new) result }
 {
     match task_of(words) {
         Task::Run => run(alloc, source, pages),
-        Task::Later => Err(Status::NotBuilt),
-        Task::Unknown => Err(Status::BadUsage),
+        Task::Later => Err(Failure::NotBuilt),
+        Task::Unknown => Err(Failure::BadUsage),
     }
 }
 

@@ -1,6 +1,3 @@
-ghost use Rattle.std.specs.Prelude.{◌≡◌};
-ghost use Rattle.pool_cli.specs.Lines.{line_of};
-
 /// How the program ended.
 #[derive(Clone, Copy, Debug, PartialEq, Eq)]
 pub enum Status {
@@ -20,21 +17,4 @@ pub enum Status {
     TooLong = 9,
     /// The words or the input ask for what is not built yet.
     NotBuilt = 10,
-}
-
-impl Status {
-    /// What is written where there is no output.
-    pub fn line(self) -> &'static str
-        ensures { result.now ≡ line_of self }
-    {
-        match self {
-            Status::Ok | Status::ReadFault | Status::WriteFault | Status::NoMemory => "",
-            Status::BadUsage => "error BadUsage: run, run on-demand, threads, shared or load N\n",
-            Status::BadInput => "error BadInput\n",
-            Status::BadConfig => "error BadConfig\n",
-            Status::PageFault => "error PageFault\n",
-            Status::TooLong => "error TooLong\n",
-            Status::NotBuilt => "error NotBuilt\n",
-        }
-    }
 }

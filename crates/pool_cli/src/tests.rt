@@ -174,6 +174,46 @@ const FIRST_OUTPUT: &str = "0.0: granted memories 0 tables -\n\
 metrics core=1 component=0 memories=1 tables=0 stacks=0 heaps=0 warm_memories=0 memory_resident=0 warm_tables=0 table_resident=0 warm_stacks=0 stack_resident=none\n\
 pages expose=1 hide=0 map_image=1 remap_zeros=0 erase=0 recolour=0 decommit=1\n";
 
+const BATCH: &str =
+    "{\"config\":{\"total_memories\":2,\"decommit_batch_size\":3},\"modules\":[{\"memories\":[{\"min\":1}]}],\"parties\":[{\"commands\":[{\"do\":\"instantiate\",\"module\":0},{\"do\":\"instantiate\",\"module\":0},{\"do\":\"drop\",\"of\":0},{\"do\":\"drop\",\"of\":1},{\"do\":\"instantiate\",\"module\":0},{\"do\":\"instantiate\",\"module\":0}]}]}";
+
+const BATCH_OUTPUT: &str = "0.0: granted memories 0 tables -\n\
+0.1: granted memories 1 tables -\n\
+0.2: returned\n\
+0.3: returned\n\
+0.4: granted memories 1 tables -\n\
+0.5: granted memories 0 tables -\n\
+metrics core=2 component=0 memories=2 tables=0 stacks=0 heaps=0 warm_memories=0 memory_resident=0 warm_tables=0 table_resident=0 warm_stacks=0 stack_resident=none\n\
+pages expose=2 hide=0 map_image=0 remap_zeros=0 erase=0 recolour=0 decommit=2\n";
+
+const OTHER_MODULE: &str =
+    "{\"config\":{\"total_memories\":1},\"modules\":[{\"memories\":[{\"min\":1,\"image\":{\"offset\":0,\"hex\":\"696e6974\"}}]},{\"memories\":[{\"min\":1}]}],\"parties\":[{\"commands\":[{\"do\":\"instantiate\",\"module\":0},{\"do\":\"drop\",\"of\":0},{\"do\":\"instantiate\",\"module\":1},{\"do\":\"read\",\"of\":2,\"at\":0,\"len\":8}]}]}";
+
+const OTHER_MODULE_OUTPUT: &str = "0.0: granted memories 0 tables -\n\
+0.1: returned\n\
+0.2: granted memories 0 tables -\n\
+0.3: bytes 0000000000000000\n\
+metrics core=1 component=0 memories=1 tables=0 stacks=0 heaps=0 warm_memories=0 memory_resident=0 warm_tables=0 table_resident=0 warm_stacks=0 stack_resident=none\n\
+pages expose=1 hide=0 map_image=1 remap_zeros=1 erase=0 recolour=0 decommit=1\n";
+
+const RESIDENT: &str =
+    "{\"config\":{\"total_memories\":1,\"linear_memory_keep_resident\":4096},\"modules\":[{\"memories\":[{\"min\":1}]}],\"parties\":[{\"commands\":[{\"do\":\"instantiate\",\"module\":0},{\"do\":\"drop\",\"of\":0}]}]}";
+
+const RESIDENT_OUTPUT: &str = "0.0: granted memories 0 tables -\n\
+0.1: returned\n\
+metrics core=0 component=0 memories=0 tables=0 stacks=0 heaps=0 warm_memories=1 memory_resident=4096 warm_tables=0 table_resident=0 warm_stacks=0 stack_resident=none\n\
+pages expose=1 hide=0 map_image=0 remap_zeros=0 erase=0 recolour=0 decommit=1\n";
+
+const NO_BATCH: &str = "{\"config\":{\"decommit_batch_size\":0}}";
+
+const NO_BATCH_LINE: &str =
+    "error BadConfig: decommit batch size 0 is not from 1 to 4096\n";
+
+const TOO_RESIDENT: &str = "{\"config\":{\"linear_memory_keep_resident\":4294967297}}";
+
+const TOO_RESIDENT_LINE: &str =
+    "error BadConfig: linear_memory_keep_resident of 4294967297 exceeds 4294967296\n";
+
 const NO_RUN_OUTPUT: &str =
     "metrics core=0 component=0 memories=0 tables=0 stacks=0 heaps=0 warm_memories=0 memory_resident=0 warm_tables=0 table_resident=0 warm_stacks=0 stack_resident=none\n\
 pages expose=0 hide=0 map_image=0 remap_zeros=0 erase=0 recolour=0 decommit=0\n";
@@ -184,6 +224,12 @@ fn runs(rt: HostRuntime) -> Result<(), Fail> {
         (FIRST, 0, Status::Ok, FIRST_OUTPUT),
         (FIRST, 2, Status::WriteFault, "0.0: grant"),
         ("{}", 0, Status::Ok, NO_RUN_OUTPUT),
+        (BATCH, 0, Status::Ok, BATCH_OUTPUT),
+        (OTHER_MODULE, 0, Status::Ok, OTHER_MODULE_OUTPUT),
+        (RESIDENT, 0, Status::Ok, RESIDENT_OUTPUT),
+        (NO_BATCH, 0, Status::BadConfig, NO_BATCH_LINE),
+        (NO_BATCH, 2, Status::WriteFault, "error BadC"),
+        (TOO_RESIDENT, 0, Status::BadConfig, TOO_RESIDENT_LINE),
     ] {
         let (ends, sink) = ended(rt.alloc(), "run", input, 0, write)?;
         assert_eq!(rt; ends, status, "at {input}");

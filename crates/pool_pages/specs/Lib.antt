@@ -1,4 +1,6 @@
 pub mod Config
+pub mod ConfigLimits
+pub mod ConfigTexts
 pub mod Contents
 pub mod Count
 pub mod Dense
@@ -7,5 +9,6 @@ pub mod MakeFaults
 pub mod MakerTold
 pub mod MemoryTold
 pub mod MemoryTypes
+pub mod Numerals
 pub mod PageLaws
 pub mod Told

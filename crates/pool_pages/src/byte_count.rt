@@ -2,7 +2,7 @@ ghost use Rattle.std.specs.Prelude.{◌≡◌, ℕ, ◌+◌, ◌-◌, ◌*◌, �
 ghost use Rattle.std.specs.Result.{OkIff};
 ghost use Rattle.pool_pages.specs.Count.{Count, count, IsPageSize, rounded_up};
 
-use crate::config::BadConfig;
+use crate::bad_config::BadConfig;
 use std::marker::Model;
 
 /// The size of a page of the host, in bytes: a power of two from 16 to 65,536.

@@ -1,10 +1,12 @@
 //! Pages, byte counts and the types of a module: what every layer of the pool stands on.
 #![tactic(auto)]
 
+mod bad_config;
 mod byte_count;
 mod column_edits;
 mod config;
 mod dense_pages;
+mod greatest_values;
 mod image_data;
 mod maker;
 mod memory_pages;
@@ -12,14 +14,16 @@ mod memory_region;
 #[cfg(test)]
 mod memory_tests;
 mod module_types;
+mod numerals;
 mod page_laws;
 mod pages;
 mod plain_list;
 mod region;
 mod unsupported;
 
+pub use bad_config::{BadConfig, ConfigField, PairedTunable};
 pub use byte_count::{ByteCountNotAligned, ByteCountOutOfBounds, HostAlignedByteCount, PageSize};
-pub use config::{BadConfig, Enabled, InstanceLimits, PoolingAllocationConfig};
+pub use config::{Enabled, InstanceLimits, PoolingAllocationConfig};
 pub use image_data::ImageData;
 pub use maker::{MakeFault, PageMaker};
 pub use memory_pages::MemoryPages;

@@ -1,6 +1,11 @@
 pub mod Asked
+pub mod Backs
+pub mod Flushed
 pub mod Grants
+pub mod Held
+pub mod LiveLeases
 pub mod Made
+pub mod Returning
 pub mod Running
 pub mod Started
 pub mod Steps

@@ -1,5 +1,5 @@
 -- What each command leaves of a run, and that the party sees its reply as from private lists.
-use Rattle.std.proofs.Common.{◌≡◌, ◌≢◌, ℕ, zero, suc, ◌+◌, ◌<◌, ◌≤◌, List, [], ◌∷◌, length, map, take, replicate, Option, Some, None, Bool, false, refl, sym, ap, ◌∙◌, subst, arith, if◌then◌else◌, is_some}
+use Rattle.std.proofs.Common.{◌≡◌, ◌≢◌, ℕ, zero, suc, ◌+◌, ◌<◌, ◌≤◌, List, [], ◌∷◌, length, map, take, replicate, Option, Some, None, Bool, false, refl, sym, ap, ◌∙◌, subst, arith, length-append, if◌then◌else◌, is_some}
 use Rattle.std.specs.Prelude.{IfSome, option_map, slice_set, slice_index_or, slice_range}
 use Rattle.std.proofs.lemmas.List.{same_lists, places, set-set, take-replicate}
 use Rattle.pool_pages.specs.Count.{Count}
@@ -12,16 +12,19 @@ use Rattle.pool_images.specs.Images.{Image, start}
 use Rattle.pool_images.specs.Slots.{FitsInto}
 use Rattle.pool_slots.specs.Memories.{Lease, IsMemory, bytes_of, memory_written}
 use Rattle.pool_slots.specs.Pools.{PoolState, IsLeaseOf, Begins, IsRefused}
+use Rattle.pool_slots.specs.Queues.{QueuedMemory}
 use Rattle.pool_slots.specs.declared.request.AllocError.{AllocError}
 use Rattle.pool_slots.specs.declared.request.AllocError.TheVariants as alloc
 use Rattle.pool_slots.specs.declared.request.ConcurrencyKind.TheVariants.{MemoryStripe}
 use Rattle.pool_run.specs.Private.{World, Grant, Grants, grant_at, grant_written, begun_grant, image_at, live_count, IsFree, Instantiates, Drops, WritesTo, IsCause}
 use Rattle.pool_run.specs.Runs.{RunState, IsRunning, lease_at, grant_of, grants_of, WritesLease}
+use Rattle.pool_run.specs.Turns.{NoneWaits, IsAllocated, IsDenied}
 use Rattle.pool_run.specs.declared.reply.Reply.{Reply}
 use Rattle.pool_run.specs.declared.reply.Reply.TheVariants.{Instance, Bytes, Done, Returned, Refused, Trap}
 use Rattle.pool_run.specs.declared.reply.Refusal.TheVariants.{Alloc}
 use Rattle.pool_run.proofs.Grants.{grant_set, grant_get, live_map}
-use Rattle.pool_run.proofs.Running.{not_free, rewritten}
+use Rattle.pool_run.proofs.Held.{not_free, lease_of as lease_held}
+use Rattle.pool_run.proofs.Running.{back_of, rewritten, with_lease_at}
 
 -- what is written into the first n elements is written into a list's first n
 take_put : (at n : ℕ) (new xs : List ℕ) → at + length new ≤ n → take n (put at new xs) ≡ put at new (take n xs)
@@ -51,9 +54,7 @@ written_in at size base new (Some c) is within =
 
 -- a lease of the run's pool
 pub lease_of : (maker : MakerTold) (s : RunState) (of : ℕ) (l : Lease) → IsRunning maker s → lease_at s of ≡ Some l → IsLeaseOf maker s.pool l
-lease_of maker s of l running is =
-    let P : Option Lease → Type 0 = λ o. IfSome o (IsLeaseOf maker s.pool) in
-    subst P is (running.leases of)
+lease_of maker s of l running is = lease_held maker s.pool s.live (back_of s) of l running.sound.held is
 
 tells_still : (at : ℕ) (new : List ℕ) (o : Option Contents) → is_some (option_map (overwritten_contents at new) o) ≡ is_some o
 tells_still at new None = refl
@@ -168,7 +169,7 @@ lease_apart maker p slot (Some l) free lease = not_free maker p slot l free leas
 grants_apart : (maker : MakerTold) (s : RunState) (slot : ℕ) → IsRunning maker s → is_used s.pool.shard slot ≡ false → IsFree slot (grants_of s)
 grants_apart maker s slot running free i =
     let P : Option Grant → Type 0 = λ o. IfSome o (λ g. g.slot ≢ slot) in
-    subst P (sym (grant_get grant_of s.live i)) (lease_apart maker s.pool slot (lease_at s i) free (running.leases i))
+    subst P (sym (grant_get grant_of s.live i)) (lease_apart maker s.pool slot (lease_at s i) free (running.sound.held.leases i))
 
 -- what a memory begins as, to the party
 pub begun_step : (w : World) (n number : ℕ) (decl : MemoryDecl) (s : RunState) (pool : PoolState) (l : Lease) → IsRunning w.maker s → w.total ≡ length s.pool.cells → minimum_byte_size decl.ty ≤ s.pool.static_size → IfSome (image_at w number decl) (FitsInto s.pool.page (minimum_byte_size decl.ty)) → Begins w.maker (minimum_byte_size decl.ty) (image_at w number decl) s.pool pool l → Instantiates w n number decl (grants_of s) (Instance (l.index ∷ []) []) (map (option_map grant_of) (slice_set s.live n (Some l)))
@@ -184,18 +185,38 @@ begun_step w n number decl s pool l running total below fits begins =
     let with_bytes : grant_of l ≡ record { slot = l.index; size = l.memory.size; bytes = if w.maker.tells then Some (start (image_at w number decl) (minimum_byte_size decl.ty)) else None } = ap (λ (b : Option (List ℕ)). record { slot = l.index; size = l.memory.size; bytes = b }) here in
     let grant : grant_of l ≡ begun_grant w number decl l.index = with_bytes ∙ ap (λ (k : ℕ). record { slot = l.index; size = k; bytes = if w.maker.tells then Some (start (image_at w number decl) (minimum_byte_size decl.ty)) else None }) begins.size in
     let inside : l.index < w.total = omega (arith, total, begins.changes.count, begins.lease.inside) in
-    let room : live_count (grants_of s) < w.total = omega (arith, live_map grant_of s.live, running.used, running.pool.count, total, begins.room) in
+    let room : live_count (grants_of s) < w.total = omega (arith, live_map grant_of s.live, running.sound.held.used, running.sound.held.pool.count, total, begins.room) in
     let new : map (option_map grant_of) (slice_set s.live n (Some l)) ≡ slice_set (grants_of s) n (Some (begun_grant w number decl l.index)) = grant_set grant_of s.live n (Some l) ∙ ap (λ (g : Grant). slice_set (grants_of s) n (Some g)) grant in
     (refl, refl, inside, grants_apart w.maker s l.index running begins.free, room, new)
 
 -- why a request is refused, to the party
-pub refused_step : (w : World) (s : RunState) (pool : PoolState) (e : AllocError) → IsRunning w.maker s → w.total ≡ length s.pool.cells → IsRefused w.maker s.pool pool e → IsCause w (grants_of s) (Alloc e)
-refused_step w s pool alloc.Memory running total is = absurd is
-refused_step w s pool (alloc.Limit e) running total is =
-    let full : live_count (grants_of s) ≡ w.total = omega (arith, live_map grant_of s.live, running.used, running.pool.count, total, is.full) in
-    let limit = is.limit in
+pub refused_step : (w : World) (s : RunState) (pool : PoolState) (e : AllocError) → IsRunning w.maker s → w.total ≡ length s.pool.cells → NoneWaits s e → IsRefused w.maker s.pool pool e → IsCause w (grants_of s) (Alloc e)
+refused_step w s pool alloc.Memory running total none is = absurd is
+refused_step w s pool (alloc.Limit e) running total none is =
+    let queue : length s.queue.memories ≡ 0 = ap (λ (l : List QueuedMemory). length l) none in
+    let spare : length s.spare.memories ≡ 0 = ap (λ (l : List QueuedMemory). length l) running.spare.slots in
+    let full : live_count (grants_of s) ≡ w.total = omega (arith, live_map grant_of s.live, running.sound.held.used, length-append s.queue.memories s.spare.memories, queue, spare, running.sound.held.pool.count, total, is.full) in
     let P : ℕ → Type 0 = λ k. e ≡ record { limit = k; kind = MemoryStripe 0 } in
     (full, subst P (sym total) is.limit)
-refused_step w s pool alloc.PageFault running total is =
-    let room : live_count (grants_of s) < w.total = omega (arith, live_map grant_of s.live, running.used, running.pool.count, total, is.room) in
+refused_step w s pool alloc.PageFault running total none is =
+    let room : live_count (grants_of s) < w.total = omega (arith, live_map grant_of s.live, running.sound.held.used, running.sound.held.pool.count, total, is.room) in
     (room, (is.slot.0, omega (arith, total, is.slot.1.inside), is.slot.1.listed))
+
+-- the reply to a request for which a memory began
+pub allocated_step : (w : World) (n number : ℕ) (decl : MemoryDecl) (old new : RunState) (l : Lease) → IsAllocated w.maker (minimum_byte_size decl.ty) (image_at w number decl) old new l → w.total ≡ length old.pool.cells → minimum_byte_size decl.ty ≤ old.pool.static_size → IfSome (image_at w number decl) (FitsInto old.pool.page (minimum_byte_size decl.ty)) → Instantiates w n number decl (grants_of old) (Instance (l.index ∷ []) []) (grants_of (with_lease_at n l new))
+allocated_step w n number decl old new l is total below fits =
+    let size = is.flushed.size in
+    let L : ℕ → Type 0 = λ k. minimum_byte_size decl.ty ≤ k in
+    let F : ℕ → Type 0 = λ k. IfSome (image_at w number decl) (FitsInto k (minimum_byte_size decl.ty)) in
+    let here = begun_step w n number decl is.mid new.pool l is.flushed.running (total ∙ sym size.slots) (subst L (sym size.static_size) below) (subst F (sym size.page) fits) is.begins in
+    let G : List (Option Lease) → Type 0 = λ live. Instantiates w n number decl (map (option_map grant_of) live) (Instance (l.index ∷ []) []) (map (option_map grant_of) (slice_set is.mid.live n (Some l))) in
+    let P : RunState → Type 0 = λ r. Instantiates w n number decl (grants_of old) (Instance (l.index ∷ []) []) (grants_of (with_lease_at n l r)) in
+    subst P (sym is.rest) (subst G is.flushed.live here)
+
+-- the reply to one that was refused
+pub denied_step : (w : World) (old new : RunState) (e : AllocError) → IsDenied w.maker old new e → w.total ≡ length old.pool.cells → IsCause w (grants_of old) (Alloc e) × (grants_of new ≡ grants_of old)
+denied_step w old new e is total =
+    let size = is.flushed.size in
+    let here = refused_step w is.mid new.pool e is.flushed.running (total ∙ sym size.slots) is.none is.refused in
+    let G : List (Option Lease) → Type 0 = λ live. IsCause w (map (option_map grant_of) live) (Alloc e) in
+    (subst G is.flushed.live here, ap (λ (r : RunState). grants_of r) is.rest ∙ ap (map (option_map grant_of)) is.flushed.live)

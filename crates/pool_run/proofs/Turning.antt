@@ -128,6 +128,8 @@ turned w m commands old s new n replies command reply below is names asked to ru
         slots = size.slots ∙ to.size.slots;
         page = size.page ∙ to.size.page;
         static_size = size.static_size ∙ to.size.static_size;
+        keep_resident = size.keep_resident ∙ to.size.keep_resident;
+        batch = size.batch ∙ to.size.batch;
       };
       replied = subst Q (sym next) more;
       rest = λ k behind.

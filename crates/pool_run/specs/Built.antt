@@ -14,6 +14,6 @@ is_built_memory decl = (decl.ty.page_size_log2 == 16) && (nat_le decl.ty.limits.
 abbrev pub is_built_module : ModuleInfo → Bool
 is_built_module m = (length m.memories == 1) && list_all is_built_memory m.memories
 
--- one party at most, slots of the size of such a memory, and such modules
+-- one party at most, a hundred slots of the size of such a memory at most, and such modules
 abbrev pub is_built : Input → Bool
-is_built input = (input.config.limits.max_memory_size == 65536) && (nat_le (length input.parties) 1 && list_all is_built_module input.modules)
+is_built input = (input.config.limits.max_memory_size == 65536) && (nat_le input.config.limits.total_memories 100 && (nat_le (length input.parties) 1 && list_all is_built_module input.modules))

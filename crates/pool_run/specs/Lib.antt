@@ -1,4 +1,5 @@
 pub mod Built
+pub mod Held
 pub mod Made
 pub mod Private
 pub mod Runs

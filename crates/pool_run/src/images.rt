@@ -1,11 +1,11 @@
-ghost use Rattle.std.specs.Prelude.{◌≡◌, ◌<◌, true, length, slice_index_or, None, Err, IfOk, IfSome, OnOk, option_map};
+ghost use Rattle.std.specs.Prelude.{◌≡◌, ◌<◌, true, length, slice_index_or, None, Err, false, IfOk, IfErr, IfSome, OnOk, option_map};
 ghost use Rattle.std.specs.Arc.{arc_value};
 ghost use Rattle.std.specs.List.{list_all};
 ghost use Rattle.pool_pages.specs.Told.{Rose};
 ghost use Rattle.pool_images.specs.Images.{makes_listed};
 ghost use Rattle.pool_run.specs.Built.{is_built_module};
 ghost use Rattle.pool_run.specs.Made.{images_of_module, images_made, first_image};
-ghost use Rattle.pool_run.specs.Runs.{images_listed};
+ghost use Rattle.pool_run.specs.Runs.{images_listed, is_bad_config};
 
 use crate::output::RunFault;
 use pool_images::{ImageError, MemoryImage, ModuleMemoryImages};
@@ -24,6 +24,7 @@ pub(crate) fn make_images<M: PageMaker>(
     ensures same { OnOk result (M.told maker.new ≡ M.told maker.old) }
     ensures maker { M.told maker.new ≡ record (M.told maker.old) { faults = (M.told maker.new).faults } }
     ensures fault { result ≡ Err RunFault.PageFault → Rose (M.told maker.old).faults (M.told maker.new).faults × IfSome (M.told maker.old).plan (λ plan. images_listed 0 plan modules.now ≡ true) }
+    ensures settings { IfErr result (λ fault. is_bad_config fault ≡ false) }
 {
     let Ok(mut images) = Vec::with_capacity(alloc, modules.len()) else {
         return Err(RunFault::Memory);
@@ -52,6 +53,7 @@ fn make_of_module<M: PageMaker>(
     ensures same { OnOk result (M.told maker.new ≡ M.told maker.old) }
     ensures maker { M.told maker.new ≡ record (M.told maker.old) { faults = (M.told maker.new).faults } }
     ensures fault { result ≡ Err RunFault.PageFault → Rose (M.told maker.old).faults (M.told maker.new).faults × IfSome (M.told maker.old).plan (λ plan. makes_listed (record { 0 = number }) plan info.now.memories ≡ true) }
+    ensures settings { IfErr result (λ fault. is_bad_config fault ≡ false) }
 {
     let page = maker.page();
     match ModuleMemoryImages::new(alloc, maker, page, CompiledModuleId(number), info) {

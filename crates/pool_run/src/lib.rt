@@ -21,4 +21,4 @@ pub use output::{RunFault, RunOutput};
 pub use pool_slots::Trap;
 pub use reply::{Refusal, Reply, ReplyList, SlotList};
 pub use schedule::run_schedule;
-pub use validity::{MOST_BYTES, MOST_COMMANDS, is_valid};
+pub use validity::{MOST_BYTES, MOST_COMMANDS, MOST_MODULES, is_valid};

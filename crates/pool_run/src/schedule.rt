@@ -1,20 +1,22 @@
-ghost use Rattle.std.specs.Prelude.{◌≡◌, ◌<◌, [], ◌∷◌, Err, None, length, replicate, true, IfOk, IfSome, OnOk, option_map};
+ghost use Rattle.std.specs.Prelude.{◌≡◌, ◌↔◌, ◌<◌, [], ◌∷◌, Err, None, Some, length, replicate, true, false, IfOk, IfErr, IfSome, OnOk, option_map};
 ghost use Rattle.std.specs.List.{list_all, slice_get};
+ghost use Rattle.pool_pages.specs.ConfigLimits.{IsWithinLimits, first_broken_limit};
+ghost use Rattle.pool_pages.specs.Count.{count, rounded_up};
 ghost use Rattle.pool_pages.specs.MakerTold.{MakerTold};
 ghost use Rattle.pool_pages.specs.Told.{Rose};
+ghost use Rattle.pool_pages.specs.declared.bad_config.BadConfig.{BadConfig};
 ghost use Rattle.pool_index.specs.Shard.{used_count};
 ghost use Rattle.pool_slots.specs.Pools.{IsPool, makes_listed};
 ghost use Rattle.pool_run.specs.Built.{is_built, is_built_module};
 ghost use Rattle.pool_run.specs.Made.{images_made};
 ghost use Rattle.pool_run.specs.Private.{World, PrivateStep, PrivateRun};
-ghost use Rattle.pool_run.specs.Runs.{IsRunning, IsRun, KeepsSize, FaultsInMaking, lease_at, grants_of, metrics_of, calls_of_run};
+ghost use Rattle.pool_run.specs.Runs.{IsRunning, IsRun, KeepsSize, FaultsInMaking, is_bad_config, lease_at, grants_of, metrics_of, calls_of_run};
 ghost use Rattle.pool_run.specs.Turns.{NamesWhatIs};
 ghost use Rattle.pool_run.specs.Validity.{is_valid, are_valid_after};
 
 use crate::command::Command;
 use crate::images::{image_for, make_images};
 use crate::input::{Input, Party};
-use crate::leases::Leases;
 use crate::output::{RunFault, RunOutput};
 use crate::reply::{Reply, ReplyList};
 use crate::run::Run;
@@ -124,20 +126,23 @@ fn run_parties<P: Pages>(
     requires total { length pool.cells ≡ input.now.config.limits.total_memories }
     requires size { pool.static_size ≡ 65536 }
     requires unused { used_count pool.shard ≡ 0 }
+    requires kept { pool.keep_resident ≡ count maker.page (rounded_up maker.page input.now.config.linear_memory_keep_resident) }
+    requires within { IsWithinLimits input.now.config }
     requires built { is_built input.now ≡ true }
     requires valid { is_valid input.now ≡ true }
     requires images { images.now ≡ images_made maker.page 0 input.now.modules }
     ensures { IfOk result (IsRun input.now maker) }
 {
     let modules = input.modules.as_slice();
+    let batch = input.config.decommit_batch_size;
     match first_party(input) {
         None => {
-            let run = Run::new(pool, Leases::new(alloc, 0)?);
+            let run = Run::new(alloc, pool, 0, batch)?;
             Ok(output_of(&run, PlainList::new(alloc)))
         }
         Some(party) => {
             let commands = party.commands.as_slice();
-            let mut run = Run::new(pool, Leases::new(alloc, commands.len())?);
+            let mut run = Run::new(alloc, pool, commands.len(), batch)?;
             let replies = run_party(alloc, &mut run, modules, images, commands)?;
             Ok(output_of(&run, one_list(alloc, replies)?))
         }
@@ -169,7 +174,8 @@ fn output_of<P: Pages>(run: &Run<P>, replies: PlainList<ReplyList>) -> RunOutput
     }
 }
 
-// Makes a pool and images of a maker that is as told, and carries out the commands over them.
+// Makes a pool and images of a maker that is as told, and carries out the commands over them. No limit of the settings
+// is broken.
 fn run_over<P: Pages, M: PageMaker<Region = P>>(
     alloc: Global,
     input: &Input,
@@ -179,8 +185,10 @@ fn run_over<P: Pages, M: PageMaker<Region = P>>(
     requires told { M.told pages.old ≡ maker }
     requires built { is_built input.now ≡ true }
     requires valid { is_valid input.now ≡ true }
+    requires within { IsWithinLimits input.now.config }
     ensures ok { IfOk result (IsRun input.now maker) }
     ensures fault { result ≡ Err RunFault.PageFault → FaultsInMaking input.now maker (M.told pages.new) }
+    ensures settings { IfErr result (λ fault. is_bad_config fault ≡ false) }
 {
     let pool = match make_pool(alloc, input, pages) {
         Ok(pool) => pool,
@@ -203,22 +211,25 @@ fn make_pool<P: Pages, M: PageMaker<Region = P>>(
     input: &Input,
     pages: &mut M,
 ) -> Result<MemoryPool<P>, RunFault>
-    requires { is_built input.now ≡ true }
+    requires built { is_built input.now ≡ true }
+    requires within { IsWithinLimits input.now.config }
     ensures pool { IfOk result (IsPool (M.told pages.old)) }
     ensures total { IfOk result (λ pool. length pool.cells ≡ input.now.config.limits.total_memories) }
     ensures size { IfOk result (λ pool. pool.static_size ≡ 65536) }
+    ensures kept { IfOk result (λ pool. pool.keep_resident ≡ count (M.told pages.old).page (rounded_up (M.told pages.old).page input.now.config.linear_memory_keep_resident)) }
     ensures unused { IfOk result (λ pool. used_count pool.shard ≡ 0) }
     ensures same { OnOk result (M.told pages.new ≡ M.told pages.old) }
     ensures fault { result ≡ Err RunFault.PageFault → Rose (M.told pages.old).faults (M.told pages.new).faults × IfSome (M.told pages.old).plan (λ plan. makes_listed plan input.now.config.limits.total_memories ≡ true) }
+    ensures settings { IfErr result (λ fault. is_bad_config fault ≡ false) }
 {
     let limits = &input.config.limits;
-    let warm = input.config.max_unused_warm_slots;
     match MemoryPool::new(
         alloc,
         pages,
         limits.total_memories,
         limits.max_memory_size,
-        warm,
+        input.config.max_unused_warm_slots,
+        input.config.linear_memory_keep_resident,
     ) {
         Ok(pool) => Ok(pool),
         Err(PoolNewError::PageFault) => Err(RunFault::PageFault),
@@ -227,8 +238,8 @@ fn make_pool<P: Pages, M: PageMaker<Region = P>>(
 }
 
 /// Makes a pool of the input's settings and the images of its modules, and carries out the parties' commands over
-/// them. The replies are in the order of the parties and of their commands. Nothing is run where a region or an image
-/// can't be made.
+/// them. The replies are in the order of the parties and of their commands. Nothing is run where a limit of the settings
+/// is broken, which is tested first, or where a region or an image can't be made.
 pub fn run_schedule<P: Pages, M: PageMaker<Region = P>>(
     alloc: Global,
     input: &Input,
@@ -237,7 +248,11 @@ pub fn run_schedule<P: Pages, M: PageMaker<Region = P>>(
     requires built { is_built input.now ≡ true }
     requires valid { is_valid input.now ≡ true }
     ensures ok { IfOk result (λ output. IsRun input.now (M.told pages.old) output) }
+    ensures bad_config { (e : BadConfig) → (result ≡ Err (RunFault.BadConfig e)) ↔ (first_broken_limit input.now.config ≡ Some e) }
     ensures fault { result ≡ Err RunFault.PageFault → FaultsInMaking input.now (M.told pages.old) (M.told pages.new) }
 {
-    run_over(alloc, input, pages)
+    match input.config.check_limits() {
+        Ok(()) => run_over(alloc, input, pages),
+        Err(error) => Err(RunFault::BadConfig(error)),
+    }
 }

@@ -1,6 +1,7 @@
 use Rattle.std.proofs.Common.{rules, ◌≡◌, List, true, sym, subst, ◌∙◌}
 use Rattle.std.specs.Prelude.{IfSome}
 use Rattle.std.specs.List.{list_all}
+use Rattle.pool_pages.specs.Count.{count, rounded_up}
 use Rattle.pool_pages.specs.MakerTold.{MakerTold}
 use Rattle.pool_pages.specs.declared.module_types.ModuleInfo.{ModuleInfo}
 use Rattle.pool_slots.specs.Pools.{IsPool}
@@ -32,4 +33,6 @@ run_parties-requires-send-P g c κs within =
     let L : List ModuleInfo → Type 0 = λ l. c.in-Ok-make_images.images.items ≡ images_made g.maker.page 0 l in
     let images : c.in-Ok-make_images.images.items ≡ images_made g.maker.page 0 c.args.input.now.modules = subst L c.as_slice-modules.ensures (subst I told c.in-Ok-make_images.ensures.ok) in
     let sliced : c.as_slice.result.now ≡ images_made g.maker.page 0 c.args.input.now.modules = c.as_slice.ensures.value ∙ images in
-    (search rules, (c.requires.1.1.0, (pool, (c.in-Ok.ensures.total, (c.in-Ok.ensures.size, (c.in-Ok.ensures.unused, (c.requires.1.1.1.1.0, (c.requires.1.1.1.1.1, sliced))))))))
+    let K : MakerTold → Type 0 = λ m. c.in-Ok.pool.keep_resident ≡ count m.page (rounded_up m.page c.args.input.now.config.linear_memory_keep_resident) in
+    let kept : K g.maker = subst K c.requires.1.1.1.0 c.in-Ok.ensures.kept in
+    (search rules, (c.requires.1.1.0, (pool, (c.in-Ok.ensures.total, (c.in-Ok.ensures.size, (c.in-Ok.ensures.unused, (kept, (c.requires.1.1.1.1.1.1, (c.requires.1.1.1.1.0, (c.requires.1.1.1.1.1.0, sliced))))))))))

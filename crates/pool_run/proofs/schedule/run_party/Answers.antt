@@ -21,7 +21,7 @@ loop-n-init g c =
     let Q : List Reply → Type 0 = λ rs. PrivateRun g.w 0 [] rs (replicate (length c.args.commands.now) None) (grants_of c.args.run.now) in
     record {
       running = c.requires.1.1.0;
-      size = record { places = refl; slots = refl; page = refl; static_size = refl };
+      size = record { places = refl; slots = refl; page = refl; static_size = refl; keep_resident = refl; batch = refl };
       replied = subst Q (sym c.new-replies.ensures) start;
       rest = λ k behind.
           let R : List (Option Lease) → Type 0 = λ l. slice_index_or l k None ≡ None in

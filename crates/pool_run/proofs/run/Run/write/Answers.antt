@@ -8,7 +8,7 @@ use Rattle.pool_run.proofs.run.Run.write.Goals as goal
 pub returns-in-Some-clause-running : goal.returns-in-Some-clause-running
 returns-in-Some-clause-running g c =
     let i = c.self.inside in
-    let s : RunState = record { pool = i.pool; live = i.live; instances = i.instances; memories = i.memories } in
+    let s : RunState = record { pool = i.pool; live = i.live; queue = i.queue; spare = i.spare; batch = i.batch; instances = i.instances; memories = i.memories } in
     let running : IsRunning g.maker s = rw (← c.self.view_is) at c.requires.1.1.0 in
     let below = rw (← c.self.view_is) at c.requires.1.1.1 in
     let P : List (Option Lease) → Type 0 = λ live. IsRunning g.maker (record s { live = slice_set live c.args.of (Some c.write_to.ensures.0) }) in
@@ -19,7 +19,7 @@ returns-in-Some-clause-running g c =
 pub returns-in-Some-clause-step : goal.returns-in-Some-clause-step
 returns-in-Some-clause-step g c =
     let i = c.self.inside in
-    let s : RunState = record { pool = i.pool; live = i.live; instances = i.instances; memories = i.memories } in
+    let s : RunState = record { pool = i.pool; live = i.live; queue = i.queue; spare = i.spare; batch = i.batch; instances = i.instances; memories = i.memories } in
     let running : IsRunning g.maker s = rw (← c.self.view_is) at c.requires.1.1.0 in
     let step = written_step g.maker s c.args.of c.args.at c.args.bytes.now c.in-Some.lease c.write_to.ensures.0 c.write_to.result running (sym c.in-Some.ensures.value) c.write_to.ensures.1 in
     let P : List (Option Lease) → Type 0 = λ live. WritesTo (grant_at (grants_of s) c.args.of) (grants_of s) c.args.of c.args.at c.args.bytes.now c.write_to.result (grants_of (record s { live = slice_set live c.args.of (Some c.write_to.ensures.0) })) in
