@@ -2,6 +2,8 @@ pub mod CellOf
 pub mod Cells
 pub mod Memories
 pub mod Pools
+pub mod QueueSteps
+pub mod Queues
 pub mod Texts
 pub mod Turns
 pub mod Uses
