@@ -1,5 +1,6 @@
 pub mod CellOf
 pub mod Cells
+pub mod Ended
 pub mod Memories
 pub mod Pools
 pub mod QueueSteps

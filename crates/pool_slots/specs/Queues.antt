@@ -1,6 +1,6 @@
 -- The decommit queue: ranges of slots that are to be decommitted, and the slots that go back to their pools once that is
 -- done.
-use Rattle.std.specs.Prelude.{◌≡◌, ℕ, ◌+◌, ◌^◌, ◌%◌, ◌≤◌, ◌==◌, ◌&&◌, ◌⊎◌, List, [], ◌∷◌, ◌++◌, length, map, filter, fold, All, Bool, true, false, if◌then◌else◌, IfSome, is_some}
+use Rattle.std.specs.Prelude.{◌≡◌, ℕ, ◌+◌, ◌^◌, ◌%◌, ◌≤◌, ◌==◌, ◌&&◌, ◌⊎◌, List, [], ◌∷◌, ◌++◌, length, map, filter, All, Bool, true, false, if◌then◌else◌, IfSome, is_some}
 use Rattle.std.specs.List.{list_any, AllByRecursion, AllZip}
 use Rattle.pool_pages.specs.Contents.{IsIn, page_bytes, page_origin}
 use Rattle.pool_pages.specs.Told.{Rose, decommitting}
@@ -252,6 +252,10 @@ pub record IsLeftItem (old new : QueuedMemory) : Type 0 where
   pub slot : IsLeft old.slot new.slot
   pub known : new.known ≡ old.known
   pub bytes : new.bytes ≡ old.bytes
+
+-- the queue with more ranges of a memory's slot
+abbrev pub with_ranges : ℕ → List ByteRange → QueueState → QueueState
+with_ranges slot ranges q = record q { ranges = q.ranges ++ map (λ r. record { kind = Memory; slot = record { 0 = slot }; range = r }) ranges }
 
 -- the calls on the regions of slots, together
 abbrev pub calls_held : List QueuedMemory → PageCalls

@@ -1,6 +1,6 @@
 ghost use Rattle.std.specs.Prelude.{◌≡◌, ◌+◌, ◌<◌, ◌≤◌, ◌==◌, ◌^◌, [], ◌∷◌, ◌++◌, length, ℕ, List, nat_lt, false, true, IfOk, IfSome, OnOk, OnErr, MatchOption, slice_index_or};
 ghost use Rattle.std.specs.List.{HoldsAt};
-ghost use Rattle.pool_slots.specs.Queues.{QueuedMemory, QueueState, empty_queue, emptied, is_held, holds, HasOwners, AreDistinct, AreApart, LeavesClean, ForgetsNothing, with_range, with_memory, joined, after_take, taken_into, IsSpareOf, after_run, IsFaulted, IsFlushed, AreSettled, IsSettled, calls_held, first_slot};
+ghost use Rattle.pool_slots.specs.Queues.{QueuedMemory, QueueState, empty_queue, emptied, is_held, holds, HasOwners, AreDistinct, AreApart, LeavesClean, ForgetsNothing, with_range, with_ranges, with_memory, joined, after_take, taken_into, IsSpareOf, after_run, IsFaulted, IsFlushed, AreSettled, IsSettled, calls_held, first_slot};
 ghost use Rattle.pool_slots.specs.QueueSteps.{begins_with, after_first};
 ghost use Rattle.pool_slots.specs.declared.queued_range.QueueKind.TheVariants.{Memory};
 
@@ -78,8 +78,30 @@ impl<P: Pages> DecommitQueue<P> {
             start: start.byte_count(),
             len: len.byte_count(),
         };
-        self.ranges
-            .push_back_reserved(QueuedRange { kind, slot, range });
+        self.push_range(QueuedRange { kind, slot, range });
+    }
+
+    // Notes ranges of a memory's slot.
+    pub(crate) fn push_ranges(&mut self, slot: SlotId, ranges: &[ByteRange])
+        requires room { length self.old.ranges + length ranges.now ≤ self.old.range_room }
+        requires not_held { holds slot.0 self.old.memories ≡ false }
+        ensures { self.new ≡ with_ranges slot.0 ranges.now self.old }
+    {
+        for range in ranges {
+            self.push_range(QueuedRange {
+                kind: QueueKind::Memory,
+                slot,
+                range: *range,
+            });
+        }
+    }
+
+    fn push_range(&mut self, range: QueuedRange)
+        requires room { length self.old.ranges < self.old.range_room }
+        requires not_held { is_held range.kind range.slot.0 self.old ≡ false }
+        ensures { self.new ≡ with_range range self.old }
+    {
+        self.ranges.push_back_reserved(range);
     }
 
     /// Takes a slot that is clean once the ranges that were pushed for it are decommitted, and that keeps so many bytes

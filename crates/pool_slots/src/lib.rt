@@ -7,6 +7,7 @@ mod lease;
 mod making;
 mod memory_items;
 mod memory_pool;
+mod memory_reset;
 #[cfg(test)]
 mod pool_tests;
 mod queued_range;
