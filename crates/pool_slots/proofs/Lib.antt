@@ -3,6 +3,11 @@ pub mod Identity
 pub mod Reading
 pub mod Resets
 pub mod Returns
+pub mod PageSizes
 pub mod Plans
+pub mod QueueLists
+pub mod QueueChanges
+pub mod QueueRuns
+pub mod QueueSteps
 pub mod Fresh
 pub mod Written

@@ -71,7 +71,7 @@ impl<P: Pages> DecommitQueue<P> {
         len: HostAlignedByteCount,
     )
         requires room { length self.old.ranges < self.old.range_room }
-        requires not_held { is_held kind slot.0 self.old ≡ false }
+        requires not_held { is_held kind slot.0 self.old.memories ≡ false }
         ensures { self.new ≡ with_range (record { kind = kind; slot = slot; range = record { start = start.bytes; len = len.bytes } }) self.old }
     {
         let range = ByteRange {
@@ -98,7 +98,7 @@ impl<P: Pages> DecommitQueue<P> {
 
     fn push_range(&mut self, range: QueuedRange)
         requires room { length self.old.ranges < self.old.range_room }
-        requires not_held { is_held range.kind range.slot.0 self.old ≡ false }
+        requires not_held { is_held range.kind range.slot.0 self.old.memories ≡ false }
         ensures { self.new ≡ with_range range self.old }
     {
         self.ranges.push_back_reserved(range);
@@ -225,10 +225,10 @@ impl<P: Pages> DecommitQueue<P> {
     // The place of the slot with this number, among some.
     fn place_within(&self, slot: SlotId, from: usize, to: usize) -> Option<usize>
         requires { to ≤ length self.now.memories }
-        ensures { MatchOption result ((k : ℕ) → from ≤ k → k < to → HoldsAt (λ m. (m.index == slot.0) ≡ false) self.now.memories k) (λ at. (at < to) × HoldsAt (λ m. m.index ≡ slot.0) self.now.memories at) }
+        ensures { MatchOption result ((k : ℕ) → from ≤ k → k < to → HoldsAt (λ m. (slot.0 == m.index) ≡ false) self.now.memories k) (λ at. (at < to) × HoldsAt (λ m. m.index ≡ slot.0) self.now.memories at) }
     {
         for at in from..to {
-            if self.memories.get(at).index.0 == slot.0 {
+            if slot.0 == self.memories.get(at).index.0 {
                 return Some(at);
             }
         }

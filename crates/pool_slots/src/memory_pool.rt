@@ -59,7 +59,7 @@ impl<P: Pages> MemoryPool<P> {
         warm: u32,
         keep_resident: usize,
     ) -> Result<Self, PoolNewError>
-        requires { max_memory_size + 131072 < 2 ^ 64 }
+        requires size { max_memory_size + 131072 < 2 ^ 64 }
         requires kept { keep_resident ≤ 2 ^ 32 }
         ensures pool { IfOk result (IsPool (M.told maker.old)) }
         ensures made { IfOk result (IsMade (M.told maker.old) total max_memory_size warm keep_resident) }
