@@ -7,6 +7,7 @@ pub mod PageSizes
 pub mod Plans
 pub mod QueueLists
 pub mod QueueChanges
+pub mod QueueFaults
 pub mod QueueRuns
 pub mod QueueSteps
 pub mod Fresh

@@ -158,7 +158,7 @@ apart_other_way (m ∷ ms) ns apart =
     (λ n a b. or_from (n.index == m.index) (holds n.index ms) (other_way m.index n.index a) b)
     (unheld_each m.index ns apart.0) (apart_other_way ms ns apart.1)
 
-apart_of_unheld : (slot : ℕ) (ms : List QueuedMemory) (i : ℕ) (d : QueuedMemory) → i < length ms → holds slot ms ≡ false → (slot == (get_or ms i d).index) ≡ false
+pub apart_of_unheld : (slot : ℕ) (ms : List QueuedMemory) (i : ℕ) (d : QueuedMemory) → i < length ms → holds slot ms ≡ false → (slot == (get_or ms i d).index) ≡ false
 apart_of_unheld slot [] i d below free = absurd (omega arith)
 apart_of_unheld slot (m ∷ ms) zero d below free = (or_parts (slot == m.index) (holds slot ms) free).0
 apart_of_unheld slot (m ∷ ms) (suc i) d below free = apart_of_unheld slot ms i d (omega arith) (or_parts (slot == m.index) (holds slot ms) free).1

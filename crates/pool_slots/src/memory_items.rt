@@ -1,4 +1,4 @@
-ghost use Rattle.std.specs.Prelude.{◌≡◌, ◌+◌, ◌<◌, ◌≤◌, ◌==◌, [], ◌∷◌, ◌++◌, length, drop, map, slice_index_or, slice_set, IfOk, IfSome, MatchOption, OnOk, OnErr};
+ghost use Rattle.std.specs.Prelude.{◌≡◌, ◌+◌, ◌<◌, ◌≤◌, ◌==◌, [], ◌∷◌, ◌++◌, length, List, map, slice_index_or, slice_set, IfOk, IfSome, MatchOption, OnOk, OnErr};
 ghost use Rattle.std.specs.List.{HoldsAt};
 ghost use Rattle.pool_images.specs.Slots.{IsPart, IsLeft, size_of};
 ghost use Rattle.pool_slots.specs.Queues.{QueuedMemory, decommitted_at, forgotten, IsLeftItem};
@@ -142,7 +142,8 @@ impl<P: Pages> MemoryItems<P> {
     // Moves the first to the end, and forgets what is known of it.
     fn forget_first(&mut self)
         requires { 0 < length self.old.items }
-        ensures { (d : QueuedMemory) → self.new ≡ record self.old { items = drop 1 self.old.items ++ forgotten (slice_index_or self.old.items 0 d) ∷ [] } }
+        ensures items { (m : QueuedMemory) (rest : List QueuedMemory) → self.old.items ≡ m ∷ rest → self.new.items ≡ rest ++ forgotten m ∷ [] }
+        ensures room { self.new.room ≡ self.old.room }
     {
         let Some(mut item) = self.list.pop_front() else {
             unreachable!()

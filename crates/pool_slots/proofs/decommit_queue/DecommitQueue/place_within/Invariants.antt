@@ -1,9 +1,8 @@
-use Rattle.std.proofs.Common.{◌≡◌, ◌+◌, ◌<◌, ◌≤◌, ◌==◌, ◌^◌, [], ◌∷◌, ◌++◌, length, ℕ, List, nat_lt, false, true, IfOk, IfSome, OnOk, OnErr, MatchOption, slice_index_or, ◌-◌, ◌*◌}
+use Rattle.std.proofs.Common.{◌≡◌, ℕ, ◌≤◌, ◌<◌, false}
+use Rattle.std.specs.Prelude.{◌==◌}
 use Rattle.std.specs.List.{HoldsAt}
-use Rattle.pool_slots.specs.Queues.{QueuedMemory, QueueState, empty_queue, emptied, is_held, holds, HasOwners, AreDistinct, AreApart, LeavesClean, ForgetsNothing, with_range, with_ranges, with_memory, joined, after_take, taken_into, IsSpareOf, after_run, IsFaulted, IsFlushed, AreSettled, IsSettled, calls_held, first_slot}
-use Rattle.pool_slots.specs.QueueSteps.{begins_with, after_first}
-use Rattle.pool_slots.specs.declared.queued_range.QueueKind.TheVariants.{Memory}
 use Rattle.pool_slots.proofs.decommit_queue.DecommitQueue.place_within.Given as goal
 
+-- none of the slots so far has the number
 abbrev pub invariant-loop-at : goal.invariant-loop-at
-invariant-loop-at g l = ?
+invariant-loop-at g l = (k : ℕ) → l.fn.from ≤ k → k < l.at → HoldsAt (λ m. (l.slot.0 == m.index) ≡ false) l.self.memories k

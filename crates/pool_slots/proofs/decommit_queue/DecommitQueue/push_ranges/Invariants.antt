@@ -1,9 +1,7 @@
-use Rattle.std.proofs.Common.{◌≡◌, ◌+◌, ◌<◌, ◌≤◌, ◌==◌, ◌^◌, [], ◌∷◌, ◌++◌, length, ℕ, List, nat_lt, false, true, IfOk, IfSome, OnOk, OnErr, MatchOption, slice_index_or, ◌-◌, ◌*◌}
-use Rattle.std.specs.List.{HoldsAt}
-use Rattle.pool_slots.specs.Queues.{QueuedMemory, QueueState, empty_queue, emptied, is_held, holds, HasOwners, AreDistinct, AreApart, LeavesClean, ForgetsNothing, with_range, with_ranges, with_memory, joined, after_take, taken_into, IsSpareOf, after_run, IsFaulted, IsFlushed, AreSettled, IsSettled, calls_held, first_slot}
-use Rattle.pool_slots.specs.QueueSteps.{begins_with, after_first}
-use Rattle.pool_slots.specs.declared.queued_range.QueueKind.TheVariants.{Memory}
+use Rattle.std.proofs.Common.{◌≡◌, take}
+use Rattle.pool_slots.specs.Queues.{with_ranges}
 use Rattle.pool_slots.proofs.decommit_queue.DecommitQueue.push_ranges.Given as goal
 
+-- the ranges so far are pushed
 abbrev pub invariant-loop-range : goal.invariant-loop-range
-invariant-loop-range g l = ?
+invariant-loop-range g l = l.self ≡ with_ranges l.slot.0 (take l.range-index l.ranges) l.fn.self
