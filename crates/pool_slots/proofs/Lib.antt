@@ -1,4 +1,5 @@
 pub mod Changes
+pub mod Coverings
 pub mod Identity
 pub mod Reading
 pub mod Resets
@@ -8,7 +9,9 @@ pub mod Plans
 pub mod QueueLists
 pub mod QueueChanges
 pub mod QueueFaults
+pub mod QueueFirst
 pub mod QueueRuns
 pub mod QueueSteps
 pub mod Fresh
+pub mod GiveBacks
 pub mod Written

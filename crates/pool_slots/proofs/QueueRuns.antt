@@ -1,9 +1,9 @@
 -- Runs of ranges of one slot, and a flush made of them.
-use Rattle.std.proofs.Common.{◌≡◌, ℕ, zero, suc, ◌+◌, ◌<◌, ◌≤◌, Bool, true, false, List, [], ◌∷◌, ◌++◌, length, get_or, refl, sym, ap, ◌∙◌, subst, inl, inr, arith, set}
-use Rattle.std.specs.Prelude.{map, cond, ◌==◌, ◌&&◌, ◌⊎◌, All, IfSome}
+use Rattle.std.proofs.Common.{◌≡◌, ℕ, zero, suc, ◌+◌, ◌<◌, ◌≤◌, Bool, true, false, List, [], ◌∷◌, ◌++◌, length, get_or, refl, sym, ap, ◌∙◌, subst, inl, inr, arith, Ok, Err}
+use Rattle.std.specs.Prelude.{map, cond, ◌==◌, ◌&&◌, Result, OnErr}
 use Rattle.std.specs.List.{AllByRecursion, AllZip, HoldsAt}
-use Rattle.std.proofs.lemmas.Bool.{cases_Bool, cases_eq, and_parts, eqb-true, eq-eqb, or_cases}
-use Rattle.std.proofs.lemmas.List.{length-map}
+use Rattle.std.proofs.lemmas.Bool.{cases_Bool, and_parts, and_from, eqb-true, eq-eqb, or_cases}
+use Rattle.std.proofs.lemmas.List.{length-map, get_or-map}
 use Rattle.pool_pages.specs.Told.{Rose, decommitting}
 use Rattle.pool_images.specs.declared.ranges.ByteRange.{ByteRange}
 use Rattle.pool_images.specs.Slots.{Slot, IsLeft, called, decommitted_all}
@@ -17,7 +17,7 @@ use Rattle.pool_slots.proofs.QueueLists.{change_index, change_here, change_elsew
 use Rattle.pool_slots.proofs.QueueSteps.{memory_kind, settled_first, owners_first}
 
 -- the slot of a memory's range
-of_slot : (slot : ℕ) (r : QueuedRange) → is_of Memory slot r ≡ true → r.slot.0 ≡ slot
+pub of_slot : (slot : ℕ) (r : QueuedRange) → is_of Memory slot r ≡ true → r.slot.0 ≡ slot
 of_slot slot r e = eqb-true r.slot.0 slot (and_parts (same_kind Memory r.kind) (r.slot.0 == slot) e).1
 
 pub of_kind : (slot : ℕ) (r : QueuedRange) → is_of Memory slot r ≡ true → r.kind ≡ Memory
@@ -228,3 +228,172 @@ are_lost old now new kept some owned fault =
       each = zip_both IsKeptItem (IsLeftBy k) IsLost old.memories now.memories new.memories (lost_by k) kept fault.memories;
       some = some_faulted k old.memories now.memories new.memories kept fault.memories (first_held now.ranges now.memories some owned);
     }
+
+-- A run under way: what is left of it leads to the same queue, and only the slot at this place has changed.
+pub record IsRunning (k i : ℕ) (old now : QueueState) : Type 0 where
+  pub rest : after_run_of k now ≡ after_run_of k old
+  pub owned : HasOwners now
+  pub inside : i < length now.memories
+  pub index : HoldsAt (λ m. m.index ≡ k) now.memories i
+  pub kept : AllZip (IsKeptBy k) old.memories now.memories
+  pub range_room : now.range_room ≡ old.range_room
+  pub slot_room : now.slot_room ≡ old.slot_room
+  pub takes : now.takes ≡ old.takes
+  pub appended : now.appended ≡ old.appended
+
+pub run_begins : (k i : ℕ) (q : QueueState) → HasOwners q → i < length q.memories → HoldsAt (λ m. m.index ≡ k) q.memories i → IsRunning k i q q
+run_begins k i q owned inside index =
+    record {
+      rest = refl;
+      owned = owned;
+      inside = inside;
+      index = index;
+      kept = zip_same (IsKeptBy k) q.memories (kept_by_self k);
+      range_room = refl;
+      slot_room = refl;
+      takes = refl;
+      appended = refl;
+    }
+
+run_step_of : (k i : ℕ) (old now : QueueState) (ranges : List QueuedRange) → IsRunning k i old (record now { ranges = ranges }) → begins_with k ranges ≡ true → IsRunning k i old (after_first_of ranges now)
+run_step_of k i old now [] running begins = absurd cc
+run_step_of k i old now (r ∷ rs) running begins =
+    let f : QueuedMemory → QueuedMemory = change_at r.slot.0 (decommitted_at r.range) in
+    let same : r.slot.0 ≡ k = of_slot k r begins in
+    let K : ℕ → Type 0 = λ n. AllZip (IsKeptBy k) old.memories (map (change_at n (decommitted_at r.range)) now.memories) in
+    record {
+      rest = run_next k r rs now begins ∙ running.rest;
+      owned = owners_first r rs now running.owned;
+      inside = omega (arith, running.inside, length-map now.memories f);
+      index = λ d. ap (λ (m : QueuedMemory). m.index) (get_or-map f now.memories i d d running.inside) ∙ change_index r.slot.0 (decommitted_at r.range) (get_or now.memories i d) ∙ running.index d;
+      kept = subst K (sym same) (zip_map (IsKeptBy k) (IsKeptBy k) (change_at k (decommitted_at r.range)) old.memories now.memories (kept_more k r.range) running.kept);
+      range_room = running.range_room;
+      slot_room = running.slot_room;
+      takes = running.takes;
+      appended = running.appended;
+    }
+
+pub run_step : (k i : ℕ) (old now new : QueueState) → IsRunning k i old now → begins_with k now.ranges ≡ true → new ≡ after_first now → IsRunning k i old new
+run_step k i old now new running begins is =
+    let R : QueueState → Type 0 = λ q. IsRunning k i old q in
+    subst R (sym is) (run_step_of k i old now now.ranges running begins)
+
+pub run_over : (k i : ℕ) (old now : QueueState) → IsRunning k i old now → begins_with k now.ranges ≡ false → now ≡ after_run_of k old
+run_over k i old now running ends = sym (run_end k now ends) ∙ running.rest
+
+begins_some : (k : ℕ) (ranges : List QueuedRange) → begins_with k ranges ≡ true → (0 < length ranges) × (first_slot ranges ≡ k)
+begins_some k [] begins = absurd cc
+begins_some k (r ∷ rs) begins = (omega arith, of_slot k r begins)
+
+pub run_some : (k : ℕ) (ranges : List QueuedRange) → begins_with k ranges ≡ true → 0 < length ranges
+run_some k ranges begins = (begins_some k ranges begins).0
+
+smaller_of : (k : ℕ) (ranges : List QueuedRange) (q : QueueState) → begins_with k ranges ≡ true → length (after_first_of ranges q).ranges < length ranges
+smaller_of k [] q begins = absurd cc
+smaller_of k (r ∷ rs) q begins = omega arith
+
+pub run_smaller : (k : ℕ) (now new : QueueState) → begins_with k now.ranges ≡ true → new ≡ after_first now → length new.ranges < length now.ranges
+run_smaller k now new begins is = rw is (smaller_of k now.ranges now begins)
+
+-- a fault in a run under way is one of the whole run
+pub run_faulted : (k i : ℕ) (old now new : QueueState) → IsRunning k i old now → begins_with k now.ranges ≡ true → first_slot old.ranges ≡ k → IsFaulted now new → IsFaulted old new
+run_faulted k i old now new running begins first fault =
+    let here : first_slot now.ranges ≡ k = (begins_some k now.ranges begins).1 in
+    let L : ℕ → Type 0 = λ n. AllZip (IsLeftBy n) now.memories new.memories in
+    let M : ℕ → Type 0 = λ n. AllZip (IsLeftBy n) old.memories new.memories in
+    record {
+      ranges = fault.ranges;
+      memories = subst M (sym first) (zip_both (IsKeptBy k) (IsLeftBy k) (IsLeftBy k) old.memories now.memories new.memories (left_by k) running.kept (subst L here fault.memories));
+      range_room = fault.range_room ∙ running.range_room;
+      slot_room = fault.slot_room ∙ running.slot_room;
+      takes = fault.takes ∙ running.takes;
+      appended = fault.appended ∙ running.appended;
+    }
+
+-- no range is left after a fault
+pub faulted_owned : (old new : QueueState) → IsFaulted old new → HasOwners new
+faulted_owned old new fault =
+    let O : List QueuedRange → Type 0 = λ l. AreOwned l new.memories in
+    subst O (sym fault.ranges) tt
+
+-- A flush under way: what is left to be decommitted leads to the same slots.
+pub record IsFlushing (old now : QueueState) : Type 0 where
+  pub rest : settled now ≡ settled old
+  pub owned : HasOwners now
+  pub kept : AllZip IsKeptItem old.memories now.memories
+  pub range_room : now.range_room ≡ old.range_room
+  pub slot_room : now.slot_room ≡ old.slot_room
+  pub takes : now.takes ≡ old.takes
+  pub appended : now.appended ≡ old.appended
+
+pub flush_begins : (q : QueueState) → HasOwners q → IsFlushing q q
+flush_begins q owned = record { rest = refl; owned = owned; kept = zip_same IsKeptItem q.memories kept_item_self; range_room = refl; slot_room = refl; takes = refl; appended = refl }
+
+pub flush_step : (old now new : QueueState) → IsFlushing old now → new ≡ after_run now → HasOwners new → IsFlushing old new
+flush_step old now new flushing is owned =
+    let k : ℕ = first_slot now.ranges in
+    let done : List ByteRange = map (λ r. r.range) (front (is_of Memory k) now.ranges) in
+    let K : QueueState → Type 0 = λ q. AllZip IsKeptItem old.memories q.memories in
+    record {
+      rest = ap settled is ∙ settled_run k now ∙ flushing.rest;
+      owned = owned;
+      kept = subst K (sym is) (zip_map IsKeptItem IsKeptItem (change_at k (decommitted_all done)) old.memories now.memories (kept_run k done) flushing.kept);
+      range_room = ap (λ (q : QueueState). q.range_room) is ∙ flushing.range_room;
+      slot_room = ap (λ (q : QueueState). q.slot_room) is ∙ flushing.slot_room;
+      takes = ap (λ (q : QueueState). q.takes) is ∙ flushing.takes;
+      appended = ap (λ (q : QueueState). q.appended) is ∙ flushing.appended;
+    }
+
+behind_short : (test : QueuedRange → Bool) (rs : List QueuedRange) → length (behind test rs) ≤ length rs
+behind_short test [] = omega arith
+behind_short test (r ∷ rs) =
+    elim (cases_Bool (test r)) [
+      | inl e ↦ let less : length (behind test rs) ≤ length rs = behind_short test rs in rw e (omega (arith, less))
+      | inr e ↦ rw e (omega arith)
+    ]
+
+owned_kind : (kind : QueueKind) (n : ℕ) (ms : List QueuedMemory) → is_held kind n ms ≡ true → same_kind Memory kind ≡ true
+owned_kind Memory n ms held = refl
+owned_kind Table n ms held = absurd cc
+owned_kind Stack n ms held = absurd cc
+
+behind_less : (ranges : List QueuedRange) (ms : List QueuedMemory) → 0 < length ranges → AreOwned ranges ms → length (behind (is_of Memory (first_slot ranges)) ranges) < length ranges
+behind_less [] ms some owned = absurd (omega arith)
+behind_less (r ∷ rs) ms some owned =
+    let of : is_of Memory r.slot.0 r ≡ true = and_from (same_kind Memory r.kind) (r.slot.0 == r.slot.0) (owned_kind r.kind r.slot.0 ms owned.0) (eq-eqb r.slot.0 r.slot.0 refl) in
+    let less : length (behind (is_of Memory r.slot.0) rs) ≤ length rs = behind_short (is_of Memory r.slot.0) rs in
+    rw of (omega (arith, less))
+
+pub flush_smaller : (now new : QueueState) → 0 < length now.ranges → HasOwners now → new ≡ after_run now → length new.ranges < length now.ranges
+flush_smaller now new some owned is = rw is (behind_less now.ranges now.memories some owned)
+
+nothing_left : (ms : List QueuedMemory) → map (settle []) ms ≡ ms
+nothing_left [] = refl
+nothing_left (m ∷ ms) = ap (λ (l : List QueuedMemory). m ∷ l) (nothing_left ms)
+
+pub no_ranges : (ranges : List QueuedRange) → (0 < length ranges → ⊥) → ranges ≡ []
+no_ranges [] none = refl
+no_ranges (r ∷ rs) none = absurd (none (omega arith))
+
+pub flush_over : (old now : QueueState) → IsFlushing old now → now.ranges ≡ [] → now.memories ≡ settled old
+flush_over old now flushing none =
+    sym (nothing_left now.memories) ∙ ap (λ (l : List QueuedRange). map (settle l) now.memories) (sym none) ∙ flushing.rest
+
+pub flush_faulted : (old now new : QueueState) → IsFlushing old now → 0 < length now.ranges → IsFaulted now new → AreLost old.memories new.memories
+flush_faulted old now new flushing some fault = are_lost old now new flushing.kept some flushing.owned fault
+
+unheld_none : (kind : QueueKind) (n : ℕ) → is_held kind n [] ≡ true → ⊥
+unheld_none Memory n held = absurd cc
+unheld_none Table n held = absurd cc
+unheld_none Stack n held = absurd cc
+
+-- a queue without slots has no ranges
+pub no_slots : (ranges : List QueuedRange) (ms : List QueuedMemory) → ms ≡ [] → AreOwned ranges ms → ranges ≡ []
+no_slots [] ms none owned = refl
+no_slots (r ∷ rs) ms none owned =
+    let H : List QueuedMemory → Type 0 = λ l. is_held r.kind r.slot.0 l ≡ true in
+    absurd (unheld_none r.kind r.slot.0 (subst H none owned.0))
+
+pub always_err : {T E : Type 0} (r : Result T E) (P : Type 0) → P → OnErr r P
+always_err (Ok x) P p = tt
+always_err (Err e) P p = p

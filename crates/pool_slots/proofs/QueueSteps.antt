@@ -7,6 +7,7 @@ use Rattle.std.proofs.lemmas.List.{length-map}
 use Rattle.std.proofs.lemmas.List.Elements.{All-head, All-tail}
 use Rattle.pool_images.specs.declared.ranges.ByteRange.{ByteRange}
 use Rattle.pool_images.specs.Slots.{Slot, IsClean, IsLeft, IsPart, size_of, decommitted_all}
+use Rattle.pool_images.proofs.Queued.{fits_next}
 use Rattle.pool_slots.specs.declared.queued_range.QueueKind.{QueueKind}
 use Rattle.pool_slots.specs.declared.queued_range.QueueKind.TheVariants.{Memory, Table, Stack}
 use Rattle.pool_slots.specs.declared.queued_range.QueuedRange.{QueuedRange}
@@ -48,6 +49,7 @@ clean_first r rs m kind c =
           let parts : All P (r.range ∷ ranges_of Memory m.index rs) = rw here at c.parts in
           let L : QueuedMemory → Type 0 = λ n. LeavesClean rs n in
           subst L (sym (change_here r.slot.0 (decommitted_at r.range) m e)) (record {
+            fits = λ known. fits_next r.range m.slot (c.fits known) (All-head P r.range (ranges_of Memory m.index rs) parts);
             parts = All-tail P r.range (ranges_of Memory m.index rs) parts;
             clean = λ known. let done : IsClean (decommitted_all (ranges_of Memory m.index (r ∷ rs)) m.slot) = c.clean known in rw here at done;
             bytes = c.bytes;
@@ -56,6 +58,7 @@ clean_first r rs m kind c =
           let elsewhere : ranges_of Memory m.index (r ∷ rs) ≡ ranges_of Memory m.index rs = ranges_elsewhere m.index r rs (of_memory m.index r kind ∙ e) in
           let L : QueuedMemory → Type 0 = λ n. LeavesClean rs n in
           subst L (sym (change_elsewhere r.slot.0 (decommitted_at r.range) m e)) (record {
+            fits = c.fits;
             parts = rw elsewhere at c.parts;
             clean = λ known. let done : IsClean (decommitted_all (ranges_of Memory m.index (r ∷ rs)) m.slot) = c.clean known in rw elsewhere at done;
             bytes = c.bytes;

@@ -169,5 +169,5 @@ pub record Returns (items : List QueuedMemory) (old new : PoolState) : Type 0 wh
   pub uses : (k : ℕ) → holds k items ≡ false → use_of new.shard k ≡ use_of old.shard k
   pub count : length new.cells ≡ length old.cells
   pub same : (new.page ≡ old.page) × (new.static_size ≡ old.static_size) × (new.keep_resident ≡ old.keep_resident)
-  pub used : (maker : MakerTold) → IsPool maker old → used_count new.shard + length items ≡ used_count old.shard
+  pub used : (maker : MakerTold) → IsPool maker old → AreSlotsOf maker old.static_size items → used_count new.shard + length items ≡ used_count old.shard
   pub pool : (maker : MakerTold) → IsPool maker old → AreSlotsOf maker old.static_size items → IsPool maker new

@@ -1,6 +1,7 @@
 ghost use Rattle.std.specs.Prelude.{◌≡◌, ◌+◌, ◌<◌, ◌≤◌, ◌==◌, ◌^◌, [], ◌∷◌, ◌++◌, length, ℕ, List, nat_lt, false, true, IfOk, IfSome, OnOk, OnErr, MatchOption, slice_index_or};
 ghost use Rattle.std.specs.List.{HoldsAt};
-ghost use Rattle.pool_slots.specs.Queues.{QueuedMemory, QueueState, empty_queue, emptied, is_held, holds, HasOwners, AreDistinct, AreApart, LeavesClean, ForgetsNothing, with_range, with_ranges, with_memory, joined, after_take, taken_into, IsSpareOf, after_run, IsFaulted, IsFlushed, AreSettled, IsSettled, calls_held, first_slot};
+ghost use Rattle.pool_images.specs.declared.ranges.ByteRange.{ByteRange};
+ghost use Rattle.pool_slots.specs.Queues.{QueuedMemory, QueueState, empty_queue, emptied, is_held, holds, HasOwners, AreDistinct, AreApart, LeavesClean, ForgetsNothing, with_range, with_ranges, with_memory, joined, after_take, taken_into, IsSpareOf, after_run, after_run_of, IsFaulted, IsFlushed, AreSettled, IsSettled, calls_held, first_slot};
 ghost use Rattle.pool_slots.specs.QueueSteps.{begins_with, after_first};
 ghost use Rattle.pool_slots.specs.declared.queued_range.QueueKind.TheVariants.{Memory};
 
@@ -87,11 +88,11 @@ impl<P: Pages> DecommitQueue<P> {
         requires not_held { holds slot.0 self.old.memories ≡ false }
         ensures { self.new ≡ with_ranges slot.0 ranges.now self.old }
     {
-        for range in ranges {
+        for at in 0..ranges.len() {
             self.push_range(QueuedRange {
                 kind: QueueKind::Memory,
                 slot,
-                range: *range,
+                range: range_at(ranges, at),
             });
         }
     }
@@ -187,7 +188,7 @@ impl<P: Pages> DecommitQueue<P> {
     /// Decommits the ranges at the front that are of one slot, in order. Ranges of no length make no page call. Where a
     /// decommit fails, the further ranges are dropped, and nothing is known of any slot that is held.
     ///
-    /// The slot is looked for from behind that of the run before, so that a flush goes through the slots once where the
+    /// The slot is looked for from that of the run before on, so that a flush goes through the slots once where the
     /// runs stand in the order of the slots.
     pub fn decommit_run(&mut self) -> Result<(), PageFault>
         requires some { 0 < length self.old.ranges }
@@ -196,9 +197,35 @@ impl<P: Pages> DecommitQueue<P> {
         ensures err { OnErr result (IsFaulted self.old self.new) }
         ensures owners { HasOwners self.new }
     {
-        let slot = self.ranges[0].slot;
+        let slot = self.first_slot();
         let at = self.place_of(slot);
-        self.cursor = at + 1;
+        self.begin_at(at);
+        self.decommit_all_of(slot, at)
+    }
+
+    fn first_slot(&self) -> SlotId
+        requires { 0 < length self.now.ranges }
+        ensures { result.0 ≡ first_slot self.now.ranges }
+    {
+        self.ranges[0].slot
+    }
+
+    fn begin_at(&mut self, at: usize)
+        ensures { self.new ≡ self.old }
+    {
+        self.cursor = at;
+    }
+
+    // Decommits the ranges at the front that are of the slot at this place.
+    fn decommit_all_of(&mut self, slot: SlotId, at: usize) -> Result<(), PageFault>
+        requires first { first_slot self.old.ranges ≡ slot.0 }
+        requires inside { at < length self.old.memories }
+        requires index { HoldsAt (λ m. m.index ≡ slot.0) self.old.memories at }
+        requires owners { HasOwners self.old }
+        ensures ok { OnOk result (self.new ≡ after_run_of slot.0 self.old) }
+        ensures err { OnErr result (IsFaulted self.old self.new) }
+        ensures owners { HasOwners self.new }
+    {
         while self.continues(slot) {
             self.decommit_first(at)?;
         }
@@ -238,6 +265,7 @@ impl<P: Pages> DecommitQueue<P> {
     // Decommits the first range, which is of the slot at this place.
     fn decommit_first(&mut self, at: usize) -> Result<(), PageFault>
         requires inside { at < length self.old.memories }
+        requires some { 0 < length self.old.ranges }
         requires index { HoldsAt (λ m. begins_with m.index self.old.ranges ≡ true) self.old.memories at }
         ensures ok { OnOk result (self.new ≡ after_first self.old) }
         ensures err { OnErr result (IsFaulted self.old self.new) }
@@ -262,7 +290,7 @@ impl<P: Pages> DecommitQueue<P> {
         ensures memories { IsFlushed self.old self.new.memories }
         ensures same { self.new ≡ record self.old { ranges = []; memories = self.new.memories } }
     {
-        while !self.ranges.is_empty() {
+        while self.raw_len() > 0 {
             let Ok(()) = self.decommit_run() else {
                 return;
             };
@@ -310,11 +338,18 @@ impl<P: Pages> DecommitQueue<P> {
         ensures returned { result ≡ true → (items : List QueuedMemory) × IsFlushed self.old items × D.returns items pool.old pool.new }
         ensures same { result ≡ false → pool.new ≡ pool.old }
     {
-        if self.memories.is_empty() {
+        if self.is_empty() {
             return false;
         }
         self.decommit_all();
         self.give_back(pool);
         true
     }
+}
+
+fn range_at(ranges: &[ByteRange], at: usize) -> ByteRange
+    requires { at < length ranges.now }
+    ensures { (d : ByteRange) → result ≡ slice_index_or ranges.now at d }
+{
+    ranges[at]
 }

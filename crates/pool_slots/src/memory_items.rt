@@ -1,7 +1,7 @@
-ghost use Rattle.std.specs.Prelude.{◌≡◌, ◌+◌, ◌<◌, ◌≤◌, ◌==◌, [], ◌∷◌, ◌++◌, length, List, map, slice_index_or, slice_set, IfOk, IfSome, MatchOption, OnOk, OnErr};
+ghost use Rattle.std.specs.Prelude.{◌≡◌, ◌+◌, ◌<◌, ◌≤◌, ◌==◌, [], ◌∷◌, ◌++◌, length, List, map, slice_index_or, slice_set, IfOk, OnOk, OnErr};
 ghost use Rattle.std.specs.List.{HoldsAt};
 ghost use Rattle.pool_images.specs.Slots.{IsPart, IsLeft, size_of};
-ghost use Rattle.pool_slots.specs.Queues.{QueuedMemory, decommitted_at, forgotten, IsLeftItem};
+ghost use Rattle.pool_slots.specs.Queues.{QueuedMemory, TakesFirst, decommitted_at, forgotten, IsLeftItem};
 
 use crate::request::MemoryAllocationIndex;
 use crate::uses::decommit_one;
@@ -103,7 +103,7 @@ impl<P: Pages> MemoryItems<P> {
 
     /// Takes out the first. The others don't move.
     pub fn pop_front(&mut self) -> Option<MemoryItem<P>>
-        ensures { MatchOption result ((self.old.items ≡ []) × (self.new ≡ self.old)) (λ m. (self.old.items ≡ m ∷ self.new.items) × (self.new.room ≡ self.old.room)) }
+        ensures { TakesFirst self.old result self.new }
     {
         self.list.pop_front()
     }
@@ -150,5 +150,22 @@ impl<P: Pages> MemoryItems<P> {
         };
         item.known = false;
         self.list.push_back_reserved(item);
+    }
+}
+
+impl<P: Pages> Iterator for MemoryItems<P> {
+    type Item = MemoryItem<P>;
+
+    ghost use Rattle.std.specs.Prelude.{length};
+    ghost use Rattle.std.specs.Iterator.{at_most};
+    ghost use Rattle.pool_slots.specs.Queues.{TakesFirst};
+
+    ghost next_gives = { TakesFirst };
+
+    ghost remaining = { λ l. at_most (length l.items) };
+
+    /// Takes out the first, as `pop_front`.
+    fn next(&mut self) -> Option<MemoryItem<P>> {
+        self.list.pop_front()
     }
 }

@@ -5,14 +5,14 @@ ghost use Rattle.pool_index.specs.Shard.{used_count, resident_bytes, is_used, af
 ghost use Rattle.pool_images.specs.Slots.{FitsInto, IsClean};
 ghost use Rattle.pool_slots.specs.Cells.{calls_of_all};
 ghost use Rattle.pool_slots.specs.CellOf.{cell_of};
-ghost use Rattle.pool_slots.specs.Pools.{PoolState, IsPool, IsMade, Begins, IsRefused, AreUsed, Returns, cell_left, RaisesFaults, makes_listed, IsListed};
-ghost use Rattle.pool_slots.specs.Queues.{AreSettled};
+ghost use Rattle.pool_slots.specs.Pools.{PoolState, IsPool, IsMade, Begins, IsRefused, AreUsed, Returns, RaisesFaults, makes_listed, IsListed};
+ghost use Rattle.pool_slots.specs.Queues.{QueuedMemory, AreSettled};
 ghost use Rattle.pool_slots.specs.Turns.{TakesSlot, PutsSlot, IsFullNow};
 
 use crate::cells::{ImageSlot, MemoryCell, add_calls, no_calls};
 use crate::lease::MemoryLease;
 use crate::making::make_cells;
-use crate::memory_items::MemoryItems;
+use crate::memory_items::{MemoryItem, MemoryItems};
 use crate::request::{
     AllocError, ConcurrencyKind, MemoryAllocationIndex, PoolConcurrencyLimitError, PoolNewError,
 };
@@ -26,6 +26,7 @@ use pool_pages::{
 };
 use std::alloc::Global;
 use std::marker::Model;
+use std::mem;
 use std::sync::Arc;
 
 /// The slots for linear memories. Each slot has a region, which lies in the slot's cell while the slot is free, and in
@@ -220,7 +221,12 @@ impl<P: Pages> MemoryPool<P> {
         requires bytes { bytes ≤ 2 ^ 32 }
         ensures { Returns (record { index = index.0; slot = slot; known = known; bytes = bytes } ∷ []) self.old self.new }
     {
-        self.put_slot(SlotId(index.0), left(slot, known), bytes);
+        self.put_back(MemoryItem {
+            index,
+            slot,
+            known,
+            bytes,
+        });
     }
 
     /// The same for each of the slots in order, which are taken out of the list.
@@ -230,9 +236,44 @@ impl<P: Pages> MemoryPool<P> {
         ensures returned { Returns items.old.items self.old self.new }
         ensures empty { items.new ≡ record items.old { items = [] } }
     {
-        while let Some(item) = items.pop_front() {
-            self.deallocate(item.index, item.slot, item.known, item.bytes);
-        }
+        self.memories(items);
+    }
+}
+
+// One slot comes back. The bodies of these two traits call nothing that is generic in `P`: what an `impl` of a trait calls
+// can't rest on the bound that `P` is `Send`.
+trait PutBack<P: Pages> {
+    ghost accepts_one: { QueuedMemory → Self → Type 0 };
+
+    ghost returns_one: { QueuedMemory → Self → Self → Type 0 };
+
+    fn put_back(&mut self, item: MemoryItem<P>)
+        requires { accepts_one item self.old }
+        ensures { returns_one item self.old self.new };
+}
+
+impl<P: Pages> PutBack<P> for MemoryPool<P> {
+    ghost use Rattle.std.specs.Prelude.{[], ◌∷◌};
+    ghost use Rattle.pool_slots.specs.Queues.{IsSettled};
+    ghost use Rattle.pool_slots.specs.Pools.{IsUsed, Returns};
+
+    ghost accepts_one = { λ m p. IsUsed p m × IsSettled m };
+
+    ghost returns_one = { λ m old new. Returns (m ∷ []) old new };
+
+    fn put_back(&mut self, item: MemoryItem<P>)
+        requires { IsUsed self.old item × IsSettled item }
+        ensures { Returns (item ∷ []) self.old self.new }
+    {
+        let slot = SlotId(item.index.0);
+        let cell = &mut self.cells[slot.index()];
+        let into = if item.known {
+            ImageSlot::PreviouslyUsed(item.slot)
+        } else {
+            ImageSlot::Unknown(item.slot)
+        };
+        let _taken = mem::replace(cell, MemoryCell { slot: into });
+        self.shard.free(slot, item.bytes);
     }
 }
 
@@ -244,16 +285,8 @@ impl<P: Pages> SlotReturn<P> for MemoryPool<P> {
     ghost returns = { Returns };
 
     fn memories(&mut self, items: &mut MemoryItems<P>) {
-        self.deallocate_many(items)
-    }
-}
-
-fn left<P: Pages>(slot: MemoryImageSlot<P>, known: bool) -> ImageSlot<P>
-    ensures { cell_of result ≡ cell_left known slot }
-{
-    if known {
-        ImageSlot::PreviouslyUsed(slot)
-    } else {
-        ImageSlot::Unknown(slot)
+        while let Some(item) = items.next() {
+            self.put_back(item);
+        }
     }
 }

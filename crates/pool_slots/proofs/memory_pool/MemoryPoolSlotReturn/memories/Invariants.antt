@@ -1,7 +1,7 @@
 use Rattle.std.proofs.Common.{length}
 use Rattle.pool_slots.specs.Pools.{PoolState, AreUsed, Returns}
 use Rattle.pool_slots.specs.Queues.{AreSettled}
-use Rattle.pool_slots.proofs.memory_pool.MemoryPool.deallocate_many.Given as goal
+use Rattle.pool_slots.proofs.memory_pool.MemoryPoolSlotReturn.memories.Given as goal
 
 -- the return of what is left makes the return of all
 abbrev pub invariant-loop-item : goal.invariant-loop-item
