@@ -1,8 +1,17 @@
 pub mod Changes
+pub mod Coverings
 pub mod Identity
 pub mod Reading
 pub mod Resets
 pub mod Returns
+pub mod PageSizes
 pub mod Plans
+pub mod QueueLists
+pub mod QueueChanges
+pub mod QueueFaults
+pub mod QueueFirst
+pub mod QueueRuns
+pub mod QueueSteps
 pub mod Fresh
+pub mod GiveBacks
 pub mod Written
