@@ -1,3 +1,4 @@
+pub mod ByteCountTexts
 pub mod Config
 pub mod ConfigLimits
 pub mod ConfigTexts

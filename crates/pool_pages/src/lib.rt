@@ -3,6 +3,10 @@
 
 mod bad_config;
 mod byte_count;
+mod byte_count_errors;
+mod byte_count_forms;
+#[cfg(test)]
+mod byte_count_tests;
 mod column_edits;
 mod config;
 mod dense_pages;
@@ -22,7 +26,9 @@ mod region;
 mod unsupported;
 
 pub use bad_config::{BadConfig, ConfigField, PairedTunable};
-pub use byte_count::{ByteCountNotAligned, ByteCountOutOfBounds, HostAlignedByteCount, PageSize};
+pub use byte_count::{HostAlignedByteCount, PageSize};
+pub use byte_count_errors::{ByteCountNotAligned, ByteCountOutOfBounds};
+pub use byte_count_forms::{CompareBytes, byte_counts_agree};
 pub use config::{Enabled, InstanceLimits, PoolingAllocationConfig};
 pub use image_data::ImageData;
 pub use maker::{MakeFault, PageMaker};
