@@ -13,3 +13,4 @@ pub mod MemoryTypes
 pub mod Numerals
 pub mod PageLaws
 pub mod Told
+pub mod UnsupportedTexts

@@ -23,6 +23,9 @@ mod page_laws;
 mod pages;
 mod plain_list;
 mod region;
+#[cfg(test)]
+mod settings_tests;
+mod text;
 mod unsupported;
 
 pub use bad_config::{BadConfig, ConfigField, PairedTunable};
@@ -42,4 +45,5 @@ pub use page_laws::calls_change_their_pages;
 pub use pages::{DecommitBehavior, PageCalls, PageFault, Pages, RegionName};
 pub use plain_list::{ByteList, PlainList};
 pub use region::PageRegion;
+pub use text::Text;
 pub use unsupported::Unsupported;
