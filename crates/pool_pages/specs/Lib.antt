@@ -1,3 +1,4 @@
+pub mod ByteCountTexts
 pub mod Config
 pub mod ConfigLimits
 pub mod ConfigTexts
@@ -12,3 +13,4 @@ pub mod MemoryTypes
 pub mod Numerals
 pub mod PageLaws
 pub mod Told
+pub mod UnsupportedTexts

@@ -1,8 +1,10 @@
-ghost use Rattle.std.specs.Prelude.{◌≡◌, Some};
+ghost use Rattle.std.specs.Prelude.{◌≡◌, Some, IfOk};
 ghost use Rattle.pool_pages.specs.ConfigLimits.{greatest};
 ghost use Rattle.pool_pages.specs.ConfigTexts.{field_text, tunable_text, bad_config_text};
 
 use crate::numerals::Hexadecimal;
+use crate::text::Text;
+use std::alloc::{AllocError, Global};
 use std::error::Error;
 use std::fmt;
 
@@ -210,3 +212,11 @@ impl fmt::Display for BadConfig {
 }
 
 impl Error for BadConfig {}
+
+impl BadConfig {
+    pub fn text(&self, alloc: Global) -> Result<Text, AllocError>
+        ensures { IfOk result (λ text. text ≡ bad_config_text self.now) }
+    {
+        Ok(Text::from_string(self.to_string(alloc)?))
+    }
+}
