@@ -6,6 +6,7 @@ pub mod Resets
 pub mod Returns
 pub mod PageSizes
 pub mod Plans
+pub mod Progress
 pub mod QueueLists
 pub mod QueueChanges
 pub mod QueueFaults

@@ -1,4 +1,4 @@
-use Rattle.std.proofs.Common.{length}
+use Rattle.std.proofs.Common.{◌≡◌, length}
 use Rattle.pool_slots.specs.Pools.{PoolState, AreUsed, Returns}
 use Rattle.pool_slots.specs.Queues.{AreSettled}
 use Rattle.pool_slots.proofs.memory_pool.MemoryPoolSlotReturn.memories.Given as goal
@@ -8,6 +8,7 @@ abbrev pub invariant-loop-item : goal.invariant-loop-item
 invariant-loop-item g l = record {
   settled : AreSettled l.items.items;
   used : AreUsed l.self l.items.items;
+  room : l.items.room ≡ l.fn.items.room;
   rest : (new : PoolState) → Returns l.items.items l.self new → Returns l.fn.items.items l.fn.self new;
 }
 
