@@ -1,6 +1,6 @@
-ghost use Rattle.std.specs.Prelude.{◌≡◌, ◌+◌, ◌<◌, [], ◌∷◌, replicate, true, false, Some, IfOk, IfSome, OnOk};
+ghost use Rattle.std.specs.Prelude.{◌≡◌, ◌+◌, ◌-◌, ◌<◌, [], ◌∷◌, replicate, true, false, Some, IfOk, IfSome, OnOk};
 ghost use Rattle.pool_pages.specs.Told.{decommitting};
-ghost use Rattle.pool_images.specs.Slots.{IsReady, IsClean, called};
+ghost use Rattle.pool_images.specs.Slots.{IsReady, IsClean, called, cleared};
 
 use crate::image_slot::MemoryImageSlot;
 use crate::memory_image::{ImageError, ModuleMemoryImages};
@@ -35,22 +35,25 @@ fn module(alloc: Global, ty: MemoryType, offset: u64) -> Result<ModuleInfo, Fail
     Ok(ModuleInfo { memories })
 }
 
-fn reset<P: Pages>(slot: &mut MemoryImageSlot<P>) -> Result<(), Fail>
+// Resets the slot, of which more is accessible than is kept, and decommits what that leaves. Answers what was set by hand.
+fn reset<P: Pages>(slot: &mut MemoryImageSlot<P>, keep: HostAlignedByteCount) -> Result<usize, Fail>
     requires dirty { slot.old.dirty ≡ true }
     requires ready { IfSome slot.old.region.contents (IsReady slot.old) }
-    requires some { 0 < slot.old.accessible.bytes }
+    requires page { keep.page ≡ slot.old.region.page }
+    requires less { keep.bytes < slot.old.accessible.bytes }
+    ensures kept { IfOk result (λ n. n ≡ keep.bytes) }
     ensures clean { OnOk result (IsClean slot.new) }
-    ensures value { OnOk result (slot.new ≡ called (decommitting (slot.old.base.bytes + 0) slot.old.accessible.bytes) (record slot.old { dirty = false })) }
+    ensures value { OnOk result (slot.new ≡ called (decommitting (slot.old.base.bytes + keep.bytes) (slot.old.accessible.bytes - keep.bytes)) (cleared keep.bytes slot.old)) }
 {
     let mut ranges = Ranges::new();
-    slot.clear_and_remain_ready(&mut ranges)?;
+    let _accessible = slot.accessible();
+    let kept = slot.clear_and_remain_ready(keep, &mut ranges)?;
     let range = ranges.as_slice()[0];
     let page = slot.region().page();
-    let _accessible = slot.accessible();
     let start = HostAlignedByteCount::new(page, range.start)?;
     let len = HostAlignedByteCount::new(page, range.len)?;
     slot.decommit(start, len)?;
-    Ok(())
+    Ok(kept)
 }
 
 #[test]
@@ -81,14 +84,18 @@ fn a_reset_slot_reads_its_image_again(rt: HostRuntime) -> Result<(), Fail> {
     slot.read(14, &mut bytes);
     assert_eq!(rt; bytes, [0, 0, 7, 7]);
     slot.write(14, &[1, 2, 3, 4]);
-    reset(&mut slot)?;
+    assert_eq!(rt; reset(&mut slot, page.zero())?, 0);
 
     let calls = slot.region().calls();
     slot.instantiate(48, Some(image), &ty, &tunables)?;
     assert_eq!(rt; slot.region().calls(), calls);
     slot.read(14, &mut bytes);
     assert_eq!(rt; bytes, [0, 0, 7, 7]);
-    reset(&mut slot)?;
+    slot.write(14, &[1, 2, 3, 4]);
+    let kept = HostAlignedByteCount::new(page, 32)?;
+    assert_eq!(rt; reset(&mut slot, kept)?, 32);
+    slot.read(14, &mut bytes);
+    assert_eq!(rt; bytes, [0, 0, 7, 7]);
 
     slot.remove_image()?;
     slot.read(14, &mut bytes);

@@ -23,9 +23,10 @@ pub record IsChanged (i : ℕ) (cell : Cell) (old new : PoolState) : Type 0 wher
   pub sound : IsShard new.shard
   pub page : new.page ≡ old.page
   pub static_size : new.static_size ≡ old.static_size
+  pub keep_resident : new.keep_resident ≡ old.keep_resident
 
-changed_by : (i : ℕ) (cell : Cell) (old new : PoolState) → i < length old.cells → new.cells ≡ slice_set old.cells i cell → ((k : ℕ) → (k ≡ i → ⊥) → use_of new.shard k ≡ use_of old.shard k) → IsSameShard old.shard new.shard → IsShard new.shard → new.page ≡ old.page → new.static_size ≡ old.static_size → IsChanged i cell old new
-changed_by i cell old new inside cells uses same sound page static_size =
+changed_by : (i : ℕ) (cell : Cell) (old new : PoolState) → i < length old.cells → new.cells ≡ slice_set old.cells i cell → ((k : ℕ) → (k ≡ i → ⊥) → use_of new.shard k ≡ use_of old.shard k) → IsSameShard old.shard new.shard → IsShard new.shard → new.page ≡ old.page → new.static_size ≡ old.static_size → new.keep_resident ≡ old.keep_resident → IsChanged i cell old new
+changed_by i cell old new inside cells uses same sound page static_size keep_resident =
     record {
       inside = inside;
       count = ap (λ (l : List Cell). length l) cells ∙ length-set old.cells i cell;
@@ -36,13 +37,14 @@ changed_by i cell old new inside cells uses same sound page static_size =
       sound = sound;
       page = page;
       static_size = static_size;
+      keep_resident = keep_resident;
     }
 
 pub changed_taken : (i : ℕ) (had : Cell) (old new : PoolState) → TakesSlot i had old new → IsChanged i taken old new
-changed_taken i had old new t = changed_by i taken old new t.inside t.cells t.others t.same t.sound t.page t.static_size
+changed_taken i had old new t = changed_by i taken old new t.inside t.cells t.others t.same t.sound t.page t.static_size t.keep_resident
 
-pub changed_put : (slot : SlotId) (into : Cell) (old new : PoolState) → slot.0 < length old.cells → PutsSlot slot into old new → IsChanged slot.0 into old new
-changed_put slot into old new inside t = changed_by slot.0 into old new inside t.cells t.others t.same t.sound t.page t.static_size
+pub changed_put : (slot : SlotId) (into : Cell) (bytes : ℕ) (old new : PoolState) → slot.0 < length old.cells → PutsSlot slot into bytes old new → IsChanged slot.0 into old new
+changed_put slot into bytes old new inside t = changed_by slot.0 into old new inside t.cells t.others t.same t.sound t.page t.static_size t.keep_resident
 
 -- two changes of one slot, one after the other
 pub changed_twice : (i : ℕ) (a b : Cell) (old mid new : PoolState) → IsChanged i a old mid → IsChanged i b mid new → IsChanged i b old new
@@ -63,6 +65,7 @@ changed_twice i a b old mid new first second =
       sound = second.sound;
       page = second.page ∙ first.page;
       static_size = second.static_size ∙ first.static_size;
+      keep_resident = second.keep_resident ∙ first.keep_resident;
     }
 
 pub changes : (i : ℕ) (cell : Cell) (old new : PoolState) → IsChanged i cell old new → ChangesSlot i old new
@@ -70,6 +73,7 @@ changes i cell old new c =
     record {
       page = c.page;
       static_size = c.static_size;
+      keep_resident = c.keep_resident;
       count = c.count;
       cells = c.elsewhere;
       used = λ k other. ap (λ (o : Option (Option MemoryInModule)). is_some o) (c.uses k other);
@@ -86,6 +90,8 @@ pool_changed maker i cell old new pool c holds empty =
       page = c.page ∙ pool.page;
       page_size = rw c.page pool.page_size;
       bounded = rw (c.page, c.static_size) pool.bounded;
+      kept_page = rw (c.page, c.keep_resident) pool.kept_page;
+      kept = rw c.keep_resident pool.kept;
       cells = λ k below.
           elim (cases_eq k i) [
             | inl e ↦ rw (e, c.here, c.static_size) holds

@@ -1,5 +1,5 @@
 -- A pool as it is made, and the sum of the calls on its regions.
-use Rattle.std.proofs.Common.{◌≡◌, ℕ, ◌+◌, ◌-◌, ◌^◌, ◌<◌, false, List, length, get_or, take, refl, sym, ap, ◌∙◌, subst, arith, Option, None, min, replicate}
+use Rattle.std.proofs.Common.{◌≡◌, ℕ, ◌+◌, ◌-◌, ◌^◌, ◌<◌, ◌≤◌, false, List, length, get_or, take, refl, sym, ap, ◌∙◌, subst, arith, Option, None, min, replicate}
 use Rattle.std.specs.Prelude.{is_some, slice_index_or, sum_by}
 use Rattle.std.proofs.lemmas.List.{get_or-replicate}
 use Rattle.std.proofs.lemmas.List.Sums.{sum_by_more}
@@ -12,6 +12,7 @@ use Rattle.pool_index.specs.declared.ids.MemoryInModule.{MemoryInModule}
 use Rattle.pool_slots.specs.Cells.{Cell, unmapped, taken, region_made, calls_in, calls_of_all, sum_at_most, added, both}
 use Rattle.pool_slots.specs.Pools.{PoolState, IsPool, IsMade}
 use Rattle.pool_slots.specs.Turns.{AreMade}
+use Rattle.pool_slots.proofs.PageSizes.{rounded_within}
 
 -- the cells that were made hold the regions as made
 pub cells_made : (maker : MakerTold) (page size total : ℕ) (len : Count) (cells : List Cell) → page ≡ maker.page → len ≡ count page (rounded_up page size) → AreMade maker total len cells → (i : ℕ) → i < total → slice_index_or cells i taken ≡ unmapped (region_made maker size i)
@@ -25,8 +26,8 @@ none_used used total i e below =
     let none : slice_index_or (replicate {A = Option (Option MemoryInModule)} total None) i None ≡ None = get_or-replicate {A = Option (Option MemoryInModule)} total i None None below in
     rw (e, none) refl
 
-pub made_pool : (maker : MakerTold) (total size warm : ℕ) (p : PoolState) → IsMade maker total size warm p → IsShard p.shard → IsPageSize p.page → size + 131072 < 2 ^ 64 → IsPool maker p
-made_pool maker total size warm p made sound paged small =
+pub made_pool : (maker : MakerTold) (total size warm kept : ℕ) (p : PoolState) → IsMade maker total size warm kept p → IsShard p.shard → IsPageSize p.page → size + 131072 < 2 ^ 64 → kept ≤ 2 ^ 32 → IsPool maker p
+made_pool maker total size warm kept p made sound paged small keeps =
     let capacity : p.shard.capacity ≡ total = ap (λ (s : ShardState). s.capacity) made.shard in
     record {
       shard = sound;
@@ -36,6 +37,8 @@ made_pool maker total size warm p made sound paged small =
       page = made.page;
       page_size = paged;
       bounded = omega (arith, paged.at_most, made.static_size);
+      kept_page = ap (λ (c : Count). c.page) made.keep_resident ∙ sym made.page;
+      kept = rw made.keep_resident (rounded_within maker.page kept (rw made.page at paged) keeps);
       cells = λ i below.
           let under : i < total = rw made.count at below in
           rw (made.cells i under, made.static_size) refl;

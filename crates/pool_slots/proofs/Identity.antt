@@ -1,18 +1,16 @@
 -- A slot stays that of its region.
-use Rattle.std.proofs.Common.{◌≡◌, ℕ, ◌+◌, ◌-◌, ◌^◌, ◌<◌, ◌≤◌, Bool, true, false, List, [], ◌∷◌, length, refl, sym, ap, ◌∙◌, subst, arith, Option, Some, None, replicate, slice_range}
+use Rattle.std.proofs.Common.{◌≡◌, ℕ, ◌+◌, ◌-◌, ◌^◌, ◌<◌, ◌≤◌, Bool, true, false, List, length, refl, sym, ap, ◌∙◌, subst, arith, Option, Some, None, replicate, slice_range}
 use Rattle.std.specs.Prelude.{IfSome, is_some, option_map, if◌then◌else◌}
 use Rattle.pool_pages.specs.Count.{count, rounded_up}
 use Rattle.pool_pages.specs.Contents.{Contents, CanReach}
-use Rattle.pool_pages.specs.Told.{Told, decommitting}
+use Rattle.pool_pages.specs.Told.{Told}
 use Rattle.pool_pages.specs.MakerTold.{MakerTold, Planned, calls_of, fresh}
 use Rattle.pool_pages.specs.declared.pages.RegionName.TheVariants.{Memory}
-use Rattle.pool_images.specs.declared.ranges.ByteRange.{ByteRange}
-use Rattle.pool_images.specs.Slots.{Slot, IsFresh, IsLeft, called, reset_ranges, decommitted_all}
+use Rattle.pool_images.specs.Slots.{Slot, IsFresh}
 use Rattle.pool_images.proofs.Marks.{range-zeros}
 use Rattle.pool_slots.specs.Cells.{Cell, unmapped, unknown, previously_used, taken, is_taken, region_made, IsRegionOf, IsSlotOf, IsCell}
-use Rattle.pool_slots.specs.Uses.{IsSameRegion, IsWhole, IsFrom, OfRegion, CanBegin, IsResetOf, reset_slot}
-use Rattle.pool_slots.specs.Pools.{MayFault, IsReset}
-use Rattle.pool_slots.proofs.Resets.{IsKept, kept_called}
+use Rattle.pool_slots.specs.Uses.{IsSameRegion, IsWhole, IsFrom, OfRegion, CanBegin}
+use Rattle.pool_slots.specs.Pools.{MayFault}
 
 region_of : (maker : MakerTold) (static_size i : ℕ) (t u : Told) → IsRegionOf maker static_size i t → IsSameRegion t u → IsRegionOf maker static_size i u
 region_of maker static_size i t u r s =
@@ -54,40 +52,6 @@ slot_from maker page static_size i cell s paged holds there from =
       colour = from.whole.colour;
     }
 
-left_region : (s t : Slot) → IsLeft s t → IsSameRegion s.region t.region
-left_region s t l = record { name = l.name; page = l.page; len = l.len; plan = l.plan; tells = l.tells }
-
-kept_region : (s t : Slot) → IsKept s t → IsSameRegion s.region t.region
-kept_region s t l = record { name = l.name; page = l.page; len = l.len; plan = l.plan; tells = l.tells }
-
-left_slot : (maker : MakerTold) (static_size i : ℕ) (s t : Slot) → IsSlotOf maker static_size i s → IsLeft s t → IsSlotOf maker static_size i t
-left_slot maker static_size i s t of l =
-    record {
-      region = region_of maker static_size i s.region t.region of.region (left_region s t l);
-      base = l.base ∙ of.base;
-      same_size = l.static_size ∙ of.same_size;
-      colour = l.colour ∙ of.colour;
-    }
-
-kept_slot : (maker : MakerTold) (static_size i : ℕ) (s t : Slot) → IsSlotOf maker static_size i s → IsKept s t → IsSlotOf maker static_size i t
-kept_slot maker static_size i s t of l =
-    record {
-      region = region_of maker static_size i s.region t.region of.region (kept_region s t l);
-      base = l.base ∙ of.base;
-      same_size = l.static_size ∙ of.same_size;
-      colour = l.colour ∙ of.colour;
-    }
-
-kept_all : (rs : List ByteRange) (s t : Slot) → IsKept s t → IsKept s (decommitted_all rs t)
-kept_all [] s t k = k
-kept_all (r ∷ rs) s t k = kept_all rs s (called (decommitting (t.base.bytes + r.start) r.len) t) (kept_called s t (decommitting (t.base.bytes + r.start) r.len) k)
-
-clean_mark : (s : Slot) → IsKept s (record s { dirty = false })
-clean_mark s = record { base = refl; static_size = refl; colour = refl; name = refl; page = refl; len = refl; plan = refl; tells = refl; faults = refl }
-
-pub kept_reset : (s : Slot) → IsKept s (reset_slot s)
-kept_reset s = kept_all (reset_ranges s.accessible.bytes) s (record s { dirty = false }) (clean_mark s)
-
 unlisted : (f : List Planned → List ℕ) (o : Option (List Planned)) → IfSome (option_map f o) (λ plan. 0 < length plan) → IfSome o (λ plan. 0 < length (f plan))
 unlisted f None h = h
 unlisted f (Some x) h = h
@@ -103,25 +67,6 @@ may_fault_of maker static_size i (unmapped region) r l = may_fault maker static_
 may_fault_of maker static_size i (unknown slot) r l = may_fault maker static_size i slot.region r l
 may_fault_of maker static_size i (previously_used slot) r l = may_fault maker static_size i slot.region r l
 may_fault_of maker static_size i taken r l = absurd r
-
--- what a reset leaves may lie in the cell
-pub reset_cell : (maker : MakerTold) (static_size i : ℕ) (s : Slot) (cell : Cell) → IsSlotOf maker static_size i s → IsResetOf s cell → IsCell maker static_size i cell
-reset_cell maker static_size i s (unmapped region) of r = absurd r
-reset_cell maker static_size i s (unknown slot) of r = left_slot maker static_size i s slot of r
-reset_cell maker static_size i s (previously_used slot) of r = (let P : Slot → Type 0 = λ t. IsSlotOf maker static_size i t in subst P (sym r.0) (kept_slot maker static_size i s (reset_slot s) of (kept_reset s)), r.1)
-reset_cell maker static_size i s taken of r = absurd r
-
-pub reset_there : (s : Slot) (cell : Cell) → IsResetOf s cell → is_taken cell ≡ false
-reset_there s (unmapped region) r = refl
-reset_there s (unknown slot) r = refl
-reset_there s (previously_used slot) r = refl
-reset_there s taken r = absurd r
-
-pub reset_is : (maker : MakerTold) (static_size i : ℕ) (s : Slot) (cell : Cell) → IsSlotOf maker static_size i s → IsResetOf s cell → IsReset maker i s cell
-reset_is maker static_size i s (unmapped region) of r = r
-reset_is maker static_size i s (unknown slot) of r = (r.rose, may_fault maker static_size i s.region of.region r.listed)
-reset_is maker static_size i s (previously_used slot) of r = r.0
-reset_is maker static_size i s taken of r = r
 
 -- a memory can begin in a region as it is made
 fresh_told : (page len : ℕ) (tells : Bool) → IfSome (if tells then Some (fresh page 0 len) else None) (λ c. (c.origin ≡ replicate len 0) × (slice_range c.bytes 0 (0 + len) ≡ replicate len 0) × CanReach 0 0 c)

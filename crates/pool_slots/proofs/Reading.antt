@@ -7,7 +7,7 @@ use Rattle.pool_pages.proofs.Puts.{get_or-range}
 use Rattle.pool_slots.specs.Memories.{Memory, bytes_of}
 
 -- a range of a range
-range_of_range : (xs : List ℕ) (b n i len : ℕ) → i + len ≤ n → slice_range (slice_range xs b (b + n)) i (i + len) ≡ slice_range xs (b + i) (b + i + len)
+pub range_of_range : (xs : List ℕ) (b n i len : ℕ) → i + len ≤ n → slice_range (slice_range xs b (b + n)) i (i + len) ≡ slice_range xs (b + i) (b + i + len)
 range_of_range xs b n i len fits =
     let inner : List ℕ = take (b + n - b) (drop b xs) in
     let left : length (take (i + len - i) (drop i (take (b + n - b) (drop b xs)))) ≡ length (take (b + i + len - (b + i)) (drop (b + i) xs)) =

@@ -7,30 +7,13 @@ use Rattle.pool_index.specs.Shard.{use_of, is_used, used_count}
 use Rattle.pool_index.specs.declared.ids.SlotId.{SlotId}
 use Rattle.pool_images.specs.Images.{Image}
 use Rattle.pool_images.specs.Slots.{Slot}
-use Rattle.pool_slots.specs.Memories.{Lease, Memory}
+use Rattle.pool_slots.specs.Memories.{Memory}
 use Rattle.pool_slots.specs.Cells.{Cell, unknown, taken, is_taken, IsCell, IsSlotOf}
-use Rattle.pool_slots.specs.Uses.{IsResetOf, IsBegunFrom, IsLostFrom, CanBegin}
-use Rattle.pool_slots.specs.Pools.{PoolState, IsPool, IsLeaseOf, IsGivenBack, Begins, HasFaulted, IsLost, cell_at}
+use Rattle.pool_slots.specs.Uses.{IsBegunFrom, IsLostFrom, CanBegin}
+use Rattle.pool_slots.specs.Pools.{PoolState, IsPool, Begins, HasFaulted, IsLost, cell_at}
 use Rattle.pool_slots.specs.Turns.{TakesSlot, PutsSlot, IsFullNow}
 use Rattle.pool_slots.proofs.Changes.{IsChanged, changed_taken, changed_put, changed_twice, changes, pool_changed, used_more, not_used}
-use Rattle.pool_slots.proofs.Identity.{cell_region, slot_from, may_fault_of, reset_cell, reset_there, reset_is, can_begin}
-
-pub pool_returned : (maker : MakerTold) (l : Lease) (cell : Cell) (old new : PoolState) → IsPool maker old → IsLeaseOf maker old l → IsResetOf l.memory.slot cell → PutsSlot (record { 0 = l.index }) cell old new → IsPool maker new
-pool_returned maker l cell old new pool lease reset put =
-    let c : IsChanged l.index cell old new = changed_put (record { 0 = l.index }) cell old new lease.inside put in
-    pool_changed maker l.index cell old new pool c (reset_cell maker old.static_size l.index l.memory.slot cell lease.slot reset)
-    (reset_there l.memory.slot cell reset ∙ sym (not_used new.shard l.index put.unused))
-
-pub given_back : (maker : MakerTold) (l : Lease) (cell : Cell) (old new : PoolState) → IsPool maker old → IsLeaseOf maker old l → IsResetOf l.memory.slot cell → PutsSlot (record { 0 = l.index }) cell old new → IsGivenBack maker l old new
-given_back maker l cell old new pool lease reset put =
-    let c : IsChanged l.index cell old new = changed_put (record { 0 = l.index }) cell old new lease.inside put in
-    let within : l.index < new.shard.capacity = omega (arith, lease.inside, pool.count, put.same.capacity) in
-    record {
-      free = not_used new.shard l.index put.unused;
-      reset = rw c.here (reset_is maker old.static_size l.index l.memory.slot cell lease.slot reset);
-      changes = changes l.index cell old new c;
-      used = sym (used_more new.shard old.shard l.index put.sound pool.shard (sym put.same.capacity) within (λ k other. sym (c.uses k other)) put.unused lease.used);
-    }
+use Rattle.pool_slots.proofs.Identity.{cell_region, slot_from, may_fault_of, can_begin}
 
 -- what was taken out of the cell of a free slot
 pub taken_there : (maker : MakerTold) (i : ℕ) (had : Cell) (old mid : PoolState) → IsPool maker old → TakesSlot i had old mid → is_taken had ≡ false
@@ -72,19 +55,19 @@ begins maker i minimum image had m old mid pool t begun =
     }
 
 -- no memory could begin in the slot that was taken, and it was put back
-pub pool_put_back : (maker : MakerTold) (slot : SlotId) (had : Cell) (s : Slot) (old mid new : PoolState) → IsPool maker old → TakesSlot slot.0 had old mid → IsLostFrom mid.page mid.static_size had s → PutsSlot slot (unknown s) mid new → IsPool maker new
+pub pool_put_back : (maker : MakerTold) (slot : SlotId) (had : Cell) (s : Slot) (old mid new : PoolState) → IsPool maker old → TakesSlot slot.0 had old mid → IsLostFrom mid.page mid.static_size had s → PutsSlot slot (unknown s) 0 mid new → IsPool maker new
 pool_put_back maker slot had s old mid new pool t lost put =
     let c : IsChanged slot.0 taken old mid = changed_taken slot.0 had old mid t in
-    let d : IsChanged slot.0 (unknown s) mid new = changed_put slot (unknown s) mid new (rw c.count t.inside) put in
+    let d : IsChanged slot.0 (unknown s) mid new = changed_put slot (unknown s) 0 mid new (rw c.count t.inside) put in
     let from : IsLostFrom old.page old.static_size had s = rw (t.page, t.static_size) at lost in
     pool_changed maker slot.0 (unknown s) old new pool (changed_twice slot.0 taken (unknown s) old mid new c d)
     (slot_from maker old.page old.static_size slot.0 had s pool.page (taken_cell maker slot.0 had old mid pool t) (taken_there maker slot.0 had old mid pool t) from.slot)
     (sym (not_used new.shard slot.0 put.unused))
 
-pub faulted : (maker : MakerTold) (slot : SlotId) (had : Cell) (s : Slot) (old mid new : PoolState) → IsPool maker old → TakesSlot slot.0 had old mid → IsLostFrom mid.page mid.static_size had s → PutsSlot slot (unknown s) mid new → HasFaulted maker old new
+pub faulted : (maker : MakerTold) (slot : SlotId) (had : Cell) (s : Slot) (old mid new : PoolState) → IsPool maker old → TakesSlot slot.0 had old mid → IsLostFrom mid.page mid.static_size had s → PutsSlot slot (unknown s) 0 mid new → HasFaulted maker old new
 faulted maker slot had s old mid new pool t lost put =
     let c : IsChanged slot.0 taken old mid = changed_taken slot.0 had old mid t in
-    let d : IsChanged slot.0 (unknown s) mid new = changed_put slot (unknown s) mid new (rw c.count t.inside) put in
+    let d : IsChanged slot.0 (unknown s) mid new = changed_put slot (unknown s) 0 mid new (rw c.count t.inside) put in
     let both : IsChanged slot.0 (unknown s) old new = changed_twice slot.0 taken (unknown s) old mid new c d in
     let within : slot.0 < new.shard.capacity = omega (arith, t.inside, pool.count, put.same.capacity, t.same.capacity) in
     let more : used_count mid.shard ≡ used_count old.shard + 1 = taken_used maker slot.0 had old mid pool t in
@@ -119,6 +102,8 @@ pool_full maker old new pool f =
       page = f.rest.1 ∙ pool.page;
       page_size = rw f.rest.1 pool.page_size;
       bounded = rw (f.rest.1, f.rest.2) pool.bounded;
+      kept_page = rw (f.rest.1, f.rest.3) pool.kept_page;
+      kept = rw f.rest.3 pool.kept;
       cells = λ k below.
           let was = pool.cells k (rw f.rest.0 at below) in
           rw (f.rest.0, f.rest.2) was;

@@ -1,17 +1,17 @@
 -- The pool of memory slots.
-use Rattle.std.specs.Prelude.{◌≡◌, ℕ, ◌+◌, ◌^◌, ◌<◌, ◌≤◌, List, length, slice_index_or, Bool, true, false, Option, IfSome}
-use Rattle.std.specs.List.{list_any, range_with_len}
-use Rattle.pool_pages.specs.Count.{IsPageSize}
+use Rattle.std.specs.Prelude.{◌≡◌, ℕ, ◌+◌, ◌^◌, ◌<◌, ◌≤◌, List, [], ◌∷◌, ◌++◌, length, map, min, fold, slice_index_or, slice_set, Bool, true, false, if◌then◌else◌, Option, IfSome}
+use Rattle.std.specs.List.{list_any, range_with_len, AllByRecursion}
+use Rattle.pool_pages.specs.Count.{Count, IsPageSize, count as count_of, rounded_up}
 use Rattle.pool_pages.specs.Told.{Rose}
 use Rattle.pool_pages.specs.MakerTold.{MakerTold, Planned, fails_making, calls_of}
 use Rattle.pool_pages.specs.declared.pages.RegionName.TheVariants.{Memory as memory_region}
-use Rattle.pool_index.specs.Shard.{ShardState, IsShard, fresh_shard, is_used, used_count}
+use Rattle.pool_index.specs.Shard.{ShardState, IsShard, fresh_shard, use_of, is_used, used_count, after_free}
 use Rattle.pool_hall.specs.declared.unit_name.SlotKind.TheVariants.{Memory as memory_kind}
 use Rattle.pool_images.specs.Images.{Image}
 use Rattle.pool_images.specs.Slots.{Slot, IsBegun}
+use Rattle.pool_slots.specs.Queues.{QueuedMemory, holds}
 use Rattle.pool_slots.specs.Memories.{Lease, IsMemory}
 use Rattle.pool_slots.specs.Cells.{Cell, unmapped, unknown, previously_used, taken, is_taken, faults_in, region_made, IsCell, IsSlotOf}
-use Rattle.pool_slots.specs.Uses.{reset_slot}
 use Rattle.pool_slots.specs.declared.request.AllocError.{AllocError}
 use Rattle.pool_slots.specs.declared.request.AllocError.TheVariants.{Memory, Limit, PageFault}
 use Rattle.pool_slots.specs.declared.request.PoolNewError.{PoolNewError}
@@ -19,12 +19,14 @@ use Rattle.pool_slots.specs.declared.request.PoolNewError.TheVariants as refused
 use Rattle.pool_slots.specs.declared.request.ConcurrencyKind.TheVariants.{MemoryStripe}
 use Rattle.pool_slots.specs.declared.request.PoolConcurrencyLimitError.{PoolConcurrencyLimitError}
 
--- which slots are free, what each slot's cell holds, and how large a memory may be
+-- Which slots are free, what each slot's cell holds, how large a memory may be, and how much of a slot stays resident
+-- when its memory ends.
 pub record PoolState : Type 0 where
   pub shard : ShardState
   pub cells : List Cell
   pub page : ℕ
   pub static_size : ℕ
+  pub keep_resident : Count
 
 -- the cell of slot i
 abbrev pub cell_at : ℕ → PoolState → Cell
@@ -39,14 +41,17 @@ pub record IsPool (maker : MakerTold) (p : PoolState) : Type 0 where
   pub page : p.page ≡ maker.page
   pub page_size : IsPageSize p.page
   pub bounded : p.static_size + p.page ≤ 2 ^ 64
+  pub kept_page : p.keep_resident.page ≡ p.page
+  pub kept : p.keep_resident.bytes ≤ 2 ^ 32
   pub cells : (i : ℕ) → i < length p.cells → IsCell maker p.static_size i (cell_at i p)
   pub empty : (i : ℕ) → i < length p.cells → is_taken (cell_at i p) ≡ is_used p.shard i
 
 -- the pool as it is made: every slot is free, and was never used
-pub record IsMade (maker : MakerTold) (total max_memory_size warm : ℕ) (p : PoolState) : Type 0 where
+pub record IsMade (maker : MakerTold) (total max_memory_size warm kept : ℕ) (p : PoolState) : Type 0 where
   pub shard : p.shard ≡ fresh_shard memory_kind 0 1 total warm
   pub page : p.page ≡ maker.page
   pub static_size : p.static_size ≡ max_memory_size
+  pub keep_resident : p.keep_resident ≡ count_of maker.page (rounded_up maker.page kept)
   pub count : length p.cells ≡ total
   pub cells : (i : ℕ) → i < total → cell_at i p ≡ unmapped (region_made maker max_memory_size i)
 
@@ -78,6 +83,7 @@ pub record IsLeaseOf (maker : MakerTold) (p : PoolState) (l : Lease) : Type 0 wh
 pub record ChangesSlot (i : ℕ) (old new : PoolState) : Type 0 where
   pub page : new.page ≡ old.page
   pub static_size : new.static_size ≡ old.static_size
+  pub keep_resident : new.keep_resident ≡ old.keep_resident
   pub count : length new.cells ≡ length old.cells
   pub cells : (k : ℕ) → (k ≡ i → ⊥) → cell_at k new ≡ cell_at k old
   pub used : (k : ℕ) → (k ≡ i → ⊥) → is_used new.shard k ≡ is_used old.shard k
@@ -131,16 +137,37 @@ IsRefused maker old new Memory = ⊥
 IsRefused maker old new (Limit e) = IsFull old new e
 IsRefused maker old new PageFault = HasFaulted maker old new
 
--- What a reset leaves in the cell: the slot, clean, or nothing known where a decommit failed.
-abbrev pub IsReset : MakerTold → ℕ → Slot → Cell → Type 0
-IsReset maker i old (unmapped region) = ⊥
-IsReset maker i old (unknown slot) = Rose old.region.faults slot.region.faults × MayFault maker i
-IsReset maker i old (previously_used slot) = slot ≡ reset_slot old
-IsReset maker i old taken = ⊥
+-- what the cell of a slot holds once the slot came back
+abbrev pub cell_left : Bool → Slot → Cell
+cell_left known slot = if known then previously_used slot else unknown slot
 
--- a lease was given back: its slot is free, and its memory is reset
-pub record IsGivenBack (maker : MakerTold) (l : Lease) (old new : PoolState) : Type 0 where
-  pub free : is_used new.shard l.index ≡ false
-  pub reset : IsReset maker l.index l.memory.slot (cell_at l.index new)
-  pub changes : ChangesSlot l.index old new
-  pub used : used_count new.shard + 1 ≡ used_count old.shard
+-- a slot came back: it is free, and lies in its cell
+abbrev pub returned : QueuedMemory → PoolState → PoolState
+returned m p = record p { shard = after_free (record { 0 = m.index }) m.bytes p.shard; cells = slice_set p.cells m.index (cell_left m.known m.slot) }
+
+-- slots came back in order
+abbrev pub returned_all : List QueuedMemory → PoolState → PoolState
+returned_all items p = fold (λ q m. returned m q) p items
+
+-- the slot is one of the pool's that are used
+pub record IsUsed (p : PoolState) (m : QueuedMemory) : Type 0 where
+  pub inside : m.index < length p.cells
+  pub used : is_used p.shard m.index ≡ true
+
+abbrev pub AreUsed : PoolState → List QueuedMemory → Type 0
+AreUsed p items = AllByRecursion (IsUsed p) items
+
+-- each slot is the one that the maker's region of its number is for
+abbrev pub AreSlotsOf : MakerTold → ℕ → List QueuedMemory → Type 0
+AreSlotsOf maker static_size items = AllByRecursion (λ m. IsSlotOf maker static_size m.index m.slot) items
+
+-- Used slots came back: they are free, no other slot changed, and a pool whose slots these are stays one.
+pub record Returns (items : List QueuedMemory) (old new : PoolState) : Type 0 where
+  pub after : new ≡ returned_all items old
+  pub free : AllByRecursion (λ m. is_used new.shard m.index ≡ false) items
+  pub cells : (k : ℕ) → holds k items ≡ false → cell_at k new ≡ cell_at k old
+  pub uses : (k : ℕ) → holds k items ≡ false → use_of new.shard k ≡ use_of old.shard k
+  pub count : length new.cells ≡ length old.cells
+  pub same : (new.page ≡ old.page) × (new.static_size ≡ old.static_size) × (new.keep_resident ≡ old.keep_resident)
+  pub used : (maker : MakerTold) → IsPool maker old → AreSlotsOf maker old.static_size items → used_count new.shard + length items ≡ used_count old.shard
+  pub pool : (maker : MakerTold) → IsPool maker old → AreSlotsOf maker old.static_size items → IsPool maker new

@@ -21,10 +21,11 @@ pub record TakesSlot (i : ℕ) (had : Cell) (old new : PoolState) : Type 0 where
   pub cells : new.cells ≡ slice_set old.cells i taken
   pub page : new.page ≡ old.page
   pub static_size : new.static_size ≡ old.static_size
+  pub keep_resident : new.keep_resident ≡ old.keep_resident
 
 -- something was put into the cell of a used slot, which was freed
-pub record PutsSlot (slot : SlotId) (into : Cell) (old new : PoolState) : Type 0 where
-  pub after : new.shard ≡ after_free slot 0 old.shard
+pub record PutsSlot (slot : SlotId) (into : Cell) (bytes : ℕ) (old new : PoolState) : Type 0 where
+  pub after : new.shard ≡ after_free slot bytes old.shard
   pub unused : use_of new.shard slot.0 ≡ None
   pub others : (k : ℕ) → (k ≡ slot.0 → ⊥) → use_of new.shard k ≡ use_of old.shard k
   pub same : IsSameShard old.shard new.shard
@@ -32,6 +33,7 @@ pub record PutsSlot (slot : SlotId) (into : Cell) (old new : PoolState) : Type 0
   pub cells : new.cells ≡ slice_set old.cells slot.0 into
   pub page : new.page ≡ old.page
   pub static_size : new.static_size ≡ old.static_size
+  pub keep_resident : new.keep_resident ≡ old.keep_resident
 
 -- no slot is free, and none was taken
 pub record IsFullNow (old new : PoolState) : Type 0 where
@@ -39,7 +41,7 @@ pub record IsFullNow (old new : PoolState) : Type 0 where
   pub used : new.shard.used ≡ old.shard.used
   pub same : IsSameShard old.shard new.shard
   pub sound : IsShard new.shard
-  pub rest : (new.cells ≡ old.cells) × (new.page ≡ old.page) × (new.static_size ≡ old.static_size)
+  pub rest : (new.cells ≡ old.cells) × (new.page ≡ old.page) × (new.static_size ≡ old.static_size) × (new.keep_resident ≡ old.keep_resident)
 
 -- the cells of so many slots as they are made
 pub record AreMade (maker : MakerTold) (total : ℕ) (len : Count) (cells : List Cell) : Type 0 where

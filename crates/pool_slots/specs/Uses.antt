@@ -3,7 +3,7 @@ use Rattle.std.specs.Prelude.{◌≡◌, false, ℕ, ◌<◌, length, Option, No
 use Rattle.pool_pages.specs.Count.{count}
 use Rattle.pool_pages.specs.Told.{Told, Rose}
 use Rattle.pool_images.specs.Images.{Image}
-use Rattle.pool_images.specs.Slots.{Slot, IsClean, IsFresh, IsBegun, IsLeft, reset_ranges, decommitted_all}
+use Rattle.pool_images.specs.Slots.{Slot, IsClean, IsFresh, IsBegun, IsLeft}
 use Rattle.pool_slots.specs.Memories.{Memory, IsMemory}
 use Rattle.pool_slots.specs.Cells.{Cell, unmapped, unknown, previously_used, taken, faults_in}
 
@@ -68,14 +68,3 @@ pub record IsBegunFrom (page static_size minimum : ℕ) (image : Option Image) (
   pub size : m.size ≡ minimum
   pub begun : IsBegun image m.slot
   pub memory : IsMemory m
-
--- the slot once all that its memory could reach was decommitted
-abbrev pub reset_slot : Slot → Slot
-reset_slot s = decommitted_all (reset_ranges s.accessible.bytes) (record s { dirty = false })
-
--- what a reset makes of a slot: it is clean, or nothing is known of it since a decommit failed
-abbrev pub IsResetOf : Slot → Cell → Type 0
-IsResetOf old (unmapped region) = ⊥
-IsResetOf old (unknown slot) = IsLeft old slot
-IsResetOf old (previously_used slot) = (slot ≡ reset_slot old) × IsClean slot
-IsResetOf old taken = ⊥

@@ -31,7 +31,7 @@ fn no_more_memories_than_slots(rt: HostRuntime) -> Result<(), Fail> {
     let alloc = rt.alloc();
     let page = PageSize::new(4096)?;
     let mut maker = MemoryPages::new(page);
-    let mut pool = MemoryPool::new(alloc, &mut maker, 2, 65536, 0)?;
+    let mut pool = MemoryPool::new(alloc, &mut maker, 2, 65536, 0, 0)?;
     let ty = memory_type();
     let tunables = MemoryTunables::new(&Tunables::default(), MemoryKind::LinearMemory);
     let first = pool.allocate(memory_of(1), 65536, None, &ty, &tunables)?;
@@ -56,7 +56,7 @@ fn a_slot_reads_zeros_for_another_module(rt: HostRuntime) -> Result<(), Fail> {
     let alloc = rt.alloc();
     let page = PageSize::new(4096)?;
     let mut maker = MemoryPages::new(page);
-    let mut pool = MemoryPool::new(alloc, &mut maker, 2, 65536, 0)?;
+    let mut pool = MemoryPool::new(alloc, &mut maker, 2, 65536, 0, 0)?;
     let sevens = vec![in alloc; 7; 4096]?;
     let (id, memory) = (CompiledModuleId(1), DefinedMemoryIndex(0));
     let image = MemoryImage::new(alloc, &mut maker, page, id, memory, 4096, sevens.as_slice())?;
@@ -68,7 +68,9 @@ fn a_slot_reads_zeros_for_another_module(rt: HostRuntime) -> Result<(), Fail> {
     lease.memory.read(4094, &mut bytes)?;
     assert_eq!(rt; bytes, [0, 0, 7, 7]);
     lease.memory.write(4095, &[1])?;
-    pool.deallocate(lease);
+    let mut queue = DecommitQueue::new(alloc, 8, 1)?;
+    pool.reset_into(lease, &mut queue);
+    assert!(rt; queue.flush(&mut pool));
     assert_eq!(rt; pool.page_calls().decommit, 1);
 
     let again = pool.allocate(memory_of(2), 65536, None, &ty, &tunables)?;

@@ -1,14 +1,14 @@
-ghost use Rattle.std.specs.Prelude.{◌≡◌, ◌+◌, ◌^◌, ◌<◌, ◌≤◌, All, IfOk, IfErr, IfSome, OnOk, OnErr, None, false, option_map, is_ok};
+ghost use Rattle.std.specs.Prelude.{◌≡◌, ◌+◌, ◌^◌, ◌<◌, ◌≤◌, IfOk, IfErr, IfSome, OnOk, OnErr, None, false, option_map};
 ghost use Rattle.std.specs.Arc.{arc_value};
 ghost use Rattle.pool_pages.specs.Count.{count};
 ghost use Rattle.pool_pages.specs.Told.{decommitting};
-ghost use Rattle.pool_images.specs.Slots.{IsClean, IsInUse, called, IsFresh, IsLeft, IsPart, FitsInto, emptied, size_of, decommitted_all};
+ghost use Rattle.pool_images.specs.Slots.{IsClean, called, IsFresh, IsLeft, IsPart, FitsInto, emptied, size_of};
 ghost use Rattle.pool_slots.specs.CellOf.{cell_of};
-ghost use Rattle.pool_slots.specs.Uses.{CanBegin, IsReadyFrom, IsLostFrom, IsBegunFrom, IsBegunIn, IsResetOf};
+ghost use Rattle.pool_slots.specs.Uses.{CanBegin, IsReadyFrom, IsLostFrom, IsBegunFrom, IsBegunIn};
 
 use crate::cells::ImageSlot;
 use crate::static_memory::StaticMemory;
-use pool_images::{ByteRange, MemoryImage, MemoryImageSlot, Ranges};
+use pool_images::{ByteRange, MemoryImage, MemoryImageSlot};
 use pool_pages::{HostAlignedByteCount, MemoryTunables, MemoryType, PageFault, PageSize, Pages};
 use std::sync::Arc;
 
@@ -93,37 +93,8 @@ fn begin_ready<P: Pages>(
     }
 }
 
-// What becomes of the slot of a memory that has ended: clean again, or unknown where a decommit failed.
-pub(crate) fn reset<P: Pages>(mut slot: MemoryImageSlot<P>) -> ImageSlot<P>
-    requires { IsInUse slot }
-    ensures { IsResetOf slot (cell_of result) }
-{
-    let mut ranges = Ranges::new();
-    let Ok(_) = slot.clear_and_remain_ready(&mut ranges) else {
-        return ImageSlot::Unknown(slot);
-    };
-    match decommit_all(&mut slot, ranges.as_slice()) {
-        Ok(()) => ImageSlot::PreviouslyUsed(slot),
-        Err(_) => ImageSlot::Unknown(slot),
-    }
-}
-
-// Decommits the ranges in order, and stops at the first that fails.
-fn decommit_all<P: Pages>(
-    slot: &mut MemoryImageSlot<P>,
-    ranges: &[ByteRange],
-) -> Result<(), PageFault>
-    requires { All (IsPart slot.old.region.page (size_of slot.old)) ranges.now }
-    ensures ok { OnOk result (slot.new ≡ decommitted_all ranges.now slot.old) }
-    ensures err { OnErr result (IsLeft slot.old slot.new) }
-{
-    for range in ranges {
-        decommit_one(slot, *range)?;
-    }
-    Ok(())
-}
-
-fn decommit_one<P: Pages>(slot: &mut MemoryImageSlot<P>, range: ByteRange) -> Result<(), PageFault>
+// Decommits a range of the slot.
+pub(crate) fn decommit_one<P: Pages>(slot: &mut MemoryImageSlot<P>, range: ByteRange) -> Result<(), PageFault>
     requires { IsPart slot.old.region.page (size_of slot.old) range }
     ensures ok { OnOk result (slot.new ≡ called (decommitting (slot.old.base.bytes + range.start) range.len) slot.old) }
     ensures err { OnErr result (IsLeft slot.old slot.new) }

@@ -21,11 +21,11 @@ returns-in-Err-clause-pool g c =
     let mid : PoolState = c.take_slot.new.self in
     let page : mid.page ≡ c.self.inside.page = ap (λ (p : PoolState). p.page) (sym c.self.view_is) in
     let size : mid.static_size ≡ c.self.inside.static_size = ap (λ (p : PoolState). p.static_size) (sym c.self.view_is) in
-    pool_put_back g.maker c.in-Some.slot (cell_of c.in-Some.cell) c.in-Err.left c.args.self.now mid c.put_slot.new.self c.requires.1.1.0 c.in-Some.ensures (rw (page, size) c.in-Err.ensures.err) c.put_slot.ensures
+    pool_put_back g.maker c.in-Some.slot (cell_of c.in-Some.cell) c.in-Err.left c.args.self.now mid c.put_slot.new.self c.requires.1.1.0 c.in-Some.ensures (rw (page, size) c.in-Err.ensures.err) c.put_slot.ensures.put
 
 pub returns-in-Err-clause-refused : goal.returns-in-Err-clause-refused
 returns-in-Err-clause-refused g c =
     let mid : PoolState = c.take_slot.new.self in
     let page : mid.page ≡ c.self.inside.page = ap (λ (p : PoolState). p.page) (sym c.self.view_is) in
     let size : mid.static_size ≡ c.self.inside.static_size = ap (λ (p : PoolState). p.static_size) (sym c.self.view_is) in
-    faulted g.maker c.in-Some.slot (cell_of c.in-Some.cell) c.in-Err.left c.args.self.now mid c.put_slot.new.self c.requires.1.1.0 c.in-Some.ensures (rw (page, size) c.in-Err.ensures.err) c.put_slot.ensures
+    faulted g.maker c.in-Some.slot (cell_of c.in-Some.cell) c.in-Err.left c.args.self.now mid c.put_slot.new.self c.requires.1.1.0 c.in-Some.ensures (rw (page, size) c.in-Err.ensures.err) c.put_slot.ensures.put

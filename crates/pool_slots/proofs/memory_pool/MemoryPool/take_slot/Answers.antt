@@ -23,4 +23,5 @@ returns-in-Ok g c =
       cells = rw (place, c.take.ensures.empty) refl;
       page = refl;
       static_size = refl;
+      keep_resident = refl;
     })
