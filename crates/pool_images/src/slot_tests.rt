@@ -1,4 +1,4 @@
-ghost use Rattle.std.specs.Prelude.{◌≡◌, ◌+◌, ◌-◌, ◌<◌, [], ◌∷◌, replicate, true, false, Some, IfOk, IfSome, OnOk};
+ghost use Rattle.std.specs.Prelude.{◌≡◌, ◌+◌, ◌-◌, [], ◌∷◌, replicate, true, false, Some, IfOk, IfSome, OnOk};
 ghost use Rattle.pool_pages.specs.Told.{decommitting};
 ghost use Rattle.pool_images.specs.Slots.{IsReady, IsClean, called, cleared};
 
@@ -35,18 +35,19 @@ fn module(alloc: Global, ty: MemoryType, offset: u64) -> Result<ModuleInfo, Fail
     Ok(ModuleInfo { memories })
 }
 
-// Resets the slot, of which more is accessible than is kept, and decommits what that leaves. Answers what was set by hand.
+// Resets the slot and decommits what that leaves, which must be some. Answers what was set by hand.
 fn reset<P: Pages>(slot: &mut MemoryImageSlot<P>, keep: HostAlignedByteCount) -> Result<usize, Fail>
     requires dirty { slot.old.dirty ≡ true }
     requires ready { IfSome slot.old.region.contents (IsReady slot.old) }
     requires page { keep.page ≡ slot.old.region.page }
-    requires less { keep.bytes < slot.old.accessible.bytes }
     ensures kept { IfOk result (λ n. n ≡ keep.bytes) }
     ensures clean { OnOk result (IsClean slot.new) }
     ensures value { OnOk result (slot.new ≡ called (decommitting (slot.old.base.bytes + keep.bytes) (slot.old.accessible.bytes - keep.bytes)) (cleared keep.bytes slot.old)) }
 {
+    if slot.accessible().byte_count() <= keep.byte_count() {
+        return Err(Fail::new("all is kept"));
+    }
     let mut ranges = Ranges::new();
-    let _accessible = slot.accessible();
     let kept = slot.clear_and_remain_ready(keep, &mut ranges)?;
     let range = ranges.as_slice()[0];
     let page = slot.region().page();
