@@ -206,8 +206,7 @@ pages expose=1 hide=0 map_image=0 remap_zeros=0 erase=0 recolour=0 decommit=1\n"
 
 const NO_BATCH: &str = "{\"config\":{\"decommit_batch_size\":0}}";
 
-const NO_BATCH_LINE: &str =
-    "error BadConfig: decommit batch size 0 is not from 1 to 4096\n";
+const NO_BATCH_LINE: &str = "error BadConfig: decommit batch size 0 is not from 1 to 4096\n";
 
 const TOO_RESIDENT: &str = "{\"config\":{\"linear_memory_keep_resident\":4294967297}}";
 

@@ -1,7 +1,7 @@
 -- The slots that a flush gives back are those that its queue held.
 use Rattle.std.proofs.Common.{◌≡◌, ℕ, ◌+◌, List, [], ◌∷◌, length, map, Option, Some, None, Bool, refl, sym, ap, ◌∙◌, subst, inl, inr, arith}
 use Rattle.std.specs.Prelude.{◌==◌, ◌||◌, is_some, min, option_map}
-use Rattle.std.specs.List.{AllByRecursion, AllZip}
+use Rattle.std.specs.List.{AllZip}
 use Rattle.pool_pages.specs.Contents.{Contents, put_back}
 use Rattle.pool_pages.specs.Told.{PageCall, decommitting}
 use Rattle.pool_pages.specs.MakerTold.{MakerTold}
@@ -11,7 +11,7 @@ use Rattle.pool_slots.specs.Cells.{IsSlotOf}
 use Rattle.pool_slots.specs.Ended.{ended}
 use Rattle.pool_slots.specs.Memories.{Lease}
 use Rattle.pool_slots.specs.Pools.{PoolState, IsUsed, AreUsed, AreSlotsOf}
-use Rattle.pool_slots.specs.Queues.{QueuedMemory, QueueState, holds, ranges_of, settle, settled, IsSameSlot, IsLost, AreLost, IsFlushed}
+use Rattle.pool_slots.specs.Queues.{QueuedMemory, QueueState, holds, ranges_of, settle, IsSameSlot, IsLost, IsFlushed}
 use Rattle.pool_slots.specs.declared.queued_range.QueuedRange.{QueuedRange}
 use Rattle.pool_slots.specs.declared.queued_range.QueueKind.TheVariants.{Memory}
 

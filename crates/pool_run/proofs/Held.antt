@@ -9,7 +9,7 @@ use Rattle.pool_images.specs.Images.{Image}
 use Rattle.pool_slots.specs.Memories.{Lease}
 use Rattle.pool_slots.specs.Pools.{PoolState, IsPool, IsLeaseOf, IsUsed, AreUsed, AreSlotsOf, Begins, ChangesSlot, Returns, IsRefused}
 use Rattle.pool_slots.specs.Cells.{Cell, IsSlotOf}
-use Rattle.pool_slots.specs.Queues.{QueuedMemory, holds, AreDistinct, AreApart}
+use Rattle.pool_slots.specs.Queues.{QueuedMemory, holds, AreApart}
 use Rattle.pool_slots.specs.declared.request.AllocError.{AllocError}
 use Rattle.pool_slots.specs.declared.request.AllocError.TheVariants.{Memory, Limit, PageFault}
 use Rattle.pool_run.specs.Held.{AreHeld}

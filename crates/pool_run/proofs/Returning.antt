@@ -1,5 +1,5 @@
 -- The way of a slot from a lease through the queues back to the pool.
-use Rattle.std.proofs.Common.{◌≡◌, ℕ, ◌+◌, ◌*◌, ◌<◌, ◌≤◌, List, [], ◌∷◌, ◌++◌, length, Option, Some, None, Bool, true, false, refl, sym, ap, ◌∙◌, subst, arith, append_assoc, length-append}
+use Rattle.std.proofs.Common.{◌≡◌, ℕ, ◌+◌, ◌<◌, ◌≤◌, List, [], ◌∷◌, ◌++◌, length, Option, Some, None, Bool, true, false, refl, sym, ap, ◌∙◌, subst, arith, append_assoc, length-append}
 use Rattle.std.specs.Prelude.{◌≢◌, ◌==◌, ◌||◌, nat_le, nat_lt, slice_set}
 use Rattle.std.proofs.lemmas.Bool.{ltb-false, leb-false, eqb-false, or_parts}
 use Rattle.std.proofs.lemmas.List.{append-nil}
@@ -9,7 +9,7 @@ use Rattle.pool_slots.specs.Ended.{ended, with_ended}
 use Rattle.pool_slots.specs.Memories.{Lease}
 use Rattle.pool_slots.specs.Pools.{PoolState, AreUsed, Returns}
 use Rattle.pool_slots.specs.declared.queued_range.QueuedRange.{QueuedRange}
-use Rattle.pool_slots.specs.Queues.{QueuedMemory, QueueState, HasOwners, AreApart, holds, IsFlushed, IsSpareOf, emptied, joined, after_take, taken_into}
+use Rattle.pool_slots.specs.Queues.{QueuedMemory, QueueState, HasOwners, AreApart, holds, IsFlushed, emptied, joined, after_take, taken_into}
 use Rattle.pool_run.specs.Held.{AreHeld}
 use Rattle.pool_run.specs.Private.{live_count}
 use Rattle.pool_run.specs.Runs.{RunState, IsSound, IsWaiting, IsSpare, IsRunning, KeepsSize, lease_at}
@@ -70,15 +70,6 @@ taken_waits maker s queue spare sound after =
     let P : QueueState → Type 0 = λ q. IsWaiting (record s { queue = q; spare = spare }) in
     let here : P (after_take s.queue) = record { below = sound.batch; few = omega arith } in
     subst P (sym after) here
-
--- the second queue has the room of the first
-pub is_spare : (maker : MakerTold) (s : RunState) → IsSound maker s → IsSpare s → IsSpareOf s.queue s.spare
-is_spare maker s sound spare = record {
-  no_ranges = spare.ranges;
-  no_slots = spare.slots;
-  range_room = sound.spare_range_room ∙ sym sound.range_room;
-  slot_room = sound.spare_slot_room ∙ sym sound.slot_room;
-}
 
 -- what was given back isn't flushed alone: it has a range, and fewer than a batch
 pub waits : (ranges batch slots : ℕ) → ((ranges == 0) || nat_le batch ranges) ≡ false → slots ≤ 1 → (ranges < batch) × (slots ≤ ranges)

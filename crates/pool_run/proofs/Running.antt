@@ -9,7 +9,7 @@ use Rattle.pool_slots.specs.Pools.{PoolState, IsPool, IsLeaseOf, Begins, IsRefus
 use Rattle.pool_slots.specs.Queues.{QueuedMemory}
 use Rattle.pool_slots.specs.declared.request.AllocError.{AllocError}
 use Rattle.pool_run.specs.Private.{live_count}
-use Rattle.pool_run.specs.Runs.{RunState, IsSound, IsWaiting, IsSpare, IsRunning, KeepsSize, lease_at}
+use Rattle.pool_run.specs.Runs.{RunState, IsRunning, KeepsSize, lease_at}
 use Rattle.pool_run.specs.Turns.{IsAllocated, IsDenied}
 use Rattle.pool_run.proofs.Grants.{live_more, live_same}
 use Rattle.pool_run.proofs.Held as held

@@ -1,4 +1,4 @@
-use Rattle.std.proofs.Common.{◌≡◌, Ok, Err, refl, ap}
+use Rattle.std.proofs.Common.{Ok, Err, refl, ap}
 use Rattle.pool_pages.specs.ConfigLimits.{first_broken_limit}
 use Rattle.pool_cli.proofs.Endings.{refused_fails, no_limit}
 use Rattle.pool_cli.proofs.stages.run.Goals as goal
@@ -8,19 +8,25 @@ returns-in-Err-BadConfig g c =
     refused_fails c.in_ok-input.input c.in-Err-BadConfig.error c.refused.result _ _ _ _ c.in_ok-input.ensures.reads ((c.in-Err-BadConfig.ensures.bad_config c.in-Err-BadConfig.error).0 (ap Err c.in-Err-BadConfig.field-0-is)) c.refused.ensures
 
 pub returns-in-Err-PageFault : goal.returns-in-Err-PageFault
-returns-in-Err-PageFault g c = (refl, record {
-  input = c.in_ok-input.input;
-  read = c.in_ok-input.ensures.reads;
-  limits = no_limit (first_broken_limit c.in_ok-input.input.config) (Err c.in-Err-PageFault.field-0) c.in-Err-PageFault.ensures.bad_config (λ e is. let fault = c.in-Err-PageFault.field-0-is in cc);
-  making = c.in-Err-PageFault.ensures.fault (ap Err c.in-Err-PageFault.field-0-is);
-})
+returns-in-Err-PageFault g c = (
+  refl,
+  record {
+    input = c.in_ok-input.input;
+    read = c.in_ok-input.ensures.reads;
+    limits = no_limit (first_broken_limit c.in_ok-input.input.config) (Err c.in-Err-PageFault.field-0) c.in-Err-PageFault.ensures.bad_config (λ e is. let fault = c.in-Err-PageFault.field-0-is in cc);
+    making = c.in-Err-PageFault.ensures.fault (ap Err c.in-Err-PageFault.field-0-is);
+  },
+)
 
 pub returns-in-Ok-output_text : goal.returns-in-Ok-output_text
-returns-in-Ok-output_text g c = (refl, record {
-  input = c.in_ok-input.input;
-  output = c.in-Ok.output;
-  read = c.in_ok-input.ensures.reads;
-  limits = no_limit (first_broken_limit c.in_ok-input.input.config) (Ok c.in-Ok.output) c.in-Ok.ensures.bad_config (λ e is. cc);
-  run = c.in-Ok.ensures.ok;
-  text_is = c.in-Ok-output_text.ensures;
-})
+returns-in-Ok-output_text g c = (
+  refl,
+  record {
+    input = c.in_ok-input.input;
+    output = c.in-Ok.output;
+    read = c.in_ok-input.ensures.reads;
+    limits = no_limit (first_broken_limit c.in_ok-input.input.config) (Ok c.in-Ok.output) c.in-Ok.ensures.bad_config (λ e is. cc);
+    run = c.in-Ok.ensures.ok;
+    text_is = c.in-Ok-output_text.ensures;
+  },
+)

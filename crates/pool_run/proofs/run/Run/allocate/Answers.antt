@@ -1,4 +1,4 @@
-use Rattle.std.proofs.Common.{rules, ◌≡◌, ℕ, ◌≤◌, Option, Result, Ok, Err, IfOk, IfSome, true, option_map, sym, subst, ap, ◌∙◌}
+use Rattle.std.proofs.Common.{rules, ℕ, ◌≤◌, Option, Result, Ok, Err, IfOk, IfSome, option_map, sym, subst, ap, ◌∙◌}
 use Rattle.std.specs.Arc.{arc_value}
 use Rattle.pool_pages.specs.MemoryTypes.{minimum_byte_size}
 use Rattle.pool_images.specs.Images.{Image}

@@ -1,4 +1,4 @@
-use Rattle.std.proofs.Common.{rules, ◌≡◌, ℕ, ◌≤◌, IfSome, sym, subst}
+use Rattle.std.proofs.Common.{rules, ℕ, ◌≤◌, IfSome, sym, subst}
 use Rattle.std.specs.Arc.{arc_value}
 use Rattle.pool_pages.specs.MemoryTypes.{minimum_byte_size}
 use Rattle.pool_images.specs.Slots.{FitsInto}

@@ -1,4 +1,4 @@
-use Rattle.std.proofs.Common.{◌≡◌, subst}
+use Rattle.std.proofs.Common.{subst}
 use Rattle.pool_run.specs.Runs.{RunState, IsSound, IsWaiting}
 use Rattle.pool_run.specs.Turns.{Flushes}
 use Rattle.pool_run.proofs.Returning.{accepts, flushed_either}

@@ -1,7 +1,6 @@
-use Rattle.std.proofs.Common.{rules, ◌≡◌, subst, refl}
+use Rattle.std.proofs.Common.{rules}
 use Rattle.pool_run.specs.Runs.{RunState, IsSound, IsWaiting, IsSpare}
-use Rattle.pool_run.specs.Turns.{Flushes}
-use Rattle.pool_run.proofs.Returning.{taken, taken_waits, is_spare, then_flushes}
+use Rattle.pool_run.proofs.Returning.{taken, taken_waits}
 use Rattle.pool_run.proofs.run.Run.flush_queue.Goals as goal
 
 pub flush-requires-send-P : goal.flush-requires-send-P

@@ -1,6 +1,5 @@
-use Rattle.std.proofs.Common.{rules, ◌≡◌, subst, refl}
-use Rattle.pool_run.specs.Runs.{RunState, IsSound, IsWaiting, IsSpare}
-use Rattle.pool_run.specs.Turns.{Flushes}
+use Rattle.std.proofs.Common.{rules}
+use Rattle.pool_run.specs.Runs.{RunState, IsSound, IsSpare}
 use Rattle.pool_run.proofs.Returning.{queues_apart, joined_sound, joined_spare}
 use Rattle.pool_run.proofs.run.Run.merge.Goals as goal
 
