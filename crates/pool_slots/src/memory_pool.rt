@@ -1,11 +1,11 @@
-ghost use Rattle.std.specs.Prelude.{◌≡◌, ◌+◌, ◌^◌, ◌<◌, ◌≤◌, ◌==◌, [], ◌∷◌, length, slice_set, false, true, IfOk, IfErr, IfSome, MatchResult, MatchOption, option_map};
+ghost use Rattle.std.specs.Prelude.{◌≡◌, ◌+◌, ◌^◌, ◌<◌, ◌≤◌, ◌==◌, List, [], ◌∷◌, length, nat_lt, slice_set, false, true, IfOk, IfErr, IfSome, MatchResult, MatchOption, option_map};
 ghost use Rattle.std.specs.Arc.{arc_value};
 ghost use Rattle.pool_pages.specs.MakerTold.{MakerTold};
 ghost use Rattle.pool_index.specs.Shard.{used_count, resident_bytes, is_used, after_free};
 ghost use Rattle.pool_images.specs.Slots.{FitsInto, IsClean};
 ghost use Rattle.pool_slots.specs.Cells.{calls_of_all};
 ghost use Rattle.pool_slots.specs.CellOf.{cell_of};
-ghost use Rattle.pool_slots.specs.Pools.{PoolState, IsPool, IsMade, Begins, IsRefused, AreUsed, Returns, RaisesFaults, makes_listed, IsListed};
+ghost use Rattle.pool_slots.specs.Pools.{PoolState, IsPool, IsMade, Begins, IsRefused, IsUsed, AreUsed, Returns, cell_left, RaisesFaults, makes_listed, IsListed};
 ghost use Rattle.pool_slots.specs.Queues.{QueuedMemory, AreSettled};
 ghost use Rattle.pool_slots.specs.Turns.{TakesSlot, PutsSlot, IsFullNow};
 
@@ -221,12 +221,7 @@ impl<P: Pages> MemoryPool<P> {
         requires bytes { bytes ≤ 2 ^ 32 }
         ensures { Returns (record { index = index.0; slot = slot; known = known; bytes = bytes } ∷ []) self.old self.new }
     {
-        self.put_back(MemoryItem {
-            index,
-            slot,
-            known,
-            bytes,
-        });
+        self.put_slot(SlotId(index.0), left(slot, known), bytes);
     }
 
     /// The same for each of the slots in order, which are taken out of the list.
@@ -240,31 +235,32 @@ impl<P: Pages> MemoryPool<P> {
     }
 }
 
-// One slot comes back. The bodies of these two traits call nothing that is generic in `P`: what an `impl` of a trait calls
-// can't rest on the bound that `P` is `Send`.
+// The first slot comes back. The bodies of these two traits call nothing that is generic in `P`: what an `impl` of a trait
+// calls can't rest on the bound that `P` is `Send`.
 trait PutBack<P: Pages> {
-    ghost accepts_one: { QueuedMemory → Self → Type 0 };
+    ghost accepts_first: { List QueuedMemory → Self → Type 0 };
 
-    ghost returns_one: { QueuedMemory → Self → Self → Type 0 };
+    ghost returns_first: { List QueuedMemory → List QueuedMemory → Self → Self → Type 0 };
 
-    fn put_back(&mut self, item: MemoryItem<P>)
-        requires { accepts_one item self.old }
-        ensures { returns_one item self.old self.new };
+    // Answers whether there was one.
+    fn put_first(&mut self, items: &mut MemoryItems<P>) -> bool
+        requires { accepts_first items.old.items self.old }
+        ensures value { result ≡ nat_lt 0 (length items.old.items) }
+        ensures room { items.new.room ≡ items.old.room }
+        ensures returned { returns_first items.old.items items.new.items self.old self.new };
 }
 
 impl<P: Pages> PutBack<P> for MemoryPool<P> {
-    ghost use Rattle.std.specs.Prelude.{[], ◌∷◌};
-    ghost use Rattle.pool_slots.specs.Queues.{IsSettled};
-    ghost use Rattle.pool_slots.specs.Pools.{IsUsed, Returns};
+    ghost use Rattle.pool_slots.specs.Pools.{CanReturnFirst, ReturnsFirst};
 
-    ghost accepts_one = { λ m p. IsUsed p m × IsSettled m };
+    ghost accepts_first = { λ items p. CanReturnFirst p items };
 
-    ghost returns_one = { λ m old new. Returns (m ∷ []) old new };
+    ghost returns_first = { λ items rest old new. ReturnsFirst items rest old new };
 
-    fn put_back(&mut self, item: MemoryItem<P>)
-        requires { IsUsed self.old item × IsSettled item }
-        ensures { Returns (item ∷ []) self.old self.new }
-    {
+    fn put_first(&mut self, items: &mut MemoryItems<P>) -> bool {
+        let Some(item) = items.next() else {
+            return false;
+        };
         let slot = SlotId(item.index.0);
         let cell = &mut self.cells[slot.index()];
         let into = if item.known {
@@ -274,6 +270,7 @@ impl<P: Pages> PutBack<P> for MemoryPool<P> {
         };
         let _taken = mem::replace(cell, MemoryCell { slot: into });
         self.shard.free(slot, item.bytes);
+        true
     }
 }
 
@@ -285,8 +282,16 @@ impl<P: Pages> SlotReturn<P> for MemoryPool<P> {
     ghost returns = { Returns };
 
     fn memories(&mut self, items: &mut MemoryItems<P>) {
-        while let Some(item) = items.next() {
-            self.put_back(item);
-        }
+        while self.put_first(items) {}
+    }
+}
+
+fn left<P: Pages>(slot: MemoryImageSlot<P>, known: bool) -> ImageSlot<P>
+    ensures { cell_of result ≡ cell_left known slot }
+{
+    if known {
+        ImageSlot::PreviouslyUsed(slot)
+    } else {
+        ImageSlot::Unknown(slot)
     }
 }
