@@ -180,7 +180,7 @@ impl ModuleMemoryImages {
         ensures ends { IfOk result (λ made. is_some made ≡ list_all (ends_in_minimum page) module_info.now.memories) }
         ensures images { IfOk result (λ made. IfSome made (λ images. images ≡ images_from id page 0 module_info.now.memories)) }
         ensures unsupported { (n : ℕ) → result ≡ Err (ImageError.Unsupported (Unsupported.ImageOffset n)) → first_misplaced page module_info.now.memories ≡ Some n }
-        ensures length { (n : ℕ) → result ≢ Err (ImageError.Unsupported (Unsupported.ImageLength n)) }
+        ensures offsets { (u : _) → result ≡ Err (ImageError.Unsupported u) → (n : ℕ) × (u ≡ Unsupported.ImageOffset n) }
         ensures maker { M.told maker.new ≡ record (M.told maker.old) { faults = (M.told maker.new).faults } }
         ensures faults { MatchResult result (λ _. (M.told maker.new).faults ≡ (M.told maker.old).faults) (RaisesFaults (M.told maker.old).faults (M.told maker.new).faults) }
         ensures planned { IfSome (M.told maker.old).plan (λ plan. MatchResult result (λ made. IsSome made → makes_listed id plan module_info.now.memories ≡ false) (IsListed (makes_listed id plan module_info.now.memories))) }

@@ -14,7 +14,7 @@ use Rattle.pool_pages.specs.declared.module_types.ImageDecl.{ImageDecl}
 use Rattle.pool_pages.specs.declared.module_types.MemoryDecl.{MemoryDecl}
 use Rattle.pool_pages.specs.declared.module_types.ModuleInfo.{ModuleInfo}
 use Rattle.pool_pages.specs.declared.unsupported.Unsupported.{Unsupported}
-use Rattle.pool_pages.specs.declared.unsupported.Unsupported.TheVariants.{ImageOffset, ImageLength}
+use Rattle.pool_pages.specs.declared.unsupported.Unsupported.TheVariants.{ImageOffset}
 use Rattle.pool_images.specs.declared.memory_image.ImageError.{ImageError}
 use Rattle.pool_images.specs.declared.memory_image.ImageError.TheVariants.{Unsupported as refused}
 use Rattle.pool_images.specs.Images.{Image, image_of, images_from, padded, first_misplaced, ends_in_minimum, makes_listed}
@@ -117,11 +117,11 @@ not_both : (o : Option ℕ) (n : ℕ) → o ≡ None → o ≡ Some n → ⊥
 not_both None n none some = absurd cc
 not_both (Some k) n none some = absurd cc
 
--- so no image is refused for its place, and none for its length
-pub never_unsupported : {X : Type 0} (page : ℕ) (m : ModuleInfo) (u : Unsupported) (r : Result X ImageError) → is_built_module m ≡ true → r ≡ Err (refused u) → ((n : ℕ) → r ≡ Err (refused (ImageOffset n)) → first_misplaced page m.memories ≡ Some n) → ((n : ℕ) → r ≢ Err (refused (ImageLength n))) → ⊥
-never_unsupported page m (ImageOffset n) r built is offset len =
-    not_both (first_misplaced page m.memories) n (none_of_all page m.memories (both _ _ built).1) (offset n is)
-never_unsupported page m (ImageLength n) r built is offset len = len n is
+-- so no module is refused
+pub never_unsupported : {X : Type 0} (page : ℕ) (m : ModuleInfo) (u : Unsupported) (r : Result X ImageError) → is_built_module m ≡ true → r ≡ Err (refused u) → ((n : ℕ) → r ≡ Err (refused (ImageOffset n)) → first_misplaced page m.memories ≡ Some n) → ((v : Unsupported) → r ≡ Err (refused v) → (n : ℕ) × (v ≡ ImageOffset n)) → ⊥
+never_unsupported page m u r built is offset offsets =
+    let which = offsets u is in
+    not_both (first_misplaced page m.memories) which.0 (none_of_all page m.memories (both _ _ built).1) (offset which.0 (is ∙ ap (λ v. Err (refused v)) which.1))
 
 -- one more module
 made_push : (page n : ℕ) (modules : List ModuleInfo) (m : ModuleInfo) → images_made page n (modules ++ m ∷ []) ≡ images_made page n modules ++ images_of_module page (n + length modules) m ∷ []
