@@ -94,7 +94,10 @@ fn begin_ready<P: Pages>(
 }
 
 // Decommits a range of the slot.
-pub(crate) fn decommit_one<P: Pages>(slot: &mut MemoryImageSlot<P>, range: ByteRange) -> Result<(), PageFault>
+pub(crate) fn decommit_one<P: Pages>(
+    slot: &mut MemoryImageSlot<P>,
+    range: ByteRange,
+) -> Result<(), PageFault>
     requires { IsPart slot.old.region.page (size_of slot.old) range }
     ensures ok { OnOk result (slot.new ≡ called (decommitting (slot.old.base.bytes + range.start) range.len) slot.old) }
     ensures err { OnErr result (IsLeft slot.old slot.new) }

@@ -16,4 +16,4 @@ returns g c =
     let settled : IsSettled m = record { clean = c.requires.clean; bytes = c.requires.bytes } in
     let Q : Cell → Type 0 = λ x. PutsSlot (record { 0 = m.index }) x m.bytes old c.put_slot.new.self in
     returns_one m old c.put_slot.new.self used settled (subst Q c.left.ensures c.put_slot.ensures.put)
-      (c.put_slot.ensures.after ∙ ap (λ (x : Cell). record old { shard = after_free (record { 0 = m.index }) m.bytes old.shard; cells = slice_set old.cells m.index x }) c.left.ensures)
+    (c.put_slot.ensures.after ∙ ap (λ (x : Cell). record old { shard = after_free (record { 0 = m.index }) m.bytes old.shard; cells = slice_set old.cells m.index x }) c.left.ensures)

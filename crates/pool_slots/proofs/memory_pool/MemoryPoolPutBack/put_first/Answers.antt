@@ -45,7 +45,10 @@ returns-clause-returned g c =
     returns_one m old new used can.1 put after in
     let V : Cell → QueuedMemory → Type 0 = λ x y. x ≡ cell_left y.known y.slot in
     let R : List QueuedMemory → Type 0 = λ l. ReturnsFirst l ms old new in
-    rw (← c.self.view_is) (subst R (sym is) (refl, elim c.if-item.branch [
-      | then-item w ↦ finish (ap cell_of w.into-is ∙ subst (V (previously_used c.item.inside.slot)) c.item.view_is (rw w.if-item.true refl)) (ap (λ x. x.bytes) w.item-inside-is ∙ ap (λ (x : QueuedMemory). x.bytes) c.item.view_is)
-      | else-item w ↦ finish (ap cell_of w.into-is ∙ subst (V (unknown c.item.inside.slot)) c.item.view_is (rw w.if-item.false refl)) (ap (λ x. x.bytes) w.item-inside-is ∙ ap (λ (x : QueuedMemory). x.bytes) c.item.view_is)
-    ]))
+    rw (← c.self.view_is) (subst R (sym is) (
+      refl,
+      elim c.if-item.branch [
+        | then-item w ↦ finish (ap cell_of w.into-is ∙ subst (V (previously_used c.item.inside.slot)) c.item.view_is (rw w.if-item.true refl)) (ap (λ x. x.bytes) w.item-inside-is ∙ ap (λ (x : QueuedMemory). x.bytes) c.item.view_is)
+        | else-item w ↦ finish (ap cell_of w.into-is ∙ subst (V (unknown c.item.inside.slot)) c.item.view_is (rw w.if-item.false refl)) (ap (λ x. x.bytes) w.item-inside-is ∙ ap (λ (x : QueuedMemory). x.bytes) c.item.view_is)
+      ],
+    ))

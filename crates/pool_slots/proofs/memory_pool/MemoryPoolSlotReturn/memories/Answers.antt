@@ -7,7 +7,7 @@ use Rattle.pool_slots.proofs.memory_pool.MemoryPoolSlotReturn.memories.Goals as 
 pub loop-preserved : goal.loop-preserved
 loop-preserved g c =
     let less : IsLess c.loop.items.items c.put_first.new.items.items c.loop.self c.put_first.new.self =
-        first_returned c.loop.items.items c.put_first.new.items.items c.loop.self c.put_first.new.self (sym c.put_first.ensures.value ∙ c.loop-test.true) c.put_first.ensures.returned c.loop.invariant.settled c.loop.invariant.used in
+    first_returned c.loop.items.items c.put_first.new.items.items c.loop.self c.put_first.new.self (sym c.put_first.ensures.value ∙ c.loop-test.true) c.put_first.ensures.returned c.loop.invariant.settled c.loop.invariant.used in
     record {
       settled = less.settled;
       used = less.used;
