@@ -4,7 +4,10 @@ use crate::module_types::{IndexType, Limits, MemoryKind, MemoryTunables, MemoryT
 use crate::unsupported::Unsupported;
 use std::test::Fail;
 
-fn of_type(idx_type: IndexType, min: u64, max: Option<u64>, page_size_log2: u8) -> MemoryType {
+fn of_type(idx_type: IndexType, min: u64, max: Option<u64>, page_size_log2: u8) -> MemoryType
+    requires { page_size_log2 < 64 }
+    ensures { result.page_size_log2 < 64 }
+{
     MemoryType {
         idx_type,
         limits: Limits { min, max },
@@ -13,13 +16,23 @@ fn of_type(idx_type: IndexType, min: u64, max: Option<u64>, page_size_log2: u8) 
     }
 }
 
+// Whether the sizes of a memory, and whether it may move, are these.
+fn has_sizes(ty: &MemoryType, minimum: Option<u64>, maximum: Option<u64>, moves: bool) -> bool
+    requires { ty.now.page_size_log2 < 64 }
+{
+    let tunables = MemoryTunables::new(&Tunables::default(), MemoryKind::LinearMemory);
+    ty.minimum_byte_size() == minimum
+        && ty.maximum_byte_size() == maximum
+        && ty.memory_may_move(&tunables) == moves
+}
+
 #[test]
 fn the_first_broken_limit_is_found(rt: HostRuntime) -> Result<(), Fail> {
     let mut config = PoolingAllocationConfig::default();
     config.check_limits()?;
     for size in [1, 4096] {
         config.decommit_batch_size = size;
-        config.check_limits()?;
+        assert!(rt; config.check_limits().is_ok());
     }
     config.limits.core_instance_size = 4294967296;
     config.check_limits()?;
@@ -99,32 +112,23 @@ fn printed_refusals(rt: HostRuntime) -> Result<(), Fail> {
 }
 
 #[test]
-fn sizes_of_memory_types(rt: HostRuntime) -> Result<(), Fail> {
-    let tunables = MemoryTunables::new(&Tunables::default(), MemoryKind::LinearMemory);
+fn sizes_of_memory_types(rt: HostRuntime) {
     let narrow = of_type(IndexType::I32, 1, None, 16);
     let wide = of_type(IndexType::I64, 1, None, 0);
     let fixed = of_type(IndexType::I32, 2, Some(2), 16);
     let reserved = of_type(IndexType::I32, 1, Some(16), 16);
     let beyond = of_type(IndexType::I32, 1, Some(17), 16);
     let huge = of_type(IndexType::I64, 281474976710656, None, 16);
-    let crossed = of_type(IndexType::I32, 3, Some(2), 16);
-    for (ty, minimum, maximum, moves) in [
-        (narrow, Some(65536), Some(4294967296), true),
-        (wide, Some(1), Some(18446744073709551615), true),
-        (fixed, Some(131072), Some(131072), false),
-        (reserved, Some(65536), Some(1048576), false),
-        (beyond, Some(65536), Some(1114112), true),
-        (huge, None, None, true),
-    ] {
-        assert!(rt; ty.minimum_byte_size() == minimum);
-        assert!(rt; ty.maximum_byte_size() == maximum);
-        assert_eq!(rt; ty.memory_may_move(&tunables), moves);
-        ty.check()?;
-    }
+    assert!(rt; has_sizes(&narrow, Some(65536), Some(4294967296), true));
+    assert!(rt; has_sizes(&wide, Some(1), Some(18446744073709551615), true));
+    assert!(rt; has_sizes(&fixed, Some(131072), Some(131072), false));
+    assert!(rt; has_sizes(&reserved, Some(65536), Some(1048576), false));
+    assert!(rt; has_sizes(&beyond, Some(65536), Some(1114112), true));
+    assert!(rt; has_sizes(&huge, None, None, true));
     assert!(rt; narrow.allow_growth_to(4294967296));
     assert!(rt; !narrow.allow_growth_to(4294967297));
     assert!(rt; wide.allow_growth_to(4294967297));
+    let crossed = of_type(IndexType::I32, 3, Some(2), 16);
     assert!(rt; crossed.check() == Err(Unsupported::MinimumExceedsMaximum { min: 3, max: 2 }));
-    assert!(rt; tunables.tunables().memory_may_move);
-    Ok(())
+    assert!(rt; fixed.check().is_ok());
 }
