@@ -8,3 +8,4 @@ pub mod PageRuns
 pub mod Prefixes
 pub mod Puts
 pub mod Shapes
+pub mod ZeroingCalls

@@ -6,6 +6,7 @@ pub mod Contents
 pub mod Count
 pub mod Dense
 pub mod ImageBytes
+pub mod MadeRegions
 pub mod MakeFaults
 pub mod MakerTold
 pub mod MemoryTold

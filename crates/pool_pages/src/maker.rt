@@ -3,7 +3,7 @@ ghost use Rattle.pool_pages.specs.MakeFaults.{RaisesFaults};
 ghost use Rattle.pool_pages.specs.MakerTold.{MakerTold, made_region, next_after, fails_making, fails_images};
 
 use crate::byte_count::{HostAlignedByteCount, PageSize};
-use crate::pages::{Pages, RegionName};
+use crate::pages::{DecommitBehavior, Pages, RegionName};
 use std::alloc::Global;
 
 /// Why a region or an image can't be made.
@@ -39,12 +39,13 @@ pub trait PageMaker {
         &mut self,
         alloc: Global,
         name: RegionName,
+        behaviour: DecommitBehavior,
         accessible: HostAlignedByteCount,
         len: HostAlignedByteCount,
     ) -> Result<Self::Region, MakeFault>
         requires page { accessible.page ≡ len.page }
         requires within { accessible.bytes ≤ len.bytes }
-        ensures region { IfOk result (λ region. Self.Region.told region ≡ made_region name accessible len (told self.old)) }
+        ensures region { IfOk result (λ region. Self.Region.told region ≡ made_region name behaviour accessible len (told self.old)) }
         ensures maker { told self.new ≡ record (told self.old) { next = next_after name (told self.old).next; faults = (told self.new).faults } }
         ensures faults { MatchResult result (λ _. (told self.new).faults ≡ (told self.old).faults) (RaisesFaults (told self.old).faults (told self.new).faults) }
         ensures planned { IfSome (told self.old).plan (λ plan. MatchResult result (λ _. fails_making name plan ≡ false) (λ e. e ≡ MakeFault.PageFault → fails_making name plan ≡ true)) };

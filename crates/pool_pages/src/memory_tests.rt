@@ -2,7 +2,7 @@ use crate::byte_count::{HostAlignedByteCount, PageSize};
 use crate::image_data::ImageData;
 use crate::maker::PageMaker;
 use crate::memory_pages::MemoryPages;
-use crate::pages::{Pages, RegionName};
+use crate::pages::{DecommitBehavior, Pages, RegionName};
 use crate::plain_list::PlainList;
 use std::test::Fail;
 
@@ -12,7 +12,13 @@ fn a_decommitted_page_reads_its_image_again(rt: HostRuntime) -> Result<(), Fail>
     let page = PageSize::new(16)?;
     let mut maker = MemoryPages::new(page);
     let len = HostAlignedByteCount::new(page, 64)?;
-    let mut region = maker.make(alloc, RegionName::Memory(0), page.zero(), len)?;
+    let mut region = maker.make(
+        alloc,
+        RegionName::Memory(0),
+        DecommitBehavior::RestoreOriginalMapping,
+        page.zero(),
+        len,
+    )?;
     region.expose(page.zero(), len)?;
     let size = region.len();
     assert_eq!(rt; size.byte_count(), 64);
