@@ -1,5 +1,6 @@
 pub mod ConfigRules
 pub mod DenseCalls
+pub mod FailingCalls
 pub mod Multiples
 pub mod NoImage
 pub mod PageChanges

@@ -5,6 +5,7 @@ pub mod ConfigTexts
 pub mod Contents
 pub mod Count
 pub mod Dense
+pub mod FailingTold
 pub mod ImageBytes
 pub mod MadeRegions
 pub mod MakeFaults

@@ -3,7 +3,7 @@ use Rattle.std.specs.Prelude.{ℕ, ◌+◌, ◌-◌, ◌^◌, ◌/◌, ◌==◌,
 use Rattle.std.specs.List.{list_any, filter_map}
 use Rattle.pool_pages.specs.Count.{Count}
 use Rattle.pool_pages.specs.Contents.{Contents}
-use Rattle.pool_pages.specs.Told.{Told}
+use Rattle.pool_pages.specs.Told.{Told, joined_plan}
 use Rattle.pool_pages.specs.declared.pages.PageCalls.{PageCalls}
 use Rattle.pool_pages.specs.declared.pages.RegionName.{RegionName}
 use Rattle.pool_pages.specs.declared.pages.RegionName.TheVariants.{Memory, Table, Stack, OnDemand}
@@ -41,14 +41,6 @@ call_of name (on_images m) = None
 -- the numbers of the calls on this region that fail
 abbrev pub calls_of : RegionName → List Planned → List ℕ
 calls_of name plan = filter_map (call_of name) plan
-
--- Of two plans, one behind the other, one can be told where the other is empty. Where both list calls, a call that
--- the first refuses isn't made on what is behind it, so that its numbers are others there.
-abbrev pub joined_plan : {X : Type 0} → Option (List X) → List X → Option (List X)
-joined_plan behind [] = behind
-joined_plan (Some []) (x ∷ xs) = Some (x ∷ xs)
-joined_plan (Some (y ∷ ys)) (x ∷ xs) = None
-joined_plan None (x ∷ xs) = None
 
 -- what a region of this name tells of its calls that fail, by plans that stand one behind the other
 abbrev pub layered_plan : RegionName → List (List Planned) → Option (List ℕ)

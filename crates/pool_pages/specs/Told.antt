@@ -1,5 +1,5 @@
 -- What a region tells of itself, and what a call does to that.
-use Rattle.std.specs.Prelude.{◌≡◌, ℕ, ◌+◌, ◌-◌, ◌^◌, ◌<◌, ◌≤◌, ◌⊎◌, ◌==◌, ◌||◌, List, length, min, Bool, not, if◌then◌else◌, Option, Some, None, IsSome, IfSome, option_map}
+use Rattle.std.specs.Prelude.{◌≡◌, ℕ, ◌+◌, ◌-◌, ◌^◌, ◌<◌, ◌≤◌, ◌⊎◌, ◌==◌, ◌||◌, List, [], ◌∷◌, length, min, Bool, not, if◌then◌else◌, Option, Some, None, IsSome, IfSome, option_map}
 use Rattle.std.specs.List.{list_any}
 use Rattle.pool_pages.specs.Count.{Count}
 use Rattle.pool_pages.specs.Contents.{Contents, IsShaped, page_at, IsIn, exposed, hidden, image_mapped, image_copied, erased, remapped, recoloured, decommitted, written, put_back}
@@ -107,6 +107,14 @@ counted call t = record t {
 -- the call succeeded: it is counted, and its pages are changed
 abbrev pub succeeded : PageCall → Told → Told
 succeeded call t = record (counted call t) { contents = option_map call.change t.contents }
+
+-- Of two plans, one behind the other, one can be told where the other is empty. Where both list calls, a call that
+-- the first refuses isn't made on what is behind it, so that its numbers are others there.
+abbrev pub joined_plan : {X : Type 0} → Option (List X) → List X → Option (List X)
+joined_plan behind [] = behind
+joined_plan (Some []) (x ∷ xs) = Some (x ∷ xs)
+joined_plan (Some (y ∷ ys)) (x ∷ xs) = None
+joined_plan None (x ∷ xs) = None
 
 -- under this plan the call succeeds: its range is empty, or its number isn't in the plan
 abbrev pub passes : List ℕ → PageCall → Told → Bool

@@ -1,10 +1,11 @@
 ghost use Rattle.std.specs.Prelude.{◌≡◌, [], Some, length};
-ghost use Rattle.pool_pages.specs.Told.{IsRange, mapping, risen, succeeded, zeroing, TellsShaped};
+ghost use Rattle.pool_pages.specs.Told.{IsRange, mapping, succeeded, zeroing, TellsShaped};
 ghost use Rattle.pool_pages.specs.MemoryTold.{memory_told};
 ghost use Rattle.pool_pages.specs.MakerTold.{no_calls};
 ghost use Rattle.pool_pages.specs.Count.{count};
 
 use crate::byte_count::{HostAlignedByteCount, PageSize};
+use crate::call_counts::risen;
 use crate::dense_pages::DensePages;
 use crate::image_data::ImageData;
 use crate::pages::{DecommitBehavior, PageCalls, PageFault, Pages, RegionName};
@@ -32,13 +33,6 @@ impl Model for MemoryRegion {
     ghost view = { λ r. memory_told r.name RestoreOriginalMapping r.pages r.calls r.made };
 }
 
-/// One more, for a count that stands still at the end of its type.
-fn risen(count: u64) -> u64
-    ensures { result ≡ risen count }
-{
-    count.saturating_add(1)
-}
-
 impl MemoryRegion {
     /// No call was made on it yet. Owns the pages.
     pub(crate) fn new(name: RegionName, pages: DensePages) -> MemoryRegion
@@ -47,15 +41,7 @@ impl MemoryRegion {
         MemoryRegion {
             name,
             pages,
-            calls: PageCalls {
-                expose: 0,
-                hide: 0,
-                map_image: 0,
-                remap_zeros: 0,
-                erase: 0,
-                recolour: 0,
-                decommit: 0,
-            },
+            calls: PageCalls::none(),
             made: 0,
         }
     }
