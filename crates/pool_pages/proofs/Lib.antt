@@ -1,6 +1,8 @@
 pub mod ConfigRules
 pub mod DenseCalls
 pub mod FailingCalls
+pub mod FailingMakers
+pub mod FaultLists
 pub mod Multiples
 pub mod NoImage
 pub mod PageChanges

@@ -6,6 +6,7 @@ pub mod Contents
 pub mod Count
 pub mod Dense
 pub mod FailingTold
+pub mod FaultPlans
 pub mod ImageBytes
 pub mod MadeRegions
 pub mod MakeFaults

@@ -14,9 +14,9 @@ use crate::plain_list::PlainList;
 /// listed call isn't made on the region behind: it changes nothing but the counts.
 #[derive(Drop)]
 pub struct Failing<R: Pages> {
-    region: R,
-    plan: PlainList<u64>,
-    counts: CallCounts,
+    pub(crate) region: R,
+    pub(crate) plan: PlainList<u64>,
+    pub(crate) counts: CallCounts,
 }
 
 impl<R: Pages> Failing<R> {

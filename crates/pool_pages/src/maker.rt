@@ -62,3 +62,53 @@ pub trait PageMaker {
         ensures faults { MatchResult result (λ _. (told self.new).faults ≡ (told self.old).faults) (RaisesFaults (told self.old).faults (told self.new).faults) }
         ensures planned { IfSome (told self.old).plan (λ plan. MatchResult result (λ _. fails_images id plan ≡ false) (λ e. e ≡ MakeFault.PageFault → fails_images id plan ≡ true)) };
 }
+
+/// The number of the next region on demand, once this one was asked for.
+pub(crate) fn next_after(name: RegionName, next: u32) -> u32
+    ensures { result ≡ next_after name next }
+{
+    match name {
+        RegionName::OnDemand(_) => next.saturating_add(1),
+        RegionName::Memory(_) | RegionName::Table(_) | RegionName::Stack(_) => next,
+    }
+}
+
+/// A maker that is lent makes what it makes.
+impl<M: PageMaker> PageMaker for &mut M {
+    type Region = M::Region;
+
+    ghost told = { λ m. M.told m.now };
+
+    fn faults(&self) -> u64 {
+        (**self).faults()
+    }
+
+    fn page(&self) -> PageSize {
+        (**self).page()
+    }
+
+    fn next(&self) -> u32 {
+        (**self).next()
+    }
+
+    fn make(
+        &mut self,
+        alloc: Global,
+        name: RegionName,
+        behaviour: DecommitBehavior,
+        accessible: HostAlignedByteCount,
+        len: HostAlignedByteCount,
+    ) -> Result<M::Region, MakeFault> {
+        (**self).make(alloc, name, behaviour, accessible, len)
+    }
+
+    fn image(
+        &mut self,
+        alloc: Global,
+        id: u64,
+        memory: u32,
+        len: HostAlignedByteCount,
+    ) -> Result<(), MakeFault> {
+        (**self).image(alloc, id, memory, len)
+    }
+}

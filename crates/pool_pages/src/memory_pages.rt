@@ -1,12 +1,12 @@
 ghost use Rattle.std.specs.Prelude.{◌≡◌};
 ghost use Rattle.pool_pages.specs.MadeRegions.{made_told};
-ghost use Rattle.pool_pages.specs.MakerTold.{next_after, no_calls};
+ghost use Rattle.pool_pages.specs.MakerTold.{no_calls};
 ghost use Rattle.pool_pages.specs.MemoryTold.{memory_maker, memory_told};
 
 use crate::byte_count::{HostAlignedByteCount, PageSize};
 use crate::dense_pages::DensePages;
 use crate::made_region::MadeRegion;
-use crate::maker::{MakeFault, PageMaker};
+use crate::maker::{MakeFault, PageMaker, next_after};
 use crate::memory_region::MemoryRegion;
 use crate::pages::{DecommitBehavior, RegionName};
 use crate::zeroing_region::ZeroingRegion;
@@ -36,16 +36,6 @@ impl MemoryPages {
         ensures { result ≡ memory_maker page 0 }
     {
         MemoryPages { page, next: 0 }
-    }
-}
-
-/// The number of the next region on demand, once this one was asked for.
-fn next_after(name: RegionName, next: u32) -> u32
-    ensures { result ≡ next_after name next }
-{
-    match name {
-        RegionName::OnDemand(_) => next.saturating_add(1),
-        RegionName::Memory(_) | RegionName::Table(_) | RegionName::Stack(_) => next,
     }
 }
 
