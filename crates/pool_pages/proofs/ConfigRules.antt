@@ -1,5 +1,5 @@
 -- The first broken limit, as the tests find it.
-use Rattle.std.proofs.Common.{◌≡◌, ℕ, ◌≤◌, Bool, true, false, List, [], ◌∷◌, Option, Some, None, find, nat_lt, nat_le, cond, option_map, refl, sym, ◌∙◌, ap, arith}
+use Rattle.std.proofs.Common.{◌≡◌, ℕ, ◌≤◌, Bool, true, false, List, [], ◌∷◌, Option, Some, None, find, cond, option_map, refl, sym, ap}
 use Rattle.std.proofs.lemmas.Bool.{le-leb, ltb-false}
 use Rattle.pool_pages.specs.declared.bad_config.ConfigField.{ConfigField}
 use Rattle.pool_pages.specs.declared.config.PoolingAllocationConfig.{PoolingAllocationConfig}

@@ -1,11 +1,10 @@
 -- What a maker with a list of failures makes, and what it tells of a making, by what the maker behind it does.
-use Rattle.std.proofs.Common.{◌≡◌, ℕ, Bool, true, false, List, [], ◌∷◌, ◌++◌, fold, Option, Some, None, refl, sym, ap, subst, ◌∙◌}
+use Rattle.std.proofs.Common.{◌≡◌, ℕ, Bool, true, false, List, [], ◌∷◌, Option, Some, None, refl, sym, ap, ◌∙◌}
 use Rattle.std.proofs.lemmas.List.Sums.{fold-append}
 use Rattle.std.specs.Option.{IfSome}
 use Rattle.pool_pages.specs.Count.{Count}
-use Rattle.pool_pages.specs.Contents.{Contents}
 use Rattle.pool_pages.specs.Told.{Told, joined_plan}
-use Rattle.pool_pages.specs.MakerTold.{MakerTold, Planned, calls_of, part_of, layered_plan, made_region, no_calls}
+use Rattle.pool_pages.specs.MakerTold.{MakerTold, Planned, calls_of, part_of, made_region, no_calls}
 use Rattle.pool_pages.specs.FailingTold.{failing_told, if_empty, no_counts}
 use Rattle.pool_pages.specs.FaultPlans.{failing_maker, layers_before}
 use Rattle.pool_pages.specs.declared.pages.RegionName.{RegionName}

@@ -4,7 +4,7 @@ use Rattle.std.proofs.lemmas.List.Elements.{filter_map-append}
 use Rattle.std.proofs.lemmas.List.{take_more}
 use Rattle.std.specs.List.{filter_map, cons_option, list_any}
 use Rattle.std.specs.Option.{option_and_then, option_map_or}
-use Rattle.pool_pages.specs.MakerTold.{Planned, calls_of, call_of, fails_making, is_of_images, fails_images}
+use Rattle.pool_pages.specs.MakerTold.{calls_of, call_of, fails_making, is_of_images, fails_images}
 use Rattle.pool_pages.specs.declared.pages.RegionName.{RegionName}
 use Rattle.pool_pages.specs.declared.fault_plan.Fault.{Fault}
 use Rattle.pool_pages.specs.FaultPlans.{planned_of, planned_faults, planned_call, plans_images}

@@ -13,6 +13,8 @@ mod config;
 mod dense_pages;
 mod failing;
 mod failing_maker;
+#[cfg(test)]
+mod failing_tests;
 mod fault_plan;
 mod greatest_values;
 mod image_data;

@@ -1,3 +1,5 @@
+ghost use Rattle.std.specs.Prelude.{◌<◌};
+
 use crate::bad_config::{BadConfig, ConfigField, PairedTunable};
 use crate::config::PoolingAllocationConfig;
 use crate::module_types::{IndexType, Limits, MemoryKind, MemoryTunables, MemoryType, Tunables};

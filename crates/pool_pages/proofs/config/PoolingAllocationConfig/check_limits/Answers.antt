@@ -1,5 +1,4 @@
-use Rattle.std.proofs.Common.{◌≡◌, ◌∙◌, ap, sym, Some, None, option_map, refl}
-use Rattle.pool_pages.specs.ConfigLimits.{first_broken_limit, limited_values, is_exceeded, too_great}
+use Rattle.std.proofs.Common.{◌∙◌, sym, None}
 use Rattle.pool_pages.proofs.ConfigRules.{first_is, within_limits}
 use Rattle.pool_pages.proofs.config.PoolingAllocationConfig.check_limits.Goals as goal
 
