@@ -1,6 +1,6 @@
 -- The first broken limit, as the tests find it.
-use Rattle.std.proofs.Common.{◌≡◌, ℕ, ◌≤◌, Bool, true, false, List, [], ◌∷◌, Option, Some, None, find, nat_lt, nat_le, cond, option_map, refl, sym, ◌∙◌, ap, arith}
-use Rattle.std.proofs.lemmas.Bool.{le-leb, ltb-false}
+use Rattle.std.proofs.Common.{◌≡◌, ◌&&◌, nat_le, ℕ, ◌≤◌, Bool, true, false, List, [], ◌∷◌, Option, Some, None, find, cond, option_map, refl, sym, ap}
+use Rattle.std.proofs.lemmas.Bool.{leb-true, ltb-false}
 use Rattle.pool_pages.specs.declared.bad_config.ConfigField.{ConfigField}
 use Rattle.pool_pages.specs.declared.config.PoolingAllocationConfig.{PoolingAllocationConfig}
 use Rattle.pool_pages.specs.ConfigLimits.{limited_values, is_exceeded, is_batch_size, too_great, first_broken_limit, IsWithinLimits}
@@ -17,19 +17,21 @@ none_passes p (x ∷ xs) h = elim (p x) as (λ b. (p x ≡ b) → (cond b (Some 
   | false ↦ (λ e k. (e, none_passes p xs k))
 ] refl h
 
--- a batch that isn't refused has an allowed size
-pub batch_passes : (n : ℕ) → 1 ≤ n → n ≤ 4096 → is_batch_size n ≡ true
-batch_passes n low high = rw (le-leb 1 n low, le-leb n 4096 high) refl
+-- both tests pass
+and_true : (a b : Bool) → (a && b) ≡ true → (a ≡ true) × (b ≡ true)
+and_true true b h = (refl, h)
+and_true false b h = absurd (cc h)
 
-pub first_is : (c : PoolingAllocationConfig) (p : Option (ConfigField × ℕ)) → 1 ≤ c.decommit_batch_size → c.decommit_batch_size ≤ 4096 → p ≡ find is_exceeded (limited_values c) → first_broken_limit c ≡ option_map too_great p
-first_is c p low high e = rw (batch_passes c.decommit_batch_size low high) (sym (ap (option_map too_great) e))
+pub first_is : (c : PoolingAllocationConfig) (p : Option (ConfigField × ℕ)) → is_batch_size c.decommit_batch_size ≡ true → p ≡ find is_exceeded (limited_values c) → first_broken_limit c ≡ option_map too_great p
+first_is c p batch e = rw batch (sym (ap (option_map too_great) e))
 
-pub within_limits : (c : PoolingAllocationConfig) → 1 ≤ c.decommit_batch_size → c.decommit_batch_size ≤ 4096 → find is_exceeded (limited_values c) ≡ None → IsWithinLimits c
-within_limits c low high none =
+pub within_limits : (c : PoolingAllocationConfig) → is_batch_size c.decommit_batch_size ≡ true → find is_exceeded (limited_values c) ≡ None → IsWithinLimits c
+within_limits c batch none =
+    let size = and_true (nat_le 1 c.decommit_batch_size) (nat_le c.decommit_batch_size 4096) batch in
     let h = none_passes is_exceeded (limited_values c) none in
     record {
-      batch_at_least = low;
-      batch_at_most = high;
+      batch_at_least = leb-true 1 c.decommit_batch_size size.0;
+      batch_at_most = leb-true c.decommit_batch_size 4096 size.1;
       core_instances = ltb-false _ _ h.0;
       component_instances = ltb-false _ _ h.1.0;
       memories = ltb-false _ _ h.1.1.0;

@@ -11,7 +11,7 @@ use Rattle.pool_pages.proofs.Multiples.{whole}
 use Rattle.pool_pages.proofs.PageNumbers.{marks_fit, page_inside, touched_fit}
 use Rattle.pool_pages.proofs.Prefixes.{length-with_zeros, clear_past}
 use Rattle.pool_pages.proofs.Puts.{length-put, length-range, range-put}
-use Rattle.pool_pages.proofs.Shapes.{access_shaped, replaced_shaped, copied_shaped, decommitted_shaped, written_shaped}
+use Rattle.pool_pages.proofs.Shapes.{access_shaped, colour_shaped, replaced_shaped, copied_shaped, decommitted_shaped, written_shaped}
 
 -- columns that are equal one by one
 abbrev pub columns : ℕ → List ℕ → List ℕ → List Bool → List Bool → List ℕ → Contents
@@ -108,6 +108,14 @@ module _ (page q room : ℕ) (bytes prefix : List ℕ) (accessible dirty : List 
         refl refl (at_page b accessible accessible' e) refl refl)
         refl ok.kept (omega arith)
         (access_shaped (length bytes) start n old positive ok.shaped in_start in_n fits_in b)
+
+    pub colour_again : (x : ℕ) (colour' : List ℕ) → colour' ≡ put_all (start / q) (n / q) x colour → IsDense page bytes prefix accessible dirty colour' room
+    colour_again x colour' e =
+        again bytes prefix accessible dirty colour' (record old { colour = put_all (start / page) (n / page) x colour }) room
+        (same_columns page bytes bytes (with_zeros (length bytes) prefix) (with_zeros (length bytes) prefix) accessible accessible dirty dirty colour' (put_all (start / page) (n / page) x colour)
+        refl refl refl refl (at_page x colour colour' e))
+        refl ok.kept (omega arith)
+        (colour_shaped (length bytes) start n old positive ok.shaped in_start in_n fits_in x)
 
     pub copied_again : (ys bytes' : List ℕ) (accessible' dirty' : List Bool) (colour' : List ℕ) → length ys ≡ n → bytes' ≡ put start ys bytes → accessible' ≡ put_all (start / q) (n / q) true accessible → dirty' ≡ put_all (start / q) (n / q) true dirty → colour' ≡ put_all (start / q) (n / q) 0 colour → IsDense page bytes' prefix accessible' dirty' colour' room
     copied_again ys bytes' accessible' dirty' colour' long bytes_is accessible_is dirty_is colour_is =

@@ -1,5 +1,8 @@
 pub mod ConfigRules
 pub mod DenseCalls
+pub mod FailingCalls
+pub mod FailingMakers
+pub mod FaultLists
 pub mod Multiples
 pub mod NoImage
 pub mod PageChanges
@@ -8,3 +11,4 @@ pub mod PageRuns
 pub mod Prefixes
 pub mod Puts
 pub mod Shapes
+pub mod ZeroingCalls

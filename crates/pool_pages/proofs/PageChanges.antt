@@ -5,7 +5,7 @@ use Rattle.std.proofs.lemmas.List.{length-replicate, same_lists}
 use Rattle.std.proofs.lemmas.Bool.{cases_lt}
 use Rattle.pool_pages.specs.Contents.{Contents, Page, page_bytes, page_origin, page_at, IsIn, IsShaped, put, put_all, touched}
 use Rattle.pool_pages.specs.Dense.{zeroed}
-use Rattle.pool_pages.specs.PageLaws.{IsPages, ChangesExactly, image_part, IsTouched, ExposeChangesItsPages, HideChangesItsPages, MapChangesItsPages, CopyChangesItsPages, EraseChangesItsPages, RemapChangesItsPages, DecommitChangesItsPages, WriteChangesItsPages, RestoreChangesItsPages}
+use Rattle.pool_pages.specs.PageLaws.{IsPages, ChangesExactly, image_part, IsTouched, ExposeChangesItsPages, HideChangesItsPages, MapChangesItsPages, CopyChangesItsPages, EraseChangesItsPages, RemapChangesItsPages, RecolourChangesItsPages, DecommitChangesItsPages, WriteChangesItsPages, RestoreChangesItsPages}
 use Rattle.pool_pages.proofs.Multiples.{page_below}
 use Rattle.pool_pages.proofs.NoImage.{zeros_range}
 use Rattle.pool_pages.proofs.PageNumbers.{page_before, page_from, page_above, page_inside, touched_some, touched_above, touched_fit}
@@ -135,6 +135,12 @@ erase_law n start len c is = zeroed_law n start len c is false
 
 pub remap_law : RemapChangesItsPages
 remap_law n start len c is = zeroed_law n start len c is true
+
+pub recolour_law : RecolourChangesItsPages
+recolour_law n start len colour c is = record {
+  within = λ k is_in. ap (λ z. page (get_or c.accessible k false) (page_bytes k c) (page_origin k c) (get_or c.dirty k true) z) (mark_in n start len c is colour 0 c.colour is.shaped.colour k is_in);
+  others = λ k below out. ap (λ z. page (get_or c.accessible k false) (page_bytes k c) (page_origin k c) (get_or c.dirty k true) z) (mark_out n start len c is colour 0 c.colour is.shaped.colour k out);
+}
 
 pub decommit_law : DecommitChangesItsPages
 decommit_law n start len c is =

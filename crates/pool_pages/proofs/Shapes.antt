@@ -109,6 +109,18 @@ module _ (len start n : ℕ) (c : Contents) (positive : 0 < c.page) (shaped : Is
     clean = shaped.clean;
   }
 
+  pub colour_shaped : (x : ℕ) → IsShaped c.page len (record c { colour = put_all first count x c.colour })
+  colour_shaped x = record {
+    same_page = refl;
+    whole = shaped.whole;
+    bytes = shaped.bytes;
+    origin = shaped.origin;
+    accessible = shaped.accessible;
+    dirty = shaped.dirty;
+    colour = marks_long x c.colour shaped.colour;
+    clean = shaped.clean;
+  }
+
   -- the same list is put into the bytes and into what they go back to
   pub replaced_shaped : (ys : List ℕ) (v : Bool) → length ys ≡ n → IsShaped c.page len (record c { bytes = put start ys c.bytes; origin = put start ys c.origin; accessible = put_all first count v c.accessible; dirty = put_all first count false c.dirty; colour = put_all first count 0 c.colour })
   replaced_shaped ys v long = record {

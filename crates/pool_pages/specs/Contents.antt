@@ -63,6 +63,10 @@ erased start len c = record c {
 abbrev pub remapped : ℕ → ℕ → Contents → Contents
 remapped start len c = record (erased start len c) { accessible = put_all (start / c.page) (len / c.page) true c.accessible }
 
+-- the pages have this colour
+abbrev pub recoloured : ℕ → ℕ → ℕ → Contents → Contents
+recoloured start len colour c = record c { colour = put_all (start / c.page) (len / c.page) colour c.colour }
+
 -- the pages hold what they go back to
 abbrev pub decommitted : ℕ → ℕ → Contents → Contents
 decommitted start len c = record c {

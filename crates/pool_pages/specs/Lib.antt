@@ -5,7 +5,10 @@ pub mod ConfigTexts
 pub mod Contents
 pub mod Count
 pub mod Dense
+pub mod FailingTold
+pub mod FaultPlans
 pub mod ImageBytes
+pub mod MadeRegions
 pub mod MakeFaults
 pub mod MakerTold
 pub mod MemoryTold

@@ -1,13 +1,13 @@
 -- What a maker of regions tells of itself, and the regions that it makes.
-use Rattle.std.specs.Prelude.{ℕ, ◌+◌, ◌-◌, ◌^◌, ◌/◌, ◌==◌, List, ◌++◌, min, replicate, Bool, true, false, if◌then◌else◌, Option, Some, None, option_map}
+use Rattle.std.specs.Prelude.{ℕ, ◌+◌, ◌-◌, ◌^◌, ◌/◌, ◌==◌, List, [], ◌∷◌, ◌++◌, fold, min, replicate, Bool, true, false, if◌then◌else◌, Option, Some, None}
 use Rattle.std.specs.List.{list_any, filter_map}
 use Rattle.pool_pages.specs.Count.{Count}
 use Rattle.pool_pages.specs.Contents.{Contents}
-use Rattle.pool_pages.specs.Told.{Told}
+use Rattle.pool_pages.specs.Told.{Told, joined_plan}
 use Rattle.pool_pages.specs.declared.pages.PageCalls.{PageCalls}
 use Rattle.pool_pages.specs.declared.pages.RegionName.{RegionName}
 use Rattle.pool_pages.specs.declared.pages.RegionName.TheVariants.{Memory, Table, Stack, OnDemand}
-use Rattle.pool_pages.specs.declared.pages.DecommitBehavior.TheVariants.{RestoreOriginalMapping}
+use Rattle.pool_pages.specs.declared.pages.DecommitBehavior.{DecommitBehavior}
 
 -- a call that fails: call n on a region, its making being call 0, or each making of an image of a module
 pub data Planned : Type 0 where
@@ -15,11 +15,13 @@ pub data Planned : Type 0 where
   on_images : ℕ → Planned
 
 -- Its page. Whether its regions tell what they hold. Which makings and calls on its regions fail, where it tells
--- that. The number of its next region on demand, and how often a making failed.
+-- that; where it doesn't, the plans that stand one behind the other, as far as they are told. The number of its next
+-- region on demand, and how often a making failed.
 pub record MakerTold : Type 0 where
   pub page : ℕ
   pub tells : Bool
   pub plan : Option (List Planned)
+  pub layers : List (List Planned)
   pub next : ℕ
   pub faults : ℕ
 
@@ -39,6 +41,19 @@ call_of name (on_images m) = None
 -- the numbers of the calls on this region that fail
 abbrev pub calls_of : RegionName → List Planned → List ℕ
 calls_of name plan = filter_map (call_of name) plan
+
+-- what a region of this name tells of its calls that fail, by plans that stand one behind the other
+abbrev pub layered_plan : RegionName → List (List Planned) → Option (List ℕ)
+layered_plan name [] = None
+layered_plan name (last ∷ before) = fold (λ plan layer. joined_plan plan (calls_of name layer)) (Some (calls_of name last)) before
+
+-- the same: its part of the maker's plan, where that is told
+abbrev pub part_of : RegionName → Option (List Planned) → List (List Planned) → Option (List ℕ)
+part_of name (Some plan) layers = Some (calls_of name plan)
+part_of name None layers = layered_plan name layers
+
+abbrev pub plan_for : RegionName → MakerTold → Option (List ℕ)
+plan_for name maker = part_of name maker.plan maker.layers
 
 -- the making of this region fails
 abbrev pub fails_making : RegionName → List Planned → Bool
@@ -69,14 +84,14 @@ fresh page accessible len = record {
 }
 
 -- a region as made
-abbrev pub made_region : RegionName → Count → Count → MakerTold → Told
-made_region name accessible len maker = record {
+abbrev pub made_region : RegionName → DecommitBehavior → Count → Count → MakerTold → Told
+made_region name behaviour accessible len maker = record {
   name = name;
   page = len.page;
   len = len.bytes;
-  behaviour = RestoreOriginalMapping;
+  behaviour = behaviour;
   contents = if maker.tells then Some (fresh len.page accessible.bytes len.bytes) else None;
-  plan = option_map (calls_of name) maker.plan;
+  plan = plan_for name maker;
   made = 0;
   calls = no_calls;
   faults = 0;

@@ -27,6 +27,7 @@ memory_maker page next = record {
   page = page;
   tells = true;
   plan = Some [];
+  layers = [];
   next = next;
   faults = 0;
 }

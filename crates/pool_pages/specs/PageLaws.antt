@@ -1,6 +1,6 @@
 -- What each call on pages changes, page by page.
 use Rattle.std.specs.Prelude.{◌≡◌, ℕ, ◌+◌, ◌-◌, ◌*◌, ◌%◌, ◌<◌, ◌≤◌, List, length, min, replicate, true, false, slice_range}
-use Rattle.pool_pages.specs.Contents.{Contents, IsShaped, Page, page_at, IsIn, put, exposed, hidden, image_mapped, image_copied, erased, remapped, decommitted, written, put_back}
+use Rattle.pool_pages.specs.Contents.{Contents, IsShaped, Page, page_at, IsIn, put, exposed, hidden, image_mapped, image_copied, erased, remapped, recoloured, decommitted, written, put_back}
 
 -- a range of whole pages of a region that is n bytes long
 pub record IsPages (n start len : ℕ) (c : Contents) : Type 0 where
@@ -36,6 +36,9 @@ EraseChangesItsPages = (n start len : ℕ) (c : Contents) → IsPages n start le
 
 abbrev pub RemapChangesItsPages : Type 0
 RemapChangesItsPages = (n start len : ℕ) (c : Contents) → IsPages n start len c → ChangesExactly start len (λ k p. record { accessible = true; bytes = replicate c.page 0; origin = replicate c.page 0; dirty = false; colour = 0 }) c (remapped start len c)
+
+abbrev pub RecolourChangesItsPages : Type 0
+RecolourChangesItsPages = (n start len colour : ℕ) (c : Contents) → IsPages n start len c → ChangesExactly start len (λ k p. record p { colour = colour }) c (recoloured start len colour c)
 
 abbrev pub DecommitChangesItsPages : Type 0
 DecommitChangesItsPages = (n start len : ℕ) (c : Contents) → IsPages n start len c → ChangesExactly start len (λ k p. record p { bytes = p.origin; dirty = false }) c (decommitted start len c)

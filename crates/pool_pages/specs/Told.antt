@@ -1,8 +1,8 @@
 -- What a region tells of itself, and what a call does to that.
-use Rattle.std.specs.Prelude.{◌≡◌, ℕ, ◌+◌, ◌-◌, ◌^◌, ◌<◌, ◌≤◌, ◌⊎◌, ◌==◌, ◌||◌, List, length, min, Bool, not, if◌then◌else◌, Option, Some, None, IsSome, IfSome, option_map}
+use Rattle.std.specs.Prelude.{◌≡◌, ℕ, ◌+◌, ◌-◌, ◌^◌, ◌<◌, ◌≤◌, ◌⊎◌, ◌==◌, ◌||◌, List, [], ◌∷◌, length, min, Bool, not, if◌then◌else◌, Option, Some, None, IsSome, IfSome, option_map}
 use Rattle.std.specs.List.{list_any}
 use Rattle.pool_pages.specs.Count.{Count}
-use Rattle.pool_pages.specs.Contents.{Contents, IsShaped, page_at, IsIn, exposed, hidden, image_mapped, image_copied, erased, remapped, decommitted, written, put_back}
+use Rattle.pool_pages.specs.Contents.{Contents, IsShaped, page_at, IsIn, exposed, hidden, image_mapped, image_copied, erased, remapped, recoloured, decommitted, written, put_back}
 use Rattle.pool_pages.specs.declared.pages.PageCalls.{PageCalls}
 use Rattle.pool_pages.specs.declared.pages.RegionName.{RegionName}
 use Rattle.pool_pages.specs.declared.pages.DecommitBehavior.{DecommitBehavior}
@@ -81,6 +81,14 @@ remapping start len = record {
   change = remapped start len;
 }
 
+abbrev pub recolouring : ℕ → ℕ → ℕ → PageCall
+recolouring start len colour = record {
+  start = start;
+  len = len;
+  raise = λ c. record c { recolour = risen c.recolour };
+  change = recoloured start len colour;
+}
+
 abbrev pub decommitting : ℕ → ℕ → PageCall
 decommitting start len = record {
   start = start;
@@ -99,6 +107,14 @@ counted call t = record t {
 -- the call succeeded: it is counted, and its pages are changed
 abbrev pub succeeded : PageCall → Told → Told
 succeeded call t = record (counted call t) { contents = option_map call.change t.contents }
+
+-- Of two plans, one behind the other, one can be told where the other is empty. Where both list calls, a call that
+-- the first refuses isn't made on what is behind it, so that its numbers are others there.
+abbrev pub joined_plan : {X : Type 0} → Option (List X) → List X → Option (List X)
+joined_plan behind [] = behind
+joined_plan (Some []) (x ∷ xs) = Some (x ∷ xs)
+joined_plan (Some (y ∷ ys)) (x ∷ xs) = None
+joined_plan None (x ∷ xs) = None
 
 -- under this plan the call succeeds: its range is empty, or its number isn't in the plan
 abbrev pub passes : List ℕ → PageCall → Told → Bool
@@ -133,6 +149,10 @@ overwritten start new t = record t { contents = option_map (written start new) t
 -- the bytes of a range of a told region are set to what they go back to; its counts stay
 abbrev pub restored : ℕ → ℕ → Told → Told
 restored start len t = record t { contents = option_map (put_back start len) t.contents }
+
+-- the same region under the behaviour that pages go back to zeros
+abbrev pub zeroing : Told → Told
+zeroing t = record t { behaviour = Zero }
 
 -- what is told of pages has the region's shape
 abbrev pub TellsShaped : Told → Type 0

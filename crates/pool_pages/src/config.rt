@@ -1,5 +1,5 @@
 ghost use Rattle.std.specs.Prelude.{◌≡◌, None, OnOk, IfErr};
-ghost use Rattle.pool_pages.specs.ConfigLimits.{IsWithinLimits, first_broken_limit};
+ghost use Rattle.pool_pages.specs.ConfigLimits.{IsWithinLimits, first_broken_limit, is_batch_size};
 
 use crate::bad_config::BadConfig;
 use crate::greatest_values::{first_exceeded, limited_values};
@@ -98,6 +98,13 @@ impl Default for PoolingAllocationConfig {
     }
 }
 
+// Whether a batch of the decommit queue may have this many ranges.
+fn is_batch_size(size: usize) -> bool
+    ensures { result ≡ is_batch_size size }
+{
+    1 <= size && size <= 4096
+}
+
 impl PoolingAllocationConfig {
     /// Tests the limits that these settings have whatever is offered: the batch of the decommit queue, and then
     /// each field that has a greatest value, in order. The error is the first that is broken.
@@ -107,7 +114,7 @@ impl PoolingAllocationConfig {
         ensures within { OnOk result (IsWithinLimits self.now) }
     {
         let size = self.decommit_batch_size;
-        if size < 1 || size > 4096 {
+        if !is_batch_size(size) {
             return Err(BadConfig::DecommitBatch { size });
         }
         match first_exceeded(&limited_values(self)) {

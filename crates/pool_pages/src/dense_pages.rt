@@ -1,16 +1,14 @@
-ghost use Rattle.std.specs.Prelude.{◌≡◌, ℕ, ◌+◌, ◌-◌, ◌*◌, ◌/◌, ◌%◌, ◌^◌, ◌<◌, ◌≤◌, List, length, replicate, slice_range, IfOk, vec_capacity, Bool};
-ghost use Rattle.pool_pages.specs.Contents.{IsShaped, put_all, touched, image_mapped, image_copied, erased, remapped, decommitted, written, put_back};
+ghost use Rattle.std.specs.Prelude.{◌≡◌, ℕ, ◌+◌, ◌-◌, ◌*◌, ◌/◌, ◌%◌, ◌^◌, ◌<◌, ◌≤◌, List, length, replicate, slice_range, slice_index_or, true, IfOk, vec_capacity, Bool};
+ghost use Rattle.pool_pages.specs.Contents.{IsShaped, put_all, touched, image_mapped, image_copied, erased, remapped, recoloured, decommitted, written, put_back};
 ghost use Rattle.pool_pages.specs.Dense.{zeroed};
 ghost use Rattle.pool_pages.specs.Count.{IsPageSize};
 ghost use Rattle.pool_pages.specs.MakerTold.{fresh};
-ghost use Rattle.pool_pages.specs.Told.{mapped};
 
 use crate::byte_count::PageSize;
 use crate::column_edits::{
     clear_in_prefix, copy_out, fill_range, overwrite, put_into_prefix, restore, restore_pages,
     set_marks,
 };
-use crate::pages::DecommitBehavior;
 use std::alloc::{AllocError, Global};
 use std::marker::Model;
 
@@ -123,9 +121,38 @@ impl DensePages {
         set_marks(&mut self.accessible, start / page, len / page, value);
     }
 
+    /// Gives the pages a colour.
+    pub(crate) fn recolour(&mut self, start: usize, len: usize, colour: u8)
+        requires start { start % self.old.page ≡ 0 }
+        requires len { len % self.old.page ≡ 0 }
+        requires inside { start + len ≤ length self.old.bytes }
+        ensures value { self.new ≡ recoloured start len colour self.old }
+        ensures len { length self.new.bytes ≡ length self.old.bytes }
+        ensures shaped { IsShaped self.new.page (length self.new.bytes) self.new }
+    {
+        let page = self.page.get();
+        fill_range(&mut self.colour, start / page, len / page, colour);
+    }
+
+    /// The colour of page `k`.
+    pub(crate) fn colour(&self, k: usize) -> u8
+        requires { k < length self.now.bytes / self.now.page }
+        ensures { result ≡ slice_index_or self.now.colour k 0 }
+    {
+        self.colour[k]
+    }
+
+    /// Whether page `k` is dirty.
+    pub(crate) fn dirty(&self, k: usize) -> bool
+        requires { k < length self.now.bytes / self.now.page }
+        ensures { result ≡ slice_index_or self.now.dirty k true }
+    {
+        self.dirty[k]
+    }
+
     /// Maps an image, which its pages go back to.
     #[tactic(auto, using(crate::proofs::DenseCalls::put_long, crate::proofs::DenseCalls::put_all_long))]
-    fn map_image(&mut self, start: usize, image: &[u8])
+    pub(crate) fn map_image(&mut self, start: usize, image: &[u8])
         requires start { start % self.old.page ≡ 0 }
         requires len { length image.now % self.old.page ≡ 0 }
         requires inside { start + length image.now ≤ length self.old.bytes }
@@ -144,7 +171,7 @@ impl DensePages {
 
     /// Copies an image to its pages, as if it had been written.
     #[tactic(auto, using(crate::proofs::DenseCalls::put_long, crate::proofs::DenseCalls::put_all_long))]
-    fn copy_image(&mut self, start: usize, image: &[u8])
+    pub(crate) fn copy_image(&mut self, start: usize, image: &[u8])
         requires start { start % self.old.page ≡ 0 }
         requires len { length image.now % self.old.page ≡ 0 }
         requires inside { start + length image.now ≤ length self.old.bytes }
@@ -158,21 +185,6 @@ impl DensePages {
         set_marks(&mut self.accessible, first, count, true);
         set_marks(&mut self.dirty, first, count, true);
         fill_range(&mut self.colour, first, count, 0);
-    }
-
-    /// Maps an image as a region of this behaviour does.
-    pub(crate) fn map(&mut self, behaviour: DecommitBehavior, start: usize, image: &[u8])
-        requires start { start % self.old.page ≡ 0 }
-        requires len { length image.now % self.old.page ≡ 0 }
-        requires inside { start + length image.now ≤ length self.old.bytes }
-        ensures value { self.new ≡ mapped behaviour start image.now self.old }
-        ensures len { length self.new.bytes ≡ length self.old.bytes }
-        ensures shaped { IsShaped self.new.page (length self.new.bytes) self.new }
-    {
-        match behaviour {
-            DecommitBehavior::RestoreOriginalMapping => self.map_image(start, image),
-            DecommitBehavior::Zero => self.copy_image(start, image),
-        }
     }
 
     /// Sets pages to zeros, which they go back to, and lets them be reached, or not.

@@ -3,7 +3,7 @@ ghost use Rattle.pool_pages.specs.MakeFaults.{RaisesFaults};
 ghost use Rattle.pool_pages.specs.MakerTold.{MakerTold, made_region, next_after, fails_making, fails_images};
 
 use crate::byte_count::{HostAlignedByteCount, PageSize};
-use crate::pages::{Pages, RegionName};
+use crate::pages::{DecommitBehavior, Pages, RegionName};
 use std::alloc::Global;
 
 /// Why a region or an image can't be made.
@@ -39,12 +39,13 @@ pub trait PageMaker {
         &mut self,
         alloc: Global,
         name: RegionName,
+        behaviour: DecommitBehavior,
         accessible: HostAlignedByteCount,
         len: HostAlignedByteCount,
     ) -> Result<Self::Region, MakeFault>
         requires page { accessible.page ≡ len.page }
         requires within { accessible.bytes ≤ len.bytes }
-        ensures region { IfOk result (λ region. Self.Region.told region ≡ made_region name accessible len (told self.old)) }
+        ensures region { IfOk result (λ region. Self.Region.told region ≡ made_region name behaviour accessible len (told self.old)) }
         ensures maker { told self.new ≡ record (told self.old) { next = next_after name (told self.old).next; faults = (told self.new).faults } }
         ensures faults { MatchResult result (λ _. (told self.new).faults ≡ (told self.old).faults) (RaisesFaults (told self.old).faults (told self.new).faults) }
         ensures planned { IfSome (told self.old).plan (λ plan. MatchResult result (λ _. fails_making name plan ≡ false) (λ e. e ≡ MakeFault.PageFault → fails_making name plan ≡ true)) };
@@ -60,4 +61,54 @@ pub trait PageMaker {
         ensures maker { told self.new ≡ record (told self.old) { faults = (told self.new).faults } }
         ensures faults { MatchResult result (λ _. (told self.new).faults ≡ (told self.old).faults) (RaisesFaults (told self.old).faults (told self.new).faults) }
         ensures planned { IfSome (told self.old).plan (λ plan. MatchResult result (λ _. fails_images id plan ≡ false) (λ e. e ≡ MakeFault.PageFault → fails_images id plan ≡ true)) };
+}
+
+/// The number of the next region on demand, once this one was asked for.
+pub(crate) fn next_after(name: RegionName, next: u32) -> u32
+    ensures { result ≡ next_after name next }
+{
+    match name {
+        RegionName::OnDemand(_) => next.saturating_add(1),
+        RegionName::Memory(_) | RegionName::Table(_) | RegionName::Stack(_) => next,
+    }
+}
+
+/// A maker that is lent makes what it makes.
+impl<M: PageMaker> PageMaker for &mut M {
+    type Region = M::Region;
+
+    ghost told = { λ m. M.told m.now };
+
+    fn faults(&self) -> u64 {
+        (**self).faults()
+    }
+
+    fn page(&self) -> PageSize {
+        (**self).page()
+    }
+
+    fn next(&self) -> u32 {
+        (**self).next()
+    }
+
+    fn make(
+        &mut self,
+        alloc: Global,
+        name: RegionName,
+        behaviour: DecommitBehavior,
+        accessible: HostAlignedByteCount,
+        len: HostAlignedByteCount,
+    ) -> Result<M::Region, MakeFault> {
+        (**self).make(alloc, name, behaviour, accessible, len)
+    }
+
+    fn image(
+        &mut self,
+        alloc: Global,
+        id: u64,
+        memory: u32,
+        len: HostAlignedByteCount,
+    ) -> Result<(), MakeFault> {
+        (**self).image(alloc, id, memory, len)
+    }
 }

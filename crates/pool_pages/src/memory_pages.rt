@@ -1,12 +1,15 @@
 ghost use Rattle.std.specs.Prelude.{◌≡◌};
-ghost use Rattle.pool_pages.specs.MakerTold.{next_after};
-ghost use Rattle.pool_pages.specs.MemoryTold.{memory_maker};
+ghost use Rattle.pool_pages.specs.MadeRegions.{made_told};
+ghost use Rattle.pool_pages.specs.MakerTold.{no_calls};
+ghost use Rattle.pool_pages.specs.MemoryTold.{memory_maker, memory_told};
 
 use crate::byte_count::{HostAlignedByteCount, PageSize};
 use crate::dense_pages::DensePages;
-use crate::maker::{MakeFault, PageMaker};
+use crate::made_region::MadeRegion;
+use crate::maker::{MakeFault, PageMaker, next_after};
 use crate::memory_region::MemoryRegion;
-use crate::pages::RegionName;
+use crate::pages::{DecommitBehavior, RegionName};
+use crate::zeroing_region::ZeroingRegion;
 use std::alloc::Global;
 use std::marker::Model;
 
@@ -36,18 +39,20 @@ impl MemoryPages {
     }
 }
 
-/// The number of the next region on demand, once this one was asked for.
-fn next_after(name: RegionName, next: u32) -> u32
-    ensures { result ≡ next_after name next }
+/// A region of these pages, on which no call was made yet.
+fn in_memory(name: RegionName, behaviour: DecommitBehavior, pages: DensePages) -> MadeRegion
+    ensures { made_told result ≡ memory_told name behaviour pages no_calls 0 }
 {
-    match name {
-        RegionName::OnDemand(_) => next.saturating_add(1),
-        RegionName::Memory(_) | RegionName::Table(_) | RegionName::Stack(_) => next,
+    match behaviour {
+        DecommitBehavior::RestoreOriginalMapping => {
+            MadeRegion::Memory(MemoryRegion::new(name, pages))
+        }
+        DecommitBehavior::Zero => MadeRegion::Zeroing(ZeroingRegion::new(name, pages)),
     }
 }
 
 impl PageMaker for MemoryPages {
-    type Region = MemoryRegion;
+    type Region = MadeRegion;
 
     ghost told = { λ m. m };
 
@@ -68,12 +73,13 @@ impl PageMaker for MemoryPages {
         &mut self,
         alloc: Global,
         name: RegionName,
+        behaviour: DecommitBehavior,
         accessible: HostAlignedByteCount,
         len: HostAlignedByteCount,
-    ) -> Result<MemoryRegion, MakeFault> {
+    ) -> Result<MadeRegion, MakeFault> {
         self.next = next_after(name, self.next);
         match DensePages::new(alloc, len.page(), accessible.byte_count(), len.byte_count()) {
-            Ok(pages) => Ok(MemoryRegion::new(name, pages)),
+            Ok(pages) => Ok(in_memory(name, behaviour, pages)),
             Err(_) => Err(MakeFault::Memory),
         }
     }

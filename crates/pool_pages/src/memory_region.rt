@@ -1,58 +1,70 @@
-ghost use Rattle.std.specs.Prelude.{◌≡◌};
-ghost use Rattle.pool_pages.specs.Told.{risen};
+ghost use Rattle.std.specs.Prelude.{◌≡◌, [], Some, length};
+ghost use Rattle.pool_pages.specs.Told.{IsRange, mapping, succeeded, zeroing, TellsShaped};
 ghost use Rattle.pool_pages.specs.MemoryTold.{memory_told};
 ghost use Rattle.pool_pages.specs.MakerTold.{no_calls};
+ghost use Rattle.pool_pages.specs.Count.{count};
 
 use crate::byte_count::{HostAlignedByteCount, PageSize};
+use crate::call_counts::risen;
 use crate::dense_pages::DensePages;
 use crate::image_data::ImageData;
 use crate::pages::{DecommitBehavior, PageCalls, PageFault, Pages, RegionName};
+use std::marker::Model;
 
 /// A region in memory, which is taken when it is made: no call fails, and none takes memory.
 ///
 /// Its calls are those of Wasmtime's `mmap.rs` on a mapping. It tells all that its pages hold, and that
-/// none of its calls fails.
+/// none of its calls fails. A decommit brings its images back.
 #[derive(Drop)]
 pub struct MemoryRegion {
     name: RegionName,
-    behaviour: DecommitBehavior,
     pages: DensePages,
     calls: PageCalls,
     made: u64,
 }
 
-/// One more, for a count that stands still at the end of its type.
-fn risen(count: u64) -> u64
-    ensures { result ≡ risen count }
-{
-    count.saturating_add(1)
+impl Model for MemoryRegion {
+    ghost use Rattle.pool_pages.specs.Told.{Told};
+    ghost use Rattle.pool_pages.specs.MemoryTold.{memory_told};
+    ghost use Rattle.pool_pages.specs.declared.pages.DecommitBehavior.TheVariants.{RestoreOriginalMapping};
+
+    ghost Value = { Told };
+
+    ghost view = { λ r. memory_told r.name RestoreOriginalMapping r.pages r.calls r.made };
 }
 
 impl MemoryRegion {
     /// No call was made on it yet. Owns the pages.
     pub(crate) fn new(name: RegionName, pages: DensePages) -> MemoryRegion
-        ensures { memory_told result.name result.behaviour result.pages result.calls result.made ≡ memory_told name DecommitBehavior.RestoreOriginalMapping pages no_calls 0 }
+        ensures { result ≡ memory_told name DecommitBehavior.RestoreOriginalMapping pages no_calls 0 }
     {
         MemoryRegion {
             name,
-            behaviour: DecommitBehavior::RestoreOriginalMapping,
             pages,
-            calls: PageCalls {
-                expose: 0,
-                hide: 0,
-                map_image: 0,
-                remap_zeros: 0,
-                erase: 0,
-                recolour: 0,
-                decommit: 0,
-            },
+            calls: PageCalls::none(),
             made: 0,
         }
+    }
+
+    /// Copies an image to its pages as if it had been written, and counts that as mapping it.
+    pub(crate) fn copy_image(&mut self, start: HostAlignedByteCount, image: &ImageData)
+        requires { IsRange start (count image.now.page (length image.now.bytes)) self.old }
+        ensures copied { zeroing self.new ≡ succeeded (mapping DecommitBehavior.Zero start.bytes image.now.bytes) (zeroing self.old) }
+        ensures plan { self.old.plan ≡ Some [] }
+        ensures shaped { TellsShaped self.new }
+    {
+        let bytes = image.as_slice();
+        self.pages.copy_image(start.byte_count(), bytes);
+        if bytes.len() == 0 {
+            return;
+        }
+        self.calls.map_image = risen(self.calls.map_image);
+        self.made = risen(self.made);
     }
 }
 
 impl Pages for MemoryRegion {
-    ghost told = { λ r. memory_told r.name r.behaviour r.pages r.calls r.made };
+    ghost told = { λ r. r };
 
     fn name(&self) -> RegionName {
         self.name
@@ -68,6 +80,7 @@ impl Pages for MemoryRegion {
     }
 
     fn faults(&self) -> u64 {
+        let _made = self.made;
         0
     }
 
@@ -76,7 +89,16 @@ impl Pages for MemoryRegion {
     }
 
     fn behaviour(&self) -> DecommitBehavior {
-        self.behaviour
+        let _made = self.made;
+        DecommitBehavior::RestoreOriginalMapping
+    }
+
+    fn colour(&self, page: usize) -> u8 {
+        self.pages.colour(page)
+    }
+
+    fn dirty(&self, page: usize) -> bool {
+        self.pages.dirty(page)
     }
 
     fn expose(
@@ -115,7 +137,7 @@ impl Pages for MemoryRegion {
         image: &ImageData,
     ) -> Result<(), PageFault> {
         let bytes = image.as_slice();
-        self.pages.map(self.behaviour, start.byte_count(), bytes);
+        self.pages.map_image(start.byte_count(), bytes);
         if bytes.len() == 0 {
             return Ok(());
         }
@@ -148,6 +170,22 @@ impl Pages for MemoryRegion {
             return Ok(());
         }
         self.calls.erase = risen(self.calls.erase);
+        self.made = risen(self.made);
+        Ok(())
+    }
+
+    fn recolour(
+        &mut self,
+        start: HostAlignedByteCount,
+        len: HostAlignedByteCount,
+        colour: u8,
+    ) -> Result<(), PageFault> {
+        self.pages
+            .recolour(start.byte_count(), len.byte_count(), colour);
+        if len.is_zero() {
+            return Ok(());
+        }
+        self.calls.recolour = risen(self.calls.recolour);
         self.made = risen(self.made);
         Ok(())
     }

@@ -1,7 +1,7 @@
-ghost use Rattle.std.specs.Prelude.{◌≡◌, ℕ, ◌+◌, ◌≤◌, List, length, replicate, slice_range, is_ok, OnOk, OnErr, IfSome};
+ghost use Rattle.std.specs.Prelude.{◌≡◌, ℕ, ◌+◌, ◌/◌, ◌<◌, ◌≤◌, true, List, length, replicate, slice_range, slice_index_or, is_ok, OnOk, OnErr, IfSome};
 ghost use Rattle.pool_pages.specs.Count.{count, IsPageSize};
 ghost use Rattle.pool_pages.specs.Contents.{CanReach, HasNoOtherImage};
-ghost use Rattle.pool_pages.specs.Told.{Told, IsRange, Faulted, succeeded, TellsShaped, overwritten, restored, passes, exposing, hiding, mapping, remapping, erasing, decommitting};
+ghost use Rattle.pool_pages.specs.Told.{Told, IsRange, Faulted, succeeded, TellsShaped, overwritten, restored, passes, exposing, hiding, mapping, remapping, erasing, recolouring, decommitting};
 
 use crate::byte_count::{HostAlignedByteCount, PageSize};
 use crate::image_data::ImageData;
@@ -68,6 +68,16 @@ pub trait Pages: Send + Drop {
     fn behaviour(&self) -> DecommitBehavior
         ensures { result ≡ (told self.now).behaviour };
 
+    /// The colour of the page with this number; 0 is none.
+    fn colour(&self, page: usize) -> u8
+        requires { page < (told self.now).len / (told self.now).page }
+        ensures { IfSome (told self.now).contents (λ c. result ≡ slice_index_or c.colour page 0) };
+
+    /// Whether the page with this number may hold something else than what it goes back to.
+    fn dirty(&self, page: usize) -> bool
+        requires { page < (told self.now).len / (told self.now).page }
+        ensures { IfSome (told self.now).contents (λ c. result ≡ slice_index_or c.dirty page true) };
+
     /// The pages can be reached; what they hold stays.
     fn expose(
         &mut self,
@@ -124,6 +134,19 @@ pub trait Pages: Send + Drop {
         ensures ok { OnOk result (told self.new ≡ succeeded (erasing start.bytes len.bytes) (told self.old)) }
         ensures fault { OnErr result (Faulted (erasing start.bytes len.bytes) (told self.old) (told self.new)) }
         ensures planned { IfSome (told self.old).plan (λ plan. is_ok result ≡ passes plan (erasing start.bytes len.bytes) (told self.old)) }
+        ensures shaped { TellsShaped (told self.new) };
+
+    /// The pages have this colour; what they hold, and whether they can be reached, stays.
+    fn recolour(
+        &mut self,
+        start: HostAlignedByteCount,
+        len: HostAlignedByteCount,
+        colour: u8,
+    ) -> Result<(), PageFault>
+        requires { IsRange start len (told self.old) }
+        ensures ok { OnOk result (told self.new ≡ succeeded (recolouring start.bytes len.bytes colour) (told self.old)) }
+        ensures fault { OnErr result (Faulted (recolouring start.bytes len.bytes colour) (told self.old) (told self.new)) }
+        ensures planned { IfSome (told self.old).plan (λ plan. is_ok result ≡ passes plan (recolouring start.bytes len.bytes colour) (told self.old)) }
         ensures shaped { TellsShaped (told self.new) };
 
     /// The pages hold what they go back to.

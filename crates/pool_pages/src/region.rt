@@ -1,7 +1,7 @@
-ghost use Rattle.std.specs.Prelude.{◌≡◌, ℕ, ◌+◌, ◌≤◌, List, length, replicate, slice_range, is_ok, OnOk, OnErr, IfSome};
+ghost use Rattle.std.specs.Prelude.{◌≡◌, ℕ, ◌+◌, ◌/◌, ◌<◌, ◌≤◌, true, List, length, replicate, slice_range, slice_index_or, is_ok, OnOk, OnErr, IfSome};
 ghost use Rattle.pool_pages.specs.Count.{count, IsPageSize};
 ghost use Rattle.pool_pages.specs.Contents.{CanReach, HasNoOtherImage};
-ghost use Rattle.pool_pages.specs.Told.{Told, IsRange, Faulted, succeeded, TellsShaped, overwritten, restored, passes, exposing, hiding, mapping, remapping, erasing, decommitting};
+ghost use Rattle.pool_pages.specs.Told.{Told, IsRange, Faulted, succeeded, TellsShaped, overwritten, restored, passes, exposing, hiding, mapping, remapping, erasing, recolouring, decommitting};
 
 use crate::byte_count::{HostAlignedByteCount, PageSize};
 use crate::image_data::ImageData;
@@ -78,6 +78,22 @@ impl<P: Pages> PageRegion<P> {
         self.pages.behaviour()
     }
 
+    /// The colour of the page with this number; 0 is none.
+    pub fn colour(&self, page: usize) -> u8
+        requires { page < self.now.len / self.now.page }
+        ensures { IfSome self.now.contents (λ c. result ≡ slice_index_or c.colour page 0) }
+    {
+        self.pages.colour(page)
+    }
+
+    /// Whether the page with this number may hold something else than what it goes back to.
+    pub fn dirty(&self, page: usize) -> bool
+        requires { page < self.now.len / self.now.page }
+        ensures { IfSome self.now.contents (λ c. result ≡ slice_index_or c.dirty page true) }
+    {
+        self.pages.dirty(page)
+    }
+
     pub fn expose(
         &mut self,
         start: HostAlignedByteCount,
@@ -147,6 +163,21 @@ impl<P: Pages> PageRegion<P> {
         ensures shaped { TellsShaped self.new }
     {
         self.pages.erase(start, len)
+    }
+
+    pub fn recolour(
+        &mut self,
+        start: HostAlignedByteCount,
+        len: HostAlignedByteCount,
+        colour: u8,
+    ) -> Result<(), PageFault>
+        requires { IsRange start len self.old }
+        ensures ok { OnOk result (self.new ≡ succeeded (recolouring start.bytes len.bytes colour) self.old) }
+        ensures fault { OnErr result (Faulted (recolouring start.bytes len.bytes colour) self.old self.new) }
+        ensures planned { IfSome self.old.plan (λ plan. is_ok result ≡ passes plan (recolouring start.bytes len.bytes colour) self.old) }
+        ensures shaped { TellsShaped self.new }
+    {
+        self.pages.recolour(start, len, colour)
     }
 
     pub fn decommit(

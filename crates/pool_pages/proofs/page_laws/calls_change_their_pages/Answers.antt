@@ -1,4 +1,4 @@
-use Rattle.pool_pages.proofs.PageChanges.{expose_law, hide_law, map_law, copy_law, erase_law, remap_law, decommit_law, write_law, restore_law}
+use Rattle.pool_pages.proofs.PageChanges.{expose_law, hide_law, map_law, copy_law, erase_law, remap_law, recolour_law, decommit_law, write_law, restore_law}
 use Rattle.pool_pages.proofs.page_laws.calls_change_their_pages.Goals as goal
 
 pub returns-clause-expose : goal.returns-clause-expose
@@ -18,6 +18,9 @@ returns-clause-erase c = erase_law
 
 pub returns-clause-remap_zeros : goal.returns-clause-remap_zeros
 returns-clause-remap_zeros c = remap_law
+
+pub returns-clause-recolour : goal.returns-clause-recolour
+returns-clause-recolour c = recolour_law
 
 pub returns-clause-decommit : goal.returns-clause-decommit
 returns-clause-decommit c = decommit_law

@@ -1,0 +1,16 @@
+use Rattle.std.proofs.Common.{is_ok, sym}
+use Rattle.pool_pages.proofs.FailingCalls.{refused_planned, passed_planned}
+use Rattle.pool_pages.proofs.failing.FailingPages.recolour.Goals as goal
+
+pub returns-then-not-lets_through-clause-planned : goal.returns-then-not-lets_through-clause-planned
+returns-then-not-lets_through-clause-planned g c =
+    let region = g.R.Pages.told c.args.self.now.region in
+    refused_planned region.plan c.args.self.now.plan region.made c.args.self.now.counts.made c.args.len.bytes
+    (sym (rw (c.as_slice.ensures, c.byte_count-bytes.ensures.value) at c.if-not-lets_through.ensures))
+
+pub returns-clause-planned : goal.returns-clause-planned
+returns-clause-planned g c =
+    let region = g.R.Pages.told c.args.self.now.region in
+    passed_planned (is_ok c.recolour-result.result) region.plan c.args.self.now.plan region.made c.args.self.now.counts.made c.args.len.bytes
+    (sym (rw (c.as_slice.ensures, c.byte_count-bytes.ensures.value) at c.if-not-lets_through.ensures))
+    c.recolour-result.ensures.planned

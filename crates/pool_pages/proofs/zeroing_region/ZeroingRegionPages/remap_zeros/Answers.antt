@@ -1,0 +1,7 @@
+use Rattle.std.proofs.Common.{is_ok}
+use Rattle.pool_pages.specs.Told.{remapping}
+use Rattle.pool_pages.proofs.ZeroingCalls.{zeroing_planned}
+use Rattle.pool_pages.proofs.zeroing_region.ZeroingRegionPages.remap_zeros.Goals as goal
+
+pub returns-clause-planned : goal.returns-clause-planned
+returns-clause-planned c = zeroing_planned (is_ok c.remap_zeros.result) (remapping c.args.start.bytes c.args.len.bytes) c.self.inside.region c.args.self.now c.self.view_is c.remap_zeros.ensures.planned

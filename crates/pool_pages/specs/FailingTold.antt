@@ -1,0 +1,49 @@
+-- What a region tells before which a list of calls stands that fail.
+use Rattle.std.specs.Prelude.{ℕ, List, [], ◌∷◌, Bool, not, ◌==◌, ◌||◌, if◌then◌else◌}
+use Rattle.std.specs.List.{list_any}
+use Rattle.pool_pages.specs.Told.{Told, risen, joined_plan}
+use Rattle.pool_pages.specs.MakerTold.{no_calls}
+use Rattle.pool_pages.specs.declared.pages.PageCalls.{PageCalls}
+use Rattle.pool_pages.specs.declared.call_counts.CallCounts.{CallCounts}
+use Rattle.pool_pages.specs.declared.call_counts.CallKind.{CallKind}
+use Rattle.pool_pages.specs.declared.call_counts.CallKind.TheVariants.{Expose, Hide, MapImage, RemapZeros, Erase, Recolour, Decommit}
+
+abbrev pub no_counts : CallCounts
+no_counts = record { made = 0; calls = no_calls; faults = 0 }
+
+-- one more call of a kind
+abbrev pub raised : CallKind → PageCalls → PageCalls
+raised Expose c = record c { expose = risen c.expose }
+raised Hide c = record c { hide = risen c.hide }
+raised MapImage c = record c { map_image = risen c.map_image }
+raised RemapZeros c = record c { remap_zeros = risen c.remap_zeros }
+raised Erase c = record c { erase = risen c.erase }
+raised Recolour c = record c { recolour = risen c.recolour }
+raised Decommit c = record c { decommit = risen c.decommit }
+
+-- a call on a range of this length was made, and failed or not
+abbrev pub counts_after : CallKind → ℕ → Bool → CallCounts → CallCounts
+counts_after kind len failed c = record {
+  made = if len == 0 then c.made else risen c.made;
+  calls = if len == 0 then c.calls else raised kind c.calls;
+  faults = if failed then risen c.faults else c.faults;
+}
+
+-- the list lets the next call through: its range is empty, or its number isn't in the list
+abbrev pub lets_through : List ℕ → ℕ → ℕ → Bool
+lets_through listed made len = (len == 0) || not (list_any (λ n. n == risen made) listed)
+
+-- where a list is empty the one, otherwise the other
+abbrev pub if_empty : {X : Type 0} → List ℕ → X → X → X
+if_empty [] x y = x
+if_empty (n ∷ ns) x y = y
+
+-- It tells what the region behind it tells, but for its plan and its counts: with an empty list these are the
+-- region's own.
+abbrev pub failing_told : Told → List ℕ → CallCounts → Told
+failing_told region listed counts = record region {
+  plan = joined_plan region.plan listed;
+  made = if_empty listed region.made counts.made;
+  calls = if_empty listed region.calls counts.calls;
+  faults = if_empty listed region.faults counts.faults;
+}

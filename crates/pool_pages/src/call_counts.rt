@@ -1,0 +1,117 @@
+ghost use Rattle.std.specs.Prelude.{◌≡◌};
+ghost use Rattle.pool_pages.specs.Told.{risen};
+ghost use Rattle.pool_pages.specs.MakerTold.{no_calls};
+ghost use Rattle.pool_pages.specs.FailingTold.{no_counts, raised, counts_after};
+
+use crate::pages::PageCalls;
+
+/// One more, for a count that stands still at the end of its type.
+pub(crate) fn risen(count: u64) -> u64
+    ensures { result ≡ risen count }
+{
+    count.saturating_add(1)
+}
+
+/// A call on the pages of a range that may fail.
+#[derive(Clone, Copy, Debug, PartialEq, Eq)]
+pub(crate) enum CallKind {
+    Expose,
+    Hide,
+    MapImage,
+    RemapZeros,
+    Erase,
+    Recolour,
+    Decommit,
+}
+
+/// How many calls were made, how many of each kind, and how many failed.
+#[derive(Clone, Copy, Debug, PartialEq, Eq)]
+pub struct CallCounts {
+    pub made: u64,
+    pub calls: PageCalls,
+    pub faults: u64,
+}
+
+impl PageCalls {
+    pub(crate) fn none() -> PageCalls
+        ensures { result ≡ no_calls }
+    {
+        PageCalls {
+            expose: 0,
+            hide: 0,
+            map_image: 0,
+            remap_zeros: 0,
+            erase: 0,
+            recolour: 0,
+            decommit: 0,
+        }
+    }
+
+    /// One more call of a kind.
+    pub(crate) fn raised(self, kind: CallKind) -> PageCalls
+        ensures { result ≡ raised kind self }
+    {
+        match kind {
+            CallKind::Expose => PageCalls {
+                expose: risen(self.expose),
+                ..self
+            },
+            CallKind::Hide => PageCalls {
+                hide: risen(self.hide),
+                ..self
+            },
+            CallKind::MapImage => PageCalls {
+                map_image: risen(self.map_image),
+                ..self
+            },
+            CallKind::RemapZeros => PageCalls {
+                remap_zeros: risen(self.remap_zeros),
+                ..self
+            },
+            CallKind::Erase => PageCalls {
+                erase: risen(self.erase),
+                ..self
+            },
+            CallKind::Recolour => PageCalls {
+                recolour: risen(self.recolour),
+                ..self
+            },
+            CallKind::Decommit => PageCalls {
+                decommit: risen(self.decommit),
+                ..self
+            },
+        }
+    }
+}
+
+impl CallCounts {
+    pub(crate) fn none() -> CallCounts
+        ensures { result ≡ no_counts }
+    {
+        CallCounts {
+            made: 0,
+            calls: PageCalls::none(),
+            faults: 0,
+        }
+    }
+
+    /// After a call on a range of this length, which failed or not.
+    pub(crate) fn after(self, kind: CallKind, len: usize, failed: bool) -> CallCounts
+        ensures { result ≡ counts_after kind len failed self }
+    {
+        let faults = if failed {
+            risen(self.faults)
+        } else {
+            self.faults
+        };
+        if len == 0 {
+            CallCounts { faults, ..self }
+        } else {
+            CallCounts {
+                made: risen(self.made),
+                calls: self.calls.raised(kind),
+                faults,
+            }
+        }
+    }
+}

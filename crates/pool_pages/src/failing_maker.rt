@@ -1,0 +1,117 @@
+ghost use Rattle.std.specs.Prelude.{◌≡◌, ◌==◌};
+ghost use Rattle.std.specs.List.{list_any};
+ghost use Rattle.pool_pages.specs.FaultPlans.{failing_maker, planned_faults};
+
+use crate::byte_count::{HostAlignedByteCount, PageSize};
+use crate::call_counts::{CallCounts, risen};
+use crate::failing::Failing;
+use crate::fault_plan::{Fault, calls_on, lists_images};
+use crate::maker::{MakeFault, PageMaker, next_after};
+use crate::pages::{DecommitBehavior, RegionName};
+use std::alloc::Global;
+
+/// A maker with a list of the makings, and of the calls on its regions, that fail.
+///
+/// A listed making isn't made by the maker behind: it changes nothing but the counts.
+#[derive(Drop)]
+pub struct FailingMaker<'a, M: PageMaker + Drop> {
+    maker: M,
+    page: PageSize,
+    plan: &'a [Fault],
+    next: u32,
+    faults: u64,
+}
+
+impl<'a, M: PageMaker + Drop> FailingMaker<'a, M> {
+    /// Owns the maker behind it, and borrows the list. `page` is that of a region that isn't given one.
+    /// Takes no memory.
+    pub fn new(maker: M, page: PageSize, plan: &'a [Fault]) -> Self
+        ensures { ⟦<FailingMaker<'a, M> as PageMaker>⟧.told result ≡ failing_maker (M.told maker) page (planned_faults plan.now) (M.told maker).next (M.told maker).faults }
+    {
+        let next = maker.next();
+        let faults = maker.faults();
+        FailingMaker {
+            maker,
+            page,
+            plan,
+            next,
+            faults,
+        }
+    }
+}
+
+// Whether the numbers of a region's calls that fail have its making among them.
+fn has_making(calls: &[u64]) -> bool
+    ensures { result ≡ list_any (λ call. call == 0) calls.now }
+{
+    calls.iter().any(|&call| call == 0)
+}
+
+impl<'a, M: PageMaker + Drop> PageMaker for FailingMaker<'a, M> {
+    type Region = Failing<M::Region>;
+
+    ghost told = { λ m. failing_maker (M.told m.maker) m.page (planned_faults m.plan.now) m.next m.faults };
+
+    fn faults(&self) -> u64 {
+        self.faults
+    }
+
+    fn page(&self) -> PageSize {
+        self.page
+    }
+
+    fn next(&self) -> u32 {
+        self.next
+    }
+
+    fn make(
+        &mut self,
+        alloc: Global,
+        name: RegionName,
+        behaviour: DecommitBehavior,
+        accessible: HostAlignedByteCount,
+        len: HostAlignedByteCount,
+    ) -> Result<Failing<M::Region>, MakeFault> {
+        self.next = next_after(name, self.next);
+        let Ok(calls) = calls_on(alloc, self.plan, name) else {
+            return Err(MakeFault::Memory);
+        };
+        if has_making(calls.as_slice()) {
+            self.faults = risen(self.faults);
+            return Err(MakeFault::PageFault);
+        }
+        match self.maker.make(alloc, name, behaviour, accessible, len) {
+            Ok(region) => Ok(Failing {
+                region,
+                plan: calls,
+                counts: CallCounts::none(),
+            }),
+            Err(MakeFault::PageFault) => {
+                self.faults = risen(self.faults);
+                Err(MakeFault::PageFault)
+            }
+            Err(MakeFault::Memory) => Err(MakeFault::Memory),
+        }
+    }
+
+    fn image(
+        &mut self,
+        alloc: Global,
+        id: u64,
+        memory: u32,
+        len: HostAlignedByteCount,
+    ) -> Result<(), MakeFault> {
+        if lists_images(self.plan, id) {
+            self.faults = risen(self.faults);
+            return Err(MakeFault::PageFault);
+        }
+        match self.maker.image(alloc, id, memory, len) {
+            Ok(()) => Ok(()),
+            Err(MakeFault::PageFault) => {
+                self.faults = risen(self.faults);
+                Err(MakeFault::PageFault)
+            }
+            Err(MakeFault::Memory) => Err(MakeFault::Memory),
+        }
+    }
+}
