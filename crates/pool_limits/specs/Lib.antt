@@ -1,0 +1,4 @@
+pub mod Growth
+pub mod LimiterTold
+pub mod StoreLimits
+pub mod Texts
