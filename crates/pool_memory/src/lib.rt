@@ -2,7 +2,13 @@
 #![tactic(auto)]
 
 mod linear_memory;
+mod local_memory;
+mod memory;
+mod memory_error;
 mod static_memory;
 
 pub use linear_memory::RuntimeLinearMemory;
+pub use local_memory::LocalMemory;
+pub use memory::Memory;
+pub use memory_error::MemoryError;
 pub use static_memory::StaticMemory;
