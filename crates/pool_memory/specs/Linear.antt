@@ -1,6 +1,11 @@
 -- A linear memory: how many bytes it has and may have, where they lie, and what a write makes of it.
-use Rattle.std.specs.Prelude.{◌≡◌, ℕ, ◌+◌, ◌-◌, ◌≤◌, List, take, replicate, slice_range, min, Bool, false, Option, IfSome, is_some, option_map}
+use Rattle.std.specs.Prelude.{◌≡◌, ℕ, ◌+◌, ◌-◌, ◌≤◌, List, take, replicate, slice_range, min, Bool, false, Option, None, IfSome, is_some, option_map}
 use Rattle.pool_pages.specs.Contents.{put}
+use Rattle.pool_pages.specs.Count.{count}
+use Rattle.pool_pages.specs.MakerTold.{no_calls}
+use Rattle.pool_pages.specs.declared.pages.PageCalls.{PageCalls}
+use Rattle.pool_pages.specs.declared.pages.RegionName.TheVariants.{OnDemand}
+use Rattle.pool_pages.specs.declared.pages.DecommitBehavior.TheVariants.{Zero}
 use Rattle.pool_images.specs.Slots.{Slot, written_at}
 
 -- in the slot of an image, or in storage of the memory's own: how many bytes of that can be reached and, where it tells
@@ -14,6 +19,23 @@ pub record Linear : Type 0 where
   pub size : ℕ
   pub capacity : ℕ
   pub storage : Storage
+
+-- a slot of no pages, for a memory that lies in none
+abbrev pub no_slot : Slot
+no_slot = record {
+  region = record { name = OnDemand 0; page = 16; len = 0; behaviour = Zero; contents = None; plan = None; made = 0; calls = no_calls; faults = 0 };
+  base = count 16 0;
+  accessible = count 16 0;
+  static_size = 0;
+  image = None;
+  dirty = false;
+  colour = None;
+}
+
+-- the slot that a memory lies in
+abbrev pub slot_in : Storage → Slot
+slot_in (in_slot s) = s
+slot_in (stored len bytes) = no_slot
 
 -- how many bytes can be reached
 abbrev pub reached : Storage → ℕ

@@ -1,5 +1,5 @@
 -- How a memory is made in a slot: what the limiter is asked, and what comes of its answer.
-use Rattle.std.specs.Prelude.{◌≡◌, ℕ, ◌+◌, ◌-◌, ◌^◌, ◌≤◌, length, Bool, true, false, nat_lt, if◌then◌else◌, Option, Some, None, IfSome, Result, Ok, Err}
+use Rattle.std.specs.Prelude.{◌≡◌, ℕ, ◌+◌, ◌-◌, ◌^◌, ◌<◌, ◌≤◌, length, Bool, true, false, nat_lt, if◌then◌else◌, Option, Some, None, IfSome, Result, Ok, Err}
 use Rattle.pool_pages.specs.MemoryTypes.{page_size, minimum_byte_size, maximum_byte_size, allow_growth_to}
 use Rattle.pool_pages.specs.declared.module_types.MemoryType.{MemoryType}
 use Rattle.pool_pages.specs.declared.unsupported.Unsupported.{Unsupported}
@@ -36,6 +36,12 @@ limits_answer (Ok true) ty =
     else Err (refused.Unsupported AddressSpace)
     )
     else Err (refused.Unsupported (MemoryMinimum ty.limits.min))
+
+-- what is known of these numbers where they are granted
+pub record Granted (ty : MemoryType) (limits : ℕ × Option ℕ) : Type 0 where
+  pub minimum : limits.0 ≡ minimum_byte_size ty
+  pub maximum : limits.1 ≡ maximum_asked ty
+  pub represented : minimum_byte_size ty < 2 ^ 64
 
 -- what the limiter answered where a making was refused with this
 abbrev pub answer_behind : MemoryError → Result Bool LimiterError

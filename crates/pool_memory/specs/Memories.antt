@@ -4,7 +4,8 @@ use Rattle.pool_pages.specs.MemoryTypes.{page_size}
 use Rattle.pool_pages.specs.declared.module_types.MemoryType.{MemoryType}
 use Rattle.pool_limits.specs.declared.errors.Trap.{Trap}
 use Rattle.pool_limits.specs.declared.errors.Trap.TheVariants.{MemoryOutOfBounds}
-use Rattle.pool_memory.specs.Linear.{Linear, IsLinear, linear_bytes, linear_written}
+use Rattle.pool_images.specs.Slots.{Slot}
+use Rattle.pool_memory.specs.Linear.{Linear, slot_in, linear_bytes, linear_written}
 
 -- its type, whether it may be moved as it grows, and its bytes with their room
 pub record MemoryState : Type 0 where
@@ -16,6 +17,10 @@ pub record MemoryState : Type 0 where
 pub record IsMemory (m : MemoryState) : Type 0 where
   pub page : m.ty.page_size_log2 < 64
   pub room : m.linear.size + page_size m.ty ≤ 2 ^ 64
+
+-- the slot that it lies in
+abbrev pub slot_of : MemoryState → Slot
+slot_of m = slot_in m.linear.storage
 
 -- the memory's bytes, where they are told
 abbrev pub bytes_of : MemoryState → Option (List ℕ)

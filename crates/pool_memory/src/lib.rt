@@ -3,6 +3,7 @@
 
 mod linear_memory;
 mod local_memory;
+mod making;
 mod memory;
 mod memory_error;
 mod static_memory;

@@ -1,9 +1,8 @@
 ghost use Rattle.std.specs.Prelude.{◌≡◌, ◌↔◌, ◌+◌, ◌^◌, ◌<◌, ◌≤◌, length, slice_range, not, false, IsTrue, IfSome, OnOk, OnErr};
 ghost use Rattle.pool_pages.specs.MemoryTypes.{page_size, memory_may_move};
-ghost use Rattle.pool_images.specs.Slots.{Slot};
-ghost use Rattle.pool_memory.specs.Linear.{IsLinear, is_mapped};
-ghost use Rattle.pool_memory.specs.Static.{CanHold, linear_of};
-ghost use Rattle.pool_memory.specs.Memories.{MemoryState, bytes_of, memory_written, access_answer};
+ghost use Rattle.pool_memory.specs.Linear.{IsLinear, in_slot, is_mapped};
+ghost use Rattle.pool_memory.specs.Static.{CanHold};
+ghost use Rattle.pool_memory.specs.Memories.{slot_of, bytes_of, memory_written, access_answer};
 
 use crate::linear_memory::RuntimeLinearMemory;
 use crate::static_memory::StaticMemory;
@@ -46,7 +45,7 @@ impl<M, L: RuntimeLinearMemory<M>> LocalMemory<M, L> {
         }
     }
 
-    // The same memory, which stays where it is.
+    // The same memory, but that it isn't moved.
     pub(crate) fn fixed(mut self) -> Self
         ensures { result ≡ record self { may_move = false } }
     {
@@ -114,5 +113,23 @@ impl<M, L: RuntimeLinearMemory<M>> LocalMemory<M, L> {
     {
         let size = self.memory.byte_size();
         at <= size as u64 && len <= size - at as usize
+    }
+}
+
+impl<P: Pages> LocalMemory<(), StaticMemory<P>> {
+    /// The slot that the memory lies in. It is in use.
+    pub fn unwrap_static_image(self) -> MemoryImageSlot<P>
+        ensures value { result ≡ slot_of self }
+        ensures storage { self.linear.storage ≡ in_slot result }
+        ensures holds { CanHold self.linear.size result }
+    {
+        self.memory.into_slot()
+    }
+
+    /// The calls made on the memory's region so far.
+    pub fn page_calls(&self) -> PageCalls
+        ensures { result ≡ (slot_of self.now).region.calls }
+    {
+        self.memory.page_calls()
     }
 }
