@@ -1,6 +1,5 @@
 -- Ranges of the bytes of a region.
 use Rattle.std.proofs.Common.{◌≡◌, ℕ, ◌+◌, ◌-◌, ◌<◌, ◌≤◌, List, length, get_or, take, drop, sym, ap, ◌∙◌, arith, slice_range, replicate}
-use Rattle.std.specs.Prelude.{IfSome, Option, None, Some, option_map}
 use Rattle.std.proofs.lemmas.List.{length-take, length-drop, length-replicate, same_lists}
 use Rattle.pool_pages.proofs.Puts.{get_or-range}
 use Rattle.pool_images.proofs.Pieces.{piece_of}

@@ -1,17 +1,17 @@
 -- What is kept of a memory that stays in its slot.
-use Rattle.std.proofs.Common.{◌≡◌, ℕ, ◌+◌, ◌-◌, ◌<◌, ◌≤◌, List, length, refl, sym, ap, ◌∙◌, arith, slice_range, replicate, min, Option, Some, None}
+use Rattle.std.proofs.Common.{◌≡◌, ℕ, ◌+◌, ◌-◌, ◌<◌, ◌≤◌, List, length, refl, sym, ap, ◌∙◌, arith, slice_range, replicate, Option, Some, None}
 use Rattle.std.specs.Prelude.{IfSome, option_map}
 use Rattle.pool_pages.specs.Count.{rounded_up}
 use Rattle.pool_pages.specs.Contents.{Contents, written}
 use Rattle.pool_pages.proofs.Puts.{range-put_above}
-use Rattle.pool_images.specs.Slots.{Slot, Fits, IsSound, IsReady, IsInUse, size_of, written_at}
+use Rattle.pool_images.specs.Slots.{Slot, Fits, IsSound, IsReady, size_of, written_at}
 use Rattle.pool_images.proofs.Begun.{rounded_up_above}
 use Rattle.pool_images.proofs.Sizes.{rounded_up_more}
-use Rattle.pool_memory.specs.Linear.{Linear, IsLinear, linear_bytes, first_bytes, ready, in_slot}
+use Rattle.pool_memory.specs.Linear.{IsLinear, linear_bytes, ready}
 use Rattle.pool_memory.specs.Static.{Static, IsStatic, CanHold, linear_of, capacity_of}
 use Rattle.pool_memory.proofs.Bytes.{range_of_range, zeros_part}
 
-some_page : (s : Slot) → Fits s → 0 < s.region.page
+pub some_page : (s : Slot) → Fits s → 0 < s.region.page
 some_page s fits = omega (arith, fits.page_size.at_least)
 
 -- the bytes that a slot may have lie in its region

@@ -3,7 +3,6 @@ use Rattle.std.specs.Prelude.{◌≡◌, ℕ, ◌+◌, ◌-◌, ◌≤◌, List,
 use Rattle.pool_pages.specs.Contents.{put}
 use Rattle.pool_pages.specs.Count.{count}
 use Rattle.pool_pages.specs.MakerTold.{no_calls}
-use Rattle.pool_pages.specs.declared.pages.PageCalls.{PageCalls}
 use Rattle.pool_pages.specs.declared.pages.RegionName.TheVariants.{OnDemand}
 use Rattle.pool_pages.specs.declared.pages.DecommitBehavior.TheVariants.{Zero}
 use Rattle.pool_images.specs.Slots.{Slot, written_at}

@@ -7,7 +7,6 @@ use Rattle.pool_pages.specs.declared.unsupported.Unsupported.TheVariants.{Memory
 use Rattle.pool_limits.specs.declared.errors.LimiterError.{LimiterError}
 use Rattle.pool_images.specs.Images.{Image}
 use Rattle.pool_images.specs.Slots.{Slot}
-use Rattle.pool_memory.specs.Linear.{Linear, in_slot}
 use Rattle.pool_memory.specs.Static.{Static, linear_of, made_static}
 use Rattle.pool_memory.specs.Memories.{MemoryState}
 use Rattle.pool_memory.specs.declared.memory.Memory.{Memory}

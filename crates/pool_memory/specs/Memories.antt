@@ -1,5 +1,5 @@
 -- A memory with its type, and what reads and writes of it answer.
-use Rattle.std.specs.Prelude.{◌≡◌, ℕ, ◌+◌, ◌^◌, ◌<◌, ◌≤◌, List, Bool, nat_le, if◌then◌else◌, Option, Result, Ok, Err}
+use Rattle.std.specs.Prelude.{ℕ, ◌+◌, ◌^◌, ◌<◌, ◌≤◌, List, Bool, nat_le, if◌then◌else◌, Option, Result, Ok, Err}
 use Rattle.pool_pages.specs.MemoryTypes.{page_size}
 use Rattle.pool_pages.specs.declared.module_types.MemoryType.{MemoryType}
 use Rattle.pool_limits.specs.declared.errors.Trap.{Trap}

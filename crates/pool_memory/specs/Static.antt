@@ -1,10 +1,9 @@
 -- A memory that stays in the slot of an image that it began in.
-use Rattle.std.specs.Prelude.{◌≡◌, ℕ, ◌+◌, ◌-◌, ◌≤◌, ◌%◌, min, length, replicate, slice_range, nat_le, if◌then◌else◌, Option, Some, None, IfSome, Result, Ok, Err}
+use Rattle.std.specs.Prelude.{◌≡◌, ℕ, ◌+◌, ◌-◌, ◌≤◌, min, replicate, slice_range, nat_le, if◌then◌else◌, Option, IfSome, Result, Ok, Err}
 use Rattle.std.specs.Option.{option_map_or}
 use Rattle.pool_pages.specs.Count.{rounded_up}
 use Rattle.pool_pages.specs.declared.unsupported.Unsupported.{Unsupported}
 use Rattle.pool_pages.specs.declared.unsupported.Unsupported.TheVariants.{InitialSize}
-use Rattle.pool_images.specs.Images.{Image}
 use Rattle.pool_images.specs.Slots.{Slot, IsInUse}
 use Rattle.pool_memory.specs.Linear.{Linear, in_slot}
 

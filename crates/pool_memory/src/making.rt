@@ -1,36 +1,56 @@
-ghost use Rattle.std.specs.Prelude.{◌≡◌, ◌+◌, ◌×◌, ◌^◌, ◌<◌, ◌≤◌, None, IfOk, IfSome};
-ghost use Rattle.std.specs.Option.{option_copied_mut};
+ghost use Rattle.std.specs.Prelude.{◌≡◌, ◌^◌, ◌<◌, ◌≤◌, true, Option, None, Ok, IfOk, IfSome};
 ghost use Rattle.pool_pages.specs.Count.{rounded_up};
 ghost use Rattle.pool_pages.specs.MemoryTypes.{page_size, minimum_byte_size, refused_limits};
 ghost use Rattle.pool_limits.specs.Growth.{memory_answer};
-ghost use Rattle.pool_limits.specs.LimiterTold.{answered, limiter_told, option_left};
+ghost use Rattle.pool_limits.specs.LimiterTold.{answered};
 ghost use Rattle.pool_images.specs.Images.{Image, start};
 ghost use Rattle.pool_images.specs.Slots.{IsBegun};
 ghost use Rattle.pool_memory.specs.Static.{CanHold};
 ghost use Rattle.pool_memory.specs.Memories.{bytes_of};
 ghost use Rattle.pool_memory.specs.MemoryStates.{state_of};
-ghost use Rattle.pool_memory.specs.Making.{Granted, EndsWithin, minimum_asked, maximum_asked, limits_answer, limiter_answer, made_within};
+ghost use Rattle.pool_memory.specs.Making.{Granted, EndsWithin, minimum_asked, maximum_asked, limits_answer, limiter_answer, static_limiter_answer, made_within, static_answer};
 
 use crate::local_memory::LocalMemory;
 use crate::memory::Memory;
 use crate::memory_error::MemoryError;
 use crate::static_memory::StaticMemory;
 use pool_images::MemoryImageSlot;
-use pool_limits::{LimiterError, ResourceLimiter, memory_may_grow};
+use pool_limits::{LimiterError, ResourceLimiter};
 use pool_pages::{MemoryTunables, MemoryType, Pages, Unsupported};
 
-// With how many bytes a memory of this type begins, and how many it may have. The limiter is asked first.
-pub(crate) fn limit_new<R: ResourceLimiter>(
+// The memory in the slot, or the slot with what refused it. The limiter is asked first.
+pub(crate) fn make_static<P: Pages, R: ResourceLimiter>(
     ty: &MemoryType,
-    limiter: Option<&mut R>,
+    tunables: &MemoryTunables,
+    base_capacity: usize,
+    slot: MemoryImageSlot<P>,
+    limiter: &mut R,
+) -> Result<Memory<(), StaticMemory<P>>, (MemoryImageSlot<P>, MemoryError)>
+    requires page { ty.now.page_size_log2 < 64 }
+    requires limits { refused_limits ty.now.limits ≡ None }
+    requires slot { minimum_byte_size ty.now < 2 ^ 64 → CanHold (minimum_byte_size ty.now) slot }
+    requires room { rounded_up slot.region.page base_capacity ≤ slot.static_size }
+    ensures value { result ≡ static_answer (static_limiter_answer result) ty.now base_capacity slot }
+    ensures asked { static_limiter_answer result ≡ memory_answer (R.told limiter.old).rule (static_limiter_answer result) (minimum_asked ty.now) (maximum_asked ty.now) }
+    ensures limiter { R.told limiter.new ≡ answered (static_limiter_answer result) (R.told limiter.old) }
+    ensures begun { IfOk result (λ m. (image : Option Image) → IsBegun image slot → EndsWithin (minimum_byte_size ty.now) image → IfSome (bytes_of (state_of m)) (λ bytes. bytes ≡ start image (minimum_byte_size ty.now))) }
+{
+    let limits = limit_new(ty, limiter);
+    make_within(limits, ty, tunables, base_capacity, slot)
+}
+
+// With how many bytes a memory of this type begins, and how many it may have. The limiter is asked first.
+fn limit_new<R: ResourceLimiter>(
+    ty: &MemoryType,
+    limiter: &mut R,
 ) -> Result<(usize, Option<usize>), MemoryError>
     requires { ty.now.page_size_log2 < 64 }
     ensures value { result ≡ limits_answer (limiter_answer result) ty.now }
-    ensures asked { limiter_answer result ≡ memory_answer (limiter_told R.told (option_copied_mut limiter.entry)).rule (limiter_answer result) (minimum_asked ty.now) (maximum_asked ty.now) }
-    ensures limiter { limiter_told R.told (option_left limiter.exit) ≡ answered (limiter_answer result) (limiter_told R.told (option_copied_mut limiter.entry)) }
+    ensures asked { limiter_answer result ≡ memory_answer (R.told limiter.old).rule (limiter_answer result) (minimum_asked ty.now) (maximum_asked ty.now) }
+    ensures limiter { R.told limiter.new ≡ answered (limiter_answer result) (R.told limiter.old) }
     ensures granted { IfOk result (Granted ty.now) }
 {
-    let answer = memory_may_grow(limiter, 0, minimum_asked(ty), maximum_asked(ty));
+    let answer = limiter.memory_growing(0, minimum_asked(ty), maximum_asked(ty));
     answered_limits(answer, ty)
 }
 
@@ -87,7 +107,7 @@ fn maximum_asked(ty: &MemoryType) -> Option<usize>
 }
 
 // The memory in the slot, or the slot with what refused it.
-pub(crate) fn make_within<P: Pages>(
+fn make_within<P: Pages>(
     limits: Result<(usize, Option<usize>), MemoryError>,
     ty: &MemoryType,
     tunables: &MemoryTunables,
@@ -106,6 +126,7 @@ pub(crate) fn make_within<P: Pages>(
         Ok(limits) => limits,
         Err(error) => return Err((slot, error)),
     };
+    let _accessible = slot.accessible();
     match StaticMemory::new(base_capacity, minimum, maximum, slot) {
         Ok(memory) => Ok(Memory::Local(LocalMemory::new(ty, tunables, memory).fixed())),
         Err((slot, refusal)) => Err((slot, MemoryError::Unsupported(refusal))),

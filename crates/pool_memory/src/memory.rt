@@ -1,4 +1,4 @@
-ghost use Rattle.std.specs.Prelude.{◌≡◌, ◌+◌, ◌^◌, ◌<◌, ◌≤◌, length, slice_range, not, false, None, IfOk, IfSome, OnOk, OnErr};
+ghost use Rattle.std.specs.Prelude.{◌≡◌, ◌+◌, ◌^◌, ◌<◌, ◌≤◌, length, slice_range, not, false, Option, None, IfOk, IfSome, OnOk, OnErr};
 ghost use Rattle.std.specs.Option.{option_copied_mut};
 ghost use Rattle.pool_pages.specs.Count.{rounded_up};
 ghost use Rattle.pool_pages.specs.MemoryTypes.{page_size, minimum_byte_size, refused_limits};
@@ -14,11 +14,11 @@ ghost use Rattle.pool_memory.specs.MemoryStates.{state_of};
 
 use crate::linear_memory::RuntimeLinearMemory;
 use crate::local_memory::LocalMemory;
-use crate::making::{limit_new, make_within};
+use crate::making::make_static;
 use crate::memory_error::MemoryError;
 use crate::static_memory::StaticMemory;
 use pool_images::MemoryImageSlot;
-use pool_limits::{ResourceLimiter, Trap};
+use pool_limits::{ResourceLimiter, Trap, Unlimited};
 use pool_pages::{MemoryTunables, MemoryType, PageCalls, Pages};
 
 /// A memory of an instance.
@@ -109,8 +109,10 @@ impl<P: Pages> Memory<(), StaticMemory<P>> {
         ensures limiter { limiter_told R.told (option_left limiter.exit) ≡ answered (static_limiter_answer result) (limiter_told R.told (option_copied_mut limiter.entry)) }
         ensures begun { IfOk result (λ m. (image : Option Image) → IsBegun image slot → EndsWithin (minimum_byte_size ty.now) image → IfSome (bytes_of (state_of m)) (λ bytes. bytes ≡ start image (minimum_byte_size ty.now))) }
     {
-        let limits = limit_new(ty, limiter);
-        make_within(limits, ty, tunables, base_capacity, slot)
+        match limiter {
+            Some(limiter) => make_static(ty, tunables, base_capacity, slot, limiter),
+            None => make_static(ty, tunables, base_capacity, slot, &mut Unlimited),
+        }
     }
 
     /// The slot that the memory lies in. It is in use.

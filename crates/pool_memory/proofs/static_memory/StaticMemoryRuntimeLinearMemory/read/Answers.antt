@@ -1,4 +1,4 @@
-use Rattle.std.proofs.Common.{◌≡◌, ◌+◌, length, slice_range, IfSome, sym, subst, ap, rules, ◌≤◌, ℕ}
+use Rattle.std.proofs.Common.{◌≡◌, ◌+◌, length, slice_range, IfSome, sym, subst, ◌≤◌}
 use Rattle.pool_memory.specs.Linear.{linear_bytes}
 use Rattle.pool_memory.specs.Static.{Static, linear_of}
 use Rattle.pool_memory.proofs.Statics.{read_static}

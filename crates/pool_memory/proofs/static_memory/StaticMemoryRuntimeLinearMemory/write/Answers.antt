@@ -1,4 +1,4 @@
-use Rattle.std.proofs.Common.{◌≡◌, ◌+◌, ◌≤◌, length, sym, subst, IfSome}
+use Rattle.std.proofs.Common.{◌+◌, ◌≤◌, length, sym, subst, IfSome}
 use Rattle.pool_images.specs.Slots.{Slot, Fits, IsReady}
 use Rattle.pool_memory.specs.Static.{Static, IsStatic}
 use Rattle.pool_memory.proofs.Statics.{written_is_static}
