@@ -2,17 +2,17 @@
 use Rattle.std.proofs.Common.{◌≡◌, ℕ, ◌+◌, ◌-◌, ◌^◌, ◌<◌, ◌≤◌, Bool, true, false, List, [], ◌∷◌, length, refl, sym, ap, ◌∙◌, subst, arith, Option, Some, None, replicate, slice_range}
 use Rattle.std.specs.Prelude.{IfSome, is_some, option_map, if◌then◌else◌}
 use Rattle.pool_pages.specs.Count.{count, rounded_up}
-use Rattle.pool_pages.specs.Contents.{Contents, CanReach}
+use Rattle.pool_pages.specs.Contents.{Contents, CanReach, put_back}
 use Rattle.pool_pages.specs.Told.{Told, decommitting}
 use Rattle.pool_pages.specs.MakerTold.{MakerTold, Planned, calls_of, fresh}
 use Rattle.pool_pages.specs.declared.pages.RegionName.TheVariants.{Memory}
 use Rattle.pool_images.specs.declared.ranges.ByteRange.{ByteRange}
-use Rattle.pool_images.specs.Slots.{Slot, IsFresh, IsLeft, called, reset_ranges, decommitted_all}
+use Rattle.pool_images.specs.Slots.{Slot, IsFresh, IsLeft, called, cleared, reset_ranges, decommitted_all}
 use Rattle.pool_images.proofs.Marks.{range-zeros}
 use Rattle.pool_slots.specs.Cells.{Cell, unmapped, unknown, previously_used, taken, is_taken, region_made, IsRegionOf, IsSlotOf, IsCell}
 use Rattle.pool_slots.specs.Uses.{IsSameRegion, IsWhole, IsFrom, OfRegion, CanBegin, IsResetOf, reset_slot}
 use Rattle.pool_slots.specs.Pools.{MayFault, IsReset}
-use Rattle.pool_slots.proofs.Resets.{IsKept, kept_called}
+use Rattle.pool_slots.proofs.Resets.{IsKept, told_same, kept_called}
 
 region_of : (maker : MakerTold) (static_size i : ℕ) (t u : Told) → IsRegionOf maker static_size i t → IsSameRegion t u → IsRegionOf maker static_size i u
 region_of maker static_size i t u r s =
@@ -82,11 +82,11 @@ kept_all : (rs : List ByteRange) (s t : Slot) → IsKept s t → IsKept s (decom
 kept_all [] s t k = k
 kept_all (r ∷ rs) s t k = kept_all rs s (called (decommitting (t.base.bytes + r.start) r.len) t) (kept_called s t (decommitting (t.base.bytes + r.start) r.len) k)
 
-clean_mark : (s : Slot) → IsKept s (record s { dirty = false })
-clean_mark s = record { base = refl; static_size = refl; colour = refl; name = refl; page = refl; len = refl; plan = refl; tells = refl; faults = refl }
+kept_cleared : (s : Slot) → IsKept s (cleared 0 s)
+kept_cleared s = record { base = refl; static_size = refl; colour = refl; name = refl; page = refl; len = refl; plan = refl; tells = told_same (put_back s.base.bytes 0) s.region.contents; faults = refl }
 
 pub kept_reset : (s : Slot) → IsKept s (reset_slot s)
-kept_reset s = kept_all (reset_ranges s.accessible.bytes) s (record s { dirty = false }) (clean_mark s)
+kept_reset s = kept_all (reset_ranges 0 s.accessible.bytes) s (cleared 0 s) (kept_cleared s)
 
 unlisted : (f : List Planned → List ℕ) (o : Option (List Planned)) → IfSome (option_map f o) (λ plan. 0 < length plan) → IfSome o (λ plan. 0 < length (f plan))
 unlisted f None h = h

@@ -21,7 +21,7 @@ pub record IsKept (old new : Slot) : Type 0 where
 pub kept_self : (s : Slot) → IsKept s s
 kept_self s = record { base = refl; static_size = refl; colour = refl; name = refl; page = refl; len = refl; plan = refl; tells = refl; faults = refl }
 
-told_same : (f : Contents → Contents) (o : Option Contents) → is_some (option_map f o) ≡ is_some o
+pub told_same : (f : Contents → Contents) (o : Option Contents) → is_some (option_map f o) ≡ is_some o
 told_same f None = refl
 told_same f (Some c) = refl
 

@@ -3,7 +3,7 @@ use Rattle.std.specs.Prelude.{◌≡◌, false, ℕ, ◌<◌, length, Option, No
 use Rattle.pool_pages.specs.Count.{count}
 use Rattle.pool_pages.specs.Told.{Told, Rose}
 use Rattle.pool_images.specs.Images.{Image}
-use Rattle.pool_images.specs.Slots.{Slot, IsClean, IsFresh, IsBegun, IsLeft, reset_ranges, decommitted_all}
+use Rattle.pool_images.specs.Slots.{Slot, IsClean, IsFresh, IsBegun, IsLeft, cleared, reset_ranges, decommitted_all}
 use Rattle.pool_slots.specs.Memories.{Memory, IsMemory}
 use Rattle.pool_slots.specs.Cells.{Cell, unmapped, unknown, previously_used, taken, faults_in}
 
@@ -71,7 +71,7 @@ pub record IsBegunFrom (page static_size minimum : ℕ) (image : Option Image) (
 
 -- the slot once all that its memory could reach was decommitted
 abbrev pub reset_slot : Slot → Slot
-reset_slot s = decommitted_all (reset_ranges s.accessible.bytes) (record s { dirty = false })
+reset_slot s = decommitted_all (reset_ranges 0 s.accessible.bytes) (cleared 0 s)
 
 -- what a reset makes of a slot: it is clean, or nothing is known of it since a decommit failed
 abbrev pub IsResetOf : Slot → Cell → Type 0

@@ -99,7 +99,8 @@ pub(crate) fn reset<P: Pages>(mut slot: MemoryImageSlot<P>) -> ImageSlot<P>
     ensures { IsResetOf slot (cell_of result) }
 {
     let mut ranges = Ranges::new();
-    let Ok(_) = slot.clear_and_remain_ready(&mut ranges) else {
+    let none = slot.region().page().zero();
+    let Ok(_) = slot.clear_and_remain_ready(none, &mut ranges) else {
         return ImageSlot::Unknown(slot);
     };
     match decommit_all(&mut slot, ranges.as_slice()) {
