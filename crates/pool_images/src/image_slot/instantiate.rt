@@ -65,7 +65,7 @@ impl<P: Pages> MemoryImageSlot<P> {
     }
 
     // The whole pages of a number of bytes of the slot.
-    fn rounded(&self, bytes: usize) -> HostAlignedByteCount
+    pub(super) fn rounded(&self, bytes: usize) -> HostAlignedByteCount
         requires { bytes ≤ self.now.static_size }
         ensures value { result ≡ count self.now.region.page (rounded_up self.now.region.page bytes) }
         ensures whole { rounded_up self.now.region.page bytes % self.now.region.page ≡ 0 }
