@@ -27,7 +27,7 @@ impl<P: Pages> MemoryImageSlot<P> {
     }
 
     // Exposes what is missing to `size`.
-    fn raise_to(&mut self, size: HostAlignedByteCount) -> Result<(), PageFault>
+    pub(super) fn raise_to(&mut self, size: HostAlignedByteCount) -> Result<(), PageFault>
         requires page { size.page ≡ self.old.region.page }
         requires whole { size.bytes % size.page ≡ 0 }
         requires within { size.bytes ≤ size_of self.old }
