@@ -1,4 +1,5 @@
 pub mod Begun
 pub mod Bytes
 pub mod Makings
+pub mod Raised
 pub mod Statics

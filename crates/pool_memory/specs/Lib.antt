@@ -1,3 +1,4 @@
+pub mod Growing
 pub mod Linear
 pub mod Making
 pub mod Memories

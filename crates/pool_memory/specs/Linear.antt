@@ -13,10 +13,11 @@ pub data Storage : Type 0 where
   in_slot : Slot → Storage
   stored : ℕ → Option (List ℕ) → Storage
 
--- how many bytes the memory has, how many it may have without moving, and where they lie
+-- how many bytes the memory has, how many it may have without moving, whether it can move to have more, and where they lie
 pub record Linear : Type 0 where
   pub size : ℕ
   pub capacity : ℕ
+  pub moves : Bool
   pub storage : Storage
 
 -- a slot of no pages, for a memory that lies in none
@@ -66,6 +67,10 @@ linear_bytes l = first_bytes l.size l.storage
 
 abbrev pub linear_written : ℕ → List ℕ → Linear → Linear
 linear_written at new l = record l { storage = storage_written at new l.storage }
+
+-- the memory with more of what is ready
+abbrev pub resized : ℕ → Linear → Linear
+resized size l = record l { size = size }
 
 -- what holds of every memory: all of it can be reached, and what can be reached behind it is zeros
 pub record IsLinear (l : Linear) : Type 0 where

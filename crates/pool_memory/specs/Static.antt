@@ -1,5 +1,5 @@
 -- A memory that stays in the slot of an image that it began in.
-use Rattle.std.specs.Prelude.{◌≡◌, ℕ, ◌+◌, ◌-◌, ◌≤◌, min, replicate, slice_range, nat_le, if◌then◌else◌, Option, IfSome, Result, Ok, Err}
+use Rattle.std.specs.Prelude.{◌≡◌, ℕ, ◌+◌, ◌-◌, ◌≤◌, min, replicate, slice_range, nat_le, if◌then◌else◌, false, Option, IfSome, Result, Ok, Err}
 use Rattle.std.specs.Option.{option_map_or}
 use Rattle.pool_pages.specs.Count.{rounded_up}
 use Rattle.pool_pages.specs.declared.unsupported.Unsupported.{Unsupported}
@@ -14,7 +14,7 @@ pub record Static : Type 0 where
   pub capacity : ℕ
 
 abbrev pub linear_of : Static → Linear
-linear_of m = record { size = m.size; capacity = m.capacity; storage = in_slot m.slot }
+linear_of m = record { size = m.size; capacity = m.capacity; moves = false; storage = in_slot m.slot }
 
 -- A slot in use can hold a memory of so many bytes: they can be reached, and all behind them is zeros.
 pub record CanHold (size : ℕ) (s : Slot) : Type 0 where

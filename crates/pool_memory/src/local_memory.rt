@@ -1,4 +1,4 @@
-ghost use Rattle.std.specs.Prelude.{◌≡◌, ◌↔◌, ◌+◌, ◌^◌, ◌<◌, ◌≤◌, length, slice_range, not, false, IsTrue, IfSome, OnOk, OnErr};
+ghost use Rattle.std.specs.Prelude.{◌≡◌, ◌↔◌, ◌+◌, ◌^◌, ◌<◌, ◌≤◌, ◌&&◌, length, slice_range, not, false, IsTrue, IfSome, OnOk, OnErr};
 ghost use Rattle.pool_pages.specs.MemoryTypes.{page_size, memory_may_move};
 ghost use Rattle.pool_memory.specs.Linear.{IsLinear, in_slot, is_mapped};
 ghost use Rattle.pool_memory.specs.Static.{CanHold};
@@ -35,22 +35,15 @@ impl<M, L: RuntimeLinearMemory<M>> LocalMemory<M, L> {
     pub fn new(ty: &MemoryType, tunables: &MemoryTunables, memory: L) -> Self
         requires page { ty.now.page_size_log2 < 64 }
         requires room { (L.linear memory).size + page_size ty.now ≤ 2 ^ 64 }
-        ensures { result ≡ record { ty = ty.now; may_move = memory_may_move ty.now tunables.now; linear = L.linear memory } }
+        ensures { result ≡ record { ty = ty.now; may_move = memory_may_move ty.now tunables.now && (L.linear memory).moves; linear = L.linear memory } }
     {
+        let memory_may_move = ty.memory_may_move(tunables) && memory.can_move();
         LocalMemory {
             memory,
             ty: *ty,
-            memory_may_move: ty.memory_may_move(tunables),
+            memory_may_move,
             maker: PhantomData,
         }
-    }
-
-    // The same memory, but that it isn't moved.
-    pub(crate) fn fixed(mut self) -> Self
-        ensures { result ≡ record self { may_move = false } }
-    {
-        self.memory_may_move = false;
-        self
     }
 
     pub fn ty(&self) -> &MemoryType

@@ -128,7 +128,7 @@ fn make_within<P: Pages>(
     };
     let _accessible = slot.accessible();
     match StaticMemory::new(base_capacity, minimum, maximum, slot) {
-        Ok(memory) => Ok(Memory::Local(LocalMemory::new(ty, tunables, memory).fixed())),
+        Ok(memory) => Ok(Memory::Local(LocalMemory::new(ty, tunables, memory))),
         Err((slot, refusal)) => Err((slot, MemoryError::Unsupported(refusal))),
     }
 }

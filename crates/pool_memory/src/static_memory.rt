@@ -1,11 +1,13 @@
-ghost use Rattle.std.specs.Prelude.{◌≡◌, ◌+◌, ◌≤◌, length, slice_range, IfSome};
+ghost use Rattle.std.specs.Prelude.{◌≡◌, ◌+◌, ◌≤◌, length, slice_range, IfSome, IfErr, OnOk};
 ghost use Rattle.pool_pages.specs.Count.{rounded_up};
 ghost use Rattle.pool_images.specs.Slots.{IsInUse, Fits};
-ghost use Rattle.pool_memory.specs.Static.{Static, CanHold, capacity_of, made_static};
+ghost use Rattle.pool_memory.specs.Growing.{GrowsTo, IsUngrown};
+ghost use Rattle.pool_memory.specs.Static.{CanHold, linear_of, capacity_of, made_static};
 
 use crate::linear_memory::RuntimeLinearMemory;
 use pool_images::MemoryImageSlot;
-use pool_pages::{PageCalls, Pages, Unsupported};
+use pool_limits::GrowError;
+use pool_pages::{PageCalls, PageFault, Pages, Unsupported};
 use std::marker::Model;
 
 /// A linear memory that stays in the slot that it began in.
@@ -64,6 +66,22 @@ impl<P: Pages> StaticMemory<P> {
         self.slot
     }
 
+    fn raise_to(&mut self, size: usize) -> Result<(), GrowError>
+        requires more { self.old.size ≤ size }
+        requires room { size ≤ self.old.capacity }
+        ensures ok { OnOk result (GrowsTo size (linear_of self.old) (linear_of self.new)) }
+        ensures err { IfErr result (λ e. IsUngrown e size (linear_of self.old) (linear_of self.new)) }
+    {
+        self.fits();
+        match self.slot.set_heap_limit(size) {
+            Ok(()) => {
+                self.size = size;
+                Ok(())
+            }
+            Err(PageFault) => Err(GrowError::PageFault),
+        }
+    }
+
     // What holds of every slot, for the proofs of its callers here.
     fn fits(&self)
         ensures { Fits self.now.slot }
@@ -103,6 +121,10 @@ impl<M, P: Pages> RuntimeLinearMemory<M> for StaticMemory<P> {
         self.capacity
     }
 
+    fn can_move(&self) -> bool {
+        false
+    }
+
     fn has_image(&self) -> bool {
         self.slot.has_image()
     }
@@ -114,5 +136,13 @@ impl<M, P: Pages> RuntimeLinearMemory<M> for StaticMemory<P> {
     fn write(&mut self, at: usize, bytes: &[u8]) {
         self.fits();
         self.slot.write(at, bytes)
+    }
+    fn grow_to(&mut self, _maker: &mut M, size: usize) -> Result<(), GrowError> {
+        self.raise_to(size)
+    }
+
+    fn set_byte_size(&mut self, len: usize) {
+        self.fits();
+        self.size = len;
     }
 }

@@ -32,6 +32,6 @@ returns-in-Ok-new-clause-begun g c image begun ends =
     let ty = c.args.ty.now in
     let G : Result (ℕ × Option ℕ) MemoryError → Type 0 = λ r. IfOk r (Granted ty) in
     let granted : Granted ty c.in-Ok.limits = subst G c.in-Ok.is c.requires.granted in
-    let linear : c.fixed.result.linear ≡ linear_of c.in-Ok-new.memory = ap (λ (m : MemoryState). m.linear) c.fixed.ensures ∙ ap (λ (m : MemoryState). m.linear) c.new-in-Ok-new.ensures in
+    let linear : c.new-in-Ok-new.result.linear ≡ linear_of c.in-Ok-new.memory = ap (λ (m : MemoryState). m.linear) c.new-in-Ok-new.ensures in
     let B : Linear → Type 0 = λ l. IfSome (linear_bytes l) (λ bytes. bytes ≡ start image (minimum_byte_size ty)) in
     subst B (sym linear) (made_reads ty c.args.base_capacity c.in-Ok.limits c.args.slot c.in-Ok-new.memory c.accessible-accessible.ensures.fits granted c.requires.slot (sym c.new.ensures ∙ c.in-Ok-new.is) image begun ends)
