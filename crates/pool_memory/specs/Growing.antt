@@ -1,6 +1,7 @@
 -- How a memory grows: what is asked in which order, what is answered, and what the memory and the limiter are left with.
 use Rattle.std.specs.Prelude.{◌≡◌, ℕ, ◌+◌, ◌-◌, ◌*◌, ◌^◌, ◌≤◌, ◌==◌, ◌&&◌, ◌||◌, ◌++◌, List, replicate, min, Bool, true, false, not, nat_lt, Option, Some, None, IfSome, option_map, Result, Ok, Err}
 use Rattle.std.specs.Option.{option_map_or}
+use Rattle.std.specs.Result.{result_err}
 use Rattle.pool_pages.specs.Count.{rounded_up}
 use Rattle.pool_pages.specs.Told.{passes}
 use Rattle.pool_pages.specs.MemoryTypes.{page_size, allow_growth_to}
@@ -158,6 +159,31 @@ LeavesBy false false past_room g size old new = AnswerLeaves past_room g.answer 
 
 abbrev pub GrowthLeaves : Obstacles → Given → ℕ → Linear → Linear → Type 0
 GrowthLeaves o g size old new = LeavesBy o.nothing o.past_type o.past_room g size old new
+
+-- what a reply tells of the report of a failure
+abbrev pub report_seen : {X : Type 0} → Result (Option X) GrowFault → Result (Unit {0}) LimiterError
+report_seen (Ok o) = Ok tt
+report_seen (Err fault.Memory) = Ok tt
+report_seen (Err (fault.LimiterFault e)) = Err e
+
+-- the reply of a growth without the size that was granted, but for the old one
+abbrev pub first_of : Result (Option (ℕ × ℕ)) GrowFault → Result (Option ℕ) GrowFault
+first_of (Ok o) = Ok (option_map (λ sizes. sizes.0) o)
+first_of (Err e) = Err e
+
+-- the pages are asked for a size, unless it is past the room
+abbrev pub AskedPages : Bool → ℕ → Linear → Linear → Result (Unit {0}) GrowError → Type 0
+AskedPages true size old new result = (result ≡ Err failed.MaximumExceeded) × (new ≡ old)
+AskedPages false size old new result = PagesLeave (result_err result) size old new
+
+-- what is left to say of a growth that the limiter allowed
+pub record IsAllowedGrowth {X : Type 0} (past : Bool) (size : ℕ) (granted : X) (old new : Linear) (asked left : LimiterTold) (reply : Result (Option X) GrowFault) : Type 0 where
+  pub failure : Option GrowError
+  pub answer : Result (Unit {0}) LimiterError
+  pub report : answer ≡ memory_failure asked.rule answer
+  pub replies : reply ≡ answer_reply granted past (Ok true) failure answer
+  pub limiter : left ≡ told_of_answer past (Ok true) failure answer asked
+  pub linear : AnswerLeaves past (Ok true) failure size old new
 
 -- A growth by so many pages, of a memory and a limiter, and its reply: `granted` where it is granted.
 pub record IsGrowth {X : Type 0} (pages : ℕ) (granted : X) (old new : MemoryState) (asked left : LimiterTold) (reply : Result (Option X) GrowFault) : Type 0 where

@@ -1,6 +1,7 @@
 //! Linear memories: where they lie, and how they are made, read, written and grown.
 #![tactic(auto)]
 
+mod growing;
 mod linear_memory;
 mod local_memory;
 mod making;

@@ -1,13 +1,16 @@
 ghost use Rattle.std.specs.Prelude.{◌≡◌, ◌↔◌, ◌+◌, ◌^◌, ◌<◌, ◌≤◌, ◌&&◌, length, slice_range, not, false, IsTrue, IfSome, OnOk, OnErr};
 ghost use Rattle.pool_pages.specs.MemoryTypes.{page_size, memory_may_move};
 ghost use Rattle.pool_memory.specs.Linear.{IsLinear, in_slot, is_mapped};
+ghost use Rattle.pool_memory.specs.Growing.{AskedPages, grown_size, past_room, exceeds};
+ghost use Rattle.pool_memory.specs.Making.{maximum_asked};
 ghost use Rattle.pool_memory.specs.Static.{CanHold};
 ghost use Rattle.pool_memory.specs.Memories.{slot_of, bytes_of, memory_written, access_answer};
 
 use crate::linear_memory::RuntimeLinearMemory;
+use crate::making::maximum_asked;
 use crate::static_memory::StaticMemory;
 use pool_images::MemoryImageSlot;
-use pool_limits::Trap;
+use pool_limits::{GrowError, Trap};
 use pool_pages::{MemoryTunables, MemoryType, PageCalls, Pages};
 use std::marker::{Model, PhantomData};
 
@@ -101,11 +104,60 @@ impl<M, L: RuntimeLinearMemory<M>> LocalMemory<M, L> {
         Ok(())
     }
 
+    // The size after a growth by so many pages.
+    pub(crate) fn grown_size(&self, delta_pages: u64) -> usize
+        ensures value { result ≡ grown_size delta_pages self.now }
+        ensures more { self.now.linear.size ≤ result }
+        ensures room { result + page_size self.now.ty ≤ 2 ^ 64 }
+    {
+        let page = self.ty.page_size();
+        let more = delta_pages.saturating_mul(page);
+        let size = (self.memory.byte_size() as u64).saturating_add(more);
+        size.min(u64::MAX - (page - 1)) as usize
+    }
+
+    // Grows to a size, unless it is past the room.
+    pub(crate) fn grow_pages(&mut self, maker: &mut M, size: usize) -> Result<(), GrowError>
+        requires more { self.old.linear.size ≤ size }
+        requires room { size + page_size self.old.ty ≤ 2 ^ 64 }
+        ensures asked { AskedPages (past_room size self.old) size self.old.linear self.new.linear result }
+        ensures same { self.new ≡ record self.old { linear = self.new.linear } }
+    {
+        if self.has_room(size) {
+            self.memory.grow_to(maker, size)
+        } else {
+            Err(GrowError::MaximumExceeded)
+        }
+    }
+
+    // The maximum that a limiter is told.
+    pub(crate) fn maximum(&self) -> Option<usize>
+        ensures { result ≡ maximum_asked self.now.ty }
+    {
+        maximum_asked(&self.ty)
+    }
+
+    fn has_room(&self, size: usize) -> bool
+        ensures { result ≡ not (past_room size self.now) }
+    {
+        let within = is_within(self.maximum(), size);
+        within && (self.memory_may_move || size <= self.memory.byte_capacity())
+    }
+
     fn has(&self, at: u64, len: usize) -> bool
         ensures { IsTrue result ↔ (at + len ≤ self.now.linear.size) }
     {
         let size = self.memory.byte_size();
         at <= size as u64 && len <= size - at as usize
+    }
+}
+
+fn is_within(most: Option<usize>, size: usize) -> bool
+    ensures { result ≡ not (exceeds most size) }
+{
+    match most {
+        Some(most) => size <= most,
+        None => true,
     }
 }
 

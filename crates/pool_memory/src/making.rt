@@ -96,7 +96,7 @@ fn minimum_asked(ty: &MemoryType) -> usize
     }
 }
 
-fn maximum_asked(ty: &MemoryType) -> Option<usize>
+pub(crate) fn maximum_asked(ty: &MemoryType) -> Option<usize>
     requires { ty.now.page_size_log2 < 64 }
     ensures { result ≡ maximum_asked ty.now }
 {

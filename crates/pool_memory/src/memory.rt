@@ -10,6 +10,7 @@ ghost use Rattle.pool_memory.specs.Linear.{IsLinear, in_slot, is_mapped};
 ghost use Rattle.pool_memory.specs.Static.{CanHold};
 ghost use Rattle.pool_memory.specs.Memories.{slot_of, bytes_of, memory_written, access_answer};
 ghost use Rattle.pool_memory.specs.Making.{EndsWithin, minimum_asked, maximum_asked, static_limiter_answer, static_answer};
+ghost use Rattle.pool_memory.specs.Growing.{IsGrowth};
 ghost use Rattle.pool_memory.specs.MemoryStates.{state_of};
 
 use crate::linear_memory::RuntimeLinearMemory;
@@ -18,7 +19,7 @@ use crate::making::make_static;
 use crate::memory_error::MemoryError;
 use crate::static_memory::StaticMemory;
 use pool_images::MemoryImageSlot;
-use pool_limits::{ResourceLimiter, Trap, Unlimited};
+use pool_limits::{GrowFault, ResourceLimiter, Trap, Unlimited};
 use pool_pages::{MemoryTunables, MemoryType, PageCalls, Pages};
 
 /// A memory of an instance.
@@ -86,6 +87,37 @@ impl<M, L: RuntimeLinearMemory<M>> Memory<M, L> {
     {
         let Memory::Local(memory) = self;
         memory.write(at, bytes)
+    }
+
+    /// Grows the memory by so many of its own pages. Answers the old size in bytes, or None, where the memory's size and
+    /// bytes are as before. By 0 pages nobody is asked. A size that the type forbids is only reported to the limiter;
+    /// then the limiter is asked; then a size past the maximum, or past the capacity of a memory that isn't moved, and a
+    /// failure of the pages is reported to it. Its error is `LimiterFault`.
+    pub fn grow<R: ResourceLimiter>(
+        &mut self,
+        maker: &mut M,
+        delta_pages: u64,
+        limiter: Option<&mut R>,
+    ) -> Result<Option<usize>, GrowFault>
+        ensures { IsGrowth delta_pages (state_of self.old).linear.size (state_of self.old) (state_of self.new) (limiter_told R.told (option_copied_mut limiter.entry)) (limiter_told R.told (option_left limiter.exit)) result }
+    {
+        match limiter {
+            Some(limiter) => self.grow_asking(maker, delta_pages, limiter),
+            None => self.grow_asking(maker, delta_pages, &mut Unlimited),
+        }
+    }
+
+    // The same with a limiter.
+    fn grow_asking<R: ResourceLimiter>(
+        &mut self,
+        maker: &mut M,
+        delta_pages: u64,
+        limiter: &mut R,
+    ) -> Result<Option<usize>, GrowFault>
+        ensures { IsGrowth delta_pages (state_of self.old).linear.size (state_of self.old) (state_of self.new) (R.told limiter.old) (R.told limiter.new) result }
+    {
+        let Memory::Local(memory) = self;
+        memory.grow_from(maker, delta_pages, limiter)
     }
 }
 
