@@ -1,3 +1,4 @@
+pub mod Atomics
 pub mod Growing
 pub mod Linear
 pub mod Making

@@ -1,6 +1,7 @@
 //! Linear memories: where they lie, and how they are made, read, written and grown.
 #![tactic(auto)]
 
+mod atomics;
 mod growing;
 mod linear_memory;
 mod local_memory;
@@ -9,6 +10,7 @@ mod memory;
 mod memory_error;
 mod static_memory;
 
+pub use atomics::validate_atomic_addr;
 pub use linear_memory::RuntimeLinearMemory;
 pub use local_memory::LocalMemory;
 pub use memory::Memory;
