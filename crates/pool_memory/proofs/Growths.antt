@@ -1,11 +1,10 @@
 -- Each way that a growth can go.
 use Rattle.std.proofs.Common.{◌≡◌, ◌≢◌, ℕ, Bool, true, false, refl, sym, ap, ◌∙◌, subst, arith, Option, Some, None, Result, Ok, Err}
-use Rattle.std.specs.Prelude.{◌==◌, not, option_map}
-use Rattle.std.specs.Result.{result_err}
+use Rattle.std.specs.Prelude.{◌==◌, not}
 use Rattle.std.proofs.lemmas.Bool.{eq-eqb}
 use Rattle.std.proofs.lemmas.Bool.Decides.{nat_tests}
 use Rattle.pool_pages.specs.MemoryTypes.{allow_growth_to}
-use Rattle.pool_limits.specs.Growth.{GrowthRule, GrowthLimits, always, limited_by, memory_answer, memory_failure, growth_answer, failure_answer, is_within}
+use Rattle.pool_limits.specs.Growth.{GrowthRule, always, limited_by, memory_answer, memory_failure}
 use Rattle.pool_limits.specs.LimiterTold.{LimiterTold, answered, reported}
 use Rattle.pool_limits.specs.declared.errors.LimiterError.{LimiterError}
 use Rattle.pool_limits.specs.declared.errors.GrowError.{GrowError}

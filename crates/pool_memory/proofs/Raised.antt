@@ -1,5 +1,5 @@
 -- A memory that stays in its slot, where more of the slot is exposed.
-use Rattle.std.proofs.Common.{◌≡◌, ℕ, ◌+◌, ◌-◌, ◌<◌, ◌≤◌, ◌++◌, true, List, length, refl, sym, ap, ◌∙◌, subst, arith, slice_range, replicate, Option, Some, None}
+use Rattle.std.proofs.Common.{◌≡◌, ℕ, ◌+◌, ◌-◌, ◌≤◌, ◌++◌, true, List, length, refl, sym, ap, ◌∙◌, subst, arith, slice_range, replicate, Option, Some, None}
 use Rattle.std.specs.Prelude.{IfSome, option_map}
 use Rattle.pool_pages.specs.Count.{rounded_up}
 use Rattle.pool_pages.specs.Contents.{Contents}
@@ -8,7 +8,7 @@ use Rattle.pool_images.specs.Slots.{Slot, Fits, IsSound, IsKept, size_of, limite
 use Rattle.pool_images.proofs.Ready.{followed, paired}
 use Rattle.pool_images.proofs.Sizes.{rounded_up_more}
 use Rattle.pool_memory.specs.Growing.{GrowsTo, Planned}
-use Rattle.pool_memory.specs.Linear.{in_slot, linear_bytes}
+use Rattle.pool_memory.specs.Linear.{in_slot}
 use Rattle.pool_memory.specs.Static.{Static, IsStatic, linear_of}
 use Rattle.pool_memory.proofs.Bytes.{zeros_part}
 use Rattle.pool_memory.proofs.Statics.{some_page, static_inside, capacity_inside}

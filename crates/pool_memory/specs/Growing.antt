@@ -1,5 +1,5 @@
 -- How a memory grows: what is asked in which order, what is answered, and what the memory and the limiter are left with.
-use Rattle.std.specs.Prelude.{◌≡◌, ℕ, ◌+◌, ◌-◌, ◌*◌, ◌^◌, ◌≤◌, ◌==◌, ◌&&◌, ◌||◌, ◌++◌, List, replicate, min, Bool, true, false, not, nat_lt, Option, Some, None, IfSome, option_map, Result, Ok, Err}
+use Rattle.std.specs.Prelude.{◌≡◌, ℕ, ◌+◌, ◌-◌, ◌*◌, ◌^◌, ◌≤◌, ◌==◌, ◌&&◌, ◌||◌, ◌++◌, replicate, min, Bool, true, false, not, nat_lt, Option, Some, None, IfSome, option_map, Result, Ok, Err}
 use Rattle.std.specs.Option.{option_map_or}
 use Rattle.std.specs.Result.{result_err}
 use Rattle.pool_pages.specs.Count.{rounded_up}
@@ -12,8 +12,8 @@ use Rattle.pool_limits.specs.declared.errors.GrowError.{GrowError}
 use Rattle.pool_limits.specs.declared.errors.GrowError.TheVariants as failed
 use Rattle.pool_limits.specs.declared.errors.GrowFault.{GrowFault}
 use Rattle.pool_limits.specs.declared.errors.GrowFault.TheVariants as fault
-use Rattle.pool_images.specs.Slots.{Slot, CallFaulted, raising, limited}
-use Rattle.pool_memory.specs.Linear.{Storage, in_slot, stored, Linear, IsLinear, linear_bytes}
+use Rattle.pool_images.specs.Slots.{CallFaulted, raising, limited}
+use Rattle.pool_memory.specs.Linear.{Storage, in_slot, stored, Linear, linear_bytes}
 use Rattle.pool_memory.specs.Making.{maximum_asked}
 use Rattle.pool_memory.specs.Memories.{MemoryState}
 

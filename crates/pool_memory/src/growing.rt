@@ -110,9 +110,7 @@ fn reported(error: GrowError) -> Result<Option<(usize, usize)>, GrowFault>
 }
 
 // The old size of a growth.
-fn old_size(
-    growth: Result<Option<(usize, usize)>, GrowFault>,
-) -> Result<Option<usize>, GrowFault>
+fn old_size(growth: Result<Option<(usize, usize)>, GrowFault>) -> Result<Option<usize>, GrowFault>
     ensures { result ≡ first_of growth }
 {
     match growth {

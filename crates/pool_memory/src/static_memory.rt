@@ -137,6 +137,7 @@ impl<M, P: Pages> RuntimeLinearMemory<M> for StaticMemory<P> {
         self.fits();
         self.slot.write(at, bytes)
     }
+
     fn grow_to(&mut self, _maker: &mut M, size: usize) -> Result<(), GrowError> {
         self.raise_to(size)
     }

@@ -1,5 +1,4 @@
-use Rattle.std.proofs.Common.{◌≡◌, ℕ, Result, Ok, Some, sym, ap, subst}
-use Rattle.std.specs.Prelude.{Option}
+use Rattle.std.proofs.Common.{ℕ, Ok, Some, sym, subst}
 use Rattle.pool_memory.specs.Growing.{IsAllowedGrowth, past_room}
 use Rattle.pool_memory.proofs.Growths.{allowed_ok, allowed_err}
 use Rattle.pool_memory.proofs.local_memory.LocalMemory.grow_allowed.Goals as goal

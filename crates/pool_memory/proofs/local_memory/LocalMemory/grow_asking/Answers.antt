@@ -1,4 +1,4 @@
-use Rattle.std.proofs.Common.{◌≡◌, ℕ, Bool, true, false, Option, Some, None, Result, Ok, Err, sym, ap, ◌∙◌, subst}
+use Rattle.std.proofs.Common.{◌≡◌, ℕ, Bool, true, false, Option, Some, Result, Ok, Err, sym, ap, ◌∙◌, subst}
 use Rattle.pool_pages.specs.MemoryTypes.{allow_growth_to}
 use Rattle.pool_pages.specs.declared.module_types.MemoryType.{MemoryType}
 use Rattle.pool_limits.specs.Growth.{memory_answer}

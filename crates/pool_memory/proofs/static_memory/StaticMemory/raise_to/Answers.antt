@@ -1,11 +1,7 @@
-use Rattle.std.proofs.Common.{◌≡◌, ◌≤◌, true, Result, Ok, sym, ap, subst, ◌∙◌}
-use Rattle.std.specs.Prelude.{is_ok, IfSome}
-use Rattle.pool_pages.specs.Count.{rounded_up}
-use Rattle.pool_pages.specs.Told.{passes}
-use Rattle.pool_pages.specs.declared.pages.PageFault.{PageFault}
-use Rattle.pool_images.specs.Slots.{Slot, Fits, IsKept, limited, raising}
+use Rattle.std.proofs.Common.{◌≤◌, sym, subst}
+use Rattle.pool_images.specs.Slots.{Fits}
 use Rattle.pool_memory.specs.Growing.{GrowsTo}
-use Rattle.pool_memory.specs.Static.{Static, IsStatic, linear_of}
+use Rattle.pool_memory.specs.Static.{Static, linear_of}
 use Rattle.pool_memory.proofs.Raised.{kept_static, raise_room, raised_grows}
 use Rattle.pool_memory.proofs.static_memory.StaticMemory.raise_to.Goals as goal
 
