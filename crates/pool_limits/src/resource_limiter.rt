@@ -1,5 +1,6 @@
-ghost use Rattle.std.specs.Prelude.{◌≡◌, ℕ, IsOk};
+ghost use Rattle.std.specs.Prelude.{◌≡◌, ℕ, Bool, Option, Result, IsOk};
 ghost use Rattle.std.specs.Option.{option_copied_mut};
+ghost use Rattle.pool_limits.specs.declared.errors.LimiterError.{LimiterError};
 ghost use Rattle.pool_limits.specs.Growth.{memory_answer, table_answer, memory_failure, table_failure};
 ghost use Rattle.pool_limits.specs.LimiterTold.{LimiterCounts, LimiterTold, counts_after, answered, reported, told_by_default, unlimited, limiter_told, option_left};
 
@@ -82,6 +83,11 @@ pub trait ResourceLimiter: Send {
 pub trait GrowthLimiter: Send {
     ghost counts: { Self → LimiterCounts };
 
+    // What may be the answer to a size, a wanted size and a maximum, and what it leaves, where that is told.
+    ghost memory_gives: { Self → ℕ → ℕ → Option ℕ → Result Bool LimiterError → Self → Type 0 } = { λ _ _ _ _ _ _. Unit {0} };
+
+    ghost table_gives: { Self → ℕ → ℕ → Option ℕ → Result Bool LimiterError → Self → Type 0 } = { λ _ _ _ _ _ _. Unit {0} };
+
     /// As `ResourceLimiter::memory_growing`.
     fn may_grow_memory(
         &mut self,
@@ -89,7 +95,8 @@ pub trait GrowthLimiter: Send {
         desired: usize,
         maximum: Option<usize>,
     ) -> Result<bool, LimiterError>
-        ensures { counts self.new ≡ counts_after result (counts self.old) };
+        ensures answer { memory_gives self.old current desired maximum result self.new }
+        ensures left { counts self.new ≡ counts_after result (counts self.old) };
 
     /// As `ResourceLimiter::table_growing`.
     fn may_grow_table(
@@ -98,7 +105,8 @@ pub trait GrowthLimiter: Send {
         desired: usize,
         maximum: Option<usize>,
     ) -> Result<bool, LimiterError>
-        ensures { counts self.new ≡ counts_after result (counts self.old) };
+        ensures answer { table_gives self.old current desired maximum result self.new }
+        ensures left { counts self.new ≡ counts_after result (counts self.old) };
 
     /// As `ResourceLimiter::noes`.
     fn noes_so_far(&self) -> u64
@@ -117,7 +125,10 @@ impl<L: GrowthLimiter> ResourceLimiter for L {
         current: usize,
         desired: usize,
         maximum: Option<usize>,
-    ) -> Result<bool, LimiterError> {
+    ) -> Result<bool, LimiterError>
+        ensures answer { L.memory_gives self.old current desired maximum result self.new }
+        ensures left { L.counts self.new ≡ counts_after result (L.counts self.old) }
+    {
         self.may_grow_memory(current, desired, maximum)
     }
 
@@ -133,7 +144,10 @@ impl<L: GrowthLimiter> ResourceLimiter for L {
         current: usize,
         desired: usize,
         maximum: Option<usize>,
-    ) -> Result<bool, LimiterError> {
+    ) -> Result<bool, LimiterError>
+        ensures answer { L.table_gives self.old current desired maximum result self.new }
+        ensures left { L.counts self.new ≡ counts_after result (L.counts self.old) }
+    {
         self.may_grow_table(current, desired, maximum)
     }
 
