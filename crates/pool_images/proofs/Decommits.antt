@@ -2,10 +2,10 @@
 use Rattle.std.proofs.Common.{◌≡◌, ℕ, ◌+◌, ◌-◌, ◌*◌, ◌/◌, ◌<◌, ◌≤◌, false, List, length, get_or, refl, sym, ap, ◌∙◌, subst, inl, inr, arith, slice_range, Option, Some, None, Result, Ok, Err}
 use Rattle.std.specs.Prelude.{IfSome, OnOk, OnErr, ◌⊎◌, slice_index_or}
 use Rattle.std.proofs.lemmas.Bool.{cases_lt}
-use Rattle.pool_pages.specs.Contents.{Contents, IsShaped, Page, page_at, page_origin, put, decommitted}
+use Rattle.pool_pages.specs.Contents.{Contents, IsShaped, Page, page_at, page_origin, decommitted}
 use Rattle.pool_pages.specs.Told.{Told, PageCall, IsPartly, MayChangePartly, Faulted, TellsShaped, counted, succeeded, decommitting}
 use Rattle.pool_pages.proofs.Multiples.{page_of}
-use Rattle.pool_pages.proofs.Puts.{length-range, get_or-range, same_at, same_range, range_within, range-put_both, put_range, same_by_pages}
+use Rattle.pool_pages.proofs.Puts.{get_or-range, same_at, same_range, range_within, same_by_pages}
 use Rattle.pool_images.specs.Slots.{Slot, Fits, IsSound, IsReady, IsClean, Holds, placed, size_of, called}
 use Rattle.pool_images.proofs.Backs.{back_there}
 use Rattle.pool_images.proofs.Ready.{IsGood, IsStarted, good, lifted, followed}

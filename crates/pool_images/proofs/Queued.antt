@@ -1,18 +1,17 @@
 -- Ranges of a slot that are decommitted one after another, as a queue of resets does it.
-use Rattle.std.proofs.Common.{◌≡◌, ℕ, ◌+◌, ◌%◌, List, [], ◌∷◌, ◌++◌, refl, sym, ap, ◌∙◌, subst, arith, Option, Some, None}
-use Rattle.std.specs.Prelude.{IfSome, All, is_some, option_map}
+use Rattle.std.proofs.Common.{◌≡◌, ℕ, ◌+◌, ◌%◌, List, [], ◌∷◌, ◌++◌, refl, sym, ◌∙◌, subst, arith, Option, Some, None}
+use Rattle.std.specs.Prelude.{All, is_some, option_map}
 use Rattle.std.proofs.lemmas.List.Elements.{All-head, All-tail}
-use Rattle.pool_pages.specs.Count.{Count, count}
+use Rattle.pool_pages.specs.Count.{count}
 use Rattle.pool_pages.specs.Contents.{Contents, IsShaped, decommitted}
 use Rattle.pool_pages.specs.Told.{TellsShaped, PageCall, succeeded, decommitting}
 use Rattle.pool_pages.proofs.Multiples.{add_whole}
 use Rattle.pool_pages.proofs.Shapes.{decommitted_shaped}
-use Rattle.pool_images.specs.declared.image_slot.ImageName.{ImageName}
 use Rattle.pool_images.specs.declared.ranges.ByteRange.{ByteRange}
 use Rattle.pool_images.specs.Slots.{Slot, Fits, Keeps, IsSound, IsClean, IsPart, size_of, called, decommitted_all}
 use Rattle.pool_images.proofs.Decommits.{still_clean}
 use Rattle.pool_images.proofs.Fitting.{keeps_ok}
-use Rattle.pool_images.proofs.Ready.{followed, lifted}
+use Rattle.pool_images.proofs.Ready.{lifted}
 
 -- the slot once this range of it is decommitted
 abbrev pub next : ByteRange → Slot → Slot

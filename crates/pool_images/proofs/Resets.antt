@@ -1,14 +1,12 @@
 -- A slot that was in use is clean once what a reset leaves is decommitted.
-use Rattle.std.proofs.Common.{◌≡◌, ℕ, ◌+◌, ◌-◌, ◌%◌, ◌<◌, ◌≤◌, Bool, true, false, List, [], ◌∷◌, length, min, refl, sym, ap, ◌∙◌, subst, arith, slice_range, Option, Some, None}
+use Rattle.std.proofs.Common.{◌≡◌, ℕ, ◌+◌, ◌-◌, ◌%◌, ◌<◌, ◌≤◌, Bool, true, false, List, [], ◌∷◌, length, min, refl, sym, ◌∙◌, subst, arith, slice_range, Option}
 use Rattle.std.specs.Prelude.{IfSome, All, nat_lt, option_map, if◌then◌else◌}
 use Rattle.std.proofs.lemmas.List.Elements.{All-nil, All-cons}
 use Rattle.std.proofs.lemmas.Bool.{ltb-true, ltb-false, le-ltb}
-use Rattle.pool_pages.specs.Count.{Count}
 use Rattle.pool_pages.specs.Contents.{Contents, put_back, decommitted}
 use Rattle.pool_pages.specs.Told.{decommitting}
 use Rattle.pool_pages.proofs.Multiples.{sub_whole}
 use Rattle.pool_pages.proofs.Puts.{range_joined, range_within}
-use Rattle.pool_images.specs.declared.ranges.ByteRange.{ByteRange}
 use Rattle.pool_images.specs.Slots.{Slot, Fits, IsSound, IsReady, IsClean, IsPart, Holds, size_of, called, cleared, reset_ranges, decommitted_all}
 use Rattle.pool_images.proofs.Backs.{back_here, back_there, length-back}
 use Rattle.pool_images.proofs.Ready.{IsStarted, lifted, followed, paired}

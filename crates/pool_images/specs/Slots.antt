@@ -1,5 +1,5 @@
 -- A slot for a memory: a region with at most one image mapped, what it reads as, and what each call makes of it.
-use Rattle.std.specs.Prelude.{◌≡◌, ℕ, ◌+◌, ◌-◌, ◌*◌, ◌/◌, ◌%◌, ◌^◌, ◌<◌, ◌≤◌, ◌==◌, ◌&&◌, ◌||◌, List, [], ◌∷◌, length, replicate, slice_range, slice_index_or, Bool, true, false, nat_lt, if◌then◌else◌, Option, Some, None, IfSome, is_some, option_map}
+use Rattle.std.specs.Prelude.{◌≡◌, ℕ, ◌+◌, ◌-◌, ◌*◌, ◌/◌, ◌%◌, ◌^◌, ◌<◌, ◌≤◌, ◌&&◌, ◌||◌, List, [], ◌∷◌, length, replicate, slice_range, slice_index_or, Bool, true, false, nat_lt, if◌then◌else◌, Option, Some, None, IfSome, is_some, option_map}
 use Rattle.pool_pages.specs.Count.{Count, count, IsPageSize, rounded_up}
 use Rattle.pool_pages.specs.Contents.{Contents, IsShaped, CanReach, IsIn, page_origin, put}
 use Rattle.pool_pages.specs.Told.{Told, PageCall, Faulted, Rose, succeeded, overwritten, restored, exposing, hiding, mapping, remapping, erasing, decommitting}

@@ -55,6 +55,7 @@ impl<P: Pages> MemoryImageSlot<P> {
         ensures ok { OnOk result (self.new ≡ emptied self.old) }
         ensures clean { OnOk result (IsClean self.new) }
         ensures shut { OnOk result (IfSome self.new.region.contents (IsShut self.new)) }
+        ensures mark { OnErr result (self.new.dirty ≡ self.old.dirty) }
         ensures fault { OnErr result (IsLeft self.old self.new) }
     {
         self.fits();
