@@ -38,7 +38,7 @@ still_clean s start len fits clean inside =
     }
 
 -- each page is as before, or as a success leaves it
-either : (call : PageCall) (c d : Contents) (k : ℕ) → IsPartly call c d → (page_at k d ≡ page_at k c) ⊎ (page_at k d ≡ page_at k (call.change c))
+pub either : (call : PageCall) (c d : Contents) (k : ℕ) → IsPartly call c d → (page_at k d ≡ page_at k c) ⊎ (page_at k d ≡ page_at k (call.change c))
 either call c d k partly = elim (cases_lt (k * c.page) call.start) [
   | inl below ↦ inl (partly.outside k (λ i. absurd (omega (arith, i.from))))
   | inr from ↦ elim (cases_lt (k * c.page) (call.start + call.len)) [
@@ -48,7 +48,7 @@ either call c d k partly = elim (cases_lt (k * c.page) call.start) [
 ]
 
 -- what holds of a page both ways holds of it
-by_page : (Q : Page → Type 0) (call : PageCall) (c d : Contents) (k : ℕ) → IsPartly call c d → Q (page_at k c) → Q (page_at k (call.change c)) → Q (page_at k d)
+pub by_page : (Q : Page → Type 0) (call : PageCall) (c d : Contents) (k : ℕ) → IsPartly call c d → Q (page_at k c) → Q (page_at k (call.change c)) → Q (page_at k d)
 by_page Q call c d k partly before after = elim (either call c d k partly) [
   | inl same ↦ subst Q (sym same) before
   | inr done ↦ subst Q (sym done) after

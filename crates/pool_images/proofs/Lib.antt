@@ -4,6 +4,7 @@ pub mod Decommits
 pub mod Emptied
 pub mod Fitting
 pub mod Images
+pub mod Kept
 pub mod Making
 pub mod Marks
 pub mod Pieces

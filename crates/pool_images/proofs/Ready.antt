@@ -207,14 +207,6 @@ clean_without s name is fits clean =
     clean_of s name is fits (subst P is fits.image) clean
 
 -- The same as the code says them, with the range and the size as it has them.
-pub exposed_clean : (s : Slot) (size : Count) (from len : ℕ) → Fits s → IsClean s → from ≡ s.base.bytes + s.accessible.bytes → len ≡ size.bytes - s.accessible.bytes → size.page ≡ s.region.page → size.bytes % size.page ≡ 0 → s.accessible.bytes ≤ size.bytes → size.bytes ≤ size_of s → IsClean (record (called (exposing from len) s) { accessible = size })
-exposed_clean s size from len fits clean at long page is more within =
-    let P : ℕ → ℕ → ℕ → Type 0 = λ p f l. IsClean (record (called (exposing f l) s) { accessible = count p size.bytes }) in
-    let start : P s.region.page (s.base.bytes + s.accessible.bytes) (size.bytes - s.accessible.bytes) = clean_exposed s size.bytes fits clean more within (rw page at is) in
-    let first = subst (λ (p : ℕ). P p (s.base.bytes + s.accessible.bytes) (size.bytes - s.accessible.bytes)) (sym page) start in
-    let second = subst (λ (f : ℕ). P size.page f (size.bytes - s.accessible.bytes)) (sym at) first in
-    subst (λ (l : ℕ). P size.page from l) (sym long) second
-
 pub hidden_clean : (s : Slot) (size : Count) (from len : ℕ) → Fits s → IsClean s → from ≡ s.base.bytes + size.bytes → len ≡ s.accessible.bytes - size.bytes → size.page ≡ s.region.page → size.bytes % size.page ≡ 0 → size.bytes ≤ s.accessible.bytes → IsClean (record (called (hiding from len) s) { accessible = size })
 hidden_clean s size from len fits clean at long page is less =
     let P : ℕ → ℕ → ℕ → Type 0 = λ p f l. IsClean (record (called (hiding f l) s) { accessible = count p size.bytes }) in

@@ -1,5 +1,5 @@
 -- A slot for a memory: a region with at most one image mapped, what it reads as, and what each call makes of it.
-use Rattle.std.specs.Prelude.{◌≡◌, ℕ, ◌+◌, ◌-◌, ◌*◌, ◌/◌, ◌%◌, ◌^◌, ◌<◌, ◌≤◌, ◌&&◌, ◌||◌, List, [], ◌∷◌, length, replicate, slice_range, slice_index_or, Bool, true, false, nat_lt, if◌then◌else◌, Option, Some, None, IfSome, is_some}
+use Rattle.std.specs.Prelude.{◌≡◌, ℕ, ◌+◌, ◌-◌, ◌*◌, ◌/◌, ◌%◌, ◌^◌, ◌<◌, ◌≤◌, ◌&&◌, ◌||◌, List, [], ◌∷◌, length, replicate, slice_range, slice_index_or, Bool, true, false, nat_lt, if◌then◌else◌, Option, Some, None, IfSome, is_some, option_map}
 use Rattle.pool_pages.specs.Count.{Count, count, IsPageSize, rounded_up}
 use Rattle.pool_pages.specs.Contents.{Contents, IsShaped, CanReach, IsIn, page_origin, put}
 use Rattle.pool_pages.specs.Told.{Told, PageCall, Faulted, Rose, succeeded, overwritten, restored, exposing, hiding, mapping, remapping, erasing, decommitting}
@@ -111,6 +111,32 @@ resized size hides s =
     then record (called (hiding (s.base.bytes + size) (s.accessible.bytes - size)) s) { accessible = count s.region.page size }
     else s
     )
+
+-- Exposing what is missing to so many bytes, and the slot with as many accessible after it.
+abbrev pub raising : ℕ → Slot → PageCall
+raising size s = exposing (s.base.bytes + s.accessible.bytes) (size - s.accessible.bytes)
+
+abbrev pub raised : ℕ → Slot → Slot
+raised size s = record (called (raising size s) s) { accessible = count s.region.page size }
+
+-- the slot with so many bytes accessible, in whole pages, or more where more were
+abbrev pub limited : ℕ → Slot → Slot
+limited size s = if nat_lt s.accessible.bytes (rounded_up s.region.page size) then raised (rounded_up s.region.page size) s else s
+
+-- Of the slot only pages were exposed: it has the same parts and bytes, and it is clean, or can be used, where it was.
+pub record IsKept (old new : Slot) : Type 0 where
+  pub base : new.base ≡ old.base
+  pub static_size : new.static_size ≡ old.static_size
+  pub image : new.image ≡ old.image
+  pub dirty : new.dirty ≡ old.dirty
+  pub colour : new.colour ≡ old.colour
+  pub name : new.region.name ≡ old.region.name
+  pub page : new.region.page ≡ old.region.page
+  pub len : new.region.len ≡ old.region.len
+  pub plan : new.region.plan ≡ old.region.plan
+  pub bytes : option_map (λ c. c.bytes) new.region.contents ≡ option_map (λ c. c.bytes) old.region.contents
+  pub ready : IfSome old.region.contents (IsReady old) → IfSome new.region.contents (IsReady new)
+  pub clean : IsClean old → IsClean new
 
 -- the slot without its image, whose pages become zeros
 abbrev pub without : Option ImageName → Slot → Slot

@@ -3,6 +3,7 @@ ghost use Rattle.pool_pages.specs.Told.{exposing, hiding, mapping, remapping, er
 ghost use Rattle.pool_images.specs.Slots.{size_of, IsRangeOf, CallFaulted, IsFresh, IsReady, IsClean, Fits, FitsInto, called, written_at};
 
 mod instantiate;
+mod limit;
 mod mapping;
 mod reset;
 

@@ -81,26 +81,29 @@ fn a_reset_slot_reads_its_image_again(rt: HostRuntime) -> Result<(), Fail> {
     let region = maker.make(alloc, RegionName::Memory(0), page.zero(), len)?;
     let mut slot = MemoryImageSlot::create(region, page.zero(), page.zero(), 64, None);
     slot.instantiate(48, Some(image), &ty, &tunables)?;
-    let mut bytes = [9; 4];
+    let mut bytes = [9; 20];
     slot.read(14, &mut bytes);
-    assert_eq!(rt; bytes, [0, 0, 7, 7]);
-    slot.write(14, &[1, 2, 3, 4]);
-    assert_eq!(rt; reset(&mut slot, page.zero())?, 0);
+    assert_eq!(rt;
+        bytes,
+        [0, 0, 7, 7, 7, 7, 7, 0, 0, 0, 0, 0, 0, 0, 0, 0, 0, 0, 0, 0]
+    );
+    slot.write(14, &[1; 32]);
+    let kept = HostAlignedByteCount::new(page, 32)?;
+    assert_eq!(rt; reset(&mut slot, kept)?, 32);
 
     let calls = slot.region().calls();
     slot.instantiate(48, Some(image), &ty, &tunables)?;
     assert_eq!(rt; slot.region().calls(), calls);
     slot.read(14, &mut bytes);
-    assert_eq!(rt; bytes, [0, 0, 7, 7]);
-    slot.write(14, &[1, 2, 3, 4]);
-    let kept = HostAlignedByteCount::new(page, 32)?;
-    assert_eq!(rt; reset(&mut slot, kept)?, 32);
-    slot.read(14, &mut bytes);
-    assert_eq!(rt; bytes, [0, 0, 7, 7]);
+    assert_eq!(rt;
+        bytes,
+        [0, 0, 7, 7, 7, 7, 7, 0, 0, 0, 0, 0, 0, 0, 0, 0, 0, 0, 0, 0]
+    );
+    assert_eq!(rt; reset(&mut slot, page.zero())?, 0);
 
     slot.remove_image()?;
     slot.read(14, &mut bytes);
-    assert_eq!(rt; bytes, [0, 0, 0, 0]);
+    assert_eq!(rt; bytes, [0; 20]);
     Ok(())
 }
 

@@ -65,7 +65,7 @@ impl<P: Pages> MemoryImageSlot<P> {
     }
 
     // The whole pages of a number of bytes of the slot.
-    fn rounded(&self, bytes: usize) -> HostAlignedByteCount
+    pub(super) fn rounded(&self, bytes: usize) -> HostAlignedByteCount
         requires { bytes ≤ self.now.static_size }
         ensures value { result ≡ count self.now.region.page (rounded_up self.now.region.page bytes) }
         ensures whole { rounded_up self.now.region.page bytes % self.now.region.page ≡ 0 }
@@ -137,29 +137,12 @@ impl<P: Pages> MemoryImageSlot<P> {
     {
         self.fits();
         if self.accessible.byte_count() < size.byte_count() {
-            self.expose_to(size)
+            self.raise_to(size)
         } else if hides && size.byte_count() < self.accessible.byte_count() {
             self.hide_from(size)
         } else {
             Ok(())
         }
-    }
-
-    fn expose_to(&mut self, size: HostAlignedByteCount) -> Result<(), PageFault>
-        requires clean { IsClean self.old }
-        requires fits { Fits self.old }
-        requires page { size.page ≡ self.old.region.page }
-        requires whole { size.bytes % size.page ≡ 0 }
-        requires within { size.bytes ≤ size_of self.old }
-        requires more { self.old.accessible.bytes ≤ size.bytes }
-        ensures ok { OnOk result (self.new ≡ record (called (exposing (self.old.base.bytes + self.old.accessible.bytes) (size.bytes - self.old.accessible.bytes)) self.old) { accessible = count self.old.region.page size.bytes }) }
-        ensures clean { OnOk result (IsClean self.new) }
-        ensures fault { OnErr result (IsLeft self.old self.new) }
-    {
-        let had = self.accessible;
-        self.expose(had, size.saturating_sub(had))?;
-        self.accessible = size;
-        Ok(())
     }
 
     fn hide_from(&mut self, size: HostAlignedByteCount) -> Result<(), PageFault>

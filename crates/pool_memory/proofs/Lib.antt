@@ -1,0 +1,6 @@
+pub mod Begun
+pub mod Bytes
+pub mod Growths
+pub mod Makings
+pub mod Raised
+pub mod Statics

@@ -1,0 +1,50 @@
+ghost use Rattle.std.specs.Prelude.{◌≡◌, ◌+◌, ◌≤◌, length, slice_range, false, IfSome, IfErr, OnOk};
+ghost use Rattle.pool_memory.specs.Linear.{Linear, IsLinear, is_mapped, linear_bytes, linear_written, ready, resized};
+ghost use Rattle.pool_memory.specs.Growing.{GrowsTo, IsUngrown};
+
+use pool_limits::GrowError;
+
+/// The bytes of a linear memory, and the room that they have. `M` makes the regions of one that moves.
+pub trait RuntimeLinearMemory<M>: Drop {
+    ghost linear: { Self → Linear };
+
+    fn byte_size(&self) -> usize
+        ensures value { result ≡ (linear self.now).size }
+        ensures always { IsLinear (linear self.now) };
+
+    /// How large the memory can become without moving.
+    fn byte_capacity(&self) -> usize
+        ensures { result ≡ (linear self.now).capacity };
+
+    /// Whether the memory can move to where it has more room.
+    fn can_move(&self) -> bool
+        ensures { result ≡ (linear self.now).moves };
+
+    /// Whether an image is mapped in the memory.
+    fn has_image(&self) -> bool
+        ensures { result ≡ is_mapped (linear self.now).storage };
+
+    /// Reads the bytes from `at` on into `out`.
+    fn read(&self, at: usize, out: &mut [u8])
+        requires { at + length out.old ≤ (linear self.now).size }
+        ensures { IfSome (linear_bytes (linear self.now)) (λ bytes. out.new ≡ slice_range bytes at (at + length out.old)) };
+
+    /// Writes the bytes from `at` on; all other bytes stay.
+    fn write(&mut self, at: usize, bytes: &[u8])
+        requires { at + length bytes.now ≤ (linear self.old).size }
+        ensures { linear self.new ≡ linear_written at bytes.now (linear self.old) };
+
+    /// Makes the memory `size` bytes large, which is no less than it is. What is new is zeros. Beyond its capacity it
+    /// moves to a region of `maker`. Answers `PageFault`, `Overflow` or `Memory` alone.
+    fn grow_to(&mut self, maker: &mut M, size: usize) -> Result<(), GrowError>
+        requires more { (linear self.old).size ≤ size }
+        requires room { (linear self.old).moves ≡ false → size ≤ (linear self.old).capacity }
+        ensures ok { OnOk result (GrowsTo size (linear self.old) (linear self.new)) }
+        ensures err { IfErr result (λ e. IsUngrown e size (linear self.old) (linear self.new)) };
+
+    /// Makes the memory `len` bytes large, which is no less than it is and can be reached already. What is new is zeros.
+    fn set_byte_size(&mut self, len: usize)
+        requires more { (linear self.old).size ≤ len }
+        requires ready { len ≤ ready (linear self.old) }
+        ensures { linear self.new ≡ resized len (linear self.old) };
+}
