@@ -1,7 +1,4 @@
 pub mod CellOf
 pub mod Cells
-pub mod Memories
-pub mod Pools
+pub mod Queues
 pub mod Texts
-pub mod Turns
-pub mod Uses

@@ -1,20 +1,14 @@
-//! The pools of slots: slots go out clean, and come back clean or unknown.
+//! Trimmed.
 #![tactic(auto)]
 
 mod cells;
-mod lease;
-mod making;
-mod memory_pool;
-#[cfg(test)]
-mod pool_tests;
+mod decommit_queue;
+mod queued_range;
 mod request;
-mod static_memory;
-mod uses;
 
 pub use cells::{ImageSlot, MemoryCell, add_calls};
-pub use lease::MemoryLease;
-pub use memory_pool::MemoryPool;
+pub use decommit_queue::{DecommitQueue, QueuedSlot};
+pub use queued_range::{QueueKind, QueuedRange};
 pub use request::{
     AllocError, ConcurrencyKind, MemoryAllocationIndex, PoolConcurrencyLimitError, PoolNewError,
 };
-pub use static_memory::{StaticMemory, Trap};

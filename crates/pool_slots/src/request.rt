@@ -1,7 +1,8 @@
 ghost use Rattle.std.specs.Prelude.{◌≡◌, Some};
 ghost use Rattle.pool_slots.specs.Texts.{kind_text, limit_text};
 
-use pool_pages::BadConfig;
+use pool_limits::LimiterError;
+use pool_pages::{BadConfig, Unsupported};
 use std::error::Error;
 use std::fmt;
 
@@ -60,6 +61,9 @@ pub enum AllocError {
     Limit(PoolConcurrencyLimitError),
     /// A call on the pages of the slot failed.
     PageFault,
+    LimiterDenied { table: bool, min: u64 },
+    LimiterFault(LimiterError),
+    Unsupported(Unsupported),
 }
 
 /// Why a pool can't be made.

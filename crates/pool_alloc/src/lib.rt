@@ -1,0 +1,14 @@
+//! The pooling allocator, a step at a time.
+#![tactic(auto)]
+
+mod pool_core;
+mod frame;
+mod lease;
+mod parts;
+mod reserved;
+
+pub use pool_core::{Counters, PoolCore, Settings};
+pub use frame::{AfterFlush, Call, Ending, Frame, FreedSlot, Grant, ModuleCall, Outcome, Phase};
+pub use lease::{InstanceLease, MemoryLease};
+pub use parts::{Cells, Queues, Shards};
+pub use reserved::ReservedList;

@@ -1,0 +1,71 @@
+ghost use Rattle.std.specs.Prelude.{◌≡◌, ◌+◌, ◌<◌, ◌≤◌, ◌==◌, [], ◌∷◌, ◌++◌, length, drop, slice_get, vec_len, vec_capacity, IfOk, OnOk};
+ghost use Rattle.pool_alloc.specs.Reserved.{Reserved};
+
+use std::alloc::{AllocError, Global};
+use std::marker::Model;
+use std::mem;
+
+/// A list whose room is reserved when it is made. Adding to it takes no memory.
+#[derive(Drop)]
+pub struct ReservedList<T> {
+    items: Vec<T>,
+    room: usize,
+}
+
+impl<T> Model for ReservedList<T> {
+    ghost use Rattle.std.specs.Prelude.{◌≤◌, length, vec_capacity};
+    ghost use Rattle.pool_alloc.specs.Reserved.{Reserved};
+
+    ghost Value = { Reserved T };
+
+    ghost view = { λ l. record { items = l.items.items; room = l.room } };
+
+    ghost invariant = { λ l. (length l.items.items ≤ l.room) × (l.room ≤ vec_capacity l.items) };
+}
+
+impl<T> ReservedList<T> {
+    /// The empty list, without room. Takes no memory.
+    pub fn none(alloc: Global) -> Self
+        ensures { result ≡ record { items = []; room = 0 } }
+    {
+        ReservedList {
+            items: Vec::new(alloc),
+            room: 0,
+        }
+    }
+
+    pub fn with_room(alloc: Global, room: usize) -> Result<Self, AllocError>
+        ensures { IfOk result (λ l. l ≡ record { items = []; room = room }) }
+    {
+        Ok(ReservedList {
+            items: Vec::with_capacity(alloc, room)?,
+            room,
+        })
+    }
+
+    pub fn len(&self) -> usize
+        ensures value { result ≡ length self.now.items }
+        ensures fits { length self.now.items ≤ self.now.room }
+    {
+        self.items.len()
+    }
+
+    pub fn is_empty(&self) -> bool
+        ensures { result ≡ (length self.now.items == 0) }
+    {
+        self.items.is_empty()
+    }
+
+    pub fn as_slice(&self) -> &[T]
+        ensures { result.now ≡ self.now.items }
+    {
+        self.items.as_slice()
+    }
+
+    pub fn push(&mut self, item: T)
+        requires { length self.old.items < self.old.room }
+        ensures { self.new ≡ record self.old { items = self.old.items ++ item ∷ [] } }
+    {
+        self.items.push_reserved(item);
+    }
+}
