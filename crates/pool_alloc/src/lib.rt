@@ -2,7 +2,9 @@
 #![tactic(auto)]
 
 mod pool_core;
+mod allocate_steps;
 mod frame;
+mod frame_calls;
 mod lease;
 mod parts;
 mod reserved;

@@ -1,8 +1,13 @@
-ghost use Rattle.std.specs.Prelude.{◌≡◌, ◌<◌, ◌≤◌, length, slice_set, slice_index_or, IsSome, option_map};
+ghost use Rattle.std.specs.Prelude.{◌≡◌, ◌+◌, ◌<◌, ◌≤◌, ◌^◌, false, true, length, slice_set, slice_index_or, sum_by, IsSome, None, option_map};
+ghost use Rattle.pool_index.specs.Shard.{IsShard, IsSameShard, use_of, pick_answer, after_pick, after_free, slot_number, resident_bytes};
+ghost use Rattle.pool_slots.specs.Cells.{taken, calls_of_all};
+ghost use Rattle.pool_slots.specs.CellOf.{cell_of};
+ghost use Rattle.pool_slots.specs.Queues.{QueueState, HasOwners, AreApart, IsSpareOf, joined, after_take, taken_into, emptied};
+ghost use Rattle.pool_alloc.specs.Steps.{shard_at, cell_at, queue_at};
 
-use pool_index::Shard;
+use pool_index::{MemoryInModule, Shard, SlotId};
 use pool_pages::Pages;
-use pool_slots::{DecommitQueue, MemoryCell};
+use pool_slots::{DecommitQueue, ImageSlot, MemoryCell};
 use std::marker::Model;
 
 /// The shards of the pool's memory slots.
@@ -20,6 +25,49 @@ impl Model for Shards {
     ghost view = { λ s. s.list.items };
 }
 
+impl Shards {
+    pub fn new(list: Vec<Shard>) -> Self
+        ensures { result ≡ list.items }
+    {
+        Shards { list }
+    }
+
+    pub fn len(&self) -> usize
+        ensures value { result ≡ length self.now }
+        ensures small { length self.now < 2 ^ 63 }
+    {
+        self.list.len()
+    }
+
+    /// Picks a free slot of a shard, and gives its number in the pool. Takes no memory.
+    pub fn pick(&mut self, shard: usize, want: Option<MemoryInModule>) -> Option<u32>
+        requires { shard < length self.old }
+        ensures answer { result ≡ option_map (λ p. slot_number (shard_at shard self.old) p.0.0) (pick_answer want (shard_at shard self.old)) }
+        ensures after { self.new ≡ slice_set self.old shard (after_pick want (shard_at shard self.old)) }
+        ensures same { IsSameShard (shard_at shard self.old) (after_pick want (shard_at shard self.old)) }
+        ensures sound { IsShard (after_pick want (shard_at shard self.old)) }
+    {
+        let shard = &mut self.list[shard];
+        match shard.pick(want) {
+            Ok((slot, _)) => Some(shard.number(slot)),
+            Err(_) => None,
+        }
+    }
+
+    /// Frees a used slot of a shard, which keeps so many bytes resident. Takes no memory.
+    pub fn free(&mut self, shard: usize, slot: SlotId, bytes: usize)
+        requires inside { shard < length self.old }
+        requires used { IsSome (use_of (shard_at shard self.old) slot.0) }
+        requires bytes { bytes ≤ 2 ^ 32 }
+        ensures after { self.new ≡ slice_set self.old shard (after_free slot bytes (shard_at shard self.old)) }
+        ensures same { IsSameShard (shard_at shard self.old) (after_free slot bytes (shard_at shard self.old)) }
+        ensures sound { IsShard (after_free slot bytes (shard_at shard self.old)) }
+    {
+        let shard = &mut self.list[shard];
+        shard.free(slot, bytes);
+    }
+}
+
 /// The cells of the pool's memory slots, by the numbers of the slots.
 #[derive(Drop)]
 pub struct Cells<P: Pages> {
@@ -35,6 +83,39 @@ impl<P: Pages> Model for Cells<P> {
     ghost view = { λ c. c.list.items };
 }
 
+impl<P: Pages> Cells<P> {
+    pub fn new(list: Vec<MemoryCell<P>>) -> Self
+        ensures { result ≡ list.items }
+    {
+        Cells { list }
+    }
+
+    pub fn len(&self) -> usize
+        ensures { result ≡ length self.now }
+    {
+        self.list.len()
+    }
+
+    /// Takes out what a slot's cell holds.
+    pub fn take(&mut self, slot: u32) -> ImageSlot<P>
+        requires { slot < length self.old }
+        ensures value { cell_of result ≡ cell_at slot self.old }
+        ensures after { self.new ≡ slice_set self.old slot taken }
+    {
+        let cell = &mut self.list[slot as usize];
+        cell.take()
+    }
+
+    /// Puts something into a slot's cell, in place of what it holds.
+    pub fn put(&mut self, slot: u32, held: ImageSlot<P>)
+        requires { slot < length self.old }
+        ensures { self.new ≡ slice_set self.old slot (cell_of held) }
+    {
+        let cell = &mut self.list[slot as usize];
+        cell.put(held);
+    }
+}
+
 /// The shared decommit queues.
 #[derive(Drop)]
 pub struct Queues<P: Pages> {
@@ -48,4 +129,18 @@ impl<P: Pages> Model for Queues<P> {
     ghost Value = { List QueueState };
 
     ghost view = { λ q. q.list.items };
+}
+
+impl<P: Pages> Queues<P> {
+    pub fn new(list: Vec<DecommitQueue<P>>) -> Self
+        ensures { result ≡ list.items }
+    {
+        Queues { list }
+    }
+
+    pub fn len(&self) -> usize
+        ensures { result ≡ length self.now }
+    {
+        self.list.len()
+    }
 }
