@@ -2,6 +2,7 @@
 #![tactic(auto)]
 
 mod pool_core;
+mod region_steps;
 mod allocate_steps;
 mod frame;
 mod frame_calls;

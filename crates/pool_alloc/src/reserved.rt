@@ -68,4 +68,12 @@ impl<T> ReservedList<T> {
     {
         self.items.push_reserved(item);
     }
+
+    /// Takes out the first item. The others move up.
+    pub fn remove_first(&mut self) -> T
+        requires { 0 < length self.old.items }
+        ensures { self.old ≡ record self.new { items = result ∷ self.new.items } }
+    {
+        self.items.remove(0)
+    }
 }
