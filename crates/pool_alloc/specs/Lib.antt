@@ -1,5 +1,6 @@
 pub mod Answers
 pub mod Leases
+pub mod Modules
 pub mod Own
 pub mod Places
 pub mod Reserved

@@ -6,6 +6,7 @@ mod region_steps;
 mod allocate_steps;
 mod frame;
 mod frame_calls;
+mod instantiate_step;
 mod lease;
 mod parts;
 mod reserved;

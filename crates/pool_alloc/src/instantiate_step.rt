@@ -1,0 +1,73 @@
+ghost use Rattle.std.specs.Prelude.{◌≡◌, ◌<◌, ◌≤◌, ◌^◌, length, slice_get, slice_index_or, Bool, None, Some, IfSome, IsSome, option_map, is_err};
+ghost use Rattle.std.specs.Arc.{arc_value};
+ghost use Rattle.pool_pages.specs.MemoryTypes.{minimum_byte_size};
+ghost use Rattle.pool_images.specs.Slots.{Slot, IsClean, FitsInto};
+ghost use Rattle.pool_alloc.specs.Answers.{InstantiatesFor};
+ghost use Rattle.pool_alloc.specs.Steps.{After, memories_asked, images_asked, image_wanted, instantiate_row};
+ghost use Rattle.pool_alloc.specs.Modules.{HasImages, IfAllocated, CanInstantiate};
+
+use crate::frame::{Frame, ModuleCall, Outcome, Phase};
+use crate::pool_core::PoolCore;
+use pool_images::{MemoryImage, MemoryImageSlot};
+use pool_pages::{DefinedMemoryIndex, MemoryType, PageFault, Pages};
+use pool_slots::AllocError;
+use std::sync::Arc;
+
+impl ModuleCall {
+    // The image of a memory, where there is one.
+    fn image(&self, memory: usize) -> Option<&Arc<MemoryImage>>
+        requires small { memory < 2 ^ 32 }
+        requires inside { IfSome self.now.images (λ images. memory < length (arc_value images)) }
+        ensures { option_map (λ image. arc_value image.now) result ≡ slice_index_or (images_asked (Some self.now)) memory None }
+    {
+        match &self.images {
+            None => None,
+            Some(images) => images.get_memory_image(DefinedMemoryIndex(memory as u32)),
+        }
+    }
+}
+
+impl<P: Pages> PoolCore<P> {
+    // Instantiates an image slot for the memory that is allocated.
+    pub(crate) fn instantiate(
+        &mut self,
+        frame: &mut Frame<P>,
+        slot: u32,
+        held: MemoryImageSlot<P>,
+    ) -> Option<Outcome<P>>
+        requires clean { IsClean held }
+        requires can { CanInstantiate held frame.old }
+        ensures { (fault : Bool) × (after : Slot) × IfAllocated frame.old (λ decl. InstantiatesFor self.old.settings decl fault (image_wanted frame.old) held after) × (◌≡◌ {A = After P} (record { core = self.new; frame = frame.new; outcome = result }) (instantiate_row fault after slot self.old frame.old)) }
+    {
+        let mut held = held;
+        frame.phase = match self.begin(frame, &mut held) {
+            Ok(()) => Phase::MakeMemory(slot, held),
+            Err(_) => Phase::PutRefused(slot, held, AllocError::PageFault),
+        };
+        None
+    }
+
+    fn begin(&self, frame: &Frame<P>, held: &mut MemoryImageSlot<P>) -> Result<(), PageFault>
+        requires clean { IsClean held.old }
+        requires can { CanInstantiate held.old frame.now }
+        ensures { IfAllocated frame.now (λ decl. InstantiatesFor self.now.settings decl (is_err result) (image_wanted frame.now) held.old held.new) }
+    {
+        let memory = frame.granted.len();
+        match &frame.asked {
+            None => unreachable!(),
+            Some(call) => {
+                let decl = &call.info.memories.as_slice()[memory];
+                let image = call.image(memory);
+                held.instantiate(minimum_of(&decl.ty), image, &decl.ty, &self.settings.tunables)
+            }
+        }
+    }
+}
+
+fn minimum_of(ty: &MemoryType) -> usize
+    requires page_log2 { ty.now.page_size_log2 < 64 }
+    requires small { minimum_byte_size ty.now < 2 ^ 64 }
+    ensures { result ≡ minimum_byte_size ty.now }
+{
+    (ty.limits.min * ty.page_size()) as usize
+}
