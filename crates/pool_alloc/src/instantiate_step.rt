@@ -1,4 +1,4 @@
-ghost use Rattle.std.specs.Prelude.{◌≡◌, ◌<◌, ◌≤◌, ◌^◌, length, slice_get, slice_index_or, Bool, None, Some, IfSome, IsSome, option_map, is_err};
+ghost use Rattle.std.specs.Prelude.{◌≡◌, ◌<◌, ◌≤◌, ◌^◌, length, slice_get, slice_index_or, Bool, None, Some, IfSome, IsSome, option_map, if◌then◌else◌};
 ghost use Rattle.std.specs.Arc.{arc_value};
 ghost use Rattle.pool_pages.specs.MemoryTypes.{minimum_byte_size};
 ghost use Rattle.pool_images.specs.Slots.{Slot, IsClean, FitsInto};
@@ -9,7 +9,7 @@ ghost use Rattle.pool_alloc.specs.Modules.{HasImages, IfAllocated, CanInstantiat
 use crate::frame::{Frame, ModuleCall, Outcome, Phase};
 use crate::pool_core::PoolCore;
 use pool_images::{MemoryImage, MemoryImageSlot};
-use pool_pages::{DefinedMemoryIndex, MemoryType, PageFault, Pages};
+use pool_pages::{DefinedMemoryIndex, MemoryType, Pages};
 use pool_slots::AllocError;
 use std::sync::Arc;
 
@@ -40,17 +40,16 @@ impl<P: Pages> PoolCore<P> {
         ensures { (fault : Bool) × (after : Slot) × IfAllocated frame.old (λ decl. InstantiatesFor self.old.settings decl fault (image_wanted frame.old) held after) × (◌≡◌ {A = After P} (record { core = self.new; frame = frame.new; outcome = result }) (instantiate_row fault after slot self.old frame.old)) }
     {
         let mut held = held;
-        frame.phase = match self.begin(frame, &mut held) {
-            Ok(()) => Phase::MakeMemory(slot, held),
-            Err(_) => Phase::PutRefused(slot, held, AllocError::PageFault),
-        };
+        let fault = self.begin(frame, &mut held);
+        frame.phase = after_begin(fault, slot, held);
         None
     }
 
-    fn begin(&self, frame: &Frame<P>, held: &mut MemoryImageSlot<P>) -> Result<(), PageFault>
+    // Whether a page call failed.
+    fn begin(&self, frame: &Frame<P>, held: &mut MemoryImageSlot<P>) -> bool
         requires clean { IsClean held.old }
         requires can { CanInstantiate held.old frame.now }
-        ensures { IfAllocated frame.now (λ decl. InstantiatesFor self.now.settings decl (is_err result) (image_wanted frame.now) held.old held.new) }
+        ensures { IfAllocated frame.now (λ decl. InstantiatesFor self.now.settings decl result (image_wanted frame.now) held.old held.new) }
     {
         let memory = frame.granted.len();
         match &frame.asked {
@@ -58,9 +57,21 @@ impl<P: Pages> PoolCore<P> {
             Some(call) => {
                 let decl = &call.info.memories.as_slice()[memory];
                 let image = call.image(memory);
-                held.instantiate(minimum_of(&decl.ty), image, &decl.ty, &self.settings.tunables)
+                let tunables = &self.settings.tunables;
+                held.instantiate(minimum_of(&decl.ty), image, &decl.ty, tunables)
+                    .is_err()
             }
         }
+    }
+}
+
+fn after_begin<P: Pages>(fault: bool, slot: u32, held: MemoryImageSlot<P>) -> Phase<P>
+    ensures { result ≡ (if fault then Phase.PutRefused slot held AllocError.PageFault else Phase.MakeMemory slot held) }
+{
+    if fault {
+        Phase::PutRefused(slot, held, AllocError::PageFault)
+    } else {
+        Phase::MakeMemory(slot, held)
     }
 }
 
