@@ -32,7 +32,7 @@ InstantiatesAs false initial hide image old new = IsInstantiated initial hide im
 
 -- the slot is instantiated for a memory, or a call on its region failed
 abbrev pub InstantiatesFor : Settings → MemoryDecl → Bool → Option Image → Slot → Slot → Type 0
-InstantiatesFor s decl fault image old new = InstantiatesAs fault (minimum_byte_size decl.ty) (hides decl.ty s.tunables s.page) image old new
+InstantiatesFor s decl fault image old new = InstantiatesAs fault (minimum_byte_size decl.ty) (hides decl.ty s.tunables old.region.page) image old new
 
 -- the next ranges of one slot are decommitted, or a decommit failed
 abbrev pub Decommits : Bool → QueueState → QueueState → Type 0

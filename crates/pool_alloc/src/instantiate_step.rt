@@ -1,15 +1,15 @@
 ghost use Rattle.std.specs.Prelude.{◌≡◌, ◌<◌, ◌≤◌, ◌^◌, length, slice_get, slice_index_or, Bool, None, Some, IfSome, IsSome, option_map, if◌then◌else◌};
 ghost use Rattle.std.specs.Arc.{arc_value};
 ghost use Rattle.pool_pages.specs.MemoryTypes.{minimum_byte_size};
-ghost use Rattle.pool_images.specs.Slots.{Slot, IsClean, FitsInto};
-ghost use Rattle.pool_alloc.specs.Answers.{InstantiatesFor};
+ghost use Rattle.pool_images.specs.Slots.{Slot, IsClean, FitsInto, hides};
+ghost use Rattle.pool_alloc.specs.Answers.{InstantiatesAs, InstantiatesFor};
 ghost use Rattle.pool_alloc.specs.Steps.{After, memories_asked, images_asked, image_wanted, instantiate_row};
 ghost use Rattle.pool_alloc.specs.Modules.{HasImages, IfAllocated, CanInstantiate};
 
 use crate::frame::{Frame, ModuleCall, Outcome, Phase};
 use crate::pool_core::PoolCore;
 use pool_images::{MemoryImage, MemoryImageSlot};
-use pool_pages::{DefinedMemoryIndex, MemoryType, Pages};
+use pool_pages::{DefinedMemoryIndex, MemoryTunables, MemoryType, Pages};
 use pool_slots::AllocError;
 use std::sync::Arc;
 
@@ -57,12 +57,28 @@ impl<P: Pages> PoolCore<P> {
             Some(call) => {
                 let decl = &call.info.memories.as_slice()[memory];
                 let image = call.image(memory);
-                let tunables = &self.settings.tunables;
-                held.instantiate(minimum_of(&decl.ty), image, &decl.ty, tunables)
-                    .is_err()
+                begin_memory(&decl.ty, &self.settings.tunables, image, held)
             }
         }
     }
+}
+
+// Whether a page call failed.
+fn begin_memory<P: Pages>(
+    ty: &MemoryType,
+    tunables: &MemoryTunables,
+    image: Option<&Arc<MemoryImage>>,
+    held: &mut MemoryImageSlot<P>,
+) -> bool
+    requires clean { IsClean held.old }
+    requires page_log2 { ty.now.page_size_log2 < 64 }
+    requires minimum { minimum_byte_size ty.now ≤ held.old.static_size }
+    requires bounded { held.old.static_size < 2 ^ 64 }
+    requires image_fits { IfSome image (λ i. FitsInto held.old.region.page (minimum_byte_size ty.now) (arc_value i.now)) }
+    ensures { InstantiatesAs result (minimum_byte_size ty.now) (hides ty.now tunables.now held.old.region.page) (option_map (λ i. arc_value i.now) image.entry) held.old held.new }
+{
+    held.instantiate(minimum_of(ty), image, ty, tunables)
+        .is_err()
 }
 
 fn after_begin<P: Pages>(fault: bool, slot: u32, held: MemoryImageSlot<P>) -> Phase<P>
