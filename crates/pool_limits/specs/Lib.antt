@@ -1,1 +1,4 @@
-pub mod Limiter
+pub mod Growth
+pub mod LimiterTold
+pub mod StoreLimits
+pub mod Texts
