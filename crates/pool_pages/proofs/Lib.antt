@@ -1,3 +1,4 @@
+pub mod ConfigRules
 pub mod DenseCalls
 pub mod Multiples
 pub mod NoImage

@@ -1,5 +1,5 @@
 -- Numbers that are whole multiples of a page.
-use Rattle.std.proofs.Common.{◌≡◌, ℕ, ◌+◌, ◌-◌, ◌*◌, ◌/◌, ◌%◌, ◌<◌, ◌≤◌, inl, inr, arith}
+use Rattle.std.proofs.Common.{◌≡◌, ℕ, ◌+◌, ◌-◌, ◌*◌, ◌/◌, ◌%◌, ◌<◌, ◌≤◌, inl, inr, sym, ap, ◌∙◌, mul_assoc, arith}
 use Rattle.std.proofs.lemmas.Bool.{cases_lt}
 use Rattle.std.proofs.Math.Nat.{mod-add-div', mod-lt, mul-mod_right, mul-sub, mul-le-mul_right, div-lt_iff_lt-mul}
 
@@ -16,6 +16,16 @@ pub sub_whole : (a b page : ℕ) → a % page ≡ 0 → b % page ≡ 0 → (a - 
 sub_whole a b page left right =
     let e : a - b ≡ page * (a / page - b / page) = omega (arith, whole a page left, whole b page right, mul-sub page (a / page) (b / page)) in
     rw e (mul-mod_right page (a / page - b / page))
+
+pub mul_whole : (a n page : ℕ) → a % page ≡ 0 → (a * n) % page ≡ 0
+mul_whole a n page is =
+    let e : a * n ≡ page * (a / page * n) = ap (λ x. x * n) (sym (whole a page is)) ∙ mul_assoc page (a / page) n in
+    rw e (mul-mod_right page (a / page * n))
+
+pub rem_whole : (a b page : ℕ) → a % page ≡ 0 → b % page ≡ 0 → (a % b) % page ≡ 0
+rem_whole a b page left right =
+    let e : a % b ≡ a - b * (a / b) = omega (arith, mod-add-div' a b) in
+    rw e (sub_whole a (b * (a / b)) page left (mul_whole b (a / b) page right))
 
 -- a page that begins below a multiple of the page ends there or below
 pub page_below : (k b page : ℕ) → b % page ≡ 0 → k * page < b → k * page + page ≤ b

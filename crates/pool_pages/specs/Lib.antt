@@ -1,4 +1,7 @@
+pub mod ByteCountTexts
 pub mod Config
+pub mod ConfigLimits
+pub mod ConfigTexts
 pub mod Contents
 pub mod Count
 pub mod Dense
@@ -7,5 +10,7 @@ pub mod MakeFaults
 pub mod MakerTold
 pub mod MemoryTold
 pub mod MemoryTypes
+pub mod Numerals
 pub mod PageLaws
 pub mod Told
+pub mod UnsupportedTexts

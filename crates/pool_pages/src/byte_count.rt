@@ -1,8 +1,9 @@
-ghost use Rattle.std.specs.Prelude.{◌≡◌, ℕ, ◌+◌, ◌-◌, ◌*◌, ◌%◌, ◌^◌, ◌<◌, ◌≤◌, ◌==◌, ◌↔◌, IsTrue, IsOk, IfOk, IfErr};
+ghost use Rattle.std.specs.Prelude.{◌≡◌, ℕ, ◌+◌, ◌-◌, ◌*◌, ◌/◌, ◌%◌, ◌^◌, ◌<◌, ◌≤◌, ◌==◌, ◌↔◌, IsTrue, IsOk, IfOk, IfErr};
 ghost use Rattle.std.specs.Result.{OkIff};
 ghost use Rattle.pool_pages.specs.Count.{Count, count, IsPageSize, rounded_up};
 
-use crate::config::BadConfig;
+use crate::bad_config::BadConfig;
+use crate::byte_count_errors::{ByteCountNotAligned, ByteCountOutOfBounds};
 use std::marker::Model;
 
 /// The size of a page of the host, in bytes: a power of two from 16 to 65,536.
@@ -66,18 +67,6 @@ impl PageSize {
     }
 }
 
-/// A number of bytes that is no whole number of pages.
-#[derive(Clone, Copy, Debug, PartialEq, Eq)]
-pub struct ByteCountNotAligned(pub usize);
-
-/// A byte count that leaves the range of its type.
-#[derive(Clone, Copy, Debug, PartialEq, Eq)]
-pub enum ByteCountOutOfBounds {
-    RoundUp,
-    Add,
-    Sub,
-}
-
 /// A number of bytes that is a whole number of pages, with the page size that it is counted in.
 /// Calls on two counts need the same page size.
 #[derive(Clone, Copy, Debug, PartialEq, Eq, PartialOrd, Ord, Hash)]
@@ -134,6 +123,17 @@ impl HostAlignedByteCount {
             page,
             bytes: above / size * size,
         })
+    }
+
+    /// The next multiple of the page at or above `bytes`.
+    pub fn new_rounded_up_u64(
+        page: PageSize,
+        bytes: u64,
+    ) -> Result<HostAlignedByteCount, ByteCountOutOfBounds>
+        ensures ok { OkIff result (bytes + page - 1 < 2 ^ 64) (count page (rounded_up page bytes)) }
+        ensures err { IfErr result (λ e. e ≡ ByteCountOutOfBounds.RoundUp) }
+    {
+        HostAlignedByteCount::new_rounded_up(page, bytes as usize)
     }
 
     /// The next multiple of the page at or above `bytes`, which the caller knows to be in range.
@@ -227,6 +227,63 @@ impl HostAlignedByteCount {
         HostAlignedByteCount {
             page: self.page,
             bytes: self.bytes + other.bytes,
+        }
+    }
+
+    #[tactic(auto, using(crate::proofs::Multiples::mul_whole))]
+    pub fn checked_mul(self, scalar: usize) -> Result<HostAlignedByteCount, ByteCountOutOfBounds>
+        ensures ok { OkIff result (self.bytes * scalar < 2 ^ 64) (count self.page (self.bytes * scalar)) }
+        ensures err { IfErr result (λ e. e ≡ ByteCountOutOfBounds.Mul) }
+    {
+        match self.bytes.checked_mul(scalar) {
+            Some(bytes) => Ok(HostAlignedByteCount {
+                page: self.page,
+                bytes,
+            }),
+            None => Err(ByteCountOutOfBounds::Mul),
+        }
+    }
+
+    /// How often the other count goes into this one, rounded down.
+    pub fn checked_div(self, other: HostAlignedByteCount) -> Result<usize, ByteCountOutOfBounds>
+        requires { self.page ≡ other.page }
+        ensures ok { OkIff result (0 < other.bytes) (self.bytes / other.bytes) }
+        ensures err { IfErr result (λ e. e ≡ ByteCountOutOfBounds.Div) }
+    {
+        match self.bytes.checked_div(other.bytes) {
+            Some(quotient) => Ok(quotient),
+            None => Err(ByteCountOutOfBounds::Div),
+        }
+    }
+
+    /// What is left of this count after that division.
+    #[tactic(auto, using(crate::proofs::Multiples::rem_whole))]
+    pub fn checked_rem(
+        self,
+        other: HostAlignedByteCount,
+    ) -> Result<HostAlignedByteCount, ByteCountOutOfBounds>
+        requires { self.page ≡ other.page }
+        ensures ok { OkIff result (0 < other.bytes) (count self.page (self.bytes % other.bytes)) }
+        ensures err { IfErr result (λ e. e ≡ ByteCountOutOfBounds.Rem) }
+    {
+        match self.bytes.checked_rem(other.bytes) {
+            Some(bytes) => Ok(HostAlignedByteCount {
+                page: self.page,
+                bytes,
+            }),
+            None => Err(ByteCountOutOfBounds::Rem),
+        }
+    }
+
+    /// The product, which the caller knows to be in range.
+    #[tactic(auto, using(crate::proofs::Multiples::mul_whole))]
+    pub fn unchecked_mul(self, scalar: usize) -> HostAlignedByteCount
+        requires { self.bytes * scalar < 2 ^ 64 }
+        ensures { result ≡ count self.page (self.bytes * scalar) }
+    {
+        HostAlignedByteCount {
+            page: self.page,
+            bytes: self.bytes * scalar,
         }
     }
 }

@@ -1,10 +1,8 @@
-/// Why a configuration is refused: the first rule that it breaks, with the numbers of its text.
-/// Making one takes no memory.
-#[derive(Clone, Copy, Debug, PartialEq, Eq)]
-pub enum BadConfig {
-    /// The page size is no power of two from 16 to 65,536.
-    PageSize { size: usize },
-}
+ghost use Rattle.std.specs.Prelude.{◌≡◌, None, OnOk, IfErr};
+ghost use Rattle.pool_pages.specs.ConfigLimits.{IsWithinLimits, first_broken_limit};
+
+use crate::bad_config::BadConfig;
+use crate::greatest_values::{first_exceeded, limited_values};
 
 /// Whether a feature of the system is used: where it is offered, always, or never.
 #[derive(Clone, Copy, Debug, PartialEq, Eq)]
@@ -96,6 +94,29 @@ impl Default for PoolingAllocationConfig {
             memory_protection_keys: Enabled::No,
             max_memory_protection_keys: 15,
             pagemap_scan: Enabled::No,
+        }
+    }
+}
+
+impl PoolingAllocationConfig {
+    /// Tests the limits that these settings have whatever is offered: the batch of the decommit queue, and then
+    /// each field that has a greatest value, in order. The error is the first that is broken.
+    pub fn check_limits(&self) -> Result<(), BadConfig>
+        ensures ok { OnOk result (first_broken_limit self.now ≡ None) }
+        ensures err { IfErr result (λ e. first_broken_limit self.now ≡ Some e) }
+        ensures within { OnOk result (IsWithinLimits self.now) }
+    {
+        let size = self.decommit_batch_size;
+        if size < 1 || size > 4096 {
+            return Err(BadConfig::DecommitBatch { size });
+        }
+        match first_exceeded(&limited_values(self)) {
+            Some((field, value)) => Err(BadConfig::TooGreat {
+                field,
+                value,
+                greatest: field.greatest(),
+            }),
+            None => Ok(()),
         }
     }
 }

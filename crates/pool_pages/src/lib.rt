@@ -1,10 +1,16 @@
 //! Pages, byte counts and the types of a module: what every layer of the pool stands on.
 #![tactic(auto)]
 
+mod bad_config;
 mod byte_count;
+mod byte_count_errors;
+mod byte_count_forms;
+#[cfg(test)]
+mod byte_count_tests;
 mod column_edits;
 mod config;
 mod dense_pages;
+mod greatest_values;
 mod image_data;
 mod maker;
 mod memory_pages;
@@ -12,14 +18,21 @@ mod memory_region;
 #[cfg(test)]
 mod memory_tests;
 mod module_types;
+mod numerals;
 mod page_laws;
 mod pages;
 mod plain_list;
 mod region;
+#[cfg(test)]
+mod settings_tests;
+mod text;
 mod unsupported;
 
-pub use byte_count::{ByteCountNotAligned, ByteCountOutOfBounds, HostAlignedByteCount, PageSize};
-pub use config::{BadConfig, Enabled, InstanceLimits, PoolingAllocationConfig};
+pub use bad_config::{BadConfig, ConfigField, PairedTunable};
+pub use byte_count::{HostAlignedByteCount, PageSize};
+pub use byte_count_errors::{ByteCountNotAligned, ByteCountOutOfBounds};
+pub use byte_count_forms::{CompareBytes, byte_counts_agree};
+pub use config::{Enabled, InstanceLimits, PoolingAllocationConfig};
 pub use image_data::ImageData;
 pub use maker::{MakeFault, PageMaker};
 pub use memory_pages::MemoryPages;
@@ -32,4 +45,5 @@ pub use page_laws::calls_change_their_pages;
 pub use pages::{DecommitBehavior, PageCalls, PageFault, Pages, RegionName};
 pub use plain_list::{ByteList, PlainList};
 pub use region::PageRegion;
+pub use text::Text;
 pub use unsupported::Unsupported;

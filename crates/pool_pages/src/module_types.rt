@@ -1,9 +1,10 @@
-ghost use Rattle.std.specs.Prelude.{◌≡◌, ◌+◌, ◌*◌, ◌^◌, ◌<◌, ◌≤◌, ◌&&◌, nat_le};
+ghost use Rattle.std.specs.Prelude.{◌≡◌, ◌+◌, ◌*◌, ◌^◌, ◌<◌, ◌≤◌, ◌&&◌, nat_le, nat_lt, Some, None, OnOk, IfErr};
 ghost use Rattle.std.specs.Option.{SomeIff};
-ghost use Rattle.pool_pages.specs.MemoryTypes.{minimum_byte_size, page_size, can_use_virtual_memory, reservation, guard_size, reservation_for_growth, may_move};
+ghost use Rattle.pool_pages.specs.MemoryTypes.{minimum_byte_size, maximum_byte_size, index_bound, allow_growth_to, memory_may_move, refused_limits, page_size, can_use_virtual_memory, reservation, guard_size, reservation_for_growth, may_move};
 
 use crate::byte_count::PageSize;
 use crate::plain_list::{ByteList, PlainList};
+use crate::unsupported::Unsupported;
 
 /// The name of a compiled module: its number in the input.
 #[derive(Clone, Copy, Debug, PartialEq, Eq, PartialOrd, Ord, Hash)]
@@ -25,6 +26,31 @@ pub enum IndexType {
 pub struct Limits {
     pub min: u64,
     pub max: Option<u64>,
+}
+
+impl Limits {
+    /// Refuses exactly a minimum above the maximum.
+    pub fn check(&self) -> Result<(), Unsupported>
+        ensures ok { OnOk result (refused_limits self.now ≡ None) }
+        ensures err { IfErr result (λ e. refused_limits self.now ≡ Some e) }
+    {
+        let min = self.min;
+        match self.max {
+            Some(max) if max < min => Err(Unsupported::MinimumExceedsMaximum { min, max }),
+            Some(_) | None => Ok(()),
+        }
+    }
+}
+
+// The size that addresses of a type can reach, of a memory with pages of this size.
+fn index_bound(idx_type: IndexType, page: u64) -> u64
+    requires { 0 < page }
+    ensures { result ≡ index_bound idx_type page }
+{
+    match idx_type {
+        IndexType::I32 => 1 << 32,
+        IndexType::I64 => u64::MAX - (page - 1),
+    }
 }
 
 /// The type of a linear memory.
@@ -52,6 +78,59 @@ impl MemoryType {
         ensures { SomeIff result (minimum_byte_size self.now < 2 ^ 64) (minimum_byte_size self.now) }
     {
         self.limits.min.checked_mul(self.page_size())
+    }
+
+    /// The maximum in bytes, where a `u64` can hold it. Without a maximum it is the greater of the minimum and what
+    /// the memory's addresses can reach, where a `u64` can hold the minimum.
+    pub fn maximum_byte_size(&self) -> Option<u64>
+        requires { self.now.page_size_log2 < 64 }
+        ensures { SomeIff result (maximum_byte_size self.now < 2 ^ 64) (maximum_byte_size self.now) }
+    {
+        let page = self.page_size();
+        match self.limits.max {
+            Some(max) => max.checked_mul(page),
+            None => match self.minimum_byte_size() {
+                Some(minimum) => Some(minimum.max(index_bound(self.idx_type, page))),
+                None => None,
+            },
+        }
+    }
+
+    /// Whether the memory may grow to this many bytes, whatever its maximum.
+    pub fn allow_growth_to(&self, size: usize) -> bool
+        ensures { result ≡ allow_growth_to self.now size }
+    {
+        size <= 1 << 32 || self.idx_type == IndexType::I64
+    }
+
+    /// Whether the memory may be moved as it grows.
+    pub fn memory_may_move(&self, tunables: &MemoryTunables) -> bool
+        requires { self.now.page_size_log2 < 64 }
+        ensures { result ≡ memory_may_move self.now tunables.now }
+    {
+        !self.shared
+            && tunables.may_move()
+            && self.limits.max != Some(self.limits.min)
+            && self.may_exceed(tunables.reservation())
+    }
+
+    // Whether the maximum in bytes exceeds a size.
+    fn may_exceed(&self, size: u64) -> bool
+        requires { self.now.page_size_log2 < 64 }
+        ensures { result ≡ nat_lt size (maximum_byte_size self.now) }
+    {
+        match self.maximum_byte_size() {
+            Some(maximum) => maximum > size,
+            None => true,
+        }
+    }
+
+    /// Refuses exactly a minimum above the maximum.
+    pub fn check(&self) -> Result<(), Unsupported>
+        ensures ok { OnOk result (refused_limits self.now.limits ≡ None) }
+        ensures err { IfErr result (λ e. refused_limits self.now.limits ≡ Some e) }
+    {
+        self.limits.check()
     }
 
     /// Whether bounds of this memory may be kept by hidden pages: traps come by signals, and the
@@ -149,6 +228,12 @@ impl MemoryTunables {
             tunables: *tunables,
             kind,
         }
+    }
+
+    pub fn tunables(&self) -> &Tunables
+        ensures { result.now ≡ self.now.tunables }
+    {
+        &self.tunables
     }
 
     /// In bytes.
