@@ -7,6 +7,7 @@ use Rattle.pool_pages.specs.Told.{Told, PageCall, IsPartly, MayChangePartly, Fau
 use Rattle.pool_pages.proofs.Multiples.{page_of}
 use Rattle.pool_pages.proofs.Puts.{length-range, get_or-range, same_at, same_range, range_within, range-put_both, put_range, same_by_pages}
 use Rattle.pool_images.specs.Slots.{Slot, Fits, IsSound, IsReady, IsClean, Holds, placed, size_of, called}
+use Rattle.pool_images.proofs.Backs.{back_there}
 use Rattle.pool_images.proofs.Ready.{IsGood, IsStarted, good, lifted, followed}
 
 -- bytes that are what they go back to still are once some are put back
@@ -14,12 +15,7 @@ still_holds : (s : Slot) (start len from to : ℕ) (c : Contents) → Fits s →
 still_holds s start len from to c fits sound inside within holds =
     let all : length c.origin ≡ s.region.len = sound.shaped.origin in
     let every : length c.bytes ≡ s.region.len = sound.shaped.bytes in
-    let i : ℕ = s.base.bytes + start in
-    let piece : List ℕ = slice_range c.origin (s.base.bytes + start) (s.base.bytes + start + len) in
-    let long : length (slice_range c.origin (s.base.bytes + start) (s.base.bytes + start + len)) ≡ s.base.bytes + start + len - (s.base.bytes + start) = length-range c.origin (s.base.bytes + start) (s.base.bytes + start + len) (omega (arith, fits.inside)) in
-    let back : put (s.base.bytes + start) piece c.origin ≡ c.origin = put_range c.origin (s.base.bytes + start) (s.base.bytes + start + len) (omega arith) (omega (arith, fits.inside)) in
-    range-put_both (s.base.bytes + start) piece c.bytes c.origin (s.base.bytes + from) (s.base.bytes + to) (omega (arith, fits.inside)) (omega arith) (omega (arith, fits.inside)) holds
-    ∙ ap (λ (l : List ℕ). slice_range l (s.base.bytes + from) (s.base.bytes + to)) back
+    back_there (s.base.bytes + start) len (s.base.bytes + from) (s.base.bytes + to) c.bytes c.origin (every ∙ sym all) (omega (arith, fits.inside)) (omega (arith, fits.inside)) holds
 
 still_started : (s : Slot) (start len : ℕ) (c : Contents) → Fits s → start + len ≤ size_of s → IsGood s c → IsStarted (called (decommitting (s.base.bytes + start) len) s) (decommitted (s.base.bytes + start) len c)
 still_started s start len c fits inside g = record {

@@ -39,7 +39,8 @@ told_partly call page len base size (Some c) (Some d) keeps sound partly shaped 
       ap (λ (p : Page). p.origin) (partly.outside k apart) ∙ sound.outside k below out;
 }
 
-keeps_ok : (whole : Count) (call : PageCall) (s : Slot) → Keeps whole s → KeepsOutside call s.region.page s.region.len s.base.bytes (size_of s) → TellsShaped (succeeded call s.region) → Keeps whole (called call s)
+-- after a call that succeeded
+pub keeps_ok : (whole : Count) (call : PageCall) (s : Slot) → Keeps whole s → KeepsOutside call s.region.page s.region.len s.base.bytes (size_of s) → TellsShaped (succeeded call s.region) → Keeps whole (called call s)
 keeps_ok whole call s keeps outside shaped = record {
   size = keeps.size;
   fits = record {

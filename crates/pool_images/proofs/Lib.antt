@@ -1,3 +1,4 @@
+pub mod Backs
 pub mod Begun
 pub mod Decommits
 pub mod Emptied
@@ -6,6 +7,7 @@ pub mod Images
 pub mod Making
 pub mod Marks
 pub mod Pieces
+pub mod Queued
 pub mod Ready
 pub mod Resets
 pub mod Sizes

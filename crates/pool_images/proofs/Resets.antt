@@ -1,59 +1,138 @@
 -- A slot that was in use is clean once what a reset leaves is decommitted.
-use Rattle.std.proofs.Common.{◌≡◌, ℕ, ◌+◌, Bool, true, false, List, [], ◌∷◌, length, refl, ap, ◌∙◌, subst, arith, slice_range}
-use Rattle.std.specs.Prelude.{IfSome, ◌==◌, if◌then◌else◌}
-use Rattle.std.proofs.lemmas.Bool.{eqb-true}
-use Rattle.pool_pages.specs.Contents.{Contents, put, decommitted}
+use Rattle.std.proofs.Common.{◌≡◌, ℕ, ◌+◌, ◌-◌, ◌%◌, ◌<◌, ◌≤◌, Bool, true, false, List, [], ◌∷◌, length, min, refl, sym, ap, ◌∙◌, subst, arith, slice_range, Option, Some, None}
+use Rattle.std.specs.Prelude.{IfSome, All, nat_lt, option_map, if◌then◌else◌}
+use Rattle.std.proofs.lemmas.List.Elements.{All-nil, All-cons}
+use Rattle.std.proofs.lemmas.Bool.{ltb-true, ltb-false, le-ltb}
+use Rattle.pool_pages.specs.Count.{Count}
+use Rattle.pool_pages.specs.Contents.{Contents, put_back, decommitted}
 use Rattle.pool_pages.specs.Told.{decommitting}
-use Rattle.pool_pages.proofs.Puts.{length-put, length-range, range-put, range-put_above, range_joined}
-use Rattle.pool_images.specs.Slots.{Slot, Fits, IsSound, IsReady, IsClean, Holds, size_of, called, reset_ranges, decommitted_all}
+use Rattle.pool_pages.proofs.Multiples.{sub_whole}
+use Rattle.pool_pages.proofs.Puts.{range_joined, range_within}
+use Rattle.pool_images.specs.declared.ranges.ByteRange.{ByteRange}
+use Rattle.pool_images.specs.Slots.{Slot, Fits, IsSound, IsReady, IsClean, IsPart, Holds, size_of, called, cleared, reset_ranges, decommitted_all}
+use Rattle.pool_images.proofs.Backs.{back_here, back_there, length-back}
 use Rattle.pool_images.proofs.Ready.{IsStarted, lifted, followed, paired}
 
--- A reset leaves to be decommitted what could be reached.
-kept_clean : (s : Slot) → Fits s → IfSome s.region.contents (IsReady s) → s.accessible.bytes ≡ 0 → IsClean (record s { dirty = false })
-kept_clean s fits ready none =
-    let t : Slot = record s { dirty = false } in
-    record {
-      not_dirty = refl;
-      ready = followed (IsReady s) (IsReady t) s.region.contents (λ c r. record { reach = r.reach; origin = r.origin; beyond = r.beyond }) ready;
-      holds = followed (IsReady s) (Holds t 0 (size_of s)) s.region.contents (λ c r. rw none at r.beyond) ready;
-    }
+-- what holds of told pages whose first bytes are what they go back to
+record IsHalf (s : Slot) (kept : ℕ) (c : Contents) : Type 0 where
+  bytes : length c.bytes ≡ s.region.len
+  origin : length c.origin ≡ s.region.len
+  ready : IsReady s c
+  first : Holds s 0 kept c
 
-decommitted_started : (s : Slot) (c : Contents) → Fits s → IsSound s.region.page s.region.len s.base.bytes (size_of s) c → IsReady s c → IsStarted (called (decommitting (s.base.bytes + 0) s.accessible.bytes) (record s { dirty = false })) (decommitted (s.base.bytes + 0) s.accessible.bytes c)
-decommitted_started s c fits sound ready =
-    let all : length c.origin ≡ s.region.len = sound.shaped.origin in
+half_cleared : (s : Slot) (kept : ℕ) (c : Contents) → Fits s → IsSound s.region.page s.region.len s.base.bytes (size_of s) c → IsReady s c → kept ≤ s.accessible.bytes → IsHalf s kept (put_back s.base.bytes kept c)
+half_cleared s kept c fits sound ready within =
     let every : length c.bytes ≡ s.region.len = sound.shaped.bytes in
-    let from : ℕ = s.base.bytes + 0 in
-    let piece : List ℕ = slice_range c.origin (s.base.bytes + 0) (s.base.bytes + 0 + s.accessible.bytes) in
-    let long : length (slice_range c.origin (s.base.bytes + 0) (s.base.bytes + 0 + s.accessible.bytes)) ≡ s.accessible.bytes = length-range c.origin (s.base.bytes + 0) (s.base.bytes + 0 + s.accessible.bytes) (omega (arith, fits.inside, fits.within)) ∙ omega arith in
-    let ends : s.base.bytes + 0 + length piece ≡ s.base.bytes + s.accessible.bytes = omega arith in
-    let last : s.base.bytes + 0 + s.accessible.bytes ≡ s.base.bytes + s.accessible.bytes = omega arith in
-    let E : ℕ → Type 0 = λ e. slice_range (put (s.base.bytes + 0) piece c.bytes) (s.base.bytes + 0) e ≡ piece in
-    let first : slice_range (put (s.base.bytes + 0) piece c.bytes) (s.base.bytes + 0) (s.base.bytes + s.accessible.bytes) ≡ slice_range c.origin (s.base.bytes + 0) (s.base.bytes + s.accessible.bytes) =
-    subst E ends (range-put (s.base.bytes + 0) piece c.bytes (omega (arith, fits.inside, fits.within))) ∙ ap (λ (e : ℕ). slice_range c.origin (s.base.bytes + 0) e) last in
-    let second : slice_range (put (s.base.bytes + 0) piece c.bytes) (s.base.bytes + s.accessible.bytes) (s.base.bytes + size_of s) ≡ slice_range c.origin (s.base.bytes + s.accessible.bytes) (s.base.bytes + size_of s) =
-    range-put_above (s.base.bytes + 0) piece c.bytes (s.base.bytes + s.accessible.bytes) (s.base.bytes + size_of s) (omega (arith, fits.inside, fits.within)) (omega (arith, fits.inside)) (omega arith) ∙ ready.beyond in
-    let wide : length (put (s.base.bytes + 0) piece c.bytes) ≡ s.region.len = length-put (s.base.bytes + 0) piece c.bytes (omega (arith, fits.inside, fits.within)) ∙ every in
+    let all : length c.origin ≡ s.region.len = sound.shaped.origin in
+    let ends : s.base.bytes + kept ≤ length c.origin = omega (arith, fits.inside, fits.within) in
+    let bytes : List ℕ = (put_back s.base.bytes kept c).bytes in
+    let long : length (put_back s.base.bytes kept c).bytes ≡ length c.origin = length-back s.base.bytes kept c.bytes c.origin (every ∙ sym all) ends in
     record {
-      ready = record { reach = ready.reach; origin = ready.origin; beyond = second };
-      holds = range_joined (put (s.base.bytes + 0) piece c.bytes) c.origin (s.base.bytes + 0) (s.base.bytes + s.accessible.bytes) (s.base.bytes + size_of s) (omega (arith, fits.inside)) (omega (arith, fits.inside)) first second;
+      bytes = long ∙ all;
+      origin = all;
+      ready = record {
+        reach = ready.reach;
+        origin = ready.origin;
+        beyond = back_there s.base.bytes kept (s.base.bytes + s.accessible.bytes) (s.base.bytes + size_of s) c.bytes c.origin (every ∙ sym all) ends (omega (arith, fits.inside)) ready.beyond;
+      };
+      first = range_within (put_back s.base.bytes kept c).bytes c.origin s.base.bytes (s.base.bytes + kept) (s.base.bytes + 0) (s.base.bytes + kept) (omega arith) (omega arith) (omega arith) (omega arith)
+          (back_here s.base.bytes kept c.bytes c.origin (omega arith) ends);
     }
 
-pub decommitted_clean : (s : Slot) → Fits s → IfSome s.region.contents (IsReady s) → IsClean (called (decommitting (s.base.bytes + 0) s.accessible.bytes) (record s { dirty = false }))
-decommitted_clean s fits ready =
-    let t : Slot = called (decommitting (s.base.bytes + 0) s.accessible.bytes) (record s { dirty = false }) in
-    let f : Contents → Contents = decommitted (s.base.bytes + 0) s.accessible.bytes in
+half : (s : Slot) (kept : ℕ) → Fits s → IfSome s.region.contents (IsReady s) → kept ≤ s.accessible.bytes → IfSome (option_map (put_back s.base.bytes kept) s.region.contents) (IsHalf s kept)
+half s kept fits ready within =
     let P : Contents → Type 0 = λ c. IsSound s.region.page s.region.len s.base.bytes (size_of s) c × IsReady s c in
-    let told = paired (IsSound s.region.page s.region.len s.base.bytes (size_of s)) (IsReady s) s.region.contents fits.told ready in
+    lifted P (IsHalf s kept) (put_back s.base.bytes kept) s.region.contents (λ c h. half_cleared s kept c fits h.0 h.1 within)
+    (paired (IsSound s.region.page s.region.len s.base.bytes (size_of s)) (IsReady s) s.region.contents fits.told ready)
+
+-- all that could be reached was set by hand
+whole_started : (s : Slot) (c : Contents) → Fits s → IsHalf s s.accessible.bytes c → IsStarted (cleared s.accessible.bytes s) c
+whole_started s c fits h = record {
+  ready = record { reach = h.ready.reach; origin = h.ready.origin; beyond = h.ready.beyond };
+  holds = range_joined c.bytes c.origin (s.base.bytes + 0) (s.base.bytes + s.accessible.bytes) (s.base.bytes + size_of s) (omega (arith, h.bytes, fits.inside)) (omega (arith, h.origin, fits.inside)) h.first h.ready.beyond;
+}
+
+whole_clean : (s : Slot) → Fits s → IfSome s.region.contents (IsReady s) → IsClean (cleared s.accessible.bytes s)
+whole_clean s fits ready =
+    let t : Slot = cleared s.accessible.bytes s in
+    let told = half s s.accessible.bytes fits ready (omega arith) in
+    let o : Option Contents = option_map (put_back s.base.bytes s.accessible.bytes) s.region.contents in
     record {
       not_dirty = refl;
-      ready = lifted P (IsReady t) f s.region.contents (λ c h. (decommitted_started s c fits h.0 h.1).ready) told;
-      holds = lifted P (Holds t 0 (size_of t)) f s.region.contents (λ c h. (decommitted_started s c fits h.0 h.1).holds) told;
+      ready = followed (IsHalf s s.accessible.bytes) (IsReady t) o (λ c h. (whole_started s c fits h).ready) told;
+      holds = followed (IsHalf s s.accessible.bytes) (Holds t 0 (size_of t)) o (λ c h. (whole_started s c fits h).holds) told;
     }
 
-reset_by : (s : Slot) (empty : Bool) → (s.accessible.bytes == 0) ≡ empty → Fits s → IfSome s.region.contents (IsReady s) → IsClean (decommitted_all (if empty then [] else record { start = 0; len = s.accessible.bytes } ∷ []) (record s { dirty = false }))
-reset_by s true is fits ready = kept_clean s fits ready (eqb-true s.accessible.bytes 0 is)
-reset_by s false is fits ready = decommitted_clean s fits ready
+-- the slot once what lies past those bytes is decommitted
+abbrev finished : ℕ → Slot → Slot
+finished kept s = called (decommitting (s.base.bytes + kept) (s.accessible.bytes - kept)) (cleared kept s)
+
+rest_started : (s : Slot) (kept : ℕ) (c : Contents) → Fits s → kept ≤ s.accessible.bytes → IsHalf s kept c → IsStarted (finished kept s) (decommitted (s.base.bytes + kept) (s.accessible.bytes - kept) c)
+rest_started s kept c fits within h =
+    let i : ℕ = s.base.bytes + kept in
+    let n : ℕ = s.accessible.bytes - kept in
+    let new : List ℕ = (decommitted (s.base.bytes + kept) (s.accessible.bytes - kept) c).bytes in
+    let same : length c.bytes ≡ length c.origin = h.bytes ∙ sym h.origin in
+    let ends : s.base.bytes + kept + (s.accessible.bytes - kept) ≤ length c.origin = omega (arith, h.origin, fits.inside, fits.within) in
+    let size : s.base.bytes + size_of s ≤ length c.origin = omega (arith, h.origin, fits.inside) in
+    let long : length (decommitted (s.base.bytes + kept) (s.accessible.bytes - kept) c).bytes ≡ length c.origin = length-back (s.base.bytes + kept) (s.accessible.bytes - kept) c.bytes c.origin same ends in
+    let last : s.base.bytes + kept + (s.accessible.bytes - kept) ≡ s.base.bytes + s.accessible.bytes = omega arith in
+    let first : Holds s 0 kept (decommitted (s.base.bytes + kept) (s.accessible.bytes - kept) c) =
+    back_there (s.base.bytes + kept) (s.accessible.bytes - kept) (s.base.bytes + 0) (s.base.bytes + kept) c.bytes c.origin same ends (omega arith) h.first in
+    let E : ℕ → Type 0 = λ e. slice_range (decommitted (s.base.bytes + kept) (s.accessible.bytes - kept) c).bytes (s.base.bytes + kept) e ≡ slice_range c.origin (s.base.bytes + kept) e in
+    let second : Holds s kept s.accessible.bytes (decommitted (s.base.bytes + kept) (s.accessible.bytes - kept) c) =
+    subst E last (back_here (s.base.bytes + kept) (s.accessible.bytes - kept) c.bytes c.origin (omega arith) ends) in
+    let third : Holds s s.accessible.bytes (size_of s) (decommitted (s.base.bytes + kept) (s.accessible.bytes - kept) c) =
+    back_there (s.base.bytes + kept) (s.accessible.bytes - kept) (s.base.bytes + s.accessible.bytes) (s.base.bytes + size_of s) c.bytes c.origin same ends size h.ready.beyond in
+    record {
+      ready = record { reach = h.ready.reach; origin = h.ready.origin; beyond = third };
+      holds = range_joined (decommitted (s.base.bytes + kept) (s.accessible.bytes - kept) c).bytes c.origin (s.base.bytes + 0) (s.base.bytes + kept) (s.base.bytes + size_of s) (omega arith) size first
+          (range_joined (decommitted (s.base.bytes + kept) (s.accessible.bytes - kept) c).bytes c.origin (s.base.bytes + kept) (s.base.bytes + s.accessible.bytes) (s.base.bytes + size_of s) (omega arith) size second third);
+    }
+
+rest_clean : (s : Slot) (kept : ℕ) → Fits s → IfSome s.region.contents (IsReady s) → kept ≤ s.accessible.bytes → IsClean (finished kept s)
+rest_clean s kept fits ready within =
+    let t : Slot = finished kept s in
+    let f : Contents → Contents = decommitted (s.base.bytes + kept) (s.accessible.bytes - kept) in
+    let told = half s kept fits ready within in
+    let o : Option Contents = option_map (put_back s.base.bytes kept) s.region.contents in
+    record {
+      not_dirty = refl;
+      ready = lifted (IsHalf s kept) (IsReady t) f o (λ c h. (rest_started s kept c fits within h).ready) told;
+      holds = lifted (IsHalf s kept) (Holds t 0 (size_of t)) f o (λ c h. (rest_started s kept c fits within h).holds) told;
+    }
+
+reset_by : (s : Slot) (keep : ℕ) (less : Bool) → nat_lt keep s.accessible.bytes ≡ less → Fits s → IfSome s.region.contents (IsReady s) → IsClean (decommitted_all (if less then record { start = keep; len = s.accessible.bytes - keep } ∷ [] else []) (cleared (min keep s.accessible.bytes) s))
+reset_by s keep true is fits ready =
+    let below : keep < s.accessible.bytes = ltb-true keep s.accessible.bytes is in
+    let kept : keep ≡ min keep s.accessible.bytes = omega arith in
+    let P : ℕ → Type 0 = λ n. IsClean (called (decommitting (s.base.bytes + keep) (s.accessible.bytes - keep)) (cleared n s)) in
+    subst P kept (rest_clean s keep fits ready (omega arith))
+reset_by s keep false is fits ready =
+    let from : s.accessible.bytes ≤ keep = ltb-false keep s.accessible.bytes is in
+    let kept : s.accessible.bytes ≡ min keep s.accessible.bytes = omega arith in
+    let P : ℕ → Type 0 = λ n. IsClean (cleared n s) in
+    subst P kept (whole_clean s fits ready)
 
 -- once that is done the slot is clean
-pub reset_clean : (s : Slot) → Fits s → IfSome s.region.contents (IsReady s) → IsClean (decommitted_all (reset_ranges s.accessible.bytes) (record s { dirty = false }))
-reset_clean s fits ready = reset_by s (s.accessible.bytes == 0) refl fits ready
+pub reset_clean : (s : Slot) (keep : ℕ) → Fits s → IfSome s.region.contents (IsReady s) → IsClean (decommitted_all (reset_ranges keep s.accessible.bytes) (cleared (min keep s.accessible.bytes) s))
+reset_clean s keep fits ready = reset_by s keep (nat_lt keep s.accessible.bytes) refl fits ready
+
+-- nothing is left where all that could be reached was kept
+pub kept_clean : (s : Slot) (keep : ℕ) → s.accessible.bytes ≤ keep → IsClean (decommitted_all (reset_ranges keep s.accessible.bytes) (cleared (min keep s.accessible.bytes) s)) → IsClean (cleared (min keep s.accessible.bytes) s)
+kept_clean s keep from clean =
+    let no : nat_lt keep s.accessible.bytes ≡ false = le-ltb keep s.accessible.bytes from in
+    let P : Bool → Type 0 = λ less. IsClean (decommitted_all (if less then record { start = keep; len = s.accessible.bytes - keep } ∷ [] else []) (cleared (min keep s.accessible.bytes) s)) in
+    subst P no clean
+
+parts_by : (page size keep accessible : ℕ) (less : Bool) → nat_lt keep accessible ≡ less → keep % page ≡ 0 → accessible % page ≡ 0 → accessible ≤ size → All (IsPart page size) (if less then record { start = keep; len = accessible - keep } ∷ [] else [])
+parts_by page size keep accessible true is keep_whole accessible_whole within =
+    let below : keep < accessible = ltb-true keep accessible is in
+    All-cons (IsPart page size) (record { start = keep; len = accessible - keep }) []
+    (record { start = keep_whole; len = sub_whole accessible keep page accessible_whole keep_whole; inside = omega arith })
+    (All-nil (IsPart page size))
+parts_by page size keep accessible false is keep_whole accessible_whole within = All-nil (IsPart page size)
+
+-- what a reset leaves is whole pages of the slot
+pub reset_parts : (page size keep accessible : ℕ) → keep % page ≡ 0 → accessible % page ≡ 0 → accessible ≤ size → All (IsPart page size) (reset_ranges keep accessible)
+reset_parts page size keep accessible keep_whole accessible_whole within = parts_by page size keep accessible (nat_lt keep accessible) refl keep_whole accessible_whole within

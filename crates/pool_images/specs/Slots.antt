@@ -2,7 +2,7 @@
 use Rattle.std.specs.Prelude.{◌≡◌, ℕ, ◌+◌, ◌-◌, ◌*◌, ◌/◌, ◌%◌, ◌^◌, ◌<◌, ◌≤◌, ◌==◌, ◌&&◌, ◌||◌, List, [], ◌∷◌, length, replicate, slice_range, slice_index_or, Bool, true, false, nat_lt, if◌then◌else◌, Option, Some, None, IfSome, is_some}
 use Rattle.pool_pages.specs.Count.{Count, count, IsPageSize, rounded_up}
 use Rattle.pool_pages.specs.Contents.{Contents, IsShaped, CanReach, IsIn, page_origin, put}
-use Rattle.pool_pages.specs.Told.{Told, PageCall, Faulted, Rose, succeeded, overwritten, exposing, hiding, mapping, remapping, erasing, decommitting}
+use Rattle.pool_pages.specs.Told.{Told, PageCall, Faulted, Rose, succeeded, overwritten, restored, exposing, hiding, mapping, remapping, erasing, decommitting}
 use Rattle.pool_pages.specs.declared.pages.DecommitBehavior.TheVariants.{RestoreOriginalMapping}
 use Rattle.pool_pages.specs.MemoryTypes.{guard_size, can_use_virtual_memory}
 use Rattle.pool_pages.specs.declared.module_types.MemoryType.{MemoryType}
@@ -209,9 +209,13 @@ pub record IsBegun (image : Option Image) (s : Slot) : Type 0 where
 abbrev pub IsShut : Slot → Contents → Type 0
 IsShut s c = (k : ℕ) → s.base.bytes + s.accessible.bytes ≤ k * s.region.page → k * s.region.page < s.base.bytes + size_of s → slice_index_or c.accessible k false ≡ false
 
--- the ranges that a reset leaves: all that could be reached, unless that is nothing
-abbrev pub reset_ranges : ℕ → List ByteRange
-reset_ranges accessible = if accessible == 0 then [] else record { start = 0; len = accessible } ∷ []
+-- the slot once its first bytes were set by hand to what they go back to, and it isn't in use any more
+abbrev pub cleared : ℕ → Slot → Slot
+cleared kept s = record s { region = restored s.base.bytes kept s.region; dirty = false }
+
+-- the ranges that a reset leaves which keeps so many bytes: what could be reached past them, unless that is nothing
+abbrev pub reset_ranges : ℕ → ℕ → List ByteRange
+reset_ranges kept accessible = if nat_lt kept accessible then record { start = kept; len = accessible - kept } ∷ [] else []
 
 -- what is accessible and not wanted is hidden: the memory has a guard, or its bounds rest on hidden pages
 abbrev pub hides : MemoryType → MemoryTunables → ℕ → Bool

@@ -108,6 +108,7 @@ impl<P: Pages> MemoryImageSlot<P> {
     pub fn accessible(&self) -> HostAlignedByteCount
         ensures value { result ≡ self.now.accessible }
         ensures within { self.now.accessible.bytes ≤ size_of self.now }
+        ensures fits { Fits self.now }
     {
         self.accessible
     }

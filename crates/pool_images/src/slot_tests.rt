@@ -1,6 +1,6 @@
-ghost use Rattle.std.specs.Prelude.{◌≡◌, ◌+◌, ◌<◌, [], ◌∷◌, replicate, true, false, Some, IfOk, IfSome, OnOk};
+ghost use Rattle.std.specs.Prelude.{◌≡◌, ◌+◌, ◌-◌, [], ◌∷◌, replicate, true, false, Some, IfOk, IfSome, OnOk};
 ghost use Rattle.pool_pages.specs.Told.{decommitting};
-ghost use Rattle.pool_images.specs.Slots.{IsReady, IsClean, called};
+ghost use Rattle.pool_images.specs.Slots.{IsReady, IsClean, called, cleared};
 
 use crate::image_slot::MemoryImageSlot;
 use crate::memory_image::{ImageError, ModuleMemoryImages};
@@ -35,22 +35,26 @@ fn module(alloc: Global, ty: MemoryType, offset: u64) -> Result<ModuleInfo, Fail
     Ok(ModuleInfo { memories })
 }
 
-fn reset<P: Pages>(slot: &mut MemoryImageSlot<P>) -> Result<(), Fail>
+// Resets the slot and decommits what that leaves, which must be some. Answers what was set by hand.
+fn reset<P: Pages>(slot: &mut MemoryImageSlot<P>, keep: HostAlignedByteCount) -> Result<usize, Fail>
     requires dirty { slot.old.dirty ≡ true }
     requires ready { IfSome slot.old.region.contents (IsReady slot.old) }
-    requires some { 0 < slot.old.accessible.bytes }
+    requires page { keep.page ≡ slot.old.region.page }
+    ensures kept { IfOk result (λ n. n ≡ keep.bytes) }
     ensures clean { OnOk result (IsClean slot.new) }
-    ensures value { OnOk result (slot.new ≡ called (decommitting (slot.old.base.bytes + 0) slot.old.accessible.bytes) (record slot.old { dirty = false })) }
+    ensures value { OnOk result (slot.new ≡ called (decommitting (slot.old.base.bytes + keep.bytes) (slot.old.accessible.bytes - keep.bytes)) (cleared keep.bytes slot.old)) }
 {
+    if slot.accessible().byte_count() <= keep.byte_count() {
+        return Err(Fail::new("all is kept"));
+    }
     let mut ranges = Ranges::new();
-    slot.clear_and_remain_ready(&mut ranges)?;
+    let kept = slot.clear_and_remain_ready(keep, &mut ranges)?;
     let range = ranges.as_slice()[0];
     let page = slot.region().page();
-    let _accessible = slot.accessible();
     let start = HostAlignedByteCount::new(page, range.start)?;
     let len = HostAlignedByteCount::new(page, range.len)?;
     slot.decommit(start, len)?;
-    Ok(())
+    Ok(kept)
 }
 
 #[test]
@@ -77,22 +81,29 @@ fn a_reset_slot_reads_its_image_again(rt: HostRuntime) -> Result<(), Fail> {
     let region = maker.make(alloc, RegionName::Memory(0), page.zero(), len)?;
     let mut slot = MemoryImageSlot::create(region, page.zero(), page.zero(), 64, None);
     slot.instantiate(48, Some(image), &ty, &tunables)?;
-    let mut bytes = [9; 4];
+    let mut bytes = [9; 20];
     slot.read(14, &mut bytes);
-    assert_eq!(rt; bytes, [0, 0, 7, 7]);
-    slot.write(14, &[1, 2, 3, 4]);
-    reset(&mut slot)?;
+    assert_eq!(rt;
+        bytes,
+        [0, 0, 7, 7, 7, 7, 7, 0, 0, 0, 0, 0, 0, 0, 0, 0, 0, 0, 0, 0]
+    );
+    slot.write(14, &[1; 32]);
+    let kept = HostAlignedByteCount::new(page, 32)?;
+    assert_eq!(rt; reset(&mut slot, kept)?, 32);
 
     let calls = slot.region().calls();
     slot.instantiate(48, Some(image), &ty, &tunables)?;
     assert_eq!(rt; slot.region().calls(), calls);
     slot.read(14, &mut bytes);
-    assert_eq!(rt; bytes, [0, 0, 7, 7]);
-    reset(&mut slot)?;
+    assert_eq!(rt;
+        bytes,
+        [0, 0, 7, 7, 7, 7, 7, 0, 0, 0, 0, 0, 0, 0, 0, 0, 0, 0, 0, 0]
+    );
+    assert_eq!(rt; reset(&mut slot, page.zero())?, 0);
 
     slot.remove_image()?;
     slot.read(14, &mut bytes);
-    assert_eq!(rt; bytes, [0, 0, 0, 0]);
+    assert_eq!(rt; bytes, [0; 20]);
     Ok(())
 }
 

@@ -3,12 +3,13 @@ use Rattle.std.proofs.Common.{◌≡◌, ℕ, ◌+◌, ◌-◌, ◌*◌, ◌/◌
 use Rattle.std.proofs.Math.Nat.{mul-le-mul_right, mul-le-mul_left, div-mul-le_self, lt-mul-div-succ}
 use Rattle.std.proofs.lemmas.List.{length-replicate, same_lists}
 use Rattle.std.proofs.lemmas.Bool.{cases_lt}
-use Rattle.pool_pages.specs.Contents.{Contents, Page, page_bytes, page_origin, IsIn, IsShaped, put, put_all, touched}
+use Rattle.pool_pages.specs.Contents.{Contents, Page, page_bytes, page_origin, page_at, IsIn, IsShaped, put, put_all, touched}
 use Rattle.pool_pages.specs.Dense.{zeroed}
-use Rattle.pool_pages.specs.PageLaws.{IsPages, ChangesExactly, image_part, IsTouched, ExposeChangesItsPages, HideChangesItsPages, MapChangesItsPages, CopyChangesItsPages, EraseChangesItsPages, RemapChangesItsPages, DecommitChangesItsPages, WriteChangesItsPages}
+use Rattle.pool_pages.specs.PageLaws.{IsPages, ChangesExactly, image_part, IsTouched, ExposeChangesItsPages, HideChangesItsPages, MapChangesItsPages, CopyChangesItsPages, EraseChangesItsPages, RemapChangesItsPages, DecommitChangesItsPages, WriteChangesItsPages, RestoreChangesItsPages}
+use Rattle.pool_pages.proofs.Multiples.{page_below}
 use Rattle.pool_pages.proofs.NoImage.{zeros_range}
 use Rattle.pool_pages.proofs.PageNumbers.{page_before, page_from, page_above, page_inside, touched_some, touched_above, touched_fit}
-use Rattle.pool_pages.proofs.Puts.{length-put, length-range, get_or-range, get_or-put_below, get_or-put_in, get_or-put_above, put_range}
+use Rattle.pool_pages.proofs.Puts.{length-put, length-range, get_or-range, get_or-put_below, get_or-put_in, get_or-put_above, put_range, range_range}
 use Rattle.pool_pages.proofs.Shapes.{get_or-put_all_in, get_or-put_all_out, untouched, pages_fit, column_inside, column_outside}
 
 abbrev page : Bool → List ℕ → List ℕ → Bool → ℕ → Page
@@ -247,3 +248,31 @@ write_law n start new c positive shaped fits = record {
       (get_or-put_all_out (start / c.page) (touched c.page start (length new)) true c.dirty k true (room n start new c positive shaped fits) (untouched_out n start new c positive shaped fits k out))
       refl;
 }
+
+-- what a page goes back to of a range, cut out of the range or out of the page
+same_part : (n start len : ℕ) (c : Contents) → 0 < c.page → IsShaped c.page n c → start + len ≤ n → (k : ℕ) → IsTouched start len c.page k → slice_range (slice_range c.origin start (start + len)) (k * c.page - start) (min len (k * c.page + c.page - start)) ≡ slice_range (page_origin k c) (start - k * c.page) (min c.page (start + len - k * c.page))
+same_part n start len c positive shaped fits k is =
+    let all : length c.origin ≡ n = shaped.origin in
+    let end : k * c.page + c.page ≤ n = page_below k n c.page shaped.whole (omega (arith, is.below)) in
+    let first : start + (k * c.page - start) ≡ k * c.page + (start - k * c.page) = omega arith in
+    let last : start + min len (k * c.page + c.page - start) ≡ k * c.page + min c.page (start + len - k * c.page) = omega (arith, is.some, is.below, is.above) in
+    range_range c.origin start (start + len) (k * c.page - start) (min len (k * c.page + c.page - start)) (omega arith) (omega arith)
+    ∙ ap (λ i. slice_range c.origin i (start + min len (k * c.page + c.page - start))) first
+    ∙ ap (λ j. slice_range c.origin (k * c.page + (start - k * c.page)) j) last
+    ∙ sym (range_range c.origin (k * c.page) (k * c.page + c.page) (start - k * c.page) (min c.page (start + len - k * c.page)) (omega arith) (omega arith))
+
+pub restore_law : RestoreChangesItsPages
+restore_law n start len c positive shaped fits =
+    let ys : List ℕ = slice_range c.origin start (start + len) in
+    let long : length (slice_range c.origin start (start + len)) ≡ len = omega (arith, shaped.origin, length-range c.origin start (start + len) (omega (arith, shaped.origin))) in
+    let law = write_law n start (slice_range c.origin start (start + len)) c positive shaped (omega arith) in
+    record {
+      within = λ k is.
+          let touches : IsTouched start (length (slice_range c.origin start (start + len))) c.page k = record { some = omega (arith, is.some); below = omega (arith, is.below); above = is.above } in
+          let part : slice_range (slice_range c.origin start (start + len)) (k * c.page - start) (min (length (slice_range c.origin start (start + len))) (k * c.page + c.page - start)) ≡ slice_range (page_origin k c) (start - k * c.page) (min c.page (start + len - k * c.page)) =
+          ap (λ m. slice_range (slice_range c.origin start (start + len)) (k * c.page - start) (min m (k * c.page + c.page - start))) long
+          ∙ same_part n start len c positive shaped fits k is in
+          law.within k touches
+          ∙ ap (λ zs. record (page_at k c) { bytes = put (start - k * c.page) zs (page_bytes k c); dirty = true }) part;
+      others = λ k below out. law.others k below (λ is. out (record { some = omega (arith, is.some); below = omega (arith, is.below); above = is.above }));
+    }

@@ -77,6 +77,10 @@ written start new c = record c {
   dirty = put_all (start / c.page) (touched c.page start (length new)) true c.dirty;
 }
 
+-- the bytes of a range are set to what they go back to, as a write sets them
+abbrev pub put_back : ℕ → ℕ → Contents → Contents
+put_back start len c = written start (slice_range c.origin start (start + len)) c
+
 -- the bytes of page k, and what it goes back to
 abbrev pub page_bytes : ℕ → Contents → List ℕ
 page_bytes k c = slice_range c.bytes (k * c.page) (k * c.page + c.page)

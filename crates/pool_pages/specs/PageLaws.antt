@@ -1,6 +1,6 @@
 -- What each call on pages changes, page by page.
 use Rattle.std.specs.Prelude.{◌≡◌, ℕ, ◌+◌, ◌-◌, ◌*◌, ◌%◌, ◌<◌, ◌≤◌, List, length, min, replicate, true, false, slice_range}
-use Rattle.pool_pages.specs.Contents.{Contents, IsShaped, Page, page_at, IsIn, put, exposed, hidden, image_mapped, image_copied, erased, remapped, decommitted, written}
+use Rattle.pool_pages.specs.Contents.{Contents, IsShaped, Page, page_at, IsIn, put, exposed, hidden, image_mapped, image_copied, erased, remapped, decommitted, written, put_back}
 
 -- a range of whole pages of a region that is n bytes long
 pub record IsPages (n start len : ℕ) (c : Contents) : Type 0 where
@@ -60,3 +60,18 @@ pub record WritesExactly (start : ℕ) (new : List ℕ) (old after : Contents) :
 
 abbrev pub WriteChangesItsPages : Type 0
 WriteChangesItsPages = (n start : ℕ) (new : List ℕ) (c : Contents) → 0 < c.page → IsShaped c.page n c → start + length new ≤ n → WritesExactly start new c (written start new c)
+
+-- the page with what of it lies in the range set to what it goes back to
+abbrev pub page_put_back : ℕ → ℕ → ℕ → ℕ → Page → Page
+page_put_back start len page k p = record p {
+  bytes = put (start - k * page) (slice_range p.origin (start - k * page) (min page (start + len - k * page))) p.bytes;
+  dirty = true;
+}
+
+-- each page that the range touches becomes that, and each other page stays
+pub record RestoresExactly (start len : ℕ) (old after : Contents) : Type 0 where
+  pub within : (k : ℕ) → IsTouched start len old.page k → page_at k after ≡ page_put_back start len old.page k (page_at k old)
+  pub others : (k : ℕ) → k < length old.accessible → (IsTouched start len old.page k → ⊥) → page_at k after ≡ page_at k old
+
+abbrev pub RestoreChangesItsPages : Type 0
+RestoreChangesItsPages = (n start len : ℕ) (c : Contents) → 0 < c.page → IsShaped c.page n c → start + len ≤ n → RestoresExactly start len c (put_back start len c)

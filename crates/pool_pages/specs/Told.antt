@@ -2,7 +2,7 @@
 use Rattle.std.specs.Prelude.{◌≡◌, ℕ, ◌+◌, ◌-◌, ◌^◌, ◌<◌, ◌≤◌, ◌⊎◌, ◌==◌, ◌||◌, List, length, min, Bool, not, if◌then◌else◌, Option, Some, None, IsSome, IfSome, option_map}
 use Rattle.std.specs.List.{list_any}
 use Rattle.pool_pages.specs.Count.{Count}
-use Rattle.pool_pages.specs.Contents.{Contents, IsShaped, page_at, IsIn, exposed, hidden, image_mapped, image_copied, erased, remapped, decommitted, written}
+use Rattle.pool_pages.specs.Contents.{Contents, IsShaped, page_at, IsIn, exposed, hidden, image_mapped, image_copied, erased, remapped, decommitted, written, put_back}
 use Rattle.pool_pages.specs.declared.pages.PageCalls.{PageCalls}
 use Rattle.pool_pages.specs.declared.pages.RegionName.{RegionName}
 use Rattle.pool_pages.specs.declared.pages.DecommitBehavior.{DecommitBehavior}
@@ -129,6 +129,10 @@ pub record Faulted (call : PageCall) (old new : Told) : Type 0 where
 -- the bytes of a told region are written; its counts stay
 abbrev pub overwritten : ℕ → List ℕ → Told → Told
 overwritten start new t = record t { contents = option_map (written start new) t.contents }
+
+-- the bytes of a range of a told region are set to what they go back to; its counts stay
+abbrev pub restored : ℕ → ℕ → Told → Told
+restored start len t = record t { contents = option_map (put_back start len) t.contents }
 
 -- what is told of pages has the region's shape
 abbrev pub TellsShaped : Told → Type 0

@@ -1,5 +1,5 @@
 ghost use Rattle.std.specs.Prelude.{◌≡◌, ℕ, ◌+◌, ◌-◌, ◌*◌, ◌/◌, ◌%◌, ◌^◌, ◌<◌, ◌≤◌, List, length, replicate, slice_range, IfOk, vec_capacity, Bool};
-ghost use Rattle.pool_pages.specs.Contents.{IsShaped, put_all, touched, image_mapped, image_copied, erased, remapped, decommitted, written};
+ghost use Rattle.pool_pages.specs.Contents.{IsShaped, put_all, touched, image_mapped, image_copied, erased, remapped, decommitted, written, put_back};
 ghost use Rattle.pool_pages.specs.Dense.{zeroed};
 ghost use Rattle.pool_pages.specs.Count.{IsPageSize};
 ghost use Rattle.pool_pages.specs.MakerTold.{fresh};
@@ -7,7 +7,8 @@ ghost use Rattle.pool_pages.specs.Told.{mapped};
 
 use crate::byte_count::PageSize;
 use crate::column_edits::{
-    clear_in_prefix, copy_out, fill_range, overwrite, put_into_prefix, restore_pages, set_marks,
+    clear_in_prefix, copy_out, fill_range, overwrite, put_into_prefix, restore, restore_pages,
+    set_marks,
 };
 use crate::pages::DecommitBehavior;
 use std::alloc::{AllocError, Global};
@@ -277,6 +278,20 @@ impl DensePages {
         let page = self.page.get();
         let count = touched_pages(page, start, len);
         fill_range(&mut self.bytes, start, len, byte);
+        set_marks(&mut self.dirty, start / page, count, true);
+    }
+
+    /// Copies only the range.
+    #[tactic(auto, using(crate::proofs::DenseCalls::put_long, crate::proofs::DenseCalls::put_all_long))]
+    pub(crate) fn restore(&mut self, start: usize, len: usize)
+        requires { start + len ≤ length self.old.bytes }
+        ensures value { self.new ≡ put_back start len self.old }
+        ensures len { length self.new.bytes ≡ length self.old.bytes }
+        ensures shaped { IsShaped self.new.page (length self.new.bytes) self.new }
+    {
+        let page = self.page.get();
+        let count = touched_pages(page, start, len);
+        restore(&mut self.bytes, &self.prefix, start, len);
         set_marks(&mut self.dirty, start / page, count, true);
     }
 }

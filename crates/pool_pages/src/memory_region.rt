@@ -177,4 +177,8 @@ impl Pages for MemoryRegion {
     fn fill(&mut self, at: usize, len: usize, byte: u8) {
         self.pages.fill(at, len, byte);
     }
+
+    fn restore(&mut self, at: usize, len: usize) {
+        self.pages.restore(at, len);
+    }
 }

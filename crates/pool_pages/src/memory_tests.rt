@@ -29,6 +29,10 @@ fn a_decommitted_page_reads_its_image_again(rt: HostRuntime) -> Result<(), Fail>
     region.decommit(page.zero(), len)?;
     region.read(30, &mut bytes);
     assert_eq!(rt; bytes, [7, 7, 0]);
+    region.write(30, &[1, 2, 3]);
+    region.restore(31, 2);
+    region.read(30, &mut bytes);
+    assert_eq!(rt; bytes, [1, 7, 0]);
 
     region.erase(page.zero(), len)?;
     region.expose(page.zero(), len)?;

@@ -1,5 +1,5 @@
 //! Laws of pages: what each call changes of them, page by page.
-ghost use Rattle.pool_pages.specs.PageLaws.{ExposeChangesItsPages, HideChangesItsPages, MapChangesItsPages, CopyChangesItsPages, EraseChangesItsPages, RemapChangesItsPages, DecommitChangesItsPages, WriteChangesItsPages};
+ghost use Rattle.pool_pages.specs.PageLaws.{ExposeChangesItsPages, HideChangesItsPages, MapChangesItsPages, CopyChangesItsPages, EraseChangesItsPages, RemapChangesItsPages, DecommitChangesItsPages, WriteChangesItsPages, RestoreChangesItsPages};
 
 /// Each call on pages changes exactly the pages of its range: see what it makes of a page in the law of
 /// its name. Costs nothing: the laws are facts about what the calls' contracts say.
@@ -12,4 +12,5 @@ pub fn calls_change_their_pages()
     ensures remap_zeros { RemapChangesItsPages }
     ensures decommit { DecommitChangesItsPages }
     ensures write { WriteChangesItsPages }
+    ensures restore { RestoreChangesItsPages }
 {}

@@ -1,7 +1,7 @@
 ghost use Rattle.std.specs.Prelude.{◌≡◌, ℕ, ◌+◌, ◌≤◌, List, length, replicate, slice_range, is_ok, OnOk, OnErr, IfSome};
 ghost use Rattle.pool_pages.specs.Count.{count, IsPageSize};
 ghost use Rattle.pool_pages.specs.Contents.{CanReach, HasNoOtherImage};
-ghost use Rattle.pool_pages.specs.Told.{Told, IsRange, Faulted, succeeded, TellsShaped, overwritten, passes, exposing, hiding, mapping, remapping, erasing, decommitting};
+ghost use Rattle.pool_pages.specs.Told.{Told, IsRange, Faulted, succeeded, TellsShaped, overwritten, restored, passes, exposing, hiding, mapping, remapping, erasing, decommitting};
 
 use crate::byte_count::{HostAlignedByteCount, PageSize};
 use crate::image_data::ImageData;
@@ -156,5 +156,13 @@ pub trait Pages: Send + Drop {
         requires inside { at + len ≤ (told self.old).len }
         requires reachable { IfSome (told self.old).contents (CanReach at len) }
         ensures written { told self.new ≡ overwritten at (replicate len byte) (told self.old) }
+        ensures shaped { TellsShaped (told self.new) };
+
+    /// Sets the bytes from `at` on to what they go back to, as a write does: the touched pages are dirty.
+    /// It is no page call: it can't fail and isn't counted.
+    fn restore(&mut self, at: usize, len: usize)
+        requires inside { at + len ≤ (told self.old).len }
+        requires reachable { IfSome (told self.old).contents (CanReach at len) }
+        ensures restored { told self.new ≡ restored at len (told self.old) }
         ensures shaped { TellsShaped (told self.new) };
 }

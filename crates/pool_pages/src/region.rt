@@ -1,7 +1,7 @@
 ghost use Rattle.std.specs.Prelude.{◌≡◌, ℕ, ◌+◌, ◌≤◌, List, length, replicate, slice_range, is_ok, OnOk, OnErr, IfSome};
 ghost use Rattle.pool_pages.specs.Count.{count, IsPageSize};
 ghost use Rattle.pool_pages.specs.Contents.{CanReach, HasNoOtherImage};
-ghost use Rattle.pool_pages.specs.Told.{Told, IsRange, Faulted, succeeded, TellsShaped, overwritten, passes, exposing, hiding, mapping, remapping, erasing, decommitting};
+ghost use Rattle.pool_pages.specs.Told.{Told, IsRange, Faulted, succeeded, TellsShaped, overwritten, restored, passes, exposing, hiding, mapping, remapping, erasing, decommitting};
 
 use crate::byte_count::{HostAlignedByteCount, PageSize};
 use crate::image_data::ImageData;
@@ -187,5 +187,14 @@ impl<P: Pages> PageRegion<P> {
         ensures shaped { TellsShaped self.new }
     {
         self.pages.fill(at, len, byte)
+    }
+
+    pub fn restore(&mut self, at: usize, len: usize)
+        requires inside { at + len ≤ self.old.len }
+        requires reachable { IfSome self.old.contents (CanReach at len) }
+        ensures restored { self.new ≡ restored at len self.old }
+        ensures shaped { TellsShaped self.new }
+    {
+        self.pages.restore(at, len)
     }
 }

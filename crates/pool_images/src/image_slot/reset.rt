@@ -1,28 +1,52 @@
-ghost use Rattle.std.specs.Prelude.{◌≡◌, [], false, true, Ok, All, IfSome, OnOk, OnErr};
-ghost use Rattle.pool_images.specs.Slots.{size_of, IsReady, IsClean, IsLeft, IsShut, IsPart, emptied, reset_ranges, decommitted_all};
+ghost use Rattle.std.specs.Prelude.{◌≡◌, ◌+◌, ◌≤◌, [], min, false, true, Ok, All, IfSome, OnOk, OnErr};
+ghost use Rattle.pool_pages.specs.Contents.{CanReach};
+ghost use Rattle.pool_pages.specs.Told.{TellsShaped, restored};
+ghost use Rattle.pool_images.specs.Slots.{size_of, Fits, IsReady, IsClean, IsLeft, IsShut, IsPart, emptied, cleared, reset_ranges, decommitted_all};
 
 use crate::image_slot::MemoryImageSlot;
 use crate::ranges::{ByteRange, Ranges};
-use pool_pages::{PageFault, Pages};
+use pool_pages::{HostAlignedByteCount, PageFault, PageRegion, Pages};
 
 impl<P: Pages> MemoryImageSlot<P> {
-    /// Resets a slot that was in use. What has to be decommitted is left in `ranges`, which must be empty; once that is
-    /// done the slot is clean. Answers how many bytes stay resident.
-    pub fn clear_and_remain_ready(&mut self, ranges: &mut Ranges) -> Result<usize, PageFault>
+    /// Resets a slot that was in use. As much of what is accessible as `keep_resident` says is set by hand to the image
+    /// and zeros, and stays resident. What has to be decommitted is left in `ranges`, which must be empty; once that is
+    /// done the slot is clean. Answers how many bytes were set by hand.
+    pub fn clear_and_remain_ready(
+        &mut self,
+        keep_resident: HostAlignedByteCount,
+        ranges: &mut Ranges,
+    ) -> Result<usize, PageFault>
         requires dirty { self.old.dirty ≡ true }
         requires ready { IfSome self.old.region.contents (IsReady self.old) }
+        requires page { keep_resident.page ≡ self.old.region.page }
         requires empty { ranges.old ≡ [] }
-        ensures resident { result ≡ Ok 0 }
-        ensures ranges { ranges.new ≡ reset_ranges self.old.accessible.bytes }
-        ensures value { self.new ≡ record self.old { dirty = false } }
+        ensures resident { result ≡ Ok (min keep_resident.bytes self.old.accessible.bytes) }
+        ensures ranges { ranges.new ≡ reset_ranges keep_resident.bytes self.old.accessible.bytes }
+        ensures value { self.new ≡ cleared (min keep_resident.bytes self.old.accessible.bytes) self.old }
         ensures parts { All (IsPart self.new.region.page (size_of self.new)) ranges.new }
         ensures clean_after { IsClean (decommitted_all ranges.new self.new) }
+        ensures clean { self.old.accessible.bytes ≤ keep_resident.bytes → IsClean self.new }
+        ensures fits { Fits self.new }
     {
         self.fits();
-        let len = self.accessible.byte_count();
-        push_range(ranges, len);
+        let keep = keep_resident.byte_count();
+        let accessible = self.accessible.byte_count();
+        let kept = keep.min(accessible);
+        push_range(ranges, keep, accessible);
+        self.clear(kept);
+        Ok(kept)
+    }
+
+    // Sets the first `kept` bytes by hand to what they go back to. The slot isn't in use any more then.
+    fn clear(&mut self, kept: usize)
+        requires within { kept ≤ self.old.accessible.bytes }
+        requires ready { IfSome self.old.region.contents (IsReady self.old) }
+        ensures value { self.new ≡ cleared kept self.old }
+        ensures fits { Fits self.new }
+    {
+        let from = self.base.byte_count();
+        restore(&mut self.region, from, kept);
         self.dirty = false;
-        Ok(0)
     }
 
     /// Leaves the slot as it is made: without image, none of it accessible, and zeros. Whatever came before, also a
@@ -44,11 +68,28 @@ impl<P: Pages> MemoryImageSlot<P> {
     }
 }
 
-fn push_range(ranges: &mut Ranges, len: usize)
-    requires { ranges.old ≡ [] }
-    ensures { ranges.new ≡ reset_ranges len }
+// Sets the bytes to what they go back to, unless there are none.
+#[tactic(auto, using(crate::proofs::Backs::restored_none))]
+fn restore<P: Pages>(region: &mut PageRegion<P>, at: usize, len: usize)
+    requires inside { at + len ≤ region.old.len }
+    requires reachable { IfSome region.old.contents (CanReach at len) }
+    requires shaped { TellsShaped region.old }
+    ensures value { region.new ≡ restored at len region.old }
+    ensures shaped { TellsShaped region.new }
 {
-    if len != 0 {
-        ranges.push(ByteRange { start: 0, len });
+    if len == 0 {
+        return;
+    }
+    region.restore(at, len);
+}
+
+// What a reset leaves that keeps so many of the accessible bytes.
+fn push_range(ranges: &mut Ranges, kept: usize, accessible: usize)
+    requires { ranges.old ≡ [] }
+    ensures { ranges.new ≡ reset_ranges kept accessible }
+{
+    if kept < accessible {
+        let len = accessible - kept;
+        ranges.push(ByteRange { start: kept, len });
     }
 }
