@@ -1,1 +1,5 @@
+pub mod Linear
+pub mod Making
 pub mod Memories
+pub mod MemoryStates
+pub mod Static

@@ -1,22 +1,15 @@
-//! Stub.
+//! Linear memories: where they lie, and how they are made, read, written and grown.
 #![tactic(auto)]
 
-use pool_images::MemoryImageSlot;
-use pool_pages::{MemoryType, Pages};
-use std::marker::Model;
+mod linear_memory;
+mod local_memory;
+mod making;
+mod memory;
+mod memory_error;
+mod static_memory;
 
-#[derive(Drop)]
-pub struct PoolMemory<P: Pages> {
-    slot: MemoryImageSlot<P>,
-    size: usize,
-    capacity: usize,
-    ty: MemoryType,
-}
-
-impl<P: Pages> Model for PoolMemory<P> {
-    ghost use Rattle.pool_memory.specs.Memories.{MemoryState};
-
-    ghost Value = { MemoryState };
-
-    ghost view = { λ m. record { slot = m.slot; size = m.size; capacity = m.capacity; ty = m.ty } };
-}
+pub use linear_memory::RuntimeLinearMemory;
+pub use local_memory::LocalMemory;
+pub use memory::Memory;
+pub use memory_error::MemoryError;
+pub use static_memory::StaticMemory;

@@ -45,7 +45,7 @@ pub struct PageFault;
 /// of the range is as before or as the success would leave it. A call of length zero succeeds, changes
 /// nothing and isn't counted. No call takes memory. A region may tell contracts what its pages hold, and
 /// the numbers of its calls that fail.
-pub trait Pages: Send + Drop {
+pub trait Pages: Drop {
     ghost told: { Self → Told };
 
     fn name(&self) -> RegionName

@@ -6,7 +6,7 @@ use Rattle.pool_images.proofs.Images.{images_from_more, none_misplaced, planned_
 use Rattle.pool_images.proofs.memory_image.make_images.Goals as goal
 
 pub push_image-requires-clause-placed : goal.push_image-requires-clause-placed
-push_image-requires-clause-placed g c κs within =
+push_image-requires-clause-placed g c =
     let P : MemoryDecl → Type 0 = λ d. misplaced c.args.page d ≡ None in
     subst P (sym c.decl-item.is) (none_misplaced c.args.page c.args.memories.now c.loop-decl.decl-index c.decl-item.result c.loop-decl-test.true c.requires.placed)
 

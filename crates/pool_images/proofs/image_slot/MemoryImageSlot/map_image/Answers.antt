@@ -6,7 +6,7 @@ use Rattle.pool_images.proofs.Fitting.{keeps_mapped}
 use Rattle.pool_images.proofs.image_slot.MemoryImageSlot.map_image.Goals as goal
 
 pub map_image-requires-clause-one_image : goal.map_image-requires-clause-one_image
-map_image-requires-clause-one_image g c κs within =
+map_image-requires-clause-one_image g c =
     let i = c.self.inside in
     let s : Slot = record { region = i.region; base = i.base; accessible = i.accessible; static_size = i.static_size; image = i.image; dirty = i.dirty; colour = i.colour } in
     let from : c.unchecked_add-from.result.bytes ≡ i.base.bytes + c.new_unchecked-start.result.bytes = ap (λ (n : Count). n.bytes) c.unchecked_add-from.ensures in

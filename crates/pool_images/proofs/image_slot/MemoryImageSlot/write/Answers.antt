@@ -6,7 +6,7 @@ use Rattle.pool_images.proofs.Making.{reach_slot, written_keeps, written_ready}
 use Rattle.pool_images.proofs.image_slot.MemoryImageSlot.write.Goals as goal
 
 pub write-requires-clause-reachable : goal.write-requires-clause-reachable
-write-requires-clause-reachable g c κs within =
+write-requires-clause-reachable g c =
     let i = c.self.inside in
     let s : Slot = record { region = i.region; base = i.base; accessible = i.accessible; static_size = i.static_size; image = i.image; dirty = i.dirty; colour = i.colour } in
     rw c.byte_count.ensures.value (reach_slot s c.args.at (length c.args.bytes.now) c.self.invariant.fits (rw (← c.self.view_is) at c.requires.ready) (rw (← c.self.view_is) at c.requires.inside))

@@ -1,0 +1,4 @@
+pub mod Begun
+pub mod Bytes
+pub mod Makings
+pub mod Statics

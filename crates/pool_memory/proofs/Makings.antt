@@ -1,0 +1,68 @@
+-- How a memory is made: the answer that a refusal tells, the sizes of a type, and what a memory begins with.
+use Rattle.std.proofs.Common.{◌≡◌, ℕ, ◌+◌, ◌-◌, ◌*◌, ◌^◌, ◌<◌, ◌≤◌, ◌%◌, Bool, true, false, refl, sym, ap, ◌∙◌, inl, inr, arith, nat_le, nat_lt, Option, Some, None, Result, Ok, Err}
+use Rattle.std.specs.Prelude.{IfSome, if◌then◌else◌}
+use Rattle.std.proofs.Math.Nat.{mul-le-mul_right, mul-mod_left}
+use Rattle.std.proofs.lemmas.Nat.{pow-add}
+use Rattle.std.proofs.lemmas.Bool.{cases_lt, lt-ltb}
+use Rattle.pool_pages.proofs.Multiples.{page_below}
+use Rattle.pool_pages.specs.MemoryTypes.{page_size, minimum_byte_size, maximum_byte_size, greatest_size, index_bound, allow_growth_to, refused_limits, above}
+use Rattle.pool_pages.specs.declared.module_types.MemoryType.{MemoryType}
+use Rattle.pool_pages.specs.declared.unsupported.Unsupported.{Unsupported}
+use Rattle.pool_pages.specs.declared.unsupported.Unsupported.TheVariants.{MinimumExceedsMaximum, MemoryMinimum, AddressSpace, InitialSize}
+use Rattle.pool_limits.specs.declared.errors.LimiterError.{LimiterError}
+use Rattle.pool_images.specs.Slots.{Slot}
+use Rattle.pool_memory.specs.Static.{Static, capacity_of}
+use Rattle.pool_memory.specs.Making.{maximum_asked, limits_answer, limiter_answer, static_limiter_answer, made_memory, made_within}
+use Rattle.pool_memory.specs.declared.memory_error.MemoryError.{MemoryError}
+use Rattle.pool_memory.specs.declared.memory_error.MemoryError.TheVariants as refused
+
+granted_told : {X : Type 0} (b c : Bool) (x : X) (u v : Unsupported) → limiter_answer (if b then (if c then Ok x else Err (refused.Unsupported u)) else Err (refused.Unsupported v)) ≡ Ok true
+granted_told true true x u v = refl
+granted_told true false x u v = refl
+granted_told false c x u v = refl
+
+-- the limits tell the answer that they were granted with
+pub answer_told : (a : Result Bool LimiterError) (ty : MemoryType) → limiter_answer (limits_answer a ty) ≡ a
+answer_told (Err e) ty = refl
+answer_told (Ok false) ty = refl
+answer_told (Ok true) ty = granted_told (nat_lt (minimum_byte_size ty) (2 ^ 64)) (allow_growth_to ty (minimum_byte_size ty)) (minimum_byte_size ty, maximum_asked ty) AddressSpace (MemoryMinimum ty.limits.min)
+
+within_size : (M L : Type 0) (b : Bool) (limits : ℕ × Option ℕ) (ty : MemoryType) (slot : Slot) (m : Static) → static_limiter_answer (made_memory {M = M} {L = L} ty (if b then Ok m else Err (slot, InitialSize))) ≡ Ok true
+within_size M L true limits ty slot m = refl
+within_size M L false limits ty slot m = refl
+
+-- and so does the memory that is made within them
+pub making_told : (M L : Type 0) (limits : Result (ℕ × Option ℕ) MemoryError) (ty : MemoryType) (base_capacity : ℕ) (slot : Slot) → static_limiter_answer (made_within {M = M} {L = L} limits ty base_capacity slot) ≡ limiter_answer limits
+making_told M L (Err e) ty base_capacity slot = refl
+making_told M L (Ok limits) ty base_capacity slot =
+    within_size M L (nat_le limits.0 base_capacity) limits ty slot (record { slot = slot; size = limits.0; capacity = capacity_of base_capacity limits.1 })
+
+pages_order : (min : ℕ) (o : Option ℕ) → above min o ≡ None → IfSome o (λ most. min ≤ most)
+pages_order min None e = tt
+pages_order min (Some most) e =
+    elim (cases_lt most min) [
+      | inl under ↦ let t = lt-ltb most min under in let none : Some (MinimumExceedsMaximum min most) ≡ None = rw t at e in absurd cc
+      | inr over ↦ over
+    ]
+
+bytes_order : (o : Option ℕ) (min page bound : ℕ) → IfSome o (λ most. min ≤ most) → min * page ≤ greatest_size o page (min * page) bound
+bytes_order None min page bound order = omega arith
+bytes_order (Some most) min page bound order = mul-le-mul_right page order
+
+where_held : (b : Bool) (least most : ℕ) → least ≤ most → IfSome (if b then Some most else None) (λ n. least ≤ n)
+where_held true least most order = order
+where_held false least most order = tt
+
+-- the minimum is at most the maximum that is told
+pub least_most : (ty : MemoryType) → refused_limits ty.limits ≡ None → IfSome (maximum_asked ty) (λ most. minimum_byte_size ty ≤ most)
+least_most ty order =
+    where_held (nat_lt (maximum_byte_size ty) (2 ^ 64)) (minimum_byte_size ty) (maximum_byte_size ty)
+    (bytes_order ty.limits.max ty.limits.min (page_size ty) (index_bound ty.idx_type (page_size ty)) (pages_order ty.limits.min ty.limits.max order))
+
+-- whole pages that a `u64` can hold leave room for one more below its end
+pub room_for_page : (min k : ℕ) → k < 64 → min * 2 ^ k < 2 ^ 64 → min * 2 ^ k + 2 ^ k ≤ 2 ^ 64
+room_for_page min k small below =
+    let sum : 64 - k + k ≡ 64 = omega arith in
+    let parts : 2 ^ 64 ≡ 2 ^ (64 - k) * 2 ^ k = ap (λ (n : ℕ). 2 ^ n) (sym sum) ∙ pow-add 2 (64 - k) k in
+    let whole : 2 ^ 64 % 2 ^ k ≡ 0 = ap (λ (n : ℕ). n % 2 ^ k) parts ∙ mul-mod_left (2 ^ (64 - k)) (2 ^ k) in
+    page_below min (2 ^ 64) (2 ^ k) whole below

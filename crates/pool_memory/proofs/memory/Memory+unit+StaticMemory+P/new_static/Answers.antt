@@ -1,0 +1,4 @@
+use Rattle.pool_memory.proofs.memory.Memory+unit+StaticMemory+P.new_static.Goals as goal
+
+pub returns-in-Some-clause-limiter : goal.returns-in-Some-clause-limiter
+returns-in-Some-clause-limiter g c = rw c.in-Some.is c.make_static.ensures.limiter

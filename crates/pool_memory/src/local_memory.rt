@@ -1,0 +1,135 @@
+ghost use Rattle.std.specs.Prelude.{◌≡◌, ◌↔◌, ◌+◌, ◌^◌, ◌<◌, ◌≤◌, length, slice_range, not, false, IsTrue, IfSome, OnOk, OnErr};
+ghost use Rattle.pool_pages.specs.MemoryTypes.{page_size, memory_may_move};
+ghost use Rattle.pool_memory.specs.Linear.{IsLinear, in_slot, is_mapped};
+ghost use Rattle.pool_memory.specs.Static.{CanHold};
+ghost use Rattle.pool_memory.specs.Memories.{slot_of, bytes_of, memory_written, access_answer};
+
+use crate::linear_memory::RuntimeLinearMemory;
+use crate::static_memory::StaticMemory;
+use pool_images::MemoryImageSlot;
+use pool_limits::Trap;
+use pool_pages::{MemoryTunables, MemoryType, PageCalls, Pages};
+use std::marker::{Model, PhantomData};
+
+/// A linear memory with its type, that one instance has to itself.
+#[derive(Drop)]
+pub struct LocalMemory<M, L: RuntimeLinearMemory<M>> {
+    memory: L,
+    ty: MemoryType,
+    memory_may_move: bool,
+    maker: PhantomData<M>,
+}
+
+impl<M, L: RuntimeLinearMemory<M>> Model for LocalMemory<M, L> {
+    ghost use Rattle.pool_memory.specs.Memories.{MemoryState, IsMemory};
+
+    ghost Value = { MemoryState };
+
+    ghost view = { λ m. record { ty = m.ty; may_move = m.memory_may_move; linear = L.linear m.memory } };
+
+    ghost invariant = { λ m. IsMemory (record { ty = m.ty; may_move = m.memory_may_move; linear = L.linear m.memory }) };
+}
+
+impl<M, L: RuntimeLinearMemory<M>> LocalMemory<M, L> {
+    /// The memory, with a type that its size leaves room for one page of.
+    pub fn new(ty: &MemoryType, tunables: &MemoryTunables, memory: L) -> Self
+        requires page { ty.now.page_size_log2 < 64 }
+        requires room { (L.linear memory).size + page_size ty.now ≤ 2 ^ 64 }
+        ensures { result ≡ record { ty = ty.now; may_move = memory_may_move ty.now tunables.now; linear = L.linear memory } }
+    {
+        LocalMemory {
+            memory,
+            ty: *ty,
+            memory_may_move: ty.memory_may_move(tunables),
+            maker: PhantomData,
+        }
+    }
+
+    // The same memory, but that it isn't moved.
+    pub(crate) fn fixed(mut self) -> Self
+        ensures { result ≡ record self { may_move = false } }
+    {
+        self.memory_may_move = false;
+        self
+    }
+
+    pub fn ty(&self) -> &MemoryType
+        ensures { result.now ≡ self.now.ty }
+    {
+        &self.ty
+    }
+
+    /// In bytes.
+    pub fn byte_size(&self) -> usize
+        ensures value { result ≡ self.now.linear.size }
+        ensures always { IsLinear self.now.linear }
+    {
+        self.memory.byte_size()
+    }
+
+    /// The size of the memory's own pages, in bytes.
+    pub fn page_size(&self) -> u64
+        ensures { result ≡ page_size self.now.ty }
+    {
+        self.ty.page_size()
+    }
+
+    /// Whether the bytes that the memory begins with have yet to be written into it. They haven't where an image is
+    /// mapped.
+    pub fn needs_init(&self) -> bool
+        ensures { result ≡ not (is_mapped self.now.linear.storage) }
+    {
+        !self.memory.has_image()
+    }
+
+    /// Reads the bytes from `at` on into `out`, which stays as it is where they pass the size.
+    pub fn read(&self, at: u64, out: &mut [u8]) -> Result<(), Trap>
+        ensures answer { result ≡ access_answer (at + length out.old) self.now.linear.size }
+        ensures bytes { OnOk result (IfSome (bytes_of self.now) (λ bytes. out.new ≡ slice_range bytes at (at + length out.old))) }
+        ensures same { OnErr result (out.new ≡ out.old) }
+    {
+        if !self.has(at, out.len()) {
+            return Err(Trap::MemoryOutOfBounds);
+        }
+        self.memory.read(at as usize, out);
+        Ok(())
+    }
+
+    /// Writes the bytes from `at` on, or nothing where they pass the size.
+    pub fn write(&mut self, at: u64, bytes: &[u8]) -> Result<(), Trap>
+        ensures answer { result ≡ access_answer (at + length bytes.now) self.old.linear.size }
+        ensures written { OnOk result (self.new ≡ memory_written at bytes.now self.old) }
+        ensures same { OnErr result (self.new ≡ self.old) }
+    {
+        if !self.has(at, bytes.len()) {
+            return Err(Trap::MemoryOutOfBounds);
+        }
+        self.memory.write(at as usize, bytes);
+        Ok(())
+    }
+
+    fn has(&self, at: u64, len: usize) -> bool
+        ensures { IsTrue result ↔ (at + len ≤ self.now.linear.size) }
+    {
+        let size = self.memory.byte_size();
+        at <= size as u64 && len <= size - at as usize
+    }
+}
+
+impl<P: Pages> LocalMemory<(), StaticMemory<P>> {
+    /// The slot that the memory lies in. It is in use.
+    pub fn unwrap_static_image(self) -> MemoryImageSlot<P>
+        ensures value { result ≡ slot_of self }
+        ensures storage { self.linear.storage ≡ in_slot result }
+        ensures holds { CanHold self.linear.size result }
+    {
+        self.memory.into_slot()
+    }
+
+    /// The calls made on the memory's region so far.
+    pub fn page_calls(&self) -> PageCalls
+        ensures { result ≡ (slot_of self.now).region.calls }
+    {
+        self.memory.page_calls()
+    }
+}
