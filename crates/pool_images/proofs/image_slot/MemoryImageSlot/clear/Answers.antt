@@ -5,13 +5,13 @@ use Rattle.pool_images.proofs.Backs.{reach_first, tells_shaped, cleared_keeps}
 use Rattle.pool_images.proofs.image_slot.MemoryImageSlot.clear.Goals as goal
 
 pub restore-requires-clause-reachable : goal.restore-requires-clause-reachable
-restore-requires-clause-reachable g c κs within =
+restore-requires-clause-reachable g c =
     let i = c.self.inside in
     let s : Slot = record { region = i.region; base = i.base; accessible = i.accessible; static_size = i.static_size; image = i.image; dirty = i.dirty; colour = i.colour } in
     rw c.byte_count-from.ensures.value (reach_first s c.args.kept c.self.invariant.fits (rw (← c.self.view_is) at c.requires.ready) (rw (← c.self.view_is) at c.requires.within))
 
 pub restore-requires-clause-shaped : goal.restore-requires-clause-shaped
-restore-requires-clause-shaped g c κs within =
+restore-requires-clause-shaped g c =
     let i = c.self.inside in
     let s : Slot = record { region = i.region; base = i.base; accessible = i.accessible; static_size = i.static_size; image = i.image; dirty = i.dirty; colour = i.colour } in
     tells_shaped s c.self.invariant.fits
