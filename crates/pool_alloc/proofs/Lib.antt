@@ -1,0 +1,3 @@
+pub mod CoreChanges
+pub mod QueueJoins
+pub mod SlotIdentity

@@ -12,6 +12,7 @@ use Rattle.pool_index.specs.Shard.{IsShard, ShardState, slot_number}
 use Rattle.pool_memory.specs.Memories.{MemoryState}
 use Rattle.pool_slots.specs.Cells.{Cell, is_taken, IsCell, IsSlotOf}
 use Rattle.pool_slots.specs.Queues.{QueueState, QueuedMemory, HasOwners, IsQueue, AreDistinct}
+use Rattle.pool_alloc.specs.Reserved.{Reserved}
 use Rattle.pool_alloc.specs.Leases.{Lease, IsMemory}
 use Rattle.pool_alloc.specs.Steps.{memories_asked, images_asked, image_wanted, shard_at, cell_at, queue_at, shard_of, local_of}
 use Rattle.pool_alloc.specs.Places.{Thing, slot_of, region_of, kept_count, frame_count, made_count, phase_instances, frame_memories}
@@ -100,35 +101,45 @@ pub record HasSlot (maker : MakerTold) (s : Settings) (total slot : ℕ) (held :
   pub inside : slot < total
   pub region : IsSlotOf maker s.max_memory_size slot held
 
--- it is in use, and begins with the image of the memory that is allocated
-pub record HasBegun {P : Type 0} (f : Frame P) (held : Slot) (decl : MemoryDecl) : Type 0 where
-  pub begun : IsBegun (image_wanted f) held
+-- it is in use, and begins with this image
+pub record HasBegun (image : Option Image) (held : Slot) (decl : MemoryDecl) : Type 0 where
+  pub begun : IsBegun image held
   pub accessible : minimum_byte_size decl.ty ≤ held.accessible.bytes
 
--- the memory is the one that is allocated, as it begins
-pub record IsNew {P : Type 0} (f : Frame P) (m : MemoryState) (decl : MemoryDecl) : Type 0 where
-  pub slot : HasBegun f m.slot decl
+-- the memory is as it begins, with this image
+pub record IsNew (image : Option Image) (m : MemoryState) (decl : MemoryDecl) : Type 0 where
+  pub slot : HasBegun image m.slot decl
   pub size : m.size ≡ minimum_byte_size decl.ty
 
+-- nothing is queued or waits to be freed
+pub record NothingWaits (local : QueueState) (freed : Reserved FreedSlot) : Type 0 where
+  pub no_ranges : local.ranges ≡ []
+  pub no_slots : local.memories ≡ []
+  pub none_freed : freed.items ≡ []
+
+-- nor is anything granted or given back
+pub record NothingHeld (local : QueueState) (freed : Reserved FreedSlot) (granted returning : Reserved Lease) : Type 0 where
+  pub settled : NothingWaits local freed
+  pub none_granted : granted.items ≡ []
+  pub none_returning : returning.items ≡ []
+
+-- some of the module's memories are granted, and there is a next one
+pub record AllocatesMore (s : Settings) (decls : List MemoryDecl) (images : List (Option Image)) (granted returning : Reserved Lease) : Type 0 where
+  pub supported : AreSupported s decls images
+  pub room : granted.room ≡ length decls
+  pub more : length granted.items < length decls
+  pub none_returning : returning.items ≡ []
+
 module _ {P : Type 0} where
-  -- nothing is queued or waits to be freed
-  pub record IsSettled (f : Frame P) : Type 0 where
-    pub no_ranges : f.local.ranges ≡ []
-    pub no_slots : f.local.memories ≡ []
-    pub none_freed : f.freed.items ≡ []
+  abbrev pub IsSettled : Frame P → Type 0
+  IsSettled f = NothingWaits f.local f.freed
 
-  -- nothing is granted or given back
-  pub record IsAtRest (f : Frame P) : Type 0 where
-    pub settled : IsSettled f
-    pub none_granted : f.granted.items ≡ []
-    pub none_returning : f.returning.items ≡ []
+  abbrev pub IsAtRest : Frame P → Type 0
+  IsAtRest f = NothingHeld f.local f.freed f.granted f.returning
 
-  -- a memory of the module is allocated, and not the first of those granted so far
-  pub record IsAllocating (s : Settings) (f : Frame P) : Type 0 where
-    pub supported : AreSupported s (memories_asked f.asked) (images_asked f.asked)
-    pub room : f.granted.room ≡ length (memories_asked f.asked)
-    pub more : length f.granted.items < length (memories_asked f.asked)
-    pub none_returning : f.returning.items ≡ []
+  -- a memory of the module is allocated
+  abbrev pub IsAllocating : Settings → Frame P → Type 0
+  IsAllocating s f = AllocatesMore s (memories_asked f.asked) (images_asked f.asked) f.granted f.returning
 
   -- the memory that is allocated
   abbrev pub IfAllocated : Frame P → (MemoryDecl → Type 0) → Type 0
@@ -154,8 +165,8 @@ module _ {P : Type 0} where
   IsShapedAt maker s slots shards queues (TakeRegion slot) f = IsSettled f × IsAllocating s f × (slot < slots)
   IsShapedAt maker s slots shards queues (Empty slot held) f = IsSettled f × IsAllocating s f × HasSlot maker s slots slot held
   IsShapedAt maker s slots shards queues (Instantiate slot held) f = IsSettled f × IsAllocating s f × HasSlot maker s slots slot held × IsClean held
-  IsShapedAt maker s slots shards queues (MakeMemory slot held) f = IsSettled f × IsAllocating s f × HasSlot maker s slots slot held × IfAllocated f (HasBegun f held)
-  IsShapedAt maker s slots shards queues (CountMemory slot memory) f = IsSettled f × IsAllocating s f × HasSlot maker s slots slot memory.slot × IsMemory memory × IfAllocated f (IsNew f memory)
+  IsShapedAt maker s slots shards queues (MakeMemory slot held) f = IsSettled f × IsAllocating s f × HasSlot maker s slots slot held × IfAllocated f (HasBegun (image_wanted f) held)
+  IsShapedAt maker s slots shards queues (CountMemory slot memory) f = IsSettled f × IsAllocating s f × HasSlot maker s slots slot memory.slot × IsMemory memory × IfAllocated f (IsNew (image_wanted f) memory)
   IsShapedAt maker s slots shards queues (PutRefused slot held e) f = IsSettled f × IsAllocating s f × HasSlot maker s slots slot held
   IsShapedAt maker s slots shards queues (FreeRefused slot e) f = IsSettled f × IsAllocating s f × (slot < slots)
   IsShapedAt maker s slots shards queues UncountMemory f = IsSettled f × (f.granted.items ≡ []) × (0 < length f.returning.items)
