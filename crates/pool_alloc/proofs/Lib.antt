@@ -1,3 +1,4 @@
 pub mod CoreChanges
+pub mod Picks
 pub mod QueueJoins
 pub mod SlotIdentity
