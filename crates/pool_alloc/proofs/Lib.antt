@@ -1,4 +1,5 @@
 pub mod CoreChanges
+pub mod Going
 pub mod Picks
 pub mod QueueJoins
 pub mod SlotIdentity

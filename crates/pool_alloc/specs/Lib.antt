@@ -1,7 +1,9 @@
 pub mod Answers
+pub mod Calls
 pub mod Leases
 pub mod Own
 pub mod Places
+pub mod Relied
 pub mod Reserved
 pub mod Sound
 pub mod Stepping

@@ -130,6 +130,11 @@ pub record AllocatesMore (s : Settings) (decls : List MemoryDecl) (images : List
   pub more : length granted.items < length decls
   pub none_returning : returning.items ≡ []
 
+-- what the call goes on with after a flush
+abbrev pub GoesOn : Settings → ℕ → AfterFlush → List MemoryDecl → List (Option Image) → Reserved Lease → Reserved Lease → Type 0
+GoesOn s queues (PickAgain n) decls images granted returning = AllocatesMore s decls images granted returning × (n ≤ queues)
+GoesOn s queues GiveBackNext decls images granted returning = granted.items ≡ []
+
 module _ {P : Type 0} where
   abbrev pub IsSettled : Frame P → Type 0
   IsSettled f = NothingWaits f.local f.freed
@@ -145,10 +150,8 @@ module _ {P : Type 0} where
   abbrev pub IfAllocated : Frame P → (MemoryDecl → Type 0) → Type 0
   IfAllocated f Q = IfSome (slice_get (memories_asked f.asked) (length f.granted.items)) Q
 
-  -- what the call goes on with after a flush
   abbrev pub IsShapedAfter : Settings → ℕ → AfterFlush → Frame P → Type 0
-  IsShapedAfter s queues (PickAgain n) f = IsAllocating s f × (n ≤ queues)
-  IsShapedAfter s queues GiveBackNext f = f.granted.items ≡ []
+  IsShapedAfter s queues after f = GoesOn s queues after (memories_asked f.asked) (images_asked f.asked) f.granted f.returning
 
   -- the freed slots and those still queued have room
   abbrev pub HasFreedRoom : Settings → Frame P → Type 0
