@@ -1,3 +1,4 @@
+pub mod AllocationRows
 pub mod CoreChanges
 pub mod Going
 pub mod Picks

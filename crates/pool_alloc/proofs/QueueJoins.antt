@@ -62,6 +62,18 @@ no_first (r ∷ rs) q none owned = absurd (no_kind r.kind r.slot.0 q none owned.
 pub no_ranges : (q : QueueState) → HasOwners q → q.memories ≡ [] → q.ranges ≡ []
 no_ranges q owned none = no_first q.ranges q none owned
 
+held_same : (kind : QueueKind) (slot : ℕ) (q other : QueueState) → other.memories ≡ q.memories → is_held kind slot q ≡ true → is_held kind slot other ≡ true
+held_same Memory slot q other same held = ap (λ (ms : List QueuedMemory). holds slot ms) same ∙ held
+held_same Table slot q other same held = absurd cc
+held_same Stack slot q other same held = absurd cc
+
+-- queues that hold the same slots own the same ranges
+pub owners_same : (q other : QueueState) → other.ranges ≡ q.ranges → other.memories ≡ q.memories → HasOwners q → HasOwners other
+owners_same q other ranges memories owned =
+    let H : QueuedRange → Type 0 = λ r. is_held r.kind r.slot.0 other ≡ true in
+    subst (λ (rs : List QueuedRange). AllByRecursion H rs) (sym ranges)
+    (each_weaker (λ r. is_held r.kind r.slot.0 q ≡ true) H q.ranges (λ r held. held_same r.kind r.slot.0 q other memories held) owned)
+
 ranges_append : (slot : ℕ) (xs ys : List QueuedRange) → ranges_of Memory slot (xs ++ ys) ≡ ranges_of Memory slot xs ++ ranges_of Memory slot ys
 ranges_append slot xs ys =
     let f : QueuedRange → ByteRange = λ r. r.range in
