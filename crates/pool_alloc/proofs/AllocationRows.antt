@@ -34,28 +34,12 @@ use Rattle.pool_alloc.specs.declared.frame.Frame.{Frame}
 use Rattle.pool_alloc.specs.declared.frame.Phase.TheVariants.{Pick, TakeRegion, Empty, Instantiate, MakeMemory, CountMemory, PutRefused, FreeRefused, CountInstance}
 use Rattle.pool_alloc.specs.declared.frame.AfterFlush.TheVariants.{PickAgain}
 use Rattle.pool_alloc.specs.declared.frame.Outcome.TheVariants as answer
+use Rattle.pool_alloc.proofs.Telling.{mod_below, told_both, told_weaker}
 use Rattle.pool_alloc.proofs.CoreChanges.{core_with_shard, core_with_cell, core_with_queue, core_with_counters}
 use Rattle.pool_alloc.proofs.SlotIdentity.{IsOneSlot, one_left, one_sized, one_emptied, slot_of_one, slot_made, clean_made}
 use Rattle.pool_alloc.proofs.QueueJoins.{no_ranges, owners_same}
 use Rattle.pool_alloc.proofs.Picks.{picked_sound, picked_same, picked_inside}
 use Rattle.pool_alloc.proofs.Going.{Held, IsSoundAfter, either, goes_on, goes_either, ended, refused, allocates_next, no_slot_found, begins_flush, empty_length, some_length}
-
-pub mod_below : (n m : ℕ) → 0 < m → n % m < m
-mod_below n m some = mod-lt n some
-
-told_both : {X : Type 0} (A B C : X → Type 0) (o : Option X) → ((x : X) → A x → B x → C x) → IfSome o A → IfSome o B → IfSome o C
-told_both A B C None step a b = a
-told_both A B C (Some x) step a b = step x a b
-
-told_weaker : {X : Type 0} (A B : X → Type 0) (o : Option X) → ((x : X) → A x → B x) → IfSome o A → IfSome o B
-told_weaker A B None step a = a
-told_weaker A B (Some x) step a = step x a
-
--- what is told of an element that is there
-told_there : {X : Type 0} (Q : Type 0) (xs : List X) (k : ℕ) → k < length xs → IfSome (slice_get xs k) (λ x. Q) → Q
-told_there Q [] k below h = absurd (omega arith)
-told_there Q (x ∷ xs) zero below h = h
-told_there Q (x ∷ xs) (suc k) below h = told_there Q xs k (omega arith) h
 
 -- The memories of a module that breaks no rule are supported.
 fits_first : (b : Bool) (rest : Option Unsupported) (rule : Unsupported) → (if b then rest else Some rule) ≡ None → (b ≡ true) × (rest ≡ None)
@@ -80,25 +64,6 @@ supported s decls images of e =
           (λ decl fits image. record { page_log2 = image.0; minimum = fits; image_fits = image.1 })
           (fits_each s decls e k) (of.each k);
     }
-
--- an instantiated slot has as much accessible as was asked for
-resized_enough : (size : ℕ) (hide : Bool) (s : Slot) → size ≤ (resized size hide s).accessible.bytes
-resized_enough size hide s =
-    let P : Slot → Type 0 = λ t. size ≤ t.accessible.bytes in
-    cond_both (nat_lt s.accessible.bytes size) _ _ P
-    (λ e. omega arith)
-    (λ e. cond_both (hide && nat_lt size s.accessible.bytes) _ _ P (λ f. omega arith) (λ f. ltb-false s.accessible.bytes size e))
-
-enough : (initial : ℕ) (hide : Bool) (old new : Slot) → 0 < old.region.page → IsSized initial hide old new → initial ≤ new.accessible.bytes
-enough initial hide old new some sized =
-    let up : initial ≤ rounded_up old.region.page initial = rounded_up_above old.region.page initial some in
-    let least : rounded_up old.region.page initial ≤ (resized (rounded_up old.region.page initial) hide old).accessible.bytes = resized_enough (rounded_up old.region.page initial) hide old in
-    let now : new.accessible.bytes ≡ (resized (rounded_up old.region.page initial) hide old).accessible.bytes = ap (λ c. c.bytes) sized.accessible in
-    rw now (omega arith)
-
-one_instantiated : (fault : Bool) (initial : ℕ) (hide : Bool) (image : Option Image) (old new : Slot) → InstantiatesAs fault initial hide image old new → IsOneSlot old new
-one_instantiated true initial hide image old new told = one_left old new told
-one_instantiated false initial hide image old new told = one_sized initial hide old new told.sizes
 
 -- a queue that was taken
 taken_shared : (maker : MakerTold) (s : Settings) (q : QueueState) → IsSettings s → IsShared maker s q → IsShared maker s (after_take q)

@@ -3,4 +3,6 @@ pub mod CoreChanges
 pub mod Going
 pub mod Picks
 pub mod QueueJoins
+pub mod RegionRows
 pub mod SlotIdentity
+pub mod Telling
