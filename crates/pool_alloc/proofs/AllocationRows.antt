@@ -38,6 +38,7 @@ use Rattle.pool_alloc.proofs.Telling.{mod_below, told_both, told_weaker}
 use Rattle.pool_alloc.proofs.CoreChanges.{core_with_shard, core_with_cell, core_with_queue, core_with_counters}
 use Rattle.pool_alloc.proofs.SlotIdentity.{IsOneSlot, one_left, one_sized, one_emptied, slot_of_one, slot_made, clean_made}
 use Rattle.pool_alloc.proofs.QueueJoins.{no_ranges, owners_same}
+use Rattle.pool_alloc.proofs.LocalQueues.{taken_shared, taken_local, local_of_shared}
 use Rattle.pool_alloc.proofs.Picks.{picked_sound, picked_same, picked_inside}
 use Rattle.pool_alloc.proofs.Going.{Held, IsSoundAfter, either, goes_on, goes_either, ended, refused, allocates_next, no_slot_found, begins_flush, empty_length, some_length}
 
@@ -64,37 +65,6 @@ supported s decls images of e =
           (λ decl fits image. record { page_log2 = image.0; minimum = fits; image_fits = image.1 })
           (fits_each s decls e k) (of.each k);
     }
-
--- a queue that was taken
-taken_shared : (maker : MakerTold) (s : Settings) (q : QueueState) → IsSettings s → IsShared maker s q → IsShared maker s (after_take q)
-taken_shared maker s q settings shared =
-    record {
-      owners = tt;
-      short = omega (arith, settings.batch.0);
-      slots = omega arith;
-      range_room = shared.range_room;
-      slot_room = shared.slot_room;
-      regions = All-nil _;
-      queue = record { range_room = omega arith; slot_room = omega arith; distinct = tt; each = tt };
-    }
-
-pub taken_local : (maker : MakerTold) (s : Settings) (spare q : QueueState) → IsLocal maker s spare → IsLocal maker s q → IsLocal maker s (taken_into spare q)
-taken_local maker s spare q had local =
-    record {
-      owners = owners_same q (taken_into spare q) refl refl local.owners;
-      range_room = had.range_room;
-      slot_room = had.slot_room;
-      regions = local.regions;
-      queue = record {
-        range_room = omega (arith, local.queue.range_room, local.range_room, had.range_room);
-        slot_room = omega (arith, local.queue.slot_room, local.slot_room, had.slot_room);
-        distinct = local.queue.distinct;
-        each = local.queue.each;
-      };
-    }
-
-pub local_of_shared : (maker : MakerTold) (s : Settings) (q : QueueState) → IsShared maker s q → IsLocal maker s q
-local_of_shared maker s q shared = record { owners = shared.owners; range_room = shared.range_room; slot_room = shared.slot_room; regions = shared.regions; queue = shared.queue }
 
 module _ {P : Type 0} where
   -- A number is drawn from the key counter.
@@ -172,7 +142,7 @@ module _ {P : Type 0} where
       let q : QueueState = queue_at i c.queues in
       let shared : IsShared maker c.settings q = core.queues i below in
       let left : PoolCore P = with_queue i (after_take q) c in
-      let still : IsCore maker left = core_with_queue maker i (after_take q) c core (taken_shared maker c.settings q core.settings shared) in
+      let still : IsCore maker left = core_with_queue maker i (after_take q) c core (taken_shared maker c.settings q core.settings shared.range_room shared.slot_room) in
       let has : Frame P = record f { local = taken_into f.local q } in
       let freed : length f.freed.items ≡ 0 = ap length settled.none_freed in
       let holds : Held maker c.settings has =

@@ -1,6 +1,7 @@
 pub mod AllocationRows
 pub mod CoreChanges
 pub mod Going
+pub mod LocalQueues
 pub mod Picks
 pub mod QueueJoins
 pub mod RegionRows

@@ -2,7 +2,7 @@
 use Rattle.std.proofs.Common.{◌≡◌, ℕ, ◌+◌, ◌-◌, ◌^◌, ◌≤◌, ◌<◌, Bool, true, false, List, [], ◌∷◌, length, refl, ◌∙◌, sym, subst, arith, Option, Some, None, All, replicate}
 use Rattle.std.specs.Prelude.{IfSome, is_some, option_map, map, cond, if◌then◌else◌}
 use Rattle.std.specs.List.{AllZip}
-use Rattle.std.proofs.lemmas.List.{length-replicate}
+use Rattle.std.proofs.lemmas.List.{length-map, length-replicate}
 use Rattle.std.proofs.lemmas.List.Elements.{All-nil, All-cons, All-head, All-tail}
 use Rattle.pool_pages.specs.Count.{count, rounded_up}
 use Rattle.pool_pages.specs.Contents.{Contents}
@@ -11,7 +11,8 @@ use Rattle.pool_pages.specs.MakerTold.{MakerTold, fresh}
 use Rattle.pool_images.specs.declared.ranges.ByteRange.{ByteRange}
 use Rattle.pool_images.specs.Slots.{Slot, IsClean, IsReady, IsLeft, IsSized, Holds, size_of, called, emptied, decommitted_all}
 use Rattle.pool_slots.specs.Cells.{IsRegionOf, IsSlotOf, region_made}
-use Rattle.pool_slots.specs.Queues.{QueuedMemory, IsLeftBy, IsSlotLeft, change_at}
+use Rattle.pool_slots.specs.Queues.{QueueState, QueuedMemory, IsLeftBy, IsSlotLeft, is_of, front, first_slot, change_at, after_run}
+use Rattle.pool_slots.specs.declared.queued_range.QueueKind.TheVariants.{Memory}
 use Rattle.pool_alloc.specs.Own.{image_made}
 use Rattle.pool_alloc.specs.Sound.{IsQueuedOf}
 
@@ -150,13 +151,19 @@ changed_if : (maker : MakerTold) (static_size : ℕ) (change : Slot → Slot) (m
 changed_if maker static_size change m true one of = record { slot = slot_of_one maker static_size m.index m.slot (change m.slot) (one m.slot) of.slot }
 changed_if maker static_size change m false one of = of
 
-pub queued_changed : (maker : MakerTold) (static_size slot : ℕ) (ranges : List ByteRange) (ms : List QueuedMemory) → All (IsQueuedOf maker static_size) ms → All (IsQueuedOf maker static_size) (map (change_at slot (decommitted_all ranges)) ms)
+queued_changed : (maker : MakerTold) (static_size slot : ℕ) (ranges : List ByteRange) (ms : List QueuedMemory) → All (IsQueuedOf maker static_size) ms → All (IsQueuedOf maker static_size) (map (change_at slot (decommitted_all ranges)) ms)
 queued_changed maker static_size slot ranges [] of = All-nil (IsQueuedOf maker static_size)
 queued_changed maker static_size slot ranges (m ∷ ms) of =
     let P : QueuedMemory → Type 0 = IsQueuedOf maker static_size in
     All-cons P (change_at slot (decommitted_all ranges) m) (map (change_at slot (decommitted_all ranges)) ms)
     (changed_if maker static_size (decommitted_all ranges) m _ (λ s. one_decommitted s s ranges (one_slot s)) (All-head P m ms of))
     (queued_changed maker static_size slot ranges ms (All-tail P m ms of))
+
+pub queued_after_run : (maker : MakerTold) (static_size : ℕ) (q : QueueState) → All (IsQueuedOf maker static_size) q.memories → All (IsQueuedOf maker static_size) (after_run q).memories
+queued_after_run maker static_size q of = queued_changed maker static_size (first_slot q.ranges) (map (λ r. r.range) (front (is_of Memory (first_slot q.ranges)) q.ranges)) q.memories of
+
+pub length_after_run : (q : QueueState) → length (after_run q).memories ≡ length q.memories
+length_after_run q = length-map q.memories (change_at (first_slot q.ranges) (decommitted_all (map (λ r. r.range) (front (is_of Memory (first_slot q.ranges)) q.ranges))))
 
 -- and where a call on one failed
 left_if : (b : Bool) (old new : Slot) → IsSlotLeft b old new → IsOneSlot old new
