@@ -5,5 +5,6 @@ pub mod LocalQueues
 pub mod Picks
 pub mod QueueJoins
 pub mod RegionRows
+pub mod ReturnRows
 pub mod SlotIdentity
 pub mod Telling
