@@ -1,6 +1,7 @@
 pub mod AllocationRows
 pub mod CoreChanges
 pub mod Going
+pub mod Kept
 pub mod LocalQueues
 pub mod Picks
 pub mod QueueJoins
