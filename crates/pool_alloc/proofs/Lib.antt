@@ -1,4 +1,5 @@
 pub mod AllocationRows
+pub mod BegunCalls
 pub mod CoreChanges
 pub mod Going
 pub mod Kept
@@ -7,5 +8,6 @@ pub mod Picks
 pub mod QueueJoins
 pub mod RegionRows
 pub mod ReturnRows
+pub mod SameSizes
 pub mod SlotIdentity
 pub mod Telling

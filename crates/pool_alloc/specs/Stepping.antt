@@ -40,6 +40,13 @@ module _ {P : Type 0} where
   abbrev pub StepsTo : PoolCore P → Frame P → After P → Type 0
   StepsTo c f a = (g : Given) × Takes g c f a
 
+  -- the pool has the same settings, and as many slots, shards and queues
+  pub record IsSameSize (c d : PoolCore P) : Type 0 where
+    pub settings : d.settings ≡ c.settings
+    pub slots : length d.cells ≡ length c.cells
+    pub shards : length d.shards ≡ length c.shards
+    pub queues : length d.queues ≡ length c.queues
+
   -- Nothing is lost or made: what the step takes from the pool's parts comes into the frame or the grant, and the other
   -- way round. Counters change as what is counted.
   pub record Conserves (c : PoolCore P) (f : Frame P) (a : After P) : Type 0 where
