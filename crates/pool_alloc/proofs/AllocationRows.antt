@@ -25,8 +25,7 @@ use Rattle.pool_alloc.specs.Leases.{Lease, IsMemory}
 use Rattle.pool_alloc.specs.Own.{memories_refused, memory_made}
 use Rattle.pool_alloc.specs.Steps.{Given, memories_asked, images_asked, image_wanted, wanted, shard_at, cell_at, queue_at, shard_of, local_of, with_shard, with_cell, with_queue, counting_instances, counting_memories, goes, ends, allocate_next, refuses, no_slot, flushes, shard_tried, queue_tried, key_row, validated, validate_row, count_instance_row, picked, pick_row, took, take_queue_row, holds_region, take_region_row, empty_row, instantiate_row, made, make_memory_row, count_memory_row, put_refused_row, free_refused_row}
 use Rattle.pool_alloc.specs.Answers.{Empties, InstantiatesAs, InstantiatesFor}
-use Rattle.pool_alloc.specs.Sound.{IsCore, IsSettings, IsShared, IsLocal, IsLeaseOf, IsSettled, IsAtRest, IsAllocating, IsSupported, AreSupported, AreImagesOf, HasSlot, HasBegun, IsNew, IfAllocated}
-use Rattle.pool_alloc.specs.Relied.{IsShardOf, IsMadeIn}
+use Rattle.pool_alloc.specs.Sound.{IsCore, IsSettings, IsShared, IsLocal, IsLeaseOf, IsSettled, IsAtRest, IsAllocating, IsSupported, AreSupported, AreImagesOf, HasImages, HasSlot, HasBegun, IsNew, IfAllocated}
 use Rattle.pool_alloc.specs.declared.pool_core.PoolCore.{PoolCore}
 use Rattle.pool_alloc.specs.declared.pool_core.Counters.{Counters}
 use Rattle.pool_alloc.specs.declared.pool_core.Settings.{Settings}
@@ -82,35 +81,35 @@ module _ {P : Type 0} where
       rest tt
 
   -- The module is tested.
-  validated_kept : (maker : MakerTold) (decls : List MemoryDecl) (g : Given) (o : Option Unsupported) (c : PoolCore P) (f : Frame P) → o ≡ memories_refused c.settings (memories_asked f.asked) → IsCore maker c → Held maker c.settings f → IsAtRest f → IsSome f.asked → AreImagesOf c.settings (memories_asked f.asked) (images_asked f.asked) → IsSoundAfter maker decls (validated g o c f)
-  validated_kept maker decls g (Some rule) c f e core held rest some of = ended maker decls c f (answer.Refused (refusal.Unsupported rule)) core held rest tt
-  validated_kept maker decls g None c f e core held rest some of =
+  validated_kept : (maker : MakerTold) (decls : List MemoryDecl) (o : Option Unsupported) (wants : Bool) (c : PoolCore P) (f : Frame P) → o ≡ memories_refused c.settings (memories_asked f.asked) → IsCore maker c → Held maker c.settings f → IsAtRest f → IsSome f.asked → AreImagesOf c.settings (memories_asked f.asked) (images_asked f.asked) → HasImages f.asked → IsSoundAfter maker decls (validated o wants c f)
+  validated_kept maker decls (Some rule) wants c f e core held rest some of images = ended maker decls c f (answer.Refused (refusal.Unsupported rule)) core held rest tt
+  validated_kept maker decls None wants c f e core held rest some of images =
       let room : Frame P = record f { granted = record { items = []; room = length (memories_asked f.asked) } } in
-      either maker decls g.wants (ends c f (answer.Refused refusal.Memory)) (goes c room CountInstance)
-      (λ wants. ended maker decls c f (answer.Refused refusal.Memory) core held rest tt)
+      either maker decls wants (ends c f (answer.Refused refusal.Memory)) (goes c room CountInstance)
+      (λ none. ended maker decls c f (answer.Refused refusal.Memory) core held rest tt)
       (λ has. goes_on maker decls c room CountInstance core
-        (record {
-          stripe = held.stripe;
-          queue = held.queue;
-          freed_room = held.freed_room;
-          freed_bytes = held.freed_bytes;
-          granted = All-nil (IsLeaseOf maker c.settings);
-          returning = held.returning;
-        })
-        (record { settled = rest.settled; none_granted = refl; none_returning = rest.none_returning }, some, supported c.settings (memories_asked f.asked) (images_asked f.asked) of (sym e), refl))
+      (record {
+        stripe = held.stripe;
+        queue = held.queue;
+        freed_room = held.freed_room;
+        freed_bytes = held.freed_bytes;
+        granted = All-nil (IsLeaseOf maker c.settings);
+        returning = held.returning;
+      })
+      (record { settled = rest.settled; none_granted = refl; none_returning = rest.none_returning }, some, supported c.settings (memories_asked f.asked) (images_asked f.asked) of (sym e), refl, images))
 
-  pub validate_kept : (maker : MakerTold) (decls : List MemoryDecl) (g : Given) (c : PoolCore P) (f : Frame P) → IsCore maker c → Held maker c.settings f → IsAtRest f → IsSome f.asked → AreImagesOf c.settings (memories_asked f.asked) (images_asked f.asked) → IsSoundAfter maker decls (validate_row g c f)
-  validate_kept maker decls g c f core held rest some of = validated_kept maker decls g (memories_refused c.settings (memories_asked f.asked)) c f refl core held rest some of
+  pub validate_kept : (maker : MakerTold) (decls : List MemoryDecl) (wants : Bool) (c : PoolCore P) (f : Frame P) → IsCore maker c → Held maker c.settings f → IsAtRest f → IsSome f.asked → AreImagesOf c.settings (memories_asked f.asked) (images_asked f.asked) → HasImages f.asked → IsSoundAfter maker decls (validate_row wants c f)
+  validate_kept maker decls wants c f core held rest some of images = validated_kept maker decls (memories_refused c.settings (memories_asked f.asked)) wants c f refl core held rest some of images
 
   -- The instance is counted.
-  pub count_instance_kept : (maker : MakerTold) (c : PoolCore P) (f : Frame P) → IsCore maker c → Held maker c.settings f → IsAtRest f → AreSupported c.settings (memories_asked f.asked) (images_asked f.asked) → f.granted.room ≡ length (memories_asked f.asked) → IsSoundAfter maker (memories_asked f.asked) (count_instance_row c f)
-  count_instance_kept maker c f core held rest can room =
+  pub count_instance_kept : (maker : MakerTold) (c : PoolCore P) (f : Frame P) → IsCore maker c → Held maker c.settings f → IsAtRest f → AreSupported c.settings (memories_asked f.asked) (images_asked f.asked) → HasImages f.asked → f.granted.room ≡ length (memories_asked f.asked) → IsSoundAfter maker (memories_asked f.asked) (count_instance_row c f)
+  count_instance_kept maker c f core held rest can images room =
       let counted : PoolCore P = counting_instances (c.counters.core_instances + 1) c in
       let still : IsCore maker counted = core_with_counters maker (record c.counters { core_instances = c.counters.core_instances + 1 }) c core in
       let none : length f.granted.items ≡ 0 = ap (λ (l : List Lease). length l) rest.none_granted in
       let e : AllocError = refusal.Limit (record { limit = c.settings.max_core_instances; kind = CoreInstances }) in
       either maker (memories_asked f.asked) (nat_lt c.counters.core_instances c.settings.max_core_instances) (allocate_next counted f) (refuses counted f e)
-      (λ more. allocates_next maker counted f still held rest.settled can room (omega arith) rest.none_returning)
+      (λ more. allocates_next maker counted f still held rest.settled can images room (omega arith) rest.none_returning)
       (λ full. refused maker (memories_asked f.asked) counted f e still held rest.settled)
 
   -- A slot is picked from a shard.
@@ -131,8 +130,8 @@ module _ {P : Type 0} where
       picked_kept maker decls (pick_answer (wanted f) shard) shard queues tried (with_shard j new c) f still held settled allocating gone
       (rw (length-set c.shards j new) under)
       (told_weaker (λ p. p.0.0 < shard.capacity) (λ p. slot_number shard p.0.0 < length c.cells) (pick_answer (wanted f) shard)
-        (λ p within. (core.layout.back j p.0.0 below within).0)
-        (picked_inside (wanted f) shard (core.shards j below)))
+      (λ p within. (core.layout.back j p.0.0 below within).0)
+      (picked_inside (wanted f) shard (core.shards j below)))
 
   -- A queue is taken.
   pub take_queue_kept : (maker : MakerTold) (decls : List MemoryDecl) (queues : ℕ) (c : PoolCore P) (f : Frame P) → IsCore maker c → Held maker c.settings f → IsSettled f → IsAllocating c.settings f → queues < length c.queues → IsSoundAfter maker decls (take_queue_row queues c f)
@@ -157,6 +156,6 @@ module _ {P : Type 0} where
       let gone : queues + 1 ≤ length left.queues = rw (length-set c.queues i (after_take q)) (omega arith) in
       either maker decls (length q.memories == 0) (no_slot (queues + 1) left has) (flushes (PickAgain (queues + 1)) left has)
       (λ e.
-        let none = empty_length q.memories e in
-        no_slot_found maker decls (queues + 1) left has still holds (record { no_ranges = no_ranges q shared.owners none; no_slots = none; none_freed = settled.none_freed }) allocating)
+      let none = empty_length q.memories e in
+      no_slot_found maker decls (queues + 1) left has still holds (record { no_ranges = no_ranges q shared.owners none; no_slots = none; none_freed = settled.none_freed }) allocating)
       (λ e. begins_flush maker decls (PickAgain (queues + 1)) left has still holds (allocating, gone) settled.none_freed (some_length q.memories e))

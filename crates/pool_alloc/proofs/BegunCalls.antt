@@ -85,7 +85,7 @@ module _ {P : Type 0} where
 
   begun_at : (maker : MakerTold) (asks : Call P) (c : PoolCore P) (f : Frame P) → Held maker c.settings f → IsAtRest f → MayBegin maker c.settings asks f → IsFrame maker c (begun_call asks f)
   begun_at maker call.Key c f held rest may = frame_of maker c (record f { phase = Key }) held rest
-  begun_at maker (call.Module m) c f held rest may = frame_of maker c (begun_call (call.Module m) f) held (rest, refl, may.1)
+  begun_at maker (call.Module m) c f held rest may = frame_of maker c (begun_call (call.Module m) f) held (rest, refl, may.1, may.2)
   begun_at maker (call.GiveBack grant) c f held rest may = begun_back maker grant c f held rest may.1
 
   -- the frame is sound once a call began that may

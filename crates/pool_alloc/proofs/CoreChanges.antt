@@ -1,5 +1,5 @@
 -- The pool's parts stay sound where one of them changes.
-use Rattle.std.proofs.Common.{◌≡◌, ℕ, ◌<◌, List, length, refl, sym, subst, inl, inr, arith, get_or, set}
+use Rattle.std.proofs.Common.{◌≡◌, ℕ, ◌<◌, List, length, refl, sym, subst, inl, inr, arith, get_or, set, ◌≤◌}
 use Rattle.std.proofs.lemmas.Bool.{cases_eq, cases_lt}
 use Rattle.std.proofs.lemmas.List.{length-set, get_or-set_same, get_or-set_other, set_past}
 use Rattle.pool_pages.specs.MakerTold.{MakerTold}
@@ -74,6 +74,12 @@ module _ {P : Type 0} where
         queues_some = core.queues_some;
         queues = core.queues;
       }
+
+  -- past the last shard nothing is replaced
+  pub core_past_shards : (maker : MakerTold) (j : ℕ) (shard : ShardState) (c : PoolCore P) → IsCore maker c → length c.shards ≤ j → IsCore maker (with_shard j shard c)
+  core_past_shards maker j shard c core past =
+      let C : List ShardState → Type 0 = λ shards. IsCore maker (record c { shards = shards }) in
+      subst C (sym (set_past c.shards j shard past)) core
 
   pub core_with_cell : (maker : MakerTold) (i : ℕ) (cell : Cell) (c : PoolCore P) → IsCore maker c → IsCell maker c.settings.max_memory_size i cell → IsCore maker (with_cell i cell c)
   core_with_cell maker i cell c core holds =

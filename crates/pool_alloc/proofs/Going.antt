@@ -13,7 +13,7 @@ use Rattle.pool_slots.specs.declared.request.ConcurrencyKind.TheVariants.{Memory
 use Rattle.pool_alloc.specs.Reserved.{Reserved, no_room}
 use Rattle.pool_alloc.specs.Leases.{Lease}
 use Rattle.pool_alloc.specs.Steps.{After, memories_asked, images_asked, goes, ends, give_back_next, refuses, allocate_next, flushes, after_flush, no_slot}
-use Rattle.pool_alloc.specs.Sound.{IsCore, IsFrame, IsLocal, IsLeaseOf, NothingWaits, NothingHeld, IsSettled, IsAtRest, IsAllocating, AreSupported, IsShapedAt, IsShapedAfter}
+use Rattle.pool_alloc.specs.Sound.{IsCore, IsFrame, IsLocal, IsLeaseOf, NothingWaits, NothingHeld, IsSettled, IsAtRest, IsAllocating, AreSupported, HasImages, IsShapedAt, IsShapedAfter}
 use Rattle.pool_alloc.specs.Calls.{IsGrantOf, IfGranted}
 use Rattle.pool_alloc.specs.declared.pool_core.PoolCore.{PoolCore}
 use Rattle.pool_alloc.specs.declared.pool_core.Settings.{Settings}
@@ -127,22 +127,22 @@ module _ {P : Type 0} where
       })
       settled refl
 
-  pub allocates_next : (maker : MakerTold) (c : PoolCore P) (f : Frame P) → IsCore maker c → Held maker c.settings f → IsSettled f → AreSupported c.settings (memories_asked f.asked) (images_asked f.asked) → f.granted.room ≡ length (memories_asked f.asked) → length f.granted.items ≤ length (memories_asked f.asked) → f.returning.items ≡ [] → IsSoundAfter maker (memories_asked f.asked) (allocate_next c f)
-  allocates_next maker c f core held settled supported room within none =
+  pub allocates_next : (maker : MakerTold) (c : PoolCore P) (f : Frame P) → IsCore maker c → Held maker c.settings f → IsSettled f → AreSupported c.settings (memories_asked f.asked) (images_asked f.asked) → HasImages f.asked → f.granted.room ≡ length (memories_asked f.asked) → length f.granted.items ≤ length (memories_asked f.asked) → f.returning.items ≡ [] → IsSoundAfter maker (memories_asked f.asked) (allocate_next c f)
+  allocates_next maker c f core held settled supported images room within none =
       either maker (memories_asked f.asked) (nat_lt (length f.granted.items) (length (memories_asked f.asked))) (goes c f (Pick 0 0)) (ends c (record f { granted = no_room }) (answer.Granted (Instance (record { memories = f.granted }))))
       (λ more. goes_on maker (memories_asked f.asked) c f (Pick 0 0) core held
-        (settled, record { supported = supported; room = room; more = ltb-true (length f.granted.items) (length (memories_asked f.asked)) more; none_returning = none }, omega arith, core.layout.some))
+      (settled, record { supported = supported; images = images; room = room; more = ltb-true (length f.granted.items) (length (memories_asked f.asked)) more; none_returning = none }, omega arith, core.layout.some))
       (λ last. ended maker (memories_asked f.asked) c (record f { granted = no_room }) (answer.Granted (Instance (record { memories = f.granted }))) core
-        (record {
-          stripe = held.stripe;
-          queue = held.queue;
-          freed_room = held.freed_room;
-          freed_bytes = held.freed_bytes;
-          granted = All-nil (IsLeaseOf maker c.settings);
-          returning = held.returning;
-        })
-        (record { settled = settled; none_granted = refl; none_returning = none })
-        (held.granted, let all = ltb-false (length f.granted.items) (length (memories_asked f.asked)) last in omega arith))
+      (record {
+        stripe = held.stripe;
+        queue = held.queue;
+        freed_room = held.freed_room;
+        freed_bytes = held.freed_bytes;
+        granted = All-nil (IsLeaseOf maker c.settings);
+        returning = held.returning;
+      })
+      (record { settled = settled; none_granted = refl; none_returning = none })
+      (held.granted, let all = ltb-false (length f.granted.items) (length (memories_asked f.asked)) last in omega arith))
 
   pub no_slot_found : (maker : MakerTold) (decls : List MemoryDecl) (queues : ℕ) (c : PoolCore P) (f : Frame P) → IsCore maker c → Held maker c.settings f → IsSettled f → IsAllocating c.settings f → IsSoundAfter maker decls (no_slot queues c f)
   no_slot_found maker decls queues c f core held settled allocating =

@@ -6,8 +6,10 @@ pub mod Kept
 pub mod LocalQueues
 pub mod Picks
 pub mod QueueJoins
+pub mod QueueRuns
 pub mod RegionRows
 pub mod ReturnRows
 pub mod SameSizes
+pub mod ShardFrees
 pub mod SlotIdentity
 pub mod Telling

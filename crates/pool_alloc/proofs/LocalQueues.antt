@@ -8,9 +8,9 @@ use Rattle.pool_slots.specs.declared.queued_range.QueuedRange.{QueuedRange}
 use Rattle.pool_slots.specs.Queues.{QueueState, QueuedMemory, AreApart, IsLeftBy, is_held, after_take, taken_into, emptied, joined, first_slot, after_run}
 use Rattle.pool_alloc.specs.Answers.{Decommits}
 use Rattle.pool_alloc.specs.Sound.{IsSettings, IsShared, IsLocal, IsQueuedOf}
-use Rattle.pool_alloc.specs.Relied.{IsDecommitted}
 use Rattle.pool_alloc.specs.declared.pool_core.Settings.{Settings}
 use Rattle.pool_alloc.proofs.SlotIdentity.{queued_after_run, length_after_run, queued_faulted}
+use Rattle.pool_alloc.proofs.QueueRuns.{run_queue, run_owners, faulted_queue, faulted_owners}
 use Rattle.pool_alloc.proofs.QueueJoins.{owners_same, joined_queue, joined_owners, rest_queue}
 
 -- a queue once it was taken
@@ -83,33 +83,31 @@ pub record IsStillLocal (maker : MakerTold) (s : Settings) (old new : QueueState
   pub queue : IsLocal maker s new
   pub long : length new.memories ≡ length old.memories
 
-pub decommitted_local : (maker : MakerTold) (s : Settings) (fault : Bool) (old new : QueueState) → Decommits fault old new → IsLocal maker s old → IsDecommitted new → IsStillLocal maker s old new
-decommitted_local maker s true old new faulted local is =
+pub decommitted_local : (maker : MakerTold) (s : Settings) (fault : Bool) (old new : QueueState) → Decommits fault old new → IsLocal maker s old → IsStillLocal maker s old new
+decommitted_local maker s true old new faulted local =
     record {
       queue = record {
-        owners = is.owners;
+        owners = faulted_owners old new faulted;
         range_room = faulted.range_room ∙ local.range_room;
         slot_room = faulted.slot_room ∙ local.slot_room;
         regions = queued_faulted maker s.max_memory_size (first_slot old.ranges) old.memories new.memories faulted.memories local.regions;
-        queue = is.queue;
+        queue = faulted_queue old new faulted local.queue;
       };
       long = sym (length_all_zip (IsLeftBy (first_slot old.ranges)) old.memories new.memories faulted.memories);
     }
-decommitted_local maker s false old new run local is =
-    let L : QueueState → Type 0 = λ n. IsDecommitted n → IsStillLocal maker s old n in
-    let after : L (after_run old) =
-    λ done.
+decommitted_local maker s false old new run local =
+    let after : IsStillLocal maker s old (after_run old) =
     record {
       queue = record {
-        owners = done.owners;
+        owners = run_owners old local.owners;
         range_room = local.range_room;
         slot_room = local.slot_room;
         regions = queued_after_run maker s.max_memory_size old local.regions;
-        queue = done.queue;
+        queue = run_queue old local.queue;
       };
       long = length_after_run old;
     } in
-    subst L (sym run) after is
+    subst (λ (n : QueueState). IsStillLocal maker s old n) (sym run) after
 
 -- the local queue without its first slot, where it has no range
 pub rest_local : (maker : MakerTold) (s : Settings) (m : QueuedMemory) (rest : List QueuedMemory) (q : QueueState) → q.ranges ≡ [] → q.memories ≡ m ∷ rest → IsLocal maker s q → IsLocal maker s (record q { memories = rest })

@@ -51,8 +51,8 @@ choice_taken want s =
     let cold : IfSome (cold_choice s) (IsChoice s) = if_taken s next_cold (nat_lt s.cold s.capacity) (λ e. ltb-true s.cold s.capacity e) in
     either_taken s (affine_choice want s) _ (affine_taken want s)
     (one_taken s (nat_lt (length s.warm) s.budget) (option_or (cold_choice s) (warm_choice s)) (option_or (warm_choice s) (cold_choice s))
-      (either_taken s (cold_choice s) (warm_choice s) cold warm)
-      (either_taken s (warm_choice s) (cold_choice s) warm cold))
+    (either_taken s (cold_choice s) (warm_choice s) cold warm)
+    (either_taken s (warm_choice s) (cold_choice s) warm cold))
 
 mod_below : (n m : ℕ) → 0 < m → n % m < m
 mod_below n m some = mod-lt n some

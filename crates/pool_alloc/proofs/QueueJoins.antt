@@ -18,7 +18,7 @@ each_append : {X : Type 0} (P : X → Type 0) (xs ys : List X) → AllByRecursio
 each_append P [] ys a b = b
 each_append P (x ∷ xs) ys a b = (a.0, each_append P xs ys a.1 b)
 
-each_weaker : {X : Type 0} (P Q : X → Type 0) (xs : List X) → ((x : X) → P x → Q x) → AllByRecursion P xs → AllByRecursion Q xs
+pub each_weaker : {X : Type 0} (P Q : X → Type 0) (xs : List X) → ((x : X) → P x → Q x) → AllByRecursion P xs → AllByRecursion Q xs
 each_weaker P Q [] step a = tt
 each_weaker P Q (x ∷ xs) step a = (step x a.0, each_weaker P Q xs step a.1)
 
@@ -126,9 +126,9 @@ joined_queue q more owned other_owned apart is other range_room slot_room =
       slot_room = rw (length-append q.memories more.memories) slot_room;
       distinct = distinct_both q.memories more.memories is.distinct other.distinct apart;
       each = each_append (LeavesClean (q.ranges ++ more.ranges)) q.memories more.memories
-        (each_both (LeavesClean q.ranges) (λ m. holds m.index more.memories ≡ false) (LeavesClean (q.ranges ++ more.ranges)) q.memories
+          (each_both (LeavesClean q.ranges) (λ m. holds m.index more.memories ≡ false) (LeavesClean (q.ranges ++ more.ranges)) q.memories
           (λ m c free. same_ranges q.ranges (q.ranges ++ more.ranges) m (first_ranges m.index q.ranges more.ranges (none_of m.index more other_owned free)) c) is.each apart)
-        (each_both (LeavesClean more.ranges) (λ m. holds m.index q.memories ≡ false) (LeavesClean (q.ranges ++ more.ranges)) more.memories
+          (each_both (LeavesClean more.ranges) (λ m. holds m.index q.memories ≡ false) (LeavesClean (q.ranges ++ more.ranges)) more.memories
           (λ m c free. same_ranges more.ranges (q.ranges ++ more.ranges) m (last_ranges m.index q.ranges more.ranges (none_of m.index q owned free)) c) other.each (apart_back q.memories more.memories apart));
     }
 

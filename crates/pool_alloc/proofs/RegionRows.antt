@@ -1,6 +1,6 @@
 -- The steps of an allocation that have a region in their hands leave what is sound.
 use Rattle.std.proofs.Common.{◌≡◌, ℕ, ◌+◌, ◌<◌, ◌≤◌, Bool, true, false, List, [], ◌∷◌, ◌++◌, length, set, refl, sym, ap, subst, arith, Option, Result, Ok, Err, All}
-use Rattle.std.specs.Prelude.{◌&&◌, nat_lt, if◌then◌else◌, IfSome, IfOk, slice_get}
+use Rattle.std.specs.Prelude.{◌&&◌, ◌^◌, nat_lt, IfSome, IsSome, IfOk, slice_get}
 use Rattle.std.proofs.lemmas.Bool.{ltb-true, ltb-false, cond_both}
 use Rattle.std.proofs.lemmas.List.{length-set, length-append}
 use Rattle.std.proofs.lemmas.List.Elements.{All-push}
@@ -11,7 +11,8 @@ use Rattle.pool_pages.specs.declared.module_types.MemoryDecl.{MemoryDecl}
 use Rattle.pool_images.specs.Images.{Image}
 use Rattle.pool_images.specs.Slots.{Slot, IsClean, IsLeft, IsSized, IsBegun, resized, emptied, hides}
 use Rattle.pool_images.proofs.Begun.{rounded_up_above}
-use Rattle.pool_index.specs.Shard.{ShardState, after_free}
+use Rattle.pool_index.specs.Shard.{ShardState, use_of, after_free}
+use Rattle.pool_limits.specs.Limiter.{Asked, yes, no, fails}
 use Rattle.pool_memory.specs.Memories.{MemoryState}
 use Rattle.pool_slots.specs.Cells.{Cell, unmapped, unknown, previously_used, taken, is_taken, IsCell, IsSlotOf}
 use Rattle.pool_slots.specs.declared.request.AllocError.{AllocError}
@@ -19,10 +20,9 @@ use Rattle.pool_slots.specs.declared.request.AllocError.TheVariants as refusal
 use Rattle.pool_alloc.specs.Reserved.{with_item}
 use Rattle.pool_alloc.specs.Leases.{Lease, IsMemory}
 use Rattle.pool_alloc.specs.Own.{image_made, memory_made}
-use Rattle.pool_alloc.specs.Steps.{Given, memories_asked, image_wanted, shard_at, cell_at, shard_of, local_of, with_shard, with_cell, counting_memories, holds_region, take_region_row, empty_row, instantiate_row, made, make_memory_row, count_memory_row, put_refused_row, free_refused_row}
+use Rattle.pool_alloc.specs.Steps.{memories_asked, image_wanted, shard_at, cell_at, shard_of, local_of, with_shard, with_cell, counting_memories, holds_region, take_region_row, empty_row, instantiate_row, made, make_memory_row, count_memory_row, put_refused_row, free_refused_row}
 use Rattle.pool_alloc.specs.Answers.{Empties, InstantiatesAs, InstantiatesFor}
 use Rattle.pool_alloc.specs.Sound.{IsCore, IsLeaseOf, IsSettled, IsAllocating, HasSlot, HasBegun, IsNew, IfAllocated}
-use Rattle.pool_alloc.specs.Relied.{IsShardOf, IsMadeIn}
 use Rattle.pool_alloc.specs.declared.pool_core.PoolCore.{PoolCore}
 use Rattle.pool_alloc.specs.declared.pool_core.Settings.{Settings}
 use Rattle.pool_alloc.specs.declared.frame.Frame.{Frame}
@@ -30,6 +30,7 @@ use Rattle.pool_alloc.specs.declared.frame.Phase.TheVariants.{Empty, Instantiate
 use Rattle.pool_alloc.proofs.Telling.{told_both, told_weaker, told_there}
 use Rattle.pool_alloc.proofs.CoreChanges.{core_with_shard, core_with_cell, core_with_counters}
 use Rattle.pool_alloc.proofs.SlotIdentity.{IsOneSlot, one_left, one_sized, one_emptied, slot_of_one, slot_made, clean_made}
+use Rattle.pool_alloc.proofs.ShardFrees.{IsShardOf, freed_shard}
 use Rattle.pool_alloc.proofs.Going.{Held, IsSoundAfter, goes_on, goes_either, refused, allocates_next}
 
 -- an instantiated slot has as much accessible as was asked for
@@ -55,6 +56,16 @@ begun_as : (s : Settings) (decl : MemoryDecl) (fault : Bool) (image : Option Ima
 begun_as s decl true image had new some e tells = absurd cc
 begun_as s decl false image had new some e tells = record { begun = tells.begun; accessible = enough (minimum_byte_size decl.ty) (hides decl.ty s.tunables s.page) had new some tells.sizes }
 
+-- the memory lies in the slot that it was made in, and is as large as it begins
+pub record IsMadeIn (decls : List MemoryDecl) (k : ℕ) (held : Slot) (memory : MemoryState) : Type 0 where
+  pub slot : memory.slot ≡ held
+  pub size : IfSome (slice_get decls k) (λ decl. memory.size ≡ minimum_byte_size decl.ty)
+
+made_in : (s : Settings) (decls : List MemoryDecl) (k : ℕ) (asked : Asked) (held : Slot) → IfOk (memory_made s decls k asked held) (IsMadeIn decls k held)
+made_in s decls k yes held = tt
+made_in s decls k no held = tt
+made_in s decls k (fails e) held = tt
+
 has_of_one : (maker : MakerTold) (s : Settings) (total slot : ℕ) (old new : Slot) → IsOneSlot old new → HasSlot maker s total slot old → HasSlot maker s total slot new
 has_of_one maker s total slot old new one has = record { inside = has.inside; region = slot_of_one maker s.max_memory_size slot old new one has.region }
 
@@ -79,38 +90,39 @@ module _ {P : Type 0} where
   take_region_kept maker decls slot c f core held settled allocating inside there = holds_kept maker decls slot (cell_at slot c.cells) c f core held settled allocating inside (core.cells slot inside) there
 
   -- The slot is emptied.
-  pub empty_kept : (maker : MakerTold) (decls : List MemoryDecl) (g : Given) (slot : ℕ) (had : Slot) (c : PoolCore P) (f : Frame P) → IsCore maker c → Held maker c.settings f → IsSettled f → IsAllocating c.settings f → HasSlot maker c.settings (length c.cells) slot had → Empties g.fault had g.slot → (g.fault ≡ false → IsClean g.slot) → IsSoundAfter maker decls (empty_row g slot c f)
-  empty_kept maker decls g slot had c f core held settled allocating has told clean =
-      let T : Bool → Type 0 = λ b. Empties b had g.slot in
-      goes_either maker decls c f g.fault (PutRefused slot g.slot refusal.PageFault) (Instantiate slot g.slot) core held
-      (λ e.
-        let left : IsLeft had g.slot = subst T e told in
-        (settled, allocating, has_of_one maker c.settings (length c.cells) slot had g.slot (one_left had g.slot left) has))
-      (λ e.
-        let is : g.slot ≡ emptied had = subst T e told in
-        let one : IsOneSlot had g.slot = subst (λ (s : Slot). IsOneSlot had s) (sym is) (one_emptied had) in
-        (settled, allocating, has_of_one maker c.settings (length c.cells) slot had g.slot one has, clean e))
+  pub empty_kept : (maker : MakerTold) (decls : List MemoryDecl) (fault : Bool) (new : Slot) (slot : ℕ) (had : Slot) (c : PoolCore P) (f : Frame P) → IsCore maker c → Held maker c.settings f → IsSettled f → IsAllocating c.settings f → HasSlot maker c.settings (length c.cells) slot had → Empties fault had new → IsSoundAfter maker decls (empty_row fault new slot c f)
+  empty_kept maker decls true new slot had c f core held settled allocating has left =
+      goes_on maker decls c f (PutRefused slot new refusal.PageFault) core held
+      (settled, allocating, has_of_one maker c.settings (length c.cells) slot had new (one_left had new left) has)
+  empty_kept maker decls false new slot had c f core held settled allocating has told =
+      let one : IsOneSlot had new = subst (λ (s : Slot). IsOneSlot had s) (sym told.0) (one_emptied had) in
+      goes_on maker decls c f (Instantiate slot new) core held
+      (settled, allocating, has_of_one maker c.settings (length c.cells) slot had new one has, told.1)
 
   -- The slot is instantiated.
-  one_told : (s : Settings) (g : Given) (had : Slot) (f : Frame P) → IsAllocating s f → IfAllocated f (λ decl. InstantiatesFor s decl g.fault (image_wanted f) had g.slot) → IsOneSlot had g.slot
-  one_told s g had f allocating told =
-      told_there (IsOneSlot had g.slot) (memories_asked f.asked) (length f.granted.items) allocating.more
-      (told_weaker (λ decl. InstantiatesFor s decl g.fault (image_wanted f) had g.slot) (λ decl. IsOneSlot had g.slot) (slice_get (memories_asked f.asked) (length f.granted.items))
-        (λ decl tells. one_instantiated g.fault (minimum_byte_size decl.ty) (hides decl.ty s.tunables s.page) (image_wanted f) had g.slot tells) told)
+  one_told : (s : Settings) (fault : Bool) (new had : Slot) (f : Frame P) → IsAllocating s f → IfAllocated f (λ decl. InstantiatesFor s decl fault (image_wanted f) had new) → IsOneSlot had new
+  one_told s fault new had f allocating told =
+      told_there (IsOneSlot had new) (memories_asked f.asked) (length f.granted.items) allocating.more
+      (told_weaker (λ decl. InstantiatesFor s decl fault (image_wanted f) had new) (λ decl. IsOneSlot had new) (slice_get (memories_asked f.asked) (length f.granted.items))
+      (λ decl tells. one_instantiated fault (minimum_byte_size decl.ty) (hides decl.ty s.tunables s.page) (image_wanted f) had new tells) told)
 
-  pub instantiate_kept : (maker : MakerTold) (decls : List MemoryDecl) (g : Given) (slot : ℕ) (had : Slot) (c : PoolCore P) (f : Frame P) → IsCore maker c → Held maker c.settings f → IsSettled f → IsAllocating c.settings f → HasSlot maker c.settings (length c.cells) slot had → IfAllocated f (λ decl. InstantiatesFor c.settings decl g.fault (image_wanted f) had g.slot) → IsSoundAfter maker decls (instantiate_row g slot c f)
-  instantiate_kept maker decls g slot had c f core held settled allocating has told =
-      let one : IsOneSlot had g.slot = one_told c.settings g had f allocating told in
-      let still : HasSlot maker c.settings (length c.cells) slot g.slot = has_of_one maker c.settings (length c.cells) slot had g.slot one has in
+  pub instantiate_kept : (maker : MakerTold) (decls : List MemoryDecl) (fault : Bool) (new : Slot) (slot : ℕ) (had : Slot) (c : PoolCore P) (f : Frame P) → IsCore maker c → Held maker c.settings f → IsSettled f → IsAllocating c.settings f → HasSlot maker c.settings (length c.cells) slot had → IfAllocated f (λ decl. InstantiatesFor c.settings decl fault (image_wanted f) had new) → IsSoundAfter maker decls (instantiate_row fault new slot c f)
+  instantiate_kept maker decls fault new slot had c f core held settled allocating has told =
+      let one : IsOneSlot had new = one_told c.settings fault new had f allocating told in
+      let still : HasSlot maker c.settings (length c.cells) slot new = has_of_one maker c.settings (length c.cells) slot had new one has in
       let some : 0 < had.region.page = omega (arith, has.region.region.page, core.page, core.settings.page.at_least) in
-      goes_either maker decls c f g.fault (PutRefused slot g.slot refusal.PageFault) (MakeMemory slot g.slot) core held
+      goes_either maker decls c f fault (PutRefused slot new refusal.PageFault) (MakeMemory slot new) core held
       (λ e. (settled, allocating, still))
-      (λ e.
-        (settled, allocating, still, told_weaker (λ decl. InstantiatesFor c.settings decl g.fault (image_wanted f) had g.slot) (λ decl. HasBegun (image_wanted f) g.slot decl) (slice_get (memories_asked f.asked) (length f.granted.items))
-          (λ decl tells. begun_as c.settings decl g.fault (image_wanted f) had g.slot some e tells) told))
+      (λ e. (
+        settled,
+        allocating,
+        still,
+        told_weaker (λ decl. InstantiatesFor c.settings decl fault (image_wanted f) had new) (λ decl. HasBegun (image_wanted f) new decl) (slice_get (memories_asked f.asked) (length f.granted.items))
+            (λ decl tells. begun_as c.settings decl fault (image_wanted f) had new some e tells) told,
+      ))
 
   -- The memory is made.
-  memory_new : (f : Frame P) (had : Slot) (memory : MemoryState) → IsMadeIn f had memory → IfAllocated f (HasBegun (image_wanted f) had) → IfAllocated f (IsNew (image_wanted f) memory)
+  memory_new : (f : Frame P) (had : Slot) (memory : MemoryState) → IsMadeIn (memories_asked f.asked) (length f.granted.items) had memory → IfAllocated f (HasBegun (image_wanted f) had) → IfAllocated f (IsNew (image_wanted f) memory)
   memory_new f had memory in_slot begun =
       let B : Slot → Type 0 = λ s. IfAllocated f (HasBegun (image_wanted f) s) in
       told_both (HasBegun (image_wanted f) memory.slot) (λ decl. memory.size ≡ minimum_byte_size decl.ty) (IsNew (image_wanted f) memory) (slice_get (memories_asked f.asked) (length f.granted.items))
@@ -121,17 +133,19 @@ module _ {P : Type 0} where
   memory_of s f memory allocating new =
       told_there (IsMemory memory) (memories_asked f.asked) (length f.granted.items) allocating.more
       (told_weaker (IsNew (image_wanted f) memory) (λ decl. IsMemory memory) (slice_get (memories_asked f.asked) (length f.granted.items))
-        (λ decl is. record { in_use = record { dirty = is.slot.begun.dirty; ready = is.slot.begun.ready }; inside = rw is.size is.slot.accessible }) new)
+      (λ decl is. record { in_use = record { dirty = is.slot.begun.dirty; ready = is.slot.begun.ready }; inside = rw is.size is.slot.accessible }) new)
 
-  made_kept : (maker : MakerTold) (decls : List MemoryDecl) (slot : ℕ) (had : Slot) (r : Result MemoryState AllocError) (c : PoolCore P) (f : Frame P) → IsCore maker c → Held maker c.settings f → IsSettled f → IsAllocating c.settings f → HasSlot maker c.settings (length c.cells) slot had → IfAllocated f (HasBegun (image_wanted f) had) → IfOk r (IsMadeIn f had) → IsSoundAfter maker decls (made slot had r c f)
+  made_kept : (maker : MakerTold) (decls : List MemoryDecl) (slot : ℕ) (had : Slot) (r : Result MemoryState AllocError) (c : PoolCore P) (f : Frame P) → IsCore maker c → Held maker c.settings f → IsSettled f → IsAllocating c.settings f → HasSlot maker c.settings (length c.cells) slot had → IfAllocated f (HasBegun (image_wanted f) had) → IfOk r (IsMadeIn (memories_asked f.asked) (length f.granted.items) had) → IsSoundAfter maker decls (made slot had r c f)
   made_kept maker decls slot had (Ok memory) c f core held settled allocating has begun in_slot =
       let H : Slot → Type 0 = λ s. HasSlot maker c.settings (length c.cells) slot s in
       let new : IfAllocated f (IsNew (image_wanted f) memory) = memory_new f had memory in_slot begun in
       goes_on maker decls c f (CountMemory slot memory) core held (settled, allocating, subst H (sym in_slot.slot) has, memory_of c.settings f memory allocating new, new)
   made_kept maker decls slot had (Err e) c f core held settled allocating has begun in_slot = goes_on maker decls c f (PutRefused slot had e) core held (settled, allocating, has)
 
-  pub make_memory_kept : (maker : MakerTold) (decls : List MemoryDecl) (g : Given) (slot : ℕ) (had : Slot) (c : PoolCore P) (f : Frame P) → IsCore maker c → Held maker c.settings f → IsSettled f → IsAllocating c.settings f → HasSlot maker c.settings (length c.cells) slot had → IfAllocated f (HasBegun (image_wanted f) had) → IfOk (memory_made c.settings (memories_asked f.asked) (length f.granted.items) g.limiter had) (IsMadeIn f had) → IsSoundAfter maker decls (make_memory_row g slot had c f)
-  make_memory_kept maker decls g slot had c f core held settled allocating has begun in_slot = made_kept maker decls slot had (memory_made c.settings (memories_asked f.asked) (length f.granted.items) g.limiter had) c f core held settled allocating has begun in_slot
+  pub make_memory_kept : (maker : MakerTold) (decls : List MemoryDecl) (asked : Asked) (slot : ℕ) (had : Slot) (c : PoolCore P) (f : Frame P) → IsCore maker c → Held maker c.settings f → IsSettled f → IsAllocating c.settings f → HasSlot maker c.settings (length c.cells) slot had → IfAllocated f (HasBegun (image_wanted f) had) → IsSoundAfter maker decls (make_memory_row asked slot had c f)
+  make_memory_kept maker decls asked slot had c f core held settled allocating has begun =
+      made_kept maker decls slot had (memory_made c.settings (memories_asked f.asked) (length f.granted.items) asked had) c f core held settled allocating has begun
+      (made_in c.settings (memories_asked f.asked) (length f.granted.items) asked had)
 
   -- The memory is granted.
   pub count_memory_kept : (maker : MakerTold) (slot : ℕ) (memory : MemoryState) (c : PoolCore P) (f : Frame P) → IsCore maker c → Held maker c.settings f → IsSettled f → IsAllocating c.settings f → HasSlot maker c.settings (length c.cells) slot memory.slot → IsMemory memory → IsSoundAfter maker (memories_asked f.asked) (count_memory_row slot memory c f)
@@ -147,7 +161,7 @@ module _ {P : Type 0} where
         granted = All-push (IsLeaseOf maker c.settings) f.granted.items lease held.granted (record { slot = has.region; memory = is });
         returning = held.returning;
       })
-      settled allocating.supported allocating.room (omega (arith, allocating.more, long)) allocating.none_returning
+      settled allocating.supported allocating.images allocating.room (omega (arith, allocating.more, long)) allocating.none_returning
 
   -- The region of a refused memory is put back, and its slot freed.
   pub put_refused_kept : (maker : MakerTold) (decls : List MemoryDecl) (slot : ℕ) (had : Slot) (e : AllocError) (c : PoolCore P) (f : Frame P) → IsCore maker c → Held maker c.settings f → IsSettled f → IsAllocating c.settings f → HasSlot maker c.settings (length c.cells) slot had → IsSoundAfter maker decls (put_refused_row slot had e c f)
@@ -155,8 +169,9 @@ module _ {P : Type 0} where
       goes_on maker decls (with_cell slot (unknown had) c) f (FreeRefused slot e) (core_with_cell maker slot (unknown had) c core has.region) held
       (settled, allocating, rw (length-set c.cells slot (unknown had)) has.inside)
 
-  pub free_refused_kept : (maker : MakerTold) (decls : List MemoryDecl) (slot : ℕ) (e : AllocError) (c : PoolCore P) (f : Frame P) → IsCore maker c → Held maker c.settings f → IsSettled f → IsShardOf (shard_at (shard_of c.settings slot) c.shards) (after_free (local_of c.settings slot) 0 (shard_at (shard_of c.settings slot) c.shards)) → IsSoundAfter maker decls (free_refused_row slot e c f)
-  free_refused_kept maker decls slot e c f core held settled new =
+  pub free_refused_kept : (maker : MakerTold) (decls : List MemoryDecl) (slot : ℕ) (e : AllocError) (c : PoolCore P) (f : Frame P) → IsCore maker c → Held maker c.settings f → IsSettled f → slot < length c.cells → IsSome (use_of (shard_at (shard_of c.settings slot) c.shards) (local_of c.settings slot).0) → IsSoundAfter maker decls (free_refused_row slot e c f)
+  free_refused_kept maker decls slot e c f core held settled inside used =
       let j : ℕ = shard_of c.settings slot in
       let shard : ShardState = after_free (local_of c.settings slot) 0 (shard_at j c.shards) in
+      let new : IsShardOf (shard_at j c.shards) shard = freed_shard (local_of c.settings slot) 0 (shard_at j c.shards) (core.shards j (core.layout.inside slot inside).0) used (omega arith) in
       refused maker decls (with_shard j shard c) f e (core_with_shard maker j shard c core new.sound new.same) held settled

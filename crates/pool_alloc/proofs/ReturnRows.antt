@@ -1,7 +1,7 @@
 -- Each step of a give-back and of a flush leaves what is sound.
-use Rattle.std.proofs.Common.{◌≡◌, ℕ, ◌+◌, ◌-◌, ◌%◌, ◌^◌, ◌<◌, ◌≤◌, Bool, true, false, List, [], ◌∷◌, ◌++◌, length, refl, sym, ap, ◌∙◌, subst, arith, Some, All}
+use Rattle.std.proofs.Common.{◌≡◌, ℕ, ◌+◌, ◌-◌, ◌%◌, ◌^◌, ◌<◌, ◌≤◌, Bool, true, false, List, [], ◌∷◌, ◌++◌, length, refl, sym, ap, ◌∙◌, subst, inl, inr, arith, Some, All}
 use Rattle.std.specs.Prelude.{◌==◌, ◌||◌, not, nat_le, filter, if◌then◌else◌}
-use Rattle.std.proofs.lemmas.Bool.{leb-true, leb-false, or_parts}
+use Rattle.std.proofs.lemmas.Bool.{cases_lt, leb-true, leb-false, or_parts}
 use Rattle.std.proofs.lemmas.List.{length-set, length-append}
 use Rattle.std.proofs.lemmas.List.Elements.{All-head, All-tail, All-same, All-push, All-filter}
 use Rattle.std.proofs.lemmas.List.Filters.{length-filter_both}
@@ -14,11 +14,12 @@ use Rattle.pool_slots.specs.Queues.{QueueState, QueuedMemory, AreApart, LeavesCl
 use Rattle.pool_alloc.specs.Leases.{Lease}
 use Rattle.pool_alloc.specs.Reserved.{with_item}
 use Rattle.pool_alloc.specs.Own.{reset_into}
-use Rattle.pool_alloc.specs.Steps.{Given, shard_at, queue_at, shard_of, freed_of, freed_elsewhere, first_shard, after_frees, cell_returned, goes, give_back_next, flushes, after_flush, queue_tried, with_shard, with_cell, with_queue, counting_instances, counting_memories, returns, uncount_memory_row, was_reset, reset_row, merged, merge_row, decommit_row, puts, put_region_row, were_freed, free_row, answer_of, uncount_instance_row}
+use Rattle.pool_alloc.specs.Steps.{shard_at, queue_at, shard_of, freed_of, freed_elsewhere, first_shard, after_frees, cell_returned, goes, give_back_next, flushes, after_flush, queue_tried, with_shard, with_cell, with_queue, counting_instances, counting_memories, returns, uncount_memory_row, was_reset, reset_row, merged, merge_row, decommit_row, puts, put_region_row, were_freed, free_row, answer_of, uncount_instance_row}
 use Rattle.pool_alloc.specs.Answers.{Decommits}
 use Rattle.pool_alloc.specs.Sound.{IsCore, IsShared, IsLocal, IsLeaseOf, IsQueuedOf, IsSettled, IsAtRest, IsShapedAfter}
 use Rattle.pool_alloc.specs.Calls.{IsGrantOf, IfGranted}
-use Rattle.pool_alloc.specs.Relied.{IsShardOf, IsResetLocal, IsDecommitted}
+use Rattle.pool_alloc.specs.Freeing.{AreUsedInTurn}
+use Rattle.pool_alloc.specs.Relied.{IsResetLocal}
 use Rattle.pool_alloc.specs.declared.pool_core.PoolCore.{PoolCore}
 use Rattle.pool_alloc.specs.declared.frame.Frame.{Frame}
 use Rattle.pool_alloc.specs.declared.frame.FreedSlot.{FreedSlot}
@@ -27,9 +28,10 @@ use Rattle.pool_alloc.specs.declared.frame.AfterFlush.{AfterFlush}
 use Rattle.pool_alloc.specs.declared.frame.AfterFlush.TheVariants.{GiveBackNext}
 use Rattle.pool_alloc.specs.declared.frame.Ending.{Ending}
 use Rattle.pool_alloc.specs.declared.frame.Ending.TheVariants as ending
-use Rattle.pool_alloc.proofs.CoreChanges.{core_with_shard, core_with_cell, core_with_queue, core_with_counters}
+use Rattle.pool_alloc.proofs.CoreChanges.{core_with_shard, core_past_shards, core_with_cell, core_with_queue, core_with_counters}
 use Rattle.pool_alloc.proofs.QueueJoins.{first_leaves}
 use Rattle.pool_alloc.proofs.LocalQueues.{IsStillLocal, taken_shared, taken_local, emptied_local, joined_local, joined_shared, decommitted_local, rest_local}
+use Rattle.pool_alloc.proofs.ShardFrees.{IsShardOf, frees_shard}
 use Rattle.pool_alloc.proofs.Telling.{mod_below}
 use Rattle.pool_alloc.proofs.Going.{Held, IsSoundAfter, either, goes_on, goes_either, ended, gives_back_next, begins_flush, goes_after_flush, empty_length, some_length}
 
@@ -80,9 +82,9 @@ module _ {P : Type 0} where
       either maker decls ((length q.ranges == 0) || nat_le c.settings.batch (length q.ranges)) (flushes GiveBackNext c has) (goes c has Merge)
       (λ e. begins_flush maker decls GiveBackNext c has core holds none settled.none_freed (omega (arith, is.one)))
       (λ e.
-        let parts = or_parts (length q.ranges == 0) (nat_le c.settings.batch (length q.ranges)) e in
-        let short = leb-false c.settings.batch (length q.ranges) parts.1 in
-        goes_on maker decls c has Merge core holds (none, settled.none_freed, is.one, some_length q.ranges parts.0, omega arith))
+      let parts = or_parts (length q.ranges == 0) (nat_le c.settings.batch (length q.ranges)) e in
+      let short = leb-false c.settings.batch (length q.ranges) parts.1 in
+      goes_on maker decls c has Merge core holds (none, settled.none_freed, is.one, some_length q.ranges parts.0, omega arith))
 
   -- The local queue is appended.
   pub merge_kept : (maker : MakerTold) (decls : List MemoryDecl) (c : PoolCore P) (f : Frame P) → IsCore maker c → Held maker c.settings f → f.granted.items ≡ [] → f.freed.items ≡ [] → length f.local.memories ≡ 1 → 0 < length f.local.ranges → length f.local.ranges + 1 ≤ c.settings.batch → AreApart (queue_at (queue_tried 0 c f) c.queues).memories f.local.memories → IsSoundAfter maker decls (merge_row c f)
@@ -102,33 +104,33 @@ module _ {P : Type 0} where
       let slots : length both.memories ≡ length q.memories + length f.local.memories = length-append q.memories f.local.memories in
       either maker decls (nat_le c.settings.batch (length both.ranges)) (flushes GiveBackNext whole back) (give_back_next longer gone)
       (λ full.
-        begins_flush maker decls GiveBackNext whole back (core_with_queue maker i (after_take both) c core (taken_shared maker c.settings both core.settings local.range_room local.slot_room))
-        (record {
-          stripe = held.stripe;
-          queue = taken_local maker c.settings (emptied f.local) both empty local;
-          freed_room = (held.freed_room.0, omega (arith, shared.short, shared.slots));
-          freed_bytes = held.freed_bytes;
-          granted = held.granted;
-          returning = held.returning;
-        })
-        none not_freed (omega arith))
+      begins_flush maker decls GiveBackNext whole back (core_with_queue maker i (after_take both) c core (taken_shared maker c.settings both core.settings local.range_room local.slot_room))
+      (record {
+        stripe = held.stripe;
+        queue = taken_local maker c.settings (emptied f.local) both empty local;
+        freed_room = (held.freed_room.0, omega (arith, shared.short, shared.slots));
+        freed_bytes = held.freed_bytes;
+        granted = held.granted;
+        returning = held.returning;
+      })
+      none not_freed (omega arith))
       (λ e.
-        gives_back_next maker decls longer gone (core_with_queue maker i both c core (joined_shared maker c.settings q f.local shared local one some (leb-false c.settings.batch (length both.ranges) e)))
-        (record {
-          stripe = held.stripe;
-          queue = empty;
-          freed_room = (held.freed_room.0, omega arith);
-          freed_bytes = held.freed_bytes;
-          granted = held.granted;
-          returning = held.returning;
-        })
-        (record { no_ranges = refl; no_slots = refl; none_freed = not_freed }) none)
+      gives_back_next maker decls longer gone (core_with_queue maker i both c core (joined_shared maker c.settings q f.local shared local one some (leb-false c.settings.batch (length both.ranges) e)))
+      (record {
+        stripe = held.stripe;
+        queue = empty;
+        freed_room = (held.freed_room.0, omega arith);
+        freed_bytes = held.freed_bytes;
+        granted = held.granted;
+        returning = held.returning;
+      })
+      (record { no_ranges = refl; no_slots = refl; none_freed = not_freed }) none)
 
   -- Ranges are decommitted.
-  pub decommit_kept : (maker : MakerTold) (decls : List MemoryDecl) (g : Given) (after : AfterFlush) (c : PoolCore P) (f : Frame P) → IsCore maker c → Held maker c.settings f → IsShapedAfter c.settings (length c.queues) after f → f.freed.items ≡ [] → 0 < length f.local.memories → Decommits g.fault f.local g.queue → IsDecommitted g.queue → IsSoundAfter maker decls (decommit_row g after c f)
-  decommit_kept maker decls g after c f core held goes_to not_freed some told is =
-      let still : IsStillLocal maker c.settings f.local g.queue = decommitted_local maker c.settings g.fault f.local g.queue told held.queue is in
-      begins_flush maker decls after c (record f { local = g.queue }) core
+  pub decommit_kept : (maker : MakerTold) (decls : List MemoryDecl) (fault : Bool) (queue : QueueState) (after : AfterFlush) (c : PoolCore P) (f : Frame P) → IsCore maker c → Held maker c.settings f → IsShapedAfter c.settings (length c.queues) after f → f.freed.items ≡ [] → 0 < length f.local.memories → Decommits fault f.local queue → IsSoundAfter maker decls (decommit_row queue after c f)
+  decommit_kept maker decls fault queue after c f core held goes_to not_freed some told =
+      let still : IsStillLocal maker c.settings f.local queue = decommitted_local maker c.settings fault f.local queue told held.queue in
+      begins_flush maker decls after c (record f { local = queue }) core
       (record {
         stripe = held.stripe;
         queue = still.queue;
@@ -168,14 +170,23 @@ module _ {P : Type 0} where
   put_region_kept maker decls after c f core held goes_to none some = puts_kept maker decls after f.local.memories c f refl core held goes_to none some
 
   -- The slots of one shard are freed.
-  pub free_kept : (maker : MakerTold) (decls : List MemoryDecl) (after : AfterFlush) (c : PoolCore P) (f : Frame P) → IsCore maker c → Held maker c.settings f → IsShapedAfter c.settings (length c.queues) after f → f.local.ranges ≡ [] → f.local.memories ≡ [] → IsShardOf (shard_at (first_shard c.settings f.freed.items) c.shards) (after_frees c.settings (freed_of c.settings (first_shard c.settings f.freed.items) f.freed.items) (shard_at (first_shard c.settings f.freed.items) c.shards)) → IsSoundAfter maker decls (free_row after c f)
-  free_kept maker decls after c f core held goes_to none no_slots is =
+  core_after_frees : (maker : MakerTold) (j : ℕ) (slots : List FreedSlot) (c : PoolCore P) → IsCore maker c → AreUsedInTurn c.settings slots (shard_at j c.shards) → All (λ x. x.bytes ≤ 2 ^ 32) slots → IsCore maker (with_shard j (after_frees c.settings slots (shard_at j c.shards)) c)
+  core_after_frees maker j slots c core used small =
+      elim (cases_lt j (length c.shards)) [
+        | inl below ↦
+            let new : IsShardOf (shard_at j c.shards) (after_frees c.settings slots (shard_at j c.shards)) = frees_shard c.settings slots (shard_at j c.shards) (core.shards j below) used small in
+            core_with_shard maker j (after_frees c.settings slots (shard_at j c.shards)) c core new.sound new.same
+        | inr past ↦ core_past_shards maker j (after_frees c.settings slots (shard_at j c.shards)) c core past
+      ]
+
+  pub free_kept : (maker : MakerTold) (decls : List MemoryDecl) (after : AfterFlush) (c : PoolCore P) (f : Frame P) → IsCore maker c → Held maker c.settings f → IsShapedAfter c.settings (length c.queues) after f → f.local.ranges ≡ [] → f.local.memories ≡ [] → AreUsedInTurn c.settings (freed_of c.settings (first_shard c.settings f.freed.items) f.freed.items) (shard_at (first_shard c.settings f.freed.items) c.shards) → IsSoundAfter maker decls (free_row after c f)
+  free_kept maker decls after c f core held goes_to none no_slots used =
       let j : ℕ = first_shard c.settings f.freed.items in
       let shard : ShardState = after_frees c.settings (freed_of c.settings j f.freed.items) (shard_at j c.shards) in
       let left : List FreedSlot = freed_elsewhere c.settings j f.freed.items in
       let new : PoolCore P = with_shard j shard c in
       let has : Frame P = record f { freed = record f.freed { items = left } } in
-      let still : IsCore maker new = core_with_shard maker j shard c core is.sound is.same in
+      let still : IsCore maker new = core_after_frees maker j (freed_of c.settings j f.freed.items) c core used (All-filter (λ x. shard_of c.settings x.slot == j) (λ x. x.bytes ≤ 2 ^ 32) f.freed.items held.freed_bytes) in
       let less : length left ≤ length f.freed.items = fewer (λ x. shard_of c.settings x.slot == j) f.freed.items in
       let holds : Held maker c.settings has =
       record {

@@ -28,19 +28,19 @@ use Rattle.pool_alloc.specs.declared.frame.AfterFlush.TheVariants.{PickAgain, Gi
 
 module _ {P : Type 0} where
   same_size : (c : PoolCore P) → IsSameSize c c
-  same_size c = record { settings = refl; slots = refl; shards = refl; queues = refl }
+  same_size c = record { settings = refl; cells = refl; shards = refl; queues = refl }
 
   same_shards : (j : ℕ) (shard : ShardState) (c : PoolCore P) → IsSameSize c (with_shard j shard c)
-  same_shards j shard c = record { settings = refl; slots = refl; shards = length-set c.shards j shard; queues = refl }
+  same_shards j shard c = record { settings = refl; cells = refl; shards = length-set c.shards j shard; queues = refl }
 
   same_cells : (i : ℕ) (cell : Cell) (c : PoolCore P) → IsSameSize c (with_cell i cell c)
-  same_cells i cell c = record { settings = refl; slots = length-set c.cells i cell; shards = refl; queues = refl }
+  same_cells i cell c = record { settings = refl; cells = length-set c.cells i cell; shards = refl; queues = refl }
 
   same_queues : (i : ℕ) (queue : QueueState) (c : PoolCore P) → IsSameSize c (with_queue i queue c)
-  same_queues i queue c = record { settings = refl; slots = refl; shards = refl; queues = length-set c.queues i queue }
+  same_queues i queue c = record { settings = refl; cells = refl; shards = refl; queues = length-set c.queues i queue }
 
   same_counted : (counters : Counters) (c : PoolCore P) → IsSameSize c (record c { counters = counters })
-  same_counted counters c = record { settings = refl; slots = refl; shards = refl; queues = refl }
+  same_counted counters c = record { settings = refl; cells = refl; shards = refl; queues = refl }
 
   one_of : (c : PoolCore P) (b : Bool) (x y : After P) → IsSameSize c x.core → IsSameSize c y.core → IsSameSize c (if b then x else y).core
   one_of c true x y g h = g
@@ -56,9 +56,9 @@ module _ {P : Type 0} where
   same_after (PickAgain queues) c d f same = same
   same_after GiveBackNext c d f same = same
 
-  same_validated : (g : Given) (o : Option Unsupported) (c : PoolCore P) (f : Frame P) → IsSameSize c (validated g o c f).core
-  same_validated g (Some rule) c f = same_size c
-  same_validated g None c f = one_of c g.wants _ _ (same_size c) (same_size c)
+  same_validated : (o : Option Unsupported) (wants : Bool) (c : PoolCore P) (f : Frame P) → IsSameSize c (validated o wants c f).core
+  same_validated (Some rule) wants c f = same_size c
+  same_validated None wants c f = one_of c wants _ _ (same_size c) (same_size c)
 
   same_picked : (o : Option (SlotId × ℕ)) (shard : ShardState) (queues tried : ℕ) (c d : PoolCore P) (f : Frame P) → IsSameSize c d → IsSameSize c (picked o shard queues tried d f).core
   same_picked (Some p) shard queues tried c d f same = same
@@ -85,7 +85,7 @@ module _ {P : Type 0} where
   same_at : (g : Given) (next : Phase P) (c : PoolCore P) (f : Frame P) → IsSameSize c (row_of g next c f).core
   same_at g Idle c f = same_size c
   same_at g Key c f = same_counted _ c
-  same_at g Validate c f = same_validated g (memories_refused c.settings (memories_asked f.asked)) c f
+  same_at g Validate c f = same_validated (memories_refused c.settings (memories_asked f.asked)) g.wants c f
   same_at g CountInstance c f = one_of c (nat_lt c.counters.core_instances c.settings.max_core_instances) _ _ (same_allocates c (record c { counters = record c.counters { core_instances = c.counters.core_instances + 1 } }) f (same_counted _ c)) (same_counted _ c)
   same_at g (Pick queues tried) c f = same_picked (pick_answer (wanted f) (shard_at (shard_tried tried c f) c.shards)) _ queues tried c (with_shard (shard_tried tried c f) (after_pick (wanted f) (shard_at (shard_tried tried c f) c.shards)) c) f (same_shards _ _ c)
   same_at g (TakeQueue queues) c f = one_of c (length (queue_at (queue_tried queues c f) c.queues).memories == 0) _ _ (same_no_slot (queues + 1) c _ (record f { local = taken_into f.local (queue_at (queue_tried queues c f) c.queues) }) (same_queues _ _ c)) (same_queues _ _ c)
@@ -118,5 +118,5 @@ module _ {P : Type 0} where
         freed_bytes = frame.freed_bytes;
         granted = rw same.settings frame.granted;
         returning = rw same.settings frame.returning;
-        shape = rw (same.settings, same.slots, same.shards, same.queues) frame.shape;
+        shape = rw (same.settings, same.cells, same.shards, same.queues) frame.shape;
       }

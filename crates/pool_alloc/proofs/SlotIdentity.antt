@@ -86,7 +86,7 @@ one_emptied s =
       tells = tells_still _ s.region.contents;
     }
 
-one_decommitted : (s t : Slot) (ranges : List ByteRange) → IsOneSlot s t → IsOneSlot s (decommitted_all ranges t)
+pub one_decommitted : (s t : Slot) (ranges : List ByteRange) → IsOneSlot s t → IsOneSlot s (decommitted_all ranges t)
 one_decommitted s t [] one = one
 one_decommitted s t (r ∷ rs) one = one_decommitted s (called (decommitting (t.base.bytes + r.start) r.len) t) rs (one_called s t (decommitting (t.base.bytes + r.start) r.len) one)
 
@@ -125,12 +125,14 @@ slot_made maker page static_size i region paged is =
 
 made_told : (page static_size len : ℕ) (tells : Bool) (region : Told) → IfSome (if tells then Some (fresh page 0 len) else None) (λ c. IsReady (image_made page static_size region) c × Holds (image_made page static_size region) 0 (size_of (image_made page static_size region)) c)
 made_told page static_size len true region =
-    let all : length (replicate {A = ℕ} len 0) ≡ len = length-replicate {A = ℕ} len 0 in
-    (record {
-      reach = λ k from below. absurd (omega arith);
-      origin = rw all refl;
-      beyond = refl;
-    }, refl)
+    let all : length (replicate {A = ℕ} len 0) ≡ len = length-replicate {A = ℕ} len 0 in (
+      record {
+        reach = λ k from below. absurd (omega arith);
+        origin = rw all refl;
+        beyond = refl;
+      },
+      refl,
+    )
 made_told page static_size len false region = tt
 
 parts_told : (P Q : Contents → Type 0) (o : Option Contents) → IfSome o (λ c. P c × Q c) → IfSome o P × IfSome o Q

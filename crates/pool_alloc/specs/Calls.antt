@@ -4,11 +4,8 @@ use Rattle.pool_pages.specs.MakerTold.{MakerTold}
 use Rattle.pool_pages.specs.declared.module_types.MemoryDecl.{MemoryDecl}
 use Rattle.pool_slots.specs.Queues.{empty_queue}
 use Rattle.pool_alloc.specs.Reserved.{no_room}
-use Rattle.pool_alloc.specs.Leases.{Lease}
 use Rattle.pool_alloc.specs.Steps.{memories_asked, images_asked}
-use Rattle.pool_alloc.specs.Places.{Thing}
-use Rattle.pool_alloc.specs.Sound.{IsLeaseOf, AreImagesOf}
-use Rattle.pool_alloc.specs.Stepping.{grant_count, grant_instances, grant_memories}
+use Rattle.pool_alloc.specs.Sound.{IsLeaseOf, AreImagesOf, HasImages}
 use Rattle.pool_alloc.specs.declared.pool_core.Settings.{Settings}
 use Rattle.pool_alloc.specs.declared.frame.Frame.{Frame}
 use Rattle.pool_alloc.specs.declared.frame.Phase.TheVariants.{Idle, Key, Validate, UncountMemory, UncountInstance}
@@ -52,10 +49,11 @@ module _ {P : Type 0} where
   IfGranted Q (Some (Granted grant)) = Q grant
   IfGranted Q _ = Unit {0}
 
-  -- The call may begin: the images that are given are those of the module's memories, and a grant is one of the pool.
+  -- The call may begin: images that are given are those of the module's memories, one place for each, and a grant is one
+  -- of the pool.
   abbrev pub MayBegin : MakerTold → Settings → Call P → Frame P → Type 0
   MayBegin maker s call.Key f = IsIdle f
-  MayBegin maker s (call.Module m) f = IsIdle f × AreImagesOf s (memories_asked (Some m)) (images_asked (Some m))
+  MayBegin maker s (call.Module m) f = IsIdle f × AreImagesOf s (memories_asked (Some m)) (images_asked (Some m)) × HasImages (Some m)
   MayBegin maker s (call.GiveBack grant) f = IsIdle f × IsGrant maker s grant
 
   -- the memories of a grant are given back in order, and then the instance

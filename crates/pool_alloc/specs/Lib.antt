@@ -1,5 +1,6 @@
 pub mod Answers
 pub mod Calls
+pub mod Freeing
 pub mod Leases
 pub mod Own
 pub mod Places

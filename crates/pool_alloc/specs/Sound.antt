@@ -19,6 +19,7 @@ use Rattle.pool_alloc.specs.Places.{Thing, slot_of, region_of, kept_count, frame
 use Rattle.pool_alloc.specs.declared.pool_core.PoolCore.{PoolCore}
 use Rattle.pool_alloc.specs.declared.pool_core.Settings.{Settings}
 use Rattle.pool_alloc.specs.declared.frame.Frame.{Frame}
+use Rattle.pool_alloc.specs.declared.frame.ModuleCall.{ModuleCall}
 use Rattle.pool_alloc.specs.declared.frame.FreedSlot.{FreedSlot}
 use Rattle.pool_alloc.specs.declared.frame.Phase.{Phase}
 use Rattle.pool_alloc.specs.declared.frame.Phase.TheVariants.{Idle, Key, Validate, CountInstance, Pick, TakeQueue, TakeRegion, Empty, Instantiate, MakeMemory, CountMemory, PutRefused, FreeRefused, UncountMemory, Reset, Merge, Decommit, PutRegion, Free, UncountInstance}
@@ -123,17 +124,22 @@ pub record NothingHeld (local : QueueState) (freed : Reserved FreedSlot) (grante
   pub none_granted : granted.items ≡ []
   pub none_returning : returning.items ≡ []
 
+-- where images are given, there is a place for each memory
+abbrev pub HasImages : Option ModuleCall → Type 0
+HasImages asked = IfSome asked (λ m. IfSome m.images (λ images. length (arc_value images) ≡ length (arc_value m.info).memories))
+
 -- some of the module's memories are granted, and there is a next one
-pub record AllocatesMore (s : Settings) (decls : List MemoryDecl) (images : List (Option Image)) (granted returning : Reserved Lease) : Type 0 where
-  pub supported : AreSupported s decls images
-  pub room : granted.room ≡ length decls
-  pub more : length granted.items < length decls
+pub record AllocatesMore (s : Settings) (asked : Option ModuleCall) (granted returning : Reserved Lease) : Type 0 where
+  pub supported : AreSupported s (memories_asked asked) (images_asked asked)
+  pub images : HasImages asked
+  pub room : granted.room ≡ length (memories_asked asked)
+  pub more : length granted.items < length (memories_asked asked)
   pub none_returning : returning.items ≡ []
 
 -- what the call goes on with after a flush
-abbrev pub GoesOn : Settings → ℕ → AfterFlush → List MemoryDecl → List (Option Image) → Reserved Lease → Reserved Lease → Type 0
-GoesOn s queues (PickAgain n) decls images granted returning = AllocatesMore s decls images granted returning × (n ≤ queues)
-GoesOn s queues GiveBackNext decls images granted returning = granted.items ≡ []
+abbrev pub GoesOn : Settings → ℕ → AfterFlush → Option ModuleCall → Reserved Lease → Reserved Lease → Type 0
+GoesOn s queues (PickAgain n) asked granted returning = AllocatesMore s asked granted returning × (n ≤ queues)
+GoesOn s queues GiveBackNext asked granted returning = granted.items ≡ []
 
 module _ {P : Type 0} where
   abbrev pub IsSettled : Frame P → Type 0
@@ -144,14 +150,14 @@ module _ {P : Type 0} where
 
   -- a memory of the module is allocated
   abbrev pub IsAllocating : Settings → Frame P → Type 0
-  IsAllocating s f = AllocatesMore s (memories_asked f.asked) (images_asked f.asked) f.granted f.returning
+  IsAllocating s f = AllocatesMore s f.asked f.granted f.returning
 
   -- the memory that is allocated
   abbrev pub IfAllocated : Frame P → (MemoryDecl → Type 0) → Type 0
   IfAllocated f Q = IfSome (slice_get (memories_asked f.asked) (length f.granted.items)) Q
 
   abbrev pub IsShapedAfter : Settings → ℕ → AfterFlush → Frame P → Type 0
-  IsShapedAfter s queues after f = GoesOn s queues after (memories_asked f.asked) (images_asked f.asked) f.granted f.returning
+  IsShapedAfter s queues after f = GoesOn s queues after f.asked f.granted f.returning
 
   -- the freed slots and those still queued have room
   abbrev pub HasFreedRoom : Settings → Frame P → Type 0
@@ -161,8 +167,8 @@ module _ {P : Type 0} where
   abbrev pub IsShapedAt : MakerTold → Settings → (slots shards queues : ℕ) → Phase P → Frame P → Type 0
   IsShapedAt maker s slots shards queues Idle f = IsAtRest f
   IsShapedAt maker s slots shards queues Key f = IsAtRest f
-  IsShapedAt maker s slots shards queues Validate f = IsAtRest f × IsSome f.asked × AreImagesOf s (memories_asked f.asked) (images_asked f.asked)
-  IsShapedAt maker s slots shards queues CountInstance f = IsAtRest f × IsSome f.asked × AreSupported s (memories_asked f.asked) (images_asked f.asked) × (f.granted.room ≡ length (memories_asked f.asked))
+  IsShapedAt maker s slots shards queues Validate f = IsAtRest f × IsSome f.asked × AreImagesOf s (memories_asked f.asked) (images_asked f.asked) × HasImages f.asked
+  IsShapedAt maker s slots shards queues CountInstance f = IsAtRest f × IsSome f.asked × AreSupported s (memories_asked f.asked) (images_asked f.asked) × (f.granted.room ≡ length (memories_asked f.asked)) × HasImages f.asked
   IsShapedAt maker s slots shards queues (Pick n tried) f = IsSettled f × IsAllocating s f × (n ≤ queues) × (tried < shards)
   IsShapedAt maker s slots shards queues (TakeQueue n) f = IsSettled f × IsAllocating s f × (n < queues)
   IsShapedAt maker s slots shards queues (TakeRegion slot) f = IsSettled f × IsAllocating s f × (slot < slots)

@@ -40,19 +40,19 @@ module _ {P : Type 0} where
   abbrev pub StepsTo : PoolCore P → Frame P → After P → Type 0
   StepsTo c f a = (g : Given) × Takes g c f a
 
-  -- the pool has the same settings, and as many slots, shards and queues
-  pub record IsSameSize (c d : PoolCore P) : Type 0 where
-    pub settings : d.settings ≡ c.settings
-    pub slots : length d.cells ≡ length c.cells
-    pub shards : length d.shards ≡ length c.shards
-    pub queues : length d.queues ≡ length c.queues
-
   -- Nothing is lost or made: what the step takes from the pool's parts comes into the frame or the grant, and the other
   -- way round. Counters change as what is counted.
   pub record Conserves (c : PoolCore P) (f : Frame P) (a : After P) : Type 0 where
     pub places : (t : Thing) → kept_count t a.core + (frame_count t a.frame + granted (grant_count t) a.outcome) ≡ kept_count t c + frame_count t f
     pub instances : a.core.counters.core_instances + phase_instances f.phase ≡ c.counters.core_instances + (phase_instances a.frame.phase + granted grant_instances a.outcome)
     pub memories : a.core.counters.memories + frame_memories f ≡ c.counters.memories + (frame_memories a.frame + granted grant_memories a.outcome)
+
+  -- What no step changes: the settings, and how many slots, shards and queues there are.
+  pub record IsSameSize (old new : PoolCore P) : Type 0 where
+    pub settings : new.settings ≡ old.settings
+    pub cells : length new.cells ≡ length old.cells
+    pub shards : length new.shards ≡ length old.shards
+    pub queues : length new.queues ≡ length old.queues
 
   -- no counter but the key stands at its end
   pub record CanCount (c : PoolCore P) : Type 0 where

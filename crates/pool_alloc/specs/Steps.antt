@@ -168,16 +168,16 @@ module _ {P : Type 0} where
   abbrev pub key_row : PoolCore P → Frame P → After P
   key_row c f = ends (record c { counters = record c.counters { key = (c.counters.key + 1) % 2 ^ 64 } }) (record f { stripe = c.counters.key % c.settings.stripes }) answer.Key
 
-  abbrev pub validated : Given → Option Unsupported → PoolCore P → Frame P → After P
-  validated g (Some rule) c f = ends c f (answer.Refused (refusal.Unsupported rule))
-  validated g None c f =
-      if g.wants
+  abbrev pub validated : Option Unsupported → Bool → PoolCore P → Frame P → After P
+  validated (Some rule) wants c f = ends c f (answer.Refused (refusal.Unsupported rule))
+  validated None wants c f =
+      if wants
       then ends c f (answer.Refused refusal.Memory)
       else goes c (record f { granted = record { items = []; room = length (memories_asked f.asked) } }) CountInstance
 
   -- The module is tested, and the list of its memories reserved.
-  abbrev pub validate_row : Given → PoolCore P → Frame P → After P
-  validate_row g c f = validated g (memories_refused c.settings (memories_asked f.asked)) c f
+  abbrev pub validate_row : Bool → PoolCore P → Frame P → After P
+  validate_row wants c f = validated (memories_refused c.settings (memories_asked f.asked)) wants c f
 
   abbrev pub count_instance_row : PoolCore P → Frame P → After P
   count_instance_row c f =
@@ -200,9 +200,12 @@ module _ {P : Type 0} where
   queue_tried queues c f = (f.home + queues) % length c.queues
 
   -- the shard gave a slot, or the next shard is tried
+  abbrev pub pick_next : ℕ → ℕ → PoolCore P → Frame P → After P
+  pick_next queues tried c f = if nat_lt (tried + 1) (length c.shards) then goes c f (Pick queues (tried + 1)) else no_slot queues c f
+
   abbrev pub picked : Option (SlotId × ℕ) → ShardState → ℕ → ℕ → PoolCore P → Frame P → After P
   picked (Some p) shard queues tried c f = goes c f (TakeRegion (slot_number shard p.0.0))
-  picked None shard queues tried c f = if nat_lt (tried + 1) (length c.shards) then goes c f (Pick queues (tried + 1)) else no_slot queues c f
+  picked None shard queues tried c f = pick_next queues tried c f
 
   abbrev pub pick_row : ℕ → ℕ → PoolCore P → Frame P → After P
   pick_row queues tried c f =
@@ -235,19 +238,19 @@ module _ {P : Type 0} where
   abbrev pub take_region_row : ℕ → PoolCore P → Frame P → After P
   take_region_row slot c f = holds_region slot (cell_at slot c.cells) (with_cell slot taken c) f
 
-  abbrev pub empty_row : Given → ℕ → PoolCore P → Frame P → After P
-  empty_row g slot c f = goes c f (if g.fault then PutRefused slot g.slot refusal.PageFault else Instantiate slot g.slot)
+  abbrev pub empty_row : Bool → Slot → ℕ → PoolCore P → Frame P → After P
+  empty_row fault held slot c f = goes c f (if fault then PutRefused slot held refusal.PageFault else Instantiate slot held)
 
-  abbrev pub instantiate_row : Given → ℕ → PoolCore P → Frame P → After P
-  instantiate_row g slot c f = goes c f (if g.fault then PutRefused slot g.slot refusal.PageFault else MakeMemory slot g.slot)
+  abbrev pub instantiate_row : Bool → Slot → ℕ → PoolCore P → Frame P → After P
+  instantiate_row fault held slot c f = goes c f (if fault then PutRefused slot held refusal.PageFault else MakeMemory slot held)
 
   abbrev pub made : ℕ → Slot → Result MemoryState AllocError → PoolCore P → Frame P → After P
   made slot held (Ok memory) c f = goes c f (CountMemory slot memory)
   made slot held (Err e) c f = goes c f (PutRefused slot held e)
 
   -- The limiter is asked, and the memory made.
-  abbrev pub make_memory_row : Given → ℕ → Slot → PoolCore P → Frame P → After P
-  make_memory_row g slot held c f = made slot held (memory_made c.settings (memories_asked f.asked) (length f.granted.items) g.limiter held) c f
+  abbrev pub make_memory_row : Asked → ℕ → Slot → PoolCore P → Frame P → After P
+  make_memory_row asked slot held c f = made slot held (memory_made c.settings (memories_asked f.asked) (length f.granted.items) asked held) c f
 
   abbrev pub count_memory_row : ℕ → MemoryState → PoolCore P → Frame P → After P
   count_memory_row slot memory c f = allocate_next (counting_memories (c.counters.memories + 1) c) (record f { granted = with_item (record { index = slot; memory = memory }) f.granted })
@@ -288,8 +291,8 @@ module _ {P : Type 0} where
   merge_row c f = merged (joined (queue_at (queue_tried 0 c f) c.queues) f.local) c (record f { local = emptied f.local })
 
   -- The next ranges of one slot are decommitted.
-  abbrev pub decommit_row : Given → AfterFlush → PoolCore P → Frame P → After P
-  decommit_row g after c f = flushes after c (record f { local = g.queue })
+  abbrev pub decommit_row : QueueState → AfterFlush → PoolCore P → Frame P → After P
+  decommit_row queue after c f = flushes after c (record f { local = queue })
 
   abbrev pub puts : AfterFlush → List QueuedMemory → PoolCore P → Frame P → After P
   puts after [] c f = goes c f Idle
@@ -328,21 +331,21 @@ module _ {P : Type 0} where
   abbrev pub row_of : Given → Phase P → PoolCore P → Frame P → After P
   row_of g Idle c f = record { core = c; frame = f; outcome = None }
   row_of g Key c f = key_row c f
-  row_of g Validate c f = validate_row g c f
+  row_of g Validate c f = validate_row g.wants c f
   row_of g CountInstance c f = count_instance_row c f
   row_of g (Pick queues tried) c f = pick_row queues tried c f
   row_of g (TakeQueue queues) c f = take_queue_row queues c f
   row_of g (TakeRegion slot) c f = take_region_row slot c f
-  row_of g (Empty slot held) c f = empty_row g slot c f
-  row_of g (Instantiate slot held) c f = instantiate_row g slot c f
-  row_of g (MakeMemory slot held) c f = make_memory_row g slot held c f
+  row_of g (Empty slot held) c f = empty_row g.fault g.slot slot c f
+  row_of g (Instantiate slot held) c f = instantiate_row g.fault g.slot slot c f
+  row_of g (MakeMemory slot held) c f = make_memory_row g.limiter slot held c f
   row_of g (CountMemory slot memory) c f = count_memory_row slot memory c f
   row_of g (PutRefused slot held e) c f = put_refused_row slot held e c f
   row_of g (FreeRefused slot e) c f = free_refused_row slot e c f
   row_of g UncountMemory c f = uncount_memory_row c f
   row_of g (Reset lease) c f = reset_row lease c f
   row_of g Merge c f = merge_row c f
-  row_of g (Decommit after) c f = decommit_row g after c f
+  row_of g (Decommit after) c f = decommit_row g.queue after c f
   row_of g (PutRegion after) c f = put_region_row after c f
   row_of g (Free after) c f = free_row after c f
   row_of g UncountInstance c f = uncount_instance_row c f
