@@ -1,1 +1,16 @@
+pub mod AllocationRows
 pub mod Begun
+pub mod BegunCalls
+pub mod CoreChanges
+pub mod Going
+pub mod Kept
+pub mod LocalQueues
+pub mod Picks
+pub mod QueueJoins
+pub mod QueueRuns
+pub mod RegionRows
+pub mod ReturnRows
+pub mod SameSizes
+pub mod ShardFrees
+pub mod SlotIdentity
+pub mod Telling

@@ -4,7 +4,7 @@ use Rattle.pool_pages.specs.Count.{rounded_up}
 use Rattle.pool_pages.specs.MemoryTypes.{minimum_byte_size}
 use Rattle.pool_pages.specs.declared.module_types.MemoryDecl.{MemoryDecl}
 use Rattle.pool_images.specs.Images.{Image}
-use Rattle.pool_images.specs.Slots.{Slot, IsLeft, IsBegun, IsSized, HasImage, emptied, reused, replaced, name_of, hides}
+use Rattle.pool_images.specs.Slots.{Slot, IsClean, IsLeft, IsBegun, IsSized, HasImage, emptied, reused, replaced, name_of, hides}
 use Rattle.pool_slots.specs.Queues.{QueueState, after_run, IsFaulted}
 use Rattle.pool_alloc.specs.Steps.{Given, memories_asked, image_wanted}
 use Rattle.pool_alloc.specs.declared.pool_core.Settings.{Settings}
@@ -12,10 +12,10 @@ use Rattle.pool_alloc.specs.declared.frame.Frame.{Frame}
 use Rattle.pool_alloc.specs.declared.frame.Phase.{Phase}
 use Rattle.pool_alloc.specs.declared.frame.Phase.TheVariants.{Empty, Instantiate, Decommit}
 
--- a slot is emptied, or a call on its region failed
+-- a slot is emptied, and clean then, or a call on its region failed
 abbrev pub Empties : Bool → Slot → Slot → Type 0
 Empties true old new = IsLeft old new
-Empties false old new = new ≡ emptied old
+Empties false old new = (new ≡ emptied old) × IsClean new
 
 -- The slot is instantiated: in use, with so much accessible, and its first bytes are the image and zeros. An image that
 -- it has already isn't mapped again.

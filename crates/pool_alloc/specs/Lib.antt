@@ -1,8 +1,11 @@
 pub mod Answers
+pub mod Calls
+pub mod Freeing
 pub mod Leases
 pub mod Modules
 pub mod Own
 pub mod Places
+pub mod Relied
 pub mod Reserved
 pub mod Sound
 pub mod Stepping

@@ -1,15 +1,15 @@
 -- What a party does by itself with what it has taken.
-use Rattle.std.specs.Prelude.{◌≡◌, ℕ, ◌+◌, ◌-◌, ◌==◌, List, [], ◌∷◌, ◌++◌, min, Bool, true, false, nat_lt, if◌then◌else◌, Option, Some, None, Result, Ok, Err, slice_get}
+use Rattle.std.specs.Prelude.{ℕ, List, [], ◌∷◌, min, true, false, nat_le, if◌then◌else◌, Option, Some, None, Result, Err}
 use Rattle.pool_pages.specs.Count.{count}
 use Rattle.pool_pages.specs.Told.{Told}
 use Rattle.pool_pages.specs.MemoryTypes.{minimum_byte_size}
 use Rattle.pool_pages.specs.declared.module_types.MemoryDecl.{MemoryDecl}
-use Rattle.pool_pages.specs.declared.module_types.CompiledModuleId.{CompiledModuleId}
+use Rattle.pool_pages.specs.declared.unsupported.Unsupported.{Unsupported}
+use Rattle.pool_pages.specs.declared.unsupported.Unsupported.TheVariants.{ImageLength}
 use Rattle.pool_images.specs.Slots.{Slot}
 use Rattle.pool_limits.specs.Limiter.{Asked, yes, no, fails}
 use Rattle.pool_memory.specs.Memories.{MemoryState}
-use Rattle.pool_slots.specs.Queues.{QueueState, with_range, with_memory}
-use Rattle.pool_slots.specs.declared.queued_range.QueueKind.TheVariants.{Memory}
+use Rattle.pool_slots.specs.Queues.{QueueState, with_memory}
 use Rattle.pool_slots.specs.declared.request.AllocError.{AllocError}
 use Rattle.pool_slots.specs.declared.request.AllocError.TheVariants as refusal
 use Rattle.pool_alloc.specs.declared.pool_core.Settings.{Settings}
@@ -25,6 +25,12 @@ image_made page static_size region = record {
   dirty = false;
   colour = None;
 }
+
+-- The first rule that a module breaks with its memories, if any: the minimum of each fits a slot.
+-- stub: the further rules, and the rules' own names
+abbrev pub memories_refused : Settings → List MemoryDecl → Option Unsupported
+memories_refused s [] = None
+memories_refused s (decl ∷ decls) = if nat_le (minimum_byte_size decl.ty) s.max_memory_size then memories_refused s decls else Some (ImageLength 0)
 
 -- stub
 abbrev pub reset_into : ℕ → ℕ → Slot → QueueState → QueueState

@@ -12,12 +12,14 @@ use Rattle.pool_index.specs.Shard.{IsShard, ShardState, slot_number}
 use Rattle.pool_memory.specs.Memories.{MemoryState}
 use Rattle.pool_slots.specs.Cells.{Cell, is_taken, IsCell, IsSlotOf}
 use Rattle.pool_slots.specs.Queues.{QueueState, QueuedMemory, HasOwners, IsQueue, AreDistinct}
+use Rattle.pool_alloc.specs.Reserved.{Reserved}
 use Rattle.pool_alloc.specs.Leases.{Lease, IsMemory}
 use Rattle.pool_alloc.specs.Steps.{memories_asked, images_asked, image_wanted, shard_at, cell_at, queue_at, shard_of, local_of}
 use Rattle.pool_alloc.specs.Places.{Thing, slot_of, region_of, kept_count, frame_count, made_count, phase_instances, frame_memories}
 use Rattle.pool_alloc.specs.declared.pool_core.PoolCore.{PoolCore}
 use Rattle.pool_alloc.specs.declared.pool_core.Settings.{Settings}
 use Rattle.pool_alloc.specs.declared.frame.Frame.{Frame}
+use Rattle.pool_alloc.specs.declared.frame.ModuleCall.{ModuleCall}
 use Rattle.pool_alloc.specs.declared.frame.FreedSlot.{FreedSlot}
 use Rattle.pool_alloc.specs.declared.frame.Phase.{Phase}
 use Rattle.pool_alloc.specs.declared.frame.Phase.TheVariants.{Idle, Key, Validate, CountInstance, Pick, TakeQueue, TakeRegion, Empty, Instantiate, MakeMemory, CountMemory, PutRefused, FreeRefused, UncountMemory, Reset, Merge, Decommit, PutRegion, Free, UncountInstance}
@@ -100,44 +102,62 @@ pub record HasSlot (maker : MakerTold) (s : Settings) (total slot : ℕ) (held :
   pub inside : slot < total
   pub region : IsSlotOf maker s.max_memory_size slot held
 
--- it is in use, and begins with the image of the memory that is allocated
-pub record HasBegun {P : Type 0} (f : Frame P) (held : Slot) (decl : MemoryDecl) : Type 0 where
-  pub begun : IsBegun (image_wanted f) held
+-- it is in use, and begins with this image
+pub record HasBegun (image : Option Image) (held : Slot) (decl : MemoryDecl) : Type 0 where
+  pub begun : IsBegun image held
   pub accessible : minimum_byte_size decl.ty ≤ held.accessible.bytes
 
--- the memory is the one that is allocated, as it begins
-pub record IsNew {P : Type 0} (f : Frame P) (m : MemoryState) (decl : MemoryDecl) : Type 0 where
-  pub slot : HasBegun f m.slot decl
+-- the memory is as it begins, with this image
+pub record IsNew (image : Option Image) (m : MemoryState) (decl : MemoryDecl) : Type 0 where
+  pub slot : HasBegun image m.slot decl
   pub size : m.size ≡ minimum_byte_size decl.ty
 
+-- nothing is queued or waits to be freed
+pub record NothingWaits (local : QueueState) (freed : Reserved FreedSlot) : Type 0 where
+  pub no_ranges : local.ranges ≡ []
+  pub no_slots : local.memories ≡ []
+  pub none_freed : freed.items ≡ []
+
+-- nor is anything granted or given back
+pub record NothingHeld (local : QueueState) (freed : Reserved FreedSlot) (granted returning : Reserved Lease) : Type 0 where
+  pub settled : NothingWaits local freed
+  pub none_granted : granted.items ≡ []
+  pub none_returning : returning.items ≡ []
+
+-- where images are given, there is a place for each memory
+abbrev pub HasImages : Option ModuleCall → Type 0
+HasImages asked = IfSome asked (λ m. IfSome m.images (λ images. length (arc_value images) ≡ length (arc_value m.info).memories))
+
+-- some of the module's memories are granted, and there is a next one
+pub record AllocatesMore (s : Settings) (asked : Option ModuleCall) (granted returning : Reserved Lease) : Type 0 where
+  pub supported : AreSupported s (memories_asked asked) (images_asked asked)
+  pub images : HasImages asked
+  pub room : granted.room ≡ length (memories_asked asked)
+  pub more : length granted.items < length (memories_asked asked)
+  pub none_returning : returning.items ≡ []
+
+-- what the call goes on with after a flush
+abbrev pub GoesOn : Settings → ℕ → AfterFlush → Option ModuleCall → Reserved Lease → Reserved Lease → Type 0
+GoesOn s queues (PickAgain n) asked granted returning = AllocatesMore s asked granted returning × (n ≤ queues)
+GoesOn s queues GiveBackNext asked granted returning = granted.items ≡ []
+
 module _ {P : Type 0} where
-  -- nothing is queued or waits to be freed
-  pub record IsSettled (f : Frame P) : Type 0 where
-    pub no_ranges : f.local.ranges ≡ []
-    pub no_slots : f.local.memories ≡ []
-    pub none_freed : f.freed.items ≡ []
+  abbrev pub IsSettled : Frame P → Type 0
+  IsSettled f = NothingWaits f.local f.freed
 
-  -- nothing is granted or given back
-  pub record IsAtRest (f : Frame P) : Type 0 where
-    pub settled : IsSettled f
-    pub none_granted : f.granted.items ≡ []
-    pub none_returning : f.returning.items ≡ []
+  abbrev pub IsAtRest : Frame P → Type 0
+  IsAtRest f = NothingHeld f.local f.freed f.granted f.returning
 
-  -- a memory of the module is allocated, and not the first of those granted so far
-  pub record IsAllocating (s : Settings) (f : Frame P) : Type 0 where
-    pub supported : AreSupported s (memories_asked f.asked) (images_asked f.asked)
-    pub room : f.granted.room ≡ length (memories_asked f.asked)
-    pub more : length f.granted.items < length (memories_asked f.asked)
-    pub none_returning : f.returning.items ≡ []
+  -- a memory of the module is allocated
+  abbrev pub IsAllocating : Settings → Frame P → Type 0
+  IsAllocating s f = AllocatesMore s f.asked f.granted f.returning
 
   -- the memory that is allocated
   abbrev pub IfAllocated : Frame P → (MemoryDecl → Type 0) → Type 0
   IfAllocated f Q = IfSome (slice_get (memories_asked f.asked) (length f.granted.items)) Q
 
-  -- what the call goes on with after a flush
   abbrev pub IsShapedAfter : Settings → ℕ → AfterFlush → Frame P → Type 0
-  IsShapedAfter s queues (PickAgain n) f = IsAllocating s f × (n ≤ queues)
-  IsShapedAfter s queues GiveBackNext f = f.granted.items ≡ []
+  IsShapedAfter s queues after f = GoesOn s queues after f.asked f.granted f.returning
 
   -- the freed slots and those still queued have room
   abbrev pub HasFreedRoom : Settings → Frame P → Type 0
@@ -147,15 +167,15 @@ module _ {P : Type 0} where
   abbrev pub IsShapedAt : MakerTold → Settings → (slots shards queues : ℕ) → Phase P → Frame P → Type 0
   IsShapedAt maker s slots shards queues Idle f = IsAtRest f
   IsShapedAt maker s slots shards queues Key f = IsAtRest f
-  IsShapedAt maker s slots shards queues Validate f = IsAtRest f × IsSome f.asked × AreImagesOf s (memories_asked f.asked) (images_asked f.asked)
-  IsShapedAt maker s slots shards queues CountInstance f = IsAtRest f × IsSome f.asked × AreSupported s (memories_asked f.asked) (images_asked f.asked) × (f.granted.room ≡ length (memories_asked f.asked))
+  IsShapedAt maker s slots shards queues Validate f = IsAtRest f × IsSome f.asked × AreImagesOf s (memories_asked f.asked) (images_asked f.asked) × HasImages f.asked
+  IsShapedAt maker s slots shards queues CountInstance f = IsAtRest f × IsSome f.asked × AreSupported s (memories_asked f.asked) (images_asked f.asked) × (f.granted.room ≡ length (memories_asked f.asked)) × HasImages f.asked
   IsShapedAt maker s slots shards queues (Pick n tried) f = IsSettled f × IsAllocating s f × (n ≤ queues) × (tried < shards)
   IsShapedAt maker s slots shards queues (TakeQueue n) f = IsSettled f × IsAllocating s f × (n < queues)
   IsShapedAt maker s slots shards queues (TakeRegion slot) f = IsSettled f × IsAllocating s f × (slot < slots)
   IsShapedAt maker s slots shards queues (Empty slot held) f = IsSettled f × IsAllocating s f × HasSlot maker s slots slot held
   IsShapedAt maker s slots shards queues (Instantiate slot held) f = IsSettled f × IsAllocating s f × HasSlot maker s slots slot held × IsClean held
-  IsShapedAt maker s slots shards queues (MakeMemory slot held) f = IsSettled f × IsAllocating s f × HasSlot maker s slots slot held × IfAllocated f (HasBegun f held)
-  IsShapedAt maker s slots shards queues (CountMemory slot memory) f = IsSettled f × IsAllocating s f × HasSlot maker s slots slot memory.slot × IsMemory memory × IfAllocated f (IsNew f memory)
+  IsShapedAt maker s slots shards queues (MakeMemory slot held) f = IsSettled f × IsAllocating s f × HasSlot maker s slots slot held × IfAllocated f (HasBegun (image_wanted f) held)
+  IsShapedAt maker s slots shards queues (CountMemory slot memory) f = IsSettled f × IsAllocating s f × HasSlot maker s slots slot memory.slot × IsMemory memory × IfAllocated f (IsNew (image_wanted f) memory)
   IsShapedAt maker s slots shards queues (PutRefused slot held e) f = IsSettled f × IsAllocating s f × HasSlot maker s slots slot held
   IsShapedAt maker s slots shards queues (FreeRefused slot e) f = IsSettled f × IsAllocating s f × (slot < slots)
   IsShapedAt maker s slots shards queues UncountMemory f = IsSettled f × (f.granted.items ≡ []) × (0 < length f.returning.items)

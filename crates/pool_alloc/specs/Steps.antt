@@ -4,6 +4,7 @@ use Rattle.std.specs.Arc.{arc_value}
 use Rattle.std.specs.declared.sync.Arc.{Arc}
 use Rattle.std.specs.declared.alloc.Global.{Global}
 use Rattle.pool_pages.specs.declared.module_types.MemoryDecl.{MemoryDecl}
+use Rattle.pool_pages.specs.declared.unsupported.Unsupported.{Unsupported}
 use Rattle.pool_images.specs.Images.{Image}
 use Rattle.pool_images.specs.Slots.{Slot}
 use Rattle.pool_index.specs.Shard.{ShardState, fresh_shard, pick_answer, after_pick, after_free, slot_number}
@@ -19,7 +20,7 @@ use Rattle.pool_slots.specs.declared.request.AllocError.TheVariants as refusal
 use Rattle.pool_slots.specs.declared.request.ConcurrencyKind.TheVariants.{MemoryStripe, CoreInstances}
 use Rattle.pool_alloc.specs.Reserved.{Reserved, no_room, with_item}
 use Rattle.pool_alloc.specs.Leases.{Lease}
-use Rattle.pool_alloc.specs.Own.{image_made, reset_into, memory_made}
+use Rattle.pool_alloc.specs.Own.{image_made, memories_refused, reset_into, memory_made}
 use Rattle.pool_alloc.specs.declared.pool_core.PoolCore.{PoolCore}
 use Rattle.pool_alloc.specs.declared.pool_core.Settings.{Settings}
 use Rattle.pool_alloc.specs.declared.frame.Frame.{Frame}
@@ -167,12 +168,16 @@ module _ {P : Type 0} where
   abbrev pub key_row : PoolCore P → Frame P → After P
   key_row c f = ends (record c { counters = record c.counters { key = (c.counters.key + 1) % 2 ^ 64 } }) (record f { stripe = c.counters.key % c.settings.stripes }) answer.Key
 
-  -- The module is tested, and the list of its memories reserved.
-  abbrev pub validate_row : Bool → PoolCore P → Frame P → After P
-  validate_row wants c f =
+  abbrev pub validated : Option Unsupported → Bool → PoolCore P → Frame P → After P
+  validated (Some rule) wants c f = ends c f (answer.Refused (refusal.Unsupported rule))
+  validated None wants c f =
       if wants
       then ends c f (answer.Refused refusal.Memory)
       else goes c (record f { granted = record { items = []; room = length (memories_asked f.asked) } }) CountInstance
+
+  -- The module is tested, and the list of its memories reserved.
+  abbrev pub validate_row : Bool → PoolCore P → Frame P → After P
+  validate_row wants c f = validated (memories_refused c.settings (memories_asked f.asked)) wants c f
 
   abbrev pub count_instance_row : PoolCore P → Frame P → After P
   count_instance_row c f =
