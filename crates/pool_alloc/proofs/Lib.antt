@@ -1,0 +1,4 @@
+pub mod Frees
+pub mod QueueCounts
+pub mod RegionCounts
+pub mod SlotCounts
