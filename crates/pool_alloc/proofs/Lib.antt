@@ -1,4 +1,6 @@
 pub mod Frees
+pub mod Held
+pub mod KeptCounts
 pub mod QueueCounts
 pub mod RegionCounts
 pub mod SlotCounts
