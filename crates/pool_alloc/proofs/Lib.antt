@@ -1,4 +1,6 @@
+pub mod Balances
 pub mod Frees
+pub mod GrantRows
 pub mod Held
 pub mod KeptCounts
 pub mod QueueCounts
