@@ -74,16 +74,16 @@ module _ {P : Type 0} where
     slots = e.slots;
   }
 
-  either_way : (s : Sums) (b : Bool) (c : PoolCore P) (f : Frame P) (x y : Phase P) → Balances s (goes c f x) → Balances s (goes c f y) → Balances s (goes c f (if b then x else y))
-  either_way s true c f x y one other = one
-  either_way s false c f x y one other = other
+  pub either_next : (s : Sums) (b : Bool) (c : PoolCore P) (f : Frame P) (x y : Phase P) → Balances s (goes c f x) → Balances s (goes c f y) → Balances s (goes c f (if b then x else y))
+  either_next s true c f x y one other = one
+  either_next s false c f x y one other = other
 
   pub either_end : (s : Sums) (b : Bool) (x y : After P) → Balances s x → Balances s y → Balances s (if b then x else y)
   either_end s true x y one other = one
   either_end s false x y one other = other
 
   pub give_back_keeps : (s : Sums) (c : PoolCore P) (f : Frame P) → IsEven s nothing 1 c f → Balances s (give_back_next c f)
-  give_back_keeps s c f e = either_way s (length f.returning.items == 0) c f UncountInstance UncountMemory (goes_on s c f UncountInstance e) (goes_on s c f UncountMemory e)
+  give_back_keeps s c f e = either_next s (length f.returning.items == 0) c f UncountInstance UncountMemory (goes_on s c f UncountInstance e) (goes_on s c f UncountMemory e)
 
   pub refuse_keeps : (s : Sums) (c : PoolCore P) (f : Frame P) (e : AllocError) → f.returning.items ≡ [] → IsEven s nothing 1 c f → Balances s (refuses c f e)
   refuse_keeps s c f e none even =
@@ -106,7 +106,7 @@ module _ {P : Type 0} where
           })
 
   pub flush_keeps : (s : Sums) (after : AfterFlush) (c : PoolCore P) (f : Frame P) → IsEven s nothing 1 c f → Balances s (flushes after c f)
-  flush_keeps s after c f e = either_way s (length f.local.ranges == 0) c f (PutRegion after) (Decommit after) (goes_on s c f (PutRegion after) e) (goes_on s c f (Decommit after) e)
+  flush_keeps s after c f e = either_next s (length f.local.ranges == 0) c f (PutRegion after) (Decommit after) (goes_on s c f (PutRegion after) e) (goes_on s c f (Decommit after) e)
 
   pub after_flush_keeps : (s : Sums) (after : AfterFlush) (c : PoolCore P) (f : Frame P) → IsEven s nothing 1 c f → Balances s (after_flush after c f)
   after_flush_keeps s (PickAgain queues) c f e = goes_on s c f (Pick queues 0) e

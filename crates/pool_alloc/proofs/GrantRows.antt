@@ -28,7 +28,7 @@ use Rattle.pool_alloc.proofs.RegionCounts.{region_once}
 use Rattle.pool_alloc.proofs.QueueCounts.{leased_last}
 use Rattle.pool_alloc.proofs.KeptCounts.{kept_shard, kept_queue, kept_without, kept_with, frame_regions}
 use Rattle.pool_alloc.proofs.Held.{place_of, not_kept, held_is_inside, held_is_used, region_is_home, region_is_away}
-use Rattle.pool_alloc.proofs.Balances.{Sums, Balances, IsEven, in_phase, sums_of, listed_count, nothing, goes_on, either_end, refuse_keeps, allocate_keeps, flush_keeps, no_slot_keeps}
+use Rattle.pool_alloc.proofs.Balances.{Sums, Balances, IsEven, in_phase, sums_of, listed_count, nothing, goes_on, either_next, either_end, refuse_keeps, allocate_keeps, flush_keeps, no_slot_keeps}
 
 module _ {P : Type 0} where
   pub key_keeps : (c : PoolCore P) (f : Frame P) → Balances (sums_of c (in_phase Key f)) (key_row c (in_phase Key f))
@@ -108,10 +108,6 @@ module _ {P : Type 0} where
         memories = omega arith;
         slots = length-set c.cells slot taken;
       })
-
-  either_next : (s : Sums) (b : Bool) (c : PoolCore P) (f : Frame P) (x y : Phase P) → Balances s (goes c f x) → Balances s (goes c f y) → Balances s (goes c f (if b then x else y))
-  either_next s true c f x y one other = one
-  either_next s false c f x y one other = other
 
   held_goes_on : (slot : ℕ) (c : PoolCore P) (f : Frame P) (now next : Phase P) → ((t : Thing) → frame_count t (in_phase next f) ≡ frame_count t (in_phase now f)) → phase_instances now ≡ phase_instances next → Balances (sums_of c (in_phase now f)) (goes c (in_phase now f) next)
   held_goes_on slot c f now next same counted = record { places = λ t. omega (arith, same t); instances = omega arith; memories = omega arith; slots = refl }

@@ -1,8 +1,12 @@
 pub mod Balances
+pub mod Conserving
+pub mod FreedSlots
 pub mod Frees
+pub mod GiveBackRows
 pub mod GrantRows
 pub mod Held
 pub mod KeptCounts
 pub mod QueueCounts
 pub mod RegionCounts
 pub mod SlotCounts
+pub mod Stages
