@@ -16,7 +16,7 @@ use Rattle.pool_alloc.proofs.Stages.{picked_is_home, refused_is_away, refused_is
 module _ {P : Type 0} where
   -- in each phase
   pub balances_at : (maker : MakerTold) (g : Given) (c : PoolCore P) (f : Frame P) (phase : Phase P) → CanStep maker c (in_phase phase f) → MayBeTold c.settings g phase (in_phase phase f) → Balances (sums_of c (in_phase phase f)) (row_of g phase c (in_phase phase f))
-  balances_at maker g c f Idle can told = record { places = λ t. omega arith; instances = omega arith; memories = omega arith; slots = refl }
+  balances_at maker g c f Idle can told = record { places = λ t. omega arith; instances = omega arith; memories = omega arith; sizes = refl }
   balances_at maker g c f Key can told = key_keeps c f
   balances_at maker g c f Validate can told = validate_keeps g c f can.frame.shape.0.none_granted
   balances_at maker g c f CountInstance can told = count_instance_keeps c f can.frame.shape.0.none_returning

@@ -1,5 +1,5 @@
 -- The rows of a give-back, and of a flush, keep all sums.
-use Rattle.std.proofs.Common.{◌≡◌, ℕ, ◌+◌, ◌-◌, ◌%◌, ◌<◌, ◌≤◌, Bool, true, false, List, [], ◌∷◌, length, length-set, Some, None, refl, sym, ap, ◌∙◌, subst, arith}
+use Rattle.std.proofs.Common.{◌≡◌, ℕ, ◌+◌, ◌-◌, ◌%◌, ◌<◌, ◌≤◌, Bool, true, false, List, [], ◌∷◌, length, Some, None, refl, sym, ap, ◌∙◌, subst, arith}
 use Rattle.std.specs.Prelude.{if◌then◌else◌, nat_lt, nat_le, ◌==◌, ◌||◌, min}
 use Rattle.std.proofs.lemmas.List.{length_push}
 use Rattle.pool_pages.specs.MakerTold.{MakerTold}
@@ -24,7 +24,7 @@ use Rattle.pool_alloc.specs.declared.frame.Phase.{Phase}
 use Rattle.pool_alloc.specs.declared.frame.Phase.TheVariants.{UncountMemory, Reset, Merge, Decommit, PutRegion, Free, UncountInstance}
 use Rattle.pool_alloc.specs.declared.frame.AfterFlush.{AfterFlush}
 use Rattle.pool_alloc.specs.declared.frame.AfterFlush.TheVariants.{GiveBackNext}
-use Rattle.pool_alloc.proofs.Balances.{Sums, Balances, IsEven, in_phase, sums_of, listed_count, nothing, goes_on, either_next, either_end, give_back_keeps, flush_keeps, after_flush_keeps}
+use Rattle.pool_alloc.proofs.Balances.{Sums, sizes_shard, sizes_cell, sizes_queue, Balances, IsEven, in_phase, sums_of, listed_count, nothing, goes_on, either_next, either_end, give_back_keeps, flush_keeps, after_flush_keeps}
 use Rattle.pool_alloc.proofs.FreedSlots.{freed_counts, first_is_shard}
 use Rattle.pool_alloc.proofs.Held.{held_is_inside, region_is_away}
 use Rattle.pool_alloc.proofs.KeptCounts.{kept_shard, kept_queue, kept_with}
@@ -57,7 +57,7 @@ module _ {P : Type 0} where
             places = λ t. omega (arith, leased_first t lease rest, ap (leased_count t) e);
             instances = omega arith;
             memories = omega (arith, ap (length {A = Lease}) e);
-            slots = refl;
+            sizes = refl;
           })
 
   pub reset_keeps : (lease : Lease) (c : PoolCore P) (f : Frame P) → Balances (sums_of c (in_phase (Reset lease) f)) (reset_row lease c (in_phase (Reset lease) f))
@@ -69,7 +69,7 @@ module _ {P : Type 0} where
         places = λ t. omega (arith, reset_counts t c.settings.keep_resident.bytes lease.index lease.memory.slot f.local);
         instances = omega arith;
         memories = omega arith;
-        slots = refl;
+        sizes = refl;
       } in
       either_end s ((length queue.ranges == 0) || nat_le c.settings.batch (length queue.ranges)) _ _ (flush_keeps s GiveBackNext c has even) (goes_on s c has Merge even)
 
@@ -88,13 +88,13 @@ module _ {P : Type 0} where
         places = λ t. omega (arith, kept_queue t i (after_take whole) c below, queued_joined t home.memories f.local.memories);
         instances = omega arith;
         memories = omega arith;
-        slots = refl;
+        sizes = sizes_queue i (after_take whole) c;
       } in
       let put : IsEven s nothing 1 more gave = record {
         places = λ t. omega (arith, kept_queue t i whole c below, queued_joined t home.memories f.local.memories);
         instances = omega arith;
         memories = omega arith;
-        slots = refl;
+        sizes = sizes_queue i whole c;
       } in
       either_end s (nat_le c.settings.batch (length whole.ranges)) _ _ (flush_keeps s GiveBackNext left has taken) (give_back_keeps s more gave put)
 
@@ -104,7 +104,7 @@ module _ {P : Type 0} where
         places = λ t. omega (arith, decommit_counts t g.fault f.local g.queue told);
         instances = omega arith;
         memories = omega arith;
-        slots = refl;
+        sizes = refl;
       })
 
   puts_keeps : (s : Sums) (after : AfterFlush) (ms : List QueuedMemory) (c : PoolCore P) (f : Frame P) → 0 < length ms → ((m : QueuedMemory) (rest : List QueuedMemory) → ms ≡ m ∷ rest → IsEven s nothing 1 (with_cell m.index (cell_returned m) c) (record f { local = record f.local { memories = rest }; freed = with_item (record { slot = m.index; bytes = m.bytes }) f.freed })) → Balances s (puts after ms c f)
@@ -125,7 +125,7 @@ module _ {P : Type 0} where
                 places = λ t. omega (arith, first t, kept_with t m.index (cell_returned m) c below away (returned_has m.known m.slot), freed_last t f.freed.items (record { slot = m.index; bytes = m.bytes }));
                 instances = omega arith;
                 memories = omega arith;
-                slots = length-set c.cells m.index (cell_returned m);
+                sizes = sizes_cell m.index (cell_returned m) c;
               })
 
   pub free_keeps : (maker : MakerTold) (after : AfterFlush) (c : PoolCore P) (f : Frame P) → IsCore maker c → Fits c (in_phase (Free after) f) → 0 < length f.freed.items → Balances (sums_of c (in_phase (Free after) f)) (free_row after c (in_phase (Free after) f))
@@ -140,15 +140,15 @@ module _ {P : Type 0} where
         places = λ t. omega (arith, kept_shard t j shard c below, freed_counts t maker j c (in_phase (Free after) f) core fits below, freed_parted t (λ x. shard_of c.settings x.slot == j) f.freed.items);
         instances = omega arith;
         memories = omega arith;
-        slots = refl;
+        sizes = sizes_shard j shard c;
       } in
       either_end s (length has.freed.items == 0) _ _ (after_flush_keeps s after left has even) (goes_on s left has (Free after) even)
 
   ending_keeps : (s : Sums) (e : Ending) (c : PoolCore P) (f : Frame P) → IsEven s nothing 0 c f → Balances s (ends c f (answer_of e))
-  ending_keeps s Returned c f even = record { places = λ t. omega (arith, even.places t); instances = omega (arith, even.instances); memories = omega (arith, even.memories); slots = even.slots }
-  ending_keeps s (Refused e) c f even = record { places = λ t. omega (arith, even.places t); instances = omega (arith, even.instances); memories = omega (arith, even.memories); slots = even.slots }
+  ending_keeps s Returned c f even = record { places = λ t. omega (arith, even.places t); instances = omega (arith, even.instances); memories = omega (arith, even.memories); sizes = even.sizes }
+  ending_keeps s (Refused e) c f even = record { places = λ t. omega (arith, even.places t); instances = omega (arith, even.instances); memories = omega (arith, even.memories); sizes = even.sizes }
 
   pub uncount_instance_keeps : (c : PoolCore P) (f : Frame P) → 1 ≤ c.counters.core_instances → Balances (sums_of c (in_phase UncountInstance f)) (uncount_instance_row c (in_phase UncountInstance f))
   uncount_instance_keeps c f counted =
       ending_keeps (sums_of c (in_phase UncountInstance f)) f.ending (counting_instances (c.counters.core_instances - 1) c) (in_phase UncountInstance f)
-          (record { places = λ t. omega arith; instances = omega arith; memories = omega arith; slots = refl })
+          (record { places = λ t. omega arith; instances = omega arith; memories = omega arith; sizes = refl })

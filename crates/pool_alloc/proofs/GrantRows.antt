@@ -1,5 +1,5 @@
 -- The rows of a call that asks for an instance keep all sums.
-use Rattle.std.proofs.Common.{◌≡◌, ℕ, ◌+◌, ◌-◌, ◌%◌, ◌<◌, ◌≤◌, Bool, true, false, List, [], ◌∷◌, length, length-set, Option, Some, None, Result, Ok, Err, refl, sym, ap, ◌∙◌, subst, arith}
+use Rattle.std.proofs.Common.{◌≡◌, ℕ, ◌+◌, ◌-◌, ◌%◌, ◌<◌, ◌≤◌, Bool, true, false, List, [], ◌∷◌, length, Option, Some, None, Result, Ok, Err, refl, sym, ap, ◌∙◌, subst, arith}
 use Rattle.std.specs.Prelude.{if◌then◌else◌, nat_lt, ◌==◌}
 use Rattle.std.proofs.lemmas.List.{length_push}
 use Rattle.pool_pages.specs.MakerTold.{MakerTold}
@@ -28,29 +28,29 @@ use Rattle.pool_alloc.proofs.RegionCounts.{region_once}
 use Rattle.pool_alloc.proofs.QueueCounts.{leased_last}
 use Rattle.pool_alloc.proofs.KeptCounts.{kept_shard, kept_queue, kept_without, kept_with, frame_regions}
 use Rattle.pool_alloc.proofs.Held.{place_of, not_kept, held_is_inside, held_is_used, region_is_home, region_is_away}
-use Rattle.pool_alloc.proofs.Balances.{Sums, Balances, IsEven, in_phase, sums_of, listed_count, nothing, goes_on, either_next, either_end, refuse_keeps, allocate_keeps, flush_keeps, no_slot_keeps}
+use Rattle.pool_alloc.proofs.Balances.{Sums, sizes_shard, sizes_cell, sizes_queue, Balances, IsEven, in_phase, sums_of, listed_count, nothing, goes_on, either_next, either_end, refuse_keeps, allocate_keeps, flush_keeps, no_slot_keeps}
 
 module _ {P : Type 0} where
   pub key_keeps : (c : PoolCore P) (f : Frame P) → Balances (sums_of c (in_phase Key f)) (key_row c (in_phase Key f))
-  key_keeps c f = record { places = λ t. omega arith; instances = omega arith; memories = omega arith; slots = refl }
+  key_keeps c f = record { places = λ t. omega arith; instances = omega arith; memories = omega arith; sizes = refl }
 
   pub validate_keeps : (g : Given) (c : PoolCore P) (f : Frame P) → f.granted.items ≡ [] → Balances (sums_of c (in_phase Validate f)) (validate_row g c (in_phase Validate f))
   validate_keeps g c f none =
       let reserved : Frame P = record f { phase = Validate; granted = record { items = []; room = length (memories_asked f.asked) } } in
       either_end (sums_of c (in_phase Validate f)) g.wants _ _
-          (record { places = λ t. omega arith; instances = omega arith; memories = omega arith; slots = refl })
+          (record { places = λ t. omega arith; instances = omega arith; memories = omega arith; sizes = refl })
           (goes_on (sums_of c (in_phase Validate f)) c reserved CountInstance (record {
             places = λ t. omega (arith, ap (leased_count t) none);
             instances = omega arith;
             memories = omega (arith, ap (length {A = Lease}) none);
-            slots = refl;
+            sizes = refl;
           }))
 
   pub count_instance_keeps : (c : PoolCore P) (f : Frame P) → f.returning.items ≡ [] → Balances (sums_of c (in_phase CountInstance f)) (count_instance_row c (in_phase CountInstance f))
   count_instance_keeps c f none =
       let s : Sums = sums_of c (in_phase CountInstance f) in
       let counted : PoolCore P = counting_instances (c.counters.core_instances + 1) c in
-      let even : IsEven s nothing 1 counted (in_phase CountInstance f) = record { places = λ t. omega arith; instances = omega arith; memories = omega arith; slots = refl } in
+      let even : IsEven s nothing 1 counted (in_phase CountInstance f) = record { places = λ t. omega arith; instances = omega arith; memories = omega arith; sizes = refl } in
       either_end s (nat_lt c.counters.core_instances c.settings.max_core_instances) _ _ (allocate_keeps s counted (in_phase CountInstance f) even) (refuse_keeps s counted (in_phase CountInstance f) _ none even)
 
   -- what the shard answers goes with the frame
@@ -68,13 +68,13 @@ module _ {P : Type 0} where
             places = λ t. omega (arith, kept_shard t j (after_pick (wanted f) shard) c below, pick_less t (wanted f) shard p (core.shards j below) answer);
             instances = omega arith;
             memories = omega arith;
-            slots = refl;
+            sizes = sizes_shard j (after_pick (wanted f) shard) c;
           })
           (λ answer. record {
             places = λ t. omega (arith, kept_shard t j (after_pick (wanted f) shard) c below, pick_none t (wanted f) shard answer);
             instances = omega arith;
             memories = omega arith;
-            slots = refl;
+            sizes = sizes_shard j (after_pick (wanted f) shard) c;
           })
 
   pub take_queue_keeps : (maker : MakerTold) (queues : ℕ) (c : PoolCore P) (f : Frame P) → IsCore maker c → f.returning.items ≡ [] → f.local.memories ≡ [] → Balances (sums_of c (in_phase (TakeQueue queues) f)) (take_queue_row queues c (in_phase (TakeQueue queues) f))
@@ -89,7 +89,7 @@ module _ {P : Type 0} where
         places = λ t. omega (arith, kept_queue t i (after_take queue) c below, ap (queued_count t) empty);
         instances = omega arith;
         memories = omega arith;
-        slots = refl;
+        sizes = sizes_queue i (after_take queue) c;
       } in
       either_end s (length queue.memories == 0) _ _ (no_slot_keeps s (queues + 1) left has none even) (flush_keeps s (PickAgain (queues + 1)) left has even)
 
@@ -106,11 +106,11 @@ module _ {P : Type 0} where
         places = λ t. omega (arith, kept_without t slot c home);
         instances = omega arith;
         memories = omega arith;
-        slots = length-set c.cells slot taken;
+        sizes = sizes_cell slot taken c;
       })
 
   held_goes_on : (slot : ℕ) (c : PoolCore P) (f : Frame P) (now next : Phase P) → ((t : Thing) → frame_count t (in_phase next f) ≡ frame_count t (in_phase now f)) → phase_instances now ≡ phase_instances next → Balances (sums_of c (in_phase now f)) (goes c (in_phase now f) next)
-  held_goes_on slot c f now next same counted = record { places = λ t. omega (arith, same t); instances = omega arith; memories = omega arith; slots = refl }
+  held_goes_on slot c f now next same counted = record { places = λ t. omega (arith, same t); instances = omega arith; memories = omega arith; sizes = refl }
 
   pub empty_keeps : (g : Given) (slot : ℕ) (held : Slot) (c : PoolCore P) (f : Frame P) → Balances (sums_of c (in_phase (Empty slot held) f)) (empty_row g slot c (in_phase (Empty slot held) f))
   empty_keeps g slot held c f =
@@ -138,7 +138,7 @@ module _ {P : Type 0} where
         places = λ t. omega (arith, leased_last t f.granted.items lease);
         instances = omega arith;
         memories = omega (arith, length_push f.granted.items lease);
-        slots = refl;
+        sizes = refl;
       })
 
   pub put_refused_keeps : (slot : ℕ) (held : Slot) (e : AllocError) (c : PoolCore P) (f : Frame P) → slot < length c.cells → is_taken (cell_at slot c.cells) ≡ true → Balances (sums_of c (in_phase (PutRefused slot held e) f)) (put_refused_row slot held e c (in_phase (PutRefused slot held e) f))
@@ -147,7 +147,7 @@ module _ {P : Type 0} where
         places = λ t. omega (arith, kept_with t slot (unknown held) c below away refl);
         instances = omega arith;
         memories = omega arith;
-        slots = length-set c.cells slot (unknown held);
+        sizes = sizes_cell slot (unknown held) c;
       })
 
   pub free_refused_keeps : (maker : MakerTold) (slot : ℕ) (e : AllocError) (c : PoolCore P) (f : Frame P) → IsCore maker c → slot < length c.cells → f.returning.items ≡ [] → is_used (shard_at (shard_of c.settings slot) c.shards) (local_of c.settings slot).0 ≡ true → Balances (sums_of c (in_phase (FreeRefused slot e) f)) (free_refused_row slot e c (in_phase (FreeRefused slot e) f))
@@ -161,5 +161,5 @@ module _ {P : Type 0} where
             omega (arith, kept_shard t j (after_free (local_of c.settings slot) 0 shard) c (core.layout.inside slot below).0, free_more t (local_of c.settings slot) 0 shard place.inside used);
         instances = omega arith;
         memories = omega arith;
-        slots = refl;
+        sizes = sizes_shard j (after_free (local_of c.settings slot) 0 shard) c;
       })
