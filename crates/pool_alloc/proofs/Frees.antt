@@ -5,6 +5,7 @@ use Rattle.std.specs.List.{AllByRecursion}
 use Rattle.std.proofs.lemmas.Bool.{true_from_ne_false}
 use Rattle.pool_index.specs.Shard.{ShardState, after_free, use_of, is_used, slot_number}
 use Rattle.pool_index.specs.declared.ids.MemoryInModule.{MemoryInModule}
+use Rattle.pool_alloc.specs.Freeing.{AreUsedInTurn}
 use Rattle.pool_alloc.specs.Places.{Thing, slot_of, slot_count, unused_count, shard_count, freed_count}
 use Rattle.pool_alloc.specs.Steps.{shard_of, local_of, after_frees, freed_of}
 use Rattle.pool_alloc.specs.declared.frame.FreedSlot.{FreedSlot}
@@ -62,3 +63,21 @@ frees_more t s (x ∷ xs) shard places once =
     let later : AllByRecursion (λ y. HasPlace s freed y.slot) xs = each_weaker (λ (y : FreedSlot). HasPlace s shard y.slot) (λ (y : FreedSlot). HasPlace s freed y.slot) xs (λ y place. place_kept s shard x y.slot place) places.1 in
     let rest : shard_count t (after_frees s xs freed) ≡ shard_count t freed + freed_count t xs = frees_more t s xs freed later (once_kept s shard x xs places.0 once) in
     omega (arith, rest, freed_first t x xs, freed_one t s shard x places.0 (first_used s shard x xs places.0 once))
+
+-- each is used when its turn comes
+pub used_in_turn : (s : Settings) (xs : List FreedSlot) (shard : ShardState) → AllByRecursion (λ x. HasPlace s shard x.slot) xs → AreOnce shard xs → AreUsedInTurn s xs shard
+used_in_turn s [] shard places once = tt
+used_in_turn s (x ∷ xs) shard places once =
+    let freed : ShardState = after_free (local_of s x.slot) x.bytes shard in
+    let later : AllByRecursion (λ y. HasPlace s freed y.slot) xs = each_weaker (λ (y : FreedSlot). HasPlace s shard y.slot) (λ (y : FreedSlot). HasPlace s freed y.slot) xs (λ y place. place_kept s shard x y.slot place) places.1 in
+    (first_used s shard x xs places.0 once, used_in_turn s xs freed later (once_kept s shard x xs places.0 once))
+
+-- all frees together leave each slot its place
+pub place_stays : (s : Settings) (xs : List FreedSlot) (shard : ShardState) (slot : ℕ) → HasPlace s shard slot → HasPlace s (after_frees s xs shard) slot
+place_stays s [] shard slot place = place
+place_stays s (x ∷ xs) shard slot place = place_stays s xs (after_free (local_of s x.slot) x.bytes shard) slot (place_kept s shard x slot place)
+
+-- a slot that is freed once more than the list has it is used behind the list
+pub used_behind : (s : Settings) (xs : List FreedSlot) (shard : ShardState) (slot : ℕ) → AllByRecursion (λ x. HasPlace s shard x.slot) xs → HasPlace s shard slot → AreOnce shard xs → shard_count (slot_of slot) shard + freed_count (slot_of slot) xs ≡ 0 → is_used (after_frees s xs shard) (local_of s slot).0 ≡ true
+used_behind s xs shard slot places place once none =
+    used_by_count s (after_frees s xs shard) slot (place_stays s xs shard slot place) (omega (arith, frees_more (slot_of slot) s xs shard places once))

@@ -1,4 +1,5 @@
 pub mod Answers
+pub mod Freeing
 pub mod Leases
 pub mod Own
 pub mod Places
