@@ -26,11 +26,9 @@ use Rattle.pool_alloc.specs.declared.frame.AfterFlush.{AfterFlush}
 use Rattle.pool_alloc.specs.declared.frame.AfterFlush.TheVariants.{GiveBackNext}
 use Rattle.pool_alloc.proofs.Balances.{Sums, sizes_shard, sizes_cell, sizes_queue, Balances, IsEven, in_phase, sums_of, listed_count, nothing, goes_on, either_next, either_end, give_back_keeps, flush_keeps, after_flush_keeps}
 use Rattle.pool_alloc.proofs.FreedSlots.{freed_counts, first_is_shard}
-use Rattle.pool_alloc.proofs.Held.{held_is_inside, region_is_away}
 use Rattle.pool_alloc.proofs.KeptCounts.{kept_shard, kept_queue, kept_with}
 use Rattle.pool_alloc.proofs.QueueCounts.{leased_first, queued_first, queued_last, queued_joined, freed_last, freed_parted, run_counts, faulted_counts}
-use Rattle.pool_alloc.proofs.RegionCounts.{region_once}
-use Rattle.pool_alloc.proofs.SlotCounts.{slot_once}
+use Rattle.pool_alloc.proofs.Stages.{first_can_be_put}
 
 -- a reset puts the slot of its memory into the queue
 pub reset_counts : (t : Thing) (keep index : ℕ) (slot : Slot) (q : QueueState) → queued_count t (reset_into keep index slot q).memories ≡ queued_count t q.memories + both_count t index
@@ -119,10 +117,9 @@ module _ {P : Type 0} where
       puts_keeps (sums_of c (in_phase (PutRegion after) f)) after f.local.memories c (in_phase (PutRegion after) f) some
           (λ m rest e.
               let first : (t : Thing) → queued_count t f.local.memories ≡ both_count t m.index + queued_count t rest = λ t. ap (queued_count t) e ∙ queued_first t m rest in
-              let below : m.index < length c.cells = held_is_inside m.index c (in_phase (PutRegion after) f) fits (omega (arith, first (slot_of m.index), slot_once m.index)) in
-              let away : is_taken (cell_at m.index c.cells) ≡ true = region_is_away m.index c (in_phase (PutRegion after) f) fits (omega (arith, first (region_of m.index), region_once m.index)) in
+              let can = first_can_be_put after c f m rest fits e in
               record {
-                places = λ t. omega (arith, first t, kept_with t m.index (cell_returned m) c below away (returned_has m.known m.slot), freed_last t f.freed.items (record { slot = m.index; bytes = m.bytes }));
+                places = λ t. omega (arith, first t, kept_with t m.index (cell_returned m) c can.inside can.away (returned_has m.known m.slot), freed_last t f.freed.items (record { slot = m.index; bytes = m.bytes }));
                 instances = omega arith;
                 memories = omega arith;
                 sizes = sizes_cell m.index (cell_returned m) c;

@@ -1,5 +1,6 @@
 pub mod Balances
 pub mod Conserving
+pub mod Fitting
 pub mod FreedSlots
 pub mod Frees
 pub mod GiveBackRows
@@ -10,3 +11,4 @@ pub mod QueueCounts
 pub mod RegionCounts
 pub mod SlotCounts
 pub mod Stages
+pub mod Wholes

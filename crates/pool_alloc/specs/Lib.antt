@@ -7,3 +7,4 @@ pub mod Reserved
 pub mod Sound
 pub mod Stepping
 pub mod Steps
+pub mod Whole
