@@ -1,5 +1,5 @@
 -- The sums of what there is, and of what is counted, before and after a step; and how the ends that rows share keep them.
-use Rattle.std.proofs.Common.{◌≡◌, ℕ, ◌+◌, ◌<◌, ◌≤◌, Bool, true, false, List, [], ◌∷◌, length, length-set, Some, None, refl, sym, ap, ◌∙◌, arith}
+use Rattle.std.proofs.Common.{◌≡◌, ℕ, ◌+◌, Bool, true, false, [], length, length-set, ap, arith}
 use Rattle.std.specs.Prelude.{if◌then◌else◌, nat_lt, ◌==◌}
 use Rattle.pool_index.specs.Shard.{ShardState}
 use Rattle.pool_slots.specs.Cells.{Cell}
@@ -8,15 +8,14 @@ use Rattle.pool_slots.specs.declared.request.AllocError.{AllocError}
 use Rattle.pool_alloc.specs.Leases.{Lease}
 use Rattle.pool_alloc.specs.Reserved.{no_room}
 use Rattle.pool_alloc.specs.Places.{Thing, leased_count, queued_count, freed_count, kept_count, phase_count, frame_count, phase_instances, frame_memories}
-use Rattle.pool_alloc.specs.Steps.{After, memories_asked, with_shard, with_cell, with_queue, goes, ends, give_back_next, refuses, allocate_next, flushes, after_flush, no_slot}
-use Rattle.pool_alloc.specs.Stepping.{Conserves, granted, grant_count, grant_instances, grant_memories}
+use Rattle.pool_alloc.specs.Steps.{After, memories_asked, with_shard, with_cell, with_queue, goes, give_back_next, refuses, allocate_next, flushes, after_flush, no_slot}
+use Rattle.pool_alloc.specs.Stepping.{Conserves, IsSameSize, granted, grant_count, grant_instances, grant_memories}
 use Rattle.pool_alloc.specs.declared.pool_core.PoolCore.{PoolCore}
 use Rattle.pool_alloc.specs.declared.pool_core.Settings.{Settings}
 use Rattle.pool_alloc.specs.declared.frame.Ending.TheVariants as ending
 use Rattle.pool_alloc.specs.declared.frame.Frame.{Frame}
-use Rattle.pool_alloc.specs.declared.frame.Outcome.{Outcome}
 use Rattle.pool_alloc.specs.declared.frame.Phase.{Phase}
-use Rattle.pool_alloc.specs.declared.frame.Phase.TheVariants.{Idle, Pick, TakeQueue, UncountMemory, UncountInstance, Decommit, PutRegion}
+use Rattle.pool_alloc.specs.declared.frame.Phase.TheVariants.{Pick, TakeQueue, UncountMemory, UncountInstance, Decommit, PutRegion}
 use Rattle.pool_alloc.specs.declared.frame.AfterFlush.{AfterFlush}
 use Rattle.pool_alloc.specs.declared.frame.AfterFlush.TheVariants.{PickAgain, GiveBackNext}
 
@@ -48,6 +47,14 @@ module _ {P : Type 0} where
 
   abbrev pub sizes_of : PoolCore P → Sizes
   sizes_of c = record { settings = c.settings; cells = length c.cells; shards = length c.shards; queues = length c.queues }
+
+  pub same_size : (old new : PoolCore P) → sizes_of new ≡ sizes_of old → IsSameSize old new
+  same_size old new e = record {
+    settings = ap (λ (z : Sizes). z.settings) e;
+    cells = ap (λ (z : Sizes). z.cells) e;
+    shards = ap (λ (z : Sizes). z.shards) e;
+    queues = ap (λ (z : Sizes). z.queues) e;
+  }
 
   pub sizes_shard : (j : ℕ) (shard : ShardState) (c : PoolCore P) → sizes_of (with_shard j shard c) ≡ sizes_of c
   sizes_shard j shard c = ap (λ n. record { settings = c.settings; cells = length c.cells; shards = n; queues = length c.queues }) (length-set c.shards j shard)
@@ -120,13 +127,13 @@ module _ {P : Type 0} where
   pub allocate_keeps : (s : Sums) (c : PoolCore P) (f : Frame P) → IsEven s nothing 1 c f → Balances s (allocate_next c f)
   allocate_keeps s c f e =
       either_end s (nat_lt (length f.granted.items) (length (memories_asked f.asked))) _ _
-          (goes_on s c f (Pick 0 0) e)
-          (record {
-            places = λ t. omega (arith, e.places t);
-            instances = omega (arith, e.instances);
-            memories = omega (arith, e.memories);
-            sizes = e.sizes;
-          })
+      (goes_on s c f (Pick 0 0) e)
+      (record {
+        places = λ t. omega (arith, e.places t);
+        instances = omega (arith, e.instances);
+        memories = omega (arith, e.memories);
+        sizes = e.sizes;
+      })
 
   pub flush_keeps : (s : Sums) (after : AfterFlush) (c : PoolCore P) (f : Frame P) → IsEven s nothing 1 c f → Balances s (flushes after c f)
   flush_keeps s after c f e = either_next s (length f.local.ranges == 0) c f (PutRegion after) (Decommit after) (goes_on s c f (PutRegion after) e) (goes_on s c f (Decommit after) e)

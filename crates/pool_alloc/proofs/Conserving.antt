@@ -1,14 +1,14 @@
 -- Every step keeps all sums: nothing is lost or made.
-use Rattle.std.proofs.Common.{◌≡◌, ℕ, ◌+◌, ◌<◌, ◌≤◌, length, refl, arith}
+use Rattle.std.proofs.Common.{refl, arith}
 use Rattle.pool_pages.specs.MakerTold.{MakerTold}
 use Rattle.pool_alloc.specs.Answers.{MayBeTold}
 use Rattle.pool_alloc.specs.Steps.{Given, row_of, row}
-use Rattle.pool_alloc.specs.Stepping.{CanStep, Conserves}
+use Rattle.pool_alloc.specs.Stepping.{CanStep, Conserves, IsSameSize}
 use Rattle.pool_alloc.specs.declared.pool_core.PoolCore.{PoolCore}
 use Rattle.pool_alloc.specs.declared.frame.Frame.{Frame}
 use Rattle.pool_alloc.specs.declared.frame.Phase.{Phase}
 use Rattle.pool_alloc.specs.declared.frame.Phase.TheVariants.{Idle, Key, Validate, CountInstance, Pick, TakeQueue, TakeRegion, Empty, Instantiate, MakeMemory, CountMemory, PutRefused, FreeRefused, UncountMemory, Reset, Merge, Decommit, PutRegion, Free, UncountInstance}
-use Rattle.pool_alloc.proofs.Balances.{Balances, in_phase, sums_of, conserves_by}
+use Rattle.pool_alloc.proofs.Balances.{Balances, in_phase, sums_of, conserves_by, same_size}
 use Rattle.pool_alloc.proofs.GrantRows.{key_keeps, validate_keeps, count_instance_keeps, pick_keeps, take_queue_keeps, take_region_keeps, empty_keeps, instantiate_keeps, make_memory_keeps, count_memory_keeps, put_refused_keeps, free_refused_keeps}
 use Rattle.pool_alloc.proofs.GiveBackRows.{uncount_memory_keeps, reset_keeps, merge_keeps, decommit_keeps, put_region_keeps, free_keeps, uncount_instance_keeps}
 use Rattle.pool_alloc.proofs.Stages.{picked_is_home, refused_is_away, refused_is_used}
@@ -43,3 +43,7 @@ module _ {P : Type 0} where
   -- What a step takes from the pool's parts comes into the frame or the grant, and the other way round.
   pub conserves : (maker : MakerTold) (g : Given) (c : PoolCore P) (f : Frame P) → CanStep maker c f → MayBeTold c.settings g f.phase f → Conserves c f (row g c f)
   conserves maker g c f can told = conserves_by c f (row g c f) (balances maker g c f can told)
+
+  -- No step changes how many parts there are.
+  pub size_kept : (maker : MakerTold) (g : Given) (c : PoolCore P) (f : Frame P) → CanStep maker c f → MayBeTold c.settings g f.phase f → IsSameSize c (row g c f).core
+  size_kept maker g c f can told = same_size c (row g c f).core (balances maker g c f can told).sizes

@@ -1,16 +1,16 @@
 -- The slots that a frame frees: each has its place in its shard, and is used there when its turn comes.
-use Rattle.std.proofs.Common.{◌≡◌, ℕ, ◌+◌, ◌<◌, ◌≤◌, Bool, true, false, List, [], ◌∷◌, length, min, refl, sym, ap, subst, arith}
-use Rattle.std.specs.Prelude.{if◌then◌else◌, filter, not, ◌==◌, slice_index_or, take}
+use Rattle.std.proofs.Common.{◌≡◌, ℕ, ◌+◌, ◌<◌, ◌≤◌, Bool, true, false, List, [], ◌∷◌, length, refl, subst, arith}
+use Rattle.std.specs.Prelude.{if◌then◌else◌, ◌==◌, slice_index_or, take}
 use Rattle.std.specs.List.{AllByRecursion}
 use Rattle.std.proofs.lemmas.Bool.{eqb-true}
 use Rattle.std.proofs.lemmas.List.Sums.{get_or-le-sum_by, sum_by-take-le, sum_by_more_le}
 use Rattle.pool_hall.specs.declared.unit_name.SlotKind.TheVariants.{Memory as memory_kind}
-use Rattle.pool_index.specs.Shard.{ShardState, fresh_shard, is_used}
+use Rattle.pool_index.specs.Shard.{fresh_shard, is_used}
 use Rattle.pool_pages.specs.MakerTold.{MakerTold}
 use Rattle.pool_alloc.specs.Freeing.{AreUsedInTurn}
 use Rattle.pool_alloc.specs.Places.{Thing, slot_of, slot_count, shard_count, freed_count, kept_count, frame_count}
 use Rattle.pool_alloc.specs.Sound.{IsCore, Fits}
-use Rattle.pool_alloc.specs.Steps.{shard_at, shard_of, local_of, after_frees, freed_of, freed_elsewhere, first_shard}
+use Rattle.pool_alloc.specs.Steps.{shard_at, shard_of, local_of, after_frees, freed_of, first_shard}
 use Rattle.pool_alloc.specs.declared.frame.Frame.{Frame}
 use Rattle.pool_alloc.specs.declared.frame.FreedSlot.{FreedSlot}
 use Rattle.pool_alloc.specs.declared.pool_core.PoolCore.{PoolCore}
@@ -36,8 +36,8 @@ module _ {P : Type 0} where
       let H : ℕ → Type 0 = λ i. HasPlace c.settings (shard_at i c.shards) x.slot in
       let below : x.slot < length c.cells = inside x.slot (omega (arith, freed_first (slot_of x.slot) x xs, slot_once x.slot)) in
       each_if (λ (y : FreedSlot). HasPlace c.settings (shard_at j c.shards) y.slot) (shard_of c.settings x.slot == j) x (freed_of c.settings j xs)
-          (λ same. subst H (eqb-true _ _ same) (place_of maker c x.slot core below))
-          (places_among maker j c xs core (λ k some. inside k (omega (arith, freed_first (slot_of k) x xs))))
+      (λ same. subst H (eqb-true _ _ same) (place_of maker c x.slot core below))
+      (places_among maker j c xs core (λ k some. inside k (omega (arith, freed_first (slot_of k) x xs))))
 
   -- Each slot that a frame frees is one of the pool, and those of a shard have their places there.
   pub freed_inside : (k : ℕ) (c : PoolCore P) (f : Frame P) → Fits c f → 1 ≤ freed_count (slot_of k) f.freed.items → k < length c.cells
@@ -85,7 +85,7 @@ module _ {P : Type 0} where
       let kept : (k : ℕ) → shard_count (slot_of k) (shard_at j c.shards) ≤ kept_count (slot_of k) c = λ k. omega (arith, kept_slots k c, get_or-le-sum_by (shard_count (slot_of k)) c.shards j (fresh_shard memory_kind 0 1 0 0) below) in
       let all : (k : ℕ) → kept_count (slot_of k) c + frame_count (slot_of k) f ≤ 1 = λ k. omega (arith, fits.once (slot_of k), made_once (slot_of k) (length c.cells)) in
       used_behind c.settings (freed_of c.settings j before) (shard_at j c.shards) slot
-          (places_among maker j c before core (λ k some. freed_inside k c f fits (omega (arith, fewer k))))
-          place
-          (λ k. omega (arith, part k, fewer k, kept k, all k))
-          (omega (arith, part slot, one, slot_once slot, kept slot, all slot))
+      (places_among maker j c before core (λ k some. freed_inside k c f fits (omega (arith, fewer k))))
+      place
+      (λ k. omega (arith, part k, fewer k, kept k, all k))
+      (omega (arith, part slot, one, slot_once slot, kept slot, all slot))

@@ -1,13 +1,11 @@
 -- What a shard has once several slots were freed, and that each was used when its turn came.
-use Rattle.std.proofs.Common.{◌≡◌, ℕ, zero, suc, ◌+◌, ◌*◌, ◌<◌, ◌≤◌, Bool, true, false, List, [], ◌∷◌, ◌++◌, length, length-set, Option, Some, None, refl, sym, ap, ◌∙◌, subst, inl, inr, arith}
-use Rattle.std.specs.Prelude.{IsSome, filter, not, ◌==◌, slice_index_or, slice_set, take, drop, get_or}
+use Rattle.std.proofs.Common.{◌≡◌, ℕ, ◌+◌, ◌<◌, ◌≤◌, true, List, [], ◌∷◌, length, length-set, None, ap, subst, arith}
 use Rattle.std.specs.List.{AllByRecursion}
 use Rattle.std.proofs.lemmas.Bool.{true_from_ne_false}
-use Rattle.pool_index.specs.Shard.{ShardState, after_free, use_of, is_used, slot_number}
-use Rattle.pool_index.specs.declared.ids.MemoryInModule.{MemoryInModule}
+use Rattle.pool_index.specs.Shard.{ShardState, after_free, is_used, slot_number}
 use Rattle.pool_alloc.specs.Freeing.{AreUsedInTurn}
 use Rattle.pool_alloc.specs.Places.{Thing, slot_of, slot_count, unused_count, shard_count, freed_count}
-use Rattle.pool_alloc.specs.Steps.{shard_of, local_of, after_frees, freed_of}
+use Rattle.pool_alloc.specs.Steps.{local_of, after_frees}
 use Rattle.pool_alloc.specs.declared.frame.FreedSlot.{FreedSlot}
 use Rattle.pool_alloc.specs.declared.pool_core.Settings.{Settings}
 use Rattle.pool_alloc.proofs.SlotCounts.{slot_once, unused_counted, free_more}
@@ -26,9 +24,9 @@ pub record HasPlace (s : Settings) (shard : ShardState) (slot : ℕ) : Type 0 wh
 pub used_by_count : (s : Settings) (shard : ShardState) (slot : ℕ) → HasPlace s shard slot → shard_count (slot_of slot) shard ≡ 0 → is_used shard (local_of s slot).0 ≡ true
 used_by_count s shard slot place none =
     true_from_ne_false (is_used shard (local_of s slot).0) (λ free.
-        let C : ℕ → Type 0 = λ n. 1 ≤ unused_count (slot_of n) shard.first shard.step shard.used in
-        let one : 1 ≤ shard_count (slot_of slot) shard = subst C place.number (unused_counted shard.first shard.step shard.used (local_of s slot).0 place.inside free) in
-        omega arith)
+    let C : ℕ → Type 0 = λ n. 1 ≤ unused_count (slot_of n) shard.first shard.step shard.used in
+    let one : 1 ≤ shard_count (slot_of slot) shard = subst C place.number (unused_counted shard.first shard.step shard.used (local_of s slot).0 place.inside free) in
+    omega arith)
 
 -- a free leaves each slot its place
 pub place_kept : (s : Settings) (shard : ShardState) (x : FreedSlot) (slot : ℕ) → HasPlace s shard slot → HasPlace s (after_free (local_of s x.slot) x.bytes shard) slot

@@ -1,30 +1,26 @@
 -- The rows of a give-back, and of a flush, keep all sums.
-use Rattle.std.proofs.Common.{◌≡◌, ℕ, ◌+◌, ◌-◌, ◌%◌, ◌<◌, ◌≤◌, Bool, true, false, List, [], ◌∷◌, length, Some, None, refl, sym, ap, ◌∙◌, subst, arith}
-use Rattle.std.specs.Prelude.{if◌then◌else◌, nat_lt, nat_le, ◌==◌, ◌||◌, min}
-use Rattle.std.proofs.lemmas.List.{length_push}
+use Rattle.std.proofs.Common.{◌≡◌, ℕ, ◌+◌, ◌-◌, ◌<◌, ◌≤◌, Bool, true, false, List, [], ◌∷◌, length, refl, ap, ◌∙◌, arith}
+use Rattle.std.specs.Prelude.{if◌then◌else◌, nat_le, ◌==◌, ◌||◌, min}
 use Rattle.pool_pages.specs.MakerTold.{MakerTold}
 use Rattle.pool_images.specs.Slots.{Slot}
 use Rattle.pool_index.specs.Shard.{ShardState}
-use Rattle.pool_slots.specs.Cells.{Cell, unknown, previously_used, is_taken}
+use Rattle.pool_slots.specs.Cells.{unknown, previously_used, is_taken}
 use Rattle.pool_slots.specs.Queues.{QueueState, QueuedMemory, joined, after_take, taken_into, emptied}
 use Rattle.pool_alloc.specs.Leases.{Lease}
 use Rattle.pool_alloc.specs.Own.{reset_into}
 use Rattle.pool_alloc.specs.Reserved.{with_item}
 use Rattle.pool_alloc.specs.Answers.{Decommits}
-use Rattle.pool_alloc.specs.Places.{Thing, slot_of, region_of, slot_count, both_count, shard_count, queued_count, leased_count, freed_count, kept_count, frame_count}
+use Rattle.pool_alloc.specs.Places.{Thing, both_count, queued_count, leased_count}
 use Rattle.pool_alloc.specs.Sound.{IsCore, Fits}
-use Rattle.pool_alloc.specs.Steps.{Given, goes, ends, shard_at, queue_at, cell_at, with_shard, with_cell, with_queue, counting_instances, counting_memories, queue_tried, cell_returned, after_frees, freed_of, freed_elsewhere, first_shard, shard_of, returns, uncount_memory_row, was_reset, reset_row, merged, merge_row, decommit_row, puts, put_region_row, were_freed, frees, free_row, answer_of, uncount_instance_row}
-use Rattle.pool_alloc.specs.Stepping.{granted, grant_count, grant_instances, grant_memories}
+use Rattle.pool_alloc.specs.Steps.{Given, ends, shard_at, queue_at, with_shard, with_cell, with_queue, counting_instances, counting_memories, queue_tried, cell_returned, after_frees, freed_of, freed_elsewhere, first_shard, shard_of, returns, uncount_memory_row, reset_row, merge_row, decommit_row, puts, put_region_row, free_row, answer_of, uncount_instance_row}
 use Rattle.pool_alloc.specs.declared.pool_core.PoolCore.{PoolCore}
 use Rattle.pool_alloc.specs.declared.frame.Ending.{Ending}
 use Rattle.pool_alloc.specs.declared.frame.Ending.TheVariants.{Returned, Refused}
 use Rattle.pool_alloc.specs.declared.frame.Frame.{Frame}
-use Rattle.pool_alloc.specs.declared.frame.FreedSlot.{FreedSlot}
-use Rattle.pool_alloc.specs.declared.frame.Phase.{Phase}
 use Rattle.pool_alloc.specs.declared.frame.Phase.TheVariants.{UncountMemory, Reset, Merge, Decommit, PutRegion, Free, UncountInstance}
 use Rattle.pool_alloc.specs.declared.frame.AfterFlush.{AfterFlush}
 use Rattle.pool_alloc.specs.declared.frame.AfterFlush.TheVariants.{GiveBackNext}
-use Rattle.pool_alloc.proofs.Balances.{Sums, sizes_shard, sizes_cell, sizes_queue, Balances, IsEven, in_phase, sums_of, listed_count, nothing, goes_on, either_next, either_end, give_back_keeps, flush_keeps, after_flush_keeps}
+use Rattle.pool_alloc.proofs.Balances.{Sums, sizes_shard, sizes_cell, sizes_queue, Balances, IsEven, in_phase, sums_of, nothing, goes_on, either_next, either_end, give_back_keeps, flush_keeps, after_flush_keeps}
 use Rattle.pool_alloc.proofs.FreedSlots.{freed_counts, first_is_shard}
 use Rattle.pool_alloc.proofs.KeptCounts.{kept_shard, kept_queue, kept_with}
 use Rattle.pool_alloc.proofs.QueueCounts.{leased_first, queued_first, queued_last, queued_joined, freed_last, freed_parted, run_counts, faulted_counts}
@@ -32,7 +28,7 @@ use Rattle.pool_alloc.proofs.Stages.{first_can_be_put}
 
 -- a reset puts the slot of its memory into the queue
 pub reset_counts : (t : Thing) (keep index : ℕ) (slot : Slot) (q : QueueState) → queued_count t (reset_into keep index slot q).memories ≡ queued_count t q.memories + both_count t index
-reset_counts t keep index slot q = queued_last t q.memories (record { index = index; slot = slot; known = true; bytes = min keep slot.accessible.bytes })
+reset_counts t keep index slot q = queued_last t q.memories _
 
 -- a cell to which a region is returned has it
 returned_has : (b : Bool) (slot : Slot) → is_taken (if b then previously_used slot else unknown slot) ≡ false
@@ -51,12 +47,12 @@ module _ {P : Type 0} where
   pub uncount_memory_keeps : (c : PoolCore P) (f : Frame P) → 0 < length f.returning.items → length f.granted.items + length f.returning.items ≤ c.counters.memories → Balances (sums_of c (in_phase UncountMemory f)) (uncount_memory_row c (in_phase UncountMemory f))
   uncount_memory_keeps c f some counted =
       returns_keeps (sums_of c (in_phase UncountMemory f)) f.returning.items (counting_memories (c.counters.memories - 1) c) (in_phase UncountMemory f) some
-          (λ lease rest e. record {
-            places = λ t. omega (arith, leased_first t lease rest, ap (leased_count t) e);
-            instances = omega arith;
-            memories = omega (arith, ap (length {A = Lease}) e);
-            sizes = refl;
-          })
+      (λ lease rest e. record {
+        places = λ t. omega (arith, leased_first t lease rest, ap (leased_count t) e);
+        instances = omega arith;
+        memories = omega (arith, ap (length {A = Lease}) e);
+        sizes = refl;
+      })
 
   pub reset_keeps : (lease : Lease) (c : PoolCore P) (f : Frame P) → Balances (sums_of c (in_phase (Reset lease) f)) (reset_row lease c (in_phase (Reset lease) f))
   reset_keeps lease c f =
@@ -115,15 +111,15 @@ module _ {P : Type 0} where
   pub put_region_keeps : (after : AfterFlush) (c : PoolCore P) (f : Frame P) → Fits c (in_phase (PutRegion after) f) → 0 < length f.local.memories → Balances (sums_of c (in_phase (PutRegion after) f)) (put_region_row after c (in_phase (PutRegion after) f))
   put_region_keeps after c f fits some =
       puts_keeps (sums_of c (in_phase (PutRegion after) f)) after f.local.memories c (in_phase (PutRegion after) f) some
-          (λ m rest e.
-              let first : (t : Thing) → queued_count t f.local.memories ≡ both_count t m.index + queued_count t rest = λ t. ap (queued_count t) e ∙ queued_first t m rest in
-              let can = first_can_be_put after c f m rest fits e in
-              record {
-                places = λ t. omega (arith, first t, kept_with t m.index (cell_returned m) c can.inside can.away (returned_has m.known m.slot), freed_last t f.freed.items (record { slot = m.index; bytes = m.bytes }));
-                instances = omega arith;
-                memories = omega arith;
-                sizes = sizes_cell m.index (cell_returned m) c;
-              })
+      (λ m rest e.
+      let first : (t : Thing) → queued_count t f.local.memories ≡ both_count t m.index + queued_count t rest = λ t. ap (queued_count t) e ∙ queued_first t m rest in
+      let can = first_can_be_put after c f m rest fits e in
+      record {
+        places = λ t. omega (arith, first t, kept_with t m.index (cell_returned m) c can.inside can.away (returned_has m.known m.slot), freed_last t f.freed.items (record { slot = m.index; bytes = m.bytes }));
+        instances = omega arith;
+        memories = omega arith;
+        sizes = sizes_cell m.index (cell_returned m) c;
+      })
 
   pub free_keeps : (maker : MakerTold) (after : AfterFlush) (c : PoolCore P) (f : Frame P) → IsCore maker c → Fits c (in_phase (Free after) f) → 0 < length f.freed.items → Balances (sums_of c (in_phase (Free after) f)) (free_row after c (in_phase (Free after) f))
   free_keeps maker after c f core fits some =
@@ -148,4 +144,4 @@ module _ {P : Type 0} where
   pub uncount_instance_keeps : (c : PoolCore P) (f : Frame P) → 1 ≤ c.counters.core_instances → Balances (sums_of c (in_phase UncountInstance f)) (uncount_instance_row c (in_phase UncountInstance f))
   uncount_instance_keeps c f counted =
       ending_keeps (sums_of c (in_phase UncountInstance f)) f.ending (counting_instances (c.counters.core_instances - 1) c) (in_phase UncountInstance f)
-          (record { places = λ t. omega arith; instances = omega arith; memories = omega arith; sizes = refl })
+      (record { places = λ t. omega arith; instances = omega arith; memories = omega arith; sizes = refl })

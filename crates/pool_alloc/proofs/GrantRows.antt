@@ -1,34 +1,32 @@
 -- The rows of a call that asks for an instance keep all sums.
-use Rattle.std.proofs.Common.{◌≡◌, ℕ, ◌+◌, ◌-◌, ◌%◌, ◌<◌, ◌≤◌, Bool, true, false, List, [], ◌∷◌, length, Option, Some, None, Result, Ok, Err, refl, sym, ap, ◌∙◌, subst, arith}
-use Rattle.std.specs.Prelude.{if◌then◌else◌, nat_lt, ◌==◌}
+use Rattle.std.proofs.Common.{◌≡◌, ℕ, ◌+◌, ◌<◌, true, false, [], length, Option, Some, None, Result, Ok, Err, refl, ap, arith}
+use Rattle.std.specs.Prelude.{nat_lt, ◌==◌}
 use Rattle.std.proofs.lemmas.List.{length_push}
 use Rattle.pool_pages.specs.MakerTold.{MakerTold}
 use Rattle.pool_images.specs.Slots.{Slot}
 use Rattle.pool_memory.specs.Memories.{MemoryState}
-use Rattle.pool_index.specs.Shard.{ShardState, IsShard, pick_answer, after_pick, after_free, slot_number, is_used}
+use Rattle.pool_index.specs.Shard.{ShardState, pick_answer, after_pick, after_free, slot_number, is_used}
 use Rattle.pool_index.specs.declared.ids.SlotId.{SlotId}
 use Rattle.pool_slots.specs.Cells.{Cell, unmapped, unknown, previously_used, taken, is_taken}
 use Rattle.pool_slots.specs.Queues.{QueueState, after_take, taken_into}
 use Rattle.pool_slots.specs.declared.request.AllocError.{AllocError}
 use Rattle.pool_slots.specs.declared.request.AllocError.TheVariants as refusal
 use Rattle.pool_alloc.specs.Leases.{Lease}
-use Rattle.pool_alloc.specs.Reserved.{no_room, with_item}
+use Rattle.pool_alloc.specs.Reserved.{with_item}
 use Rattle.pool_alloc.specs.Own.{memory_made}
-use Rattle.pool_alloc.specs.Places.{Thing, slot_of, region_of, slot_count, region_count, both_count, shard_count, queued_count, leased_count, freed_count, kept_count, frame_count, phase_instances}
-use Rattle.pool_alloc.specs.Sound.{IsCore, Fits}
-use Rattle.pool_alloc.specs.Steps.{Given, After, memories_asked, shard_at, queue_at, cell_at, shard_of, local_of, with_shard, with_cell, with_queue, counting_instances, counting_memories, goes, shard_tried, queue_tried, wanted, picked, holds_region, made, took, key_row, validate_row, count_instance_row, pick_row, take_queue_row, take_region_row, empty_row, instantiate_row, make_memory_row, count_memory_row, put_refused_row, free_refused_row}
-use Rattle.pool_alloc.specs.Stepping.{CanStep}
+use Rattle.pool_alloc.specs.Places.{Thing, slot_count, both_count, queued_count, leased_count, frame_count, phase_instances}
+use Rattle.pool_alloc.specs.Sound.{IsCore}
+use Rattle.pool_alloc.specs.Steps.{Given, memories_asked, shard_at, queue_at, cell_at, shard_of, local_of, with_shard, with_cell, with_queue, counting_instances, counting_memories, goes, shard_tried, queue_tried, wanted, picked, holds_region, made, key_row, validate_row, count_instance_row, pick_row, take_queue_row, take_region_row, empty_row, instantiate_row, make_memory_row, count_memory_row, put_refused_row, free_refused_row}
 use Rattle.pool_alloc.specs.declared.pool_core.PoolCore.{PoolCore}
 use Rattle.pool_alloc.specs.declared.frame.Frame.{Frame}
 use Rattle.pool_alloc.specs.declared.frame.Phase.{Phase}
-use Rattle.pool_alloc.specs.declared.frame.Phase.TheVariants.{Idle, Key, Validate, CountInstance, Pick, TakeQueue, TakeRegion, Empty, Instantiate, MakeMemory, CountMemory, PutRefused, FreeRefused}
+use Rattle.pool_alloc.specs.declared.frame.Phase.TheVariants.{Key, Validate, CountInstance, Pick, TakeQueue, TakeRegion, Empty, Instantiate, MakeMemory, CountMemory, PutRefused, FreeRefused}
 use Rattle.pool_alloc.specs.declared.frame.AfterFlush.TheVariants.{PickAgain}
-use Rattle.pool_alloc.proofs.SlotCounts.{slot_once, pick_less, pick_none, free_more}
-use Rattle.pool_alloc.proofs.RegionCounts.{region_once}
+use Rattle.pool_alloc.proofs.SlotCounts.{pick_less, pick_none, free_more}
 use Rattle.pool_alloc.proofs.QueueCounts.{leased_last}
-use Rattle.pool_alloc.proofs.KeptCounts.{kept_shard, kept_queue, kept_without, kept_with, frame_regions}
-use Rattle.pool_alloc.proofs.Held.{place_of, not_kept, held_is_inside, held_is_used, region_is_home, region_is_away}
-use Rattle.pool_alloc.proofs.Balances.{Sums, sizes_shard, sizes_cell, sizes_queue, Balances, IsEven, in_phase, sums_of, listed_count, nothing, goes_on, either_next, either_end, refuse_keeps, allocate_keeps, flush_keeps, no_slot_keeps}
+use Rattle.pool_alloc.proofs.KeptCounts.{kept_shard, kept_queue, kept_without, kept_with}
+use Rattle.pool_alloc.proofs.Held.{place_of}
+use Rattle.pool_alloc.proofs.Balances.{Sums, sizes_shard, sizes_cell, sizes_queue, Balances, IsEven, in_phase, sums_of, nothing, goes_on, either_next, either_end, refuse_keeps, allocate_keeps, flush_keeps, no_slot_keeps}
 
 module _ {P : Type 0} where
   pub key_keeps : (c : PoolCore P) (f : Frame P) → Balances (sums_of c (in_phase Key f)) (key_row c (in_phase Key f))
@@ -38,13 +36,13 @@ module _ {P : Type 0} where
   validate_keeps g c f none =
       let reserved : Frame P = record f { phase = Validate; granted = record { items = []; room = length (memories_asked f.asked) } } in
       either_end (sums_of c (in_phase Validate f)) g.wants _ _
-          (record { places = λ t. omega arith; instances = omega arith; memories = omega arith; sizes = refl })
-          (goes_on (sums_of c (in_phase Validate f)) c reserved CountInstance (record {
-            places = λ t. omega (arith, ap (leased_count t) none);
-            instances = omega arith;
-            memories = omega (arith, ap (length {A = Lease}) none);
-            sizes = refl;
-          }))
+      (record { places = λ t. omega arith; instances = omega arith; memories = omega arith; sizes = refl })
+      (goes_on (sums_of c (in_phase Validate f)) c reserved CountInstance (record {
+        places = λ t. omega (arith, ap (leased_count t) none);
+        instances = omega arith;
+        memories = omega (arith, ap (length {A = Lease}) none);
+        sizes = refl;
+      }))
 
   pub count_instance_keeps : (c : PoolCore P) (f : Frame P) → f.returning.items ≡ [] → Balances (sums_of c (in_phase CountInstance f)) (count_instance_row c (in_phase CountInstance f))
   count_instance_keeps c f none =
@@ -64,18 +62,18 @@ module _ {P : Type 0} where
       let shard : ShardState = shard_at j c.shards in
       let below : j < length c.shards = omega (arith, core.layout.some) in
       picked_keeps (sums_of c (in_phase (Pick queues tried) f)) (pick_answer (wanted f) shard) shard queues tried (with_shard j (after_pick (wanted f) shard) c) (in_phase (Pick queues tried) f) none
-          (λ p answer. record {
-            places = λ t. omega (arith, kept_shard t j (after_pick (wanted f) shard) c below, pick_less t (wanted f) shard p (core.shards j below) answer);
-            instances = omega arith;
-            memories = omega arith;
-            sizes = sizes_shard j (after_pick (wanted f) shard) c;
-          })
-          (λ answer. record {
-            places = λ t. omega (arith, kept_shard t j (after_pick (wanted f) shard) c below, pick_none t (wanted f) shard answer);
-            instances = omega arith;
-            memories = omega arith;
-            sizes = sizes_shard j (after_pick (wanted f) shard) c;
-          })
+      (λ p answer. record {
+        places = λ t. omega (arith, kept_shard t j (after_pick (wanted f) shard) c below, pick_less t (wanted f) shard p (core.shards j below) answer);
+        instances = omega arith;
+        memories = omega arith;
+        sizes = sizes_shard j (after_pick (wanted f) shard) c;
+      })
+      (λ answer. record {
+        places = λ t. omega (arith, kept_shard t j (after_pick (wanted f) shard) c below, pick_none t (wanted f) shard answer);
+        instances = omega arith;
+        memories = omega arith;
+        sizes = sizes_shard j (after_pick (wanted f) shard) c;
+      })
 
   pub take_queue_keeps : (maker : MakerTold) (queues : ℕ) (c : PoolCore P) (f : Frame P) → IsCore maker c → f.returning.items ≡ [] → f.local.memories ≡ [] → Balances (sums_of c (in_phase (TakeQueue queues) f)) (take_queue_row queues c (in_phase (TakeQueue queues) f))
   take_queue_keeps maker queues c f core none empty =
@@ -115,14 +113,14 @@ module _ {P : Type 0} where
   pub empty_keeps : (g : Given) (slot : ℕ) (held : Slot) (c : PoolCore P) (f : Frame P) → Balances (sums_of c (in_phase (Empty slot held) f)) (empty_row g slot c (in_phase (Empty slot held) f))
   empty_keeps g slot held c f =
       either_next (sums_of c (in_phase (Empty slot held) f)) g.fault c (in_phase (Empty slot held) f) _ _
-          (held_goes_on slot c f (Empty slot held) (PutRefused slot g.slot refusal.PageFault) (λ t. refl) refl)
-          (held_goes_on slot c f (Empty slot held) (Instantiate slot g.slot) (λ t. refl) refl)
+      (held_goes_on slot c f (Empty slot held) (PutRefused slot g.slot refusal.PageFault) (λ t. refl) refl)
+      (held_goes_on slot c f (Empty slot held) (Instantiate slot g.slot) (λ t. refl) refl)
 
   pub instantiate_keeps : (g : Given) (slot : ℕ) (held : Slot) (c : PoolCore P) (f : Frame P) → Balances (sums_of c (in_phase (Instantiate slot held) f)) (instantiate_row g slot c (in_phase (Instantiate slot held) f))
   instantiate_keeps g slot held c f =
       either_next (sums_of c (in_phase (Instantiate slot held) f)) g.fault c (in_phase (Instantiate slot held) f) _ _
-          (held_goes_on slot c f (Instantiate slot held) (PutRefused slot g.slot refusal.PageFault) (λ t. refl) refl)
-          (held_goes_on slot c f (Instantiate slot held) (MakeMemory slot g.slot) (λ t. refl) refl)
+      (held_goes_on slot c f (Instantiate slot held) (PutRefused slot g.slot refusal.PageFault) (λ t. refl) refl)
+      (held_goes_on slot c f (Instantiate slot held) (MakeMemory slot g.slot) (λ t. refl) refl)
 
   made_keeps : (slot : ℕ) (held : Slot) (r : Result MemoryState AllocError) (c : PoolCore P) (f : Frame P) → Balances (sums_of c (in_phase (MakeMemory slot held) f)) (made slot held r c (in_phase (MakeMemory slot held) f))
   made_keeps slot held (Ok memory) c f = held_goes_on slot c f (MakeMemory slot held) (CountMemory slot memory) (λ t. refl) refl

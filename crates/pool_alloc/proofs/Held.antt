@@ -1,6 +1,6 @@
 -- What follows for a slot, and for a region, that a frame has, where the frame fits the pool.
-use Rattle.std.proofs.Common.{◌≡◌, ℕ, ◌+◌, ◌<◌, ◌≤◌, Bool, true, false, length, refl, sym, ap, ◌∙◌, subst, arith}
-use Rattle.std.specs.Prelude.{sum_by, nat_lt}
+use Rattle.std.proofs.Common.{◌≡◌, ℕ, ◌+◌, ◌<◌, ◌≤◌, Bool, true, false, length, refl, arith}
+use Rattle.std.specs.Prelude.{nat_lt}
 use Rattle.std.proofs.lemmas.Bool.{ltb-true, true_from_ne_false, false_from_ne_true}
 use Rattle.std.proofs.lemmas.List.Sums.{get_or-le-sum_by}
 use Rattle.pool_hall.specs.declared.unit_name.SlotKind.TheVariants.{Memory as memory_kind}
@@ -11,11 +11,10 @@ use Rattle.pool_slots.specs.Queues.{QueueState, holds, empty_queue}
 use Rattle.pool_alloc.specs.Places.{Thing, slot_of, region_of, shard_count, cells_count, queued_count, kept_count, frame_count, made_count}
 use Rattle.pool_alloc.specs.Steps.{shard_at, queue_at, cell_at, shard_of, local_of}
 use Rattle.pool_alloc.specs.Sound.{IsCore, Fits}
-use Rattle.pool_alloc.specs.Stepping.{CanStep}
 use Rattle.pool_alloc.specs.declared.pool_core.PoolCore.{PoolCore}
 use Rattle.pool_alloc.specs.declared.frame.Frame.{Frame}
 use Rattle.pool_alloc.proofs.Frees.{HasPlace, used_by_count}
-use Rattle.pool_alloc.proofs.KeptCounts.{kept_slots, kept_regions, frame_regions}
+use Rattle.pool_alloc.proofs.KeptCounts.{kept_slots, kept_regions}
 use Rattle.pool_alloc.proofs.QueueCounts.{not_held}
 use Rattle.pool_alloc.proofs.RegionCounts.{cell_counted, cell_uncounted}
 
@@ -61,25 +60,25 @@ module _ {P : Type 0} where
   held_is_used maker k c f core fits some =
       let below : k < length c.cells = held_is_inside k c f fits some in
       let none : shard_count (slot_of k) (shard_at (shard_of c.settings k) c.shards) ≡ 0 =
-          omega (arith, (not_kept (slot_of k) c f fits some).1, kept_slots k c, get_or-le-sum_by (shard_count (slot_of k)) c.shards (shard_of c.settings k) (fresh_shard memory_kind 0 1 0 0) (core.layout.inside k below).0) in
+      omega (arith, (not_kept (slot_of k) c f fits some).1, kept_slots k c, get_or-le-sum_by (shard_count (slot_of k)) c.shards (shard_of c.settings k) (fresh_shard memory_kind 0 1 0 0) (core.layout.inside k below).0) in
       used_by_count c.settings (shard_at (shard_of c.settings k) c.shards) k (place_of maker c k core below) none
 
   -- it is in no queue of the pool,
   pub held_is_not_queued : (k i : ℕ) (c : PoolCore P) (f : Frame P) → Fits c f → 1 ≤ frame_count (slot_of k) f → i < length c.queues → holds k (queue_at i c.queues).memories ≡ false
   held_is_not_queued k i c f fits some below =
       not_held k (queue_at i c.queues).memories
-          (omega (arith, (not_kept (slot_of k) c f fits some).1, kept_slots k c, get_or-le-sum_by (λ (q : QueueState). queued_count (slot_of k) q.memories) c.queues i (empty_queue 0 0) below))
+      (omega (arith, (not_kept (slot_of k) c f fits some).1, kept_slots k c, get_or-le-sum_by (λ (q : QueueState). queued_count (slot_of k) q.memories) c.queues i (empty_queue 0 0) below))
 
   -- its cell has its region where the frame hasn't,
   pub region_is_home : (k : ℕ) (c : PoolCore P) (f : Frame P) → Fits c f → 1 ≤ frame_count (slot_of k) f → frame_count (region_of k) f ≡ 0 → is_taken (cell_at k c.cells) ≡ false
   region_is_home k c f fits some without =
       false_from_ne_true (is_taken (cell_at k c.cells)) (λ away.
-          let none : cells_count (region_of k) 0 c.cells ≡ 0 = cell_uncounted k 0 c.cells k (omega arith) away in
-          let home : 0 < kept_count (region_of k) c + frame_count (region_of k) f = fits.home k (omega arith) in
-          omega (arith, (not_kept (slot_of k) c f fits some).1, kept_slots k c, kept_regions k c))
+      let none : cells_count (region_of k) 0 c.cells ≡ 0 = cell_uncounted k 0 c.cells k (omega arith) away in
+      let home : 0 < kept_count (region_of k) c + frame_count (region_of k) f = fits.home k (omega arith) in
+      omega (arith, (not_kept (slot_of k) c f fits some).1, kept_slots k c, kept_regions k c))
 
   -- and is taken where the frame has it.
   pub region_is_away : (k : ℕ) (c : PoolCore P) (f : Frame P) → Fits c f → 1 ≤ frame_count (region_of k) f → is_taken (cell_at k c.cells) ≡ true
   region_is_away k c f fits some =
       true_from_ne_false (is_taken (cell_at k c.cells)) (λ has.
-          omega (arith, cell_counted k 0 c.cells k (omega arith) has, (not_kept (region_of k) c f fits some).1, kept_regions k c))
+      omega (arith, cell_counted k 0 c.cells k (omega arith) has, (not_kept (region_of k) c f fits some).1, kept_regions k c))

@@ -1,12 +1,12 @@
 -- What the parts of the pool have once one shard, one cell or one queue changed; and that regions go with their slots.
-use Rattle.std.proofs.Common.{◌≡◌, ℕ, ◌+◌, ◌<◌, ◌≤◌, Bool, true, false, length, refl, ap, arith}
+use Rattle.std.proofs.Common.{◌≡◌, ℕ, ◌+◌, ◌<◌, ◌≤◌, true, false, length, ap, arith}
 use Rattle.std.specs.Prelude.{sum_by}
 use Rattle.std.proofs.lemmas.List.Sums.{sum_by-set}
 use Rattle.pool_hall.specs.declared.unit_name.SlotKind.TheVariants.{Memory as memory_kind}
 use Rattle.pool_index.specs.Shard.{ShardState, fresh_shard}
 use Rattle.pool_slots.specs.Cells.{Cell, taken, is_taken}
 use Rattle.pool_slots.specs.Queues.{QueueState, empty_queue}
-use Rattle.pool_alloc.specs.Places.{Thing, slot_of, region_of, region_count, both_count, shard_count, cells_count, queued_count, leased_count, freed_count, kept_count, phase_count, frame_count}
+use Rattle.pool_alloc.specs.Places.{Thing, slot_of, region_of, region_count, shard_count, cells_count, queued_count, kept_count, phase_count, frame_count}
 use Rattle.pool_alloc.specs.Steps.{shard_at, queue_at, cell_at, with_shard, with_cell, with_queue}
 use Rattle.pool_alloc.specs.declared.pool_core.PoolCore.{PoolCore}
 use Rattle.pool_alloc.specs.declared.frame.Frame.{Frame}
@@ -41,7 +41,7 @@ module _ {P : Type 0} where
   kept_regions k c =
       let none : sum_by (shard_count (region_of k)) c.shards ≡ 0 = sum_by_none (shard_count (region_of k)) (λ s. unused_regions k s.first s.step s.used) c.shards in
       let same : sum_by (λ q. queued_count (region_of k) q.memories) c.queues ≡ sum_by (λ q. queued_count (slot_of k) q.memories) c.queues =
-          sum_by_agree (λ (q : QueueState). queued_count (region_of k) q.memories) (λ (q : QueueState). queued_count (slot_of k) q.memories) (λ q. queued_regions k q.memories) c.queues in
+      sum_by_agree (λ (q : QueueState). queued_count (region_of k) q.memories) (λ (q : QueueState). queued_count (slot_of k) q.memories) (λ q. queued_regions k q.memories) c.queues in
       omega arith
 
   phase_regions : (k : ℕ) (phase : Phase P) → phase_count (region_of k) phase ≤ phase_count (slot_of k) phase

@@ -1,16 +1,14 @@
 -- What queues, leases and freed slots have, and what their counts say of the numbers in them.
-use Rattle.std.proofs.Common.{◌≡◌, ℕ, zero, suc, ◌+◌, ◌<◌, ◌≤◌, Bool, true, false, List, [], ◌∷◌, ◌++◌, length, refl, sym, ap, ◌∙◌, subst, inl, inr, arith}
-use Rattle.std.specs.Prelude.{map, filter, sum_by, slice_index_or, if◌then◌else◌, ◌==◌, ◌||◌, not}
-use Rattle.std.specs.List.{list_any, AllByRecursion, AllZip}
-use Rattle.std.proofs.lemmas.Bool.{cases_eq, cases_Bool, false_from_ne_true, or_from}
+use Rattle.std.proofs.Common.{◌≡◌, ℕ, ◌+◌, ◌≤◌, Bool, true, false, List, [], ◌∷◌, ◌++◌, refl, sym, ap, ◌∙◌, inl, inr, arith}
+use Rattle.std.specs.Prelude.{map, filter, sum_by, if◌then◌else◌, not}
+use Rattle.std.specs.List.{AllZip}
+use Rattle.std.proofs.lemmas.Bool.{cases_eq, or_from}
 use Rattle.std.proofs.lemmas.Bool.Decides.{nat_tests}
 use Rattle.std.proofs.lemmas.List.Sums.{sum_by-cons, sum_by-append, sum_by_push}
 use Rattle.std.proofs.lemmas.List.Filters.{sum_by-filter_both}
-use Rattle.pool_index.specs.Shard.{one_if}
-use Rattle.pool_images.specs.Slots.{Slot, decommitted_all}
-use Rattle.pool_slots.specs.Queues.{QueueState, QueuedMemory, holds, AreDistinct, AreApart, change_at, after_run, IsLeftBy, IsFaulted, first_slot}
+use Rattle.pool_slots.specs.Queues.{QueueState, QueuedMemory, holds, AreDistinct, AreApart, after_run, IsLeftBy, IsFaulted, first_slot}
 use Rattle.pool_alloc.specs.Leases.{Lease}
-use Rattle.pool_alloc.specs.Places.{Thing, slot_of, region_of, slot_count, region_count, both_count, queued_count, leased_count, freed_count}
+use Rattle.pool_alloc.specs.Places.{Thing, slot_of, region_of, slot_count, both_count, queued_count, leased_count, freed_count}
 use Rattle.pool_alloc.specs.declared.frame.FreedSlot.{FreedSlot}
 use Rattle.pool_alloc.proofs.SlotCounts.{slot_once}
 
@@ -103,15 +101,15 @@ not_held k (m ∷ ms) none =
 -- two queues that have no slot both hold no slot both
 pub apart_by_count : (these those : List QueuedMemory) → ((k : ℕ) → queued_count (slot_of k) these + queued_count (slot_of k) those ≤ 1) → AreApart these those
 apart_by_count [] those once = tt
-apart_by_count (m ∷ ms) those once =
-    ( not_held m.index those (omega (arith, once m.index, queued_first (slot_of m.index) m ms, slot_once m.index))
-    , apart_by_count ms those (λ k. omega (arith, once k, queued_first (slot_of k) m ms))
-    )
+apart_by_count (m ∷ ms) those once = (
+  not_held m.index those (omega (arith, once m.index, queued_first (slot_of m.index) m ms, slot_once m.index)),
+  apart_by_count ms those (λ k. omega (arith, once k, queued_first (slot_of k) m ms)),
+)
 
 -- and slots that are counted once are distinct
 pub distinct_by_count : (ms : List QueuedMemory) → ((k : ℕ) → queued_count (slot_of k) ms ≤ 1) → AreDistinct ms
 distinct_by_count [] once = tt
-distinct_by_count (m ∷ ms) once =
-    ( not_held m.index ms (omega (arith, once m.index, queued_first (slot_of m.index) m ms, slot_once m.index))
-    , distinct_by_count ms (λ k. omega (arith, once k, queued_first (slot_of k) m ms))
-    )
+distinct_by_count (m ∷ ms) once = (
+  not_held m.index ms (omega (arith, once m.index, queued_first (slot_of m.index) m ms, slot_once m.index)),
+  distinct_by_count ms (λ k. omega (arith, once k, queued_first (slot_of k) m ms)),
+)

@@ -1,12 +1,12 @@
 -- How the slots that a shard has change as one is picked or freed.
-use Rattle.std.proofs.Common.{◌≡◌, ℕ, zero, suc, ◌+◌, ◌*◌, ◌<◌, ◌≤◌, Bool, true, false, List, [], ◌∷◌, ◌++◌, length, Option, Some, None, refl, sym, ap, ◌∙◌, subst, arith}
-use Rattle.std.specs.Prelude.{IfSome, is_some, option_map, slice_index_or, slice_set, if◌then◌else◌, nat_lt, ◌==◌}
+use Rattle.std.proofs.Common.{◌≡◌, ℕ, zero, suc, ◌+◌, ◌*◌, ◌<◌, ◌≤◌, Bool, true, false, List, [], ◌∷◌, length, Option, Some, None, refl, ap, subst, arith}
+use Rattle.std.specs.Prelude.{IfSome, is_some, option_map, slice_index_or, slice_set, if◌then◌else◌, nat_lt}
 use Rattle.std.specs.Option.{option_or, option_map_or}
-use Rattle.std.proofs.lemmas.Bool.{eq-eqb, ltb-true, false_from_ne_true, cases_Bool, true≢false}
+use Rattle.std.proofs.lemmas.Bool.{eq-eqb, ltb-true}
 use Rattle.std.proofs.lemmas.Option.{same_Some}
 use Rattle.pool_index.specs.Affinity.{is_affine}
 use Rattle.pool_index.specs.Positions.{last_position}
-use Rattle.pool_index.specs.Shard.{ShardState, IsShard, Choice, warm_at, next_cold, one_if, choice, affine_choice, warm_choice, cold_choice, entry_at, slot_and_bytes, after_choice, after_full, after_pick, after_free, pick_answer, use_of, is_used, slot_number}
+use Rattle.pool_index.specs.Shard.{ShardState, IsShard, Choice, warm_at, next_cold, one_if, choice, affine_choice, warm_choice, cold_choice, entry_at, slot_and_bytes, after_choice, after_full, after_pick, after_free, pick_answer, is_used, slot_number}
 use Rattle.pool_index.specs.declared.ids.MemoryInModule.{MemoryInModule}
 use Rattle.pool_index.specs.declared.ids.SlotId.{SlotId}
 use Rattle.pool_index.proofs.Shards.{warm_slot_free, cold_slot_free}

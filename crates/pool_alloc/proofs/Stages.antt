@@ -1,5 +1,5 @@
 -- What a frame that can make its next step may rely on, phase by phase.
-use Rattle.std.proofs.Common.{◌≡◌, ℕ, ◌+◌, ◌*◌, ◌<◌, ◌≤◌, Bool, true, false, List, [], ◌∷◌, length, refl, sym, ap, subst, ◌∙◌, arith}
+use Rattle.std.proofs.Common.{◌≡◌, ℕ, ◌+◌, ◌<◌, ◌≤◌, true, false, List, [], ◌∷◌, length, refl, sym, ap, subst, ◌∙◌, arith}
 use Rattle.std.specs.Prelude.{slice_index_or}
 use Rattle.std.proofs.lemmas.List.Sums.{get_or-le-sum_by}
 use Rattle.pool_pages.specs.MakerTold.{MakerTold}
@@ -10,7 +10,7 @@ use Rattle.pool_slots.specs.Queues.{QueueState, QueuedMemory, empty_queue, holds
 use Rattle.pool_slots.specs.declared.request.AllocError.{AllocError}
 use Rattle.pool_alloc.specs.Freeing.{AreUsedInTurn}
 use Rattle.pool_alloc.specs.Leases.{Lease}
-use Rattle.pool_alloc.specs.Places.{Thing, slot_of, region_of, slot_count, both_count, queued_count, leased_count, freed_count, kept_count, frame_count}
+use Rattle.pool_alloc.specs.Places.{Thing, slot_of, region_of, slot_count, both_count, queued_count, freed_count, frame_count}
 use Rattle.pool_alloc.specs.Sound.{IsCore, IsFrame, Fits}
 use Rattle.pool_alloc.specs.Steps.{shard_at, queue_at, cell_at, shard_of, local_of, freed_of, first_shard, shard_tried, queue_tried}
 use Rattle.pool_alloc.specs.Stepping.{CanStep}
@@ -19,7 +19,7 @@ use Rattle.pool_alloc.specs.declared.frame.AfterFlush.{AfterFlush}
 use Rattle.pool_alloc.specs.declared.frame.Frame.{Frame}
 use Rattle.pool_alloc.specs.declared.frame.FreedSlot.{FreedSlot}
 use Rattle.pool_alloc.specs.declared.frame.Phase.{Phase}
-use Rattle.pool_alloc.specs.declared.frame.Phase.TheVariants.{Idle, Pick, TakeQueue, TakeRegion, PutRefused, FreeRefused, Reset, Merge, PutRegion, Free}
+use Rattle.pool_alloc.specs.declared.frame.Phase.TheVariants.{Idle, TakeRegion, PutRefused, FreeRefused, Reset, Merge, PutRegion, Free}
 use Rattle.pool_alloc.proofs.Balances.{in_phase}
 use Rattle.pool_alloc.proofs.FreedSlots.{first_is_shard, freed_in_turn}
 use Rattle.pool_alloc.proofs.Held.{made_once, not_kept, held_is_inside, held_is_used, region_is_home, region_is_away}
@@ -84,7 +84,7 @@ module _ {P : Type 0} where
   picked_is_home slot c f fits =
       let some : 1 ≤ frame_count (slot_of slot) (in_phase (TakeRegion slot) f) = omega (arith, slot_once slot) in
       region_is_home slot c (in_phase (TakeRegion slot) f) fits some
-          (omega (arith, slot_once slot, (not_kept (slot_of slot) c (in_phase (TakeRegion slot) f) fits some).0, frame_regions slot (in_phase Idle f)))
+      (omega (arith, slot_once slot, (not_kept (slot_of slot) c (in_phase (TakeRegion slot) f) fits some).0, frame_regions slot (in_phase Idle f)))
 
   -- The region of a refused memory isn't.
   pub refused_is_away : (slot : ℕ) (held : Slot) (e : AllocError) (c : PoolCore P) (f : Frame P) → Fits c (in_phase (PutRefused slot held e) f) → is_taken (cell_at slot c.cells) ≡ true
@@ -104,12 +104,12 @@ module _ {P : Type 0} where
   pub local_is_apart : (i : ℕ) (c : PoolCore P) (f : Frame P) → Fits c f → i < length c.queues → AreApart (queue_at i c.queues).memories f.local.memories
   local_is_apart i c f fits below =
       apart_by_count (queue_at i c.queues).memories f.local.memories
-          (λ k. omega (arith, fits.once (slot_of k), made_once (slot_of k) (length c.cells), kept_slots k c, get_or-le-sum_by (λ (q : QueueState). queued_count (slot_of k) q.memories) c.queues i (empty_queue 0 0) below))
+      (λ k. omega (arith, fits.once (slot_of k), made_once (slot_of k) (length c.cells), kept_slots k c, get_or-le-sum_by (λ (q : QueueState). queued_count (slot_of k) q.memories) c.queues i (empty_queue 0 0) below))
 
   pub queue_is_apart : (i : ℕ) (c : PoolCore P) (f : Frame P) → Fits c f → i < length c.queues → AreApart f.local.memories (queue_at i c.queues).memories
   queue_is_apart i c f fits below =
       apart_by_count f.local.memories (queue_at i c.queues).memories
-          (λ k. omega (arith, fits.once (slot_of k), made_once (slot_of k) (length c.cells), kept_slots k c, get_or-le-sum_by (λ (q : QueueState). queued_count (slot_of k) q.memories) c.queues i (empty_queue 0 0) below))
+      (λ k. omega (arith, fits.once (slot_of k), made_once (slot_of k) (length c.cells), kept_slots k c, get_or-le-sum_by (λ (q : QueueState). queued_count (slot_of k) q.memories) c.queues i (empty_queue 0 0) below))
 
   -- No slot is in the local queue twice.
   pub local_is_distinct : (c : PoolCore P) (f : Frame P) → Fits c f → AreDistinct f.local.memories

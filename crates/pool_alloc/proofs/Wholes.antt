@@ -2,15 +2,15 @@
 use Rattle.std.proofs.Common.{◌≡◌, ◌≢◌, ℕ, zero, suc, ◌+◌, ◌<◌, ◌≤◌, List, [], ◌∷◌, length, Option, refl, ap, arith}
 use Rattle.std.specs.Prelude.{sum_by, slice_index_or, slice_set, remove}
 use Rattle.std.proofs.lemmas.List.Sums.{sum_by-cons, sum_by-set, get_or-le-sum_by, sum_by-le-sum_by, sum_by-remove}
-use Rattle.pool_alloc.specs.Places.{Thing, slot_of, region_of, kept_count, frame_count, made_count}
+use Rattle.pool_alloc.specs.Places.{slot_of, region_of, made_count}
 use Rattle.pool_alloc.specs.Sound.{Fits}
 use Rattle.pool_alloc.specs.Steps.{After}
+use Rattle.pool_alloc.specs.Stepping.{Conserves, IsSameSize}
 use Rattle.pool_alloc.specs.Whole.{Holding, HasSlots, AddUp, held_by, granted_by, IsWhole}
 use Rattle.pool_alloc.specs.declared.pool_core.PoolCore.{PoolCore}
 use Rattle.pool_alloc.specs.declared.frame.Frame.{Frame}
 use Rattle.pool_alloc.specs.declared.frame.Outcome.{Outcome}
-use Rattle.pool_alloc.proofs.Balances.{Balances, sums_of}
-use Rattle.pool_alloc.proofs.Fitting.{made_stays, granted_regions}
+use Rattle.pool_alloc.proofs.Fitting.{granted_regions}
 use Rattle.pool_alloc.proofs.Held.{made_once}
 use Rattle.pool_alloc.proofs.KeptCounts.{frame_regions}
 
@@ -37,15 +37,15 @@ others_have_slots has xs i k d slots below =
       arith,
       sum_by-remove (λ x. (has x).places (region_of k)) xs i d below,
       sum_by-remove (λ x. (has x).places (slot_of k)) xs i d below,
-      sum_by-le-sum_by (λ x. (has x).places (region_of k)) (λ x. (has x).places (slot_of k)) (remove xs i) (λ x. slots x k)
+      sum_by-le-sum_by (λ x. (has x).places (region_of k)) (λ x. (has x).places (slot_of k)) (remove xs i) (λ x. slots x k),
     )
 
 module _ {P : Type 0} where
   -- A step of one of them, with what it is granted, leaves a whole.
-  pub whole_after : {X : Type 0} (has : X → Holding) (c : PoolCore P) (xs : List X) (i : ℕ) (x d : X) (f : Frame P) (a : After P) (rest kept : Holding) → IsWhole has c xs → i < length xs → Balances (sums_of c f) a → AddUp (held_by f) rest (has (slice_index_or xs i d)) → AddUp rest (granted_by a.outcome) kept → AddUp (held_by a.frame) kept (has x) → IsWhole has a.core (slice_set xs i x)
-  whole_after has c xs i x d f a rest kept whole below b was more now = record {
+  pub whole_after : {X : Type 0} (has : X → Holding) (c : PoolCore P) (xs : List X) (i : ℕ) (x d : X) (f : Frame P) (a : After P) (rest kept : Holding) → IsWhole has c xs → i < length xs → Conserves c f a → IsSameSize c a.core → AddUp (held_by f) rest (has (slice_index_or xs i d)) → AddUp rest (granted_by a.outcome) kept → AddUp (held_by a.frame) kept (has x) → IsWhole has a.core (slice_set xs i x)
+  whole_after has c xs i x d f a rest kept whole below b size was more now = record {
     places = λ t.
-        omega (arith, made_stays t c f a b, whole.places t, b.places t, was.places t, more.places t, now.places t, sum_by-set (λ y. (has y).places t) xs i x d below);
+        omega (arith, ap (made_count t) size.cells, whole.places t, b.places t, was.places t, more.places t, now.places t, sum_by-set (λ y. (has y).places t) xs i x d below);
     instances = omega (arith, whole.instances, b.instances, was.instances, more.instances, now.instances, sum_by-set (λ y. (has y).instances) xs i x d below);
     memories = omega (arith, whole.memories, b.memories, was.memories, more.memories, now.memories, sum_by-set (λ y. (has y).memories) xs i x d below);
   }
@@ -72,7 +72,7 @@ module _ {P : Type 0} where
           is.places (slot_of k),
           is.places (region_of k),
           slots k,
-          others_have_slots has xs i k d each below
+          others_have_slots has xs i k d each below,
         );
     instances = omega (arith, whole.instances, is.instances, get_or-le-sum_by (λ x. (has x).instances) xs i d below);
     memories = omega (arith, whole.memories, is.memories, get_or-le-sum_by (λ x. (has x).memories) xs i d below);

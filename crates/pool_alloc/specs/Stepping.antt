@@ -47,6 +47,13 @@ module _ {P : Type 0} where
     pub instances : a.core.counters.core_instances + phase_instances f.phase ≡ c.counters.core_instances + (phase_instances a.frame.phase + granted grant_instances a.outcome)
     pub memories : a.core.counters.memories + frame_memories f ≡ c.counters.memories + (frame_memories a.frame + granted grant_memories a.outcome)
 
+  -- What no step changes: the settings, and how many slots, shards and queues there are.
+  pub record IsSameSize (old new : PoolCore P) : Type 0 where
+    pub settings : new.settings ≡ old.settings
+    pub cells : length new.cells ≡ length old.cells
+    pub shards : length new.shards ≡ length old.shards
+    pub queues : length new.queues ≡ length old.queues
+
   -- no counter but the key stands at its end
   pub record CanCount (c : PoolCore P) : Type 0 where
     pub instances : c.counters.core_instances + 1 < 2 ^ 64
