@@ -11,4 +11,5 @@ pub mod QueueCounts
 pub mod RegionCounts
 pub mod SlotCounts
 pub mod Stages
+pub mod Untouched
 pub mod Wholes
