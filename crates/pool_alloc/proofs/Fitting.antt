@@ -8,7 +8,7 @@ use Rattle.pool_alloc.specs.Leases.{Lease}
 use Rattle.pool_alloc.specs.Places.{Thing, slot_of, region_of, kept_count, frame_count, made_count, phase_instances, frame_memories}
 use Rattle.pool_alloc.specs.Sound.{IsCore, IsFrame, IsLocal, HasFreedRoom, IsLeaseOf, IsShapedAt, Fits}
 use Rattle.pool_alloc.specs.Steps.{Given, After, row}
-use Rattle.pool_alloc.specs.Stepping.{CanStep, Conserves, IsSameSize, granted, grant_count}
+use Rattle.pool_alloc.specs.Stepping.{CanStep, StepsTo, Conserves, IsSameSize, granted, grant_count}
 use Rattle.pool_alloc.specs.declared.pool_core.PoolCore.{PoolCore}
 use Rattle.pool_alloc.specs.declared.pool_core.Settings.{Settings}
 use Rattle.pool_alloc.specs.declared.frame.Frame.{Frame}
@@ -105,3 +105,17 @@ module _ {P : Type 0} where
     frame = frame_stays maker c a.core g size also.frame;
     fits = other_fits c f g a can.fits also.fits together b size;
   }
+
+  -- The same of any step by a row of the table.
+  pub step_conserves : (maker : MakerTold) (c : PoolCore P) (f : Frame P) (a : After P) → CanStep maker c f → StepsTo c f a → Conserves c f a
+  step_conserves maker c f a can steps =
+      let Keeps : After P → Type 0 = λ b. Conserves c f b in
+      subst Keeps (sym steps.1.is) (conserves maker steps.0 c f can steps.1.told)
+
+  pub step_keeps_size : (maker : MakerTold) (c : PoolCore P) (f : Frame P) (a : After P) → CanStep maker c f → StepsTo c f a → IsSameSize c a.core
+  step_keeps_size maker c f a can steps =
+      let Keeps : After P → Type 0 = λ b. IsSameSize c b.core in
+      subst Keeps (sym steps.1.is) (size_kept maker steps.0 c f can steps.1.told)
+
+  pub step_fits : (maker : MakerTold) (c : PoolCore P) (f : Frame P) (a : After P) → CanStep maker c f → StepsTo c f a → Fits a.core a.frame
+  step_fits maker c f a can steps = fits_after c f a can.fits (step_conserves maker c f a can steps) (step_keeps_size maker c f a can steps)

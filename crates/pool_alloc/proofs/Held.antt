@@ -1,7 +1,7 @@
 -- What follows for a slot, and for a region, that a frame has, where the frame fits the pool.
-use Rattle.std.proofs.Common.{◌≡◌, ℕ, ◌+◌, ◌<◌, ◌≤◌, Bool, true, false, length, refl, arith}
+use Rattle.std.proofs.Common.{◌≡◌, ℕ, ◌+◌, ◌<◌, ◌≤◌, Bool, true, false, length, refl, arith, inl, inr, sym, ◌∙◌}
 use Rattle.std.specs.Prelude.{nat_lt}
-use Rattle.std.proofs.lemmas.Bool.{ltb-true, true_from_ne_false, false_from_ne_true}
+use Rattle.std.proofs.lemmas.Bool.{cases_lt, ltb-true, lt-ltb, le-ltb, true_from_ne_false, false_from_ne_true}
 use Rattle.std.proofs.lemmas.List.Sums.{get_or-le-sum_by}
 use Rattle.pool_hall.specs.declared.unit_name.SlotKind.TheVariants.{Memory as memory_kind}
 use Rattle.pool_pages.specs.MakerTold.{MakerTold}
@@ -33,6 +33,13 @@ made_once (region_of k) total = one_at_most (nat_lt k total)
 
 pub made_inside : (k total : ℕ) → 1 ≤ made_count (slot_of k) total → k < total
 made_inside k total some = ltb-true k total (one_true (nat_lt k total) some)
+
+cell_is : (b : Bool) (n : ℕ) → (n ≡ 0 → b ≡ false) → (1 ≤ n → b ≡ true) → b ≡ nat_lt 0 n
+cell_is b n home away =
+    elim (cases_lt 0 n) [
+      | inl some ↦ away some ∙ sym (lt-ltb 0 n some)
+      | inr none ↦ home (omega arith) ∙ sym (le-ltb 0 n none)
+    ]
 
 module _ {P : Type 0} where
   -- A slot of the pool is one of its shard.
@@ -82,3 +89,20 @@ module _ {P : Type 0} where
   region_is_away k c f fits some =
       true_from_ne_false (is_taken (cell_at k c.cells)) (λ has.
       omega (arith, cell_counted k 0 c.cells k (omega arith) has, (not_kept (region_of k) c f fits some).1, kept_regions k c))
+
+  -- All this of a slot that a frame has: it has it once.
+  pub record IsHeldSlot (k : ℕ) (c : PoolCore P) (f : Frame P) : Type 0 where
+    pub inside : k < length c.cells
+    pub once : frame_count (slot_of k) f ≡ 1
+    pub used : is_used (shard_at (shard_of c.settings k) c.shards) (local_of c.settings k).0 ≡ true
+    pub cell : is_taken (cell_at k c.cells) ≡ nat_lt 0 (frame_count (region_of k) f)
+    pub not_queued : (i : ℕ) → i < length c.queues → holds k (queue_at i c.queues).memories ≡ false
+
+  pub held_slot : (maker : MakerTold) (k : ℕ) (c : PoolCore P) (f : Frame P) → IsCore maker c → Fits c f → 1 ≤ frame_count (slot_of k) f → IsHeldSlot k c f
+  held_slot maker k c f core fits some = record {
+    inside = held_is_inside k c f fits some;
+    once = (not_kept (slot_of k) c f fits some).0;
+    used = held_is_used maker k c f core fits some;
+    cell = cell_is (is_taken (cell_at k c.cells)) (frame_count (region_of k) f) (λ without. region_is_home k c f fits some without) (λ has. region_is_away k c f fits has);
+    not_queued = λ i below. held_is_not_queued k i c f fits some below;
+  }
