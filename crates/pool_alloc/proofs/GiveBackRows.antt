@@ -1,6 +1,6 @@
 -- The rows of a give-back, and of a flush, keep all sums.
 use Rattle.std.proofs.Common.{◌≡◌, ℕ, ◌+◌, ◌-◌, ◌<◌, ◌≤◌, Bool, true, false, List, [], ◌∷◌, length, refl, ap, ◌∙◌, arith}
-use Rattle.std.specs.Prelude.{if◌then◌else◌, nat_le, ◌==◌, ◌||◌, min}
+use Rattle.std.specs.Prelude.{if◌then◌else◌, nat_le, ◌==◌, ◌||◌}
 use Rattle.pool_pages.specs.MakerTold.{MakerTold}
 use Rattle.pool_images.specs.Slots.{Slot}
 use Rattle.pool_index.specs.Shard.{ShardState}

@@ -1,23 +1,22 @@
 -- A pool as it is made has each slot and each region once, and is whole where nobody has anything.
-use Rattle.std.proofs.Common.{◌≡◌, ◌≢◌, ℕ, zero, suc, ◌+◌, ◌*◌, ◌<◌, ◌≤◌, Bool, true, false, List, [], ◌∷◌, length, Option, Some, None, refl, sym, ap, ◌∙◌, subst, inl, inr, arith}
-use Rattle.std.specs.Prelude.{sum_by, slice_index_or, slice_set, is_some, if◌then◌else◌, nat_lt, ◌==◌}
+use Rattle.std.proofs.Common.{◌≡◌, ◌≢◌, ℕ, zero, suc, ◌+◌, ◌*◌, ◌<◌, ◌≤◌, Bool, true, false, List, [], ◌∷◌, length, Option, None, refl, sym, ap, ◌∙◌, inl, inr, arith}
+use Rattle.std.specs.Prelude.{sum_by, slice_index_or, slice_set, is_some, if◌then◌else◌, ◌==◌}
 use Rattle.std.specs.List.{AllByRecursion}
-use Rattle.std.proofs.lemmas.Bool.{cases_lt, cases_eq, lt-ltb, le-ltb, eq-eqb, ne_eqb}
+use Rattle.std.proofs.lemmas.Bool.{cases_lt, lt-ltb, le-ltb, eq-eqb, ne_eqb}
 use Rattle.std.proofs.lemmas.List.{get_or_past, get_or-set_same}
 use Rattle.std.proofs.lemmas.List.Sums.{sum_by-cons}
 use Rattle.pool_hall.specs.declared.unit_name.SlotKind.TheVariants.{Memory as memory_kind}
 use Rattle.pool_pages.specs.MakerTold.{MakerTold}
 use Rattle.pool_index.specs.Shard.{ShardState, fresh_shard, one_if}
 use Rattle.pool_index.specs.declared.ids.MemoryInModule.{MemoryInModule}
-use Rattle.pool_slots.specs.Cells.{Cell, taken, is_taken}
+use Rattle.pool_slots.specs.Cells.{taken, is_taken}
 use Rattle.pool_slots.specs.Queues.{QueueState, empty_queue}
-use Rattle.pool_alloc.specs.Places.{Thing, slot_of, region_of, slot_count, both_count, unused_count, shard_count, cells_count, queued_count, leased_count, freed_count, kept_count, made_count}
+use Rattle.pool_alloc.specs.Places.{Thing, slot_of, region_of, slot_count, unused_count, shard_count, cells_count, queued_count, leased_count, freed_count, kept_count, made_count}
 use Rattle.pool_alloc.specs.Sound.{IsCore, IsAtRest}
-use Rattle.pool_alloc.specs.Steps.{shard_at, queue_at, cell_at, shard_of, local_of}
+use Rattle.pool_alloc.specs.Steps.{shard_at, shard_of, local_of}
 use Rattle.pool_alloc.specs.Whole.{Holding, HasNothing, held_by, IsWhole, IsUntouched}
 use Rattle.pool_alloc.specs.declared.pool_core.PoolCore.{PoolCore}
 use Rattle.pool_alloc.specs.declared.frame.Frame.{Frame}
-use Rattle.pool_alloc.specs.declared.frame.Phase.{Phase}
 use Rattle.pool_alloc.specs.declared.frame.Phase.TheVariants.{Idle}
 use Rattle.pool_alloc.proofs.Balances.{in_phase}
 use Rattle.pool_alloc.proofs.Frees.{HasPlace, each_weaker}
@@ -85,16 +84,16 @@ module _ {P : Type 0} where
       let s : ShardState = shard_at j c.shards in
       let place : HasPlace c.settings s k = place_of maker c k core below in
       sum_of_one (shard_count (slot_of k)) c.shards (fresh_shard memory_kind 0 1 0 0) j inside.0
-          (one_unused k s.first s.step s.used (local_of c.settings k).0 place.inside (ap is_some (untouched.unused j (local_of c.settings k).0 inside.0)) place.number
-              (λ m here e.
-                  let back = core.layout.back j m inside.0 (omega (arith, here, (core.shards j inside.0).entries)) in
-                  sym back.2 ∙ ap (λ n. (local_of c.settings n).0) e))
-          (λ i here other. other_shard maker c i k core here (λ l there e. other (sym (core.layout.back i l here there).1 ∙ ap (shard_of c.settings) e)))
+      (one_unused k s.first s.step s.used (local_of c.settings k).0 place.inside (ap is_some (untouched.unused j (local_of c.settings k).0 inside.0)) place.number
+      (λ m here e.
+      let back = core.layout.back j m inside.0 (omega (arith, here, (core.shards j inside.0).entries)) in
+      sym back.2 ∙ ap (λ n. (local_of c.settings n).0) e))
+      (λ i here other. other_shard maker c i k core here (λ l there e. other (sym (core.layout.back i l here there).1 ∙ ap (shard_of c.settings) e)))
 
   slots_outside : (maker : MakerTold) (c : PoolCore P) (k : ℕ) → IsCore maker c → length c.cells ≤ k → sum_by (shard_count (slot_of k)) c.shards ≡ 0
   slots_outside maker c k core past =
       sum_of_none (shard_count (slot_of k)) c.shards (fresh_shard memory_kind 0 1 0 0)
-          (λ j here. other_shard maker c j k core here (λ l there e. omega (arith, (core.layout.back j l here there).0, e)))
+      (λ j here. other_shard maker c j k core here (λ l there e. omega (arith, (core.layout.back j l here there).0, e)))
 
   regions_inside : (c : PoolCore P) (k : ℕ) → IsUntouched c → k < length c.cells → cells_count (region_of k) 0 c.cells ≡ 1
   regions_inside c k untouched below =
@@ -103,7 +102,7 @@ module _ {P : Type 0} where
         cells_less (region_of k) 0 c.cells k (untouched.home k below),
         cell_uncounted k 0 (slice_set c.cells k taken) k (omega arith) (ap is_taken (get_or-set_same c.cells k taken taken below)),
         ap (λ n. one_if (k == n)) {x = 0 + k} {y = k} (omega arith),
-        region_once k
+        region_once k,
       )
 
   regions_outside : (c : PoolCore P) (k : ℕ) → length c.cells ≤ k → cells_count (region_of k) 0 c.cells ≡ 0
