@@ -10,3 +10,4 @@ pub mod Reserved
 pub mod Sound
 pub mod Stepping
 pub mod Steps
+pub mod Whole
