@@ -5,6 +5,7 @@ pub mod BegunCalls
 pub mod Conserving
 pub mod CoreChanges
 pub mod Fitting
+pub mod FreeTurns
 pub mod FreedSlots
 pub mod Frees
 pub mod GiveBackRows
@@ -14,10 +15,12 @@ pub mod Held
 pub mod Kept
 pub mod KeptCounts
 pub mod LocalQueues
+pub mod Makings
 pub mod Picks
 pub mod QueueCounts
 pub mod QueueJoins
 pub mod QueueRuns
+pub mod Refusing
 pub mod RegionCounts
 pub mod RegionRows
 pub mod ReturnRows
@@ -27,5 +30,6 @@ pub mod SlotCounts
 pub mod SlotIdentity
 pub mod Stages
 pub mod Telling
+pub mod Totals
 pub mod Untouched
 pub mod Wholes

@@ -5,7 +5,8 @@ use Rattle.pool_pages.specs.declared.module_types.MemoryDecl.{MemoryDecl}
 use Rattle.pool_slots.specs.Queues.{empty_queue}
 use Rattle.pool_alloc.specs.Reserved.{no_room}
 use Rattle.pool_alloc.specs.Steps.{memories_asked, images_asked}
-use Rattle.pool_alloc.specs.Sound.{IsLeaseOf, AreImagesOf, HasImages}
+use Rattle.pool_alloc.specs.Sound.{IsLeaseOf, AreImagesOf}
+use Rattle.pool_alloc.specs.Modules.{HasImages}
 use Rattle.pool_alloc.specs.declared.pool_core.Settings.{Settings}
 use Rattle.pool_alloc.specs.declared.frame.Frame.{Frame}
 use Rattle.pool_alloc.specs.declared.frame.Phase.TheVariants.{Idle, Key, Validate, UncountMemory, UncountInstance}

@@ -1,15 +1,18 @@
 -- What a party does by itself with what it has taken.
-use Rattle.std.specs.Prelude.{ℕ, List, [], ◌∷◌, min, true, false, nat_le, if◌then◌else◌, Option, Some, None, Result, Err}
+use Rattle.std.specs.Prelude.{ℕ, List, min, Bool, true, false, Option, Some, None, Result, Ok, Err, slice_get}
 use Rattle.pool_pages.specs.Count.{count}
 use Rattle.pool_pages.specs.Told.{Told}
-use Rattle.pool_pages.specs.MemoryTypes.{minimum_byte_size}
 use Rattle.pool_pages.specs.declared.module_types.MemoryDecl.{MemoryDecl}
+use Rattle.pool_pages.specs.declared.module_types.MemoryType.{MemoryType}
 use Rattle.pool_pages.specs.declared.unsupported.Unsupported.{Unsupported}
-use Rattle.pool_pages.specs.declared.unsupported.Unsupported.TheVariants.{ImageLength}
-use Rattle.pool_images.specs.Slots.{Slot}
-use Rattle.pool_limits.specs.Limiter.{Asked, yes, no, fails}
+use Rattle.pool_images.specs.Slots.{Slot, cleared, reset_ranges}
+use Rattle.pool_limits.specs.declared.errors.LimiterError.{LimiterError}
 use Rattle.pool_memory.specs.Memories.{MemoryState}
-use Rattle.pool_slots.specs.Queues.{QueueState, with_memory}
+use Rattle.pool_memory.specs.Static.{Static, made_static}
+use Rattle.pool_memory.specs.Making.{limits_answer, fixed_in}
+use Rattle.pool_memory.specs.declared.memory_error.MemoryError.{MemoryError}
+use Rattle.pool_memory.specs.declared.memory_error.MemoryError.TheVariants as unmade
+use Rattle.pool_slots.specs.Queues.{QueueState, QueuedMemory, with_ranges, with_memory}
 use Rattle.pool_slots.specs.declared.request.AllocError.{AllocError}
 use Rattle.pool_slots.specs.declared.request.AllocError.TheVariants as refusal
 use Rattle.pool_alloc.specs.declared.pool_core.Settings.{Settings}
@@ -26,18 +29,41 @@ image_made page static_size region = record {
   colour = None;
 }
 
--- The first rule that a module breaks with its memories, if any: the minimum of each fits a slot.
--- stub: the further rules, and the rules' own names
-abbrev pub memories_refused : Settings → List MemoryDecl → Option Unsupported
-memories_refused s [] = None
-memories_refused s (decl ∷ decls) = if nat_le (minimum_byte_size decl.ty) s.max_memory_size then memories_refused s decls else Some (ImageLength 0)
+-- the slot of a memory that has ended, once so many of its accessible bytes were set by hand to what they go back to
+abbrev pub ended : ℕ → ℕ → Slot → QueuedMemory
+ended keep index slot = record {
+  index = index;
+  slot = cleared (min keep slot.accessible.bytes) slot;
+  known = true;
+  bytes = min keep slot.accessible.bytes;
+}
 
--- stub
+-- the local queue with that slot, and with what is to be decommitted of it
 abbrev pub reset_into : ℕ → ℕ → Slot → QueueState → QueueState
-reset_into keep index slot q = with_memory (record { index = index; slot = slot; known = true; bytes = min keep slot.accessible.bytes }) q
+reset_into keep index slot q = with_memory (ended keep index slot) (with_ranges index (reset_ranges keep slot.accessible.bytes) q)
 
--- stub
-abbrev pub memory_made : Settings → List MemoryDecl → ℕ → Asked → Slot → Result MemoryState AllocError
-memory_made s decls k yes slot = Err refusal.Memory
-memory_made s decls k no slot = Err refusal.PageFault
-memory_made s decls k (fails e) slot = Err (refusal.LimiterFault e)
+-- why a memory isn't made, as the refusal of an allocation
+abbrev pub refusal_of : MemoryError → AllocError
+refusal_of unmade.Memory = refusal.Memory
+refusal_of (unmade.Unsupported u) = refusal.Unsupported u
+refusal_of (unmade.LimiterDenied min) = refusal.LimiterDenied false min
+refusal_of (unmade.LimiterFault e) = refusal.LimiterFault e
+refusal_of unmade.PageFault = refusal.PageFault
+
+-- the memory in a slot, or that the slot hasn't the room
+abbrev pub made_of : MemoryType → Result Static (Slot × Unsupported) → Result MemoryState AllocError
+made_of ty (Ok m) = Ok (fixed_in ty m)
+made_of ty (Err refused) = Err (refusal.Unsupported refused.1)
+
+-- the memory that begins with so many bytes and may have so many, or why there is none
+abbrev pub made_with : Result (ℕ × Option ℕ) MemoryError → MemoryType → ℕ → Slot → Result MemoryState AllocError
+made_with (Err e) ty room slot = Err (refusal_of e)
+made_with (Ok limits) ty room slot = made_of ty (made_static room limits.0 limits.1 slot)
+
+abbrev pub made_for : ℕ → Result Bool LimiterError → Slot → Option MemoryDecl → Result MemoryState AllocError
+made_for room answer slot None = Err refusal.Memory
+made_for room answer slot (Some decl) = made_with (limits_answer answer decl.ty) decl.ty room slot
+
+-- memory k of the module, made in a slot where the limiter gave this answer, or why it isn't
+abbrev pub memory_made : Settings → List MemoryDecl → ℕ → Result Bool LimiterError → Slot → Result MemoryState AllocError
+memory_made s decls k answer slot = made_for s.max_memory_size answer slot (slice_get decls k)

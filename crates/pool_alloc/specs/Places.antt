@@ -68,7 +68,7 @@ module _ {P : Type 0} where
   phase_count t (Empty slot held) = both_count t slot
   phase_count t (Instantiate slot held) = both_count t slot
   phase_count t (MakeMemory slot held) = both_count t slot
-  phase_count t (CountMemory slot memory) = both_count t slot
+  phase_count t (CountMemory lease) = both_count t lease.index
   phase_count t (PutRefused slot held e) = both_count t slot
   phase_count t (FreeRefused slot e) = slot_count t slot
   phase_count t (Reset lease) = both_count t lease.index

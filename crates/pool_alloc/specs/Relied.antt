@@ -3,6 +3,7 @@
 use Rattle.std.specs.Prelude.{◌≡◌, ◌<◌, length, All, false, IsSome}
 use Rattle.pool_pages.specs.MakerTold.{MakerTold}
 use Rattle.pool_index.specs.Shard.{use_of}
+use Rattle.pool_memory.specs.Memories.{slot_of}
 use Rattle.pool_slots.specs.Cells.{is_taken}
 use Rattle.pool_slots.specs.Queues.{QueueState, AreApart}
 use Rattle.pool_alloc.specs.Own.{reset_into}
@@ -34,5 +35,5 @@ module _ {P : Type 0} where
 
   -- the local queue is one once the memory is reset into it
   abbrev pub Resets : MakerTold → Phase P → PoolCore P → Frame P → Type 0
-  Resets maker (Reset lease) c f = IsResetLocal maker c.settings (reset_into c.settings.keep_resident.bytes lease.index lease.memory.slot f.local)
+  Resets maker (Reset lease) c f = IsResetLocal maker c.settings (reset_into c.settings.keep_resident.bytes lease.index (slot_of lease.memory) f.local)
   Resets maker _ c f = Unit {0}

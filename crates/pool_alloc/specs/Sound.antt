@@ -1,19 +1,21 @@
 -- What holds of the pool's parts, and of a party's frame, between steps.
-use Rattle.std.specs.Prelude.{◌≡◌, ℕ, ◌+◌, ◌*◌, ◌^◌, ◌<◌, ◌≤◌, List, [], length, slice_get, slice_index_or, All, Bool, true, false, Option, Some, None, IsSome, IfSome}
+use Rattle.std.specs.Prelude.{◌≡◌, ℕ, ◌+◌, ◌*◌, ◌%◌, ◌^◌, ◌<◌, ◌≤◌, List, [], length, slice_get, slice_index_or, All, Bool, true, false, Option, Some, None, IsSome, IfSome}
 use Rattle.std.specs.Arc.{arc_value}
 use Rattle.std.specs.List.{AllByRecursion}
 use Rattle.pool_pages.specs.Count.{IsPageSize}
 use Rattle.pool_pages.specs.MakerTold.{MakerTold}
-use Rattle.pool_pages.specs.MemoryTypes.{minimum_byte_size}
+use Rattle.pool_pages.specs.MemoryTypes.{minimum_byte_size, refused_limits}
 use Rattle.pool_pages.specs.declared.module_types.MemoryDecl.{MemoryDecl}
 use Rattle.pool_images.specs.Images.{Image}
 use Rattle.pool_images.specs.Slots.{Slot, IsClean, IsBegun, IsInUse, FitsInto}
 use Rattle.pool_index.specs.Shard.{IsShard, ShardState, slot_number}
-use Rattle.pool_memory.specs.Memories.{MemoryState}
+use Rattle.pool_memory.specs.Memories.{MemoryState, slot_of as image_slot_of}
+use Rattle.pool_memory.specs.Static.{CanHold}
 use Rattle.pool_slots.specs.Cells.{Cell, is_taken, IsCell, IsSlotOf}
 use Rattle.pool_slots.specs.Queues.{QueueState, QueuedMemory, HasOwners, IsQueue, AreDistinct}
 use Rattle.pool_alloc.specs.Reserved.{Reserved}
 use Rattle.pool_alloc.specs.Leases.{Lease, IsMemory}
+use Rattle.pool_alloc.specs.Modules.{HasImages, IfAllocated}
 use Rattle.pool_alloc.specs.Steps.{memories_asked, images_asked, image_wanted, shard_at, cell_at, queue_at, shard_of, local_of}
 use Rattle.pool_alloc.specs.Places.{Thing, slot_of, region_of, kept_count, frame_count, made_count, phase_instances, frame_memories}
 use Rattle.pool_alloc.specs.declared.pool_core.PoolCore.{PoolCore}
@@ -30,7 +32,8 @@ use Rattle.pool_alloc.specs.declared.frame.AfterFlush.TheVariants.{PickAgain, Gi
 pub record IsSettings (s : Settings) : Type 0 where
   pub page : IsPageSize s.page
   pub keep_page : s.keep_resident.page ≡ s.page
-  pub keep_whole : s.keep_resident.bytes ≤ 2 ^ 32 + 65536
+  pub kept : s.keep_resident.bytes ≤ 2 ^ 32
+  pub whole : s.max_memory_size % s.page ≡ 0
   pub bounded : s.max_memory_size + s.page ≤ 2 ^ 64
   pub batch : (1 ≤ s.batch) × (s.batch ≤ 4096)
   pub stripes : 0 < s.stripes
@@ -70,7 +73,7 @@ pub record IsCore {P : Type 0} (maker : MakerTold) (c : PoolCore P) : Type 0 whe
 
 -- a lease of the pool: its memory lies in the region of its slot
 pub record IsLeaseOf (maker : MakerTold) (s : Settings) (l : Lease) : Type 0 where
-  pub slot : IsSlotOf maker s.max_memory_size l.index l.memory.slot
+  pub slot : IsSlotOf maker s.max_memory_size l.index (image_slot_of l.memory)
   pub memory : IsMemory l.memory
 
 -- the slots that a party has on their way back
@@ -84,6 +87,7 @@ pub record IsLocal (maker : MakerTold) (s : Settings) (q : QueueState) : Type 0 
 -- a memory fits a slot, and its image fits it
 pub record IsSupported (s : Settings) (decl : MemoryDecl) (image : Option Image) : Type 0 where
   pub page_log2 : decl.ty.page_size_log2 < 64
+  pub limits : refused_limits decl.ty.limits ≡ None
   pub minimum : minimum_byte_size decl.ty ≤ s.max_memory_size
   pub image_fits : IfSome image (FitsInto s.page (minimum_byte_size decl.ty))
 
@@ -105,12 +109,12 @@ pub record HasSlot (maker : MakerTold) (s : Settings) (total slot : ℕ) (held :
 -- it is in use, and begins with this image
 pub record HasBegun (image : Option Image) (held : Slot) (decl : MemoryDecl) : Type 0 where
   pub begun : IsBegun image held
-  pub accessible : minimum_byte_size decl.ty ≤ held.accessible.bytes
+  pub holds : CanHold (minimum_byte_size decl.ty) held
 
 -- the memory is as it begins, with this image
 pub record IsNew (image : Option Image) (m : MemoryState) (decl : MemoryDecl) : Type 0 where
-  pub slot : HasBegun image m.slot decl
-  pub size : m.size ≡ minimum_byte_size decl.ty
+  pub slot : HasBegun image (image_slot_of m) decl
+  pub size : m.linear.size ≡ minimum_byte_size decl.ty
 
 -- nothing is queued or waits to be freed
 pub record NothingWaits (local : QueueState) (freed : Reserved FreedSlot) : Type 0 where
@@ -123,10 +127,6 @@ pub record NothingHeld (local : QueueState) (freed : Reserved FreedSlot) (grante
   pub settled : NothingWaits local freed
   pub none_granted : granted.items ≡ []
   pub none_returning : returning.items ≡ []
-
--- where images are given, there is a place for each memory
-abbrev pub HasImages : Option ModuleCall → Type 0
-HasImages asked = IfSome asked (λ m. IfSome m.images (λ images. length (arc_value images) ≡ length (arc_value m.info).memories))
 
 -- some of the module's memories are granted, and there is a next one
 pub record AllocatesMore (s : Settings) (asked : Option ModuleCall) (granted returning : Reserved Lease) : Type 0 where
@@ -152,10 +152,6 @@ module _ {P : Type 0} where
   abbrev pub IsAllocating : Settings → Frame P → Type 0
   IsAllocating s f = AllocatesMore s f.asked f.granted f.returning
 
-  -- the memory that is allocated
-  abbrev pub IfAllocated : Frame P → (MemoryDecl → Type 0) → Type 0
-  IfAllocated f Q = IfSome (slice_get (memories_asked f.asked) (length f.granted.items)) Q
-
   abbrev pub IsShapedAfter : Settings → ℕ → AfterFlush → Frame P → Type 0
   IsShapedAfter s queues after f = GoesOn s queues after f.asked f.granted f.returning
 
@@ -175,7 +171,7 @@ module _ {P : Type 0} where
   IsShapedAt maker s slots shards queues (Empty slot held) f = IsSettled f × IsAllocating s f × HasSlot maker s slots slot held
   IsShapedAt maker s slots shards queues (Instantiate slot held) f = IsSettled f × IsAllocating s f × HasSlot maker s slots slot held × IsClean held
   IsShapedAt maker s slots shards queues (MakeMemory slot held) f = IsSettled f × IsAllocating s f × HasSlot maker s slots slot held × IfAllocated f (HasBegun (image_wanted f) held)
-  IsShapedAt maker s slots shards queues (CountMemory slot memory) f = IsSettled f × IsAllocating s f × HasSlot maker s slots slot memory.slot × IsMemory memory × IfAllocated f (IsNew (image_wanted f) memory)
+  IsShapedAt maker s slots shards queues (CountMemory lease) f = IsSettled f × IsAllocating s f × HasSlot maker s slots lease.index (image_slot_of lease.memory) × IsMemory lease.memory × IfAllocated f (IsNew (image_wanted f) lease.memory)
   IsShapedAt maker s slots shards queues (PutRefused slot held e) f = IsSettled f × IsAllocating s f × HasSlot maker s slots slot held
   IsShapedAt maker s slots shards queues (FreeRefused slot e) f = IsSettled f × IsAllocating s f × (slot < slots)
   IsShapedAt maker s slots shards queues UncountMemory f = IsSettled f × (f.granted.items ≡ []) × (0 < length f.returning.items)

@@ -1,8 +1,9 @@
 -- A step: a row of the table under answers that may come, and what it keeps.
 use Rattle.std.specs.Prelude.{◌≡◌, ℕ, ◌+◌, ◌^◌, ◌<◌, length, Option, Some, None}
 use Rattle.pool_pages.specs.MakerTold.{MakerTold}
+use Rattle.pool_limits.specs.LimiterTold.{LimiterTold}
 use Rattle.pool_alloc.specs.Steps.{Given, After, row}
-use Rattle.pool_alloc.specs.Answers.{MayBeTold}
+use Rattle.pool_alloc.specs.Answers.{MayBeTold, AsksOf}
 use Rattle.pool_alloc.specs.Places.{Thing, kept_count, frame_count, leased_count, phase_instances, frame_memories}
 use Rattle.pool_alloc.specs.Sound.{IsCore, IsFrame, Fits}
 use Rattle.pool_alloc.specs.declared.pool_core.PoolCore.{PoolCore}
@@ -31,14 +32,15 @@ module _ {P : Type 0} where
   granted of (Some (Refused e)) = 0
   granted of None = 0
 
-  -- the answers are ones that may come, and the row is taken
-  pub record Takes (g : Given) (c : PoolCore P) (f : Frame P) (a : After P) : Type 0 where
+  -- the answers are ones that may come, of the limiter too, and the row is taken
+  pub record Takes (old new : LimiterTold) (g : Given) (c : PoolCore P) (f : Frame P) (a : After P) : Type 0 where
     pub told : MayBeTold c.settings g f.phase f
+    pub limiter : AsksOf old new g f.phase f
     pub is : a ≡ row g c f
 
-  -- the step is a row of the table
-  abbrev pub StepsTo : PoolCore P → Frame P → After P → Type 0
-  StepsTo c f a = (g : Given) × Takes g c f a
+  -- the step is a row of the table, over a limiter
+  abbrev pub StepsTo : LimiterTold → LimiterTold → PoolCore P → Frame P → After P → Type 0
+  StepsTo old new c f a = (g : Given) × Takes old new g c f a
 
   -- Nothing is lost or made: what the step takes from the pool's parts comes into the frame or the grant, and the other
   -- way round. Counters change as what is counted.

@@ -1,5 +1,5 @@
 -- The step table: what each step of a call does to the pool, of which it changes one part, and to the party's frame.
-use Rattle.std.specs.Prelude.{ℕ, ◌+◌, ◌-◌, ◌/◌, ◌%◌, ◌^◌, ◌==◌, ◌||◌, List, [], ◌∷◌, length, filter, min, slice_index_or, slice_set, slice_get, Bool, not, nat_lt, nat_le, if◌then◌else◌, Option, Some, None, Result, Ok, Err}
+use Rattle.std.specs.Prelude.{ℕ, ◌+◌, ◌-◌, ◌/◌, ◌%◌, ◌^◌, ◌==◌, ◌||◌, List, [], ◌∷◌, length, filter, min, slice_index_or, slice_set, slice_get, Bool, true, false, not, nat_lt, nat_le, if◌then◌else◌, Option, Some, None, Result, Ok, Err}
 use Rattle.std.specs.Arc.{arc_value}
 use Rattle.std.specs.declared.sync.Arc.{Arc}
 use Rattle.std.specs.declared.alloc.Global.{Global}
@@ -11,8 +11,12 @@ use Rattle.pool_index.specs.Shard.{ShardState, fresh_shard, pick_answer, after_p
 use Rattle.pool_index.specs.declared.ids.MemoryInModule.{MemoryInModule}
 use Rattle.pool_index.specs.declared.ids.SlotId.{SlotId}
 use Rattle.pool_hall.specs.declared.unit_name.SlotKind.TheVariants.{Memory as memory_kind}
-use Rattle.pool_limits.specs.Limiter.{Asked}
-use Rattle.pool_memory.specs.Memories.{MemoryState}
+use Rattle.pool_limits.specs.declared.errors.LimiterError.{LimiterError}
+use Rattle.pool_memory.specs.Linear.{no_slot as no_image_slot}
+use Rattle.pool_memory.specs.Memories.{MemoryState, slot_of}
+use Rattle.pool_memory.specs.MemoryStates.{state_of}
+use Rattle.pool_memory.specs.declared.memory.Memory.{Memory}
+use Rattle.pool_memory.specs.declared.memory_error.MemoryError.{MemoryError}
 use Rattle.pool_slots.specs.Cells.{Cell, unmapped, unknown, previously_used, taken}
 use Rattle.pool_slots.specs.Queues.{QueueState, QueuedMemory, empty_queue, joined, after_take, taken_into, emptied}
 use Rattle.pool_slots.specs.declared.request.AllocError.{AllocError}
@@ -20,7 +24,8 @@ use Rattle.pool_slots.specs.declared.request.AllocError.TheVariants as refusal
 use Rattle.pool_slots.specs.declared.request.ConcurrencyKind.TheVariants.{MemoryStripe, CoreInstances}
 use Rattle.pool_alloc.specs.Reserved.{Reserved, no_room, with_item}
 use Rattle.pool_alloc.specs.Leases.{Lease}
-use Rattle.pool_alloc.specs.Own.{image_made, memories_refused, reset_into, memory_made}
+use Rattle.pool_alloc.specs.Own.{image_made, reset_into, refusal_of, memory_made}
+use Rattle.pool_alloc.specs.Refusals.{memories_refused}
 use Rattle.pool_alloc.specs.declared.pool_core.PoolCore.{PoolCore}
 use Rattle.pool_alloc.specs.declared.pool_core.Settings.{Settings}
 use Rattle.pool_alloc.specs.declared.frame.Frame.{Frame}
@@ -43,7 +48,11 @@ pub record Given : Type 0 where
   pub fault : Bool
   pub slot : Slot
   pub queue : QueueState
-  pub limiter : Asked
+  pub limiter : Result Bool LimiterError
+
+-- what a step is told that is told nothing
+abbrev pub nothing_told : Given
+nothing_told = record { wants = false; fault = false; slot = no_image_slot; queue = empty_queue 0 0; limiter = Ok true }
 
 -- what a step leaves, and the answer to the call where it ends with this step
 pub record After (P : Type 0) : Type 0 where
@@ -245,15 +254,20 @@ module _ {P : Type 0} where
   instantiate_row fault held slot c f = goes c f (if fault then PutRefused slot held refusal.PageFault else MakeMemory slot held)
 
   abbrev pub made : ℕ → Slot → Result MemoryState AllocError → PoolCore P → Frame P → After P
-  made slot held (Ok memory) c f = goes c f (CountMemory slot memory)
+  made slot held (Ok memory) c f = goes c f (CountMemory (record { index = slot; memory = memory }))
   made slot held (Err e) c f = goes c f (PutRefused slot held e)
 
-  -- The limiter is asked, and the memory made.
-  abbrev pub make_memory_row : Asked → ℕ → Slot → PoolCore P → Frame P → After P
-  make_memory_row asked slot held c f = made slot held (memory_made c.settings (memories_asked f.asked) (length f.granted.items) asked held) c f
+  -- the same of what the code's making answers
+  abbrev pub phase_made : {M L : Type 0} → ℕ → Result (Memory M L) (Slot × MemoryError) → Phase P
+  phase_made slot (Ok memory) = CountMemory (record { index = slot; memory = state_of memory })
+  phase_made slot (Err refused) = PutRefused slot refused.0 (refusal_of refused.1)
 
-  abbrev pub count_memory_row : ℕ → MemoryState → PoolCore P → Frame P → After P
-  count_memory_row slot memory c f = allocate_next (counting_memories (c.counters.memories + 1) c) (record f { granted = with_item (record { index = slot; memory = memory }) f.granted })
+  -- The limiter is asked, and the memory made.
+  abbrev pub make_memory_row : Result Bool LimiterError → ℕ → Slot → PoolCore P → Frame P → After P
+  make_memory_row answer slot held c f = made slot held (memory_made c.settings (memories_asked f.asked) (length f.granted.items) answer held) c f
+
+  abbrev pub count_memory_row : Lease → PoolCore P → Frame P → After P
+  count_memory_row lease c f = allocate_next (counting_memories (c.counters.memories + 1) c) (record f { granted = with_item lease f.granted })
 
   abbrev pub put_refused_row : ℕ → Slot → AllocError → PoolCore P → Frame P → After P
   put_refused_row slot held e c f = goes (with_cell slot (unknown held) c) f (FreeRefused slot e)
@@ -278,7 +292,7 @@ module _ {P : Type 0} where
   -- The memory is reset into the local queue. That is flushed where it has no range or as many as a batch, and else
   -- appended to the home queue.
   abbrev pub reset_row : Lease → PoolCore P → Frame P → After P
-  reset_row lease c f = was_reset c (record f { local = reset_into c.settings.keep_resident.bytes lease.index lease.memory.slot f.local })
+  reset_row lease c f = was_reset c (record f { local = reset_into c.settings.keep_resident.bytes lease.index (slot_of lease.memory) f.local })
 
   abbrev pub merged : QueueState → PoolCore P → Frame P → After P
   merged queue c f =
@@ -339,7 +353,7 @@ module _ {P : Type 0} where
   row_of g (Empty slot held) c f = empty_row g.fault g.slot slot c f
   row_of g (Instantiate slot held) c f = instantiate_row g.fault g.slot slot c f
   row_of g (MakeMemory slot held) c f = make_memory_row g.limiter slot held c f
-  row_of g (CountMemory slot memory) c f = count_memory_row slot memory c f
+  row_of g (CountMemory lease) c f = count_memory_row lease c f
   row_of g (PutRefused slot held e) c f = put_refused_row slot held e c f
   row_of g (FreeRefused slot e) c f = free_refused_row slot e c f
   row_of g UncountMemory c f = uncount_memory_row c f

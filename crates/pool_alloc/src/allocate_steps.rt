@@ -1,19 +1,16 @@
-ghost use Rattle.std.specs.Prelude.{◌≡◌, ◌+◌, ◌<◌, ◌≤◌, ◌^◌, length, false, true, IsSome, None, Some, Option, MatchOption};
+ghost use Rattle.std.specs.Prelude.{◌≡◌, ◌+◌, ◌<◌, ◌≤◌, ◌^◌, length, false, true, IsSome, None, Some};
 ghost use Rattle.pool_index.specs.Shard.{use_of};
 ghost use Rattle.pool_slots.specs.Cells.{is_taken};
-ghost use Rattle.pool_alloc.specs.Steps.{After, memories_asked, shard_at, cell_at, shard_of, local_of, wanted, allocate_next, give_back_next, refuses, no_slot, key_row, validate_row, count_instance_row, pick_row, pick_next, take_region_row, count_memory_row, put_refused_row, free_refused_row};
+ghost use Rattle.pool_alloc.specs.Steps.{After, memories_asked, shard_at, cell_at, shard_of, local_of, wanted, allocate_next, give_back_next, refuses, no_slot, key_row, count_instance_row, pick_row, pick_next, take_region_row, count_memory_row, put_refused_row, free_refused_row};
 
 use crate::frame::{Ending, Frame, Grant, Outcome, Phase};
 use crate::lease::{InstanceLease, MemoryLease};
 use crate::pool_core::PoolCore;
 use crate::reserved::ReservedList;
 use pool_images::MemoryImageSlot;
-use pool_index::{MemoryInModule, SlotId};
-use pool_memory::PoolMemory;
-use pool_pages::{DefinedMemoryIndex, Pages};
-use pool_slots::{
-    AllocError, ConcurrencyKind, ImageSlot, MemoryAllocationIndex, PoolConcurrencyLimitError,
-};
+use pool_index::SlotId;
+use pool_pages::Pages;
+use pool_slots::{AllocError, ConcurrencyKind, ImageSlot, PoolConcurrencyLimitError};
 use std::alloc::Global;
 use std::mem;
 
@@ -81,26 +78,6 @@ impl<P: Pages> PoolCore<P> {
         Some(Outcome::Key)
     }
 
-    // Reserves the list of the memories that are to be granted.
-    pub(crate) fn validate(&mut self, alloc: Global, frame: &mut Frame<P>) -> Option<Outcome<P>>
-        ensures { MatchOption result
-            (◌≡◌ {A = After P} (record { core = self.new; frame = frame.new; outcome = result }) (validate_row false self.old frame.old))
-            (λ _. ◌≡◌ {A = After P} (record { core = self.new; frame = frame.new; outcome = result }) (validate_row true self.old frame.old)) }
-    {
-        match ReservedList::with_room(alloc, frame.memories_asked()) {
-            Ok(granted) => {
-                frame.granted = granted;
-                frame.phase = Phase::CountInstance;
-                None
-            }
-            Err(_) => {
-                frame.phase = Phase::Idle;
-                frame.asked = None;
-                Some(Outcome::Refused(AllocError::Memory))
-            }
-        }
-    }
-
     pub(crate) fn count_instance(&mut self, alloc: Global, frame: &mut Frame<P>) -> Option<Outcome<P>>
         requires { self.old.counters.core_instances + 1 < 2 ^ 64 }
         ensures { ◌≡◌ {A = After P} (record { core = self.new; frame = frame.new; outcome = result }) (count_instance_row self.old frame.old) }
@@ -164,18 +141,14 @@ impl<P: Pages> PoolCore<P> {
         &mut self,
         alloc: Global,
         frame: &mut Frame<P>,
-        slot: u32,
-        memory: PoolMemory<P>,
+        lease: MemoryLease<P>,
     ) -> Option<Outcome<P>>
         requires count { self.old.counters.memories + 1 < 2 ^ 64 }
         requires room { length frame.old.granted.items < frame.old.granted.room }
-        ensures { ◌≡◌ {A = After P} (record { core = self.new; frame = frame.new; outcome = result }) (count_memory_row slot memory self.old frame.old) }
+        ensures { ◌≡◌ {A = After P} (record { core = self.new; frame = frame.new; outcome = result }) (count_memory_row lease self.old frame.old) }
     {
         self.counters.memories += 1;
-        frame.granted.push(MemoryLease {
-            index: MemoryAllocationIndex(slot),
-            memory,
-        });
+        frame.granted.push(lease);
         self.allocate_next(alloc, frame)
     }
 

@@ -1,5 +1,4 @@
 use crate::lease::{InstanceLease, MemoryLease};
-use pool_memory::PoolMemory;
 use crate::reserved::ReservedList;
 use pool_images::{MemoryImageSlot, ModuleMemoryImages};
 use pool_pages::{CompiledModuleId, ModuleInfo, Pages};
@@ -82,7 +81,7 @@ pub enum Phase<P: Pages> {
     Instantiate(u32, MemoryImageSlot<P>),
     /// Ask the limiter, and make the memory.
     MakeMemory(u32, MemoryImageSlot<P>),
-    CountMemory(u32, PoolMemory<P>),
+    CountMemory(MemoryLease<P>),
     /// Put the region of a refused memory back, as one of which nothing is known.
     PutRefused(u32, MemoryImageSlot<P>, AllocError),
     FreeRefused(u32, AllocError),

@@ -4,7 +4,8 @@ ghost use Rattle.pool_pages.specs.MemoryTypes.{minimum_byte_size};
 ghost use Rattle.pool_images.specs.Slots.{Slot, IsClean, FitsInto, hides};
 ghost use Rattle.pool_alloc.specs.Answers.{InstantiatesAs, InstantiatesFor};
 ghost use Rattle.pool_alloc.specs.Steps.{After, memories_asked, images_asked, image_wanted, instantiate_row};
-ghost use Rattle.pool_alloc.specs.Modules.{HasImages, IfAllocated, CanInstantiate};
+ghost use Rattle.pool_alloc.specs.CanStep.{HasNext, CanBegin};
+ghost use Rattle.pool_alloc.specs.Modules.{IfAllocated};
 
 use crate::frame::{Frame, ModuleCall, Outcome, Phase};
 use crate::pool_core::PoolCore;
@@ -35,8 +36,9 @@ impl<P: Pages> PoolCore<P> {
         slot: u32,
         held: MemoryImageSlot<P>,
     ) -> Option<Outcome<P>>
+        requires next { HasNext frame.old.asked (length frame.old.granted.items) }
         requires clean { IsClean held }
-        requires can { CanInstantiate held frame.old }
+        requires can { IfAllocated frame.old (CanBegin held (image_wanted frame.old)) }
         ensures { (fault : Bool) × (after : Slot) × IfAllocated frame.old (λ decl. InstantiatesFor self.old.settings decl fault (image_wanted frame.old) held after) × (◌≡◌ {A = After P} (record { core = self.new; frame = frame.new; outcome = result }) (instantiate_row fault after slot self.old frame.old)) }
     {
         let mut held = held;
@@ -47,8 +49,9 @@ impl<P: Pages> PoolCore<P> {
 
     // Whether a page call failed.
     fn begin(&self, frame: &Frame<P>, held: &mut MemoryImageSlot<P>) -> bool
+        requires next { HasNext frame.now.asked (length frame.now.granted.items) }
         requires clean { IsClean held.old }
-        requires can { CanInstantiate held.old frame.now }
+        requires can { IfAllocated frame.now (CanBegin held.old (image_wanted frame.now)) }
         ensures { IfAllocated frame.now (λ decl. InstantiatesFor self.now.settings decl result (image_wanted frame.now) held.old held.new) }
     {
         let memory = frame.granted.len();
@@ -77,8 +80,11 @@ fn begin_memory<P: Pages>(
     requires image_fits { IfSome image (λ i. FitsInto held.old.region.page (minimum_byte_size ty.now) (arc_value i.now)) }
     ensures { InstantiatesAs result (minimum_byte_size ty.now) (hides ty.now tunables.now held.old.region.page) (option_map (λ i. arc_value i.now) image.entry) held.old held.new }
 {
-    held.instantiate(minimum_of(ty), image, ty, tunables)
-        .is_err()
+    let fault = held
+        .instantiate(minimum_of(ty), image, ty, tunables)
+        .is_err();
+    let _accessible = held.accessible();
+    fault
 }
 
 fn after_begin<P: Pages>(fault: bool, slot: u32, held: MemoryImageSlot<P>) -> Phase<P>

@@ -1,15 +1,19 @@
 //! The pooling allocator, a step at a time.
 #![tactic(auto)]
 
-mod pool_core;
-mod region_steps;
 mod allocate_steps;
+mod flush_steps;
 mod frame;
 mod frame_calls;
+mod freeing;
 mod instantiate_step;
 mod lease;
+mod make_step;
 mod parts;
+mod pool_core;
+mod region_steps;
 mod reserved;
+mod validate_step;
 
 pub use pool_core::{Counters, PoolCore, Settings};
 pub use frame::{AfterFlush, Call, Ending, Frame, FreedSlot, Grant, ModuleCall, Outcome, Phase};

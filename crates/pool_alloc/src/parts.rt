@@ -1,13 +1,15 @@
-ghost use Rattle.std.specs.Prelude.{◌≡◌, ◌+◌, ◌<◌, ◌≤◌, ◌^◌, false, true, length, slice_set, slice_index_or, sum_by, IsSome, None, option_map};
+ghost use Rattle.std.specs.Prelude.{◌≡◌, ◌+◌, ◌<◌, ◌≤◌, ◌^◌, ◌-◌, false, true, length, min, nat_le, slice_set, slice_index_or, sum_by, IsSome, None, Some, option_map, if◌then◌else◌};
 ghost use Rattle.pool_index.specs.Shard.{IsShard, IsSameShard, use_of, pick_answer, after_pick, after_free, slot_number, resident_bytes};
 ghost use Rattle.pool_slots.specs.Cells.{taken, calls_of_all};
 ghost use Rattle.pool_slots.specs.CellOf.{cell_of};
 ghost use Rattle.pool_slots.specs.Queues.{QueueState, HasOwners, AreApart, IsSpareOf, joined, after_take, taken_into, emptied};
+ghost use Rattle.pool_alloc.specs.CanStep.{CanMerge};
+ghost use Rattle.pool_alloc.specs.Sums.{warm_slots, resident_sum, calls_of_queues};
 ghost use Rattle.pool_alloc.specs.Steps.{shard_at, cell_at, queue_at};
 
 use pool_index::{MemoryInModule, Shard, SlotId};
-use pool_pages::Pages;
-use pool_slots::{DecommitQueue, ImageSlot, MemoryCell};
+use pool_pages::{PageCalls, Pages};
+use pool_slots::{DecommitQueue, ImageSlot, MemoryCell, add_calls, no_calls};
 use std::marker::Model;
 
 /// The shards of the pool's memory slots.
@@ -66,6 +68,28 @@ impl Shards {
         let shard = &mut self.list[shard];
         shard.free(slot, bytes);
     }
+
+    /// How many slots are warm. Stands still at the end of its type.
+    pub fn unused_warm_slots(&self) -> u32
+        ensures { result ≡ warm_slots self.now }
+    {
+        let mut slots = 0u32;
+        for shard in &self.list {
+            slots = slots.saturating_add(shard.unused_warm_slots());
+        }
+        slots
+    }
+
+    /// How many bytes the warm slots keep resident. Stands still at the end of its type.
+    pub fn unused_bytes_resident(&self) -> usize
+        ensures { result ≡ resident_sum self.now }
+    {
+        let mut bytes = 0usize;
+        for shard in &self.list {
+            bytes = bytes.saturating_add(shard.unused_bytes_resident());
+        }
+        bytes
+    }
 }
 
 /// The cells of the pool's memory slots, by the numbers of the slots.
@@ -114,6 +138,17 @@ impl<P: Pages> Cells<P> {
         let cell = &mut self.list[slot as usize];
         cell.put(held);
     }
+
+    /// The calls made so far on the regions that lie in the cells, together.
+    pub fn page_calls(&self) -> PageCalls
+        ensures { result ≡ calls_of_all self.now }
+    {
+        let mut calls = no_calls();
+        for cell in &self.list {
+            calls = add_calls(calls, cell.page_calls());
+        }
+        calls
+    }
 }
 
 /// The shared decommit queues.
@@ -139,8 +174,63 @@ impl<P: Pages> Queues<P> {
     }
 
     pub fn len(&self) -> usize
-        ensures { result ≡ length self.now }
+        ensures value { result ≡ length self.now }
+        ensures small { length self.now < 2 ^ 63 }
     {
         self.list.len()
     }
+
+    /// Appends the local queue to a queue. Where there are as many ranges as a batch then, the whole queue is taken into
+    /// the local one. Answers whether it was.
+    pub fn merge(&mut self, queue: usize, local: &mut DecommitQueue<P>, batch: usize) -> bool
+        requires inside { queue < length self.old }
+        requires can { CanMerge (queue_at queue self.old) local.old }
+        ensures value { result ≡ nat_le batch (length (joined (queue_at queue self.old) local.old).ranges) }
+        ensures after { self.new ≡ slice_set self.old queue (if result then after_take (joined (queue_at queue self.old) local.old) else joined (queue_at queue self.old) local.old) }
+        ensures local { local.new ≡ (if result then taken_into (emptied local.old) (joined (queue_at queue self.old) local.old) else emptied local.old) }
+    {
+        let queue = &mut self.list[queue];
+        merge_into(queue, local, batch)
+    }
+
+    /// Takes a whole queue into the local one.
+    pub fn take(&mut self, queue: usize, local: &mut DecommitQueue<P>)
+        requires inside { queue < length self.old }
+        requires spare { IsSpareOf (queue_at queue self.old) local.old }
+        ensures after { self.new ≡ slice_set self.old queue (after_take (queue_at queue self.old)) }
+        ensures local { local.new ≡ taken_into local.old (queue_at queue self.old) }
+    {
+        let queue = &mut self.list[queue];
+        queue.take(local);
+    }
+
+    /// The calls made so far on the regions of the slots in the queues, together.
+    pub fn page_calls(&self) -> PageCalls
+        ensures { result ≡ calls_of_queues self.now }
+    {
+        let mut calls = no_calls();
+        for queue in &self.list {
+            calls = add_calls(calls, queue.page_calls());
+        }
+        calls
+    }
+}
+
+// Appends the local queue, and takes the whole queue into it where there are as many ranges as a batch then.
+fn merge_into<P: Pages>(
+    queue: &mut DecommitQueue<P>,
+    local: &mut DecommitQueue<P>,
+    batch: usize,
+) -> bool
+    requires { CanMerge queue.old local.old }
+    ensures value { result ≡ nat_le batch (length (joined queue.old local.old).ranges) }
+    ensures after { queue.new ≡ (if result then after_take (joined queue.old local.old) else joined queue.old local.old) }
+    ensures local { local.new ≡ (if result then taken_into (emptied local.old) (joined queue.old local.old) else emptied local.old) }
+{
+    queue.append(local);
+    let full = queue.raw_len() >= batch;
+    if full {
+        queue.take(local);
+    }
+    full
 }

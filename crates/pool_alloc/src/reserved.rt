@@ -1,26 +1,27 @@
-ghost use Rattle.std.specs.Prelude.{◌≡◌, ◌+◌, ◌<◌, ◌≤◌, ◌==◌, [], ◌∷◌, ◌++◌, length, drop, slice_get, vec_len, vec_capacity, IfOk, OnOk};
+ghost use Rattle.std.specs.Prelude.{◌≡◌, ◌+◌, ◌<◌, ◌≤◌, ◌==◌, [], ◌∷◌, ◌++◌, length, slice_index_or, IfOk};
 ghost use Rattle.pool_alloc.specs.Reserved.{Reserved};
 
 use std::alloc::{AllocError, Global};
+use std::collections::VecDeque;
 use std::marker::Model;
-use std::mem;
 
 /// A list whose room is reserved when it is made. Adding to it takes no memory.
 #[derive(Drop)]
 pub struct ReservedList<T> {
-    items: Vec<T>,
+    items: VecDeque<T>,
     room: usize,
 }
 
 impl<T> Model for ReservedList<T> {
-    ghost use Rattle.std.specs.Prelude.{◌≤◌, length, vec_capacity};
+    ghost use Rattle.std.specs.Prelude.{◌≤◌, length};
+    ghost use Rattle.std.specs.VecDeque.{deque_capacity};
     ghost use Rattle.pool_alloc.specs.Reserved.{Reserved};
 
     ghost Value = { Reserved T };
 
     ghost view = { λ l. record { items = l.items.items; room = l.room } };
 
-    ghost invariant = { λ l. (length l.items.items ≤ l.room) × (l.room ≤ vec_capacity l.items) };
+    ghost invariant = { λ l. (length l.items.items ≤ l.room) × (l.room ≤ deque_capacity l.items) };
 }
 
 impl<T> ReservedList<T> {
@@ -29,7 +30,7 @@ impl<T> ReservedList<T> {
         ensures { result ≡ record { items = []; room = 0 } }
     {
         ReservedList {
-            items: Vec::new(alloc),
+            items: VecDeque::new(alloc),
             room: 0,
         }
     }
@@ -38,7 +39,7 @@ impl<T> ReservedList<T> {
         ensures { IfOk result (λ l. l ≡ record { items = []; room = room }) }
     {
         Ok(ReservedList {
-            items: Vec::with_capacity(alloc, room)?,
+            items: VecDeque::with_capacity(alloc, room)?,
             room,
         })
     }
@@ -56,24 +57,29 @@ impl<T> ReservedList<T> {
         self.items.is_empty()
     }
 
-    pub fn as_slice(&self) -> &[T]
-        ensures { result.now ≡ self.now.items }
+    pub fn get(&self, at: usize) -> &T
+        requires { at < length self.now.items }
+        ensures { result.now ≡ slice_index_or self.now.items at result.now }
     {
-        self.items.as_slice()
+        &self.items[at]
     }
 
     pub fn push(&mut self, item: T)
         requires { length self.old.items < self.old.room }
         ensures { self.new ≡ record self.old { items = self.old.items ++ item ∷ [] } }
     {
-        self.items.push_reserved(item);
+        self.items.push_back_reserved(item);
     }
 
-    /// Takes out the first item. The others move up.
+    /// Takes out the first item. The others don't move.
     pub fn remove_first(&mut self) -> T
         requires { 0 < length self.old.items }
-        ensures { self.old ≡ record self.new { items = result ∷ self.new.items } }
+        ensures value { self.old ≡ record self.new { items = result ∷ self.new.items } }
+        ensures room { length self.new.items < self.new.room }
     {
-        self.items.remove(0)
+        match self.items.pop_front() {
+            Some(item) => item,
+            None => unreachable!(),
+        }
     }
 }

@@ -1,0 +1,2 @@
+pub mod QueueChanges
+pub mod QueueLists

@@ -1,4 +1,5 @@
 pub mod CellOf
 pub mod Cells
+pub mod QueueSteps
 pub mod Queues
 pub mod Texts

@@ -1,6 +1,6 @@
 -- The decommit queue: ranges of slots that are to be decommitted, and the slots that go back to their pools once that is
 -- done.
-use Rattle.std.specs.Prelude.{◌≡◌, ℕ, ◌+◌, ◌^◌, ◌%◌, ◌≤◌, ◌==◌, ◌&&◌, ◌⊎◌, List, [], ◌∷◌, ◌++◌, length, map, filter, fold, All, Bool, true, false, if◌then◌else◌, IfSome, is_some}
+use Rattle.std.specs.Prelude.{◌≡◌, ℕ, ◌+◌, ◌^◌, ◌%◌, ◌≤◌, ◌==◌, ◌&&◌, ◌⊎◌, List, [], ◌∷◌, ◌++◌, length, map, filter, All, Bool, true, false, if◌then◌else◌, IfSome, is_some}
 use Rattle.std.specs.List.{list_any, AllByRecursion, AllZip}
 use Rattle.pool_pages.specs.Contents.{IsIn, page_bytes, page_origin}
 use Rattle.pool_pages.specs.Told.{Rose, decommitting}
@@ -58,17 +58,17 @@ ranges_of kind slot ranges = map (λ r. r.range) (filter (is_of kind slot) range
 
 -- a memory's slot with this number is among these
 abbrev pub holds : ℕ → List QueuedMemory → Bool
-holds slot memories = list_any (λ m. m.index == slot) memories
+holds slot memories = list_any (λ m. slot == m.index) memories
 
--- the queue holds this slot
-abbrev pub is_held : QueueKind → ℕ → QueueState → Bool
-is_held Memory slot q = holds slot q.memories
-is_held Table slot q = false
-is_held Stack slot q = false
+-- a slot of this kind is among those that a queue holds
+abbrev pub is_held : QueueKind → ℕ → List QueuedMemory → Bool
+is_held Memory slot memories = holds slot memories
+is_held Table slot memories = false
+is_held Stack slot memories = false
 
 -- each range is of a slot that the queue holds
 abbrev pub HasOwners : QueueState → Type 0
-HasOwners q = AllByRecursion (λ r. is_held r.kind r.slot.0 q ≡ true) q.ranges
+HasOwners q = AllByRecursion (λ r. is_held r.kind r.slot.0 q.memories ≡ true) q.ranges
 
 -- no two of the slots are one
 abbrev pub AreDistinct : List QueuedMemory → Type 0
@@ -149,7 +149,7 @@ first_slot (r ∷ rs) = r.slot.0
 
 -- the slots, of which the one with this number is changed
 abbrev pub change_at : ℕ → (Slot → Slot) → QueuedMemory → QueuedMemory
-change_at slot change m = if m.index == slot then record m { slot = change m.slot } else m
+change_at slot change m = if slot == m.index then record m { slot = change m.slot } else m
 
 -- the ranges of a memory's slot at the front are decommitted, and leave
 abbrev pub after_run_of : ℕ → QueueState → QueueState
@@ -170,7 +170,7 @@ IsSlotLeft false old new = new ≡ old
 -- nothing is known of the slot any more, since a call on the slot with this number failed
 pub record IsLeftBy (faulted : ℕ) (old new : QueuedMemory) : Type 0 where
   pub index : new.index ≡ old.index
-  pub slot : IsSlotLeft (old.index == faulted) old.slot new.slot
+  pub slot : IsSlotLeft (faulted == old.index) old.slot new.slot
   pub known : new.known ≡ false
   pub bytes : new.bytes ≡ old.bytes
 
@@ -190,7 +190,7 @@ settle ranges m = record m { slot = decommitted_all (ranges_of Memory m.index ra
 abbrev pub settled : QueueState → List QueuedMemory
 settled q = map (settle q.ranges) q.memories
 
--- It is the slot of the same region, of which nothing else is said.
+-- It is the slot of the same region, of which a call may have failed.
 pub record IsSameSlot (old new : Slot) : Type 0 where
   pub base : new.base ≡ old.base
   pub static_size : new.static_size ≡ old.static_size
@@ -200,7 +200,7 @@ pub record IsSameSlot (old new : Slot) : Type 0 where
   pub len : new.region.len ≡ old.region.len
   pub plan : new.region.plan ≡ old.region.plan
   pub tells : is_some new.region.contents ≡ is_some old.region.contents
-  pub faults : old.region.faults ≤ new.region.faults
+  pub faults : (new.region.faults ≡ old.region.faults) ⊎ Rose old.region.faults new.region.faults
 
 -- nothing is known of what the slot holds
 pub record IsLost (old new : QueuedMemory) : Type 0 where
@@ -252,6 +252,10 @@ pub record IsLeftItem (old new : QueuedMemory) : Type 0 where
   pub slot : IsLeft old.slot new.slot
   pub known : new.known ≡ old.known
   pub bytes : new.bytes ≡ old.bytes
+
+-- the queue with more ranges of a memory's slot
+abbrev pub with_ranges : ℕ → List ByteRange → QueueState → QueueState
+with_ranges slot ranges q = record q { ranges = q.ranges ++ map (λ r. record { kind = Memory; slot = record { 0 = slot }; range = r }) ranges }
 
 -- the calls on the regions of slots, together
 abbrev pub calls_held : List QueuedMemory → PageCalls

@@ -1,38 +1,189 @@
-use crate::queued_range::QueuedRange;
-use pool_images::MemoryImageSlot;
-use pool_pages::Pages;
+ghost use Rattle.std.specs.Prelude.{◌≡◌, ◌+◌, ◌<◌, ◌≤◌, ◌==◌, ◌^◌, [], ◌∷◌, ◌++◌, length, ℕ, List, nat_lt, false, true, IfOk, IfSome, OnOk, OnErr, MatchOption, slice_index_or};
+ghost use Rattle.std.specs.List.{HoldsAt};
+ghost use Rattle.pool_slots.specs.Queues.{QueuedMemory, QueueState, empty_queue, emptied, is_held, holds, HasOwners, AreDistinct, AreApart, LeavesClean, ForgetsNothing, with_range, with_ranges, with_memory, joined, after_take, taken_into, IsSpareOf, after_run, IsFaulted, IsFlushed, AreSettled, IsSettled, calls_held, first_slot};
+ghost use Rattle.pool_slots.specs.QueueSteps.{begins_with, after_first};
+ghost use Rattle.pool_slots.specs.declared.queued_range.QueueKind.TheVariants.{Memory};
+
+use crate::cells::{add_calls, no_calls};
+use crate::memory_items::{MemoryItem, MemoryItems};
+use crate::queued_range::{QueueKind, QueuedRange};
+use crate::request::MemoryAllocationIndex;
+use pool_images::{ByteRange, MemoryImageSlot};
+use pool_index::SlotId;
+use pool_pages::{HostAlignedByteCount, PageCalls, Pages};
+use std::alloc::{AllocError, Global};
+use std::collections::VecDeque;
 use std::marker::Model;
+use std::mem;
 
-#[derive(Drop)]
-pub struct QueuedSlot<P: Pages> {
-    index: u32,
-    slot: MemoryImageSlot<P>,
-    known: bool,
-    bytes: usize,
-}
-
-impl<P: Pages> Model for QueuedSlot<P> {
-    ghost use Rattle.pool_slots.specs.Queues.{QueuedMemory};
-
-    ghost Value = { QueuedMemory };
-
-    ghost view = { λ q. record { index = q.index; slot = q.slot; known = q.known; bytes = q.bytes } };
-}
-
+/// The slots that were given back and not reset yet, with the ranges of them that are to be decommitted (Wasmtime's
+/// `decommit_queue.rs`). A slot's ranges are pushed before the slot. All memory is taken when the queue is made.
+///
+/// A flush decommits the ranges in order and then gives the slots back. It can be made in one call, or in its parts: one
+/// `decommit_run` for each run of ranges of one slot, and then one `pop_memory` for each slot.
 #[derive(Drop)]
 pub struct DecommitQueue<P: Pages> {
-    ranges: Vec<QueuedRange>,
-    memories: Vec<QueuedSlot<P>>,
+    ranges: VecDeque<QueuedRange>,
+    memories: MemoryItems<P>,
     range_room: usize,
-    slot_room: usize,
+    // Where the search for the slot of a run begins.
+    cursor: usize,
     takes: u64,
     appended: u64,
 }
 
 impl<P: Pages> Model for DecommitQueue<P> {
+    ghost use Rattle.std.specs.VecDeque.{deque_capacity};
     ghost use Rattle.pool_slots.specs.Queues.{QueueState};
+    ghost use Rattle.pool_slots.specs.QueueSteps.{IsQueueWithin};
 
     ghost Value = { QueueState };
 
-    ghost view = { λ q. record { ranges = q.ranges.items; memories = q.memories.items; range_room = q.range_room; slot_room = q.slot_room; takes = q.takes; appended = q.appended } };
+    ghost view = { λ q. record { ranges = q.ranges.items; memories = q.memories.items; range_room = q.range_room; slot_room = q.memories.room; takes = q.takes; appended = q.appended } };
+
+    ghost invariant = { λ q. IsQueueWithin (deque_capacity q.ranges) (record { ranges = q.ranges.items; memories = q.memories.items; range_room = q.range_room; slot_room = q.memories.room; takes = q.takes; appended = q.appended }) };
+}
+
+impl<P: Pages> DecommitQueue<P> {
+    /// An empty queue with room for so many ranges and slots.
+    pub fn new(alloc: Global, ranges: usize, slots: usize) -> Result<Self, AllocError>
+        ensures { IfOk result (λ q. q ≡ empty_queue ranges slots) }
+    {
+        let memories = MemoryItems::new(alloc, slots)?;
+        let list = VecDeque::with_capacity(alloc, ranges)?;
+        Ok(DecommitQueue {
+            ranges: list,
+            memories,
+            range_room: ranges,
+            cursor: 0,
+            takes: 0,
+            appended: 0,
+        })
+    }
+
+    /// Notes a range of a slot, counted from the slot's base, before the slot itself is pushed.
+    pub fn push_raw(
+        &mut self,
+        kind: QueueKind,
+        slot: SlotId,
+        start: HostAlignedByteCount,
+        len: HostAlignedByteCount,
+    )
+        requires room { length self.old.ranges < self.old.range_room }
+        requires not_held { is_held kind slot.0 self.old.memories ≡ false }
+        ensures { self.new ≡ with_range (record { kind = kind; slot = slot; range = record { start = start.bytes; len = len.bytes } }) self.old }
+    {
+        let range = ByteRange {
+            start: start.byte_count(),
+            len: len.byte_count(),
+        };
+        self.push_range(QueuedRange { kind, slot, range });
+    }
+
+    fn push_range(&mut self, range: QueuedRange)
+        requires room { length self.old.ranges < self.old.range_room }
+        requires not_held { is_held range.kind range.slot.0 self.old.memories ≡ false }
+        ensures { self.new ≡ with_range range self.old }
+    {
+        self.ranges.push_back_reserved(range);
+    }
+
+    /// Takes a slot that is clean once the ranges that were pushed for it are decommitted, and that keeps so many bytes
+    /// resident.
+    pub fn push_memory(
+        &mut self,
+        index: MemoryAllocationIndex,
+        slot: MemoryImageSlot<P>,
+        bytes: usize,
+    )
+        requires room { length self.old.memories < self.old.slot_room }
+        requires not_held { holds index.0 self.old.memories ≡ false }
+        requires clean { LeavesClean self.old.ranges (record { index = index.0; slot = slot; known = true; bytes = bytes }) }
+        ensures { self.new ≡ with_memory (record { index = index.0; slot = slot; known = true; bytes = bytes }) self.old }
+    {
+        self.memories.push(MemoryItem {
+            index,
+            slot,
+            known: true,
+            bytes,
+        });
+        self.appended = self.appended.wrapping_add(1);
+    }
+
+    /// The number of ranges.
+    pub fn raw_len(&self) -> usize
+        ensures value { result ≡ length self.now.ranges }
+        ensures within { length self.now.ranges ≤ self.now.range_room }
+    {
+        self.ranges.len()
+    }
+
+    /// Whether no slot is held.
+    pub fn is_empty(&self) -> bool
+        ensures value { result ≡ (length self.now.memories == 0) }
+        ensures within { length self.now.memories ≤ self.now.slot_room }
+        ensures distinct { AreDistinct self.now.memories }
+    {
+        self.memories.is_empty()
+    }
+
+    /// The calls made so far on the regions of the slots, together.
+    pub fn page_calls(&self) -> PageCalls
+        ensures { result ≡ calls_held self.now.memories }
+    {
+        let mut calls = no_calls();
+        for at in 0..self.memories.len() {
+            calls = add_calls(calls, self.memories.get(at).page_calls());
+        }
+        calls
+    }
+
+    /// Moves the other queue's ranges and slots behind these. The other queue is empty then.
+    pub fn append(&mut self, other: &mut DecommitQueue<P>)
+        requires range_room { length self.old.ranges + length other.old.ranges ≤ self.old.range_room }
+        requires slot_room { length self.old.memories + length other.old.memories ≤ self.old.slot_room }
+        requires owners { HasOwners self.old }
+        requires other_owners { HasOwners other.old }
+        requires apart { AreApart self.old.memories other.old.memories }
+        ensures joined { self.new ≡ joined self.old other.old }
+        ensures empty { other.new ≡ emptied other.old }
+        ensures owners { HasOwners self.new }
+    {
+        self.appended = self.appended.wrapping_add(other.memories.len() as u64);
+        self.memories.append(&mut other.memories);
+        let Ok(()) = self.ranges.append(&mut other.ranges) else {
+            unreachable!()
+        };
+    }
+
+    /// Takes all ranges and slots at once, into an empty queue with the same room.
+    pub fn take(&mut self, spare: &mut DecommitQueue<P>)
+        requires { IsSpareOf self.old spare.old }
+        ensures after { self.new ≡ after_take self.old }
+        ensures taken { spare.new ≡ taken_into spare.old self.old }
+    {
+        mem::swap(&mut self.ranges, &mut spare.ranges);
+        mem::swap(&mut self.memories, &mut spare.memories);
+        self.takes = self.takes.wrapping_add(1);
+    }
+
+    // Whether the first range is of this memory's slot.
+    fn continues(&self, slot: SlotId) -> bool
+        ensures { result ≡ begins_with slot.0 self.now.ranges }
+    {
+        match self.ranges.front() {
+            Some(range) => range.kind == QueueKind::Memory && range.slot == slot,
+            None => false,
+        }
+    }
+
+    /// Takes out the first slot. It is clean where it is known. The others don't move.
+    pub fn pop_memory(&mut self) -> Option<MemoryItem<P>>
+        requires { self.old.ranges ≡ [] }
+        ensures value { MatchOption result ((self.old.memories ≡ []) × (self.new ≡ self.old)) (λ m. (self.old.memories ≡ m ∷ self.new.memories) × (self.new ≡ record self.old { memories = self.new.memories })) }
+        ensures settled { IfSome result IsSettled }
+    {
+        self.cursor = 0;
+        self.memories.pop_front()
+    }
 }
