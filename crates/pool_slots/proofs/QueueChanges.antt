@@ -1,21 +1,24 @@
 -- A queue stays one where ranges and slots are pushed, and where two queues are joined.
-use Rattle.std.proofs.Common.{◌≡◌, ℕ, ◌+◌, ◌<◌, ◌≤◌, Bool, true, false, List, [], ◌∷◌, ◌++◌, length, refl, sym, ap, ◌∙◌, subst, arith}
-use Rattle.std.specs.Prelude.{◌==◌, ◌&&◌, All}
+use Rattle.std.proofs.Common.{◌≡◌, ℕ, ◌+◌, ◌^◌, ◌<◌, ◌≤◌, Bool, true, false, List, [], ◌∷◌, ◌++◌, length, refl, sym, ap, ◌∙◌, subst, arith, Ok, Err}
+use Rattle.std.specs.Prelude.{map, ◌==◌, ◌&&◌, All, Result}
+use Rattle.std.proofs.lemmas.Bool.{eq-eqb, or_left, or_right}
+use Rattle.std.proofs.lemmas.List.Folds.{list_any-append}
 use Rattle.std.specs.List.{AllByRecursion}
 use Rattle.std.proofs.lemmas.List.{append-nil, length-append}
 use Rattle.pool_images.specs.declared.ranges.ByteRange.{ByteRange}
-use Rattle.pool_images.specs.Slots.{IsClean, IsPart, size_of, decommitted_all}
+use Rattle.pool_images.specs.Slots.{Fits, IsClean, IsPart, size_of, decommitted_all}
 use Rattle.pool_slots.specs.declared.queued_range.QueueKind.{QueueKind}
 use Rattle.pool_slots.specs.declared.queued_range.QueueKind.TheVariants.{Memory, Table, Stack}
 use Rattle.pool_slots.specs.declared.queued_range.QueuedRange.{QueuedRange}
-use Rattle.pool_slots.specs.Queues.{QueuedMemory, QueueState, same_kind, is_of, ranges_of, holds, is_held, HasOwners, AreDistinct, AreApart, LeavesClean, IsQueue, emptied, with_range, with_memory, joined}
-use Rattle.pool_slots.proofs.QueueLists.{each_append, each_both, each_known, ranges_append, ranges_none, none_unheld, unheld_each, distinct_append, apart_other_way, owned_more, owned_later, AreOwned}
+use Rattle.pool_slots.specs.Queues.{QueuedMemory, QueueState, same_kind, is_of, ranges_of, holds, is_held, HasOwners, AreDistinct, AreApart, LeavesClean, IsQueue, emptied, with_range, with_ranges, with_memory, joined}
+use Rattle.pool_slots.proofs.QueueFaults.{range_of}
+use Rattle.pool_slots.proofs.QueueLists.{each_append, each_both, each_known, ranges_append, ranges_here, ranges_none, none_unheld, unheld_each, distinct_append, apart_other_way, owned_more, owned_later, AreOwned}
 
 clean_same : (rs ss : List QueuedRange) (m : QueuedMemory) → ranges_of Memory m.index ss ≡ ranges_of Memory m.index rs → LeavesClean rs m → LeavesClean ss m
 clean_same rs ss m e c =
     let P : List ByteRange → Type 0 = λ l. All (IsPart m.slot.region.page (size_of m.slot)) l in
     let C : List ByteRange → Type 0 = λ l. IsClean (decommitted_all l m.slot) in
-    record { parts = subst P (sym e) c.parts; clean = λ known. subst C (sym e) (c.clean known); bytes = c.bytes }
+    record { fits = c.fits; parts = subst P (sym e) c.parts; clean = λ known. subst C (sym e) (c.clean known); bytes = c.bytes }
 
 not_of_any : (kind : QueueKind) (n : ℕ) (ms : List QueuedMemory) → is_held kind n ms ≡ false → AllByRecursion (λ m. (same_kind Memory kind && n == m.index) ≡ false) ms
 not_of_any Memory n ms free = unheld_each n ms free
@@ -78,3 +81,39 @@ owned_joined q more owned also_owned =
 
 pub queue_emptied : (q : QueueState) → IsQueue (emptied q)
 queue_emptied q = record { range_room = omega arith; slot_room = omega arith; distinct = tt; each = tt }
+
+-- the ranges that were just pushed for a slot
+own_ranges : (k : ℕ) (rs : List ByteRange) → ranges_of Memory k (map (range_of k) rs) ≡ rs
+own_ranges k [] = refl
+own_ranges k (r ∷ rs) =
+    ranges_here k (range_of k r) (map (range_of k) rs) (eq-eqb k k refl) ∙ ap (λ (l : List ByteRange). r ∷ l) (own_ranges k rs)
+
+-- a slot whose ranges alone were pushed
+pub leaves_clean : (m : QueuedMemory) (rs : List ByteRange) (q : QueueState) → HasOwners q → holds m.index q.memories ≡ false → Fits m.slot → All (IsPart m.slot.region.page (size_of m.slot)) rs → IsClean (decommitted_all rs m.slot) → m.bytes ≤ 2 ^ 32 → LeavesClean (with_ranges m.index rs q).ranges m
+leaves_clean m rs q owned free fits parts clean bytes =
+    let all : ranges_of Memory m.index (q.ranges ++ map (range_of m.index) rs) ≡ rs =
+    ranges_append Memory m.index q.ranges (map (range_of m.index) rs)
+    ∙ ap (λ l. l ++ ranges_of Memory m.index (map (range_of m.index) rs)) (none_unheld m.index q.ranges q.memories owned free)
+    ∙ own_ranges m.index rs in
+    let P : List ByteRange → Type 0 = λ l. All (IsPart m.slot.region.page (size_of m.slot)) l in
+    let C : List ByteRange → Type 0 = λ l. IsClean (decommitted_all l m.slot) in
+    record { fits = λ known. fits; parts = subst P (sym all) parts; clean = λ known. subst C (sym all) clean; bytes = bytes }
+
+own_owned : (m : QueuedMemory) (rs : List ByteRange) (ms : List QueuedMemory) → AreOwned (map (range_of m.index) rs) (ms ++ m ∷ [])
+own_owned m [] ms = tt
+own_owned m (r ∷ rs) ms =
+    let last : holds m.index (m ∷ []) ≡ true = or_left (m.index == m.index) false (eq-eqb m.index m.index refl) in
+    (list_any-append (λ n. m.index == n.index) ms (m ∷ []) ∙ or_right (holds m.index ms) (holds m.index (m ∷ [])) last, own_owned m rs ms)
+
+-- the slot is pushed behind its ranges
+pub owned_pushed : (m : QueuedMemory) (rs : List ByteRange) (q : QueueState) → HasOwners q → HasOwners (with_memory m (with_ranges m.index rs q))
+owned_pushed m rs q owned =
+    each_append (λ r. is_held r.kind r.slot.0 (q.memories ++ m ∷ []) ≡ true) q.ranges (map (range_of m.index) rs)
+    (owned_more q.ranges q.memories (m ∷ []) owned) (own_owned m rs q.memories)
+
+abbrev value_of : {E : Type 0} → Result ℕ E → ℕ
+value_of (Ok x) = x
+value_of (Err e) = 0
+
+pub same_answer : {E : Type 0} (a b : ℕ) (r : Result ℕ E) → r ≡ Ok a → r ≡ Ok b → a ≡ b
+same_answer a b r left right = ap value_of (sym left ∙ right)

@@ -1,10 +1,10 @@
 -- The lists of a queue: which ranges are of which slot, and slots that differ.
-use Rattle.std.proofs.Common.{◌≡◌, ℕ, zero, suc, ◌+◌, ◌<◌, Bool, true, false, List, [], ◌∷◌, ◌++◌, length, get_or, refl, sym, ap, ◌∙◌, subst, inl, inr, arith, set}
+use Rattle.std.proofs.Common.{◌≡◌, ℕ, zero, suc, ◌+◌, ◌<◌, ◌≤◌, Bool, true, false, List, [], ◌∷◌, ◌++◌, length, get_or, refl, sym, ap, ◌∙◌, subst, inl, inr, arith, set}
 use Rattle.std.specs.Prelude.{map, filter, cond, ◌==◌, ◌&&◌, ◌||◌, All}
-use Rattle.std.specs.List.{list_any, AllByRecursion, AllZip}
-use Rattle.std.proofs.lemmas.Bool.{cases_eq, cases_Bool, eqb-true, eqb-false, eq-eqb, ne_eqb, or_parts, or_from, or_left, or_right, true≢false}
+use Rattle.std.specs.List.{list_any, AllByRecursion, HoldsAt}
+use Rattle.std.proofs.lemmas.Bool.{cases_eq, cases_lt, cases_Bool, eqb-true, eqb-false, eq-eqb, ne_eqb, or_parts, or_from, or_left, or_right, true≢false}
 use Rattle.std.proofs.lemmas.List.{map-append}
-use Rattle.std.proofs.lemmas.List.Folds.{list_any-append}
+use Rattle.std.proofs.lemmas.List.Folds.{list_any-append, list_any_none}
 use Rattle.pool_images.specs.declared.ranges.ByteRange.{ByteRange}
 use Rattle.pool_images.specs.Slots.{Slot}
 use Rattle.pool_slots.specs.declared.queued_range.QueueKind.{QueueKind}
@@ -186,3 +186,13 @@ set_is_change slot change (m ∷ ms) (suc i) d below distinct e =
     let apart : (m.index == slot) ≡ false = ap (λ (n : ℕ). m.index == n) (sym e) ∙ apart_of_unheld m.index ms i d inside distinct.0 in
     let other : (slot == m.index) ≡ false = ne_eqb slot m.index (λ k. eqb-false m.index slot apart (sym k)) in
     sym (rw (change_elsewhere slot change m other, sym (set_is_change slot change ms i d inside distinct.1 e)) refl)
+
+-- a slot that none of the places has isn't held
+pub not_there : (slot from : ℕ) (ms : List QueuedMemory) → ((k : ℕ) → from ≤ k → k < length ms → HoldsAt (λ m. (slot == m.index) ≡ false) ms k) → ((k : ℕ) → 0 ≤ k → k < from → HoldsAt (λ m. (slot == m.index) ≡ false) ms k) → holds slot ms ≡ false
+not_there slot from ms later before =
+    list_any_none (λ m. slot == m.index) ms
+    (λ k d below.
+    elim (cases_lt k from) [
+      | inl under ↦ before k (omega arith) under d
+      | inr over ↦ later k over below d
+    ])

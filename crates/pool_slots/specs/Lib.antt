@@ -1,5 +1,10 @@
 pub mod CellOf
 pub mod Cells
+pub mod Ended
+pub mod Memories
+pub mod Pools
 pub mod QueueSteps
 pub mod Queues
 pub mod Texts
+pub mod Turns
+pub mod Uses

@@ -1,12 +1,12 @@
 -- The decommit queue: ranges of slots that are to be decommitted, and the slots that go back to their pools once that is
 -- done.
-use Rattle.std.specs.Prelude.{◌≡◌, ℕ, ◌+◌, ◌^◌, ◌%◌, ◌≤◌, ◌==◌, ◌&&◌, ◌⊎◌, List, [], ◌∷◌, ◌++◌, length, map, filter, All, Bool, true, false, if◌then◌else◌, IfSome, is_some}
+use Rattle.std.specs.Prelude.{◌≡◌, ℕ, ◌+◌, ◌^◌, ◌%◌, ◌≤◌, ◌==◌, ◌&&◌, ◌⊎◌, List, [], ◌∷◌, ◌++◌, length, map, filter, All, Bool, true, false, if◌then◌else◌, Option, None, Some, IfSome, is_some}
 use Rattle.std.specs.List.{list_any, AllByRecursion, AllZip}
 use Rattle.pool_pages.specs.Contents.{IsIn, page_bytes, page_origin}
 use Rattle.pool_pages.specs.Told.{Rose, decommitting}
 use Rattle.pool_pages.specs.declared.pages.PageCalls.{PageCalls}
 use Rattle.pool_images.specs.declared.ranges.ByteRange.{ByteRange}
-use Rattle.pool_images.specs.Slots.{Slot, IsClean, IsLeft, IsPart, size_of, called, decommitted_all}
+use Rattle.pool_images.specs.Slots.{Slot, Fits, IsClean, IsLeft, IsPart, size_of, called, decommitted_all}
 use Rattle.pool_slots.specs.Cells.{unknown, calls_of_all}
 use Rattle.pool_slots.specs.declared.queued_range.QueueKind.{QueueKind}
 use Rattle.pool_slots.specs.declared.queued_range.QueueKind.TheVariants.{Memory, Table, Stack}
@@ -24,6 +24,11 @@ pub record QueuedMemory : Type 0 where
 pub record MemoryList : Type 0 where
   pub items : List QueuedMemory
   pub room : ℕ
+
+-- the first is taken out, if there is one
+abbrev pub TakesFirst : MemoryList → Option QueuedMemory → MemoryList → Type 0
+TakesFirst old None new = (old.items ≡ []) × (new ≡ old)
+TakesFirst old (Some m) new = (old.items ≡ m ∷ new.items) × (new.room ≡ old.room)
 
 -- The ranges and the slots in the order in which they were pushed, and room for so many of each. How often the whole
 -- queue was taken, and how many slots were ever pushed or appended, both modulo 2 ^ 64.
@@ -81,6 +86,7 @@ AreApart these those = AllByRecursion (λ m. holds m.index those ≡ false) thes
 
 -- The slot's ranges are whole pages of it, and once they are decommitted, a known slot is clean.
 pub record LeavesClean (ranges : List QueuedRange) (m : QueuedMemory) : Type 0 where
+  pub fits : m.known ≡ true → Fits m.slot
   pub parts : All (IsPart m.slot.region.page (size_of m.slot)) (ranges_of Memory m.index ranges)
   pub clean : m.known ≡ true → IsClean (decommitted_all (ranges_of Memory m.index ranges) m.slot)
   pub bytes : m.bytes ≤ 2 ^ 32

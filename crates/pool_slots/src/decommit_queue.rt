@@ -1,6 +1,7 @@
 ghost use Rattle.std.specs.Prelude.{◌≡◌, ◌+◌, ◌<◌, ◌≤◌, ◌==◌, ◌^◌, [], ◌∷◌, ◌++◌, length, ℕ, List, nat_lt, false, true, IfOk, IfSome, OnOk, OnErr, MatchOption, slice_index_or};
 ghost use Rattle.std.specs.List.{HoldsAt};
-ghost use Rattle.pool_slots.specs.Queues.{QueuedMemory, QueueState, empty_queue, emptied, is_held, holds, HasOwners, AreDistinct, AreApart, LeavesClean, ForgetsNothing, with_range, with_ranges, with_memory, joined, after_take, taken_into, IsSpareOf, after_run, IsFaulted, IsFlushed, AreSettled, IsSettled, calls_held, first_slot};
+ghost use Rattle.pool_images.specs.declared.ranges.ByteRange.{ByteRange};
+ghost use Rattle.pool_slots.specs.Queues.{QueuedMemory, QueueState, empty_queue, emptied, is_held, holds, HasOwners, AreDistinct, AreApart, LeavesClean, ForgetsNothing, with_range, with_ranges, with_memory, joined, after_take, taken_into, IsSpareOf, after_run, after_run_of, IsFaulted, IsFlushed, AreSettled, IsSettled, calls_held, first_slot};
 ghost use Rattle.pool_slots.specs.QueueSteps.{begins_with, after_first};
 ghost use Rattle.pool_slots.specs.declared.queued_range.QueueKind.TheVariants.{Memory};
 
@@ -8,9 +9,10 @@ use crate::cells::{add_calls, no_calls};
 use crate::memory_items::{MemoryItem, MemoryItems};
 use crate::queued_range::{QueueKind, QueuedRange};
 use crate::request::MemoryAllocationIndex;
+use crate::slot_return::SlotReturn;
 use pool_images::{ByteRange, MemoryImageSlot};
 use pool_index::SlotId;
-use pool_pages::{HostAlignedByteCount, PageCalls, Pages};
+use pool_pages::{HostAlignedByteCount, PageCalls, PageFault, Pages};
 use std::alloc::{AllocError, Global};
 use std::collections::VecDeque;
 use std::marker::Model;
@@ -80,6 +82,21 @@ impl<P: Pages> DecommitQueue<P> {
         self.push_range(QueuedRange { kind, slot, range });
     }
 
+    /// Notes ranges of a memory's slot, in order, before the slot itself is pushed.
+    pub fn push_ranges(&mut self, slot: SlotId, ranges: &[ByteRange])
+        requires room { length self.old.ranges + length ranges.now ≤ self.old.range_room }
+        requires not_held { holds slot.0 self.old.memories ≡ false }
+        ensures { self.new ≡ with_ranges slot.0 ranges.now self.old }
+    {
+        for at in 0..ranges.len() {
+            self.push_range(QueuedRange {
+                kind: QueueKind::Memory,
+                slot,
+                range: range_at(ranges, at),
+            });
+        }
+    }
+
     fn push_range(&mut self, range: QueuedRange)
         requires room { length self.old.ranges < self.old.range_room }
         requires not_held { is_held range.kind range.slot.0 self.old.memories ≡ false }
@@ -114,6 +131,7 @@ impl<P: Pages> DecommitQueue<P> {
     pub fn raw_len(&self) -> usize
         ensures value { result ≡ length self.now.ranges }
         ensures within { length self.now.ranges ≤ self.now.range_room }
+        ensures forgets_nothing { ForgetsNothing self.now }
     {
         self.ranges.len()
     }
@@ -167,6 +185,129 @@ impl<P: Pages> DecommitQueue<P> {
         self.takes = self.takes.wrapping_add(1);
     }
 
+    /// Decommits the ranges at the front that are of one slot, in order. Ranges of no length make no page call. Where a
+    /// decommit fails, the further ranges are dropped, and nothing is known of any slot that is held.
+    ///
+    /// The slot is looked for from that of the run before on, so that a flush goes through the slots once where the
+    /// runs stand in the order of the slots.
+    pub fn decommit_run(&mut self) -> Result<(), PageFault>
+        requires some { 0 < length self.old.ranges }
+        requires owners { HasOwners self.old }
+        ensures ok { OnOk result (self.new ≡ after_run self.old) }
+        ensures err { OnErr result (IsFaulted self.old self.new) }
+        ensures owners { HasOwners self.new }
+    {
+        let slot = self.first_slot();
+        let at = self.place_of(slot);
+        self.begin_at(at);
+        self.decommit_all_of(slot, at)
+    }
+
+    fn first_slot(&self) -> SlotId
+        requires { 0 < length self.now.ranges }
+        ensures { result.0 ≡ first_slot self.now.ranges }
+    {
+        self.ranges[0].slot
+    }
+
+    fn begin_at(&mut self, at: usize)
+        ensures { self.new ≡ self.old }
+    {
+        self.cursor = at;
+    }
+
+    // Decommits the ranges at the front that are of the slot at this place.
+    fn decommit_all_of(&mut self, slot: SlotId, at: usize) -> Result<(), PageFault>
+        requires first { first_slot self.old.ranges ≡ slot.0 }
+        requires inside { at < length self.old.memories }
+        requires index { HoldsAt (λ m. m.index ≡ slot.0) self.old.memories at }
+        requires owners { HasOwners self.old }
+        ensures ok { OnOk result (self.new ≡ after_run_of slot.0 self.old) }
+        ensures err { OnErr result (IsFaulted self.old self.new) }
+        ensures owners { HasOwners self.new }
+    {
+        while self.continues(slot) {
+            self.decommit_first(at)?;
+        }
+        Ok(())
+    }
+
+    // The place of the slot that holds this number.
+    fn place_of(&self, slot: SlotId) -> usize
+        requires { holds slot.0 self.now.memories ≡ true }
+        ensures inside { result < length self.now.memories }
+        ensures index { HoldsAt (λ m. m.index ≡ slot.0) self.now.memories result }
+    {
+        let len = self.memories.len();
+        let from = self.cursor.min(len);
+        match self.place_within(slot, from, len) {
+            Some(at) => at,
+            None => match self.place_within(slot, 0, from) {
+                Some(at) => at,
+                None => unreachable!(),
+            },
+        }
+    }
+
+    // The place of the slot with this number, among some.
+    fn place_within(&self, slot: SlotId, from: usize, to: usize) -> Option<usize>
+        requires { to ≤ length self.now.memories }
+        ensures { MatchOption result ((k : ℕ) → from ≤ k → k < to → HoldsAt (λ m. (slot.0 == m.index) ≡ false) self.now.memories k) (λ at. (at < to) × HoldsAt (λ m. m.index ≡ slot.0) self.now.memories at) }
+    {
+        for at in from..to {
+            if slot.0 == self.memories.get(at).index.0 {
+                return Some(at);
+            }
+        }
+        None
+    }
+
+    // Decommits the first range, which is of the slot at this place.
+    fn decommit_first(&mut self, at: usize) -> Result<(), PageFault>
+        requires inside { at < length self.old.memories }
+        requires some { 0 < length self.old.ranges }
+        requires index { HoldsAt (λ m. begins_with m.index self.old.ranges ≡ true) self.old.memories at }
+        ensures ok { OnOk result (self.new ≡ after_first self.old) }
+        ensures err { OnErr result (IsFaulted self.old self.new) }
+    {
+        let Some(first) = self.ranges.pop_front() else {
+            unreachable!()
+        };
+        match self.memories.decommit(at, first.range) {
+            Ok(()) => Ok(()),
+            Err(fault) => {
+                self.ranges.clear();
+                self.memories.forget();
+                Err(fault)
+            }
+        }
+    }
+
+    // Decommits all ranges, up to the first that fails.
+    fn decommit_all(&mut self)
+        requires owners { HasOwners self.old }
+        ensures ranges { self.new.ranges ≡ [] }
+        ensures memories { IsFlushed self.old self.new.memories }
+        ensures same { self.new ≡ record self.old { ranges = []; memories = self.new.memories } }
+    {
+        while self.raw_len() > 0 {
+            let Ok(()) = self.decommit_run() else {
+                return;
+            };
+        }
+    }
+
+    // Gives all slots back to their pool.
+    fn give_back<D: SlotReturn<P>>(&mut self, pool: &mut D)
+        requires ranges { self.old.ranges ≡ [] }
+        requires accepted { D.accepts self.old.memories pool.old }
+        ensures empty { self.new ≡ record self.old { memories = [] } }
+        ensures returned { D.returns self.old.memories pool.old pool.new }
+    {
+        self.cursor = 0;
+        pool.memories(&mut self.memories);
+    }
+
     // Whether the first range is of this memory's slot.
     fn continues(&self, slot: SlotId) -> bool
         ensures { result ≡ begins_with slot.0 self.now.ranges }
@@ -186,4 +327,29 @@ impl<P: Pages> DecommitQueue<P> {
         self.cursor = 0;
         self.memories.pop_front()
     }
+
+    /// Decommits all ranges, and gives the slots back to their pool. The queue is empty then. Answers whether it held a
+    /// slot. After the first decommit that fails, the further ranges are not tried, and the slots go back as unknown.
+    pub fn flush<D: SlotReturn<P>>(&mut self, pool: &mut D) -> bool
+        requires owners { HasOwners self.old }
+        requires accepted { (items : List QueuedMemory) → IsFlushed self.old items → D.accepts items pool.old }
+        ensures value { result ≡ nat_lt 0 (length self.old.memories) }
+        ensures empty { self.new ≡ emptied self.old }
+        ensures returned { result ≡ true → (items : List QueuedMemory) × IsFlushed self.old items × D.returns items pool.old pool.new }
+        ensures same { result ≡ false → pool.new ≡ pool.old }
+    {
+        if self.is_empty() {
+            return false;
+        }
+        self.decommit_all();
+        self.give_back(pool);
+        true
+    }
+}
+
+fn range_at(ranges: &[ByteRange], at: usize) -> ByteRange
+    requires { at < length ranges.now }
+    ensures { (d : ByteRange) → result ≡ slice_index_or ranges.now at d }
+{
+    ranges[at]
 }

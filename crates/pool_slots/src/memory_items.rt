@@ -1,11 +1,12 @@
-ghost use Rattle.std.specs.Prelude.{◌≡◌, ◌+◌, ◌<◌, ◌≤◌, ◌==◌, [], ◌∷◌, ◌++◌, length, List, map, slice_index_or, slice_set, IfOk, IfSome, MatchOption, OnOk, OnErr};
+ghost use Rattle.std.specs.Prelude.{◌≡◌, ◌+◌, ◌<◌, ◌≤◌, ◌==◌, [], ◌∷◌, ◌++◌, length, List, map, slice_index_or, slice_set, IfOk, OnOk, OnErr};
 ghost use Rattle.std.specs.List.{HoldsAt};
 ghost use Rattle.pool_images.specs.Slots.{IsPart, IsLeft, size_of};
-ghost use Rattle.pool_slots.specs.Queues.{QueuedMemory, decommitted_at, forgotten, IsLeftItem};
+ghost use Rattle.pool_slots.specs.Queues.{QueuedMemory, TakesFirst, decommitted_at, forgotten, IsLeftItem};
 
 use crate::request::MemoryAllocationIndex;
-use pool_images::MemoryImageSlot;
-use pool_pages::{PageCalls, Pages};
+use crate::uses::decommit_one;
+use pool_images::{ByteRange, MemoryImageSlot};
+use pool_pages::{PageCalls, PageFault, Pages};
 use std::alloc::{AllocError, Global};
 use std::collections::VecDeque;
 use std::marker::Model;
@@ -35,6 +36,14 @@ impl<P: Pages> MemoryItem<P> {
         ensures { result ≡ self.now.slot.region.calls }
     {
         self.slot.region().calls()
+    }
+
+    fn decommit(&mut self, range: ByteRange) -> Result<(), PageFault>
+        requires { IsPart self.old.slot.region.page (size_of self.old.slot) range }
+        ensures ok { OnOk result (self.new ≡ record self.old { slot = decommitted_at range self.old.slot }) }
+        ensures err { OnErr result (IsLeftItem self.old self.new) }
+    {
+        decommit_one(&mut self.slot, range)
     }
 }
 
@@ -94,7 +103,7 @@ impl<P: Pages> MemoryItems<P> {
 
     /// Takes out the first. The others don't move.
     pub fn pop_front(&mut self) -> Option<MemoryItem<P>>
-        ensures { MatchOption result ((self.old.items ≡ []) × (self.new ≡ self.old)) (λ m. (self.old.items ≡ m ∷ self.new.items) × (self.new.room ≡ self.old.room)) }
+        ensures { TakesFirst self.old result self.new }
     {
         self.list.pop_front()
     }
@@ -108,5 +117,55 @@ impl<P: Pages> MemoryItems<P> {
         let Ok(()) = self.list.append(&mut other.list) else {
             unreachable!()
         };
+    }
+
+    // Decommits a range of the slot at a place.
+    pub(crate) fn decommit(&mut self, at: usize, range: ByteRange) -> Result<(), PageFault>
+        requires inside { at < length self.old.items }
+        requires part { HoldsAt (λ m. IsPart m.slot.region.page (size_of m.slot) range) self.old.items at }
+        ensures ok { OnOk result (HoldsAt (λ m. self.new ≡ record self.old { items = slice_set self.old.items at (record m { slot = decommitted_at range m.slot }) }) self.old.items at) }
+        ensures err { OnErr result (HoldsAt (λ m. (n : QueuedMemory) × IsLeftItem m n × (self.new ≡ record self.old { items = slice_set self.old.items at n })) self.old.items at) }
+    {
+        let item = &mut self.list[at];
+        item.decommit(range)
+    }
+
+    // Nothing is known of any slot from now on.
+    pub(crate) fn forget(&mut self)
+        ensures { self.new ≡ record self.old { items = map forgotten self.old.items } }
+    {
+        for _ in 0..self.list.len() {
+            self.forget_first();
+        }
+    }
+
+    // Moves the first to the end, and forgets what is known of it.
+    fn forget_first(&mut self)
+        requires { 0 < length self.old.items }
+        ensures items { (m : QueuedMemory) (rest : List QueuedMemory) → self.old.items ≡ m ∷ rest → self.new.items ≡ rest ++ forgotten m ∷ [] }
+        ensures room { self.new.room ≡ self.old.room }
+    {
+        let Some(mut item) = self.list.pop_front() else {
+            unreachable!()
+        };
+        item.known = false;
+        self.list.push_back_reserved(item);
+    }
+}
+
+impl<P: Pages> Iterator for MemoryItems<P> {
+    type Item = MemoryItem<P>;
+
+    ghost use Rattle.std.specs.Prelude.{length};
+    ghost use Rattle.std.specs.Iterator.{at_most};
+    ghost use Rattle.pool_slots.specs.Queues.{TakesFirst};
+
+    ghost next_gives = { TakesFirst };
+
+    ghost remaining = { λ l. at_most (length l.items) };
+
+    /// Takes out the first, as `pop_front`.
+    fn next(&mut self) -> Option<MemoryItem<P>> {
+        self.list.pop_front()
     }
 }

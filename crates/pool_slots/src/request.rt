@@ -57,13 +57,16 @@ impl Error for PoolConcurrencyLimitError {}
 pub enum AllocError {
     /// No memory was to be had.
     Memory,
+    /// The pool can't have such a module or memory.
+    Unsupported(Unsupported),
     /// No slot is free, or a counter is at its limit.
     Limit(PoolConcurrencyLimitError),
+    /// The limiter said no to a memory of `min` pages of its own, or to a table of `min` elements.
+    LimiterDenied { table: bool, min: u64 },
+    /// The limiter answered an error.
+    LimiterFault(LimiterError),
     /// A call on the pages of the slot failed.
     PageFault,
-    LimiterDenied { table: bool, min: u64 },
-    LimiterFault(LimiterError),
-    Unsupported(Unsupported),
 }
 
 /// Why a pool can't be made.

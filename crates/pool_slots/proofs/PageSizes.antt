@@ -1,0 +1,57 @@
+-- A number of bytes up to 2 ^ 32 that is rounded up to pages is at most that, since a page divides it.
+use Rattle.std.proofs.Common.{◌≡◌, ℕ, zero, suc, ◌+◌, ◌-◌, ◌*◌, ◌/◌, ◌%◌, ◌^◌, ◌<◌, ◌≤◌, refl, sym, ap, ◌∙◌, subst, inl, inr, arith}
+use Rattle.std.specs.Prelude.{IsTrue}
+use lib.Count.{ones}
+use Rattle.std.proofs.lemmas.Bool.{cases_eq, eqb-true}
+use Rattle.std.proofs.lemmas.Nat.{ones_cat, zero_from_ones, shr_split}
+use Rattle.std.proofs.Math.Nat.{pow-suc, mod-lt, div-lt_iff_lt-mul, mul-le-mul_right}
+use Rattle.pool_pages.specs.Count.{IsPageSize, rounded_up}
+
+ones_none : ones 0 ≡ 0
+unfolding ones
+ones_none = refl
+
+ones_one : ones 1 ≡ 1
+unfolding ones
+ones_one = refl
+
+quotient : (k n : ℕ) → n ≤ 2 ^ k → ones n ≡ 1 → (q : ℕ) × (2 ^ k ≡ q * n)
+quotient zero n small one =
+    elim (cases_eq n 1) [
+      | inl e ↦ (1, sym (rw e refl))
+      | inr other ↦
+          let none : n ≡ 0 = omega arith in
+          let off : ones n ≡ 0 = ap ones none ∙ ones_none in
+          absurd (omega (arith, off, one))
+    ]
+quotient (suc k) n small one =
+    let a : ℕ = n / 2 in
+    let r : ℕ = n % 2 in
+    let split : a * 2 + r ≡ n = shr_split n 1 in
+    let less : r < 2 = mod-lt n (omega arith) in
+    let both : ones a + ones r ≡ 1 = sym (ones_cat 1 a r less) ∙ ap ones split ∙ one in
+    let double : 2 ^ suc k ≡ 2 ^ k * 2 = pow-suc 2 k in
+    elim (cases_eq r 0) [
+      | inl even ↦
+          let off : ones r ≡ 0 = ap ones even ∙ ones_none in
+          let half = quotient k a (omega (arith, split, double)) (omega (arith, both, off)) in
+          let twice : n ≡ a * 2 = omega (arith, split) in
+          let scaled : half.0 * a * 2 ≡ half.0 * (a * 2) = omega arith in
+          (half.0, double ∙ ap (λ (x : ℕ). x * 2) half.1 ∙ scaled ∙ ap (λ (x : ℕ). half.0 * x) (sym twice))
+      | inr other ↦
+          let odd : r ≡ 1 = omega arith in
+          let on : ones r ≡ 1 = ap ones odd ∙ ones_one in
+          let none : a ≡ 0 = zero_from_ones a (omega (arith, both, on)) in
+          let is : n ≡ 1 = omega (arith, split, none) in
+          (2 ^ suc k, rw is (omega arith))
+    ]
+
+pub rounded_within : (page n : ℕ) → IsPageSize page → n ≤ 2 ^ 32 → rounded_up page n ≤ 2 ^ 32
+rounded_within page n sized small =
+    let q = quotient 32 page (omega (arith, sized.at_most)) (eqb-true (ones page) 1 sized.power_of_two) in
+    let some : 0 < page = omega (arith, sized.at_least) in
+    let step : (q.0 + 1) * page ≡ q.0 * page + page = omega arith in
+    let below : n + page - 1 < (q.0 + 1) * page = omega (arith, q.1, step) in
+    let div : (n + page - 1) / page < q.0 + 1 = (div-lt_iff_lt-mul some).1 below in
+    let most : (n + page - 1) / page * page ≤ q.0 * page = mul-le-mul_right page (omega (arith, div)) in
+    omega (arith, most, q.1)

@@ -1,0 +1,58 @@
+-- A slot whose ranges are decommitted one by one.
+use Rattle.std.proofs.Common.{◌≡◌, ℕ, suc, ◌+◌, ◌<◌, List, ◌∷◌, length, get_or, drop, refl, ◌∙◌, subst, Option, Some, None, drop-cons, add-one}
+use Rattle.std.specs.Prelude.{IfSome, is_some, option_map}
+use Rattle.pool_pages.specs.Contents.{Contents}
+use Rattle.pool_pages.specs.Told.{Rose, PageCall, decommitting}
+use Rattle.pool_images.specs.declared.ranges.ByteRange.{ByteRange}
+use Rattle.pool_images.specs.Slots.{Slot, IsPart, IsLeft, called, size_of, decommitted_all}
+
+-- calls on the slot's region succeeded
+pub record IsKept (old new : Slot) : Type 0 where
+  pub base : new.base ≡ old.base
+  pub static_size : new.static_size ≡ old.static_size
+  pub colour : new.colour ≡ old.colour
+  pub name : new.region.name ≡ old.region.name
+  pub page : new.region.page ≡ old.region.page
+  pub len : new.region.len ≡ old.region.len
+  pub plan : new.region.plan ≡ old.region.plan
+  pub tells : is_some new.region.contents ≡ is_some old.region.contents
+  pub faults : new.region.faults ≡ old.region.faults
+
+pub kept_self : (s : Slot) → IsKept s s
+kept_self s = record { base = refl; static_size = refl; colour = refl; name = refl; page = refl; len = refl; plan = refl; tells = refl; faults = refl }
+
+pub told_same : (f : Contents → Contents) (o : Option Contents) → is_some (option_map f o) ≡ is_some o
+told_same f None = refl
+told_same f (Some c) = refl
+
+pub kept_called : (s t : Slot) (call : PageCall) → IsKept s t → IsKept s (called call t)
+kept_called s t call k = record { base = k.base; static_size = k.static_size; colour = k.colour; name = k.name; page = k.page; len = k.len; plan = k.plan; tells = told_same call.change t.region.contents ∙ k.tells; faults = k.faults }
+
+pub left_after : (s t u : Slot) → IsKept s t → IsLeft t u → IsLeft s u
+left_after s t u k l =
+    let R : ℕ → Type 0 = λ n. Rose n u.region.faults in
+    let L : Option (List ℕ) → Type 0 = λ o. IfSome o (λ plan. 0 < length plan) in
+    record {
+      base = l.base ∙ k.base;
+      static_size = l.static_size ∙ k.static_size;
+      colour = l.colour ∙ k.colour;
+      name = l.name ∙ k.name;
+      page = l.page ∙ k.page;
+      len = l.len ∙ k.len;
+      plan = l.plan ∙ k.plan;
+      tells = l.tells ∙ k.tells;
+      rose = subst R k.faults l.rose;
+      listed = subst L k.plan l.listed;
+    }
+
+-- a range of the slot is one of the slot as it became
+pub part_kept : (s t : Slot) (r : ByteRange) → IsKept s t → IsPart s.region.page (size_of s) r → IsPart t.region.page (size_of t) r
+part_kept s t r k part =
+    rw (k.page, k.static_size) part
+
+-- the next range is decommitted
+pub rest_next : (rs : List ByteRange) (i : ℕ) (d : ByteRange) (s t u : Slot) → i < length rs → decommitted_all (drop i rs) s ≡ t → u ≡ called (decommitting (s.base.bytes + (get_or rs i d).start) (get_or rs i d).len) s → decommitted_all (drop (i + 1) rs) u ≡ t
+rest_next rs i d s t u inside rest now =
+    let D : List ByteRange → Type 0 = λ l. decommitted_all l s ≡ t in
+    let first : decommitted_all (get_or rs i d ∷ drop (suc i) rs) s ≡ t = subst D (drop-cons rs i d inside) rest in
+    rw (add-one, now) first

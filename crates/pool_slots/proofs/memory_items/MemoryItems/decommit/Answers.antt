@@ -1,0 +1,34 @@
+use Rattle.std.proofs.Common.{◌≡◌, ◌<◌, List, length, refl, sym, ap, ◌∙◌, subst, arith}
+use Rattle.std.specs.Prelude.{slice_index_or, slice_set}
+use Rattle.std.specs.List.{HoldsAt}
+use Rattle.std.proofs.lemmas.List.{get_or_read}
+use Rattle.std.proofs.lemmas.Result.{on_ok_weaker, on_err_weaker}
+use Rattle.pool_images.specs.Slots.{IsPart, size_of}
+use Rattle.pool_slots.specs.Queues.{QueuedMemory, MemoryList, decommitted_at, IsLeftItem}
+use Rattle.pool_slots.proofs.memory_items.MemoryItems.decommit.Goals as goal
+
+pub decommit-requires-after_bounds : goal.decommit-requires-after_bounds
+decommit-requires-after_bounds g c κs within =
+    let m : QueuedMemory = c.index_mut-item.result.now in
+    let P : QueuedMemory → Type 0 = λ x. IsPart x.slot.region.page (size_of x.slot) c.args.range in
+    let part : HoldsAt P c.self.inside.list.items c.args.at = rw (← c.self.view_is) at c.requires.part in
+    subst P (sym c.index_mut-item.ensures.value) (part m)
+
+pub returns-clause-ok : goal.returns-clause-ok
+returns-clause-ok g c =
+    let xs : List QueuedMemory = c.self.inside.list.items in
+    let m : QueuedMemory = c.index_mut-item.result.now in
+    let inside : c.args.at < length xs = rw (← c.self.view_is) at c.requires.inside in
+    let read : (d : QueuedMemory) → m ≡ slice_index_or xs c.args.at d = λ d. get_or_read xs c.args.at m inside c.index_mut-item.ensures.value d in
+    rw (← c.self.view_is) (on_ok_weaker c.decommit.result
+    (λ e d. ap (λ (x : QueuedMemory). record { items = slice_set xs c.args.at x; room = c.self.inside.room }) (e ∙ ap (λ (x : QueuedMemory). record x { slot = decommitted_at c.args.range x.slot }) (read d)))
+    c.decommit.ensures.ok)
+
+pub returns-clause-err : goal.returns-clause-err
+returns-clause-err g c =
+    let xs : List QueuedMemory = c.self.inside.list.items in
+    let m : QueuedMemory = c.index_mut-item.result.now in
+    let inside : c.args.at < length xs = rw (← c.self.view_is) at c.requires.inside in
+    let read : (d : QueuedMemory) → m ≡ slice_index_or xs c.args.at d = λ d. get_or_read xs c.args.at m inside c.index_mut-item.ensures.value d in
+    let L : QueuedMemory → Type 0 = λ x. IsLeftItem x c.decommit.new.self in
+    rw (← c.self.view_is) (on_err_weaker c.decommit.result (λ e d. (c.decommit.new.self, subst L (read d) e, refl)) c.decommit.ensures.err)

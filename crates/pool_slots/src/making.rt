@@ -1,0 +1,56 @@
+ghost use Rattle.std.specs.Prelude.{◌≡◌, ◌%◌, ◌<◌, length, false, IfOk, IfSome, MatchResult};
+ghost use Rattle.pool_pages.specs.Count.{count};
+ghost use Rattle.pool_pages.specs.MakerTold.{fails_making, made_region};
+ghost use Rattle.pool_slots.specs.Cells.{unmapped};
+ghost use Rattle.pool_slots.specs.Pools.{RaisesFaults, IsListed, makes_listed};
+ghost use Rattle.pool_slots.specs.Turns.{AreMade};
+
+use crate::cells::MemoryCell;
+use crate::request::PoolNewError;
+use pool_pages::{HostAlignedByteCount, MakeFault, PageMaker, Pages, RegionName};
+use std::alloc::Global;
+
+/// The cells of so many memory slots, each with a region of this length of which nothing can be reached.
+pub fn make_cells<P: Pages, M: PageMaker<Region = P>>(
+    alloc: Global,
+    maker: &mut M,
+    total: u32,
+    len: HostAlignedByteCount,
+) -> Result<Vec<MemoryCell<P>>, PoolNewError>
+    ensures cells { IfOk result (λ v. AreMade (M.told maker.old) total len v.items) }
+    ensures maker { M.told maker.new ≡ record (M.told maker.old) { faults = (M.told maker.new).faults } }
+    ensures faults { MatchResult result (λ _. (M.told maker.new).faults ≡ (M.told maker.old).faults) (RaisesFaults (M.told maker.old).faults (M.told maker.new).faults) }
+    ensures planned { MatchResult result (λ _. IfSome (M.told maker.old).plan (λ plan. makes_listed plan total ≡ false)) (λ e. IfSome (M.told maker.old).plan (λ plan. IsListed (makes_listed plan total) e)) }
+{
+    let Ok(mut cells) = Vec::with_capacity(alloc, total as usize) else {
+        return Err(PoolNewError::Memory);
+    };
+    for slot in 0..total {
+        let cell = match make_cell(alloc, maker, slot, len) {
+            Ok(cell) => cell,
+            Err(refusal) => return Err(refusal),
+        };
+        let Ok(()) = cells.push(cell) else {
+            return Err(PoolNewError::Memory);
+        };
+    }
+    Ok(cells)
+}
+
+fn make_cell<P: Pages, M: PageMaker<Region = P>>(
+    alloc: Global,
+    maker: &mut M,
+    slot: u32,
+    len: HostAlignedByteCount,
+) -> Result<MemoryCell<P>, PoolNewError>
+    ensures cell { IfOk result (λ cell. cell ≡ unmapped (made_region (RegionName.Memory slot) (count len.page 0) len (M.told maker.old))) }
+    ensures maker { M.told maker.new ≡ record (M.told maker.old) { faults = (M.told maker.new).faults } }
+    ensures faults { MatchResult result (λ _. (M.told maker.new).faults ≡ (M.told maker.old).faults) (RaisesFaults (M.told maker.old).faults (M.told maker.new).faults) }
+    ensures planned { MatchResult result (λ _. IfSome (M.told maker.old).plan (λ plan. fails_making (RegionName.Memory slot) plan ≡ false)) (λ e. IfSome (M.told maker.old).plan (λ plan. IsListed (fails_making (RegionName.Memory slot) plan) e)) }
+{
+    match maker.make(alloc, RegionName::Memory(slot), len.page().zero(), len) {
+        Ok(region) => Ok(MemoryCell::new(region)),
+        Err(MakeFault::Memory) => Err(PoolNewError::Memory),
+        Err(MakeFault::PageFault) => Err(PoolNewError::PageFault),
+    }
+}
