@@ -3,6 +3,7 @@ pub mod Calls
 pub mod CanStep
 pub mod Freeing
 pub mod Leases
+pub mod Made
 pub mod Modules
 pub mod Own
 pub mod Places

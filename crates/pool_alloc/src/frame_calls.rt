@@ -1,11 +1,51 @@
 ghost use Rattle.std.specs.Prelude.{◌≡◌, ◌<◌, ◌^◌, length};
+ghost use Rattle.pool_alloc.specs.Calls.{IsIdle, begun_call, gives_back};
+ghost use Rattle.pool_alloc.specs.Sums.{calls_in_frame, calls_in_phase};
 ghost use Rattle.pool_alloc.specs.Steps.{memories_asked, wanted};
 
-use crate::frame::Frame;
+use crate::frame::{Call, Ending, Frame, Grant, Phase};
+use crate::lease::{InstanceLease, calls_of};
 use pool_index::MemoryInModule;
-use pool_pages::{DefinedMemoryIndex, Pages};
+use pool_pages::{DefinedMemoryIndex, PageCalls, Pages};
+use pool_slots::{add_calls, no_calls};
 
 impl<P: Pages> Frame<P> {
+    /// Begins a call. Takes no memory.
+    pub fn begin(&mut self, call: Call<P>)
+        requires { IsIdle self.old }
+        ensures { self.new ≡ begun_call call self.old }
+    {
+        match call {
+            Call::Key => self.phase = Phase::Key,
+            Call::Module(module) => {
+                self.asked = Some(module);
+                self.phase = Phase::Validate;
+            }
+            Call::GiveBack(Grant::Instance(lease)) => self.give_back(lease),
+        }
+    }
+
+    // The memories of an instance are given back in order, and then the instance.
+    fn give_back(&mut self, lease: InstanceLease<P>)
+        ensures { self.new ≡ gives_back (Grant.Instance lease) self.old }
+    {
+        self.phase = if lease.memories.is_empty() {
+            Phase::UncountInstance
+        } else {
+            Phase::UncountMemory
+        };
+        self.returning = lease.memories;
+        self.ending = Ending::Returned;
+    }
+
+    /// The calls made so far on the regions that the call under way has.
+    pub fn page_calls(&self) -> PageCalls
+        ensures { result ≡ calls_in_frame self.now }
+    {
+        let leased = add_calls(calls_of(&self.granted), calls_of(&self.returning));
+        add_calls(leased, add_calls(self.local.page_calls(), self.phase.page_calls()))
+    }
+
     // How many memories the module has that is asked for.
     pub(crate) fn memories_asked(&self) -> usize
         ensures { result ≡ length (memories_asked self.now.asked) }
@@ -25,6 +65,23 @@ impl<P: Pages> Frame<P> {
         match &self.asked {
             None => None,
             Some(call) => Some(MemoryInModule(call.id, index)),
+        }
+    }
+}
+
+impl<P: Pages> Phase<P> {
+    // The calls made so far on the region that the next step is made on.
+    fn page_calls(&self) -> PageCalls
+        ensures { result ≡ calls_in_phase self.now }
+    {
+        match self {
+            Phase::Empty(_, held) => held.region().calls(),
+            Phase::Instantiate(_, held) => held.region().calls(),
+            Phase::MakeMemory(_, held) => held.region().calls(),
+            Phase::PutRefused(_, held, _) => held.region().calls(),
+            Phase::CountMemory(lease) => lease.page_calls(),
+            Phase::Reset(lease) => lease.page_calls(),
+            _ => no_calls(),
         }
     }
 }
