@@ -1,7 +1,7 @@
 -- The steps of an allocation that have a region in their hands leave what is sound.
-use Rattle.std.proofs.Common.{◌≡◌, ℕ, ◌+◌, ◌<◌, ◌≤◌, Bool, true, false, List, [], ◌∷◌, ◌++◌, length, set, refl, sym, ap, subst, arith, Option, Result, Ok, Err, All}
-use Rattle.std.specs.Prelude.{◌&&◌, ◌^◌, nat_lt, IfSome, IsSome, IfOk, slice_get}
-use Rattle.std.proofs.lemmas.Bool.{ltb-true, ltb-false, cond_both}
+use Rattle.std.proofs.Common.{◌≡◌, ℕ, ◌+◌, ◌<◌, ◌≤◌, Bool, true, false, List, [], ◌∷◌, ◌++◌, length, set, sym, ap, subst, arith, Option, Result, Ok, Err}
+use Rattle.std.specs.Prelude.{◌&&◌, nat_lt, IfSome, IsSome, IfOk, slice_get}
+use Rattle.std.proofs.lemmas.Bool.{ltb-false, cond_both}
 use Rattle.std.proofs.lemmas.List.{length-set, length-append}
 use Rattle.std.proofs.lemmas.List.Elements.{All-push}
 use Rattle.pool_pages.specs.Count.{count, rounded_up}
@@ -10,7 +10,7 @@ use Rattle.pool_pages.specs.MakerTold.{MakerTold}
 use Rattle.pool_pages.specs.MemoryTypes.{minimum_byte_size}
 use Rattle.pool_pages.specs.declared.module_types.MemoryDecl.{MemoryDecl}
 use Rattle.pool_images.specs.Images.{Image}
-use Rattle.pool_images.specs.Slots.{Slot, IsFresh, IsClean, IsLeft, IsSized, IsBegun, resized, emptied, hides}
+use Rattle.pool_images.specs.Slots.{Slot, IsFresh, IsSized, resized, hides}
 use Rattle.pool_images.proofs.Begun.{rounded_up_above}
 use Rattle.pool_index.specs.Shard.{ShardState, use_of, after_free}
 use Rattle.pool_limits.specs.Limiter.{Asked, yes, no, fails}

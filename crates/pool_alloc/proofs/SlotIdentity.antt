@@ -1,6 +1,6 @@
 -- A slot stays that of its region, whatever calls were made on it.
-use Rattle.std.proofs.Common.{◌≡◌, ℕ, ◌+◌, ◌-◌, ◌^◌, ◌≤◌, ◌<◌, Bool, true, false, List, [], ◌∷◌, length, refl, ap, ◌∙◌, sym, subst, arith, Option, Some, None, All, replicate, slice_range}
-use Rattle.std.specs.Prelude.{IfSome, is_some, option_map, map, cond, if◌then◌else◌}
+use Rattle.std.proofs.Common.{◌≡◌, ℕ, ◌+◌, ◌-◌, ◌^◌, ◌≤◌, Bool, true, false, List, [], ◌∷◌, length, refl, ap, ◌∙◌, sym, subst, arith, Option, Some, None, All, replicate, slice_range}
+use Rattle.std.specs.Prelude.{IfSome, is_some, option_map, map, if◌then◌else◌}
 use Rattle.std.specs.List.{AllZip}
 use Rattle.std.proofs.lemmas.List.{length-map, length-replicate}
 use Rattle.std.proofs.lemmas.List.Elements.{All-nil, All-cons, All-head, All-tail}
@@ -11,7 +11,7 @@ use Rattle.pool_pages.specs.MakerTold.{MakerTold, fresh}
 use Rattle.pool_images.specs.declared.ranges.ByteRange.{ByteRange}
 use Rattle.pool_images.specs.Slots.{Slot, IsFresh, IsClean, IsReady, IsLeft, IsSized, Holds, size_of, called, emptied, decommitted_all}
 use Rattle.pool_images.proofs.Marks.{range-zeros}
-use Rattle.pool_slots.specs.Cells.{IsRegionOf, IsSlotOf, region_made}
+use Rattle.pool_slots.specs.Cells.{IsSlotOf, region_made}
 use Rattle.pool_slots.specs.Queues.{QueueState, QueuedMemory, IsLeftBy, IsSlotLeft, is_of, front, first_slot, change_at, after_run}
 use Rattle.pool_slots.specs.declared.queued_range.QueueKind.TheVariants.{Memory}
 use Rattle.pool_alloc.specs.Own.{image_made}
