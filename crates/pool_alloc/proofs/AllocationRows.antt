@@ -1,45 +1,37 @@
 -- Each step of an allocation leaves what is sound.
-use Rattle.std.proofs.Common.{◌≡◌, ℕ, zero, suc, ◌+◌, ◌*◌, ◌%◌, ◌<◌, ◌≤◌, Bool, true, false, List, [], ◌∷◌, ◌++◌, length, get_or, set, refl, sym, ap, ◌∙◌, subst, arith, Option, Some, None, Result, Ok, Err, All}
-use Rattle.std.specs.Prelude.{◌==◌, ◌&&◌, nat_lt, nat_le, if◌then◌else◌, IfSome, IfOk, IsSome, slice_get}
-use Rattle.std.proofs.lemmas.Bool.{ltb-true, ltb-false, leb-true, cond_both}
-use Rattle.std.proofs.lemmas.List.{length-set, length-append}
-use Rattle.std.proofs.lemmas.List.Elements.{All-nil, All-push}
-use Rattle.std.proofs.Math.Nat.{mod-lt}
-use Rattle.pool_pages.specs.Count.{rounded_up}
+use Rattle.std.proofs.Common.{◌≡◌, ℕ, zero, suc, ◌+◌, ◌%◌, ◌<◌, ◌≤◌, Bool, true, false, List, [], ◌∷◌, length, get_or, refl, sym, ap, arith, Option, Some, None}
+use Rattle.std.specs.Prelude.{◌==◌, nat_lt, nat_le, if◌then◌else◌, IfSome, IsSome, slice_get}
+use Rattle.std.proofs.lemmas.Bool.{ltb-true, leb-true}
+use Rattle.std.proofs.lemmas.List.{length-set}
+use Rattle.std.proofs.lemmas.List.Elements.{All-nil}
 use Rattle.pool_pages.specs.MakerTold.{MakerTold}
 use Rattle.pool_pages.specs.MemoryTypes.{minimum_byte_size}
 use Rattle.pool_pages.specs.declared.module_types.MemoryDecl.{MemoryDecl}
 use Rattle.pool_pages.specs.declared.unsupported.Unsupported.{Unsupported}
 use Rattle.pool_images.specs.Images.{Image}
-use Rattle.pool_images.specs.Slots.{Slot, IsClean, IsLeft, IsSized, IsInUse, FitsInto, resized, emptied, hides}
-use Rattle.pool_images.proofs.Begun.{rounded_up_above}
+use Rattle.pool_images.specs.Slots.{FitsInto}
 use Rattle.pool_index.specs.Shard.{ShardState, slot_number, after_pick, pick_answer}
 use Rattle.pool_index.specs.declared.ids.SlotId.{SlotId}
-use Rattle.pool_memory.specs.Memories.{MemoryState}
-use Rattle.pool_slots.specs.Cells.{Cell, unmapped, unknown, previously_used, taken, is_taken, IsCell, IsSlotOf}
 use Rattle.pool_slots.specs.Queues.{QueueState, after_take, taken_into}
 use Rattle.pool_slots.specs.declared.request.AllocError.{AllocError}
 use Rattle.pool_slots.specs.declared.request.AllocError.TheVariants as refusal
 use Rattle.pool_slots.specs.declared.request.ConcurrencyKind.TheVariants.{CoreInstances}
-use Rattle.pool_alloc.specs.Leases.{Lease, IsMemory}
-use Rattle.pool_alloc.specs.Own.{memories_refused, memory_made}
-use Rattle.pool_alloc.specs.Steps.{Given, memories_asked, images_asked, image_wanted, wanted, shard_at, cell_at, queue_at, shard_of, local_of, with_shard, with_cell, with_queue, counting_instances, counting_memories, goes, ends, allocate_next, refuses, no_slot, flushes, shard_tried, queue_tried, key_row, validated, validate_row, count_instance_row, picked, pick_row, took, take_queue_row, holds_region, take_region_row, empty_row, instantiate_row, made, make_memory_row, count_memory_row, put_refused_row, free_refused_row}
-use Rattle.pool_alloc.specs.Answers.{Empties, InstantiatesAs, InstantiatesFor}
-use Rattle.pool_alloc.specs.Sound.{IsCore, IsSettings, IsShared, IsLocal, IsLeaseOf, IsSettled, IsAtRest, IsAllocating, IsSupported, AreSupported, AreImagesOf, HasImages, HasSlot, HasBegun, IsNew, IfAllocated}
+use Rattle.pool_alloc.specs.Leases.{Lease}
+use Rattle.pool_alloc.specs.Own.{memories_refused}
+use Rattle.pool_alloc.specs.Steps.{memories_asked, images_asked, wanted, shard_at, queue_at, with_shard, with_queue, counting_instances, goes, ends, allocate_next, refuses, no_slot, flushes, shard_tried, queue_tried, key_row, validated, validate_row, count_instance_row, picked, pick_row, take_queue_row}
+use Rattle.pool_alloc.specs.Sound.{IsCore, IsShared, IsLeaseOf, IsSettled, IsAtRest, IsAllocating, IsSupported, AreSupported, AreImagesOf, HasImages}
 use Rattle.pool_alloc.specs.declared.pool_core.PoolCore.{PoolCore}
-use Rattle.pool_alloc.specs.declared.pool_core.Counters.{Counters}
 use Rattle.pool_alloc.specs.declared.pool_core.Settings.{Settings}
 use Rattle.pool_alloc.specs.declared.frame.Frame.{Frame}
-use Rattle.pool_alloc.specs.declared.frame.Phase.TheVariants.{Pick, TakeRegion, Empty, Instantiate, MakeMemory, CountMemory, PutRefused, FreeRefused, CountInstance}
+use Rattle.pool_alloc.specs.declared.frame.Phase.TheVariants.{Pick, TakeRegion, CountInstance}
 use Rattle.pool_alloc.specs.declared.frame.AfterFlush.TheVariants.{PickAgain}
 use Rattle.pool_alloc.specs.declared.frame.Outcome.TheVariants as answer
 use Rattle.pool_alloc.proofs.Telling.{mod_below, told_both, told_weaker}
-use Rattle.pool_alloc.proofs.CoreChanges.{core_with_shard, core_with_cell, core_with_queue, core_with_counters}
-use Rattle.pool_alloc.proofs.SlotIdentity.{IsOneSlot, one_left, one_sized, one_emptied, slot_of_one, slot_made, clean_made}
-use Rattle.pool_alloc.proofs.QueueJoins.{no_ranges, owners_same}
+use Rattle.pool_alloc.proofs.CoreChanges.{core_with_shard, core_with_queue, core_with_counters}
+use Rattle.pool_alloc.proofs.QueueJoins.{no_ranges}
 use Rattle.pool_alloc.proofs.LocalQueues.{taken_shared, taken_local, local_of_shared}
 use Rattle.pool_alloc.proofs.Picks.{picked_sound, picked_same, picked_inside}
-use Rattle.pool_alloc.proofs.Going.{Held, IsSoundAfter, either, goes_on, goes_either, ended, refused, allocates_next, no_slot_found, begins_flush, empty_length, some_length}
+use Rattle.pool_alloc.proofs.Going.{Held, IsSoundAfter, either, goes_on, ended, refused, allocates_next, no_slot_found, begins_flush, empty_length, some_length}
 
 -- The memories of a module that breaks no rule are supported.
 fits_first : (b : Bool) (rest : Option Unsupported) (rule : Unsupported) → (if b then rest else Some rule) ≡ None → (b ≡ true) × (rest ≡ None)

@@ -1,18 +1,17 @@
 -- A party's frame as it is made, and as a call begins in it.
-use Rattle.std.proofs.Common.{◌≡◌, ℕ, ◌+◌, ◌*◌, ◌<◌, ◌≤◌, Bool, true, false, List, [], length, refl, sym, ap, ◌∙◌, subst, arith}
+use Rattle.std.proofs.Common.{◌≡◌, ℕ, ◌+◌, ◌<◌, Bool, true, false, [], length, refl, subst, arith}
 use Rattle.std.specs.Prelude.{◌==◌, if◌then◌else◌}
 use Rattle.std.proofs.lemmas.List.Elements.{All-nil}
 use Rattle.pool_pages.specs.MakerTold.{MakerTold}
-use Rattle.pool_alloc.specs.Leases.{Lease}
-use Rattle.pool_alloc.specs.Places.{Thing, leased_count, queued_count, freed_count, phase_count, frame_count, phase_instances, frame_memories}
-use Rattle.pool_alloc.specs.Sound.{IsCore, IsFrame, IsLeaseOf, IsQueuedOf, IsAtRest, IsShapedAt}
+use Rattle.pool_alloc.specs.Places.{Thing, leased_count, phase_count, frame_count, phase_instances, frame_memories}
+use Rattle.pool_alloc.specs.Sound.{IsCore, IsFrame, IsLeaseOf, IsQueuedOf, IsAtRest}
 use Rattle.pool_alloc.specs.Stepping.{grant_count, grant_instances, grant_memories}
 use Rattle.pool_alloc.specs.Calls.{frame_made, IsIdle, IsGrant, MayBegin, gives_back, begun_call, call_has}
 use Rattle.pool_alloc.specs.declared.pool_core.PoolCore.{PoolCore}
 use Rattle.pool_alloc.specs.declared.pool_core.Settings.{Settings}
 use Rattle.pool_alloc.specs.declared.frame.Frame.{Frame}
 use Rattle.pool_alloc.specs.declared.frame.Phase.{Phase}
-use Rattle.pool_alloc.specs.declared.frame.Phase.TheVariants.{Idle, Key, Validate, UncountMemory, UncountInstance}
+use Rattle.pool_alloc.specs.declared.frame.Phase.TheVariants.{Idle, Key, UncountMemory, UncountInstance}
 use Rattle.pool_alloc.specs.declared.frame.Grant.{Grant}
 use Rattle.pool_alloc.specs.declared.frame.Grant.TheVariants.{Instance}
 use Rattle.pool_alloc.specs.declared.frame.Call.{Call}

@@ -1,12 +1,12 @@
 -- The pool's parts stay sound where one of them changes.
-use Rattle.std.proofs.Common.{◌≡◌, ℕ, ◌<◌, List, length, refl, sym, subst, inl, inr, arith, get_or, set, ◌≤◌}
+use Rattle.std.proofs.Common.{◌≡◌, ℕ, ◌<◌, List, length, refl, sym, subst, inl, inr, get_or, set, ◌≤◌}
 use Rattle.std.proofs.lemmas.Bool.{cases_eq, cases_lt}
 use Rattle.std.proofs.lemmas.List.{length-set, get_or-set_same, get_or-set_other, set_past}
 use Rattle.pool_pages.specs.MakerTold.{MakerTold}
 use Rattle.pool_index.specs.Shard.{ShardState, IsShard, IsSameShard}
 use Rattle.pool_slots.specs.Cells.{Cell, IsCell}
 use Rattle.pool_slots.specs.Queues.{QueueState}
-use Rattle.pool_alloc.specs.Steps.{shard_at, cell_at, queue_at, shard_of, with_shard, with_cell, with_queue}
+use Rattle.pool_alloc.specs.Steps.{shard_at, shard_of, with_shard, with_cell, with_queue}
 use Rattle.pool_alloc.specs.Sound.{IsCore, IsLaidOut, IsShared}
 use Rattle.pool_alloc.specs.declared.pool_core.PoolCore.{PoolCore}
 use Rattle.pool_alloc.specs.declared.pool_core.Counters.{Counters}

@@ -1,5 +1,5 @@
 -- How a call goes on: what a step leaves is sound where the frame has what its next phase wants.
-use Rattle.std.proofs.Common.{◌≡◌, ℕ, ◌+◌, ◌*◌, ◌^◌, ◌<◌, ◌≤◌, Bool, true, false, List, [], ◌∷◌, ◌++◌, length, refl, sym, ap, ◌∙◌, subst, arith, Option, Some, None, All}
+use Rattle.std.proofs.Common.{◌≡◌, ℕ, ◌+◌, ◌*◌, ◌^◌, ◌<◌, ◌≤◌, Bool, true, false, List, [], ◌∷◌, length, refl, arith, Some, All}
 use Rattle.std.specs.Prelude.{◌==◌, nat_lt, if◌then◌else◌}
 use Rattle.std.proofs.lemmas.Bool.{ltb-true, ltb-false, eqb-true, eqb-false}
 use Rattle.std.proofs.lemmas.List.{nil_from_length}
@@ -13,7 +13,7 @@ use Rattle.pool_slots.specs.declared.request.ConcurrencyKind.TheVariants.{Memory
 use Rattle.pool_alloc.specs.Reserved.{Reserved, no_room}
 use Rattle.pool_alloc.specs.Leases.{Lease}
 use Rattle.pool_alloc.specs.Steps.{After, memories_asked, images_asked, goes, ends, give_back_next, refuses, allocate_next, flushes, after_flush, no_slot}
-use Rattle.pool_alloc.specs.Sound.{IsCore, IsFrame, IsLocal, IsLeaseOf, NothingWaits, NothingHeld, IsSettled, IsAtRest, IsAllocating, AreSupported, HasImages, IsShapedAt, IsShapedAfter}
+use Rattle.pool_alloc.specs.Sound.{IsCore, IsFrame, IsLocal, IsLeaseOf, IsSettled, IsAtRest, IsAllocating, AreSupported, HasImages, IsShapedAt, IsShapedAfter}
 use Rattle.pool_alloc.specs.Calls.{IsGrantOf, IfGranted}
 use Rattle.pool_alloc.specs.declared.pool_core.PoolCore.{PoolCore}
 use Rattle.pool_alloc.specs.declared.pool_core.Settings.{Settings}

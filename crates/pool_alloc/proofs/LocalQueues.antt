@@ -1,13 +1,19 @@
 -- Local and shared queues stay what they are as ranges and slots come and go.
-use Rattle.std.proofs.Common.{◌≡◌, ℕ, ◌+◌, ◌*◌, ◌<◌, ◌≤◌, Bool, true, false, List, [], ◌∷◌, ◌++◌, length, refl, sym, ◌∙◌, subst, arith}
+use Rattle.std.proofs.Common.{◌≡◌, ◌+◌, ◌*◌, ◌<◌, ◌≤◌, Bool, true, false, List, [], ◌∷◌, ◌++◌, length, refl, sym, ap, ◌∙◌, subst, arith, All}
+use Rattle.std.specs.Prelude.{map}
 use Rattle.std.specs.List.{AllByRecursion}
-use Rattle.std.proofs.lemmas.List.{length-append}
-use Rattle.std.proofs.lemmas.List.Elements.{All-nil, All-append, All-rest, length_all_zip}
+use Rattle.std.proofs.lemmas.List.{length-append, length-map}
+use Rattle.std.proofs.lemmas.Bool.{eq-eqb, or_left}
+use Rattle.std.proofs.lemmas.List.Elements.{All-nil, All-cons, All-append, All-rest, length_all_zip}
 use Rattle.pool_pages.specs.MakerTold.{MakerTold}
+use Rattle.pool_images.specs.declared.ranges.ByteRange.{ByteRange}
+use Rattle.pool_slots.specs.Cells.{IsSlotOf}
+use Rattle.pool_slots.specs.declared.queued_range.QueueKind.TheVariants.{Memory}
 use Rattle.pool_slots.specs.declared.queued_range.QueuedRange.{QueuedRange}
-use Rattle.pool_slots.specs.Queues.{QueueState, QueuedMemory, AreApart, IsLeftBy, is_held, after_take, taken_into, emptied, joined, first_slot, after_run}
+use Rattle.pool_slots.specs.Queues.{QueueState, QueuedMemory, AreDistinct, AreApart, LeavesClean, IsLeftBy, holds, is_held, with_memory, after_take, taken_into, emptied, joined, first_slot, after_run}
 use Rattle.pool_alloc.specs.Answers.{Decommits}
 use Rattle.pool_alloc.specs.Sound.{IsSettings, IsShared, IsLocal, IsQueuedOf}
+use Rattle.pool_alloc.specs.Relied.{IsResetLocal}
 use Rattle.pool_alloc.specs.declared.pool_core.Settings.{Settings}
 use Rattle.pool_alloc.proofs.SlotIdentity.{queued_after_run, length_after_run, queued_faulted}
 use Rattle.pool_alloc.proofs.QueueRuns.{run_queue, run_owners, faulted_queue, faulted_owners}
@@ -119,4 +125,48 @@ rest_local maker s m rest q none is local =
       slot_room = local.slot_room;
       regions = All-rest (IsQueuedOf maker s.max_memory_size) m rest q.memories is local.regions;
       queue = rest_queue m rest q is local.queue;
+    }
+
+-- The empty local queue with ranges of one slot and then that slot, which leaves clean once they are decommitted.
+owned_ranges : (ranges : List ByteRange) (m : QueuedMemory) (q : QueueState) → holds m.index q.memories ≡ true → AllByRecursion {X = QueuedRange} (λ r. is_held r.kind r.slot.0 q ≡ true) (map (λ r. record { kind = Memory; slot = record { 0 = m.index }; range = r }) ranges)
+owned_ranges [] m q held = tt
+owned_ranges (r ∷ rs) m q held = (held, owned_ranges rs m q held)
+
+alone : (m : QueuedMemory) → holds m.index (m ∷ []) ≡ true
+alone m = or_left _ _ (eq-eqb m.index m.index refl)
+
+one_slot_local : (maker : MakerTold) (s : Settings) (ranges : List ByteRange) (m : QueuedMemory) (q : QueueState) → q.range_room ≡ 2 * s.batch → q.slot_room ≡ 2 * s.batch → 1 ≤ s.batch → length ranges ≤ 2 * s.batch → IsQueuedOf maker s.max_memory_size m → q.ranges ≡ map (λ r. record { kind = Memory; slot = record { 0 = m.index }; range = r }) ranges → q.memories ≡ m ∷ [] → LeavesClean q.ranges m → IsLocal maker s q
+one_slot_local maker s ranges m q range_room slot_room some few of is holds_it leaves =
+    let listed : List QueuedRange = map (λ r. record { kind = Memory; slot = record { 0 = m.index }; range = r }) ranges in
+    let H : QueuedRange → Type 0 = λ r. is_held r.kind r.slot.0 q ≡ true in
+    let held : holds m.index q.memories ≡ true = rw holds_it (alone m) in
+    let long : length q.ranges ≡ length ranges = ap length is ∙ length-map ranges _ in
+    let one : length q.memories ≡ 1 = ap length holds_it in
+    let A : List QueuedMemory → Type 0 = λ ms. All (IsQueuedOf maker s.max_memory_size) ms in
+    let D : List QueuedMemory → Type 0 = λ ms. AreDistinct ms in
+    let E : List QueuedMemory → Type 0 = λ ms. AllByRecursion (LeavesClean q.ranges) ms in
+    record {
+      owners = subst (λ (rs : List QueuedRange). AllByRecursion H rs) (sym is) (owned_ranges ranges m q held);
+      range_room = range_room;
+      slot_room = slot_room;
+      regions = subst A (sym holds_it) (All-cons (IsQueuedOf maker s.max_memory_size) m [] of (All-nil (IsQueuedOf maker s.max_memory_size)));
+      queue = record {
+        range_room = omega arith;
+        slot_room = omega arith;
+        distinct = subst D (sym holds_it) (refl, tt);
+        each = subst E (sym holds_it) (leaves, tt);
+      };
+    }
+
+-- The local queue after a reset of a slot that it is told of: the ranges are few, and all of that slot.
+pub reset_local : (maker : MakerTold) (s : Settings) (ranges : List ByteRange) (m : QueuedMemory) (q : QueueState) → IsSettings s → IsLocal maker s q → q.ranges ≡ [] → q.memories ≡ [] → length ranges ≤ 2 * s.batch → IsSlotOf maker s.max_memory_size m.index m.slot → LeavesClean (map (λ r. record { kind = Memory; slot = record { 0 = m.index }; range = r }) ranges) m → IsResetLocal maker s (with_memory m (record q { ranges = q.ranges ++ map (λ r. record { kind = Memory; slot = record { 0 = m.index }; range = r }) ranges }))
+reset_local maker s ranges m q settings local none no_slots few of leaves =
+    let listed : List QueuedRange = map (λ r. record { kind = Memory; slot = record { 0 = m.index }; range = r }) ranges in
+    let q' : QueueState = with_memory m (record q { ranges = q.ranges ++ listed }) in
+    let first : q.ranges ++ listed ≡ listed = ap (λ (rs : List QueuedRange). rs ++ listed) none in
+    let only : q.memories ++ m ∷ [] ≡ m ∷ [] = ap (λ (ms : List QueuedMemory). ms ++ m ∷ []) no_slots in
+    let L : List QueuedRange → Type 0 = λ rs. LeavesClean rs m in
+    record {
+      queue = one_slot_local maker s ranges m q' local.range_room local.slot_room settings.batch.0 few (record { slot = of }) first only (subst L (sym first) leaves);
+      one = ap length only;
     }

@@ -2,12 +2,11 @@
 use Rattle.std.proofs.Common.{◌≡◌, ℕ, ◌+◌, ◌%◌, ◌^◌, ◌<◌, Bool, true, false, List, [], ◌∷◌, length, refl, arith, Option, Some, None}
 use Rattle.std.specs.Prelude.{IfSome, option_map, nat_lt, if◌then◌else◌}
 use Rattle.std.specs.Option.{option_or, option_map_or}
-use Rattle.std.proofs.lemmas.Bool.{ltb-true, cases_Bool}
+use Rattle.std.proofs.lemmas.Bool.{ltb-true}
 use Rattle.std.proofs.Math.Nat.{mod-lt}
 use Rattle.pool_index.specs.Affinity.{is_affine}
 use Rattle.pool_index.specs.Positions.{last_position}
 use Rattle.pool_index.specs.declared.ids.MemoryInModule.{MemoryInModule}
-use Rattle.pool_index.specs.declared.ids.SlotId.{SlotId}
 use Rattle.pool_index.specs.Shard.{ShardState, IsShard, IsSameShard, Choice, warm_at, next_cold, affine_choice, warm_choice, cold_choice, choice, slot_and_bytes, after_choice, after_full, after_pick, pick_answer, entry_at}
 use Rattle.pool_index.proofs.Shards.{IsFree, warm_slot_free, after_warm_sound, after_cold_sound}
 

@@ -1,7 +1,7 @@
 -- A queue stays one as it is appended to another, taken, or as its slots leave it.
 use Rattle.std.proofs.Common.{◌≡◌, ℕ, ◌+◌, ◌≤◌, Bool, true, false, List, [], ◌∷◌, ◌++◌, length, refl, sym, ap, ◌∙◌, subst, inl, inr, arith, All}
-use Rattle.std.specs.Prelude.{map, filter, cond, ◌==◌, ◌&&◌, ◌||◌}
-use Rattle.std.specs.List.{list_any, AllByRecursion}
+use Rattle.std.specs.Prelude.{map, filter, ◌==◌, ◌&&◌, ◌||◌}
+use Rattle.std.specs.List.{AllByRecursion}
 use Rattle.std.proofs.lemmas.Bool.{cases_eq, ne_eqb, or_parts, or_from, or_left, or_right, true≢false}
 use Rattle.std.proofs.lemmas.Bool.Decides.{nat_tests}
 use Rattle.std.proofs.lemmas.List.{length-append, append-nil, map-append}

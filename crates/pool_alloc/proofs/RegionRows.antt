@@ -1,15 +1,16 @@
 -- The steps of an allocation that have a region in their hands leave what is sound.
-use Rattle.std.proofs.Common.{◌≡◌, ℕ, ◌+◌, ◌<◌, ◌≤◌, Bool, true, false, List, [], ◌∷◌, ◌++◌, length, set, refl, sym, ap, subst, arith, Option, Result, Ok, Err, All}
-use Rattle.std.specs.Prelude.{◌&&◌, ◌^◌, nat_lt, IfSome, IsSome, IfOk, slice_get}
-use Rattle.std.proofs.lemmas.Bool.{ltb-true, ltb-false, cond_both}
+use Rattle.std.proofs.Common.{◌≡◌, ℕ, ◌+◌, ◌<◌, ◌≤◌, Bool, true, false, List, [], ◌∷◌, ◌++◌, length, set, sym, ap, subst, arith, Option, Result, Ok, Err}
+use Rattle.std.specs.Prelude.{◌&&◌, nat_lt, IfSome, IsSome, IfOk, slice_get}
+use Rattle.std.proofs.lemmas.Bool.{ltb-false, cond_both}
 use Rattle.std.proofs.lemmas.List.{length-set, length-append}
 use Rattle.std.proofs.lemmas.List.Elements.{All-push}
-use Rattle.pool_pages.specs.Count.{rounded_up}
+use Rattle.pool_pages.specs.Count.{count, rounded_up}
+use Rattle.pool_pages.specs.Told.{Told}
 use Rattle.pool_pages.specs.MakerTold.{MakerTold}
 use Rattle.pool_pages.specs.MemoryTypes.{minimum_byte_size}
 use Rattle.pool_pages.specs.declared.module_types.MemoryDecl.{MemoryDecl}
 use Rattle.pool_images.specs.Images.{Image}
-use Rattle.pool_images.specs.Slots.{Slot, IsClean, IsLeft, IsSized, IsBegun, resized, emptied, hides}
+use Rattle.pool_images.specs.Slots.{Slot, IsFresh, IsSized, resized, hides}
 use Rattle.pool_images.proofs.Begun.{rounded_up_above}
 use Rattle.pool_index.specs.Shard.{ShardState, use_of, after_free}
 use Rattle.pool_limits.specs.Limiter.{Asked, yes, no, fails}
@@ -29,7 +30,7 @@ use Rattle.pool_alloc.specs.declared.frame.Frame.{Frame}
 use Rattle.pool_alloc.specs.declared.frame.Phase.TheVariants.{Empty, Instantiate, MakeMemory, CountMemory, PutRefused, FreeRefused}
 use Rattle.pool_alloc.proofs.Telling.{told_both, told_weaker, told_there}
 use Rattle.pool_alloc.proofs.CoreChanges.{core_with_shard, core_with_cell, core_with_counters}
-use Rattle.pool_alloc.proofs.SlotIdentity.{IsOneSlot, one_left, one_sized, one_emptied, slot_of_one, slot_made, clean_made}
+use Rattle.pool_alloc.proofs.SlotIdentity.{IsOneSlot, one_left, one_sized, one_emptied, slot_of_one, slot_made, clean_made, fresh_made}
 use Rattle.pool_alloc.proofs.ShardFrees.{IsShardOf, freed_shard}
 use Rattle.pool_alloc.proofs.Going.{Held, IsSoundAfter, goes_on, goes_either, refused, allocates_next}
 
@@ -88,6 +89,15 @@ module _ {P : Type 0} where
 
   pub take_region_kept : (maker : MakerTold) (decls : List MemoryDecl) (slot : ℕ) (c : PoolCore P) (f : Frame P) → IsCore maker c → Held maker c.settings f → IsSettled f → IsAllocating c.settings f → slot < length c.cells → is_taken (cell_at slot c.cells) ≡ false → IsSoundAfter maker decls (take_region_row slot c f)
   take_region_kept maker decls slot c f core held settled allocating inside there = holds_kept maker decls slot (cell_at slot c.cells) c f core held settled allocating inside (core.cells slot inside) there
+
+  -- A region that was never used can be made an image slot of.
+  fresh_cell : (maker : MakerTold) (slot : ℕ) (cell : Cell) (c : PoolCore P) → IsCore maker c → IsCell maker c.settings.max_memory_size slot cell → (region : Told) → cell ≡ unmapped region → IsFresh (count c.settings.page 0) (count c.settings.page 0) c.settings.max_memory_size region
+  fresh_cell maker slot cell c core holds region is =
+      let C : Cell → Type 0 = λ x. IsCell maker c.settings.max_memory_size slot x in
+      fresh_made maker c.settings.page c.settings.max_memory_size slot region core.page core.settings.bounded (subst C is holds)
+
+  pub region_is_fresh : (maker : MakerTold) (slot : ℕ) (c : PoolCore P) → IsCore maker c → slot < length c.cells → (region : Told) → cell_at slot c.cells ≡ unmapped region → IsFresh (count c.settings.page 0) (count c.settings.page 0) c.settings.max_memory_size region
+  region_is_fresh maker slot c core inside region is = fresh_cell maker slot (cell_at slot c.cells) c core (core.cells slot inside) region is
 
   -- The slot is emptied.
   pub empty_kept : (maker : MakerTold) (decls : List MemoryDecl) (fault : Bool) (new : Slot) (slot : ℕ) (had : Slot) (c : PoolCore P) (f : Frame P) → IsCore maker c → Held maker c.settings f → IsSettled f → IsAllocating c.settings f → HasSlot maker c.settings (length c.cells) slot had → Empties fault had new → IsSoundAfter maker decls (empty_row fault new slot c f)

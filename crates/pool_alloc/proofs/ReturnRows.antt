@@ -1,8 +1,8 @@
 -- Each step of a give-back and of a flush leaves what is sound.
-use Rattle.std.proofs.Common.{◌≡◌, ℕ, ◌+◌, ◌-◌, ◌%◌, ◌^◌, ◌<◌, ◌≤◌, Bool, true, false, List, [], ◌∷◌, ◌++◌, length, refl, sym, ap, ◌∙◌, subst, inl, inr, arith, Some, All}
+use Rattle.std.proofs.Common.{◌≡◌, ℕ, ◌+◌, ◌-◌, ◌^◌, ◌<◌, ◌≤◌, Bool, true, false, List, [], ◌∷◌, ◌++◌, length, refl, sym, ap, inl, inr, arith, Some, All}
 use Rattle.std.specs.Prelude.{◌==◌, ◌||◌, not, nat_le, filter, if◌then◌else◌}
-use Rattle.std.proofs.lemmas.Bool.{cases_lt, leb-true, leb-false, or_parts}
-use Rattle.std.proofs.lemmas.List.{length-set, length-append}
+use Rattle.std.proofs.lemmas.Bool.{cases_lt, leb-false, or_parts}
+use Rattle.std.proofs.lemmas.List.{length-append}
 use Rattle.std.proofs.lemmas.List.Elements.{All-head, All-tail, All-same, All-push, All-filter}
 use Rattle.std.proofs.lemmas.List.Filters.{length-filter_both}
 use Rattle.pool_pages.specs.MakerTold.{MakerTold}
@@ -14,7 +14,7 @@ use Rattle.pool_slots.specs.Queues.{QueueState, QueuedMemory, AreApart, LeavesCl
 use Rattle.pool_alloc.specs.Leases.{Lease}
 use Rattle.pool_alloc.specs.Reserved.{with_item}
 use Rattle.pool_alloc.specs.Own.{reset_into}
-use Rattle.pool_alloc.specs.Steps.{shard_at, queue_at, shard_of, freed_of, freed_elsewhere, first_shard, after_frees, cell_returned, goes, give_back_next, flushes, after_flush, queue_tried, with_shard, with_cell, with_queue, counting_instances, counting_memories, returns, uncount_memory_row, was_reset, reset_row, merged, merge_row, decommit_row, puts, put_region_row, were_freed, free_row, answer_of, uncount_instance_row}
+use Rattle.pool_alloc.specs.Steps.{shard_at, queue_at, shard_of, freed_of, freed_elsewhere, first_shard, after_frees, cell_returned, goes, give_back_next, flushes, after_flush, queue_tried, with_shard, with_cell, with_queue, counting_instances, counting_memories, returns, uncount_memory_row, reset_row, merge_row, decommit_row, puts, put_region_row, free_row, answer_of, uncount_instance_row}
 use Rattle.pool_alloc.specs.Answers.{Decommits}
 use Rattle.pool_alloc.specs.Sound.{IsCore, IsShared, IsLocal, IsLeaseOf, IsQueuedOf, IsSettled, IsAtRest, IsShapedAfter}
 use Rattle.pool_alloc.specs.Calls.{IsGrantOf, IfGranted}

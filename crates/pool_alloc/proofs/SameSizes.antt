@@ -1,6 +1,6 @@
 -- No step changes the settings, or how many slots, shards and queues there are; so the other parties' frames stay sound.
-use Rattle.std.proofs.Common.{◌≡◌, ℕ, ◌+◌, ◌-◌, ◌%◌, ◌^◌, Bool, true, false, List, [], ◌∷◌, length, refl, sym, subst, Option, Some, None, Result, Ok, Err}
-use Rattle.std.specs.Prelude.{◌==◌, ◌||◌, nat_lt, nat_le, if◌then◌else◌}
+use Rattle.std.proofs.Common.{ℕ, ◌+◌, ◌-◌, Bool, true, false, List, [], ◌∷◌, length, refl, Option, Some, None, Result, Ok, Err}
+use Rattle.std.specs.Prelude.{◌==◌, nat_lt, nat_le, if◌then◌else◌}
 use Rattle.std.proofs.lemmas.List.{length-set}
 use Rattle.pool_pages.specs.MakerTold.{MakerTold}
 use Rattle.pool_pages.specs.declared.unsupported.Unsupported.{Unsupported}
@@ -14,7 +14,7 @@ use Rattle.pool_slots.specs.declared.request.AllocError.{AllocError}
 use Rattle.pool_alloc.specs.Leases.{Lease}
 use Rattle.pool_alloc.specs.Reserved.{with_item}
 use Rattle.pool_alloc.specs.Own.{memories_refused, memory_made}
-use Rattle.pool_alloc.specs.Steps.{Given, After, memories_asked, wanted, shard_at, cell_at, queue_at, shard_tried, queue_tried, with_shard, with_cell, with_queue, allocate_next, no_slot, flushes, after_flush, validated, picked, took, holds_region, made, returns, was_reset, merged, puts, were_freed, row, row_of}
+use Rattle.pool_alloc.specs.Steps.{Given, After, memories_asked, wanted, shard_at, cell_at, queue_at, shard_tried, queue_tried, with_shard, with_cell, with_queue, allocate_next, no_slot, after_flush, validated, picked, holds_region, made, returns, puts, row, row_of}
 use Rattle.pool_alloc.specs.Sound.{IsFrame, IsShapedAt}
 use Rattle.pool_alloc.specs.Stepping.{IsSameSize}
 use Rattle.pool_alloc.specs.declared.pool_core.PoolCore.{PoolCore}

@@ -1,16 +1,17 @@
 -- A slot stays that of its region, whatever calls were made on it.
-use Rattle.std.proofs.Common.{◌≡◌, ℕ, ◌+◌, ◌-◌, ◌^◌, ◌≤◌, ◌<◌, Bool, true, false, List, [], ◌∷◌, length, refl, ◌∙◌, sym, subst, arith, Option, Some, None, All, replicate}
-use Rattle.std.specs.Prelude.{IfSome, is_some, option_map, map, cond, if◌then◌else◌}
+use Rattle.std.proofs.Common.{◌≡◌, ℕ, ◌+◌, ◌-◌, ◌^◌, ◌≤◌, Bool, true, false, List, [], ◌∷◌, length, refl, ap, ◌∙◌, sym, subst, arith, Option, Some, None, All, replicate, slice_range}
+use Rattle.std.specs.Prelude.{IfSome, is_some, option_map, map, if◌then◌else◌}
 use Rattle.std.specs.List.{AllZip}
 use Rattle.std.proofs.lemmas.List.{length-map, length-replicate}
 use Rattle.std.proofs.lemmas.List.Elements.{All-nil, All-cons, All-head, All-tail}
 use Rattle.pool_pages.specs.Count.{count, rounded_up}
-use Rattle.pool_pages.specs.Contents.{Contents}
+use Rattle.pool_pages.specs.Contents.{Contents, CanReach}
 use Rattle.pool_pages.specs.Told.{Told, PageCall, decommitting}
 use Rattle.pool_pages.specs.MakerTold.{MakerTold, fresh}
 use Rattle.pool_images.specs.declared.ranges.ByteRange.{ByteRange}
-use Rattle.pool_images.specs.Slots.{Slot, IsClean, IsReady, IsLeft, IsSized, Holds, size_of, called, emptied, decommitted_all}
-use Rattle.pool_slots.specs.Cells.{IsRegionOf, IsSlotOf, region_made}
+use Rattle.pool_images.specs.Slots.{Slot, IsFresh, IsClean, IsReady, IsLeft, IsSized, Holds, size_of, called, emptied, decommitted_all}
+use Rattle.pool_images.proofs.Marks.{range-zeros}
+use Rattle.pool_slots.specs.Cells.{IsSlotOf, region_made}
 use Rattle.pool_slots.specs.Queues.{QueueState, QueuedMemory, IsLeftBy, IsSlotLeft, is_of, front, first_slot, change_at, after_run}
 use Rattle.pool_slots.specs.declared.queued_range.QueueKind.TheVariants.{Memory}
 use Rattle.pool_alloc.specs.Own.{image_made}
@@ -146,6 +147,39 @@ clean_made maker page static_size i region paged is =
     let s : Slot = image_made maker.page static_size fresh_region in
     let told = parts_told (IsReady s) (Holds s 0 (size_of s)) fresh_region.contents (made_told maker.page static_size (rounded_up maker.page static_size) maker.tells fresh_region) in
     let made : P maker.page (region_made maker static_size i) = record { not_dirty = refl; ready = told.0; holds = told.1 } in
+    subst (λ (n : ℕ). P n region) (sym paged) (subst (P maker.page) (sym is) made)
+
+-- and the image slot can be made of it
+fresh_told : (page len : ℕ) (tells : Bool) → IfSome (if tells then Some (fresh page 0 len) else None) (λ c. (c.origin ≡ replicate len 0) × (slice_range c.bytes 0 (0 + len) ≡ replicate len 0) × CanReach 0 0 c)
+fresh_told page len true =
+    let all : 0 + len - 0 ≡ len = omega arith in
+    (refl, range-zeros len 0 (0 + len) (omega arith) ∙ ap (λ (n : ℕ). replicate {A = ℕ} n 0) all, λ k from below. absurd (omega arith))
+fresh_told page len false = tt
+
+weaker : (P Q : Contents → Type 0) (o : Option Contents) → ((c : Contents) → P c → Q c) → IfSome o P → IfSome o Q
+weaker P Q None step h = h
+weaker P Q (Some c) step h = step c h
+
+pub fresh_made : (maker : MakerTold) (page static_size i : ℕ) (region : Told) → page ≡ maker.page → static_size + page ≤ 2 ^ 64 → region ≡ region_made maker static_size i → IsFresh (count page 0) (count page 0) static_size region
+fresh_made maker page static_size i region paged bounded is =
+    let P : ℕ → Told → Type 0 = λ n t. IsFresh (count n 0) (count n 0) static_size t in
+    let B : ℕ → Type 0 = λ n. static_size + n ≤ 2 ^ 64 in
+    let t : Told = region_made maker static_size i in
+    let len : ℕ = rounded_up maker.page static_size in
+    let T : Contents → Type 0 = λ c. (c.origin ≡ replicate len 0) × (slice_range c.bytes 0 (0 + len) ≡ replicate len 0) × CanReach 0 0 c in
+    let told : IfSome t.contents T = fresh_told maker.page len maker.tells in
+    let made : P maker.page t =
+    record {
+      base_page = refl;
+      accessible_page = refl;
+      inside = omega arith;
+      bounded = subst B paged bounded;
+      within = omega arith;
+      behaviour = refl;
+      origin = weaker T (λ c. c.origin ≡ replicate len 0) t.contents (λ c h. h.0) told;
+      zeros = weaker T (λ c. slice_range c.bytes 0 (0 + len) ≡ replicate len 0) t.contents (λ c h. h.1) told;
+      reach = weaker T (CanReach 0 0) t.contents (λ c h. h.2) told;
+    } in
     subst (λ (n : ℕ). P n region) (sym paged) (subst (P maker.page) (sym is) made)
 
 -- Queued slots stay those of their regions as ranges of one are decommitted.

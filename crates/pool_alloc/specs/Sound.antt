@@ -1,18 +1,16 @@
 -- What holds of the pool's parts, and of a party's frame, between steps.
-use Rattle.std.specs.Prelude.{◌≡◌, ℕ, ◌+◌, ◌*◌, ◌%◌, ◌^◌, ◌<◌, ◌≤◌, List, [], length, slice_get, slice_index_or, All, Bool, true, false, Option, Some, None, IsSome, IfSome}
-use Rattle.std.specs.Arc.{arc_value}
-use Rattle.std.specs.List.{AllByRecursion}
+use Rattle.std.specs.Prelude.{◌≡◌, ℕ, ◌+◌, ◌*◌, ◌%◌, ◌^◌, ◌<◌, ◌≤◌, List, [], length, slice_get, slice_index_or, All, Option, None, IsSome, IfSome}
 use Rattle.pool_pages.specs.Count.{IsPageSize}
 use Rattle.pool_pages.specs.MakerTold.{MakerTold}
 use Rattle.pool_pages.specs.MemoryTypes.{minimum_byte_size, refused_limits}
 use Rattle.pool_pages.specs.declared.module_types.MemoryDecl.{MemoryDecl}
 use Rattle.pool_images.specs.Images.{Image}
-use Rattle.pool_images.specs.Slots.{Slot, IsClean, IsBegun, IsInUse, FitsInto}
+use Rattle.pool_images.specs.Slots.{Slot, IsClean, IsBegun, FitsInto}
 use Rattle.pool_index.specs.Shard.{IsShard, ShardState, slot_number}
 use Rattle.pool_memory.specs.Memories.{MemoryState, slot_of as image_slot_of}
 use Rattle.pool_memory.specs.Static.{CanHold}
-use Rattle.pool_slots.specs.Cells.{Cell, is_taken, IsCell, IsSlotOf}
-use Rattle.pool_slots.specs.Queues.{QueueState, QueuedMemory, HasOwners, IsQueue, AreDistinct}
+use Rattle.pool_slots.specs.Cells.{IsCell, IsSlotOf}
+use Rattle.pool_slots.specs.Queues.{QueueState, QueuedMemory, HasOwners, IsQueue}
 use Rattle.pool_alloc.specs.Reserved.{Reserved}
 use Rattle.pool_alloc.specs.Leases.{Lease, IsMemory}
 use Rattle.pool_alloc.specs.Modules.{HasImages, IfAllocated}
