@@ -17,45 +17,23 @@ use Rattle.pool_slots.specs.declared.request.AllocError.{AllocError}
 use Rattle.pool_slots.specs.declared.request.AllocError.TheVariants as refusal
 use Rattle.pool_slots.specs.declared.request.ConcurrencyKind.TheVariants.{CoreInstances}
 use Rattle.pool_alloc.specs.Leases.{Lease}
-use Rattle.pool_alloc.specs.Own.{memories_refused}
+use Rattle.pool_alloc.specs.Modules.{HasImages}
+use Rattle.pool_alloc.specs.Refusals.{memories_refused}
 use Rattle.pool_alloc.specs.Steps.{memories_asked, images_asked, wanted, shard_at, queue_at, with_shard, with_queue, counting_instances, goes, ends, allocate_next, refuses, no_slot, flushes, shard_tried, queue_tried, key_row, validated, validate_row, count_instance_row, picked, pick_row, take_queue_row}
-use Rattle.pool_alloc.specs.Sound.{IsCore, IsShared, IsLeaseOf, IsSettled, IsAtRest, IsAllocating, IsSupported, AreSupported, AreImagesOf, HasImages}
+use Rattle.pool_alloc.specs.Sound.{IsCore, IsShared, IsLeaseOf, IsSettled, IsAtRest, IsAllocating, AreSupported, AreImagesOf}
 use Rattle.pool_alloc.specs.declared.pool_core.PoolCore.{PoolCore}
 use Rattle.pool_alloc.specs.declared.pool_core.Settings.{Settings}
 use Rattle.pool_alloc.specs.declared.frame.Frame.{Frame}
 use Rattle.pool_alloc.specs.declared.frame.Phase.TheVariants.{Pick, TakeRegion, CountInstance}
 use Rattle.pool_alloc.specs.declared.frame.AfterFlush.TheVariants.{PickAgain}
 use Rattle.pool_alloc.specs.declared.frame.Outcome.TheVariants as answer
-use Rattle.pool_alloc.proofs.Telling.{mod_below, told_both, told_weaker}
+use Rattle.pool_alloc.proofs.Supporting.{supported}
+use Rattle.pool_alloc.proofs.Telling.{mod_below, told_weaker}
 use Rattle.pool_alloc.proofs.CoreChanges.{core_with_shard, core_with_queue, core_with_counters}
 use Rattle.pool_alloc.proofs.QueueJoins.{no_ranges}
 use Rattle.pool_alloc.proofs.LocalQueues.{taken_shared, taken_local, local_of_shared}
 use Rattle.pool_alloc.proofs.Picks.{picked_sound, picked_same, picked_inside}
 use Rattle.pool_alloc.proofs.Going.{Held, IsSoundAfter, either, goes_on, ended, refused, allocates_next, no_slot_found, begins_flush, empty_length, some_length}
-
--- The memories of a module that breaks no rule are supported.
-fits_first : (b : Bool) (rest : Option Unsupported) (rule : Unsupported) → (if b then rest else Some rule) ≡ None → (b ≡ true) × (rest ≡ None)
-fits_first true rest rule e = (refl, e)
-fits_first false rest rule e = absurd cc
-
-fits_each : (s : Settings) (decls : List MemoryDecl) → memories_refused s decls ≡ None → (k : ℕ) → IfSome (slice_get decls k) (λ decl. minimum_byte_size decl.ty ≤ s.max_memory_size)
-fits_each s [] e k = tt
-fits_each s (decl ∷ decls) e zero =
-    let first = fits_first (nat_le (minimum_byte_size decl.ty) s.max_memory_size) (memories_refused s decls) _ e in
-    leb-true (minimum_byte_size decl.ty) s.max_memory_size first.0
-fits_each s (decl ∷ decls) e (suc k) =
-    let first = fits_first (nat_le (minimum_byte_size decl.ty) s.max_memory_size) (memories_refused s decls) _ e in
-    fits_each s decls first.1 k
-
-pub supported : (s : Settings) (decls : List MemoryDecl) (images : List (Option Image)) → AreImagesOf s decls images → memories_refused s decls ≡ None → AreSupported s decls images
-supported s decls images of e =
-    record {
-      few = of.few;
-      each = λ k.
-          told_both (λ decl. minimum_byte_size decl.ty ≤ s.max_memory_size) (λ decl. (decl.ty.page_size_log2 < 64) × IfSome (get_or images k None) (FitsInto s.page (minimum_byte_size decl.ty))) (λ decl. IsSupported s decl (get_or images k None)) (slice_get decls k)
-          (λ decl fits image. record { page_log2 = image.0; minimum = fits; image_fits = image.1 })
-          (fits_each s decls e k) (of.each k);
-    }
 
 module _ {P : Type 0} where
   -- A number is drawn from the key counter.
@@ -88,7 +66,7 @@ module _ {P : Type 0} where
         granted = All-nil (IsLeaseOf maker c.settings);
         returning = held.returning;
       })
-      (record { settled = rest.settled; none_granted = refl; none_returning = rest.none_returning }, some, supported c.settings (memories_asked f.asked) (images_asked f.asked) of (sym e), refl, images))
+      (record { settled = rest.settled; none_granted = refl; none_returning = rest.none_returning }, some, supported c.settings (memories_asked f.asked) (images_asked f.asked) core.settings.memories of (sym e), refl, images))
 
   pub validate_kept : (maker : MakerTold) (decls : List MemoryDecl) (wants : Bool) (c : PoolCore P) (f : Frame P) → IsCore maker c → Held maker c.settings f → IsAtRest f → IsSome f.asked → AreImagesOf c.settings (memories_asked f.asked) (images_asked f.asked) → HasImages f.asked → IsSoundAfter maker decls (validate_row wants c f)
   validate_kept maker decls wants c f core held rest some of images = validated_kept maker decls (memories_refused c.settings (memories_asked f.asked)) wants c f refl core held rest some of images

@@ -18,7 +18,7 @@ module _ {P : Type 0} where
   pub balances_at : (maker : MakerTold) (g : Given) (c : PoolCore P) (f : Frame P) (phase : Phase P) → CanStep maker c (in_phase phase f) → MayBeTold c.settings g phase (in_phase phase f) → Balances (sums_of c (in_phase phase f)) (row_of g phase c (in_phase phase f))
   balances_at maker g c f Idle can told = record { places = λ t. omega arith; instances = omega arith; memories = omega arith; sizes = refl }
   balances_at maker g c f Key can told = key_keeps c f
-  balances_at maker g c f Validate can told = validate_keeps g c f can.frame.shape.0.none_granted
+  balances_at maker g c f Validate can told = validate_keeps g.wants c f can.frame.shape.0.none_granted
   balances_at maker g c f CountInstance can told = count_instance_keeps c f can.frame.shape.0.none_returning
   balances_at maker g c f (Pick queues tried) can told = pick_keeps maker queues tried c f can.core can.frame.shape.1.none_returning
   balances_at maker g c f (TakeQueue queues) can told = take_queue_keeps maker queues c f can.core can.frame.shape.1.none_returning can.frame.shape.0.no_slots
@@ -26,7 +26,7 @@ module _ {P : Type 0} where
   balances_at maker g c f (Empty slot held) can told = empty_keeps g slot held c f
   balances_at maker g c f (Instantiate slot held) can told = instantiate_keeps g slot held c f
   balances_at maker g c f (MakeMemory slot held) can told = make_memory_keeps g slot held c f
-  balances_at maker g c f (CountMemory slot memory) can told = count_memory_keeps slot memory c f
+  balances_at maker g c f (CountMemory lease) can told = count_memory_keeps lease c f
   balances_at maker g c f (PutRefused slot held e) can told = put_refused_keeps slot held e c f can.frame.shape.2.inside (refused_is_away slot held e c f can.fits)
   balances_at maker g c f (FreeRefused slot e) can told = free_refused_keeps maker slot e c f can.core can.frame.shape.2 can.frame.shape.1.none_returning (refused_is_used maker slot e c f can)
   balances_at maker g c f UncountMemory can told = uncount_memory_keeps c f can.frame.shape.2 can.fits.memories

@@ -3,6 +3,7 @@ use Rattle.std.proofs.Common.{◌≡◌, ℕ, ◌+◌, ◌<◌, ◌≤◌, List,
 use Rattle.std.specs.Prelude.{All}
 use Rattle.std.proofs.lemmas.Bool.{cases_lt}
 use Rattle.pool_pages.specs.MakerTold.{MakerTold}
+use Rattle.pool_limits.specs.LimiterTold.{LimiterTold}
 use Rattle.pool_alloc.specs.Answers.{MayBeTold}
 use Rattle.pool_alloc.specs.Leases.{Lease}
 use Rattle.pool_alloc.specs.Places.{Thing, slot_of, region_of, kept_count, frame_count, made_count, phase_instances, frame_memories}
@@ -107,15 +108,15 @@ module _ {P : Type 0} where
   }
 
   -- The same of any step by a row of the table.
-  pub step_conserves : (maker : MakerTold) (c : PoolCore P) (f : Frame P) (a : After P) → CanStep maker c f → StepsTo c f a → Conserves c f a
-  step_conserves maker c f a can steps =
+  pub step_conserves : (maker : MakerTold) (old new : LimiterTold) (c : PoolCore P) (f : Frame P) (a : After P) → CanStep maker c f → StepsTo old new c f a → Conserves c f a
+  step_conserves maker old new c f a can steps =
       let Keeps : After P → Type 0 = λ b. Conserves c f b in
       subst Keeps (sym steps.1.is) (conserves maker steps.0 c f can steps.1.told)
 
-  pub step_keeps_size : (maker : MakerTold) (c : PoolCore P) (f : Frame P) (a : After P) → CanStep maker c f → StepsTo c f a → IsSameSize c a.core
-  step_keeps_size maker c f a can steps =
+  pub step_keeps_size : (maker : MakerTold) (old new : LimiterTold) (c : PoolCore P) (f : Frame P) (a : After P) → CanStep maker c f → StepsTo old new c f a → IsSameSize c a.core
+  step_keeps_size maker old new c f a can steps =
       let Keeps : After P → Type 0 = λ b. IsSameSize c b.core in
       subst Keeps (sym steps.1.is) (size_kept maker steps.0 c f can steps.1.told)
 
-  pub step_fits : (maker : MakerTold) (c : PoolCore P) (f : Frame P) (a : After P) → CanStep maker c f → StepsTo c f a → Fits a.core a.frame
-  step_fits maker c f a can steps = fits_after c f a can.fits (step_conserves maker c f a can steps) (step_keeps_size maker c f a can steps)
+  pub step_fits : (maker : MakerTold) (old new : LimiterTold) (c : PoolCore P) (f : Frame P) (a : After P) → CanStep maker c f → StepsTo old new c f a → Fits a.core a.frame
+  step_fits maker old new c f a can steps = fits_after c f a can.fits (step_conserves maker old new c f a can steps) (step_keeps_size maker old new c f a can steps)

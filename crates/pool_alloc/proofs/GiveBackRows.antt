@@ -4,6 +4,7 @@ use Rattle.std.specs.Prelude.{if◌then◌else◌, nat_le, ◌==◌, ◌||◌}
 use Rattle.pool_pages.specs.MakerTold.{MakerTold}
 use Rattle.pool_images.specs.Slots.{Slot}
 use Rattle.pool_index.specs.Shard.{ShardState}
+use Rattle.pool_memory.specs.Memories.{slot_of as image_slot_of}
 use Rattle.pool_slots.specs.Cells.{unknown, previously_used, is_taken}
 use Rattle.pool_slots.specs.Queues.{QueueState, QueuedMemory, joined, after_take, taken_into, emptied}
 use Rattle.pool_alloc.specs.Leases.{Lease}
@@ -57,10 +58,10 @@ module _ {P : Type 0} where
   pub reset_keeps : (lease : Lease) (c : PoolCore P) (f : Frame P) → Balances (sums_of c (in_phase (Reset lease) f)) (reset_row lease c (in_phase (Reset lease) f))
   reset_keeps lease c f =
       let s : Sums = sums_of c (in_phase (Reset lease) f) in
-      let queue : QueueState = reset_into c.settings.keep_resident.bytes lease.index lease.memory.slot f.local in
+      let queue : QueueState = reset_into c.settings.keep_resident.bytes lease.index (image_slot_of lease.memory) f.local in
       let has : Frame P = record f { phase = Reset lease; local = queue } in
       let even : IsEven s nothing 1 c has = record {
-        places = λ t. omega (arith, reset_counts t c.settings.keep_resident.bytes lease.index lease.memory.slot f.local);
+        places = λ t. omega (arith, reset_counts t c.settings.keep_resident.bytes lease.index (image_slot_of lease.memory) f.local);
         instances = omega arith;
         memories = omega arith;
         sizes = refl;
@@ -92,7 +93,7 @@ module _ {P : Type 0} where
       } in
       either_end s (nat_le c.settings.batch (length whole.ranges)) _ _ (flush_keeps s GiveBackNext left has taken) (give_back_keeps s more gave put)
 
-  pub decommit_keeps : (g : Given) (after : AfterFlush) (c : PoolCore P) (f : Frame P) → Decommits g.fault f.local g.queue → Balances (sums_of c (in_phase (Decommit after) f)) (decommit_row g after c (in_phase (Decommit after) f))
+  pub decommit_keeps : (g : Given) (after : AfterFlush) (c : PoolCore P) (f : Frame P) → Decommits g.fault f.local g.queue → Balances (sums_of c (in_phase (Decommit after) f)) (decommit_row g.queue after c (in_phase (Decommit after) f))
   decommit_keeps g after c f told =
       flush_keeps (sums_of c (in_phase (Decommit after) f)) after c (record f { phase = Decommit after; local = g.queue }) (record {
         places = λ t. omega (arith, decommit_counts t g.fault f.local g.queue told);

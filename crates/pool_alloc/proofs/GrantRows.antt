@@ -4,6 +4,7 @@ use Rattle.std.specs.Prelude.{nat_lt, ◌==◌}
 use Rattle.std.proofs.lemmas.List.{length_push}
 use Rattle.pool_pages.specs.MakerTold.{MakerTold}
 use Rattle.pool_images.specs.Slots.{Slot}
+use Rattle.pool_pages.specs.declared.unsupported.Unsupported.{Unsupported}
 use Rattle.pool_memory.specs.Memories.{MemoryState}
 use Rattle.pool_index.specs.Shard.{ShardState, pick_answer, after_pick, after_free, slot_number, is_used}
 use Rattle.pool_index.specs.declared.ids.SlotId.{SlotId}
@@ -14,9 +15,10 @@ use Rattle.pool_slots.specs.declared.request.AllocError.TheVariants as refusal
 use Rattle.pool_alloc.specs.Leases.{Lease}
 use Rattle.pool_alloc.specs.Reserved.{with_item}
 use Rattle.pool_alloc.specs.Own.{memory_made}
+use Rattle.pool_alloc.specs.Refusals.{memories_refused}
 use Rattle.pool_alloc.specs.Places.{Thing, slot_count, both_count, queued_count, leased_count, frame_count, phase_instances}
 use Rattle.pool_alloc.specs.Sound.{IsCore}
-use Rattle.pool_alloc.specs.Steps.{Given, memories_asked, shard_at, queue_at, cell_at, shard_of, local_of, with_shard, with_cell, with_queue, counting_instances, counting_memories, goes, shard_tried, queue_tried, wanted, picked, holds_region, made, key_row, validate_row, count_instance_row, pick_row, take_queue_row, take_region_row, empty_row, instantiate_row, make_memory_row, count_memory_row, put_refused_row, free_refused_row}
+use Rattle.pool_alloc.specs.Steps.{Given, memories_asked, shard_at, queue_at, cell_at, shard_of, local_of, with_shard, with_cell, with_queue, counting_instances, counting_memories, goes, shard_tried, queue_tried, wanted, picked, holds_region, made, key_row, validated, validate_row, count_instance_row, pick_row, take_queue_row, take_region_row, empty_row, instantiate_row, make_memory_row, count_memory_row, put_refused_row, free_refused_row}
 use Rattle.pool_alloc.specs.declared.pool_core.PoolCore.{PoolCore}
 use Rattle.pool_alloc.specs.declared.frame.Frame.{Frame}
 use Rattle.pool_alloc.specs.declared.frame.Phase.{Phase}
@@ -32,10 +34,11 @@ module _ {P : Type 0} where
   pub key_keeps : (c : PoolCore P) (f : Frame P) → Balances (sums_of c (in_phase Key f)) (key_row c (in_phase Key f))
   key_keeps c f = record { places = λ t. omega arith; instances = omega arith; memories = omega arith; sizes = refl }
 
-  pub validate_keeps : (g : Given) (c : PoolCore P) (f : Frame P) → f.granted.items ≡ [] → Balances (sums_of c (in_phase Validate f)) (validate_row g c (in_phase Validate f))
-  validate_keeps g c f none =
+  validated_keeps : (rule : Option Unsupported) (wants : Bool) (c : PoolCore P) (f : Frame P) → f.granted.items ≡ [] → Balances (sums_of c (in_phase Validate f)) (validated rule wants c (in_phase Validate f))
+  validated_keeps (Some rule) wants c f none = record { places = λ t. omega arith; instances = omega arith; memories = omega arith; sizes = refl }
+  validated_keeps None wants c f none =
       let reserved : Frame P = record f { phase = Validate; granted = record { items = []; room = length (memories_asked f.asked) } } in
-      either_end (sums_of c (in_phase Validate f)) g.wants _ _
+      either_end (sums_of c (in_phase Validate f)) wants _ _
       (record { places = λ t. omega arith; instances = omega arith; memories = omega arith; sizes = refl })
       (goes_on (sums_of c (in_phase Validate f)) c reserved CountInstance (record {
         places = λ t. omega (arith, ap (leased_count t) none);
@@ -43,6 +46,9 @@ module _ {P : Type 0} where
         memories = omega (arith, ap (length {A = Lease}) none);
         sizes = refl;
       }))
+
+  pub validate_keeps : (wants : Bool) (c : PoolCore P) (f : Frame P) → f.granted.items ≡ [] → Balances (sums_of c (in_phase Validate f)) (validate_row wants c (in_phase Validate f))
+  validate_keeps wants c f none = validated_keeps (memories_refused c.settings (memories_asked f.asked)) wants c f none
 
   pub count_instance_keeps : (c : PoolCore P) (f : Frame P) → f.returning.items ≡ [] → Balances (sums_of c (in_phase CountInstance f)) (count_instance_row c (in_phase CountInstance f))
   count_instance_keeps c f none =
@@ -110,29 +116,28 @@ module _ {P : Type 0} where
   held_goes_on : (slot : ℕ) (c : PoolCore P) (f : Frame P) (now next : Phase P) → ((t : Thing) → frame_count t (in_phase next f) ≡ frame_count t (in_phase now f)) → phase_instances now ≡ phase_instances next → Balances (sums_of c (in_phase now f)) (goes c (in_phase now f) next)
   held_goes_on slot c f now next same counted = record { places = λ t. omega (arith, same t); instances = omega arith; memories = omega arith; sizes = refl }
 
-  pub empty_keeps : (g : Given) (slot : ℕ) (held : Slot) (c : PoolCore P) (f : Frame P) → Balances (sums_of c (in_phase (Empty slot held) f)) (empty_row g slot c (in_phase (Empty slot held) f))
+  pub empty_keeps : (g : Given) (slot : ℕ) (held : Slot) (c : PoolCore P) (f : Frame P) → Balances (sums_of c (in_phase (Empty slot held) f)) (empty_row g.fault g.slot slot c (in_phase (Empty slot held) f))
   empty_keeps g slot held c f =
       either_next (sums_of c (in_phase (Empty slot held) f)) g.fault c (in_phase (Empty slot held) f) _ _
       (held_goes_on slot c f (Empty slot held) (PutRefused slot g.slot refusal.PageFault) (λ t. refl) refl)
       (held_goes_on slot c f (Empty slot held) (Instantiate slot g.slot) (λ t. refl) refl)
 
-  pub instantiate_keeps : (g : Given) (slot : ℕ) (held : Slot) (c : PoolCore P) (f : Frame P) → Balances (sums_of c (in_phase (Instantiate slot held) f)) (instantiate_row g slot c (in_phase (Instantiate slot held) f))
+  pub instantiate_keeps : (g : Given) (slot : ℕ) (held : Slot) (c : PoolCore P) (f : Frame P) → Balances (sums_of c (in_phase (Instantiate slot held) f)) (instantiate_row g.fault g.slot slot c (in_phase (Instantiate slot held) f))
   instantiate_keeps g slot held c f =
       either_next (sums_of c (in_phase (Instantiate slot held) f)) g.fault c (in_phase (Instantiate slot held) f) _ _
       (held_goes_on slot c f (Instantiate slot held) (PutRefused slot g.slot refusal.PageFault) (λ t. refl) refl)
       (held_goes_on slot c f (Instantiate slot held) (MakeMemory slot g.slot) (λ t. refl) refl)
 
   made_keeps : (slot : ℕ) (held : Slot) (r : Result MemoryState AllocError) (c : PoolCore P) (f : Frame P) → Balances (sums_of c (in_phase (MakeMemory slot held) f)) (made slot held r c (in_phase (MakeMemory slot held) f))
-  made_keeps slot held (Ok memory) c f = held_goes_on slot c f (MakeMemory slot held) (CountMemory slot memory) (λ t. refl) refl
+  made_keeps slot held (Ok memory) c f = held_goes_on slot c f (MakeMemory slot held) (CountMemory (record { index = slot; memory = memory })) (λ t. refl) refl
   made_keeps slot held (Err e) c f = held_goes_on slot c f (MakeMemory slot held) (PutRefused slot held e) (λ t. refl) refl
 
-  pub make_memory_keeps : (g : Given) (slot : ℕ) (held : Slot) (c : PoolCore P) (f : Frame P) → Balances (sums_of c (in_phase (MakeMemory slot held) f)) (make_memory_row g slot held c (in_phase (MakeMemory slot held) f))
+  pub make_memory_keeps : (g : Given) (slot : ℕ) (held : Slot) (c : PoolCore P) (f : Frame P) → Balances (sums_of c (in_phase (MakeMemory slot held) f)) (make_memory_row g.limiter slot held c (in_phase (MakeMemory slot held) f))
   make_memory_keeps g slot held c f = made_keeps slot held (memory_made c.settings (memories_asked f.asked) (length f.granted.items) g.limiter held) c f
 
-  pub count_memory_keeps : (slot : ℕ) (memory : MemoryState) (c : PoolCore P) (f : Frame P) → Balances (sums_of c (in_phase (CountMemory slot memory) f)) (count_memory_row slot memory c (in_phase (CountMemory slot memory) f))
-  count_memory_keeps slot memory c f =
-      let lease : Lease = record { index = slot; memory = memory } in
-      allocate_keeps (sums_of c (in_phase (CountMemory slot memory) f)) (counting_memories (c.counters.memories + 1) c) (record f { phase = CountMemory slot memory; granted = with_item lease f.granted }) (record {
+  pub count_memory_keeps : (lease : Lease) (c : PoolCore P) (f : Frame P) → Balances (sums_of c (in_phase (CountMemory lease) f)) (count_memory_row lease c (in_phase (CountMemory lease) f))
+  count_memory_keeps lease c f =
+      allocate_keeps (sums_of c (in_phase (CountMemory lease) f)) (counting_memories (c.counters.memories + 1) c) (record f { phase = CountMemory lease; granted = with_item lease f.granted }) (record {
         places = λ t. omega (arith, leased_last t f.granted.items lease);
         instances = omega arith;
         memories = omega (arith, length_push f.granted.items lease);

@@ -55,7 +55,7 @@ module _ {P : Type 0} where
   phase_regions k (Empty slot held) = omega arith
   phase_regions k (Instantiate slot held) = omega arith
   phase_regions k (MakeMemory slot held) = omega arith
-  phase_regions k (CountMemory slot memory) = omega arith
+  phase_regions k (CountMemory lease) = omega arith
   phase_regions k (PutRefused slot held e) = omega arith
   phase_regions k (FreeRefused slot e) = omega arith
   phase_regions k UncountMemory = omega arith

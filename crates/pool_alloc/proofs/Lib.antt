@@ -23,12 +23,14 @@ pub mod QueueRuns
 pub mod Refusing
 pub mod RegionCounts
 pub mod RegionRows
+pub mod Relying
 pub mod ReturnRows
 pub mod SameSizes
 pub mod ShardFrees
 pub mod SlotCounts
 pub mod SlotIdentity
 pub mod Stages
+pub mod Supporting
 pub mod Telling
 pub mod Totals
 pub mod Untouched

@@ -13,11 +13,12 @@ use Rattle.pool_slots.specs.declared.queued_range.QueuedRange.{QueuedRange}
 use Rattle.pool_slots.specs.Queues.{QueueState, QueuedMemory, AreDistinct, AreApart, LeavesClean, IsLeftBy, holds, is_held, with_memory, after_take, taken_into, emptied, joined, first_slot, after_run}
 use Rattle.pool_alloc.specs.Answers.{Decommits}
 use Rattle.pool_alloc.specs.Sound.{IsSettings, IsShared, IsLocal, IsQueuedOf}
-use Rattle.pool_alloc.specs.Relied.{IsResetLocal}
+use Rattle.pool_alloc.proofs.Relying.{IsResetLocal}
 use Rattle.pool_alloc.specs.declared.pool_core.Settings.{Settings}
 use Rattle.pool_alloc.proofs.SlotIdentity.{queued_after_run, length_after_run, queued_faulted}
+use Rattle.pool_slots.proofs.QueueChanges.{queue_joined, owned_joined}
 use Rattle.pool_alloc.proofs.QueueRuns.{run_queue, run_owners, faulted_queue, faulted_owners}
-use Rattle.pool_alloc.proofs.QueueJoins.{owners_same, joined_queue, joined_owners, rest_queue}
+use Rattle.pool_alloc.proofs.QueueJoins.{owners_same, rest_queue}
 
 -- a queue once it was taken
 pub taken_shared : (maker : MakerTold) (s : Settings) (q : QueueState) → IsSettings s → q.range_room ≡ 2 * s.batch → q.slot_room ≡ 2 * s.batch → IsShared maker s (after_take q)
@@ -65,11 +66,11 @@ emptied_local maker s q range_room slot_room =
 pub joined_local : (maker : MakerTold) (s : Settings) (q more : QueueState) → IsShared maker s q → IsLocal maker s more → AreApart q.memories more.memories → length more.memories ≡ 1 → length more.ranges + 1 ≤ s.batch → IsLocal maker s (joined q more)
 joined_local maker s q more shared local apart one short =
     record {
-      owners = joined_owners q more shared.owners local.owners;
+      owners = owned_joined q more shared.owners local.owners;
       range_room = shared.range_room;
       slot_room = shared.slot_room;
       regions = All-append (IsQueuedOf maker s.max_memory_size) q.memories more.memories shared.regions local.regions;
-      queue = joined_queue q more shared.owners local.owners apart shared.queue local.queue (omega (arith, shared.range_room, shared.short)) (omega (arith, shared.slot_room, shared.short, shared.slots));
+      queue = queue_joined q more shared.queue local.queue (omega (arith, shared.range_room, shared.short)) (omega (arith, shared.slot_room, shared.short, shared.slots)) shared.owners local.owners apart;
     }
 
 pub joined_shared : (maker : MakerTold) (s : Settings) (q more : QueueState) → IsShared maker s q → IsLocal maker s (joined q more) → length more.memories ≡ 1 → 0 < length more.ranges → length (q.ranges ++ more.ranges) < s.batch → IsShared maker s (joined q more)
@@ -105,11 +106,11 @@ decommitted_local maker s false old new run local =
     let after : IsStillLocal maker s old (after_run old) =
     record {
       queue = record {
-        owners = run_owners old local.owners;
+        owners = run_owners old local.queue local.owners;
         range_room = local.range_room;
         slot_room = local.slot_room;
         regions = queued_after_run maker s.max_memory_size old local.regions;
-        queue = run_queue old local.queue;
+        queue = run_queue old local.owners local.queue;
       };
       long = length_after_run old;
     } in
@@ -118,7 +119,7 @@ decommitted_local maker s false old new run local =
 -- the local queue without its first slot, where it has no range
 pub rest_local : (maker : MakerTold) (s : Settings) (m : QueuedMemory) (rest : List QueuedMemory) (q : QueueState) → q.ranges ≡ [] → q.memories ≡ m ∷ rest → IsLocal maker s q → IsLocal maker s (record q { memories = rest })
 rest_local maker s m rest q none is local =
-    let H : QueuedRange → Type 0 = λ r. is_held r.kind r.slot.0 (record q { memories = rest }) ≡ true in
+    let H : QueuedRange → Type 0 = λ r. is_held r.kind r.slot.0 (record q { memories = rest }).memories ≡ true in
     record {
       owners = subst (λ (rs : List QueuedRange). AllByRecursion H rs) (sym none) tt;
       range_room = local.range_room;
@@ -128,7 +129,7 @@ rest_local maker s m rest q none is local =
     }
 
 -- The empty local queue with ranges of one slot and then that slot, which leaves clean once they are decommitted.
-owned_ranges : (ranges : List ByteRange) (m : QueuedMemory) (q : QueueState) → holds m.index q.memories ≡ true → AllByRecursion {X = QueuedRange} (λ r. is_held r.kind r.slot.0 q ≡ true) (map (λ r. record { kind = Memory; slot = record { 0 = m.index }; range = r }) ranges)
+owned_ranges : (ranges : List ByteRange) (m : QueuedMemory) (q : QueueState) → holds m.index q.memories ≡ true → AllByRecursion {X = QueuedRange} (λ r. is_held r.kind r.slot.0 q.memories ≡ true) (map (λ r. record { kind = Memory; slot = record { 0 = m.index }; range = r }) ranges)
 owned_ranges [] m q held = tt
 owned_ranges (r ∷ rs) m q held = (held, owned_ranges rs m q held)
 
@@ -138,7 +139,7 @@ alone m = or_left _ _ (eq-eqb m.index m.index refl)
 one_slot_local : (maker : MakerTold) (s : Settings) (ranges : List ByteRange) (m : QueuedMemory) (q : QueueState) → q.range_room ≡ 2 * s.batch → q.slot_room ≡ 2 * s.batch → 1 ≤ s.batch → length ranges ≤ 2 * s.batch → IsQueuedOf maker s.max_memory_size m → q.ranges ≡ map (λ r. record { kind = Memory; slot = record { 0 = m.index }; range = r }) ranges → q.memories ≡ m ∷ [] → LeavesClean q.ranges m → IsLocal maker s q
 one_slot_local maker s ranges m q range_room slot_room some few of is holds_it leaves =
     let listed : List QueuedRange = map (λ r. record { kind = Memory; slot = record { 0 = m.index }; range = r }) ranges in
-    let H : QueuedRange → Type 0 = λ r. is_held r.kind r.slot.0 q ≡ true in
+    let H : QueuedRange → Type 0 = λ r. is_held r.kind r.slot.0 q.memories ≡ true in
     let held : holds m.index q.memories ≡ true = rw holds_it (alone m) in
     let long : length q.ranges ≡ length ranges = ap length is ∙ length-map ranges _ in
     let one : length q.memories ≡ 1 = ap length holds_it in

@@ -1,25 +1,26 @@
 -- Each step of a give-back and of a flush leaves what is sound.
 use Rattle.std.proofs.Common.{◌≡◌, ℕ, ◌+◌, ◌-◌, ◌^◌, ◌<◌, ◌≤◌, Bool, true, false, List, [], ◌∷◌, ◌++◌, length, refl, sym, ap, inl, inr, arith, Some, All}
-use Rattle.std.specs.Prelude.{◌==◌, ◌||◌, not, nat_le, filter, if◌then◌else◌}
+use Rattle.std.specs.Prelude.{◌==◌, ◌||◌, ◌*◌, min, not, nat_le, nat_lt, filter, if◌then◌else◌}
 use Rattle.std.proofs.lemmas.Bool.{cases_lt, leb-false, or_parts}
 use Rattle.std.proofs.lemmas.List.{length-append}
 use Rattle.std.proofs.lemmas.List.Elements.{All-head, All-tail, All-same, All-push, All-filter}
 use Rattle.std.proofs.lemmas.List.Filters.{length-filter_both}
 use Rattle.pool_pages.specs.MakerTold.{MakerTold}
 use Rattle.pool_pages.specs.declared.module_types.MemoryDecl.{MemoryDecl}
-use Rattle.pool_images.specs.Slots.{Slot, IsClean}
+use Rattle.pool_images.specs.Slots.{Slot, IsClean, cleared, reset_ranges}
+use Rattle.pool_images.specs.declared.ranges.ByteRange.{ByteRange}
 use Rattle.pool_index.specs.Shard.{ShardState}
+use Rattle.pool_memory.specs.Memories.{slot_of as image_slot_of}
 use Rattle.pool_slots.specs.Cells.{unknown, previously_used, IsCell, IsSlotOf}
 use Rattle.pool_slots.specs.Queues.{QueueState, QueuedMemory, AreApart, LeavesClean, after_take, taken_into, emptied, joined}
 use Rattle.pool_alloc.specs.Leases.{Lease}
 use Rattle.pool_alloc.specs.Reserved.{with_item}
-use Rattle.pool_alloc.specs.Own.{reset_into}
+use Rattle.pool_alloc.specs.Own.{slot_ended, reset_listed}
 use Rattle.pool_alloc.specs.Steps.{shard_at, queue_at, shard_of, freed_of, freed_elsewhere, first_shard, after_frees, cell_returned, goes, give_back_next, flushes, after_flush, queue_tried, with_shard, with_cell, with_queue, counting_instances, counting_memories, returns, uncount_memory_row, reset_row, merge_row, decommit_row, puts, put_region_row, free_row, answer_of, uncount_instance_row}
 use Rattle.pool_alloc.specs.Answers.{Decommits}
 use Rattle.pool_alloc.specs.Sound.{IsCore, IsShared, IsLocal, IsLeaseOf, IsQueuedOf, IsSettled, IsAtRest, IsShapedAfter}
 use Rattle.pool_alloc.specs.Calls.{IsGrantOf, IfGranted}
 use Rattle.pool_alloc.specs.Freeing.{AreUsedInTurn}
-use Rattle.pool_alloc.specs.Relied.{IsResetLocal}
 use Rattle.pool_alloc.specs.declared.pool_core.PoolCore.{PoolCore}
 use Rattle.pool_alloc.specs.declared.frame.Frame.{Frame}
 use Rattle.pool_alloc.specs.declared.frame.FreedSlot.{FreedSlot}
@@ -30,7 +31,8 @@ use Rattle.pool_alloc.specs.declared.frame.Ending.{Ending}
 use Rattle.pool_alloc.specs.declared.frame.Ending.TheVariants as ending
 use Rattle.pool_alloc.proofs.CoreChanges.{core_with_shard, core_past_shards, core_with_cell, core_with_queue, core_with_counters}
 use Rattle.pool_alloc.proofs.QueueJoins.{first_leaves}
-use Rattle.pool_alloc.proofs.LocalQueues.{IsStillLocal, taken_shared, taken_local, emptied_local, joined_local, joined_shared, decommitted_local, rest_local}
+use Rattle.pool_alloc.proofs.LocalQueues.{IsStillLocal, reset_local, taken_shared, taken_local, emptied_local, joined_local, joined_shared, decommitted_local, rest_local}
+use Rattle.pool_alloc.proofs.SlotIdentity.{one_cleared, slot_of_one}
 use Rattle.pool_alloc.proofs.ShardFrees.{IsShardOf, frees_shard}
 use Rattle.pool_alloc.proofs.Telling.{mod_below}
 use Rattle.pool_alloc.proofs.Going.{Held, IsSoundAfter, either, goes_on, goes_either, ended, gives_back_next, begins_flush, goes_after_flush, empty_length, some_length}
@@ -38,6 +40,14 @@ use Rattle.pool_alloc.proofs.Going.{Held, IsSoundAfter, either, goes_on, goes_ei
 returned_if : (maker : MakerTold) (static_size i : ℕ) (known : Bool) (s : Slot) → IsSlotOf maker static_size i s → (known ≡ true → IsClean s) → IsCell maker static_size i (if known then previously_used s else unknown s)
 returned_if maker static_size i true s of clean = (of, clean refl)
 returned_if maker static_size i false s of clean = of
+
+-- a reset leaves one range at most
+one_if_more : (b : Bool) (r : ByteRange) → length (if b then r ∷ [] else []) ≤ 1
+one_if_more true r = omega arith
+one_if_more false r = omega arith
+
+one_range : (keep accessible : ℕ) → length (reset_ranges keep accessible) ≤ 1
+one_range keep accessible = one_if_more (nat_lt keep accessible) (record { start = keep; len = accessible - keep })
 
 fewer : (p : FreedSlot → Bool) (xs : List FreedSlot) → length (filter (λ x. not (p x)) xs) ≤ length xs
 fewer p xs = omega (arith, length-filter_both p (λ (x : FreedSlot). not (p x)) (λ x. refl) xs)
@@ -65,9 +75,14 @@ module _ {P : Type 0} where
       returns_kept maker decls f.returning.items (counting_memories (c.counters.memories - 1) c) f refl (core_with_counters maker (record c.counters { memories = c.counters.memories - 1 }) c core) held settled none some inside
 
   -- The memory is reset.
-  pub reset_kept : (maker : MakerTold) (decls : List MemoryDecl) (lease : Lease) (c : PoolCore P) (f : Frame P) → IsCore maker c → Held maker c.settings f → IsSettled f → f.granted.items ≡ [] → IsResetLocal maker c.settings (reset_into c.settings.keep_resident.bytes lease.index lease.memory.slot f.local) → IsSoundAfter maker decls (reset_row lease c f)
-  reset_kept maker decls lease c f core held settled none is =
-      let q : QueueState = reset_into c.settings.keep_resident.bytes lease.index lease.memory.slot f.local in
+  pub reset_kept : (maker : MakerTold) (decls : List MemoryDecl) (lease : Lease) (c : PoolCore P) (f : Frame P) → IsCore maker c → Held maker c.settings f → IsSettled f → f.granted.items ≡ [] → IsSlotOf maker c.settings.max_memory_size lease.index (image_slot_of lease.memory) → LeavesClean (reset_listed c.settings.keep_resident.bytes lease.index (image_slot_of lease.memory)) (slot_ended c.settings.keep_resident.bytes lease.index (image_slot_of lease.memory)) → IsSoundAfter maker decls (reset_row lease c f)
+  reset_kept maker decls lease c f core held settled none of leaves =
+      let keep : ℕ = c.settings.keep_resident.bytes in
+      let slot : Slot = image_slot_of lease.memory in
+      let still : IsSlotOf maker c.settings.max_memory_size lease.index (cleared (min keep slot.accessible.bytes) slot) = slot_of_one maker c.settings.max_memory_size lease.index slot (cleared (min keep slot.accessible.bytes) slot) (one_cleared (min keep slot.accessible.bytes) slot) of in
+      let few : length (reset_ranges keep slot.accessible.bytes) ≤ 2 * c.settings.batch = omega (arith, one_range keep slot.accessible.bytes, core.settings.batch.0) in
+      let is = reset_local maker c.settings (reset_ranges keep slot.accessible.bytes) (slot_ended keep lease.index slot) f.local core.settings held.queue settled.no_ranges settled.no_slots few still leaves in
+      let q : QueueState = reset_into c.settings.keep_resident.bytes lease.index (image_slot_of lease.memory) f.local in
       let has : Frame P = record f { local = q } in
       let freed : length f.freed.items ≡ 0 = ap length settled.none_freed in
       let holds : Held maker c.settings has =

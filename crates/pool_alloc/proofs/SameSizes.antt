@@ -13,7 +13,8 @@ use Rattle.pool_slots.specs.Queues.{QueueState, QueuedMemory, joined, taken_into
 use Rattle.pool_slots.specs.declared.request.AllocError.{AllocError}
 use Rattle.pool_alloc.specs.Leases.{Lease}
 use Rattle.pool_alloc.specs.Reserved.{with_item}
-use Rattle.pool_alloc.specs.Own.{memories_refused, memory_made}
+use Rattle.pool_alloc.specs.Own.{memory_made}
+use Rattle.pool_alloc.specs.Refusals.{memories_refused}
 use Rattle.pool_alloc.specs.Steps.{Given, After, memories_asked, wanted, shard_at, cell_at, queue_at, shard_tried, queue_tried, with_shard, with_cell, with_queue, allocate_next, no_slot, after_flush, validated, picked, holds_region, made, returns, puts, row, row_of}
 use Rattle.pool_alloc.specs.Sound.{IsFrame, IsShapedAt}
 use Rattle.pool_alloc.specs.Stepping.{IsSameSize}
@@ -93,7 +94,7 @@ module _ {P : Type 0} where
   same_at g (Empty slot had) c f = same_size c
   same_at g (Instantiate slot had) c f = same_size c
   same_at g (MakeMemory slot had) c f = same_made slot had (memory_made c.settings (memories_asked f.asked) (length f.granted.items) g.limiter had) c f
-  same_at g (CountMemory slot memory) c f = same_allocates c (record c { counters = record c.counters { memories = c.counters.memories + 1 } }) (record f { granted = with_item (record { index = slot; memory = memory }) f.granted }) (same_counted _ c)
+  same_at g (CountMemory lease) c f = same_allocates c (record c { counters = record c.counters { memories = c.counters.memories + 1 } }) (record f { granted = with_item lease f.granted }) (same_counted _ c)
   same_at g (PutRefused slot had e) c f = same_cells slot (unknown had) c
   same_at g (FreeRefused slot e) c f = same_shards _ _ c
   same_at g UncountMemory c f = same_returns f.returning.items c (record c { counters = record c.counters { memories = c.counters.memories - 1 } }) f (same_counted _ c)

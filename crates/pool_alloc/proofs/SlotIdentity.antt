@@ -9,7 +9,7 @@ use Rattle.pool_pages.specs.Contents.{Contents, CanReach}
 use Rattle.pool_pages.specs.Told.{Told, PageCall, decommitting}
 use Rattle.pool_pages.specs.MakerTold.{MakerTold, fresh}
 use Rattle.pool_images.specs.declared.ranges.ByteRange.{ByteRange}
-use Rattle.pool_images.specs.Slots.{Slot, IsFresh, IsClean, IsReady, IsLeft, IsSized, Holds, size_of, called, emptied, decommitted_all}
+use Rattle.pool_images.specs.Slots.{Slot, IsFresh, IsClean, IsReady, IsLeft, IsSized, Holds, size_of, called, cleared, emptied, decommitted_all}
 use Rattle.pool_images.proofs.Marks.{range-zeros}
 use Rattle.pool_slots.specs.Cells.{IsSlotOf, region_made}
 use Rattle.pool_slots.specs.Queues.{QueueState, QueuedMemory, IsLeftBy, IsSlotLeft, is_of, front, first_slot, change_at, after_run}
@@ -90,6 +90,19 @@ one_emptied s =
 pub one_decommitted : (s t : Slot) (ranges : List ByteRange) → IsOneSlot s t → IsOneSlot s (decommitted_all ranges t)
 one_decommitted s t [] one = one
 one_decommitted s t (r ∷ rs) one = one_decommitted s (called (decommitting (t.base.bytes + r.start) r.len) t) rs (one_called s t (decommitting (t.base.bytes + r.start) r.len) one)
+
+pub one_cleared : (kept : ℕ) (s : Slot) → IsOneSlot s (cleared kept s)
+one_cleared kept s =
+    record {
+      base = refl;
+      static_size = refl;
+      colour = refl;
+      name = refl;
+      page = refl;
+      len = refl;
+      plan = refl;
+      tells = tells_still _ s.region.contents;
+    }
 
 -- the slot of one region stays that
 pub slot_of_one : (maker : MakerTold) (static_size i : ℕ) (old new : Slot) → IsOneSlot old new → IsSlotOf maker static_size i old → IsSlotOf maker static_size i new

@@ -10,13 +10,15 @@ use Rattle.pool_limits.specs.LimiterTold.{LimiterTold, answered}
 use Rattle.pool_limits.specs.declared.errors.LimiterError.{LimiterError}
 use Rattle.pool_memory.specs.Making.{minimum_asked, maximum_asked}
 use Rattle.pool_memory.specs.Static.{CanHold}
-use Rattle.pool_slots.specs.Queues.{QueueState, after_run, IsFaulted}
+use Rattle.pool_slots.specs.Queues.{QueueState, LeavesClean, after_run, IsFaulted}
+use Rattle.pool_memory.specs.Memories.{slot_of}
 use Rattle.pool_alloc.specs.Modules.{IfAllocated}
+use Rattle.pool_alloc.specs.Own.{slot_ended, reset_listed}
 use Rattle.pool_alloc.specs.Steps.{Given, image_wanted}
 use Rattle.pool_alloc.specs.declared.pool_core.Settings.{Settings}
 use Rattle.pool_alloc.specs.declared.frame.Frame.{Frame}
 use Rattle.pool_alloc.specs.declared.frame.Phase.{Phase}
-use Rattle.pool_alloc.specs.declared.frame.Phase.TheVariants.{Empty, Instantiate, MakeMemory, Decommit}
+use Rattle.pool_alloc.specs.declared.frame.Phase.TheVariants.{Empty, Instantiate, MakeMemory, Reset, Decommit}
 
 -- a slot is emptied, and clean then, or a call on its region failed
 abbrev pub Empties : Bool → Slot → Slot → Type 0
@@ -52,10 +54,11 @@ Decommits true old new = IsFaulted old new
 Decommits false old new = new ≡ after_run old
 
 module _ {P : Type 0} where
-  -- the given answers may come in this phase
+  -- the given answers may come in this phase; a slot that was reset leaves clean once its ranges are decommitted
   abbrev pub MayBeTold : Settings → Given → Phase P → Frame P → Type 0
   MayBeTold s g (Empty slot held) f = Empties g.fault held g.slot
   MayBeTold s g (Instantiate slot held) f = IfAllocated f (λ decl. InstantiatesFor s decl g.fault (image_wanted f) held g.slot)
+  MayBeTold s g (Reset lease) f = LeavesClean (reset_listed s.keep_resident.bytes lease.index (slot_of lease.memory)) (slot_ended s.keep_resident.bytes lease.index (slot_of lease.memory))
   MayBeTold s g (Decommit after) f = Decommits g.fault f.local g.queue
   MayBeTold s g _ f = Unit {0}
 

@@ -8,7 +8,6 @@ pub mod Modules
 pub mod Own
 pub mod Places
 pub mod Refusals
-pub mod Relied
 pub mod Reserved
 pub mod Sound
 pub mod Stepping

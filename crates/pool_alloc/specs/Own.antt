@@ -1,5 +1,5 @@
 -- What a party does by itself with what it has taken.
-use Rattle.std.specs.Prelude.{ℕ, List, min, Bool, true, false, Option, Some, None, Result, Ok, Err, slice_get}
+use Rattle.std.specs.Prelude.{ℕ, List, ◌++◌, map, min, Bool, true, false, Option, Some, None, Result, Ok, Err, slice_get}
 use Rattle.pool_pages.specs.Count.{count}
 use Rattle.pool_pages.specs.Told.{Told}
 use Rattle.pool_pages.specs.declared.module_types.MemoryDecl.{MemoryDecl}
@@ -12,7 +12,9 @@ use Rattle.pool_memory.specs.Static.{Static, made_static}
 use Rattle.pool_memory.specs.Making.{limits_answer, fixed_in}
 use Rattle.pool_memory.specs.declared.memory_error.MemoryError.{MemoryError}
 use Rattle.pool_memory.specs.declared.memory_error.MemoryError.TheVariants as unmade
-use Rattle.pool_slots.specs.Queues.{QueueState, QueuedMemory, with_ranges, with_memory}
+use Rattle.pool_slots.specs.Queues.{QueueState, QueuedMemory, with_memory}
+use Rattle.pool_slots.specs.declared.queued_range.QueuedRange.{QueuedRange}
+use Rattle.pool_slots.specs.declared.queued_range.QueueKind.TheVariants as queued
 use Rattle.pool_slots.specs.declared.request.AllocError.{AllocError}
 use Rattle.pool_slots.specs.declared.request.AllocError.TheVariants as refusal
 use Rattle.pool_alloc.specs.declared.pool_core.Settings.{Settings}
@@ -30,17 +32,21 @@ image_made page static_size region = record {
 }
 
 -- the slot of a memory that has ended, once so many of its accessible bytes were set by hand to what they go back to
-abbrev pub ended : ℕ → ℕ → Slot → QueuedMemory
-ended keep index slot = record {
+abbrev pub slot_ended : ℕ → ℕ → Slot → QueuedMemory
+slot_ended keep index slot = record {
   index = index;
   slot = cleared (min keep slot.accessible.bytes) slot;
   known = true;
   bytes = min keep slot.accessible.bytes;
 }
 
--- the local queue with that slot, and with what is to be decommitted of it
+-- what is to be decommitted of it then
+abbrev pub reset_listed : ℕ → ℕ → Slot → List QueuedRange
+reset_listed keep index slot = map (λ r. record { kind = queued.Memory; slot = record { 0 = index }; range = r }) (reset_ranges keep slot.accessible.bytes)
+
+-- the local queue with these ranges and that slot
 abbrev pub reset_into : ℕ → ℕ → Slot → QueueState → QueueState
-reset_into keep index slot q = with_memory (ended keep index slot) (with_ranges index (reset_ranges keep slot.accessible.bytes) q)
+reset_into keep index slot q = with_memory (slot_ended keep index slot) (record q { ranges = q.ranges ++ reset_listed keep index slot })
 
 -- why a memory isn't made, as the refusal of an allocation
 abbrev pub refusal_of : MemoryError → AllocError

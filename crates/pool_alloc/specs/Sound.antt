@@ -36,6 +36,7 @@ pub record IsSettings (s : Settings) : Type 0 where
   pub batch : (1 ≤ s.batch) × (s.batch ≤ 4096)
   pub stripes : 0 < s.stripes
   pub slots_per_shard : 0 < s.slots_per_shard
+  pub memories : s.max_memories_per_module < 2 ^ 32
 
 -- each slot of the pool has a place in one shard, and each place of a shard is a slot of the pool
 pub record IsLaidOut (s : Settings) (total : ℕ) (shards : List ShardState) : Type 0 where
@@ -96,7 +97,6 @@ pub record AreSupported (s : Settings) (memories : List MemoryDecl) (images : Li
 
 -- an image that is given is one of its memory: it ends within the memory's minimum
 pub record AreImagesOf (s : Settings) (memories : List MemoryDecl) (images : List (Option Image)) : Type 0 where
-  pub few : length memories < 2 ^ 32
   pub each : (k : ℕ) → IfSome (slice_get memories k) (λ decl. (decl.ty.page_size_log2 < 64) × IfSome (slice_index_or images k None) (FitsInto s.page (minimum_byte_size decl.ty)))
 
 -- the slot of the pool with this number, as a call has it in its hands

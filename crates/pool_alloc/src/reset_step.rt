@@ -1,8 +1,9 @@
-ghost use Rattle.std.specs.Prelude.{◌≡◌, ◌^◌, ◌<◌, ◌≤◌, [], length};
+ghost use Rattle.std.specs.Prelude.{◌≡◌, ◌^◌, ◌<◌, ◌≤◌, []};
 ghost use Rattle.pool_images.specs.Slots.{IsInUse};
 ghost use Rattle.pool_memory.specs.Memories.{slot_of};
+ghost use Rattle.pool_slots.specs.Queues.{LeavesClean};
 ghost use Rattle.pool_alloc.specs.CanStep.{CanReset};
-ghost use Rattle.pool_alloc.specs.Own.{reset_into};
+ghost use Rattle.pool_alloc.specs.Own.{slot_ended, reset_listed, reset_into};
 ghost use Rattle.pool_alloc.specs.Steps.{After, reset_row};
 
 use crate::frame::{AfterFlush, Frame, Outcome, Phase};
@@ -18,7 +19,8 @@ impl<P: Pages> PoolCore<P> {
     // to the home queue.
     pub(crate) fn reset(&mut self, frame: &mut Frame<P>, lease: MemoryLease<P>) -> Option<Outcome<P>>
         requires { CanReset self.old.settings (slot_of lease.memory) frame.old.local }
-        ensures { ◌≡◌ {A = After P} (record { core = self.new; frame = frame.new; outcome = result }) (reset_row lease self.old frame.old) }
+        ensures row { ◌≡◌ {A = After P} (record { core = self.new; frame = frame.new; outcome = result }) (reset_row lease self.old frame.old) }
+        ensures leaves { LeavesClean (reset_listed self.old.settings.keep_resident.bytes lease.index (slot_of lease.memory)) (slot_ended self.old.settings.keep_resident.bytes lease.index (slot_of lease.memory)) }
     {
         let index = lease.index;
         let slot = lease.memory.unwrap_static_image();
@@ -46,7 +48,8 @@ fn reset_into<P: Pages>(
     requires no_slots { local.old.memories ≡ [] }
     requires range_room { 0 < local.old.range_room }
     requires slot_room { 0 < local.old.slot_room }
-    ensures { local.new ≡ reset_into keep.bytes index.0 slot local.old }
+    ensures value { local.new ≡ reset_into keep.bytes index.0 slot local.old }
+    ensures leaves { LeavesClean (reset_listed keep.bytes index.0 slot) (slot_ended keep.bytes index.0 slot) }
 {
     let mut slot = slot;
     let mut ranges = Ranges::new();

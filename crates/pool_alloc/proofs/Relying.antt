@@ -1,5 +1,4 @@
--- What a step relies on beside what holds of parts and frames: that its frame fits the part that it changes, and what
--- the reset of a memory leaves.
+-- What a step relies on beside what holds of parts and frames: that its frame fits the part that it changes.
 use Rattle.std.specs.Prelude.{◌≡◌, ◌<◌, length, All, false, IsSome}
 use Rattle.pool_pages.specs.MakerTold.{MakerTold}
 use Rattle.pool_index.specs.Shard.{use_of}
@@ -32,8 +31,3 @@ module _ {P : Type 0} where
   FitsAt Merge c f = AreApart (queue_at (queue_tried 0 c f) c.queues).memories f.local.memories
   FitsAt (Free after) c f = AreUsedInTurn c.settings (freed_of c.settings (first_shard c.settings f.freed.items) f.freed.items) (shard_at (first_shard c.settings f.freed.items) c.shards)
   FitsAt _ c f = Unit {0}
-
-  -- the local queue is one once the memory is reset into it
-  abbrev pub Resets : MakerTold → Phase P → PoolCore P → Frame P → Type 0
-  Resets maker (Reset lease) c f = IsResetLocal maker c.settings (reset_into c.settings.keep_resident.bytes lease.index (slot_of lease.memory) f.local)
-  Resets maker _ c f = Unit {0}
