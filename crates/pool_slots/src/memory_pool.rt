@@ -5,8 +5,8 @@ ghost use Rattle.pool_index.specs.Shard.{used_count, resident_bytes, is_used, af
 ghost use Rattle.pool_images.specs.Slots.{FitsInto, IsClean};
 ghost use Rattle.pool_slots.specs.Cells.{calls_of_all};
 ghost use Rattle.pool_slots.specs.CellOf.{cell_of};
-ghost use Rattle.pool_slots.specs.Pools.{PoolState, IsPool, IsMade, Begins, IsRefused, AreUsed, Returns, RaisesFaults, makes_listed, IsListed};
-ghost use Rattle.pool_slots.specs.Queues.{QueuedMemory, AreSettled};
+ghost use Rattle.pool_slots.specs.Pools.{PoolState, IsPool, IsMade, Begins, IsRefused, IsUsed, AreUsed, Returns, RaisesFaults, makes_listed, IsListed};
+ghost use Rattle.pool_slots.specs.Queues.{QueuedMemory, AreSettled, IsSettled};
 ghost use Rattle.pool_slots.specs.Turns.{TakesSlot, PutsSlot, IsFullNow};
 
 use crate::cells::{ImageSlot, MemoryCell, add_calls, no_calls};
@@ -238,31 +238,11 @@ impl<P: Pages> MemoryPool<P> {
     {
         self.memories(items);
     }
-}
 
-// One slot comes back. The bodies of these two traits call nothing that is generic in `P`: what an `impl` of a trait calls
-// can't rest on the bound that `P` is `Send`.
-trait PutBack<P: Pages> {
-    ghost accepts_one: { QueuedMemory → Self → Type 0 };
-
-    ghost returns_one: { QueuedMemory → Self → Self → Type 0 };
-
+    // One slot comes back.
     fn put_back(&mut self, item: MemoryItem<P>)
-        requires { accepts_one item self.old }
-        ensures { returns_one item self.old self.new };
-}
-
-impl<P: Pages> PutBack<P> for MemoryPool<P> {
-    ghost use Rattle.std.specs.Prelude.{[], ◌∷◌};
-    ghost use Rattle.pool_slots.specs.Queues.{IsSettled};
-    ghost use Rattle.pool_slots.specs.Pools.{IsUsed, Returns};
-
-    ghost accepts_one = { λ m p. IsUsed p m × IsSettled m };
-
-    ghost returns_one = { λ m old new. Returns (m ∷ []) old new };
-
-    fn put_back(&mut self, item: MemoryItem<P>)
-        requires { IsUsed self.old item × IsSettled item }
+        requires used { IsUsed self.old item }
+        requires settled { IsSettled item }
         ensures { Returns (item ∷ []) self.old self.new }
     {
         let slot = SlotId(item.index.0);

@@ -7,8 +7,8 @@ use Rattle.pool_slots.specs.Pools.{PoolState, IsUsed, cell_left, returned, Retur
 use Rattle.pool_slots.specs.Queues.{QueuedMemory, IsSettled}
 use Rattle.pool_slots.specs.Turns.{PutsSlot}
 use Rattle.pool_slots.proofs.GiveBacks.{returns_one}
-use Rattle.pool_slots.proofs.memory_pool.MemoryPoolPutBack.put_back.Goals.{then-item, else-item}
-use Rattle.pool_slots.proofs.memory_pool.MemoryPoolPutBack.put_back.Goals as goal
+use Rattle.pool_slots.proofs.memory_pool.MemoryPool.put_back.Goals.{then-item, else-item}
+use Rattle.pool_slots.proofs.memory_pool.MemoryPool.put_back.Goals as goal
 
 pub returns : goal.returns
 returns g c =
@@ -25,7 +25,7 @@ returns g c =
     c.free.ensures.after
     ∙ ap (λ (n : ℕ). after_free (record { 0 = n }) c.if-item.item-inside.bytes i.shard) number
     ∙ ap (λ (b : ℕ). after_free (record { 0 = m.index }) b i.shard) bytes in
-    let used : IsUsed old m = rw (← c.self.view_is) at c.requires.0 in
+    let used : IsUsed old m = rw (← c.self.view_is) at c.requires.used in
     let put : PutsSlot (record { 0 = m.index }) (cell_left m.known m.slot) m.bytes old new = record {
       after = shard;
       unused = rw number at c.free.ensures.unused;
@@ -38,7 +38,7 @@ returns g c =
       keep_resident = refl;
     } in
     let is : new ≡ returned m old = rw (shard, place, cell) refl in
-    returns_one m old new used c.requires.1 put is in
+    returns_one m old new used c.requires.settled put is in
     let V : Cell → QueuedMemory → Type 0 = λ x y. x ≡ cell_left y.known y.slot in
     rw (← c.self.view_is) (elim c.if-item.branch [
       | then-item w ↦ finish (ap cell_of w.into-is ∙ subst (V (previously_used c.item.inside.slot)) c.item.view_is (rw w.if-item.true refl)) (ap (λ x. x.bytes) w.item-inside-is ∙ ap (λ (x : QueuedMemory). x.bytes) c.item.view_is)
