@@ -13,7 +13,8 @@ use Rattle.pool_slots.specs.declared.request.ConcurrencyKind.TheVariants.{Memory
 use Rattle.pool_alloc.specs.Reserved.{Reserved, no_room}
 use Rattle.pool_alloc.specs.Leases.{Lease}
 use Rattle.pool_alloc.specs.Steps.{After, memories_asked, images_asked, goes, ends, give_back_next, refuses, allocate_next, flushes, after_flush, no_slot}
-use Rattle.pool_alloc.specs.Sound.{IsCore, IsFrame, IsLocal, IsLeaseOf, IsSettled, IsAtRest, IsAllocating, AreSupported, HasImages, IsShapedAt, IsShapedAfter}
+use Rattle.pool_alloc.specs.Modules.{HasImages}
+use Rattle.pool_alloc.specs.Sound.{IsCore, IsFrame, IsLocal, IsLeaseOf, IsSettled, IsAtRest, IsAllocating, AreSupported, IsShapedAt, IsShapedAfter}
 use Rattle.pool_alloc.specs.Calls.{IsGrantOf, IfGranted}
 use Rattle.pool_alloc.specs.declared.pool_core.PoolCore.{PoolCore}
 use Rattle.pool_alloc.specs.declared.pool_core.Settings.{Settings}

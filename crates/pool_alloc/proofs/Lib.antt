@@ -1,3 +1,4 @@
+pub mod Advancing
 pub mod AllocationRows
 pub mod Balances
 pub mod Begun

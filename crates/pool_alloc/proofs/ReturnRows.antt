@@ -15,7 +15,7 @@ use Rattle.pool_slots.specs.Cells.{unknown, previously_used, IsCell, IsSlotOf}
 use Rattle.pool_slots.specs.Queues.{QueueState, QueuedMemory, AreApart, LeavesClean, after_take, taken_into, emptied, joined}
 use Rattle.pool_alloc.specs.Leases.{Lease}
 use Rattle.pool_alloc.specs.Reserved.{with_item}
-use Rattle.pool_alloc.specs.Own.{slot_ended, reset_listed}
+use Rattle.pool_alloc.specs.Own.{slot_ended, reset_listed, reset_into}
 use Rattle.pool_alloc.specs.Steps.{shard_at, queue_at, shard_of, freed_of, freed_elsewhere, first_shard, after_frees, cell_returned, goes, give_back_next, flushes, after_flush, queue_tried, with_shard, with_cell, with_queue, counting_instances, counting_memories, returns, uncount_memory_row, reset_row, merge_row, decommit_row, puts, put_region_row, free_row, answer_of, uncount_instance_row}
 use Rattle.pool_alloc.specs.Answers.{Decommits}
 use Rattle.pool_alloc.specs.Sound.{IsCore, IsShared, IsLocal, IsLeaseOf, IsQueuedOf, IsSettled, IsAtRest, IsShapedAfter}

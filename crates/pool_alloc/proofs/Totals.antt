@@ -1,15 +1,17 @@
 -- Sums over the parts of the pool, one part after the other, each up to the end of its type.
-use Rattle.std.proofs.Common.{◌≡◌, ℕ, ◌+◌, ◌-◌, ◌^◌, ◌<◌, List, [], ◌∷◌, ◌++◌, length, take, get_or, ap, ◌∙◌, arith}
+use Rattle.std.proofs.Common.{◌≡◌, ℕ, ◌+◌, ◌-◌, ◌^◌, ◌<◌, List, [], ◌∷◌, ◌++◌, length, take, get_or, sym, ap, ◌∙◌, arith}
 use Rattle.std.specs.Prelude.{min, sum_by, map}
 use Rattle.std.specs.List.{flat_map}
 use Rattle.std.proofs.lemmas.List.{take_more, append-nil, map-append}
-use Rattle.std.proofs.lemmas.List.Sums.{sum_by_more, sum_by-append}
+use Rattle.std.proofs.lemmas.List.Sums.{sum_by_more, sum_by_push, sum_by-append}
 use Rattle.std.proofs.lemmas.Grind.{flat_map-append}
 use Rattle.pool_pages.specs.declared.pages.PageCalls.{PageCalls}
 use Rattle.pool_index.specs.Shard.{ShardState, resident_bytes}
 use Rattle.pool_slots.specs.Cells.{Cell, unknown, calls_in, calls_of_all, sum_at_most, both, added}
 use Rattle.pool_slots.specs.Queues.{QueueState, QueuedMemory, calls_held}
-use Rattle.pool_alloc.specs.Sums.{warm_slots, resident_sum, calls_of_queues}
+use Rattle.pool_alloc.specs.Sums.{warm_slots, resident_sum, calls_of_queues, calls_of_leases}
+use Rattle.pool_alloc.specs.Leases.{Lease}
+use Rattle.pool_memory.specs.Memories.{slot_of}
 
 one_more : (s x t m : ℕ) → t ≡ s + x → min (min s m + x) m ≡ min t m
 one_more s x t m e = omega arith
@@ -34,20 +36,31 @@ same_calls a b e h m z r c d =
     ∙ ap (λ (n : ℕ). record b { recolour = n; decommit = a.decommit }) c
     ∙ ap (λ (n : ℕ). record b { decommit = n }) d
 
-cell_more : (of : PageCalls → ℕ) (cells : List Cell) (i : ℕ) (d : Cell) → i < length cells → both (sum_at_most of (take i cells)) (of (calls_in (get_or cells i d))) ≡ sum_at_most of (take (i + 1) cells)
-cell_more of cells i d inside = one_more _ _ _ (2 ^ 64 - 1) (sum_by_more (λ (c : Cell). of (calls_in c)) cells i d inside)
+cell_more : (of : PageCalls → ℕ) (cells : List Cell) (cell : Cell) → both (sum_at_most of cells) (of (calls_in cell)) ≡ sum_at_most of (cells ++ cell ∷ [])
+cell_more of cells cell = one_more _ _ _ (2 ^ 64 - 1) (sum_by_push (λ (c : Cell). of (calls_in c)) cells cell)
 
 -- one cell more
+pub cells_push : (cells : List Cell) (cell : Cell) → added (calls_of_all cells) (calls_in cell) ≡ calls_of_all (cells ++ cell ∷ [])
+cells_push cells cell =
+    same_calls (added (calls_of_all cells) (calls_in cell)) (calls_of_all (cells ++ cell ∷ []))
+    (cell_more (λ c. c.expose) cells cell)
+    (cell_more (λ c. c.hide) cells cell)
+    (cell_more (λ c. c.map_image) cells cell)
+    (cell_more (λ c. c.remap_zeros) cells cell)
+    (cell_more (λ c. c.erase) cells cell)
+    (cell_more (λ c. c.recolour) cells cell)
+    (cell_more (λ c. c.decommit) cells cell)
+
 pub cells_more : (cells : List Cell) (i : ℕ) (d : Cell) → i < length cells → added (calls_of_all (take i cells)) (calls_in (get_or cells i d)) ≡ calls_of_all (take (i + 1) cells)
-cells_more cells i d inside =
-    same_calls (added (calls_of_all (take i cells)) (calls_in (get_or cells i d))) (calls_of_all (take (i + 1) cells))
-    (cell_more (λ c. c.expose) cells i d inside)
-    (cell_more (λ c. c.hide) cells i d inside)
-    (cell_more (λ c. c.map_image) cells i d inside)
-    (cell_more (λ c. c.remap_zeros) cells i d inside)
-    (cell_more (λ c. c.erase) cells i d inside)
-    (cell_more (λ c. c.recolour) cells i d inside)
-    (cell_more (λ c. c.decommit) cells i d inside)
+cells_more cells i d inside = cells_push (take i cells) (get_or cells i d) ∙ ap calls_of_all (sym (take_more cells i d inside))
+
+-- one memory more
+pub leases_more : (leases : List Lease) (i : ℕ) (d : Lease) → i < length leases → added (calls_of_leases (take i leases)) (slot_of (get_or leases i d).memory).region.calls ≡ calls_of_leases (take (i + 1) leases)
+leases_more leases i d inside =
+    let cell : Lease → Cell = λ l. unknown (slot_of l.memory) in
+    cells_push (map cell (take i leases)) (cell (get_or leases i d))
+    ∙ ap calls_of_all (sym (map-append cell (take i leases) (get_or leases i d ∷ [])))
+    ∙ ap (λ (l : List Lease). calls_of_leases l) (sym (take_more leases i d inside))
 
 -- of slots in a queue
 abbrev held_sum : (PageCalls → ℕ) → List QueuedMemory → ℕ

@@ -29,12 +29,13 @@ impl<P: Pages> Frame<P> {
     fn give_back(&mut self, lease: InstanceLease<P>)
         ensures { self.new ≡ gives_back (Grant.Instance lease) self.old }
     {
-        self.phase = if lease.memories.is_empty() {
+        let memories = lease.memories;
+        self.phase = if memories.is_empty() {
             Phase::UncountInstance
         } else {
             Phase::UncountMemory
         };
-        self.returning = lease.memories;
+        self.returning = memories;
         self.ending = Ending::Returned;
     }
 
