@@ -5,6 +5,7 @@ pub mod Begun
 pub mod BegunCalls
 pub mod Conserving
 pub mod CoreChanges
+pub mod Endings
 pub mod Fitting
 pub mod FreeTurns
 pub mod FreedSlots
@@ -16,6 +17,7 @@ pub mod Held
 pub mod Kept
 pub mod KeptCounts
 pub mod LocalQueues
+pub mod Making
 pub mod Makings
 pub mod Picks
 pub mod QueueCounts
@@ -26,11 +28,13 @@ pub mod RegionCounts
 pub mod RegionRows
 pub mod Relying
 pub mod ReturnRows
+pub mod Rounding
 pub mod SameSizes
 pub mod ShardFrees
 pub mod SlotCounts
 pub mod SlotIdentity
 pub mod Stages
+pub mod Steps
 pub mod Supporting
 pub mod Telling
 pub mod Totals

@@ -1,5 +1,5 @@
 -- A step: a row of the table under answers that may come, and what it keeps.
-use Rattle.std.specs.Prelude.{◌≡◌, ℕ, ◌+◌, ◌^◌, ◌<◌, length, Option, Some, None}
+use Rattle.std.specs.Prelude.{◌≡◌, ℕ, ◌+◌, ◌^◌, ◌<◌, ◌≤◌, ◌&&◌, length, Bool, true, false, not, Option, Some, None, is_some}
 use Rattle.pool_pages.specs.MakerTold.{MakerTold}
 use Rattle.pool_limits.specs.LimiterTold.{LimiterTold}
 use Rattle.pool_alloc.specs.Steps.{Given, After, row}
@@ -8,6 +8,8 @@ use Rattle.pool_alloc.specs.Places.{Thing, kept_count, frame_count, leased_count
 use Rattle.pool_alloc.specs.Sound.{IsCore, IsFrame, Fits}
 use Rattle.pool_alloc.specs.declared.pool_core.PoolCore.{PoolCore}
 use Rattle.pool_alloc.specs.declared.frame.Frame.{Frame}
+use Rattle.pool_alloc.specs.declared.frame.Phase.{Phase}
+use Rattle.pool_alloc.specs.declared.frame.Phase.TheVariants.{Idle}
 use Rattle.pool_alloc.specs.declared.frame.Grant.{Grant}
 use Rattle.pool_alloc.specs.declared.frame.Grant.TheVariants.{Instance}
 use Rattle.pool_alloc.specs.declared.frame.Outcome.{Outcome}
@@ -55,6 +57,17 @@ module _ {P : Type 0} where
     pub cells : length new.cells ≡ length old.cells
     pub shards : length new.shards ≡ length old.shards
     pub queues : length new.queues ≡ length old.queues
+
+  -- no call is under way
+  abbrev pub is_idle : Phase P → Bool
+  is_idle Idle = true
+  is_idle _ = false
+
+  -- A step answers exactly where the call that was under way ends with it. No counter but the key rises by more than one.
+  pub record EndsWith (c : PoolCore P) (f : Frame P) (a : After P) : Type 0 where
+    pub answer : is_some a.outcome ≡ (not (is_idle f.phase) && is_idle a.frame.phase)
+    pub instances : a.core.counters.core_instances ≤ c.counters.core_instances + 1
+    pub memories : a.core.counters.memories ≤ c.counters.memories + 1
 
   -- no counter but the key stands at its end
   pub record CanCount (c : PoolCore P) : Type 0 where

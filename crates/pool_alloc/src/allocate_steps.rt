@@ -3,6 +3,7 @@ ghost use Rattle.pool_index.specs.Shard.{use_of};
 ghost use Rattle.pool_slots.specs.Cells.{is_taken};
 ghost use Rattle.pool_alloc.specs.Steps.{After, memories_asked, shard_at, cell_at, shard_of, local_of, wanted, allocate_next, give_back_next, refuses, no_slot, key_row, count_instance_row, pick_row, pick_next, take_region_row, count_memory_row, put_refused_row, free_refused_row};
 
+use crate::frame_calls::next_return;
 use crate::frame::{Ending, Frame, Grant, Outcome, Phase};
 use crate::lease::{InstanceLease, MemoryLease};
 use crate::pool_core::PoolCore;
@@ -33,11 +34,7 @@ impl<P: Pages> PoolCore<P> {
     pub(crate) fn give_back_next(&mut self, frame: &mut Frame<P>) -> Option<Outcome<P>>
         ensures { ◌≡◌ {A = After P} (record { core = self.new; frame = frame.new; outcome = result }) (give_back_next self.old frame.old) }
     {
-        frame.phase = if frame.returning.is_empty() {
-            Phase::UncountInstance
-        } else {
-            Phase::UncountMemory
-        };
+        frame.phase = next_return(&frame.returning);
         None
     }
 

@@ -1,10 +1,11 @@
-ghost use Rattle.std.specs.Prelude.{◌≡◌, ◌<◌, ◌^◌, length};
+ghost use Rattle.std.specs.Prelude.{◌≡◌, ◌<◌, ◌^◌, ◌==◌, length, if◌then◌else◌};
 ghost use Rattle.pool_alloc.specs.Calls.{IsIdle, begun_call, gives_back};
 ghost use Rattle.pool_alloc.specs.Sums.{calls_in_frame, calls_in_phase};
 ghost use Rattle.pool_alloc.specs.Steps.{memories_asked, wanted};
 
 use crate::frame::{Call, Ending, Frame, Grant, Phase};
-use crate::lease::{InstanceLease, calls_of};
+use crate::lease::{InstanceLease, MemoryLease, calls_of};
+use crate::reserved::ReservedList;
 use pool_index::MemoryInModule;
 use pool_pages::{DefinedMemoryIndex, PageCalls, Pages};
 use pool_slots::{add_calls, no_calls};
@@ -29,14 +30,9 @@ impl<P: Pages> Frame<P> {
     fn give_back(&mut self, lease: InstanceLease<P>)
         ensures { self.new ≡ gives_back (Grant.Instance lease) self.old }
     {
-        let memories = lease.memories;
-        self.phase = if memories.is_empty() {
-            Phase::UncountInstance
-        } else {
-            Phase::UncountMemory
-        };
-        self.returning = memories;
+        self.returning = lease.memories;
         self.ending = Ending::Returned;
+        self.phase = next_return(&self.returning);
     }
 
     /// The calls made so far on the regions that the call under way has.
@@ -67,6 +63,17 @@ impl<P: Pages> Frame<P> {
             None => None,
             Some(call) => Some(MemoryInModule(call.id, index)),
         }
+    }
+}
+
+// What there is to give back next: a memory, or else the instance.
+pub(crate) fn next_return<P: Pages>(returning: &ReservedList<MemoryLease<P>>) -> Phase<P>
+    ensures { result ≡ (if length returning.now.items == 0 then Phase.UncountInstance else Phase.UncountMemory) }
+{
+    if returning.is_empty() {
+        Phase::UncountInstance
+    } else {
+        Phase::UncountMemory
     }
 }
 

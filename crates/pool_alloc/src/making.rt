@@ -39,11 +39,13 @@ impl<P: Pages> PoolCore<P> {
         ensures faults { MatchResult result (λ _. (M.told maker.new).faults ≡ (M.told maker.old).faults) (RaisesFaults (M.told maker.old).faults (M.told maker.new).faults) }
         ensures planned { MatchResult result (λ _. IfSome (M.told maker.old).plan (λ plan. makes_listed plan config.now.limits.total_memories ≡ false)) (λ e. IfSome (M.told maker.old).plan (λ plan. IsListed (makes_listed plan config.now.limits.total_memories) e)) }
     {
-        let settings = settings_of(maker.page(), config, tunables);
+        let page = maker.page();
+        let _bytes = page.get();
+        let settings = settings_of(page, config, tunables);
         let total = config.limits.total_memories;
         let shards = make_shards(alloc, total, config.max_unused_warm_slots)?;
         let queues = make_queues(alloc, settings.batch)?;
-        let len = HostAlignedByteCount::rounded_up_unchecked(settings.page, settings.max_memory_size);
+        let len = HostAlignedByteCount::rounded_up_unchecked(page, settings.max_memory_size);
         let cells = make_cells(alloc, maker, total, len)?;
         Ok(PoolCore {
             shards,

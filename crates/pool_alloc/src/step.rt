@@ -1,15 +1,44 @@
-ghost use Rattle.std.specs.Prelude.{◌≡◌};
+ghost use Rattle.std.specs.Option.{option_copied_mut};
+ghost use Rattle.pool_pages.specs.MakerTold.{MakerTold};
+ghost use Rattle.pool_limits.specs.LimiterTold.{limiter_told, option_left};
+ghost use Rattle.pool_alloc.specs.Calls.{IsGrantOf, IfGranted};
 ghost use Rattle.pool_alloc.specs.CanStep.{CanStepAt};
-ghost use Rattle.pool_alloc.specs.Stepping.{StepsTo};
+ghost use Rattle.pool_alloc.specs.Steps.{memories_asked};
+ghost use Rattle.pool_alloc.specs.Stepping.{CanStep, CanCount, StepsTo, Conserves, EndsWith, IsSameSize};
 
 use crate::frame::{Frame, Outcome, Phase};
 use crate::pool_core::PoolCore;
-use pool_limits::ResourceLimiter;
+use pool_limits::{ResourceLimiter, Unlimited};
 use pool_pages::Pages;
 use std::alloc::Global;
 use std::mem;
 
 impl<P: Pages> PoolCore<P> {
+    /// Makes one step of the frame's call, as the step table says. Answers Some exactly where the call ends with it. A
+    /// step of a frame without a call changes nothing. Only the making of a memory asks the limiter; without one it is
+    /// granted.
+    pub fn step<R: ResourceLimiter>(
+        &mut self,
+        alloc: Global,
+        frame: &mut Frame<P>,
+        limiter: Option<&mut R>,
+    ) -> Option<Outcome<P>>
+        ghost maker: { MakerTold }
+        requires can { CanStep maker self.old frame.old }
+        requires counts { CanCount self.old }
+        ensures row { StepsTo (limiter_told R.told (option_copied_mut limiter.entry)) (limiter_told R.told (option_left limiter.exit)) self.old frame.old (record { core = self.new; frame = frame.new; outcome = result }) }
+        ensures can { CanStep maker self.new frame.new }
+        ensures conserves { Conserves self.old frame.old (record { core = self.new; frame = frame.new; outcome = result }) }
+        ensures granted { IfGranted (IsGrantOf maker self.old.settings (memories_asked frame.old.asked)) result }
+        ensures ended { EndsWith self.old frame.old (record { core = self.new; frame = frame.new; outcome = result }) }
+        ensures size { IsSameSize self.old self.new }
+    {
+        match limiter {
+            Some(limiter) => self.advance(alloc, frame, limiter),
+            None => self.advance(alloc, frame, &mut Unlimited),
+        }
+    }
+
     // One step of the frame's call, over a limiter.
     pub(crate) fn advance<L: ResourceLimiter>(
         &mut self,
