@@ -1,5 +1,8 @@
 ghost use Rattle.std.specs.Prelude.{◌≡◌, ◌<◌, ◌^◌, ◌==◌, length, if◌then◌else◌};
-ghost use Rattle.pool_alloc.specs.Calls.{IsIdle, begun_call, gives_back};
+ghost use Rattle.pool_pages.specs.MakerTold.{MakerTold};
+ghost use Rattle.pool_alloc.specs.Calls.{IsIdle, MayBegin, begun_call, gives_back};
+ghost use Rattle.pool_alloc.specs.Sound.{IsFrame};
+ghost use Rattle.pool_alloc.specs.declared.pool_core.PoolCore.{PoolCore};
 ghost use Rattle.pool_alloc.specs.Sums.{calls_in_frame, calls_in_phase};
 ghost use Rattle.pool_alloc.specs.Steps.{memories_asked, wanted};
 
@@ -14,7 +17,8 @@ impl<P: Pages> Frame<P> {
     /// Begins a call. Takes no memory.
     pub fn begin(&mut self, call: Call<P>)
         requires { IsIdle self.old }
-        ensures { self.new ≡ begun_call call self.old }
+        ensures value { self.new ≡ begun_call call self.old }
+        ensures sound { (maker : MakerTold) (core : PoolCore P) → IsFrame maker core self.old → MayBegin maker core.settings call self.old → IsFrame maker core self.new }
     {
         match call {
             Call::Key => self.phase = Phase::Key,

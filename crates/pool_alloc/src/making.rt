@@ -1,12 +1,13 @@
 ghost use Rattle.std.specs.Prelude.{◌≡◌, ◌+◌, ◌*◌, ◌^◌, ◌<◌, ◌≤◌, [], ◌∷◌, false, IfOk, IfErr, IfSome, MatchResult};
 ghost use Rattle.pool_hall.specs.declared.unit_name.SlotKind.TheVariants.{Memory as memory_kind};
 ghost use Rattle.pool_pages.specs.ConfigLimits.{IsWithinLimits};
+ghost use Rattle.pool_pages.specs.MakerTold.{MakerTold};
 ghost use Rattle.pool_index.specs.Shard.{IsShard, fresh_shard};
 ghost use Rattle.pool_slots.specs.Pools.{RaisesFaults, makes_listed, IsListed};
 ghost use Rattle.pool_slots.specs.Queues.{empty_queue};
 ghost use Rattle.pool_alloc.specs.Calls.{frame_made};
 ghost use Rattle.pool_alloc.specs.Made.{settings_of, IsMadeCore, HasMadeCells};
-ghost use Rattle.pool_alloc.specs.Sound.{IsCore};
+ghost use Rattle.pool_alloc.specs.Sound.{IsCore, IsFrame};
 ghost use Rattle.pool_alloc.specs.Whole.{IsUntouched};
 
 use crate::frame::{Ending, Frame, Phase};
@@ -63,7 +64,8 @@ impl<P: Pages> PoolCore<P> {
     /// A party's frame, at home in the shard and the queue that its home's number gives, without a call.
     pub fn frame(&self, alloc: Global, home: u32) -> Result<Frame<P>, AllocError>
         requires { self.now.settings.batch ≤ 4096 }
-        ensures { IfOk result (λ f. f ≡ frame_made home self.now.settings) }
+        ensures made { IfOk result (λ f. f ≡ frame_made home self.now.settings) }
+        ensures sound { IfOk result (λ f. (maker : MakerTold) → IsCore maker self.now → IsFrame maker self.now f) }
     {
         let room = 2 * self.settings.batch;
         let local = DecommitQueue::new(alloc, room, room)?;
