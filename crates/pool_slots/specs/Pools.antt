@@ -9,11 +9,11 @@ use Rattle.pool_index.specs.Shard.{ShardState, IsShard, fresh_shard, use_of, is_
 use Rattle.pool_hall.specs.declared.unit_name.SlotKind.TheVariants.{Memory as memory_kind}
 use Rattle.pool_images.specs.Images.{Image}
 use Rattle.pool_images.specs.Slots.{Slot, IsBegun}
-use Rattle.pool_slots.specs.Queues.{QueuedMemory, IsSettled, holds}
+use Rattle.pool_slots.specs.Queues.{QueuedMemory, holds}
 use Rattle.pool_slots.specs.Memories.{Lease, IsMemory}
 use Rattle.pool_slots.specs.Cells.{Cell, unmapped, unknown, previously_used, taken, is_taken, faults_in, region_made, IsCell, IsSlotOf}
 use Rattle.pool_slots.specs.declared.request.AllocError.{AllocError}
-use Rattle.pool_slots.specs.declared.request.AllocError.TheVariants.{Memory, Limit, PageFault}
+use Rattle.pool_slots.specs.declared.request.AllocError.TheVariants.{Memory, Unsupported, Limit, LimiterDenied, LimiterFault, PageFault}
 use Rattle.pool_slots.specs.declared.request.PoolNewError.{PoolNewError}
 use Rattle.pool_slots.specs.declared.request.PoolNewError.TheVariants as refused
 use Rattle.pool_slots.specs.declared.request.ConcurrencyKind.TheVariants.{MemoryStripe}
@@ -134,6 +134,9 @@ pub record HasFaulted (maker : MakerTold) (old new : PoolState) : Type 0 where
 -- when an allocation is refused: never for want of memory
 abbrev pub IsRefused : MakerTold → PoolState → PoolState → AllocError → Type 0
 IsRefused maker old new Memory = ⊥
+IsRefused maker old new (Unsupported rule) = ⊥
+IsRefused maker old new (LimiterDenied table min) = ⊥
+IsRefused maker old new (LimiterFault e) = ⊥
 IsRefused maker old new (Limit e) = IsFull old new e
 IsRefused maker old new PageFault = HasFaulted maker old new
 
@@ -171,13 +174,3 @@ pub record Returns (items : List QueuedMemory) (old new : PoolState) : Type 0 wh
   pub same : (new.page ≡ old.page) × (new.static_size ≡ old.static_size) × (new.keep_resident ≡ old.keep_resident)
   pub used : (maker : MakerTold) → IsPool maker old → AreSlotsOf maker old.static_size items → used_count new.shard + length items ≡ used_count old.shard
   pub pool : (maker : MakerTold) → IsPool maker old → AreSlotsOf maker old.static_size items → IsPool maker new
-
--- the first of the slots, if there is one, can come back
-abbrev pub CanReturnFirst : PoolState → List QueuedMemory → Type 0
-CanReturnFirst p [] = Unit {0}
-CanReturnFirst p (m ∷ ms) = IsUsed p m × IsSettled m
-
--- it came back, and the others are left
-abbrev pub ReturnsFirst : List QueuedMemory → List QueuedMemory → PoolState → PoolState → Type 0
-ReturnsFirst [] rest old new = (rest ≡ []) × (new ≡ old)
-ReturnsFirst (m ∷ ms) rest old new = (rest ≡ ms) × Returns (m ∷ []) old new

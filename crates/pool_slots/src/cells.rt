@@ -74,7 +74,8 @@ impl<P: Pages> MemoryCell<P> {
     }
 }
 
-pub(crate) fn no_calls() -> PageCalls
+/// No calls.
+pub fn no_calls() -> PageCalls
     ensures { result ≡ no_calls }
 {
     PageCalls {

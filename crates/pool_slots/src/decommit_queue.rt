@@ -82,8 +82,8 @@ impl<P: Pages> DecommitQueue<P> {
         self.push_range(QueuedRange { kind, slot, range });
     }
 
-    // Notes ranges of a memory's slot.
-    pub(crate) fn push_ranges(&mut self, slot: SlotId, ranges: &[ByteRange])
+    /// Notes ranges of a memory's slot, in order, before the slot itself is pushed.
+    pub fn push_ranges(&mut self, slot: SlotId, ranges: &[ByteRange])
         requires room { length self.old.ranges + length ranges.now ≤ self.old.range_room }
         requires not_held { holds slot.0 self.old.memories ≡ false }
         ensures { self.new ≡ with_ranges slot.0 ranges.now self.old }

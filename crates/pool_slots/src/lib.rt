@@ -16,9 +16,10 @@ mod slot_return;
 mod static_memory;
 mod uses;
 
-pub use cells::{ImageSlot, MemoryCell, add_calls};
+pub use cells::{ImageSlot, MemoryCell, add_calls, no_calls};
 pub use decommit_queue::DecommitQueue;
 pub use lease::MemoryLease;
+pub use making::make_cells;
 pub use memory_items::{MemoryItem, MemoryItems};
 pub use memory_pool::MemoryPool;
 pub use queued_range::{QueueKind, QueuedRange};

@@ -10,8 +10,8 @@ use crate::request::PoolNewError;
 use pool_pages::{HostAlignedByteCount, MakeFault, PageMaker, Pages, RegionName};
 use std::alloc::Global;
 
-// The cells of so many memory slots, each with a region of this length of which nothing can be reached.
-pub(crate) fn make_cells<P: Pages, M: PageMaker<Region = P>>(
+/// The cells of so many memory slots, each with a region of this length of which nothing can be reached.
+pub fn make_cells<P: Pages, M: PageMaker<Region = P>>(
     alloc: Global,
     maker: &mut M,
     total: u32,

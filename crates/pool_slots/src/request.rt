@@ -1,7 +1,8 @@
 ghost use Rattle.std.specs.Prelude.{◌≡◌, Some};
 ghost use Rattle.pool_slots.specs.Texts.{kind_text, limit_text};
 
-use pool_pages::BadConfig;
+use pool_limits::LimiterError;
+use pool_pages::{BadConfig, Unsupported};
 use std::error::Error;
 use std::fmt;
 
@@ -56,8 +57,14 @@ impl Error for PoolConcurrencyLimitError {}
 pub enum AllocError {
     /// No memory was to be had.
     Memory,
+    /// The pool can't have such a module or memory.
+    Unsupported(Unsupported),
     /// No slot is free, or a counter is at its limit.
     Limit(PoolConcurrencyLimitError),
+    /// The limiter said no to a memory of `min` pages of its own, or to a table of `min` elements.
+    LimiterDenied { table: bool, min: u64 },
+    /// The limiter answered an error.
+    LimiterFault(LimiterError),
     /// A call on the pages of the slot failed.
     PageFault,
 }

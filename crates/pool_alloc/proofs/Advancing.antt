@@ -1,0 +1,103 @@
+-- A step that the code makes, as a row of the table.
+use Rattle.std.proofs.Common.{◌≡◌, ℕ, ◌-◌, Bool, List, [], ◌∷◌, length, refl, sym, ap, subst, ◌∙◌, Option, Some, None, Result, Ok, Err}
+use Rattle.std.specs.Prelude.{◌==◌, if◌then◌else◌}
+use Rattle.pool_pages.specs.declared.unsupported.Unsupported.{Unsupported}
+use Rattle.pool_images.specs.Slots.{Slot}
+use Rattle.pool_index.specs.Shard.{ShardState, pick_answer, after_pick}
+use Rattle.pool_index.specs.declared.ids.SlotId.{SlotId}
+use Rattle.pool_memory.specs.Memories.{MemoryState}
+use Rattle.pool_slots.specs.Cells.{Cell, unmapped, unknown, previously_used, taken}
+use Rattle.pool_slots.specs.Queues.{QueuedMemory}
+use Rattle.pool_slots.specs.declared.request.AllocError.{AllocError}
+use Rattle.pool_limits.specs.LimiterTold.{LimiterTold}
+use Rattle.pool_limits.specs.declared.errors.LimiterError.{LimiterError}
+use Rattle.pool_alloc.specs.Answers.{MayBeTold, AsksOf}
+use Rattle.pool_alloc.specs.Steps.{Given, After, memories_asked, shard_at, cell_at, freed_of, freed_elsewhere, first_shard, after_frees, with_shard, with_cell, counting_memories, goes, validated, validate_row, wanted, shard_tried, picked, pick_row, holds_region, take_region_row, made, make_memory_row, returns, uncount_memory_row, puts, put_region_row, after_flush, were_freed, free_row, row_of}
+use Rattle.pool_alloc.specs.Own.{memory_made}
+use Rattle.pool_alloc.specs.Refusals.{memories_refused}
+use Rattle.pool_alloc.specs.Leases.{Lease}
+use Rattle.pool_alloc.specs.Stepping.{StepsTo}
+use Rattle.pool_alloc.specs.declared.pool_core.PoolCore.{PoolCore}
+use Rattle.pool_alloc.specs.declared.frame.Frame.{Frame}
+use Rattle.pool_alloc.specs.declared.frame.Phase.{Phase}
+use Rattle.pool_alloc.specs.declared.frame.Phase.TheVariants.{Idle, Free}
+use Rattle.pool_alloc.specs.declared.frame.AfterFlush.{AfterFlush}
+use Rattle.pool_alloc.specs.declared.frame.AfterFlush.TheVariants.{PickAgain, GiveBackNext}
+
+module _ {P : Type 0} where
+  pub by_row : (old new : LimiterTold) (g : Given) (next : Phase P) (c : PoolCore P) (f : Frame P) (a : After P) → f.phase ≡ next → MayBeTold c.settings g next f → AsksOf old new g next f → a ≡ row_of g next c f → StepsTo old new c f a
+  by_row old new g next c f a is told asks row =
+      let T : Phase P → Type 0 = λ p. MayBeTold c.settings g p f in
+      let L : Phase P → Type 0 = λ p. AsksOf old new g p f in
+      (
+        g,
+        record {
+          told = subst T (sym is) told;
+          limiter = subst L (sym is) asks;
+          is = row ∙ ap (λ (p : Phase P). row_of g p c f) (sym is);
+        },
+      )
+
+  -- nothing is changed where no call is under way
+  pub idle_row : (g : Given) (c : PoolCore P) (f : Frame P) (left : Phase P) → f.phase ≡ Idle → left ≡ Idle → ◌≡◌ {A = After P} (record { core = c; frame = record f { phase = left }; outcome = None }) (row_of g Idle c f)
+  idle_row g c f left is e = ap (λ (p : Phase P). record { core = c; frame = record f { phase = p }; outcome = None }) (e ∙ sym is)
+
+-- No row reads the phase of the frame that it is applied to.
+module _ {P : Type 0} (p : Phase P) where
+  validated_reads : (rule : Option Unsupported) (wants : Bool) (c : PoolCore P) (f : Frame P) → validated rule wants c (record f { phase = p }) ≡ validated rule wants c f
+  validated_reads (Some rule) wants c f = refl
+  validated_reads None wants c f = refl
+
+  picked_reads : (o : Option (SlotId × ℕ)) (shard : ShardState) (queues tried : ℕ) (c : PoolCore P) (f : Frame P) → picked o shard queues tried c (record f { phase = p }) ≡ picked o shard queues tried c f
+  picked_reads (Some x) shard queues tried c f = refl
+  picked_reads None shard queues tried c f = refl
+
+  holds_reads : (slot : ℕ) (cell : Cell) (c : PoolCore P) (f : Frame P) → holds_region slot cell c (record f { phase = p }) ≡ holds_region slot cell c f
+  holds_reads slot (unmapped region) c f = refl
+  holds_reads slot (unknown held) c f = refl
+  holds_reads slot (previously_used held) c f = refl
+  holds_reads slot taken c f = refl
+
+  made_reads : (slot : ℕ) (held : Slot) (r : Result MemoryState AllocError) (c : PoolCore P) (f : Frame P) → made slot held r c (record f { phase = p }) ≡ made slot held r c f
+  made_reads slot held (Ok memory) c f = refl
+  made_reads slot held (Err e) c f = refl
+
+  returns_reads : (leases : List Lease) (c : PoolCore P) (f : Frame P) → returns leases c (record f { phase = p }) ≡ returns leases c f
+  returns_reads [] c f = refl
+  returns_reads (lease ∷ rest) c f = refl
+
+  puts_reads : (after : AfterFlush) (memories : List QueuedMemory) (c : PoolCore P) (f : Frame P) → puts after memories c (record f { phase = p }) ≡ puts after memories c f
+  puts_reads after [] c f = refl
+  puts_reads after (m ∷ rest) c f = refl
+
+  after_flush_reads : (after : AfterFlush) (c : PoolCore P) (f : Frame P) → after_flush after c (record f { phase = p }) ≡ after_flush after c f
+  after_flush_reads (PickAgain queues) c f = refl
+  after_flush_reads GiveBackNext c f = refl
+
+  were_freed_reads : (after : AfterFlush) (c : PoolCore P) (f : Frame P) → were_freed after c (record f { phase = p }) ≡ were_freed after c f
+  were_freed_reads after c f = ap (λ (x : After P). if length f.freed.items == 0 then x else goes c f (Free after)) (after_flush_reads after c f)
+
+  pub validate_reads : (wants : Bool) (c : PoolCore P) (f : Frame P) → validate_row wants c (record f { phase = p }) ≡ validate_row wants c f
+  validate_reads wants c f = validated_reads (memories_refused c.settings (memories_asked f.asked)) wants c f
+
+  pub pick_reads : (queues tried : ℕ) (c : PoolCore P) (f : Frame P) → pick_row queues tried c (record f { phase = p }) ≡ pick_row queues tried c f
+  pick_reads queues tried c f =
+      picked_reads (pick_answer (wanted f) (shard_at (shard_tried tried c f) c.shards)) (shard_at (shard_tried tried c f) c.shards) queues tried
+      (with_shard (shard_tried tried c f) (after_pick (wanted f) (shard_at (shard_tried tried c f) c.shards)) c) f
+
+  pub take_region_reads : (slot : ℕ) (c : PoolCore P) (f : Frame P) → take_region_row slot c (record f { phase = p }) ≡ take_region_row slot c f
+  take_region_reads slot c f = holds_reads slot (cell_at slot c.cells) (with_cell slot taken c) f
+
+  pub make_memory_reads : (answer : Result Bool LimiterError) (slot : ℕ) (held : Slot) (c : PoolCore P) (f : Frame P) → make_memory_row answer slot held c (record f { phase = p }) ≡ make_memory_row answer slot held c f
+  make_memory_reads answer slot held c f = made_reads slot held (memory_made c.settings (memories_asked f.asked) (length f.granted.items) answer held) c f
+
+  pub uncount_memory_reads : (c : PoolCore P) (f : Frame P) → uncount_memory_row c (record f { phase = p }) ≡ uncount_memory_row c f
+  uncount_memory_reads c f = returns_reads f.returning.items (counting_memories (c.counters.memories - 1) c) f
+
+  pub put_region_reads : (after : AfterFlush) (c : PoolCore P) (f : Frame P) → put_region_row after c (record f { phase = p }) ≡ put_region_row after c f
+  put_region_reads after c f = puts_reads after f.local.memories c f
+
+  pub free_reads : (after : AfterFlush) (c : PoolCore P) (f : Frame P) → free_row after c (record f { phase = p }) ≡ free_row after c f
+  free_reads after c f =
+      let j : ℕ = first_shard c.settings f.freed.items in
+      were_freed_reads after (with_shard j (after_frees c.settings (freed_of c.settings j f.freed.items) (shard_at j c.shards)) c) (record f { freed = record f.freed { items = freed_elsewhere c.settings j f.freed.items } })

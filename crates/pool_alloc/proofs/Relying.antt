@@ -1,0 +1,33 @@
+-- What a step relies on beside what holds of parts and frames: that its frame fits the part that it changes.
+use Rattle.std.specs.Prelude.{◌≡◌, ◌<◌, length, All, false, IsSome}
+use Rattle.pool_pages.specs.MakerTold.{MakerTold}
+use Rattle.pool_index.specs.Shard.{use_of}
+use Rattle.pool_memory.specs.Memories.{slot_of}
+use Rattle.pool_slots.specs.Cells.{is_taken}
+use Rattle.pool_slots.specs.Queues.{QueueState, AreApart}
+use Rattle.pool_alloc.specs.Own.{reset_into}
+use Rattle.pool_alloc.specs.Steps.{shard_at, cell_at, queue_at, shard_of, local_of, freed_of, first_shard, queue_tried}
+use Rattle.pool_alloc.specs.Sound.{IsLocal}
+use Rattle.pool_alloc.specs.Freeing.{AreUsedInTurn}
+use Rattle.pool_alloc.specs.declared.pool_core.PoolCore.{PoolCore}
+use Rattle.pool_alloc.specs.declared.pool_core.Settings.{Settings}
+use Rattle.pool_alloc.specs.declared.frame.Frame.{Frame}
+use Rattle.pool_alloc.specs.declared.frame.Phase.{Phase}
+use Rattle.pool_alloc.specs.declared.frame.Phase.TheVariants.{TakeRegion, FreeRefused, UncountMemory, Reset, Merge, Free}
+
+-- the local queue once a memory was reset into it: it has that slot alone
+pub record IsResetLocal (maker : MakerTold) (s : Settings) (q : QueueState) : Type 0 where
+  pub queue : IsLocal maker s q
+  pub one : length q.memories ≡ 1
+
+module _ {P : Type 0} where
+  -- What the frame says of the part that its next step changes, since it fits the pool: the region of a slot that was
+  -- picked is in its cell, a slot that is freed is used, what is given back is in slots of the pool, and no shared queue
+  -- has a slot of the local one.
+  abbrev pub FitsAt : Phase P → PoolCore P → Frame P → Type 0
+  FitsAt (TakeRegion slot) c f = is_taken (cell_at slot c.cells) ≡ false
+  FitsAt (FreeRefused slot e) c f = IsSome (use_of (shard_at (shard_of c.settings slot) c.shards) (local_of c.settings slot).0)
+  FitsAt UncountMemory c f = All (λ l. l.index < length c.cells) f.returning.items
+  FitsAt Merge c f = AreApart (queue_at (queue_tried 0 c f) c.queues).memories f.local.memories
+  FitsAt (Free after) c f = AreUsedInTurn c.settings (freed_of c.settings (first_shard c.settings f.freed.items) f.freed.items) (shard_at (first_shard c.settings f.freed.items) c.shards)
+  FitsAt _ c f = Unit {0}

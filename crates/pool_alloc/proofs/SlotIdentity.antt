@@ -1,0 +1,233 @@
+-- A slot stays that of its region, whatever calls were made on it.
+use Rattle.std.proofs.Common.{◌≡◌, ℕ, ◌+◌, ◌-◌, ◌^◌, ◌≤◌, Bool, true, false, List, [], ◌∷◌, length, refl, ap, ◌∙◌, sym, subst, arith, Option, Some, None, All, replicate, slice_range}
+use Rattle.std.specs.Prelude.{IfSome, is_some, option_map, map, if◌then◌else◌}
+use Rattle.std.specs.List.{AllZip}
+use Rattle.std.proofs.lemmas.List.{length-map, length-replicate}
+use Rattle.std.proofs.lemmas.List.Elements.{All-nil, All-cons, All-head, All-tail}
+use Rattle.pool_pages.specs.Count.{count, rounded_up}
+use Rattle.pool_pages.specs.Contents.{Contents, CanReach}
+use Rattle.pool_pages.specs.Told.{Told, PageCall, decommitting}
+use Rattle.pool_pages.specs.MakerTold.{MakerTold, fresh}
+use Rattle.pool_images.specs.declared.ranges.ByteRange.{ByteRange}
+use Rattle.pool_images.specs.Slots.{Slot, IsFresh, IsClean, IsReady, IsLeft, IsSized, Holds, size_of, called, cleared, emptied, decommitted_all}
+use Rattle.pool_images.proofs.Marks.{range-zeros}
+use Rattle.pool_slots.specs.Cells.{IsSlotOf, region_made}
+use Rattle.pool_slots.specs.Queues.{QueueState, QueuedMemory, IsLeftBy, IsSlotLeft, is_of, front, first_slot, change_at, after_run}
+use Rattle.pool_slots.specs.declared.queued_range.QueueKind.TheVariants.{Memory}
+use Rattle.pool_alloc.specs.Own.{image_made}
+use Rattle.pool_alloc.specs.Sound.{IsQueuedOf}
+
+-- it is the slot of the same region
+pub record IsOneSlot (old new : Slot) : Type 0 where
+  pub base : new.base ≡ old.base
+  pub static_size : new.static_size ≡ old.static_size
+  pub colour : new.colour ≡ old.colour
+  pub name : new.region.name ≡ old.region.name
+  pub page : new.region.page ≡ old.region.page
+  pub len : new.region.len ≡ old.region.len
+  pub plan : new.region.plan ≡ old.region.plan
+  pub tells : is_some new.region.contents ≡ is_some old.region.contents
+
+pub one_slot : (s : Slot) → IsOneSlot s s
+one_slot s = record { base = refl; static_size = refl; colour = refl; name = refl; page = refl; len = refl; plan = refl; tells = refl }
+
+tells_still : (f : Contents → Contents) (o : Option Contents) → is_some (option_map f o) ≡ is_some o
+tells_still f None = refl
+tells_still f (Some c) = refl
+
+pub one_called : (s t : Slot) (call : PageCall) → IsOneSlot s t → IsOneSlot s (called call t)
+one_called s t call one =
+    record {
+      base = one.base;
+      static_size = one.static_size;
+      colour = one.colour;
+      name = one.name;
+      page = one.page;
+      len = one.len;
+      plan = one.plan;
+      tells = tells_still call.change t.region.contents ∙ one.tells;
+    }
+
+pub one_left : (old new : Slot) → IsLeft old new → IsOneSlot old new
+one_left old new left =
+    record {
+      base = left.base;
+      static_size = left.static_size;
+      colour = left.colour;
+      name = left.name;
+      page = left.page;
+      len = left.len;
+      plan = left.plan;
+      tells = left.tells;
+    }
+
+pub one_sized : (initial : ℕ) (hide : Bool) (old new : Slot) → IsSized initial hide old new → IsOneSlot old new
+one_sized initial hide old new sized =
+    record {
+      base = sized.base;
+      static_size = sized.static_size;
+      colour = sized.colour;
+      name = sized.name;
+      page = sized.page;
+      len = sized.len;
+      plan = sized.plan;
+      tells = sized.tells;
+    }
+
+pub one_emptied : (s : Slot) → IsOneSlot s (emptied s)
+one_emptied s =
+    record {
+      base = refl;
+      static_size = refl;
+      colour = refl;
+      name = refl;
+      page = refl;
+      len = refl;
+      plan = refl;
+      tells = tells_still _ s.region.contents;
+    }
+
+pub one_decommitted : (s t : Slot) (ranges : List ByteRange) → IsOneSlot s t → IsOneSlot s (decommitted_all ranges t)
+one_decommitted s t [] one = one
+one_decommitted s t (r ∷ rs) one = one_decommitted s (called (decommitting (t.base.bytes + r.start) r.len) t) rs (one_called s t (decommitting (t.base.bytes + r.start) r.len) one)
+
+pub one_cleared : (kept : ℕ) (s : Slot) → IsOneSlot s (cleared kept s)
+one_cleared kept s =
+    record {
+      base = refl;
+      static_size = refl;
+      colour = refl;
+      name = refl;
+      page = refl;
+      len = refl;
+      plan = refl;
+      tells = tells_still _ s.region.contents;
+    }
+
+-- the slot of one region stays that
+pub slot_of_one : (maker : MakerTold) (static_size i : ℕ) (old new : Slot) → IsOneSlot old new → IsSlotOf maker static_size i old → IsSlotOf maker static_size i new
+slot_of_one maker static_size i old new one of =
+    record {
+      region = record {
+        name = one.name ∙ of.region.name;
+        page = one.page ∙ of.region.page;
+        len = one.len ∙ of.region.len;
+        plan = one.plan ∙ of.region.plan;
+        tells = one.tells ∙ of.region.tells;
+      };
+      base = one.base ∙ of.base;
+      same_size = one.static_size ∙ of.same_size;
+      colour = one.colour ∙ of.colour;
+    }
+
+-- A region as it was made, and the image slot that is made of it: it is clean.
+tells_as : (page len : ℕ) (tells : Bool) → is_some (if tells then Some (fresh page 0 len) else None) ≡ tells
+tells_as page len true = refl
+tells_as page len false = refl
+
+pub slot_made : (maker : MakerTold) (page static_size i : ℕ) (region : Told) → page ≡ maker.page → region ≡ region_made maker static_size i → IsSlotOf maker static_size i (image_made page static_size region)
+slot_made maker page static_size i region paged is =
+    let P : ℕ → Told → Type 0 = λ n t. IsSlotOf maker static_size i (image_made n static_size t) in
+    let made : P maker.page (region_made maker static_size i) =
+    record {
+      region = record { name = refl; page = refl; len = refl; plan = refl; tells = tells_as maker.page (rounded_up maker.page static_size) maker.tells };
+      base = refl;
+      same_size = refl;
+      colour = refl;
+    } in
+    subst (λ (n : ℕ). P n region) (sym paged) (subst (P maker.page) (sym is) made)
+
+made_told : (page static_size len : ℕ) (tells : Bool) (region : Told) → IfSome (if tells then Some (fresh page 0 len) else None) (λ c. IsReady (image_made page static_size region) c × Holds (image_made page static_size region) 0 (size_of (image_made page static_size region)) c)
+made_told page static_size len true region =
+    let all : length (replicate {A = ℕ} len 0) ≡ len = length-replicate {A = ℕ} len 0 in (
+      record {
+        reach = λ k from below. absurd (omega arith);
+        origin = rw all refl;
+        beyond = refl;
+      },
+      refl,
+    )
+made_told page static_size len false region = tt
+
+parts_told : (P Q : Contents → Type 0) (o : Option Contents) → IfSome o (λ c. P c × Q c) → IfSome o P × IfSome o Q
+parts_told P Q None h = (h, h)
+parts_told P Q (Some c) h = (h.0, h.1)
+
+pub clean_made : (maker : MakerTold) (page static_size i : ℕ) (region : Told) → page ≡ maker.page → region ≡ region_made maker static_size i → IsClean (image_made page static_size region)
+clean_made maker page static_size i region paged is =
+    let P : ℕ → Told → Type 0 = λ n t. IsClean (image_made n static_size t) in
+    let fresh_region : Told = region_made maker static_size i in
+    let s : Slot = image_made maker.page static_size fresh_region in
+    let told = parts_told (IsReady s) (Holds s 0 (size_of s)) fresh_region.contents (made_told maker.page static_size (rounded_up maker.page static_size) maker.tells fresh_region) in
+    let made : P maker.page (region_made maker static_size i) = record { not_dirty = refl; ready = told.0; holds = told.1 } in
+    subst (λ (n : ℕ). P n region) (sym paged) (subst (P maker.page) (sym is) made)
+
+-- and the image slot can be made of it
+fresh_told : (page len : ℕ) (tells : Bool) → IfSome (if tells then Some (fresh page 0 len) else None) (λ c. (c.origin ≡ replicate len 0) × (slice_range c.bytes 0 (0 + len) ≡ replicate len 0) × CanReach 0 0 c)
+fresh_told page len true =
+    let all : 0 + len - 0 ≡ len = omega arith in
+    (refl, range-zeros len 0 (0 + len) (omega arith) ∙ ap (λ (n : ℕ). replicate {A = ℕ} n 0) all, λ k from below. absurd (omega arith))
+fresh_told page len false = tt
+
+weaker : (P Q : Contents → Type 0) (o : Option Contents) → ((c : Contents) → P c → Q c) → IfSome o P → IfSome o Q
+weaker P Q None step h = h
+weaker P Q (Some c) step h = step c h
+
+pub fresh_made : (maker : MakerTold) (page static_size i : ℕ) (region : Told) → page ≡ maker.page → static_size + page ≤ 2 ^ 64 → region ≡ region_made maker static_size i → IsFresh (count page 0) (count page 0) static_size region
+fresh_made maker page static_size i region paged bounded is =
+    let P : ℕ → Told → Type 0 = λ n t. IsFresh (count n 0) (count n 0) static_size t in
+    let B : ℕ → Type 0 = λ n. static_size + n ≤ 2 ^ 64 in
+    let t : Told = region_made maker static_size i in
+    let len : ℕ = rounded_up maker.page static_size in
+    let T : Contents → Type 0 = λ c. (c.origin ≡ replicate len 0) × (slice_range c.bytes 0 (0 + len) ≡ replicate len 0) × CanReach 0 0 c in
+    let told : IfSome t.contents T = fresh_told maker.page len maker.tells in
+    let made : P maker.page t =
+    record {
+      base_page = refl;
+      accessible_page = refl;
+      inside = omega arith;
+      bounded = subst B paged bounded;
+      within = omega arith;
+      behaviour = refl;
+      origin = weaker T (λ c. c.origin ≡ replicate len 0) t.contents (λ c h. h.0) told;
+      zeros = weaker T (λ c. slice_range c.bytes 0 (0 + len) ≡ replicate len 0) t.contents (λ c h. h.1) told;
+      reach = weaker T (CanReach 0 0) t.contents (λ c h. h.2) told;
+    } in
+    subst (λ (n : ℕ). P n region) (sym paged) (subst (P maker.page) (sym is) made)
+
+-- Queued slots stay those of their regions as ranges of one are decommitted.
+changed_if : (maker : MakerTold) (static_size : ℕ) (change : Slot → Slot) (m : QueuedMemory) (b : Bool) → ((s : Slot) → IsOneSlot s (change s)) → IsQueuedOf maker static_size m → IsQueuedOf maker static_size (if b then record m { slot = change m.slot } else m)
+changed_if maker static_size change m true one of = record { slot = slot_of_one maker static_size m.index m.slot (change m.slot) (one m.slot) of.slot }
+changed_if maker static_size change m false one of = of
+
+queued_changed : (maker : MakerTold) (static_size slot : ℕ) (ranges : List ByteRange) (ms : List QueuedMemory) → All (IsQueuedOf maker static_size) ms → All (IsQueuedOf maker static_size) (map (change_at slot (decommitted_all ranges)) ms)
+queued_changed maker static_size slot ranges [] of = All-nil (IsQueuedOf maker static_size)
+queued_changed maker static_size slot ranges (m ∷ ms) of =
+    let P : QueuedMemory → Type 0 = IsQueuedOf maker static_size in
+    All-cons P (change_at slot (decommitted_all ranges) m) (map (change_at slot (decommitted_all ranges)) ms)
+    (changed_if maker static_size (decommitted_all ranges) m _ (λ s. one_decommitted s s ranges (one_slot s)) (All-head P m ms of))
+    (queued_changed maker static_size slot ranges ms (All-tail P m ms of))
+
+pub queued_after_run : (maker : MakerTold) (static_size : ℕ) (q : QueueState) → All (IsQueuedOf maker static_size) q.memories → All (IsQueuedOf maker static_size) (after_run q).memories
+queued_after_run maker static_size q of = queued_changed maker static_size (first_slot q.ranges) (map (λ r. r.range) (front (is_of Memory (first_slot q.ranges)) q.ranges)) q.memories of
+
+pub length_after_run : (q : QueueState) → length (after_run q).memories ≡ length q.memories
+length_after_run q = length-map q.memories (change_at (first_slot q.ranges) (decommitted_all (map (λ r. r.range) (front (is_of Memory (first_slot q.ranges)) q.ranges))))
+
+-- and where a call on one failed
+left_if : (b : Bool) (old new : Slot) → IsSlotLeft b old new → IsOneSlot old new
+left_if true old new left = one_left old new left
+left_if false old new same = rw same (one_slot old)
+
+queued_left : (maker : MakerTold) (static_size faulted : ℕ) (old new : QueuedMemory) → IsLeftBy faulted old new → IsQueuedOf maker static_size old → IsQueuedOf maker static_size new
+queued_left maker static_size faulted old new left of =
+    let I : ℕ → Type 0 = λ i. IsSlotOf maker static_size i new.slot in
+    record { slot = subst I (sym left.index) (slot_of_one maker static_size old.index old.slot new.slot (left_if _ old.slot new.slot left.slot) of.slot) }
+
+pub queued_faulted : (maker : MakerTold) (static_size faulted : ℕ) (olds news : List QueuedMemory) → AllZip (IsLeftBy faulted) olds news → All (IsQueuedOf maker static_size) olds → All (IsQueuedOf maker static_size) news
+queued_faulted maker static_size faulted [] [] left of = of
+queued_faulted maker static_size faulted [] (n ∷ ns) left of = absurd left
+queued_faulted maker static_size faulted (m ∷ ms) [] left of = absurd left
+queued_faulted maker static_size faulted (m ∷ ms) (n ∷ ns) left of =
+    let P : QueuedMemory → Type 0 = IsQueuedOf maker static_size in
+    All-cons P n ns (queued_left maker static_size faulted m n left.0 (All-head P m ms of)) (queued_faulted maker static_size faulted ms ns left.1 (All-tail P m ms of))

@@ -1,0 +1,23 @@
+-- What is told where something is there.
+use Rattle.std.proofs.Common.{ℕ, zero, suc, ◌%◌, ◌<◌, List, [], ◌∷◌, length, arith, Option, Some, None}
+use Rattle.std.specs.Prelude.{IfSome, slice_get}
+use Rattle.std.proofs.Math.Nat.{mod-lt}
+
+-- a remainder is below what divides
+pub mod_below : (n m : ℕ) → 0 < m → n % m < m
+mod_below n m some = mod-lt n some
+
+-- what is told of two things holds of what follows of them
+pub told_both : {X : Type 0} (A B C : X → Type 0) (o : Option X) → ((x : X) → A x → B x → C x) → IfSome o A → IfSome o B → IfSome o C
+told_both A B C None step a b = a
+told_both A B C (Some x) step a b = step x a b
+
+pub told_weaker : {X : Type 0} (A B : X → Type 0) (o : Option X) → ((x : X) → A x → B x) → IfSome o A → IfSome o B
+told_weaker A B None step a = a
+told_weaker A B (Some x) step a = step x a
+
+-- what is told of an element that is there
+pub told_there : {X : Type 0} (Q : Type 0) (xs : List X) (k : ℕ) → k < length xs → IfSome (slice_get xs k) (λ x. Q) → Q
+told_there Q [] k below h = absurd (omega arith)
+told_there Q (x ∷ xs) zero below h = h
+told_there Q (x ∷ xs) (suc k) below h = told_there Q xs k (omega arith) h

@@ -1,0 +1,68 @@
+-- What a step may be told: how its page calls on what the party holds end, and what they leave.
+use Rattle.std.specs.Prelude.{◌≡◌, ℕ, Bool, true, false, Option, IfSome, option_map, Result}
+use Rattle.pool_pages.specs.Count.{rounded_up}
+use Rattle.pool_pages.specs.MemoryTypes.{minimum_byte_size}
+use Rattle.pool_pages.specs.declared.module_types.MemoryDecl.{MemoryDecl}
+use Rattle.pool_images.specs.Images.{Image}
+use Rattle.pool_images.specs.Slots.{Slot, IsClean, IsLeft, IsBegun, IsSized, HasImage, emptied, reused, replaced, name_of, hides}
+use Rattle.pool_limits.specs.Growth.{memory_answer}
+use Rattle.pool_limits.specs.LimiterTold.{LimiterTold, answered}
+use Rattle.pool_limits.specs.declared.errors.LimiterError.{LimiterError}
+use Rattle.pool_memory.specs.Making.{minimum_asked, maximum_asked}
+use Rattle.pool_memory.specs.Static.{CanHold}
+use Rattle.pool_slots.specs.Queues.{QueueState, LeavesClean, after_run, IsFaulted}
+use Rattle.pool_memory.specs.Memories.{slot_of}
+use Rattle.pool_alloc.specs.Modules.{IfAllocated}
+use Rattle.pool_alloc.specs.Own.{slot_ended, reset_listed}
+use Rattle.pool_alloc.specs.Steps.{Given, image_wanted}
+use Rattle.pool_alloc.specs.declared.pool_core.Settings.{Settings}
+use Rattle.pool_alloc.specs.declared.frame.Frame.{Frame}
+use Rattle.pool_alloc.specs.declared.frame.Phase.{Phase}
+use Rattle.pool_alloc.specs.declared.frame.Phase.TheVariants.{Empty, Instantiate, MakeMemory, Reset, Decommit}
+
+-- a slot is emptied, and clean then, or a call on its region failed
+abbrev pub Empties : Bool → Slot → Slot → Type 0
+Empties true old new = IsLeft old new
+Empties false old new = (new ≡ emptied old) × IsClean new
+
+-- The slot is instantiated: in use, with so much accessible, and its first bytes are the image and zeros. An image that
+-- it has already isn't mapped again.
+pub record IsInstantiated (initial : ℕ) (hide : Bool) (image : Option Image) (old new : Slot) : Type 0 where
+  pub begun : IsBegun image new
+  pub holds : CanHold initial new
+  pub sizes : IsSized initial hide old new
+  pub named : new.image ≡ option_map name_of image
+  pub reused : IfSome old.region.contents (λ c. HasImage old image c → new ≡ reused (rounded_up old.region.page initial) hide old)
+  pub replaced : IfSome old.region.contents (λ c. (HasImage old image c → ⊥) → new ≡ replaced (rounded_up old.region.page initial) hide image old)
+
+abbrev pub InstantiatesAs : Bool → ℕ → Bool → Option Image → Slot → Slot → Type 0
+InstantiatesAs true initial hide image old new = IsLeft old new
+InstantiatesAs false initial hide image old new = IsInstantiated initial hide image old new
+
+-- the slot is instantiated for a memory, or a call on its region failed
+abbrev pub InstantiatesFor : Settings → MemoryDecl → Bool → Option Image → Slot → Slot → Type 0
+InstantiatesFor s decl fault image old new = InstantiatesAs fault (minimum_byte_size decl.ty) (hides decl.ty s.tunables old.region.page) image old new
+
+-- The limiter is asked for a memory: it answers by its rule where it tells one, and counts what it doesn't grant.
+pub record Asks (given : Result Bool LimiterError) (old new : LimiterTold) (decl : MemoryDecl) : Type 0 where
+  pub answer : given ≡ memory_answer old.rule given (minimum_asked decl.ty) (maximum_asked decl.ty)
+  pub left : new ≡ answered given old
+
+-- the next ranges of one slot are decommitted, or a decommit failed
+abbrev pub Decommits : Bool → QueueState → QueueState → Type 0
+Decommits true old new = IsFaulted old new
+Decommits false old new = new ≡ after_run old
+
+module _ {P : Type 0} where
+  -- the given answers may come in this phase; a slot that was reset leaves clean once its ranges are decommitted
+  abbrev pub MayBeTold : Settings → Given → Phase P → Frame P → Type 0
+  MayBeTold s g (Empty slot held) f = Empties g.fault held g.slot
+  MayBeTold s g (Instantiate slot held) f = IfAllocated f (λ decl. InstantiatesFor s decl g.fault (image_wanted f) held g.slot)
+  MayBeTold s g (Reset lease) f = LeavesClean (reset_listed s.keep_resident.bytes lease.index (slot_of lease.memory)) (slot_ended s.keep_resident.bytes lease.index (slot_of lease.memory))
+  MayBeTold s g (Decommit after) f = Decommits g.fault f.local g.queue
+  MayBeTold s g _ f = Unit {0}
+
+  -- what the step makes of the limiter: only the making of a memory asks it
+  abbrev pub AsksOf : LimiterTold → LimiterTold → Given → Phase P → Frame P → Type 0
+  AsksOf old new g (MakeMemory slot held) f = IfAllocated f (Asks g.limiter old new)
+  AsksOf old new g _ f = new ≡ old

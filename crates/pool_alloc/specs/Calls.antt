@@ -1,0 +1,78 @@
+-- A party's calls: its frame as made, what a call begins with, and what it grants.
+use Rattle.std.specs.Prelude.{◌≡◌, ℕ, ◌*◌, ◌==◌, List, [], length, All, if◌then◌else◌, Option, Some, None}
+use Rattle.pool_pages.specs.MakerTold.{MakerTold}
+use Rattle.pool_pages.specs.declared.module_types.MemoryDecl.{MemoryDecl}
+use Rattle.pool_slots.specs.Queues.{empty_queue}
+use Rattle.pool_alloc.specs.Reserved.{no_room}
+use Rattle.pool_alloc.specs.Steps.{memories_asked, images_asked}
+use Rattle.pool_alloc.specs.Sound.{IsLeaseOf, AreImagesOf}
+use Rattle.pool_alloc.specs.Modules.{HasImages}
+use Rattle.pool_alloc.specs.declared.pool_core.Settings.{Settings}
+use Rattle.pool_alloc.specs.declared.frame.Frame.{Frame}
+use Rattle.pool_alloc.specs.declared.frame.Phase.TheVariants.{Idle, Key, Validate, UncountMemory, UncountInstance}
+use Rattle.pool_alloc.specs.declared.frame.Ending.TheVariants.{Returned as returned}
+use Rattle.pool_alloc.specs.declared.frame.Grant.{Grant}
+use Rattle.pool_alloc.specs.declared.frame.Grant.TheVariants.{Instance}
+use Rattle.pool_alloc.specs.declared.frame.Call.{Call}
+use Rattle.pool_alloc.specs.declared.frame.Call.TheVariants as call
+use Rattle.pool_alloc.specs.declared.frame.Outcome.{Outcome}
+use Rattle.pool_alloc.specs.declared.frame.Outcome.TheVariants.{Granted}
+
+module _ {P : Type 0} where
+  -- a party's frame as it is made for a home: its queue and its list of freed slots have room for twice a batch
+  abbrev pub frame_made : ℕ → Settings → Frame P
+  frame_made home s = record {
+    home = home;
+    stripe = 0;
+    asked = None;
+    granted = no_room;
+    returning = no_room;
+    ending = returned;
+    local = empty_queue (2 * s.batch) (2 * s.batch);
+    freed = record { items = []; room = 2 * s.batch };
+    phase = Idle;
+  }
+
+  -- no call is under way
+  abbrev pub IsIdle : Frame P → Type 0
+  IsIdle f = f.phase ≡ Idle
+
+  -- the grant is one of the pool: its memories are leases of it
+  abbrev pub IsGrant : MakerTold → Settings → Grant P → Type 0
+  IsGrant maker s (Instance lease) = All (IsLeaseOf maker s) lease.memories.items
+
+  -- and it has as many memories as were asked for
+  abbrev pub IsGrantOf : MakerTold → Settings → List MemoryDecl → Grant P → Type 0
+  IsGrantOf maker s decls (Instance lease) = All (IsLeaseOf maker s) lease.memories.items × (length lease.memories.items ≡ length decls)
+
+  -- what is granted, if a call ends with a grant
+  abbrev pub IfGranted : (Grant P → Type 0) → Option (Outcome P) → Type 0
+  IfGranted Q (Some (Granted grant)) = Q grant
+  IfGranted Q _ = Unit {0}
+
+  -- The call may begin: images that are given are those of the module's memories, one place for each, and a grant is one
+  -- of the pool.
+  abbrev pub MayBegin : MakerTold → Settings → Call P → Frame P → Type 0
+  MayBegin maker s call.Key f = IsIdle f
+  MayBegin maker s (call.Module m) f = IsIdle f × AreImagesOf s (memories_asked (Some m)) (images_asked (Some m)) × HasImages (Some m)
+  MayBegin maker s (call.GiveBack grant) f = IsIdle f × IsGrant maker s grant
+
+  -- the memories of a grant are given back in order, and then the instance
+  abbrev pub gives_back : Grant P → Frame P → Frame P
+  gives_back (Instance lease) f = record f {
+    returning = lease.memories;
+    ending = returned;
+    phase = if length lease.memories.items == 0 then UncountInstance else UncountMemory;
+  }
+
+  -- the frame once the call began
+  abbrev pub begun_call : Call P → Frame P → Frame P
+  begun_call call.Key f = record f { phase = Key }
+  begun_call (call.Module m) f = record f { asked = Some m; phase = Validate }
+  begun_call (call.GiveBack grant) f = gives_back grant f
+
+  -- how often a call brings a thing along, and how many instances and memories that are counted
+  abbrev pub call_has : (Grant P → ℕ) → Call P → ℕ
+  call_has of call.Key = 0
+  call_has of (call.Module m) = 0
+  call_has of (call.GiveBack grant) = of grant

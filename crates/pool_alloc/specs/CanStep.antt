@@ -1,0 +1,118 @@
+-- Just what the code of each step needs of the pool's parts and of the frame.
+use Rattle.std.specs.Prelude.{◌≡◌, ℕ, ◌+◌, ◌^◌, ◌<◌, ◌≤◌, List, [], ◌∷◌, length, slice_get, All, false, Option, None, IsSome, IfSome}
+use Rattle.pool_pages.specs.Count.{count, rounded_up}
+use Rattle.pool_pages.specs.Told.{Told}
+use Rattle.pool_pages.specs.MemoryTypes.{minimum_byte_size, refused_limits}
+use Rattle.pool_pages.specs.declared.module_types.MemoryDecl.{MemoryDecl}
+use Rattle.pool_images.specs.Images.{Image}
+use Rattle.pool_images.specs.Slots.{Slot, IsClean, IsFresh, FitsInto}
+use Rattle.pool_index.specs.Shard.{ShardState, use_of}
+use Rattle.pool_memory.specs.Memories.{slot_of}
+use Rattle.pool_memory.specs.Static.{CanHold}
+use Rattle.pool_slots.specs.Cells.{Cell, is_taken, unmapped}
+use Rattle.pool_slots.specs.Queues.{QueueState, QueuedMemory, HasOwners, AreApart, IsSpareOf}
+use Rattle.pool_alloc.specs.Freeing.{AreUsedInTurn}
+use Rattle.pool_alloc.specs.Modules.{HasImages, IfAllocated}
+use Rattle.pool_alloc.specs.Reserved.{Reserved}
+use Rattle.pool_alloc.specs.Steps.{memories_asked, images_asked, image_wanted, shard_at, cell_at, queue_at, shard_of, local_of, freed_of, first_shard, queue_tried}
+use Rattle.pool_alloc.specs.declared.pool_core.PoolCore.{PoolCore}
+use Rattle.pool_alloc.specs.declared.pool_core.Settings.{Settings}
+use Rattle.pool_alloc.specs.declared.frame.Frame.{Frame}
+use Rattle.pool_alloc.specs.declared.frame.FreedSlot.{FreedSlot}
+use Rattle.pool_alloc.specs.declared.frame.ModuleCall.{ModuleCall}
+use Rattle.pool_alloc.specs.declared.frame.Phase.{Phase}
+use Rattle.pool_alloc.specs.declared.frame.Phase.TheVariants.{Idle, Key, Validate, CountInstance, Pick, TakeQueue, TakeRegion, Empty, Instantiate, MakeMemory, CountMemory, PutRefused, FreeRefused, UncountMemory, Reset, Merge, Decommit, PutRegion, Free, UncountInstance}
+
+-- the sizes of a module's memories can be computed
+abbrev pub CanValidate : List MemoryDecl → Type 0
+CanValidate decls = (k : ℕ) → IfSome (slice_get decls k) (λ decl. decl.ty.page_size_log2 < 64)
+
+-- the region lies in its cell; one that was never used is as it was made
+pub record CanTakeRegion (slot : ℕ) (cells : List Cell) (s : Settings) : Type 0 where
+  pub inside : slot < length cells
+  pub there : is_taken (cell_at slot cells) ≡ false
+  pub fresh : (region : Told) → cell_at slot cells ≡ unmapped region → IsFresh (count s.page 0) (count s.page 0) s.max_memory_size region
+
+-- a memory of the module is the next one
+pub record HasNext (call : Option ModuleCall) (granted : ℕ) : Type 0 where
+  pub asked : IsSome call
+  pub images : HasImages call
+  pub small : granted < 2 ^ 32
+  pub more : granted < length (memories_asked call)
+
+-- the memory and its image fit the slot
+pub record CanBegin (held : Slot) (image : Option Image) (decl : MemoryDecl) : Type 0 where
+  pub page_log2 : decl.ty.page_size_log2 < 64
+  pub minimum : minimum_byte_size decl.ty ≤ held.static_size
+  pub bounded : held.static_size < 2 ^ 64
+  pub image_fits : IfSome image (FitsInto held.region.page (minimum_byte_size decl.ty))
+
+-- the slot, in use, holds the memory
+pub record CanMake (s : Settings) (held : Slot) (decl : MemoryDecl) : Type 0 where
+  pub page_log2 : decl.ty.page_size_log2 < 64
+  pub limits : refused_limits decl.ty.limits ≡ None
+  pub slot : minimum_byte_size decl.ty < 2 ^ 64 → CanHold (minimum_byte_size decl.ty) held
+  pub room : rounded_up held.region.page s.max_memory_size ≤ held.static_size
+
+-- a slot of a shard is used
+pub record CanFreeOne (slot : ℕ) (s : Settings) (shards : List ShardState) : Type 0 where
+  pub slots : 0 < s.slots_per_shard
+  pub inside : shard_of s slot < length shards
+  pub used : IsSome (use_of (shard_at (shard_of s slot) shards) (local_of s slot).0)
+
+-- the local queue is empty, and has room
+pub record CanReset (s : Settings) (held : Slot) (local : QueueState) : Type 0 where
+  pub page : s.keep_resident.page ≡ held.region.page
+  pub kept : s.keep_resident.bytes ≤ 2 ^ 32
+  pub no_ranges : local.ranges ≡ []
+  pub no_slots : local.memories ≡ []
+  pub range_room : 0 < local.range_room
+  pub slot_room : 0 < local.slot_room
+
+-- the local queue can be appended, and the whole queue taken into it then
+pub record CanMerge (queue local : QueueState) : Type 0 where
+  pub ranges : length queue.ranges + length local.ranges ≤ queue.range_room
+  pub slots : length queue.memories + length local.memories ≤ queue.slot_room
+  pub owners : HasOwners queue
+  pub local_owners : HasOwners local
+  pub apart : AreApart queue.memories local.memories
+  pub range_room : local.range_room ≡ queue.range_room
+  pub slot_room : local.slot_room ≡ queue.slot_room
+
+-- the first slot of the queue has a cell, and there is room among those to be freed
+pub record CanPut (slots : ℕ) (local : QueueState) (freed : Reserved FreedSlot) : Type 0 where
+  pub no_ranges : local.ranges ≡ []
+  pub some : 0 < length local.memories
+  pub inside : (m : QueuedMemory) (rest : List QueuedMemory) → local.memories ≡ m ∷ rest → m.index < slots
+  pub room : length freed.items < freed.room
+
+-- the slots are used in their shard
+pub record CanFree (s : Settings) (freed : List FreedSlot) (shards : List ShardState) : Type 0 where
+  pub slots : 0 < s.slots_per_shard
+  pub inside : first_shard s freed < length shards
+  pub used : AreUsedInTurn s (freed_of s (first_shard s freed) freed) (shard_at (first_shard s freed) shards)
+  pub bytes : All (λ x. x.bytes ≤ 2 ^ 32) freed
+
+module _ {P : Type 0} where
+  -- in each phase
+  abbrev pub CanStepAt : Phase P → PoolCore P → Frame P → Type 0
+  CanStepAt Idle c f = Unit {0}
+  CanStepAt Key c f = 0 < c.settings.stripes
+  CanStepAt Validate c f = CanValidate (memories_asked f.asked)
+  CanStepAt CountInstance c f = c.counters.core_instances + 1 < 2 ^ 64
+  CanStepAt (Pick queues tried) c f = (tried < length c.shards) × (length f.granted.items < 2 ^ 32)
+  CanStepAt (TakeQueue queues) c f = (queues < length c.queues) × IsSpareOf (queue_at (queue_tried queues c f) c.queues) f.local
+  CanStepAt (TakeRegion slot) c f = CanTakeRegion slot c.cells c.settings
+  CanStepAt (Empty slot held) c f = Unit {0}
+  CanStepAt (Instantiate slot held) c f = HasNext f.asked (length f.granted.items) × IsClean held × IfAllocated f (CanBegin held (image_wanted f))
+  CanStepAt (MakeMemory slot held) c f = HasNext f.asked (length f.granted.items) × IfAllocated f (CanMake c.settings held)
+  CanStepAt (CountMemory lease) c f = (c.counters.memories + 1 < 2 ^ 64) × (length f.granted.items < f.granted.room)
+  CanStepAt (PutRefused slot held e) c f = slot < length c.cells
+  CanStepAt (FreeRefused slot e) c f = CanFreeOne slot c.settings c.shards
+  CanStepAt UncountMemory c f = (0 < c.counters.memories) × (0 < length f.returning.items)
+  CanStepAt (Reset lease) c f = CanReset c.settings (slot_of lease.memory) f.local
+  CanStepAt Merge c f = (0 < length c.queues) × CanMerge (queue_at (queue_tried 0 c f) c.queues) f.local
+  CanStepAt (Decommit after) c f = (0 < length f.local.ranges) × HasOwners f.local
+  CanStepAt (PutRegion after) c f = CanPut (length c.cells) f.local f.freed
+  CanStepAt (Free after) c f = CanFree c.settings f.freed.items c.shards
+  CanStepAt UncountInstance c f = 0 < c.counters.core_instances

@@ -1,0 +1,16 @@
+pub mod Answers
+pub mod Calls
+pub mod CanStep
+pub mod Freeing
+pub mod Leases
+pub mod Made
+pub mod Modules
+pub mod Own
+pub mod Places
+pub mod Refusals
+pub mod Reserved
+pub mod Sound
+pub mod Stepping
+pub mod Steps
+pub mod Sums
+pub mod Whole

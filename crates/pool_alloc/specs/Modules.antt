@@ -1,0 +1,16 @@
+-- The module of which an instance is asked for.
+use Rattle.std.specs.Prelude.{◌≡◌, length, slice_get, Option, IfSome}
+use Rattle.std.specs.Arc.{arc_value}
+use Rattle.pool_pages.specs.declared.module_types.MemoryDecl.{MemoryDecl}
+use Rattle.pool_alloc.specs.Steps.{memories_asked}
+use Rattle.pool_alloc.specs.declared.frame.Frame.{Frame}
+use Rattle.pool_alloc.specs.declared.frame.ModuleCall.{ModuleCall}
+
+-- where images are given, there is a place for each memory
+abbrev pub HasImages : Option ModuleCall → Type 0
+HasImages asked = IfSome asked (λ m. IfSome m.images (λ images. length (arc_value images) ≡ length (arc_value m.info).memories))
+
+module _ {P : Type 0} where
+  -- the memory that is allocated
+  abbrev pub IfAllocated : Frame P → (MemoryDecl → Type 0) → Type 0
+  IfAllocated f Q = IfSome (slice_get (memories_asked f.asked) (length f.granted.items)) Q

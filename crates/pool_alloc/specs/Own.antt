@@ -1,0 +1,75 @@
+-- What a party does by itself with what it has taken.
+use Rattle.std.specs.Prelude.{ℕ, List, ◌++◌, map, min, Bool, true, false, Option, Some, None, Result, Ok, Err, slice_get}
+use Rattle.pool_pages.specs.Count.{count}
+use Rattle.pool_pages.specs.Told.{Told}
+use Rattle.pool_pages.specs.declared.module_types.MemoryDecl.{MemoryDecl}
+use Rattle.pool_pages.specs.declared.module_types.MemoryType.{MemoryType}
+use Rattle.pool_pages.specs.declared.unsupported.Unsupported.{Unsupported}
+use Rattle.pool_images.specs.Slots.{Slot, cleared, reset_ranges}
+use Rattle.pool_limits.specs.declared.errors.LimiterError.{LimiterError}
+use Rattle.pool_memory.specs.Memories.{MemoryState}
+use Rattle.pool_memory.specs.Static.{Static, made_static}
+use Rattle.pool_memory.specs.Making.{limits_answer, fixed_in}
+use Rattle.pool_memory.specs.declared.memory_error.MemoryError.{MemoryError}
+use Rattle.pool_memory.specs.declared.memory_error.MemoryError.TheVariants as unmade
+use Rattle.pool_slots.specs.Queues.{QueueState, QueuedMemory, with_memory}
+use Rattle.pool_slots.specs.declared.queued_range.QueuedRange.{QueuedRange}
+use Rattle.pool_slots.specs.declared.queued_range.QueueKind.TheVariants as queued
+use Rattle.pool_slots.specs.declared.request.AllocError.{AllocError}
+use Rattle.pool_slots.specs.declared.request.AllocError.TheVariants as refusal
+use Rattle.pool_alloc.specs.declared.pool_core.Settings.{Settings}
+
+-- the image slot that is made of a region that was never used
+abbrev pub image_made : ℕ → ℕ → Told → Slot
+image_made page static_size region = record {
+  region = region;
+  base = count page 0;
+  accessible = count page 0;
+  static_size = static_size;
+  image = None;
+  dirty = false;
+  colour = None;
+}
+
+-- the slot of a memory that has ended, once so many of its accessible bytes were set by hand to what they go back to
+abbrev pub slot_ended : ℕ → ℕ → Slot → QueuedMemory
+slot_ended keep index slot = record {
+  index = index;
+  slot = cleared (min keep slot.accessible.bytes) slot;
+  known = true;
+  bytes = min keep slot.accessible.bytes;
+}
+
+-- what is to be decommitted of it then
+abbrev pub reset_listed : ℕ → ℕ → Slot → List QueuedRange
+reset_listed keep index slot = map (λ r. record { kind = queued.Memory; slot = record { 0 = index }; range = r }) (reset_ranges keep slot.accessible.bytes)
+
+-- the local queue with these ranges and that slot
+abbrev pub reset_into : ℕ → ℕ → Slot → QueueState → QueueState
+reset_into keep index slot q = with_memory (slot_ended keep index slot) (record q { ranges = q.ranges ++ reset_listed keep index slot })
+
+-- why a memory isn't made, as the refusal of an allocation
+abbrev pub refusal_of : MemoryError → AllocError
+refusal_of unmade.Memory = refusal.Memory
+refusal_of (unmade.Unsupported u) = refusal.Unsupported u
+refusal_of (unmade.LimiterDenied min) = refusal.LimiterDenied false min
+refusal_of (unmade.LimiterFault e) = refusal.LimiterFault e
+refusal_of unmade.PageFault = refusal.PageFault
+
+-- the memory in a slot, or that the slot hasn't the room
+abbrev pub made_of : MemoryType → Result Static (Slot × Unsupported) → Result MemoryState AllocError
+made_of ty (Ok m) = Ok (fixed_in ty m)
+made_of ty (Err refused) = Err (refusal.Unsupported refused.1)
+
+-- the memory that begins with so many bytes and may have so many, or why there is none
+abbrev pub made_with : Result (ℕ × Option ℕ) MemoryError → MemoryType → ℕ → Slot → Result MemoryState AllocError
+made_with (Err e) ty room slot = Err (refusal_of e)
+made_with (Ok limits) ty room slot = made_of ty (made_static room limits.0 limits.1 slot)
+
+abbrev pub made_for : ℕ → Result Bool LimiterError → Slot → Option MemoryDecl → Result MemoryState AllocError
+made_for room answer slot None = Err refusal.Memory
+made_for room answer slot (Some decl) = made_with (limits_answer answer decl.ty) decl.ty room slot
+
+-- memory k of the module, made in a slot where the limiter gave this answer, or why it isn't
+abbrev pub memory_made : Settings → List MemoryDecl → ℕ → Result Bool LimiterError → Slot → Result MemoryState AllocError
+memory_made s decls k answer slot = made_for s.max_memory_size answer slot (slice_get decls k)

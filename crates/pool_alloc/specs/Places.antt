@@ -1,0 +1,90 @@
+-- Where each slot and each region is: in the pool's parts, with a party's call, or in a grant. Each is counted once.
+use Rattle.std.specs.Prelude.{◌≡◌, ℕ, ◌+◌, ◌<◌, ◌≤◌, ◌==◌, List, [], ◌∷◌, length, sum_by, Option, None, Some, is_some, nat_lt, if◌then◌else◌}
+use Rattle.pool_index.specs.Shard.{ShardState, one_if}
+use Rattle.pool_index.specs.declared.ids.MemoryInModule.{MemoryInModule}
+use Rattle.pool_slots.specs.Cells.{Cell, is_taken}
+use Rattle.pool_slots.specs.Queues.{QueueState, QueuedMemory}
+use Rattle.pool_alloc.specs.Leases.{Lease}
+use Rattle.pool_alloc.specs.declared.pool_core.PoolCore.{PoolCore}
+use Rattle.pool_alloc.specs.declared.frame.Frame.{Frame}
+use Rattle.pool_alloc.specs.declared.frame.FreedSlot.{FreedSlot}
+use Rattle.pool_alloc.specs.declared.frame.Phase.{Phase}
+use Rattle.pool_alloc.specs.declared.frame.Phase.TheVariants.{Idle, Key, Validate, CountInstance, Pick, TakeQueue, TakeRegion, Empty, Instantiate, MakeMemory, CountMemory, PutRefused, FreeRefused, UncountMemory, Reset, Merge, Decommit, PutRegion, Free, UncountInstance}
+
+-- the right to use a memory slot, and the region of a memory slot
+pub data Thing : Type 0 where
+  slot_of : ℕ → Thing
+  region_of : ℕ → Thing
+
+-- how often these are the thing: the slot i, the region of slot i, and both
+abbrev pub slot_count : Thing → ℕ → ℕ
+slot_count (slot_of k) i = one_if (k == i)
+slot_count (region_of k) i = 0
+
+abbrev pub region_count : Thing → ℕ → ℕ
+region_count (slot_of k) i = 0
+region_count (region_of k) i = one_if (k == i)
+
+abbrev pub both_count : Thing → ℕ → ℕ
+both_count t i = slot_count t i + region_count t i
+
+-- a shard has the slots that nobody uses: of a list of uses, those of slots numbered from a first one on by steps
+abbrev pub unused_count : Thing → ℕ → ℕ → List (Option (Option MemoryInModule)) → ℕ
+unused_count t first step [] = 0
+unused_count t first step (u ∷ uses) = (if is_some u then 0 else slot_count t first) + unused_count t (first + step) step uses
+
+abbrev pub shard_count : Thing → ShardState → ℕ
+shard_count t s = unused_count t s.first s.step s.used
+
+-- cells have the regions that nobody took: the first of these is slot i's
+abbrev pub cells_count : Thing → ℕ → List Cell → ℕ
+cells_count t i [] = 0
+cells_count t i (cell ∷ cells) = (if is_taken cell then 0 else region_count t i) + cells_count t (i + 1) cells
+
+-- a queue has its slots with their regions
+abbrev pub queued_count : Thing → List QueuedMemory → ℕ
+queued_count t memories = sum_by (λ m. both_count t m.index) memories
+
+-- and so has a list of leases
+abbrev pub leased_count : Thing → List Lease → ℕ
+leased_count t leases = sum_by (λ l. both_count t l.index) leases
+
+abbrev pub freed_count : Thing → List FreedSlot → ℕ
+freed_count t slots = sum_by (λ x. slot_count t x.slot) slots
+
+-- what is made: so many slots, each with its region
+abbrev pub made_count : Thing → ℕ → ℕ
+made_count (slot_of k) total = one_if (nat_lt k total)
+made_count (region_of k) total = one_if (nat_lt k total)
+
+module _ {P : Type 0} where
+  -- what the parts of the pool have
+  abbrev pub kept_count : Thing → PoolCore P → ℕ
+  kept_count t c = sum_by (shard_count t) c.shards + cells_count t 0 c.cells + sum_by (λ q. queued_count t q.memories) c.queues
+
+  -- what a call has taken for its next step
+  abbrev pub phase_count : Thing → Phase P → ℕ
+  phase_count t (TakeRegion slot) = slot_count t slot
+  phase_count t (Empty slot held) = both_count t slot
+  phase_count t (Instantiate slot held) = both_count t slot
+  phase_count t (MakeMemory slot held) = both_count t slot
+  phase_count t (CountMemory lease) = both_count t lease.index
+  phase_count t (PutRefused slot held e) = both_count t slot
+  phase_count t (FreeRefused slot e) = slot_count t slot
+  phase_count t (Reset lease) = both_count t lease.index
+  phase_count t _ = 0
+
+  -- what a party's call has
+  abbrev pub frame_count : Thing → Frame P → ℕ
+  frame_count t f = leased_count t f.granted.items + leased_count t f.returning.items + queued_count t f.local.memories + freed_count t f.freed.items + phase_count t f.phase
+
+  -- how many instances a call has counted, and how many memories
+  abbrev pub phase_instances : Phase P → ℕ
+  phase_instances Idle = 0
+  phase_instances Key = 0
+  phase_instances Validate = 0
+  phase_instances CountInstance = 0
+  phase_instances _ = 1
+
+  abbrev pub frame_memories : Frame P → ℕ
+  frame_memories f = length f.granted.items + length f.returning.items

@@ -1,0 +1,81 @@
+-- A step: a row of the table under answers that may come, and what it keeps.
+use Rattle.std.specs.Prelude.{◌≡◌, ℕ, ◌+◌, ◌^◌, ◌<◌, ◌≤◌, ◌&&◌, length, Bool, true, false, not, Option, Some, None, is_some}
+use Rattle.pool_pages.specs.MakerTold.{MakerTold}
+use Rattle.pool_limits.specs.LimiterTold.{LimiterTold}
+use Rattle.pool_alloc.specs.Steps.{Given, After, row}
+use Rattle.pool_alloc.specs.Answers.{MayBeTold, AsksOf}
+use Rattle.pool_alloc.specs.Places.{Thing, kept_count, frame_count, leased_count, phase_instances, frame_memories}
+use Rattle.pool_alloc.specs.Sound.{IsCore, IsFrame, Fits}
+use Rattle.pool_alloc.specs.declared.pool_core.PoolCore.{PoolCore}
+use Rattle.pool_alloc.specs.declared.frame.Frame.{Frame}
+use Rattle.pool_alloc.specs.declared.frame.Phase.{Phase}
+use Rattle.pool_alloc.specs.declared.frame.Phase.TheVariants.{Idle}
+use Rattle.pool_alloc.specs.declared.frame.Grant.{Grant}
+use Rattle.pool_alloc.specs.declared.frame.Grant.TheVariants.{Instance}
+use Rattle.pool_alloc.specs.declared.frame.Outcome.{Outcome}
+use Rattle.pool_alloc.specs.declared.frame.Outcome.TheVariants.{Key, Granted, Returned, Refused}
+
+module _ {P : Type 0} where
+  -- what a grant has
+  abbrev pub grant_count : Thing → Grant P → ℕ
+  grant_count t (Instance lease) = leased_count t lease.memories.items
+
+  abbrev pub grant_instances : Grant P → ℕ
+  grant_instances (Instance lease) = 1
+
+  abbrev pub grant_memories : Grant P → ℕ
+  grant_memories (Instance lease) = length lease.memories.items
+
+  -- the number that an answer has of what grants have
+  abbrev pub granted : (Grant P → ℕ) → Option (Outcome P) → ℕ
+  granted of (Some (Granted grant)) = of grant
+  granted of (Some Key) = 0
+  granted of (Some Returned) = 0
+  granted of (Some (Refused e)) = 0
+  granted of None = 0
+
+  -- the answers are ones that may come, of the limiter too, and the row is taken
+  pub record Takes (old new : LimiterTold) (g : Given) (c : PoolCore P) (f : Frame P) (a : After P) : Type 0 where
+    pub told : MayBeTold c.settings g f.phase f
+    pub limiter : AsksOf old new g f.phase f
+    pub is : a ≡ row g c f
+
+  -- the step is a row of the table, over a limiter
+  abbrev pub StepsTo : LimiterTold → LimiterTold → PoolCore P → Frame P → After P → Type 0
+  StepsTo old new c f a = (g : Given) × Takes old new g c f a
+
+  -- Nothing is lost or made: what the step takes from the pool's parts comes into the frame or the grant, and the other
+  -- way round. Counters change as what is counted.
+  pub record Conserves (c : PoolCore P) (f : Frame P) (a : After P) : Type 0 where
+    pub places : (t : Thing) → kept_count t a.core + (frame_count t a.frame + granted (grant_count t) a.outcome) ≡ kept_count t c + frame_count t f
+    pub instances : a.core.counters.core_instances + phase_instances f.phase ≡ c.counters.core_instances + (phase_instances a.frame.phase + granted grant_instances a.outcome)
+    pub memories : a.core.counters.memories + frame_memories f ≡ c.counters.memories + (frame_memories a.frame + granted grant_memories a.outcome)
+
+  -- What no step changes: the settings, and how many slots, shards and queues there are.
+  pub record IsSameSize (old new : PoolCore P) : Type 0 where
+    pub settings : new.settings ≡ old.settings
+    pub cells : length new.cells ≡ length old.cells
+    pub shards : length new.shards ≡ length old.shards
+    pub queues : length new.queues ≡ length old.queues
+
+  -- no call is under way
+  abbrev pub is_idle : Phase P → Bool
+  is_idle Idle = true
+  is_idle _ = false
+
+  -- A step answers exactly where the call that was under way ends with it. No counter but the key rises by more than one.
+  pub record EndsWith (c : PoolCore P) (f : Frame P) (a : After P) : Type 0 where
+    pub answer : is_some a.outcome ≡ (not (is_idle f.phase) && is_idle a.frame.phase)
+    pub instances : a.core.counters.core_instances ≤ c.counters.core_instances + 1
+    pub memories : a.core.counters.memories ≤ c.counters.memories + 1
+
+  -- no counter but the key stands at its end
+  pub record CanCount (c : PoolCore P) : Type 0 where
+    pub instances : c.counters.core_instances + 1 < 2 ^ 64
+    pub memories : c.counters.memories + 1 < 2 ^ 64
+
+  -- the frame can make a step on the core
+  pub record CanStep (maker : MakerTold) (c : PoolCore P) (f : Frame P) : Type 0 where
+    pub core : IsCore maker c
+    pub frame : IsFrame maker c f
+    pub fits : Fits c f

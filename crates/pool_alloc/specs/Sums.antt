@@ -1,0 +1,65 @@
+-- What the parts of the pool have together, for its numbers.
+use Rattle.std.specs.Prelude.{ℕ, ◌-◌, ◌^◌, List, length, min, sum_by, map, None}
+use Rattle.std.specs.List.{flat_map}
+use Rattle.pool_pages.specs.declared.pages.PageCalls.{PageCalls}
+use Rattle.pool_index.specs.Shard.{ShardState, resident_bytes}
+use Rattle.pool_memory.specs.Memories.{slot_of}
+use Rattle.pool_pages.specs.MakerTold.{no_calls}
+use Rattle.pool_slots.specs.Cells.{unknown, calls_of_all, added}
+use Rattle.pool_slots.specs.Queues.{QueueState, calls_held}
+use Rattle.pool_alloc.specs.Leases.{Lease}
+use Rattle.pool_alloc.specs.declared.pool_core.PoolCore.{PoolCore}
+use Rattle.pool_alloc.specs.declared.metrics.Metrics.{Metrics}
+use Rattle.pool_alloc.specs.declared.frame.Frame.{Frame}
+use Rattle.pool_alloc.specs.declared.frame.Phase.{Phase}
+use Rattle.pool_alloc.specs.declared.frame.Phase.TheVariants.{Empty, Instantiate, MakeMemory, CountMemory, PutRefused, Reset}
+
+-- how many slots of the shards are warm, and how many bytes those keep resident, up to the ends of their types
+abbrev pub warm_slots : List ShardState → ℕ
+warm_slots shards = min (sum_by (λ s. length s.warm) shards) (2 ^ 32 - 1)
+
+abbrev pub resident_sum : List ShardState → ℕ
+resident_sum shards = min (sum_by resident_bytes shards) (2 ^ 64 - 1)
+
+-- the calls on the regions of the slots in queues, together
+abbrev pub calls_of_queues : List QueueState → PageCalls
+calls_of_queues queues = calls_held (flat_map (λ q. q.memories) queues)
+
+-- the calls on the regions of memories, together
+abbrev pub calls_of_leases : List Lease → PageCalls
+calls_of_leases leases = calls_of_all (map (λ l. unknown (slot_of l.memory)) leases)
+
+module _ {P : Type 0} where
+  -- the calls on the regions in the pool's parts, together
+  abbrev pub calls_kept : PoolCore P → PageCalls
+  calls_kept c = added (calls_of_all c.cells) (calls_of_queues c.queues)
+
+  -- the calls on the region that a call has taken for its next step, and on all that it has
+  abbrev pub calls_in_phase : Phase P → PageCalls
+  calls_in_phase (Empty slot held) = held.region.calls
+  calls_in_phase (Instantiate slot held) = held.region.calls
+  calls_in_phase (MakeMemory slot held) = held.region.calls
+  calls_in_phase (CountMemory lease) = (slot_of lease.memory).region.calls
+  calls_in_phase (PutRefused slot held e) = held.region.calls
+  calls_in_phase (Reset lease) = (slot_of lease.memory).region.calls
+  calls_in_phase _ = no_calls
+
+  abbrev pub calls_in_frame : Frame P → PageCalls
+  calls_in_frame f = added (added (calls_of_leases f.granted.items) (calls_of_leases f.returning.items)) (added (calls_held f.local.memories) (calls_in_phase f.phase))
+
+  -- the pool's numbers
+  abbrev pub metrics_of : PoolCore P → Metrics
+  metrics_of c = record {
+    core_instances = c.counters.core_instances;
+    component_instances = 0;
+    memories = c.counters.memories;
+    tables = 0;
+    stacks = 0;
+    gc_heaps = 0;
+    unused_warm_memories = warm_slots c.shards;
+    unused_memory_bytes_resident = resident_sum c.shards;
+    unused_warm_tables = 0;
+    unused_table_bytes_resident = 0;
+    unused_warm_stacks = 0;
+    unused_stack_bytes_resident = None;
+  }

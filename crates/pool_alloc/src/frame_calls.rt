@@ -1,0 +1,99 @@
+ghost use Rattle.std.specs.Prelude.{◌≡◌, ◌<◌, ◌^◌, ◌==◌, length, if◌then◌else◌};
+ghost use Rattle.pool_pages.specs.MakerTold.{MakerTold};
+ghost use Rattle.pool_alloc.specs.Calls.{IsIdle, MayBegin, begun_call, gives_back};
+ghost use Rattle.pool_alloc.specs.Sound.{IsFrame};
+ghost use Rattle.pool_alloc.specs.declared.pool_core.PoolCore.{PoolCore};
+ghost use Rattle.pool_alloc.specs.Sums.{calls_in_frame, calls_in_phase};
+ghost use Rattle.pool_alloc.specs.Steps.{memories_asked, wanted};
+
+use crate::frame::{Call, Ending, Frame, Grant, Phase};
+use crate::lease::{InstanceLease, MemoryLease, calls_of};
+use crate::reserved::ReservedList;
+use pool_index::MemoryInModule;
+use pool_pages::{DefinedMemoryIndex, PageCalls, Pages};
+use pool_slots::{add_calls, no_calls};
+
+impl<P: Pages> Frame<P> {
+    /// Begins a call. Takes no memory.
+    pub fn begin(&mut self, call: Call<P>)
+        requires { IsIdle self.old }
+        ensures value { self.new ≡ begun_call call self.old }
+        ensures sound { (maker : MakerTold) (core : PoolCore P) → IsFrame maker core self.old → MayBegin maker core.settings call self.old → IsFrame maker core self.new }
+    {
+        match call {
+            Call::Key => self.phase = Phase::Key,
+            Call::Module(module) => {
+                self.asked = Some(module);
+                self.phase = Phase::Validate;
+            }
+            Call::GiveBack(Grant::Instance(lease)) => self.give_back(lease),
+        }
+    }
+
+    // The memories of an instance are given back in order, and then the instance.
+    fn give_back(&mut self, lease: InstanceLease<P>)
+        ensures { self.new ≡ gives_back (Grant.Instance lease) self.old }
+    {
+        self.returning = lease.memories;
+        self.ending = Ending::Returned;
+        self.phase = next_return(&self.returning);
+    }
+
+    /// The calls made so far on the regions that the call under way has.
+    pub fn page_calls(&self) -> PageCalls
+        ensures { result ≡ calls_in_frame self.now }
+    {
+        let leased = add_calls(calls_of(&self.granted), calls_of(&self.returning));
+        add_calls(leased, add_calls(self.local.page_calls(), self.phase.page_calls()))
+    }
+
+    // How many memories the module has that is asked for.
+    pub(crate) fn memories_asked(&self) -> usize
+        ensures { result ≡ length (memories_asked self.now.asked) }
+    {
+        match &self.asked {
+            None => 0,
+            Some(call) => call.info.memories.len(),
+        }
+    }
+
+    // The memory that is allocated, where slots may be affine to it.
+    pub(crate) fn wanted(&self) -> Option<MemoryInModule>
+        requires { length self.now.granted.items < 2 ^ 32 }
+        ensures { result ≡ wanted self.now }
+    {
+        let index = DefinedMemoryIndex(self.granted.len() as u32);
+        match &self.asked {
+            None => None,
+            Some(call) => Some(MemoryInModule(call.id, index)),
+        }
+    }
+}
+
+// What there is to give back next: a memory, or else the instance.
+pub(crate) fn next_return<P: Pages>(returning: &ReservedList<MemoryLease<P>>) -> Phase<P>
+    ensures { result ≡ (if length returning.now.items == 0 then Phase.UncountInstance else Phase.UncountMemory) }
+{
+    if returning.is_empty() {
+        Phase::UncountInstance
+    } else {
+        Phase::UncountMemory
+    }
+}
+
+impl<P: Pages> Phase<P> {
+    // The calls made so far on the region that the next step is made on.
+    fn page_calls(&self) -> PageCalls
+        ensures { result ≡ calls_in_phase self.now }
+    {
+        match self {
+            Phase::Empty(_, held) => held.region().calls(),
+            Phase::Instantiate(_, held) => held.region().calls(),
+            Phase::MakeMemory(_, held) => held.region().calls(),
+            Phase::PutRefused(_, held, _) => held.region().calls(),
+            Phase::CountMemory(lease) => lease.page_calls(),
+            Phase::Reset(lease) => lease.page_calls(),
+            _ => no_calls(),
+        }
+    }
+}

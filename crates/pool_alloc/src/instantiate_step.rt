@@ -1,0 +1,106 @@
+ghost use Rattle.std.specs.Prelude.{◌≡◌, ◌<◌, ◌≤◌, ◌^◌, length, slice_get, slice_index_or, Bool, None, Some, IfSome, IsSome, option_map, if◌then◌else◌};
+ghost use Rattle.std.specs.Arc.{arc_value};
+ghost use Rattle.pool_pages.specs.MemoryTypes.{minimum_byte_size};
+ghost use Rattle.pool_images.specs.Slots.{Slot, IsClean, FitsInto, hides};
+ghost use Rattle.pool_alloc.specs.Answers.{InstantiatesAs, InstantiatesFor};
+ghost use Rattle.pool_alloc.specs.Steps.{After, memories_asked, images_asked, image_wanted, instantiate_row};
+ghost use Rattle.pool_alloc.specs.CanStep.{HasNext, CanBegin};
+ghost use Rattle.pool_alloc.specs.Modules.{IfAllocated};
+
+use crate::frame::{Frame, ModuleCall, Outcome, Phase};
+use crate::pool_core::PoolCore;
+use pool_images::{MemoryImage, MemoryImageSlot};
+use pool_pages::{DefinedMemoryIndex, MemoryTunables, MemoryType, Pages};
+use pool_slots::AllocError;
+use std::sync::Arc;
+
+impl ModuleCall {
+    // The image of a memory, where there is one.
+    fn image(&self, memory: usize) -> Option<&Arc<MemoryImage>>
+        requires small { memory < 2 ^ 32 }
+        requires inside { IfSome self.now.images (λ images. memory < length (arc_value images)) }
+        ensures { option_map (λ image. arc_value image.now) result ≡ slice_index_or (images_asked (Some self.now)) memory None }
+    {
+        match &self.images {
+            None => None,
+            Some(images) => images.get_memory_image(DefinedMemoryIndex(memory as u32)),
+        }
+    }
+}
+
+impl<P: Pages> PoolCore<P> {
+    // Instantiates an image slot for the memory that is allocated.
+    pub(crate) fn instantiate(
+        &mut self,
+        frame: &mut Frame<P>,
+        slot: u32,
+        held: MemoryImageSlot<P>,
+    ) -> Option<Outcome<P>>
+        requires next { HasNext frame.old.asked (length frame.old.granted.items) }
+        requires clean { IsClean held }
+        requires can { IfAllocated frame.old (CanBegin held (image_wanted frame.old)) }
+        ensures { (fault : Bool) × (after : Slot) × IfAllocated frame.old (λ decl. InstantiatesFor self.old.settings decl fault (image_wanted frame.old) held after) × (◌≡◌ {A = After P} (record { core = self.new; frame = frame.new; outcome = result }) (instantiate_row fault after slot self.old frame.old)) }
+    {
+        let mut held = held;
+        let fault = self.begin(frame, &mut held);
+        frame.phase = after_begin(fault, slot, held);
+        None
+    }
+
+    // Whether a page call failed.
+    fn begin(&self, frame: &Frame<P>, held: &mut MemoryImageSlot<P>) -> bool
+        requires next { HasNext frame.now.asked (length frame.now.granted.items) }
+        requires clean { IsClean held.old }
+        requires can { IfAllocated frame.now (CanBegin held.old (image_wanted frame.now)) }
+        ensures { IfAllocated frame.now (λ decl. InstantiatesFor self.now.settings decl result (image_wanted frame.now) held.old held.new) }
+    {
+        let memory = frame.granted.len();
+        match &frame.asked {
+            None => unreachable!(),
+            Some(call) => {
+                let decl = &call.info.memories.as_slice()[memory];
+                let image = call.image(memory);
+                begin_memory(&decl.ty, &self.settings.tunables, image, held)
+            }
+        }
+    }
+}
+
+// Whether a page call failed.
+fn begin_memory<P: Pages>(
+    ty: &MemoryType,
+    tunables: &MemoryTunables,
+    image: Option<&Arc<MemoryImage>>,
+    held: &mut MemoryImageSlot<P>,
+) -> bool
+    requires clean { IsClean held.old }
+    requires page_log2 { ty.now.page_size_log2 < 64 }
+    requires minimum { minimum_byte_size ty.now ≤ held.old.static_size }
+    requires bounded { held.old.static_size < 2 ^ 64 }
+    requires image_fits { IfSome image (λ i. FitsInto held.old.region.page (minimum_byte_size ty.now) (arc_value i.now)) }
+    ensures { InstantiatesAs result (minimum_byte_size ty.now) (hides ty.now tunables.now held.old.region.page) (option_map (λ i. arc_value i.now) image.entry) held.old held.new }
+{
+    let fault = held
+        .instantiate(minimum_of(ty), image, ty, tunables)
+        .is_err();
+    let _accessible = held.accessible();
+    fault
+}
+
+fn after_begin<P: Pages>(fault: bool, slot: u32, held: MemoryImageSlot<P>) -> Phase<P>
+    ensures { result ≡ (if fault then Phase.PutRefused slot held AllocError.PageFault else Phase.MakeMemory slot held) }
+{
+    if fault {
+        Phase::PutRefused(slot, held, AllocError::PageFault)
+    } else {
+        Phase::MakeMemory(slot, held)
+    }
+}
+
+fn minimum_of(ty: &MemoryType) -> usize
+    requires page_log2 { ty.now.page_size_log2 < 64 }
+    requires small { minimum_byte_size ty.now < 2 ^ 64 }
+    ensures { result ≡ minimum_byte_size ty.now }
+{
+    (ty.limits.min * ty.page_size()) as usize
+}

@@ -1,0 +1,27 @@
+//! The pooling allocator, a step at a time.
+#![tactic(auto)]
+
+mod allocate_steps;
+mod flush_steps;
+mod frame;
+mod frame_calls;
+mod freeing;
+mod instantiate_step;
+mod lease;
+mod make_step;
+mod making;
+mod metrics;
+mod parts;
+mod pool_core;
+mod region_steps;
+mod reserved;
+mod reset_step;
+mod step;
+mod validate_step;
+
+pub use pool_core::{Counters, PoolCore, Settings};
+pub use frame::{AfterFlush, Call, Ending, Frame, FreedSlot, Grant, ModuleCall, Outcome, Phase};
+pub use lease::{InstanceLease, MemoryLease};
+pub use metrics::Metrics;
+pub use parts::{Cells, Queues, Shards};
+pub use reserved::ReservedList;

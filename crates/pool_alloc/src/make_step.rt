@@ -1,0 +1,115 @@
+ghost use Rattle.std.specs.Prelude.{◌≡◌, ◌^◌, ◌<◌, ◌≤◌, length, Bool, Result, Some, None};
+ghost use Rattle.pool_pages.specs.Count.{rounded_up};
+ghost use Rattle.pool_pages.specs.MemoryTypes.{minimum_byte_size, refused_limits};
+ghost use Rattle.pool_limits.specs.Growth.{memory_answer};
+ghost use Rattle.pool_limits.specs.LimiterTold.{answered};
+ghost use Rattle.pool_limits.specs.declared.errors.LimiterError.{LimiterError};
+ghost use Rattle.pool_memory.specs.Making.{minimum_asked, maximum_asked, static_answer, static_limiter_answer};
+ghost use Rattle.pool_memory.specs.Static.{CanHold};
+ghost use Rattle.pool_alloc.specs.Answers.{Asks};
+ghost use Rattle.pool_alloc.specs.CanStep.{HasNext, CanMake};
+ghost use Rattle.pool_alloc.specs.Modules.{IfAllocated};
+ghost use Rattle.pool_alloc.specs.Own.{refusal_of};
+ghost use Rattle.pool_alloc.specs.Steps.{After, phase_made, make_memory_row};
+
+use crate::frame::{Frame, Outcome, Phase};
+use crate::lease::MemoryLease;
+use crate::pool_core::{PoolCore, Settings};
+use pool_images::MemoryImageSlot;
+use pool_limits::ResourceLimiter;
+use pool_memory::{Memory, MemoryError, StaticMemory};
+use pool_pages::{MemoryType, Pages};
+use pool_slots::{AllocError, MemoryAllocationIndex};
+
+// A memory in its slot, or the slot of a memory that is refused.
+type Making<P> = Result<Memory<(), StaticMemory<P>>, (MemoryImageSlot<P>, MemoryError)>;
+
+impl<P: Pages> PoolCore<P> {
+    // Asks the limiter, and makes the memory.
+    pub(crate) fn make_memory<L: ResourceLimiter>(
+        &mut self,
+        frame: &mut Frame<P>,
+        slot: u32,
+        held: MemoryImageSlot<P>,
+        limiter: &mut L,
+    ) -> Option<Outcome<P>>
+        requires next { HasNext frame.old.asked (length frame.old.granted.items) }
+        requires can { IfAllocated frame.old (CanMake self.old.settings held) }
+        ensures { (answer : Result Bool LimiterError) × IfAllocated frame.old (Asks answer (L.told limiter.old) (L.told limiter.new)) × (◌≡◌ {A = After P} (record { core = self.new; frame = frame.new; outcome = result }) (make_memory_row answer slot held self.old frame.old)) }
+    {
+        let making = self.make(frame, held, limiter);
+        frame.phase = phase_made(slot, making);
+        None
+    }
+
+    // The memory that is allocated.
+    fn make<L: ResourceLimiter>(
+        &self,
+        frame: &Frame<P>,
+        held: MemoryImageSlot<P>,
+        limiter: &mut L,
+    ) -> Making<P>
+        requires next { HasNext frame.now.asked (length frame.now.granted.items) }
+        requires can { IfAllocated frame.now (CanMake self.now.settings held) }
+        ensures asked { IfAllocated frame.now (Asks (static_limiter_answer result) (L.told limiter.old) (L.told limiter.new)) }
+        ensures value { IfAllocated frame.now (λ decl. result ≡ static_answer (static_limiter_answer result) decl.ty self.now.settings.max_memory_size held) }
+    {
+        let memory = frame.granted.len();
+        match &frame.asked {
+            None => unreachable!(),
+            Some(call) => {
+                let decl = &call.info.memories.as_slice()[memory];
+                make_memory(&decl.ty, &self.settings, held, limiter)
+            }
+        }
+    }
+}
+
+fn make_memory<P: Pages, L: ResourceLimiter>(
+    ty: &MemoryType,
+    settings: &Settings,
+    held: MemoryImageSlot<P>,
+    limiter: &mut L,
+) -> Making<P>
+    requires page_log2 { ty.now.page_size_log2 < 64 }
+    requires limits { refused_limits ty.now.limits ≡ None }
+    requires slot { minimum_byte_size ty.now < 2 ^ 64 → CanHold (minimum_byte_size ty.now) held }
+    requires room { rounded_up held.region.page settings.now.max_memory_size ≤ held.static_size }
+    ensures answer { static_limiter_answer result ≡ memory_answer (L.told limiter.old).rule (static_limiter_answer result) (minimum_asked ty.now) (maximum_asked ty.now) }
+    ensures limiter { L.told limiter.new ≡ answered (static_limiter_answer result) (L.told limiter.old) }
+    ensures value { result ≡ static_answer (static_limiter_answer result) ty.now settings.now.max_memory_size held }
+{
+    Memory::new_static(
+        ty,
+        &settings.tunables,
+        settings.max_memory_size,
+        held,
+        Some(limiter),
+    )
+}
+
+// What comes after a making.
+fn phase_made<P: Pages>(slot: u32, making: Making<P>) -> Phase<P>
+    ensures { result ≡ phase_made slot making }
+{
+    match making {
+        Ok(memory) => Phase::CountMemory(MemoryLease {
+            index: MemoryAllocationIndex(slot),
+            memory,
+        }),
+        Err((held, error)) => Phase::PutRefused(slot, held, refusal_of(error)),
+    }
+}
+
+// Why an allocation is refused whose memory isn't made.
+fn refusal_of(error: MemoryError) -> AllocError
+    ensures { result ≡ refusal_of error }
+{
+    match error {
+        MemoryError::Memory => AllocError::Memory,
+        MemoryError::Unsupported(rule) => AllocError::Unsupported(rule),
+        MemoryError::LimiterDenied { min } => AllocError::LimiterDenied { table: false, min },
+        MemoryError::LimiterFault(error) => AllocError::LimiterFault(error),
+        MemoryError::PageFault => AllocError::PageFault,
+    }
+}

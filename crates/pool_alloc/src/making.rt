@@ -1,0 +1,140 @@
+ghost use Rattle.std.specs.Prelude.{◌≡◌, ◌+◌, ◌*◌, ◌^◌, ◌<◌, ◌≤◌, [], ◌∷◌, false, IfOk, IfErr, IfSome, MatchResult};
+ghost use Rattle.pool_hall.specs.declared.unit_name.SlotKind.TheVariants.{Memory as memory_kind};
+ghost use Rattle.pool_pages.specs.ConfigLimits.{IsWithinLimits};
+ghost use Rattle.pool_pages.specs.MakerTold.{MakerTold};
+ghost use Rattle.pool_index.specs.Shard.{IsShard, fresh_shard};
+ghost use Rattle.pool_slots.specs.Pools.{RaisesFaults, makes_listed, IsListed};
+ghost use Rattle.pool_slots.specs.Queues.{empty_queue};
+ghost use Rattle.pool_alloc.specs.Calls.{frame_made};
+ghost use Rattle.pool_alloc.specs.Made.{settings_of, IsMadeCore, HasMadeCells};
+ghost use Rattle.pool_alloc.specs.Sound.{IsCore, IsFrame};
+ghost use Rattle.pool_alloc.specs.Whole.{IsUntouched};
+
+use crate::frame::{Ending, Frame, Phase};
+use crate::parts::{Cells, Queues, Shards};
+use crate::pool_core::{Counters, PoolCore, Settings};
+use crate::reserved::ReservedList;
+use pool_index::{Shard, SlotKind};
+use pool_pages::{
+    HostAlignedByteCount, MemoryKind, MemoryTunables, PageMaker, PageSize, Pages,
+    PoolingAllocationConfig, Tunables,
+};
+use pool_slots::{DecommitQueue, PoolNewError, make_cells};
+use std::alloc::{AllocError, Global};
+
+impl<P: Pages> PoolCore<P> {
+    /// Makes a pool with the regions of its memory slots, none of which is accessible. All memory that its steps need is
+    /// taken now, but for the list of what an instance is granted.
+    pub fn new<M: PageMaker<Region = P>>(
+        alloc: Global,
+        config: &PoolingAllocationConfig,
+        tunables: &Tunables,
+        maker: &mut M,
+    ) -> Result<Self, PoolNewError>
+        requires within { IsWithinLimits config.now }
+        requires size { config.now.limits.max_memory_size + 131072 < 2 ^ 64 }
+        ensures made { IfOk result (IsMadeCore (M.told maker.old) config.now tunables.now) }
+        ensures core { IfOk result (IsCore (M.told maker.old)) }
+        ensures untouched { IfOk result IsUntouched }
+        ensures maker { M.told maker.new ≡ record (M.told maker.old) { faults = (M.told maker.new).faults } }
+        ensures faults { MatchResult result (λ _. (M.told maker.new).faults ≡ (M.told maker.old).faults) (RaisesFaults (M.told maker.old).faults (M.told maker.new).faults) }
+        ensures planned { MatchResult result (λ _. IfSome (M.told maker.old).plan (λ plan. makes_listed plan config.now.limits.total_memories ≡ false)) (λ e. IfSome (M.told maker.old).plan (λ plan. IsListed (makes_listed plan config.now.limits.total_memories) e)) }
+    {
+        let page = maker.page();
+        let _bytes = page.get();
+        let settings = settings_of(page, config, tunables);
+        let total = config.limits.total_memories;
+        let shards = make_shards(alloc, total, config.max_unused_warm_slots)?;
+        let queues = make_queues(alloc, settings.batch)?;
+        let len = HostAlignedByteCount::rounded_up_unchecked(page, settings.max_memory_size);
+        let cells = make_cells(alloc, maker, total, len)?;
+        Ok(PoolCore {
+            shards,
+            cells: Cells::new(cells),
+            queues,
+            counters: Counters {
+                key: 0,
+                core_instances: 0,
+                memories: 0,
+            },
+            settings,
+        })
+    }
+
+    /// A party's frame, at home in the shard and the queue that its home's number gives, without a call.
+    pub fn frame(&self, alloc: Global, home: u32) -> Result<Frame<P>, AllocError>
+        requires { self.now.settings.batch ≤ 4096 }
+        ensures made { IfOk result (λ f. f ≡ frame_made home self.now.settings) }
+        ensures sound { IfOk result (λ f. (maker : MakerTold) → IsCore maker self.now → IsFrame maker self.now f) }
+    {
+        let room = 2 * self.settings.batch;
+        let local = DecommitQueue::new(alloc, room, room)?;
+        let freed = ReservedList::with_room(alloc, room)?;
+        Ok(Frame {
+            home,
+            stripe: 0,
+            asked: None,
+            granted: ReservedList::none(alloc),
+            returning: ReservedList::none(alloc),
+            ending: Ending::Returned,
+            local,
+            freed,
+            phase: Phase::Idle,
+        })
+    }
+}
+
+fn settings_of(page: PageSize, config: &PoolingAllocationConfig, tunables: &Tunables) -> Settings
+    requires size { config.now.limits.max_memory_size + 131072 < 2 ^ 64 }
+    requires kept { config.now.linear_memory_keep_resident ≤ 2 ^ 32 }
+    ensures { result ≡ settings_of page config.now tunables.now }
+{
+    let _bytes = page.get();
+    let limits = &config.limits;
+    let keep = config.linear_memory_keep_resident;
+    Settings {
+        page,
+        max_memory_size: HostAlignedByteCount::rounded_up_unchecked(page, limits.max_memory_size)
+            .byte_count(),
+        keep_resident: HostAlignedByteCount::rounded_up_unchecked(page, keep),
+        batch: config.decommit_batch_size,
+        stripes: 1,
+        slots_per_shard: limits.total_memories.max(1),
+        max_core_instances: limits.total_core_instances as u64,
+        max_memories_per_module: limits.max_memories_per_module,
+        tunables: MemoryTunables::new(tunables, MemoryKind::LinearMemory),
+    }
+}
+
+// All memory slots are one shard's.
+fn make_shards(alloc: Global, total: u32, warm: u32) -> Result<Shards, PoolNewError>
+    ensures made { IfOk result (λ s. s ≡ fresh_shard memory_kind 0 1 total warm ∷ []) }
+    ensures sound { IfOk result (λ s. IsShard (fresh_shard memory_kind 0 1 total warm)) }
+    ensures memory { IfErr result (λ e. e ≡ PoolNewError.Memory) }
+{
+    let Ok(shard) = Shard::new(alloc, SlotKind::Memory, 0, 1, total, warm) else {
+        return Err(PoolNewError::Memory);
+    };
+    let mut list = Vec::new(alloc);
+    let Ok(()) = list.push(shard) else {
+        return Err(PoolNewError::Memory);
+    };
+    Ok(Shards::new(list))
+}
+
+// One queue, with room for twice a batch.
+fn make_queues<P: Pages>(alloc: Global, batch: usize) -> Result<Queues<P>, PoolNewError>
+    requires { batch ≤ 4096 }
+    ensures made { IfOk result (λ q. q ≡ empty_queue (2 * batch) (2 * batch) ∷ []) }
+    ensures memory { IfErr result (λ e. e ≡ PoolNewError.Memory) }
+{
+    let room = 2 * batch;
+    let Ok(queue) = DecommitQueue::new(alloc, room, room) else {
+        return Err(PoolNewError::Memory);
+    };
+    let mut list = Vec::new(alloc);
+    let Ok(()) = list.push(queue) else {
+        return Err(PoolNewError::Memory);
+    };
+    Ok(Queues::new(list))
+}

@@ -1,0 +1,55 @@
+ghost use Rattle.std.specs.Prelude.{◌≡◌};
+ghost use Rattle.pool_slots.specs.Cells.{added};
+ghost use Rattle.pool_alloc.specs.Sums.{metrics_of, calls_kept};
+
+use crate::pool_core::PoolCore;
+use pool_pages::{PageCalls, Pages};
+use pool_slots::add_calls;
+
+/// The numbers of a pool: how many of each thing are live, how many free slots were used before, and how many bytes
+/// those keep resident.
+#[derive(Clone, Copy, Debug, PartialEq, Eq)]
+pub struct Metrics {
+    pub core_instances: u64,
+    pub component_instances: u64,
+    pub memories: usize,
+    pub tables: usize,
+    pub stacks: usize,
+    pub gc_heaps: usize,
+    pub unused_warm_memories: u32,
+    pub unused_memory_bytes_resident: usize,
+    pub unused_warm_tables: u32,
+    pub unused_table_bytes_resident: usize,
+    pub unused_warm_stacks: u32,
+    /// None where stacks aren't zeroed.
+    pub unused_stack_bytes_resident: Option<usize>,
+}
+
+impl<P: Pages> PoolCore<P> {
+    /// The pool's numbers. It has no components, tables, stacks and heaps yet.
+    pub fn metrics(&self) -> Metrics
+        ensures { result ≡ metrics_of self.now }
+    {
+        Metrics {
+            core_instances: self.counters.core_instances,
+            component_instances: 0,
+            memories: self.counters.memories as usize,
+            tables: 0,
+            stacks: 0,
+            gc_heaps: 0,
+            unused_warm_memories: self.shards.unused_warm_slots(),
+            unused_memory_bytes_resident: self.shards.unused_bytes_resident(),
+            unused_warm_tables: 0,
+            unused_table_bytes_resident: 0,
+            unused_warm_stacks: 0,
+            unused_stack_bytes_resident: None,
+        }
+    }
+
+    /// The calls made so far on the regions in the cells and the queues, together.
+    pub fn page_calls(&self) -> PageCalls
+        ensures { result ≡ calls_kept self.now }
+    {
+        add_calls(self.cells.page_calls(), self.queues.page_calls())
+    }
+}

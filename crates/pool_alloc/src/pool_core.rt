@@ -1,0 +1,41 @@
+use crate::parts::{Cells, Queues, Shards};
+use pool_pages::{HostAlignedByteCount, MemoryTunables, PageSize, Pages};
+
+/// How many grants of a kind there are, and how many calls on the key counter there were.
+#[derive(Clone, Copy, Debug, PartialEq, Eq)]
+pub struct Counters {
+    /// Counts modulo 2^64.
+    pub key: u64,
+    pub core_instances: u64,
+    pub memories: u64,
+}
+
+/// What is the same for the whole life of a core.
+#[derive(Clone, Copy, Debug, PartialEq, Eq)]
+pub struct Settings {
+    /// The page of the core's regions.
+    pub page: PageSize,
+    /// The greatest size of a memory, in bytes.
+    pub max_memory_size: usize,
+    /// How many bytes of a memory a reset keeps resident.
+    pub keep_resident: HostAlignedByteCount,
+    /// At how many ranges a queue is flushed.
+    pub batch: usize,
+    pub stripes: u32,
+    /// The slots of each shard but the last, which has the rest.
+    pub slots_per_shard: u32,
+    pub max_core_instances: u64,
+    pub max_memories_per_module: u32,
+    pub tunables: MemoryTunables,
+}
+
+/// A pooling allocator without locks: its shards, the cells of its slots, its queues and its counters. Parties make
+/// calls on it step by step, each in a frame of its own.
+#[derive(Drop)]
+pub struct PoolCore<P: Pages> {
+    pub shards: Shards,
+    pub cells: Cells<P>,
+    pub queues: Queues<P>,
+    pub counters: Counters,
+    pub settings: Settings,
+}

@@ -1,0 +1,75 @@
+ghost use Rattle.std.specs.Option.{option_copied_mut};
+ghost use Rattle.pool_pages.specs.MakerTold.{MakerTold};
+ghost use Rattle.pool_limits.specs.LimiterTold.{limiter_told, option_left};
+ghost use Rattle.pool_alloc.specs.Calls.{IsGrantOf, IfGranted};
+ghost use Rattle.pool_alloc.specs.CanStep.{CanStepAt};
+ghost use Rattle.pool_alloc.specs.Steps.{memories_asked};
+ghost use Rattle.pool_alloc.specs.Stepping.{CanStep, CanCount, StepsTo, Conserves, EndsWith, IsSameSize};
+
+use crate::frame::{Frame, Outcome, Phase};
+use crate::pool_core::PoolCore;
+use pool_limits::{ResourceLimiter, Unlimited};
+use pool_pages::Pages;
+use std::alloc::Global;
+use std::mem;
+
+impl<P: Pages> PoolCore<P> {
+    /// Makes one step of the frame's call, as the step table says. Answers Some exactly where the call ends with it. A
+    /// step of a frame without a call changes nothing. Only the making of a memory asks the limiter; without one it is
+    /// granted.
+    pub fn step<R: ResourceLimiter>(
+        &mut self,
+        alloc: Global,
+        frame: &mut Frame<P>,
+        limiter: Option<&mut R>,
+    ) -> Option<Outcome<P>>
+        ghost maker: { MakerTold }
+        requires can { CanStep maker self.old frame.old }
+        requires counts { CanCount self.old }
+        ensures row { StepsTo (limiter_told R.told (option_copied_mut limiter.entry)) (limiter_told R.told (option_left limiter.exit)) self.old frame.old (record { core = self.new; frame = frame.new; outcome = result }) }
+        ensures can { CanStep maker self.new frame.new }
+        ensures conserves { Conserves self.old frame.old (record { core = self.new; frame = frame.new; outcome = result }) }
+        ensures granted { IfGranted (IsGrantOf maker self.old.settings (memories_asked frame.old.asked)) result }
+        ensures ended { EndsWith self.old frame.old (record { core = self.new; frame = frame.new; outcome = result }) }
+        ensures size { IsSameSize self.old self.new }
+    {
+        match limiter {
+            Some(limiter) => self.advance(alloc, frame, limiter),
+            None => self.advance(alloc, frame, &mut Unlimited),
+        }
+    }
+
+    // One step of the frame's call, over a limiter.
+    pub(crate) fn advance<L: ResourceLimiter>(
+        &mut self,
+        alloc: Global,
+        frame: &mut Frame<P>,
+        limiter: &mut L,
+    ) -> Option<Outcome<P>>
+        requires { CanStepAt frame.old.phase self.old frame.old }
+        ensures { StepsTo (L.told limiter.old) (L.told limiter.new) self.old frame.old (record { core = self.new; frame = frame.new; outcome = result }) }
+    {
+        match mem::replace(&mut frame.phase, Phase::Idle) {
+            Phase::Idle => None,
+            Phase::Key => self.draw_key(frame),
+            Phase::Validate => self.validate(alloc, frame),
+            Phase::CountInstance => self.count_instance(alloc, frame),
+            Phase::Pick(queues, tried) => self.pick(alloc, frame, queues, tried),
+            Phase::TakeQueue(queues) => self.take_queue(alloc, frame, queues),
+            Phase::TakeRegion(slot) => self.take_region(frame, slot),
+            Phase::Empty(slot, held) => self.empty(frame, slot, held),
+            Phase::Instantiate(slot, held) => self.instantiate(frame, slot, held),
+            Phase::MakeMemory(slot, held) => self.make_memory(frame, slot, held, limiter),
+            Phase::CountMemory(lease) => self.count_memory(alloc, frame, lease),
+            Phase::PutRefused(slot, held, error) => self.put_refused(frame, slot, held, error),
+            Phase::FreeRefused(slot, error) => self.free_refused(alloc, frame, slot, error),
+            Phase::UncountMemory => self.uncount_memory(frame),
+            Phase::Reset(lease) => self.reset(frame, lease),
+            Phase::Merge => self.merge(frame),
+            Phase::Decommit(after) => self.decommit(frame, after),
+            Phase::PutRegion(after) => self.put_region(frame, after),
+            Phase::Free(after) => self.free(frame, after),
+            Phase::UncountInstance => self.uncount_instance(frame),
+        }
+    }
+}

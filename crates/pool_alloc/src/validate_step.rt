@@ -1,0 +1,163 @@
+ghost use Rattle.std.specs.Prelude.{◌≡◌, ◌<◌, ◌%◌, ◌==◌, Bool, Some, None, if◌then◌else◌};
+ghost use Rattle.pool_pages.specs.MemoryTypes.{refused_limits};
+ghost use Rattle.pool_slots.specs.declared.request.AllocError.TheVariants as refusal;
+ghost use Rattle.pool_alloc.specs.declared.frame.Outcome.TheVariants as answer;
+ghost use Rattle.pool_alloc.specs.CanStep.{CanValidate};
+ghost use Rattle.pool_alloc.specs.Refusals.{first_refused, offset_refused, number_refused, memory_refused, memories_refused};
+ghost use Rattle.pool_alloc.specs.Steps.{After, memories_asked, ends, validated, validate_row};
+
+use crate::frame::{Frame, Outcome, Phase};
+use crate::pool_core::{PoolCore, Settings};
+use crate::reserved::ReservedList;
+use pool_pages::{ImageDecl, MemoryDecl, MemoryType, PageSize, Pages, Unsupported};
+use pool_slots::AllocError;
+use std::alloc::Global;
+
+impl<P: Pages> PoolCore<P> {
+    // Tests the module, and reserves the list of the memories that are to be granted.
+    pub(crate) fn validate(&mut self, alloc: Global, frame: &mut Frame<P>) -> Option<Outcome<P>>
+        requires { CanValidate (memories_asked frame.old.asked) }
+        ensures { (wants : Bool) × (◌≡◌ {A = After P} (record { core = self.new; frame = frame.new; outcome = result }) (validate_row wants self.old frame.old)) }
+    {
+        match self.module_refused(frame) {
+            Some(rule) => self.refuse_module(frame, rule),
+            None => self.reserve_grants(alloc, frame),
+        }
+    }
+
+    fn refuse_module(&mut self, frame: &mut Frame<P>, rule: Unsupported) -> Option<Outcome<P>>
+        ensures { ◌≡◌ {A = After P} (record { core = self.new; frame = frame.new; outcome = result }) (ends self.old frame.old (answer.Refused (refusal.Unsupported rule))) }
+    {
+        frame.phase = Phase::Idle;
+        frame.asked = None;
+        Some(Outcome::Refused(AllocError::Unsupported(rule)))
+    }
+
+    fn reserve_grants(&mut self, alloc: Global, frame: &mut Frame<P>) -> Option<Outcome<P>>
+        ensures { (wants : Bool) × (◌≡◌ {A = After P} (record { core = self.new; frame = frame.new; outcome = result }) (validated None wants self.old frame.old)) }
+    {
+        match ReservedList::with_room(alloc, frame.memories_asked()) {
+            Ok(granted) => {
+                frame.granted = granted;
+                frame.phase = Phase::CountInstance;
+                None
+            }
+            Err(_) => {
+                frame.phase = Phase::Idle;
+                frame.asked = None;
+                Some(Outcome::Refused(AllocError::Memory))
+            }
+        }
+    }
+
+    // The first rule that the module breaks.
+    fn module_refused(&self, frame: &Frame<P>) -> Option<Unsupported>
+        requires { CanValidate (memories_asked frame.now.asked) }
+        ensures { result ≡ memories_refused self.now.settings (memories_asked frame.now.asked) }
+    {
+        match &frame.asked {
+            None => memories_refused(&self.settings, &[]),
+            Some(call) => memories_refused(&self.settings, call.info.memories.as_slice()),
+        }
+    }
+}
+
+fn memories_refused(settings: &Settings, decls: &[MemoryDecl]) -> Option<Unsupported>
+    requires { CanValidate decls.now }
+    ensures { result ≡ memories_refused settings.now decls.now }
+{
+    if let Some(rule) = offsets_refused(settings.page, decls) {
+        return Some(rule);
+    }
+    if let Some(rule) = limits_refused(decls) {
+        return Some(rule);
+    }
+    if let Some(rule) = number_refused(settings, decls.len()) {
+        return Some(rule);
+    }
+    slots_refused(settings, decls)
+}
+
+#[tactic(auto, using(crate::proofs::Refusing::refused_here, crate::proofs::Refusing::refused_later, crate::proofs::Refusing::refused_nowhere))]
+fn offsets_refused(page: PageSize, decls: &[MemoryDecl]) -> Option<Unsupported>
+    ensures { result ≡ first_refused (λ d. offset_refused page d.image) decls.now }
+{
+    for decl in decls {
+        if let Some(rule) = offset_refused(page, &decl.image) {
+            return Some(rule);
+        }
+    }
+    None
+}
+
+fn offset_refused(page: PageSize, image: &Option<ImageDecl>) -> Option<Unsupported>
+    ensures { result ≡ offset_refused page image.now }
+{
+    match image {
+        Some(image) => offset_of(page, image.offset),
+        None => None,
+    }
+}
+
+fn offset_of(page: PageSize, offset: u64) -> Option<Unsupported>
+    ensures { result ≡ (if offset % page == 0 then None else Some (Unsupported.ImageOffset offset)) }
+{
+    if offset % page.get() as u64 == 0 {
+        None
+    } else {
+        Some(Unsupported::ImageOffset { offset })
+    }
+}
+
+#[tactic(auto, using(crate::proofs::Refusing::refused_here, crate::proofs::Refusing::refused_later, crate::proofs::Refusing::refused_nowhere))]
+fn limits_refused(decls: &[MemoryDecl]) -> Option<Unsupported>
+    ensures { result ≡ first_refused (λ d. refused_limits d.ty.limits) decls.now }
+{
+    for decl in decls {
+        if let Err(rule) = decl.ty.check() {
+            return Some(rule);
+        }
+    }
+    None
+}
+
+fn number_refused(settings: &Settings, count: usize) -> Option<Unsupported>
+    ensures { result ≡ number_refused settings.now count }
+{
+    let limit = settings.max_memories_per_module;
+    if count > limit as usize {
+        Some(Unsupported::MemoriesPerModule { count, limit })
+    } else {
+        None
+    }
+}
+
+#[tactic(auto, using(crate::proofs::Refusing::refused_here, crate::proofs::Refusing::refused_later, crate::proofs::Refusing::refused_nowhere))]
+fn slots_refused(settings: &Settings, decls: &[MemoryDecl]) -> Option<Unsupported>
+    requires { CanValidate decls.now }
+    ensures { result ≡ first_refused (λ d. memory_refused settings.now d.ty) decls.now }
+{
+    for decl in decls {
+        if let Some(rule) = memory_refused(settings, &decl.ty) {
+            return Some(rule);
+        }
+    }
+    None
+}
+
+fn memory_refused(settings: &Settings, ty: &MemoryType) -> Option<Unsupported>
+    requires { ty.now.page_size_log2 < 64 }
+    ensures { result ≡ memory_refused settings.now ty.now }
+{
+    let slot = settings.max_memory_size;
+    let Some(min) = ty.minimum_byte_size() else {
+        return Some(Unsupported::MemoryUnrepresentable);
+    };
+    if min > slot as u64 {
+        return Some(Unsupported::MemoryExceedsSlot { min, slot });
+    }
+    if ty.shared {
+        return Some(Unsupported::MemoryShared);
+    }
+    None
+}
