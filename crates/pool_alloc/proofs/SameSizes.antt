@@ -28,19 +28,19 @@ use Rattle.pool_alloc.specs.declared.frame.AfterFlush.TheVariants.{PickAgain, Gi
 
 module _ {P : Type 0} where
   same_size : (c : PoolCore P) → IsSameSize c c
-  same_size c = record { settings = refl; slots = refl; shards = refl; queues = refl }
+  same_size c = record { settings = refl; cells = refl; shards = refl; queues = refl }
 
   same_shards : (j : ℕ) (shard : ShardState) (c : PoolCore P) → IsSameSize c (with_shard j shard c)
-  same_shards j shard c = record { settings = refl; slots = refl; shards = length-set c.shards j shard; queues = refl }
+  same_shards j shard c = record { settings = refl; cells = refl; shards = length-set c.shards j shard; queues = refl }
 
   same_cells : (i : ℕ) (cell : Cell) (c : PoolCore P) → IsSameSize c (with_cell i cell c)
-  same_cells i cell c = record { settings = refl; slots = length-set c.cells i cell; shards = refl; queues = refl }
+  same_cells i cell c = record { settings = refl; cells = length-set c.cells i cell; shards = refl; queues = refl }
 
   same_queues : (i : ℕ) (queue : QueueState) (c : PoolCore P) → IsSameSize c (with_queue i queue c)
-  same_queues i queue c = record { settings = refl; slots = refl; shards = refl; queues = length-set c.queues i queue }
+  same_queues i queue c = record { settings = refl; cells = refl; shards = refl; queues = length-set c.queues i queue }
 
   same_counted : (counters : Counters) (c : PoolCore P) → IsSameSize c (record c { counters = counters })
-  same_counted counters c = record { settings = refl; slots = refl; shards = refl; queues = refl }
+  same_counted counters c = record { settings = refl; cells = refl; shards = refl; queues = refl }
 
   one_of : (c : PoolCore P) (b : Bool) (x y : After P) → IsSameSize c x.core → IsSameSize c y.core → IsSameSize c (if b then x else y).core
   one_of c true x y g h = g
@@ -118,5 +118,5 @@ module _ {P : Type 0} where
         freed_bytes = frame.freed_bytes;
         granted = rw same.settings frame.granted;
         returning = rw same.settings frame.returning;
-        shape = rw (same.settings, same.slots, same.shards, same.queues) frame.shape;
+        shape = rw (same.settings, same.cells, same.shards, same.queues) frame.shape;
       }

@@ -1,5 +1,6 @@
 pub mod Answers
 pub mod Calls
+pub mod Freeing
 pub mod Leases
 pub mod Own
 pub mod Places
@@ -8,3 +9,4 @@ pub mod Reserved
 pub mod Sound
 pub mod Stepping
 pub mod Steps
+pub mod Whole

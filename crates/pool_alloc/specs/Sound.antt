@@ -190,10 +190,10 @@ module _ {P : Type 0} where
     pub returning : All (IsLeaseOf maker c.settings) f.returning.items
     pub shape : IsShapedAt maker c.settings (length c.cells) (length c.shards) (length c.queues) f.phase f
 
-  -- What the frame has fits what the pool has: nothing is in both, each region of a slot that the frame has is in its
-  -- cell or with the frame, and what the frame has counted is counted.
+  -- What the frame has fits what the pool has: nothing is in both, the region of each slot that the pool or the frame
+  -- has is with one of them too, and what the frame has counted is counted.
   pub record Fits (c : PoolCore P) (f : Frame P) : Type 0 where
     pub once : (t : Thing) → kept_count t c + frame_count t f ≤ made_count t (length c.cells)
-    pub home : (i : ℕ) → 0 < frame_count (slot_of i) f → 0 < kept_count (region_of i) c + frame_count (region_of i) f
+    pub home : (i : ℕ) → 0 < kept_count (slot_of i) c + frame_count (slot_of i) f → 0 < kept_count (region_of i) c + frame_count (region_of i) f
     pub instances : phase_instances f.phase ≤ c.counters.core_instances
     pub memories : frame_memories f ≤ c.counters.memories

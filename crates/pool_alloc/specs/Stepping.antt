@@ -43,7 +43,7 @@ module _ {P : Type 0} where
   -- the pool has the same settings, and as many slots, shards and queues
   pub record IsSameSize (c d : PoolCore P) : Type 0 where
     pub settings : d.settings ≡ c.settings
-    pub slots : length d.cells ≡ length c.cells
+    pub cells : length d.cells ≡ length c.cells
     pub shards : length d.shards ≡ length c.shards
     pub queues : length d.queues ≡ length c.queues
 

@@ -1,0 +1,115 @@
+-- What queues, leases and freed slots have, and what their counts say of the numbers in them.
+use Rattle.std.proofs.Common.{◌≡◌, ℕ, ◌+◌, ◌≤◌, Bool, true, false, List, [], ◌∷◌, ◌++◌, refl, sym, ap, ◌∙◌, inl, inr, arith}
+use Rattle.std.specs.Prelude.{map, filter, sum_by, if◌then◌else◌, not}
+use Rattle.std.specs.List.{AllZip}
+use Rattle.std.proofs.lemmas.Bool.{cases_eq, or_from}
+use Rattle.std.proofs.lemmas.Bool.Decides.{nat_tests}
+use Rattle.std.proofs.lemmas.List.Sums.{sum_by-cons, sum_by-append, sum_by_push}
+use Rattle.std.proofs.lemmas.List.Filters.{sum_by-filter_both}
+use Rattle.pool_slots.specs.Queues.{QueueState, QueuedMemory, holds, AreDistinct, AreApart, after_run, IsLeftBy, IsFaulted, first_slot}
+use Rattle.pool_alloc.specs.Leases.{Lease}
+use Rattle.pool_alloc.specs.Places.{Thing, slot_of, region_of, slot_count, both_count, queued_count, leased_count, freed_count}
+use Rattle.pool_alloc.specs.declared.frame.FreedSlot.{FreedSlot}
+use Rattle.pool_alloc.proofs.SlotCounts.{slot_once}
+
+-- sums of numbers that agree, and of none
+pub sum_by_agree : {X : Type 0} (f g : X → ℕ) → ((x : X) → f x ≡ g x) → (xs : List X) → sum_by f xs ≡ sum_by g xs
+sum_by_agree f g same [] = refl
+sum_by_agree f g same (x ∷ xs) = omega (arith, sum_by-cons f x xs, sum_by-cons g x xs, same x, sum_by_agree f g same xs)
+
+pub sum_by_none : {X : Type 0} (f : X → ℕ) → ((x : X) → f x ≡ 0) → (xs : List X) → sum_by f xs ≡ 0
+sum_by_none f none [] = refl
+sum_by_none f none (x ∷ xs) = omega (arith, sum_by-cons f x xs, none x, sum_by_none f none xs)
+
+-- a slot in a queue, and that of a lease, has its region
+pub queued_regions : (k : ℕ) (ms : List QueuedMemory) → queued_count (region_of k) ms ≡ queued_count (slot_of k) ms
+queued_regions k ms = sum_by_agree (λ (m : QueuedMemory). both_count (region_of k) m.index) (λ (m : QueuedMemory). both_count (slot_of k) m.index) (λ m. omega arith) ms
+
+pub leased_regions : (k : ℕ) (ls : List Lease) → leased_count (region_of k) ls ≡ leased_count (slot_of k) ls
+leased_regions k ls = sum_by_agree (λ (l : Lease). both_count (region_of k) l.index) (λ (l : Lease). both_count (slot_of k) l.index) (λ l. omega arith) ls
+
+-- a freed slot hasn't
+pub freed_regions : (k : ℕ) (xs : List FreedSlot) → freed_count (region_of k) xs ≡ 0
+freed_regions k xs = sum_by_none (λ (x : FreedSlot). slot_count (region_of k) x.slot) (λ x. refl) xs
+
+-- one more or less at the front
+pub queued_first : (t : Thing) (m : QueuedMemory) (ms : List QueuedMemory) → queued_count t (m ∷ ms) ≡ both_count t m.index + queued_count t ms
+queued_first t m ms = sum_by-cons (λ (x : QueuedMemory). both_count t x.index) m ms
+
+pub leased_first : (t : Thing) (l : Lease) (ls : List Lease) → leased_count t (l ∷ ls) ≡ both_count t l.index + leased_count t ls
+leased_first t l ls = sum_by-cons (λ (x : Lease). both_count t x.index) l ls
+
+pub freed_first : (t : Thing) (x : FreedSlot) (xs : List FreedSlot) → freed_count t (x ∷ xs) ≡ slot_count t x.slot + freed_count t xs
+freed_first t x xs = sum_by-cons (λ (y : FreedSlot). slot_count t y.slot) x xs
+
+-- one more at the end
+pub queued_last : (t : Thing) (ms : List QueuedMemory) (m : QueuedMemory) → queued_count t (ms ++ m ∷ []) ≡ queued_count t ms + both_count t m.index
+queued_last t ms m = sum_by_push (λ (x : QueuedMemory). both_count t x.index) ms m
+
+pub leased_last : (t : Thing) (ls : List Lease) (l : Lease) → leased_count t (ls ++ l ∷ []) ≡ leased_count t ls + both_count t l.index
+leased_last t ls l = sum_by_push (λ (x : Lease). both_count t x.index) ls l
+
+pub freed_last : (t : Thing) (xs : List FreedSlot) (x : FreedSlot) → freed_count t (xs ++ x ∷ []) ≡ freed_count t xs + slot_count t x.slot
+freed_last t xs x = sum_by_push (λ (y : FreedSlot). slot_count t y.slot) xs x
+
+-- two queues' slots
+pub queued_joined : (t : Thing) (ms ns : List QueuedMemory) → queued_count t (ms ++ ns) ≡ queued_count t ms + queued_count t ns
+queued_joined t ms ns = sum_by-append (λ (x : QueuedMemory). both_count t x.index) ms ns
+
+-- those that pass a test, and the others
+pub freed_parted : (t : Thing) (p : FreedSlot → Bool) (xs : List FreedSlot) → freed_count t (filter p xs) + freed_count t (filter (λ x. not (p x)) xs) ≡ freed_count t xs
+freed_parted t p xs = sum_by-filter_both p (λ x. not (p x)) (λ x. refl) (λ (y : FreedSlot). slot_count t y.slot) xs
+
+-- slots whose numbers stay are counted as before
+queued_zip : (t : Thing) (R : QueuedMemory → QueuedMemory → Type 0) → ((a b : QueuedMemory) → R a b → b.index ≡ a.index) → (ms ns : List QueuedMemory) → AllZip R ms ns → queued_count t ns ≡ queued_count t ms
+queued_zip t R same [] [] z = refl
+queued_zip t R same [] (n ∷ ns) z = absurd z
+queued_zip t R same (m ∷ ms) [] z = absurd z
+queued_zip t R same (m ∷ ms) (n ∷ ns) z =
+    let here : both_count t n.index ≡ both_count t m.index = ap (both_count t) (same m n z.0) in
+    omega (arith, queued_first t m ms, queued_first t n ns, queued_zip t R same ms ns z.1)
+
+queued_map : (t : Thing) (f : QueuedMemory → QueuedMemory) → ((m : QueuedMemory) → (f m).index ≡ m.index) → (ms : List QueuedMemory) → queued_count t (map f ms) ≡ queued_count t ms
+queued_map t f same [] = refl
+queued_map t f same (m ∷ ms) =
+    let here : both_count t (f m).index ≡ both_count t m.index = ap (both_count t) (same m) in
+    omega (arith, queued_first t m ms, queued_first t (f m) (map f ms), queued_map t f same ms)
+
+changed_index : (b : Bool) (m n : QueuedMemory) → n.index ≡ m.index → (if b then n else m).index ≡ m.index
+changed_index true m n same = same
+changed_index false m n same = refl
+
+-- so a decommit leaves the slots of a queue, and so does one that fails
+pub run_counts : (t : Thing) (q : QueueState) → queued_count t (after_run q).memories ≡ queued_count t q.memories
+run_counts t q = queued_map t _ (λ m. changed_index _ m _ refl) q.memories
+
+pub faulted_counts : (t : Thing) (old new : QueueState) → IsFaulted old new → queued_count t new.memories ≡ queued_count t old.memories
+faulted_counts t old new faulted = queued_zip t (IsLeftBy (first_slot old.ranges)) (λ a b left. left.index) old.memories new.memories faulted.memories
+
+-- a slot that isn't counted isn't held
+pub not_held : (k : ℕ) (ms : List QueuedMemory) → queued_count (slot_of k) ms ≡ 0 → holds k ms ≡ false
+not_held k [] none = refl
+not_held k (m ∷ ms) none =
+    let first = queued_first (slot_of k) m ms in
+    elim (cases_eq k m.index) [
+      | inl e ↦
+          let one : slot_count (slot_of k) m.index ≡ 1 = ap (slot_count (slot_of k)) (sym e) ∙ slot_once k in
+          absurd (omega arith)
+      | inr other ↦ or_from _ (holds k ms) (grind (arith, nat_tests)) (not_held k ms (omega arith))
+    ]
+
+-- two queues that have no slot both hold no slot both
+pub apart_by_count : (these those : List QueuedMemory) → ((k : ℕ) → queued_count (slot_of k) these + queued_count (slot_of k) those ≤ 1) → AreApart these those
+apart_by_count [] those once = tt
+apart_by_count (m ∷ ms) those once = (
+  not_held m.index those (omega (arith, once m.index, queued_first (slot_of m.index) m ms, slot_once m.index)),
+  apart_by_count ms those (λ k. omega (arith, once k, queued_first (slot_of k) m ms)),
+)
+
+-- and slots that are counted once are distinct
+pub distinct_by_count : (ms : List QueuedMemory) → ((k : ℕ) → queued_count (slot_of k) ms ≤ 1) → AreDistinct ms
+distinct_by_count [] once = tt
+distinct_by_count (m ∷ ms) once = (
+  not_held m.index ms (omega (arith, once m.index, queued_first (slot_of m.index) m ms, slot_once m.index)),
+  distinct_by_count ms (λ k. omega (arith, once k, queued_first (slot_of k) m ms)),
+)
