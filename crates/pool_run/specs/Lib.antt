@@ -1,6 +1,4 @@
-pub mod Built
-pub mod Made
 pub mod Private
-pub mod Runs
+pub mod Ties
 pub mod Turns
 pub mod Validity
