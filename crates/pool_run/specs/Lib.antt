@@ -2,3 +2,4 @@ pub mod Private
 pub mod Ties
 pub mod Turns
 pub mod Validity
+pub mod Worlds

@@ -97,12 +97,17 @@ IsCause w (Alloc (alloc.Limit e)) = IsLimit w e
 IsCause w (Alloc (alloc.PageFault)) = SomeMayFault w
 IsCause w (Alloc _) = ⊥
 
+-- no slot is named twice
+abbrev pub AllDiffer : List ℕ → Type 0
+AllDiffer slots = (i j : ℕ) → i < length slots → j < length slots → slice_index_or slots i 0 ≡ slice_index_or slots j 0 → i ≡ j
+
 -- the memories of an instance that is granted: one for each of the module's, in slots of the pool that are free and
 -- differ
 pub record AreGranted (w : World) (number : ℕ) (grants : Grants) (slots : List ℕ) : Type 0 where
   pub count : length slots ≡ length (memories_of w number)
   pub inside : All (λ slot. slot < w.total) slots
   pub free : All (λ slot. IsFree slot grants) slots
+  pub differ : AllDiffer slots
 
 -- the reply to command n, a request for an instance of the module of this number
 abbrev pub Instantiates : World → ℕ → ℕ → Grants → Reply → Grants → Type 0
@@ -132,17 +137,25 @@ Writes grants of g k m at bytes Done new = (at + length bytes ≤ m.size) × (ne
 Writes grants of g k m at bytes (Trap trap) new = (m.size < at + length bytes) × (new ≡ grants)
 Writes grants of g k m at bytes _ new = ⊥
 
--- a command on a grant that isn't live is refused, and changes nothing
+-- a command on a grant that isn't live, or on a memory that it hasn't, is refused, and changes nothing
 abbrev pub HasNoGrant : Grants → Reply → Grants → Type 0
 HasNoGrant grants reply new = (reply ≡ Refused NoSuchGrant) × (new ≡ grants)
 
+abbrev pub ReadsMemory : Option PrivateMemory → Grants → ℕ → ℕ → Reply → Grants → Type 0
+ReadsMemory None grants at len reply new = HasNoGrant grants reply new
+ReadsMemory (Some m) grants at len reply new = IsRead m at len reply × (new ≡ grants)
+
 abbrev pub ReadsFrom : Option PrivateInstance → Grants → ℕ → ℕ → ℕ → Reply → Grants → Type 0
 ReadsFrom None grants k at len reply new = HasNoGrant grants reply new
-ReadsFrom (Some g) grants k at len reply new = IfSome (slice_get g.memories k) (λ m. IsRead m at len reply) × (new ≡ grants)
+ReadsFrom (Some g) grants k at len reply new = ReadsMemory (slice_get g.memories k) grants at len reply new
+
+abbrev pub WritesMemory : Option PrivateMemory → Grants → ℕ → PrivateInstance → ℕ → ℕ → List ℕ → Reply → Grants → Type 0
+WritesMemory None grants of g k at bytes reply new = HasNoGrant grants reply new
+WritesMemory (Some m) grants of g k at bytes reply new = Writes grants of g k m at bytes reply new
 
 abbrev pub WritesTo : Option PrivateInstance → Grants → ℕ → ℕ → ℕ → List ℕ → Reply → Grants → Type 0
 WritesTo None grants of k at bytes reply new = HasNoGrant grants reply new
-WritesTo (Some g) grants of k at bytes reply new = IfSome (slice_get g.memories k) (λ m. Writes grants of g k m at bytes reply new)
+WritesTo (Some g) grants of k at bytes reply new = WritesMemory (slice_get g.memories k) grants of g k at bytes reply new
 
 -- a grant is given back, and ends
 abbrev pub Drops : Option PrivateInstance → Grants → ℕ → Reply → Grants → Type 0
@@ -162,3 +175,7 @@ abbrev pub PrivateRun : World → ℕ → List Command → List Reply → Grants
 PrivateRun w n commands [] grants end = end ≡ grants
 PrivateRun w n [] (reply ∷ replies) grants end = ⊥
 PrivateRun w n (command ∷ commands) (reply ∷ replies) grants end = (mid : Grants) × PrivateStep w n grants command reply mid × PrivateRun w (n + 1) commands replies mid end
+
+-- so much of a run, to whatever grants at its end
+abbrev pub IsPrivateRun : World → List Command → List Reply → Grants → Type 0
+IsPrivateRun w commands replies start = (end : Grants) × PrivateRun w 0 commands replies start end

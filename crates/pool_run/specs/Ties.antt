@@ -5,7 +5,7 @@ use Rattle.pool_pages.specs.declared.module_types.MemoryDecl.{MemoryDecl}
 use Rattle.pool_pages.specs.MakerTold.{MakerTold}
 use Rattle.pool_alloc.specs.Leases.{Lease}
 use Rattle.pool_alloc.specs.Steps.{memories_asked, images_asked}
-use Rattle.pool_alloc.specs.Places.{frame_count, phase_instances, frame_memories, leased_count}
+use Rattle.pool_alloc.specs.Places.{Thing, slot_of, region_of, kept_count, frame_count, made_count, phase_instances, frame_memories}
 use Rattle.pool_alloc.specs.Stepping.{grant_count, grant_instances, grant_memories}
 use Rattle.pool_alloc.specs.Calls.{IsGrant}
 use Rattle.pool_alloc.specs.Sound.{IsCore, IsFrame, IsLeaseOf}
@@ -41,6 +41,18 @@ pub record IsAskedFor (w : World) (number : ℕ) (asked : Option ModuleCall) : T
   pub memories : memories_asked asked ≡ memories_of w number
   pub images : (k : ℕ) → IfSome (slice_get (memories_of w number) k) (λ decl. slice_index_or (images_asked asked) k None ≡ image_at w number k decl)
 
+-- the memories that were granted so far are as those of the module begin
+pub record AreNew (w : World) (number : ℕ) (leases : List Lease) : Type 0 where
+  pub few : length leases ≤ length (memories_of w number)
+  pub begun : map private_memory leases ≡ begun_memories w number 0 (memories_of w number) (map (λ l. l.index) leases)
+
+-- a request for an instance is under way, for which these memories were granted so far
+pub record IsAsking (w : World) (commands : List Command) (done : ℕ) (asked : Option ModuleCall) (leases : List Lease) : Type 0 where
+  pub number : ℕ
+  pub command : slice_get commands done ≡ Some (command.Instantiate number)
+  pub asked_for : IsAskedFor w number asked
+  pub new : AreNew w number leases
+
 module _ {P : Type 0} where
   abbrev pub stage_of : Phase P → Ending → Stage
   stage_of Idle e = no_call
@@ -67,34 +79,32 @@ module _ {P : Type 0} where
   stage_of (Free GiveBackNext) e = ends_as e
   stage_of UncountInstance e = ends_as e
 
-  -- the memories that were granted so far are as they begin
-  pub record AreNew (w : World) (number : ℕ) (f : Frame P) : Type 0 where
-    pub few : length f.granted.items ≤ length (memories_of w number)
-    pub begun : map private_memory f.granted.items ≡ begun_memories w number 0 (memories_of w number) (map (λ l. l.index) f.granted.items)
-
   -- the refusal with which a step ends, or which the call is to end with, has a cause
   abbrev pub IsRefusable : World → Phase P → Type 0
   IsRefusable w (PutRefused slot held e) = IsCause w (Alloc e)
   IsRefusable w (FreeRefused slot e) = IsCause w (Alloc e)
   IsRefusable w _ = Unit {0}
 
-  -- how what the party has at each stage fits what it was told: a grant ends where its give-back begins, though its
-  -- reply comes later
-  abbrev pub TiedAs : World → Stage → List Command → RunningParty P → Grants → Type 0
-  TiedAs w no_call commands p told = grants_of p.live ≡ told
-  TiedAs w asks commands p told =
-      (grants_of p.live ≡ told) × (number : ℕ) × (slice_get commands p.done ≡ Some (command.Instantiate number)) × IsAskedFor w number p.frame.asked × AreNew w number p.frame × IsRefusable w p.frame.phase
-  TiedAs w (ends_as (ending.Refused e)) commands p told =
-      (grants_of p.live ≡ told) × ((number : ℕ) × (slice_get commands p.done ≡ Some (command.Instantiate number))) × IsCause w (Alloc e)
-  TiedAs w (ends_as ending.Returned) commands p told =
-      (of : ℕ) × (slice_get commands p.done ≡ Some (command.Drop of)) × IsSome (grant_at told of) × (grants_of p.live ≡ slice_set told of None)
+  -- A call is on its way to its end: a request that is refused, or a give-back. A grant ends where its give-back begins,
+  -- though its reply comes later.
+  abbrev pub EndsAs : World → Ending → List Command → ℕ → List (Option (Grant P)) → Grants → Type 0
+  EndsAs w (ending.Refused e) commands done live told =
+      (grants_of live ≡ told) × IsCause w (Alloc e) × (number : ℕ) × (slice_get commands done ≡ Some (command.Instantiate number))
+  EndsAs w ending.Returned commands done live told =
+      (of : ℕ) × (slice_get commands done ≡ Some (command.Drop of)) × IsSome (grant_at told of) × (grants_of live ≡ slice_set told of None)
+
+  -- how what the party has at each stage fits what it was told
+  abbrev pub TiedAs : World → Stage → List Command → ℕ → List (Option (Grant P)) → Frame P → Grants → Type 0
+  TiedAs w no_call commands done live f told = grants_of live ≡ told
+  TiedAs w asks commands done live f told = (grants_of live ≡ told) × IsAsking w commands done f.asked f.granted.items × IsRefusable w f.phase
+  TiedAs w (ends_as e) commands done live f told = EndsAs w e commands done live told
 
   -- What a party was told so far is a private run, whose grants fit what the party has.
   pub record IsPrivate (w : World) (start : Grants) (commands : List Command) (replies : List Reply) (p : RunningParty P) : Type 0 where
     pub grants : Grants
     pub run : PrivateRun w 0 commands replies start grants
     pub count : length replies ≡ p.done
-    pub tied : TiedAs w (stage_of p.frame.phase p.frame.ending) commands p grants
+    pub tied : TiedAs w (stage_of p.frame.phase p.frame.ending) commands p.done p.live p.frame grants
 
   -- what a party has of the pool: what its call has, and its live grants
   abbrev pub granted_to : (Grant P → ℕ) → Option (Grant P) → ℕ
@@ -108,12 +118,30 @@ module _ {P : Type 0} where
     memories = frame_memories p.frame + sum_by (granted_to grant_memories) p.live;
   }
 
-  -- what holds of a party between turns
-  pub record IsParty (maker : MakerTold) (c : PoolCore P) (p : RunningParty P) : Type 0 where
+  -- what a turn leaves of a party that its calls say
+  pub record IsSoundParty (maker : MakerTold) (c : PoolCore P) (p : RunningParty P) : Type 0 where
     pub frame : IsFrame maker c p.frame
     pub grants : All (λ g. IfSome g (IsGrant maker c.settings)) p.live
-    -- the places of the commands that are still to come are empty
+
+  -- what holds of a party between turns: the places of the commands that are still to come are empty, and there is one
+  -- for what is asked for
+  pub record IsParty (maker : MakerTold) (c : PoolCore P) (p : RunningParty P) : Type 0 where
+    pub sound : IsSoundParty maker c p
     pub to_come : (k : ℕ) → p.done ≤ k → slice_index_or p.live k None ≡ None
+    pub place : IsSome p.frame.asked → p.done < length p.live
+
+  -- What a turn relies on: what the party has fits what the pool has. Nothing is in both, the region of each slot that
+  -- the pool or the party has is with one of them too, and what the party has counted is counted.
+  pub record FitsParty (c : PoolCore P) (p : RunningParty P) : Type 0 where
+    pub once : (t : Thing) → kept_count t c + (held_by_party p).places t ≤ made_count t (length c.cells)
+    pub home : (i : ℕ) → 0 < kept_count (slot_of i) c + (held_by_party p).places (slot_of i) → 0 < kept_count (region_of i) c + (held_by_party p).places (region_of i)
+    pub instances : (held_by_party p).instances ≤ c.counters.core_instances
+    pub memories : (held_by_party p).memories ≤ c.counters.memories
+
+  pub record CanTurn (maker : MakerTold) (c : PoolCore P) (p : RunningParty P) : Type 0 where
+    pub core : IsCore maker c
+    pub party : IsParty maker c p
+    pub fits : FitsParty c p
 
   -- What holds of a run between turns: each slot and each region is in one place, and counters count.
   pub record IsRunning (maker : MakerTold) (c : PoolCore P) (parties : List (RunningParty P)) : Type 0 where

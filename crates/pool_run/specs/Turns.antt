@@ -5,8 +5,9 @@ use Rattle.pool_images.specs.Slots.{written_at}
 use Rattle.pool_slots.specs.declared.request.AllocError.TheVariants as alloc
 use Rattle.pool_alloc.specs.Leases.{Lease}
 use Rattle.pool_alloc.specs.Calls.{begun_call}
-use Rattle.pool_alloc.specs.Steps.{After}
-use Rattle.pool_alloc.specs.Stepping.{StepsTo}
+use Rattle.pool_limits.specs.Limiter.{yes}
+use Rattle.pool_alloc.specs.Steps.{Given, After}
+use Rattle.pool_alloc.specs.Stepping.{Takes}
 use Rattle.pool_alloc.specs.declared.pool_core.PoolCore.{PoolCore}
 use Rattle.pool_alloc.specs.declared.frame.Frame.{Frame}
 use Rattle.pool_alloc.specs.declared.frame.ModuleCall.{ModuleCall}
@@ -72,19 +73,27 @@ module _ {P : Type 0} where
   abbrev pub after_step : After P → RunningParty P → Turned P
   after_step a p = answered a.outcome a.core (record p { frame = a.frame })
 
+  -- a step of a call, where there is no limiter that could refuse a memory
+  abbrev pub StepsFreely : PoolCore P → Frame P → After P → Type 0
+  StepsFreely c f a = (g : Given) × (g.limiter ≡ yes) × Takes g c f a
+
   -- the party's call makes its next step
   abbrev pub Steps : PoolCore P → RunningParty P → Turned P → Type 0
-  Steps c p t = (a : After P) × StepsTo c p.frame a × (t ≡ after_step a p)
+  Steps c p t = (a : After P) × StepsFreely c p.frame a × (t ≡ after_step a p)
 
   -- a grant that the party gives back is no longer one of its live ones
   abbrev pub Returns : Option (Grant P) → ℕ → PoolCore P → RunningParty P → Turned P → Type 0
   Returns None of c p t = t ≡ replies (Refused NoSuchGrant) c p
   Returns (Some grant) of c p t = Steps c (record p { live = slice_set p.live of None; frame = begun_call (call.GiveBack grant) p.frame }) t
 
-  -- a read of memory k of a grant
+  -- a read of memory k of a grant, which is refused where the grant hasn't so many
+  abbrev pub ReadsLease : Option Lease → ℕ → ℕ → PoolCore P → RunningParty P → Turned P → Type 0
+  ReadsLease None at len c p t = t ≡ replies (Refused NoSuchGrant) c p
+  ReadsLease (Some l) at len c p t = (reply : Reply) × IsRead (private_memory l) at len reply × (t ≡ replies reply c p)
+
   abbrev pub Reads : Option (Grant P) → ℕ → ℕ → ℕ → PoolCore P → RunningParty P → Turned P → Type 0
   Reads None k at len c p t = t ≡ replies (Refused NoSuchGrant) c p
-  Reads (Some grant) k at len c p t = (reply : Reply) × IfSome (slice_get (leases_of grant) k) (λ l. IsRead (private_memory l) at len reply) × (t ≡ replies reply c p)
+  Reads (Some grant) k at len c p t = ReadsLease (slice_get (leases_of grant) k) at len c p t
 
   -- a write to it
   abbrev pub grant_written : ℕ → Lease → Grant P → Grant P
@@ -96,9 +105,13 @@ module _ {P : Type 0} where
       then replies Done c (record p { live = slice_set p.live of (Some (grant_written k (lease_written at bytes l) grant)) })
       else replies (Trap MemoryOutOfBounds) c p
 
+  abbrev pub WritesLease : Option Lease → ℕ → Grant P → ℕ → ℕ → List ℕ → PoolCore P → RunningParty P → Turned P → Type 0
+  WritesLease None of grant k at bytes c p t = t ≡ replies (Refused NoSuchGrant) c p
+  WritesLease (Some l) of grant k at bytes c p t = t ≡ writes of grant k l at bytes c p
+
   abbrev pub Writes : Option (Grant P) → ℕ → ℕ → ℕ → List ℕ → PoolCore P → RunningParty P → Turned P → Type 0
   Writes None of k at bytes c p t = t ≡ replies (Refused NoSuchGrant) c p
-  Writes (Some grant) of k at bytes c p t = IfSome (slice_get (leases_of grant) k) (λ l. t ≡ writes of grant k l at bytes c p)
+  Writes (Some grant) of k at bytes c p t = WritesLease (slice_get (leases_of grant) k) of grant k at bytes c p t
 
   -- a request for an instance: the reply's lists are reserved, or the command ends at once for want of memory
   abbrev pub Asks : Option ModuleCall → PoolCore P → RunningParty P → Turned P → Type 0
