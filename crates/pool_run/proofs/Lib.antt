@@ -1,7 +1,11 @@
+pub mod Beginning
 pub mod Bytes
 pub mod Causes
 pub mod FreeSlots
 pub mod Grants
 pub mod NewMemories
+pub mod Parties
+pub mod Placed
 pub mod StepsTied
 pub mod Tied
+pub mod Turning

@@ -124,11 +124,11 @@ module _ {P : Type 0} where
     pub grants : All (λ g. IfSome g (IsGrant maker c.settings)) p.live
 
   -- what holds of a party between turns: the places of the commands that are still to come are empty, and there is one
-  -- for what is asked for
+  -- for what is asked for now
   pub record IsParty (maker : MakerTold) (c : PoolCore P) (p : RunningParty P) : Type 0 where
     pub sound : IsSoundParty maker c p
     pub to_come : (k : ℕ) → p.done ≤ k → slice_index_or p.live k None ≡ None
-    pub place : IsSome p.frame.asked → p.done < length p.live
+    pub place : stage_of p.frame.phase p.frame.ending ≡ asks → p.done < length p.live
 
   -- What a turn relies on: what the party has fits what the pool has. Nothing is in both, the region of each slot that
   -- the pool or the party has is with one of them too, and what the party has counted is counted.

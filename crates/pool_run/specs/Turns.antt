@@ -1,5 +1,5 @@
 -- A turn of a party in a run: the next step of its call, or the first step of its next command.
-use Rattle.std.specs.Prelude.{◌≡◌, ℕ, ◌+◌, ◌<◌, ◌≤◌, List, [], ◌∷◌, length, map, nat_le, slice_get, slice_index_or, slice_range, slice_set, ◌⊎◌, Bool, true, false, if◌then◌else◌, Option, Some, None, IfSome, option_map}
+use Rattle.std.specs.Prelude.{◌≡◌, ℕ, ◌+◌, ◌<◌, ◌≤◌, List, [], ◌∷◌, ◌++◌, length, map, nat_le, slice_get, slice_index_or, slice_range, slice_set, ◌⊎◌, Bool, true, false, if◌then◌else◌, Option, Some, None, IfSome, option_map}
 use Rattle.pool_memory.specs.Memories.{MemoryState}
 use Rattle.pool_images.specs.Slots.{written_at}
 use Rattle.pool_slots.specs.declared.request.AllocError.TheVariants as alloc
@@ -37,6 +37,11 @@ private_memory l = record { slot = l.index; size = l.memory.size; bytes = bytes_
 -- a lease whose memory was written
 abbrev pub lease_written : ℕ → List ℕ → Lease → Lease
 lease_written at new l = record l { memory = record l.memory { slot = written_at at new l.memory.slot } }
+
+-- the replies so far, with one more if there is one
+abbrev pub with_reply : Option Reply → List Reply → List Reply
+with_reply None before = before
+with_reply (Some reply) before = before ++ reply ∷ []
 
 -- what a turn leaves, and the reply to the command that ends with it
 pub record Turned (P : Type 0) : Type 0 where
