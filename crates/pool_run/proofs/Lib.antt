@@ -6,6 +6,8 @@ pub mod Grants
 pub mod NewMemories
 pub mod Parties
 pub mod Placed
+pub mod Running
 pub mod StepsTied
 pub mod Tied
+pub mod Turned
 pub mod Turning

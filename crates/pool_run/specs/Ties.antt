@@ -21,7 +21,7 @@ use Rattle.pool_alloc.specs.declared.frame.AfterFlush.TheVariants.{PickAgain, Gi
 use Rattle.pool_alloc.specs.declared.frame.Phase.{Phase}
 use Rattle.pool_alloc.specs.declared.frame.Phase.TheVariants.{Idle, Key, Validate, CountInstance, Pick, TakeQueue, TakeRegion, Empty, Instantiate, MakeMemory, CountMemory, PutRefused, FreeRefused, UncountMemory, Reset, Merge, Decommit, PutRegion, Free, UncountInstance}
 use Rattle.pool_run.specs.Private.{PrivateInstance, Grants, World, grant_at, memories_of, image_at, begun_memories, IsCause, PrivateRun, PrivateStep}
-use Rattle.pool_run.specs.Turns.{grants_of, private_memory}
+use Rattle.pool_run.specs.Turns.{Turned, grants_of, private_memory}
 use Rattle.pool_run.specs.declared.command.Command.{Command}
 use Rattle.pool_run.specs.declared.command.Command.TheVariants as command
 use Rattle.pool_run.specs.declared.reply.Reply.{Reply}
@@ -142,6 +142,11 @@ module _ {P : Type 0} where
     pub core : IsCore maker c
     pub party : IsParty maker c p
     pub fits : FitsParty c p
+
+  -- what a turn leaves is sound, as the calls that it makes say
+  pub record IsSoundTurn (maker : MakerTold) (t : Turned P) : Type 0 where
+    pub core : IsCore maker t.core
+    pub party : IsSoundParty maker t.core t.party
 
   -- What holds of a run between turns: each slot and each region is in one place, and counters count.
   pub record IsRunning (maker : MakerTold) (c : PoolCore P) (parties : List (RunningParty P)) : Type 0 where

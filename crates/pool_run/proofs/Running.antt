@@ -1,0 +1,91 @@
+-- A run of several parties: each may turn, and after a turn of one the run goes on.
+use Rattle.std.proofs.Common.{◌≡◌, ◌≢◌, ℕ, ◌+◌, ◌<◌, ◌≤◌, List, length, get_or, Option, refl, sym, ap, ◌∙◌, subst, inl, inr, arith, All}
+use Rattle.std.specs.Prelude.{IfSome, remove, sum_by, slice_set, slice_index_or}
+use Rattle.std.proofs.lemmas.Bool.{cases_eq}
+use Rattle.std.proofs.lemmas.List.{length-set}
+use Rattle.std.proofs.lemmas.List.Elements.{All-set, All-get_or}
+use Rattle.std.proofs.lemmas.List.Sums.{sum_by-set, sum_by-remove, sum_by-le-sum_by, get_or-le-sum_by}
+use Rattle.pool_pages.specs.MakerTold.{MakerTold}
+use Rattle.pool_alloc.specs.Places.{Thing, slot_of, region_of, kept_count, made_count}
+use Rattle.pool_alloc.specs.Calls.{IsGrant}
+use Rattle.pool_alloc.specs.Stepping.{IsSameSize}
+use Rattle.pool_alloc.specs.Whole.{HasSlots, IsWhole}
+use Rattle.pool_alloc.specs.declared.pool_core.PoolCore.{PoolCore}
+use Rattle.pool_alloc.specs.declared.pool_core.Settings.{Settings}
+use Rattle.pool_alloc.specs.declared.frame.Grant.{Grant}
+use Rattle.pool_alloc.specs.declared.frame.ModuleCall.{ModuleCall}
+use Rattle.pool_alloc.proofs.KeptCounts.{frame_regions}
+use Rattle.pool_alloc.proofs.SameSizes.{frame_over}
+use Rattle.pool_run.specs.Turns.{Turned, Turns}
+use Rattle.pool_run.specs.Ties.{held_by_party, IsParty, FitsParty, CanTurn, IsSoundTurn, IsRunning}
+use Rattle.pool_run.specs.Worlds.{AreCallsFor}
+use Rattle.pool_run.specs.Private.{World}
+use Rattle.pool_run.specs.declared.command.Command.{Command}
+use Rattle.pool_run.specs.declared.running_party.RunningParty.{RunningParty}
+use Rattle.pool_run.proofs.Parties.{live_regions}
+use Rattle.pool_run.proofs.Turned.{HasTurned, has_turned}
+
+module _ {P : Type 0} where
+  -- A party has no region without its slot.
+  party_has_slots : (p : RunningParty P) → HasSlots (held_by_party p)
+  party_has_slots p k = omega (arith, frame_regions k p.frame, live_regions k p.live)
+
+  others_have_slots : (parties : List (RunningParty P)) (i k : ℕ) (d : RunningParty P) → i < length parties → sum_by (λ p. (held_by_party p).places (region_of k)) parties + (held_by_party (slice_index_or parties i d)).places (slot_of k) ≤ sum_by (λ p. (held_by_party p).places (slot_of k)) parties + (held_by_party (slice_index_or parties i d)).places (region_of k)
+  others_have_slots parties i k d below =
+      omega (
+        arith,
+        sum_by-remove (λ p. (held_by_party p).places (region_of k)) parties i d below,
+        sum_by-remove (λ p. (held_by_party p).places (slot_of k)) parties i d below,
+        sum_by-le-sum_by (λ p. (held_by_party p).places (region_of k)) (λ p. (held_by_party p).places (slot_of k)) (remove parties i) (λ p. party_has_slots p k),
+      )
+
+  -- What each of the parties has fits what the pool has.
+  pub fits_party : (c : PoolCore P) (parties : List (RunningParty P)) (i : ℕ) (d : RunningParty P) → IsWhole held_by_party c parties → i < length parties → FitsParty c (slice_index_or parties i d)
+  fits_party c parties i d whole below = record {
+    once = λ t. omega (arith, whole.places t, get_or-le-sum_by (λ p. (held_by_party p).places t) parties i d below);
+    home = λ k some.
+        let both : made_count (region_of k) (length c.cells) ≡ made_count (slot_of k) (length c.cells) = refl in
+        omega (arith, some, both, whole.places (slot_of k), whole.places (region_of k), others_have_slots parties i k d below, get_or-le-sum_by (λ p. (held_by_party p).places (slot_of k)) parties i d below);
+    instances = omega (arith, whole.instances, get_or-le-sum_by (λ p. (held_by_party p).instances) parties i d below);
+    memories = omega (arith, whole.memories, get_or-le-sum_by (λ p. (held_by_party p).memories) parties i d below);
+  }
+
+  -- Each of them may turn.
+  pub can_turn : (maker : MakerTold) (c : PoolCore P) (parties : List (RunningParty P)) (i : ℕ) (d : RunningParty P) → IsRunning maker c parties → i < length parties → CanTurn maker c (slice_index_or parties i d)
+  can_turn maker c parties i d running below = record {
+    core = running.core;
+    party = All-get_or (IsParty maker c) parties i d below running.each;
+    fits = fits_party c parties i d running.whole below;
+  }
+
+  whole_turned : (c : PoolCore P) (parties : List (RunningParty P)) (i : ℕ) (d : RunningParty P) (t : Turned P) → IsWhole held_by_party c parties → i < length parties → HasTurned c (slice_index_or parties i d) t → IsWhole held_by_party t.core (slice_set parties i t.party)
+  whole_turned c parties i d t whole below turned = record {
+    places = λ x. omega (arith, ap (made_count x) turned.size.cells, whole.places x, turned.places x, sum_by-set (λ p. (held_by_party p).places x) parties i t.party d below);
+    instances = omega (arith, whole.instances, turned.instances, sum_by-set (λ p. (held_by_party p).instances) parties i t.party d below);
+    memories = omega (arith, whole.memories, turned.memories, sum_by-set (λ p. (held_by_party p).memories) parties i t.party d below);
+  }
+
+  -- A party stays sound over a pool of the same sizes.
+  pub party_over : (maker : MakerTold) (c d : PoolCore P) (p : RunningParty P) → IsSameSize c d → IsParty maker c p → IsParty maker d p
+  party_over maker c d p size is =
+      let Grants : Settings → Type 0 = λ s. All (λ g. IfSome g (IsGrant maker s)) p.live in
+      record {
+        sound = record { frame = frame_over maker c d p.frame size is.sound.frame; grants = subst Grants (sym size.settings) is.sound.grants };
+        to_come = is.to_come;
+        place = is.place;
+      }
+
+  -- The run goes on after a turn of one of them.
+  pub turned_running : (maker : MakerTold) (c : PoolCore P) (parties : List (RunningParty P)) (i : ℕ) (d : RunningParty P) (t : Turned P) → IsRunning maker c parties → i < length parties → HasTurned c (slice_index_or parties i d) t → IsSoundTurn maker t → IsRunning maker t.core (slice_set parties i t.party)
+  turned_running maker c parties i d t running below turned sound = record {
+    core = sound.core;
+    each =
+        All-set (IsParty maker t.core) parties i t.party
+        (record { sound = sound.party; to_come = turned.to_come; place = turned.place })
+        (λ k e inside. party_over maker c t.core (get_or parties k e) turned.size (All-get_or (IsParty maker c) parties k e inside running.each));
+    whole = whole_turned c parties i d t running.whole below turned;
+  }
+
+  pub turn_running : (w : World) (modules : ℕ → Option ModuleCall) (commands : List Command) (c : PoolCore P) (parties : List (RunningParty P)) (i : ℕ) (d : RunningParty P) (t : Turned P) → AreCallsFor w c.settings modules → IsRunning w.maker c parties → i < length parties → length commands ≤ length (slice_index_or parties i d).live → Turns modules commands c (slice_index_or parties i d) t → IsSoundTurn w.maker t → IsRunning w.maker t.core (slice_set parties i t.party)
+  turn_running w modules commands c parties i d t calls running below room turns sound =
+      turned_running w.maker c parties i d t running below (has_turned w modules commands c (slice_index_or parties i d) t calls (can_turn w.maker c parties i d running below) room turns) sound
