@@ -1,6 +1,7 @@
 pub mod Beginning
 pub mod Bytes
 pub mod Causes
+pub mod Folding
 pub mod FreeSlots
 pub mod Grants
 pub mod NewMemories

@@ -1,3 +1,4 @@
+pub mod Folds
 pub mod Private
 pub mod Ties
 pub mod Turns
