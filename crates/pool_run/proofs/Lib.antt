@@ -8,6 +8,7 @@ pub mod NewMemories
 pub mod Parties
 pub mod Placed
 pub mod Running
+pub mod Started
 pub mod StepsTied
 pub mod Tied
 pub mod Turned

@@ -1,6 +1,6 @@
 -- A run of several parties, turn by turn: in the order of the schedule, and then party by party until none has anything
 -- left.
-use Rattle.std.specs.Prelude.{◌≡◌, ℕ, ◌+◌, ◌<◌, ◌≤◌, List, [], ◌∷◌, ◌++◌, length, replicate, slice_get, slice_index_or, slice_set, true, Option, Some, None, IfSome}
+use Rattle.std.specs.Prelude.{◌≡◌, ℕ, ◌+◌, ◌<◌, ◌≤◌, List, [], ◌∷◌, ◌++◌, length, replicate, slice_get, slice_index_or, slice_set, true, false, Option, Some, None, IfSome}
 use Rattle.pool_pages.specs.MakerTold.{MakerTold}
 use Rattle.pool_alloc.specs.Calls.{frame_made}
 use Rattle.pool_alloc.specs.declared.pool_core.PoolCore.{PoolCore}
@@ -83,6 +83,7 @@ module _ {P : Type 0} where
   pub record IsMadeParty (s : Settings) (places : ℕ) (p : RunningParty P) : Type 0 where
     pub home : ℕ
     pub frame : p.frame ≡ frame_made home s
+    pub keyed : p.keyed ≡ false
     pub done : p.done ≡ 0
     pub live : p.live ≡ replicate places None
 

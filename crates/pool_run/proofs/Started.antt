@@ -1,0 +1,113 @@
+-- A run as it starts: nobody has anything, and nobody was told anything.
+use Rattle.std.proofs.Common.{◌≡◌, ℕ, zero, suc, ◌+◌, ◌<◌, ◌≤◌, Bool, true, false, List, [], ◌∷◌, length, get_or, map, replicate, Option, Some, None, refl, sym, ap, ◌∙◌, subst, arith, All}
+use Rattle.std.specs.Prelude.{IfSome, sum_by, slice_index_or}
+use Rattle.std.proofs.lemmas.List.{length-replicate, get_or-replicate}
+use Rattle.std.proofs.lemmas.List.Elements.{All-replicate, All-from_get_or, recursion_from_All}
+use Rattle.std.proofs.lemmas.List.Sums.{sum_by-cons}
+use Rattle.pool_pages.specs.MakerTold.{MakerTold}
+use Rattle.pool_alloc.specs.Places.{Thing}
+use Rattle.pool_alloc.specs.Calls.{frame_made, IsGrant}
+use Rattle.pool_alloc.specs.Sound.{IsCore}
+use Rattle.pool_alloc.specs.Stepping.{grant_count, grant_instances, grant_memories}
+use Rattle.pool_alloc.specs.Whole.{HasNothing, IsUntouched}
+use Rattle.pool_alloc.specs.declared.pool_core.PoolCore.{PoolCore}
+use Rattle.pool_alloc.specs.declared.pool_core.Settings.{Settings}
+use Rattle.pool_alloc.specs.declared.frame.Frame.{Frame}
+use Rattle.pool_alloc.specs.declared.frame.Grant.{Grant}
+use Rattle.pool_alloc.specs.declared.frame.ModuleCall.{ModuleCall}
+use Rattle.pool_alloc.proofs.BegunCalls.{made_frame, made_count, made_instances, made_memories}
+use Rattle.pool_alloc.proofs.Untouched.{untouched_is_whole}
+use Rattle.pool_run.specs.Private.{World, PrivateInstance, Grants}
+use Rattle.pool_run.specs.Turns.{private_grant, grants_of}
+use Rattle.pool_run.specs.Ties.{granted_to, held_by_party, IsParty, IsPrivate, IsRunning}
+use Rattle.pool_run.specs.Worlds.{IsWorldOf, AreCallsFor}
+use Rattle.pool_run.specs.Folds.{RunState, commands_of, replies_to, no_grants, IsMadeParty, IsRunTo, IsUnderWay}
+use Rattle.pool_run.specs.declared.command.Command.{Command}
+use Rattle.pool_run.specs.declared.reply.Reply.{Reply}
+use Rattle.pool_run.specs.declared.running_party.RunningParty.{RunningParty}
+
+none_at : {X : Type 0} (n k : ℕ) → slice_index_or (replicate {A = Option X} n None) k None ≡ None
+none_at zero k = refl
+none_at (suc n) zero = refl
+none_at (suc n) (suc k) = none_at n k
+
+empty_at : {X : Type 0} (n k : ℕ) → slice_index_or (replicate {A = List X} n []) k [] ≡ []
+empty_at zero k = refl
+empty_at (suc n) zero = refl
+empty_at (suc n) (suc k) = empty_at n k
+
+module _ {P : Type 0} where
+  -- a party as it is made
+  abbrev pub party_made : ℕ → Settings → ℕ → RunningParty P
+  party_made home s places = record { frame = frame_made home s; keyed = false; done = 0; live = replicate places None }
+
+  pub is_party_made : (s : Settings) (places : ℕ) (p : RunningParty P) (made : IsMadeParty s places p) → p ≡ party_made made.home s places
+  is_party_made s places p made =
+      let Q : Frame P → Bool → ℕ → List (Option (Grant P)) → RunningParty P = λ f keyed done live. record { frame = f; keyed = keyed; done = done; live = live } in
+      ap (λ (f : Frame P). Q f p.keyed p.done p.live) made.frame
+      ∙ ap (λ (keyed : Bool). Q (frame_made made.home s) keyed p.done p.live) made.keyed
+      ∙ ap (λ (done : ℕ). Q (frame_made made.home s) false done p.live) made.done
+      ∙ ap (λ (live : List (Option (Grant P))). Q (frame_made made.home s) false 0 live) made.live
+
+  none_live : (of : Grant P → ℕ) (n : ℕ) → sum_by (granted_to of) (replicate n None) ≡ 0
+  none_live of zero = refl
+  none_live of (suc n) = omega (arith, sum_by-cons (granted_to of) None (replicate n None), none_live of n)
+
+none_told : (P : Type 0) (n : ℕ) → grants_of {P = P} (replicate n None) ≡ replicate n None
+none_told P zero = refl
+none_told P (suc n) = ap (λ (g : Grants). None ∷ g) (none_told P n)
+
+-- It has nothing,
+party_has_nothing : (P : Type 0) (home : ℕ) (s : Settings) (n : ℕ) → HasNothing (held_by_party (party_made {P = P} home s n))
+party_has_nothing P home s n = record {
+  places = λ t. omega (arith, made_count P t home s, none_live {P = P} (grant_count t) n);
+  instances = omega (arith, made_instances P home s, none_live {P = P} grant_instances n);
+  memories = omega (arith, made_memories P home s, none_live {P = P} grant_memories n);
+}
+
+-- and was told nothing.
+party_is_private : (P : Type 0) (w : World) (commands : List Command) (home : ℕ) (s : Settings) → IsPrivate w (no_grants commands) commands [] (party_made {P = P} home s (length commands))
+party_is_private P w commands home s = record { grants = no_grants commands; run = refl; count = refl; tied = none_told P (length commands) }
+
+module _ {P : Type 0} where
+  -- It is sound.
+  party_is_sound : (maker : MakerTold) (home n : ℕ) (c : PoolCore P) → IsCore maker c → IsParty maker c (party_made home c.settings n)
+  party_is_sound maker home n c core = record {
+    sound = record { frame = made_frame maker home c core; grants = All-replicate (λ g. IfSome g (IsGrant maker c.settings)) n None tt };
+    to_come = λ k behind. none_at n k;
+    place = λ is. absurd cc;
+  }
+
+  -- the parties are as made, each with a place for each of its commands
+  abbrev pub AreMade : Settings → List (List Command) → List (RunningParty P) → Type 0
+  AreMade s inputs parties = (i : ℕ) (d : RunningParty P) → i < length parties → IsMadeParty s (length (commands_of inputs i)) (slice_index_or parties i d)
+
+  each_made : (Q : RunningParty P → Type 0) (s : Settings) (inputs : List (List Command)) (parties : List (RunningParty P)) → ((home n : ℕ) → Q (party_made home s n)) → AreMade s inputs parties → All Q parties
+  each_made Q s inputs parties holds made i d below =
+      let one = made i d below in
+      subst Q (sym (is_party_made s (length (commands_of inputs i)) (get_or parties i d) one)) (holds one.home (length (commands_of inputs i)))
+
+  -- So a run starts.
+  pub started_running : (maker : MakerTold) (c : PoolCore P) (inputs : List (List Command)) (parties : List (RunningParty P)) → IsCore maker c → IsUntouched c → AreMade c.settings inputs parties → IsRunning maker c parties
+  started_running maker c inputs parties core untouched made = record {
+    core = core;
+    each = each_made (IsParty maker c) c.settings inputs parties (λ home n. party_is_sound maker home n c core) made;
+    whole = untouched_is_whole maker held_by_party c parties core untouched (recursion_from_All (λ p. HasNothing (held_by_party p)) parties (each_made (λ p. HasNothing (held_by_party p)) c.settings inputs parties (λ home n. party_has_nothing P home c.settings n) made));
+  }
+
+  run_to_start : (w : World) (s : Settings) (commands : List Command) (p : RunningParty P) → IsMadeParty s (length commands) p → IsRunTo w commands [] p
+  run_to_start w s commands p made =
+      let To : RunningParty P → Type 0 = λ q. IsRunTo w commands [] q in
+      let first : To (party_made made.home s (length commands)) = record { room = length-replicate {A = Option (Grant P)} (length commands) None; private = party_is_private P w commands made.home s } in
+      subst To (sym (is_party_made s (length commands) p made)) first
+
+  pub run_started : (w : World) (modules : ℕ → Option ModuleCall) (inputs : List (List Command)) (c : PoolCore P) (parties : List (RunningParty P)) → IsCore w.maker c → IsUntouched c → IsWorldOf w c → AreCallsFor w c.settings modules → AreMade c.settings inputs parties → IsUnderWay w modules inputs (record { core = c; parties = parties; replies = replicate (length parties) [] })
+  run_started w modules inputs c parties core untouched world calls made = record {
+    running = started_running w.maker c inputs parties core untouched made;
+    world = world;
+    calls = calls;
+    told = length-replicate {A = List Reply} (length parties) [];
+    each = λ i d below.
+        let To : List Reply → Type 0 = λ rs. IsRunTo w (commands_of inputs i) rs (slice_index_or parties i d) in
+        subst To (sym (empty_at (length parties) i)) (run_to_start w c.settings (commands_of inputs i) (slice_index_or parties i d) (made i d below));
+  }
