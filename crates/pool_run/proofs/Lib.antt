@@ -1,6 +1,7 @@
 pub mod Beginning
 pub mod Bytes
 pub mod Causes
+pub mod Counters
 pub mod Folding
 pub mod FreeSlots
 pub mod Grants
