@@ -42,6 +42,7 @@ use Rattle.pool_run.proofs.Bytes.{written_seen}
 use Rattle.pool_run.proofs.Grants.{grants_set, told_at, one_more}
 use Rattle.pool_run.proofs.NewMemories.{begun_none}
 use Rattle.pool_run.proofs.Parties.{can_step, live_grant, called_key, called_module, called_back}
+use Rattle.pool_run.proofs.Shares.{share_for}
 use Rattle.pool_run.proofs.StepsTied.{tied_at}
 use Rattle.pool_run.proofs.Tied.{Replies, TiedBy, IsTied}
 use Rattle.pool_run.proofs.Turning.{SeesTurn, replied, step_private}
@@ -178,27 +179,29 @@ module _ {P : Type 0} (w : World) (start : Grants) (commands : List Command) (be
   -- a request for an instance
   asks_seen : (number : ℕ) (o : Option ModuleCall) (t : Turned P) → IfSome o (IsCallFor w c.settings number) → Asks o c p t → slice_get commands p.done ≡ Some (command.Instantiate number) → p.done < length p.live → SeesTurn w start commands before t
   asks_seen number None t for asks next room = absurd asks
-  asks_seen number (Some m) t for asks next room =
+  asks_seen number (Some kept) t for asks next room =
       elim asks [
         | inl is ↦ replies_at_once (command.Instantiate number) (Refused (Alloc alloc.Memory)) t next (tt, told_now) is
         | inr steps ↦
+            let m : ModuleCall = steps.0 in
+            let call_for : IsCallFor w c.settings number m = share_for w c.settings number kept m steps.1 for in
             step_private w start commands before c (record p { frame = begun_call (call.Module m) p.frame }) t
             (record {
               grants = private.grants;
               run = private.run;
               count = private.count;
-              tied = (told_now, record { number = number; command = next; asked_for = for.asked; new = begun_none w number p.frame.granted.items (at_rest w.maker c p.frame can.party.sound.frame idle).none_granted }, tt);
+              tied = (told_now, record { number = number; command = next; asked_for = call_for.asked; new = begun_none w number p.frame.granted.items (at_rest w.maker c p.frame can.party.sound.frame idle).none_granted }, tt);
             })
-            world (called_module w.maker m c p can idle for.images room) steps
+            world (called_module w.maker m c p can idle call_for.images room) steps.2
       ]
 
-  begins_seen : (modules : ℕ → Option ModuleCall) (command : Command) (t : Turned P) → AreCallsFor w c.settings modules → Begins modules command c p t → slice_get commands p.done ≡ Some command → p.done < length p.live → SeesTurn w start commands before t
-  begins_seen modules (command.Instantiate number) t calls begins next room = asks_seen number (modules number) t (calls number) begins next room
+  begins_seen : (modules : List ModuleCall) (command : Command) (t : Turned P) → AreCallsFor w c.settings modules → Begins modules command c p t → slice_get commands p.done ≡ Some command → p.done < length p.live → SeesTurn w start commands before t
+  begins_seen modules (command.Instantiate number) t calls begins next room = asks_seen number (slice_get modules number) t (calls number) begins next room
   begins_seen modules (command.Read of k i len) t calls begins next room = reads_seen of k i len (slice_index_or p.live of None) t refl begins next
   begins_seen modules (command.Write of k i bytes) t calls begins next room = writes_seen of k i bytes (slice_index_or p.live of None) t refl begins next
   begins_seen modules (command.Drop of) t calls begins next room = returns_seen of (slice_index_or p.live of None) t refl begins next
 
-  keyed_seen : (keyed : Bool) (modules : ℕ → Option ModuleCall) (next : Option Command) (t : Turned P) → AreCallsFor w c.settings modules → slice_get commands p.done ≡ next → length commands ≤ length p.live → BeginsKeyed keyed modules next c p t → SeesTurn w start commands before t
+  keyed_seen : (keyed : Bool) (modules : List ModuleCall) (next : Option Command) (t : Turned P) → AreCallsFor w c.settings modules → slice_get commands p.done ≡ next → length commands ≤ length p.live → BeginsKeyed keyed modules next c p t → SeesTurn w start commands before t
   keyed_seen false modules None t calls next room is = subst (SeesTurn w start commands before) (sym is) private
   keyed_seen true modules None t calls next room is = subst (SeesTurn w start commands before) (sym is) private
   keyed_seen false modules (Some command) t calls next room steps =
@@ -208,10 +211,10 @@ module _ {P : Type 0} (w : World) (start : Grants) (commands : List Command) (be
   keyed_seen true modules (Some command) t calls next room begins = begins_seen modules command t calls begins next (omega (arith, slice_get_within commands p.done command next))
 
 module _ {P : Type 0} where
-  turn_at : (w : World) (modules : ℕ → Option ModuleCall) (start : Grants) (commands : List Command) (before : List Reply) (c : PoolCore P) (p : RunningParty P) (t : Turned P) (b : Bool) → is_idle p.frame.phase ≡ b → IsPrivate w start commands before p → IsWorldOf w c → AreCallsFor w c.settings modules → CanTurn w.maker c p → length commands ≤ length p.live → TurnsAt b modules commands c p t → SeesTurn w start commands before t
+  turn_at : (w : World) (modules : List ModuleCall) (start : Grants) (commands : List Command) (before : List Reply) (c : PoolCore P) (p : RunningParty P) (t : Turned P) (b : Bool) → is_idle p.frame.phase ≡ b → IsPrivate w start commands before p → IsWorldOf w c → AreCallsFor w c.settings modules → CanTurn w.maker c p → length commands ≤ length p.live → TurnsAt b modules commands c p t → SeesTurn w start commands before t
   turn_at w modules start commands before c p t true idle private world calls can room turns = keyed_seen w start commands before c p private world can (idle_is p.frame.phase idle) p.keyed modules (slice_get commands p.done) t calls refl room turns
   turn_at w modules start commands before c p t false busy private world calls can room turns = step_private w start commands before c p t private world can turns
 
   -- After a turn of a party its replies are still a private run.
-  pub turn_private : (w : World) (modules : ℕ → Option ModuleCall) (start : Grants) (commands : List Command) (before : List Reply) (c : PoolCore P) (p : RunningParty P) (t : Turned P) → IsWorldOf w c → AreCallsFor w c.settings modules → CanTurn w.maker c p → length commands ≤ length p.live → IsPrivate w start commands before p → Turns modules commands c p t → IsPrivate w start commands (with_reply t.reply before) t.party
+  pub turn_private : (w : World) (modules : List ModuleCall) (start : Grants) (commands : List Command) (before : List Reply) (c : PoolCore P) (p : RunningParty P) (t : Turned P) → IsWorldOf w c → AreCallsFor w c.settings modules → CanTurn w.maker c p → length commands ≤ length p.live → IsPrivate w start commands before p → Turns modules commands c p t → IsPrivate w start commands (with_reply t.reply before) t.party
   turn_private w modules start commands before c p t world calls can room private turns = turn_at w modules start commands before c p t (is_idle p.frame.phase) refl private world calls can room turns

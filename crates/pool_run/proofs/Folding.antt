@@ -38,19 +38,19 @@ module _ {P : Type 0} where
         makes = subst Makes (sym size.settings) world.makes;
       }
 
-  calls_over : (w : World) (modules : ℕ → Option ModuleCall) (c d : PoolCore P) → IsSameSize c d → AreCallsFor w c.settings modules → AreCallsFor w d.settings modules
+  calls_over : (w : World) (modules : List ModuleCall) (c d : PoolCore P) → IsSameSize c d → AreCallsFor w c.settings modules → AreCallsFor w d.settings modules
   calls_over w modules c d size calls =
       let Calls : Settings → Type 0 = λ s. AreCallsFor w s modules in
       subst Calls (sym size.settings) calls
 
   -- One party's turn.
-  run_to : (w : World) (modules : ℕ → Option ModuleCall) (commands : List Command) (replies : List Reply) (c : PoolCore P) (p : RunningParty P) (t : Turned P) → IsWorldOf w c → AreCallsFor w c.settings modules → CanTurn w.maker c p → IsRunTo w commands replies p → Turns modules commands c p t → HasTurned c p t → IsRunTo w commands (with_reply t.reply replies) t.party
+  run_to : (w : World) (modules : List ModuleCall) (commands : List Command) (replies : List Reply) (c : PoolCore P) (p : RunningParty P) (t : Turned P) → IsWorldOf w c → AreCallsFor w c.settings modules → CanTurn w.maker c p → IsRunTo w commands replies p → Turns modules commands c p t → HasTurned c p t → IsRunTo w commands (with_reply t.reply replies) t.party
   run_to w modules commands replies c p t world calls can to turns turned = record {
     room = turned.room ∙ to.room;
     private = turn_private w modules (no_grants commands) commands replies c p t world calls can (omega (arith, to.room)) to.private turns;
   }
 
-  turned_some : (w : World) (modules : ℕ → Option ModuleCall) (inputs : List (List Command)) (i : ℕ) (p : RunningParty P) (s : RunState P) (t : Turned P) → slice_get s.parties i ≡ Some p → IsUnderWay w modules inputs s → Turns modules (commands_of inputs i) s.core p t → IsSoundTurn w.maker t → IsUnderWay w modules inputs (with_turn i t s)
+  turned_some : (w : World) (modules : List ModuleCall) (inputs : List (List Command)) (i : ℕ) (p : RunningParty P) (s : RunState P) (t : Turned P) → slice_get s.parties i ≡ Some p → IsUnderWay w modules inputs s → Turns modules (commands_of inputs i) s.core p t → IsSoundTurn w.maker t → IsUnderWay w modules inputs (with_turn i t s)
   turned_some w modules inputs i p s t there way turns sound =
       let below : i < length s.parties = slice_get_within s.parties i p there in
       let here : slice_index_or s.parties i p ≡ p = get_or_from_slice_get s.parties i p p there in
@@ -83,51 +83,51 @@ module _ {P : Type 0} where
             ];
       }
 
-  turned_if : (w : World) (modules : ℕ → Option ModuleCall) (inputs : List (List Command)) (i : ℕ) (o : Option (RunningParty P)) (s new : RunState P) → slice_get s.parties i ≡ o → IsUnderWay w modules inputs s → TurnsIf w.maker modules (commands_of inputs i) i o s new → IsUnderWay w modules inputs new
+  turned_if : (w : World) (modules : List ModuleCall) (inputs : List (List Command)) (i : ℕ) (o : Option (RunningParty P)) (s new : RunState P) → slice_get s.parties i ≡ o → IsUnderWay w modules inputs s → TurnsIf w.maker modules (commands_of inputs i) i o s new → IsUnderWay w modules inputs new
   turned_if w modules inputs i None s new there way turns = subst (IsUnderWay w modules inputs) (sym turns) way
   turned_if w modules inputs i (Some p) s new there way turns = subst (IsUnderWay w modules inputs) (sym turns.3) (turned_some w modules inputs i p s turns.0 there way turns.1 turns.2)
 
   -- A turn of one of the parties.
-  pub run_turned : (w : World) (modules : ℕ → Option ModuleCall) (inputs : List (List Command)) (i : ℕ) (s new : RunState P) → IsUnderWay w modules inputs s → TurnsOf w.maker modules inputs i s new → IsUnderWay w modules inputs new
+  pub run_turned : (w : World) (modules : List ModuleCall) (inputs : List (List Command)) (i : ℕ) (s new : RunState P) → IsUnderWay w modules inputs s → TurnsOf w.maker modules inputs i s new → IsUnderWay w modules inputs new
   run_turned w modules inputs i s new way turns = turned_if w modules inputs i (slice_get s.parties i) s new refl way turns
 
   -- Turns in any order.
-  pub folds_under_way : (w : World) (modules : ℕ → Option ModuleCall) (inputs : List (List Command)) (schedule : List ℕ) (s end : RunState P) → IsUnderWay w modules inputs s → Folds w.maker modules inputs schedule s end → IsUnderWay w modules inputs end
+  pub folds_under_way : (w : World) (modules : List ModuleCall) (inputs : List (List Command)) (schedule : List ℕ) (s end : RunState P) → IsUnderWay w modules inputs s → Folds w.maker modules inputs schedule s end → IsUnderWay w modules inputs end
   folds_under_way w modules inputs [] s end way folds = subst (IsUnderWay w modules inputs) (sym folds) way
   folds_under_way w modules inputs (i ∷ schedule) s end way folds = folds_under_way w modules inputs schedule folds.0 end (run_turned w modules inputs i s folds.0 way folds.1) folds.2
 
   -- A whole run.
-  pub run_under_way : (w : World) (modules : ℕ → Option ModuleCall) (inputs : List (List Command)) (schedule : List ℕ) (s end : RunState P) → IsUnderWay w modules inputs s → Runs w.maker modules inputs schedule s end → IsUnderWay w modules inputs end
+  pub run_under_way : (w : World) (modules : List ModuleCall) (inputs : List (List Command)) (schedule : List ℕ) (s end : RunState P) → IsUnderWay w modules inputs s → Runs w.maker modules inputs schedule s end → IsUnderWay w modules inputs end
   run_under_way w modules inputs schedule s end way runs =
       folds_under_way w modules inputs (party_by_party 0 runs.finishes.counts) runs.scheduled end
       (folds_under_way w modules inputs schedule s runs.scheduled way runs.folds)
       runs.finishes.folds
 
   -- The replies to each party are a private run of its commands.
-  pub replies_private : (w : World) (modules : ℕ → Option ModuleCall) (inputs : List (List Command)) (s : RunState P) (i : ℕ) (d : RunningParty P) → IsUnderWay w modules inputs s → i < length s.parties → IsPrivateRun w (commands_of inputs i) (replies_to i s.replies) (no_grants (commands_of inputs i))
+  pub replies_private : (w : World) (modules : List ModuleCall) (inputs : List (List Command)) (s : RunState P) (i : ℕ) (d : RunningParty P) → IsUnderWay w modules inputs s → i < length s.parties → IsPrivateRun w (commands_of inputs i) (replies_to i s.replies) (no_grants (commands_of inputs i))
   replies_private w modules inputs s i d way below = let to = way.each i d below in (to.private.grants, to.private.run)
 
   -- Turns that follow others.
-  pub folds_on : (maker : MakerTold) (modules : ℕ → Option ModuleCall) (inputs : List (List Command)) (first second : List ℕ) (s mid end : RunState P) → Folds maker modules inputs first s mid → Folds maker modules inputs second mid end → Folds maker modules inputs (first ++ second) s end
+  pub folds_on : (maker : MakerTold) (modules : List ModuleCall) (inputs : List (List Command)) (first second : List ℕ) (s mid end : RunState P) → Folds maker modules inputs first s mid → Folds maker modules inputs second mid end → Folds maker modules inputs (first ++ second) s end
   folds_on maker modules inputs [] second s mid end one other =
       let F : RunState P → Type 0 = λ x. Folds maker modules inputs second x end in
       subst F one other
   folds_on maker modules inputs (i ∷ first) second s mid end one other = (one.0, one.1, folds_on maker modules inputs first second one.0 mid end one.2 other)
 
-  pub folds_more : (maker : MakerTold) (modules : ℕ → Option ModuleCall) (inputs : List (List Command)) (schedule : List ℕ) (i : ℕ) (s mid end : RunState P) → Folds maker modules inputs schedule s mid → TurnsOf maker modules inputs i mid end → Folds maker modules inputs (schedule ++ i ∷ []) s end
+  pub folds_more : (maker : MakerTold) (modules : List ModuleCall) (inputs : List (List Command)) (schedule : List ℕ) (i : ℕ) (s mid end : RunState P) → Folds maker modules inputs schedule s mid → TurnsOf maker modules inputs i mid end → Folds maker modules inputs (schedule ++ i ∷ []) s end
   folds_more maker modules inputs schedule i s mid end folds turns = folds_on maker modules inputs schedule (i ∷ []) s mid end folds (end, turns, refl)
 
   -- A turn of a party that has nothing left changes nothing.
-  nothing_begins : (keyed : Bool) (modules : ℕ → Option ModuleCall) (o : Option Command) (c : PoolCore P) (p : RunningParty P) (t : Turned P) → o ≡ None → BeginsKeyed keyed modules o c p t → t ≡ record { core = c; party = p; reply = None }
+  nothing_begins : (keyed : Bool) (modules : List ModuleCall) (o : Option Command) (c : PoolCore P) (p : RunningParty P) (t : Turned P) → o ≡ None → BeginsKeyed keyed modules o c p t → t ≡ record { core = c; party = p; reply = None }
   nothing_begins false modules None c p t none is = is
   nothing_begins true modules None c p t none is = is
   nothing_begins keyed modules (Some command) c p t none is = absurd cc
 
-  nothing_turns : (modules : ℕ → Option ModuleCall) (commands : List Command) (c : PoolCore P) (p : RunningParty P) (t : Turned P) (b : Bool) → b ≡ true → length commands ≤ p.done → TurnsAt b modules commands c p t → t ≡ record { core = c; party = p; reply = None }
+  nothing_turns : (modules : List ModuleCall) (commands : List Command) (c : PoolCore P) (p : RunningParty P) (t : Turned P) (b : Bool) → b ≡ true → length commands ≤ p.done → TurnsAt b modules commands c p t → t ≡ record { core = c; party = p; reply = None }
   nothing_turns modules commands c p t true idle all turns = nothing_begins p.keyed modules (slice_get commands p.done) c p t (slice_get_past commands p.done all) turns
   nothing_turns modules commands c p t false idle all turns = absurd cc
 
-  pub nothing_left : (maker : MakerTold) (modules : ℕ → Option ModuleCall) (commands : List Command) (i : ℕ) (p : RunningParty P) (s new : RunState P) → slice_get s.parties i ≡ Some p → HasNothingLeft commands p → TurnsIf maker modules commands i (Some p) s new → new ≡ s
+  pub nothing_left : (maker : MakerTold) (modules : List ModuleCall) (commands : List Command) (i : ℕ) (p : RunningParty P) (s new : RunState P) → slice_get s.parties i ≡ Some p → HasNothingLeft commands p → TurnsIf maker modules commands i (Some p) s new → new ≡ s
   nothing_left maker modules commands i p s new there none turns =
       let same : turns.0 ≡ record { core = s.core; party = p; reply = None } = nothing_turns modules commands s.core p turns.0 (is_idle p.frame.phase) none.idle none.all turns.1 in
       let parties : slice_set s.parties i p ≡ s.parties = ap (λ (q : RunningParty P). slice_set s.parties i q) (sym (get_or_from_slice_get s.parties i p p there)) ∙ set-get_or s.parties i p in

@@ -9,6 +9,7 @@ pub mod NewMemories
 pub mod Parties
 pub mod Placed
 pub mod Running
+pub mod Shares
 pub mod Started
 pub mod StepsTied
 pub mod Tied

@@ -86,6 +86,6 @@ module _ {P : Type 0} where
     whole = whole_turned c parties i d t running.whole below turned;
   }
 
-  pub turn_running : (w : World) (modules : ℕ → Option ModuleCall) (commands : List Command) (c : PoolCore P) (parties : List (RunningParty P)) (i : ℕ) (d : RunningParty P) (t : Turned P) → AreCallsFor w c.settings modules → IsRunning w.maker c parties → i < length parties → length commands ≤ length (slice_index_or parties i d).live → Turns modules commands c (slice_index_or parties i d) t → IsSoundTurn w.maker t → IsRunning w.maker t.core (slice_set parties i t.party)
+  pub turn_running : (w : World) (modules : List ModuleCall) (commands : List Command) (c : PoolCore P) (parties : List (RunningParty P)) (i : ℕ) (d : RunningParty P) (t : Turned P) → AreCallsFor w c.settings modules → IsRunning w.maker c parties → i < length parties → length commands ≤ length (slice_index_or parties i d).live → Turns modules commands c (slice_index_or parties i d) t → IsSoundTurn w.maker t → IsRunning w.maker t.core (slice_set parties i t.party)
   turn_running w modules commands c parties i d t calls running below room turns sound =
       turned_running w.maker c parties i d t running below (has_turned w modules commands c (slice_index_or parties i d) t calls (can_turn w.maker c parties i d running below) room turns) sound

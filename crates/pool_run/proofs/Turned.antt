@@ -41,13 +41,15 @@ use Rattle.pool_run.proofs.Bytes.{written_seen}
 use Rattle.pool_run.proofs.Grants.{grants_set, told_at, one_more}
 use Rattle.pool_run.proofs.NewMemories.{begun_none}
 use Rattle.pool_run.proofs.Parties.{can_step, live_grant, called_key, called_module, called_back}
+use Rattle.pool_run.proofs.Shares.{share_for}
 use Rattle.pool_run.proofs.StepsTied.{tied_at}
 use Rattle.pool_run.proofs.Tied.{Replies, TiedBy, IsTied}
 use Rattle.std.proofs.lemmas.Bool.{cases_eq}
 use Rattle.std.proofs.lemmas.List.{length-set, get_or-set_other}
 use Rattle.std.proofs.lemmas.List.Sums.{sum_by-set}
 use Rattle.pool_alloc.specs.Places.{Thing, both_count, leased_count, kept_count, frame_count, phase_instances, frame_memories}
-use Rattle.pool_alloc.specs.Sound.{IsFrame}
+use Rattle.pool_alloc.specs.Sound.{IsFrame, AreImagesOf}
+use Rattle.pool_alloc.specs.Steps.{memories_asked, images_asked}
 use Rattle.pool_alloc.specs.Stepping.{Conserves, IsSameSize, grant_count, grant_instances, grant_memories}
 use Rattle.pool_alloc.specs.declared.lease.InstanceLease.{InstanceLease}
 use Rattle.pool_alloc.proofs.Fitting.{step_conserves, step_keeps_size}
@@ -244,22 +246,24 @@ module _ {P : Type 0} (maker : MakerTold) (c : PoolCore P) (p : RunningParty P) 
   -- a request for an instance
   asks_for : (w : World) (number : ℕ) (o : Option ModuleCall) (t : Turned P) → IfSome o (IsCallFor w c.settings number) → Asks o c p t → p.done < length p.live → HasTurned c p t
   asks_for w number None t for asked room = absurd asked
-  asks_for w number (Some m) t for asked room =
+  asks_for w number (Some kept) t for asked room =
       elim asked [
         | inl is ↦ at_once (Refused (Alloc alloc.Memory)) t is
         | inr steps ↦
+            let m : ModuleCall = steps.0 in
             let q : RunningParty P = record p { frame = begun_call (call.Module m) p.frame } in
-            turned_from c p q t (has_call maker (call.Module m) p.live c p can.party.sound.frame (idle, for.images) (brings_module m p.live)) refl
-            (step_turned maker c q t (called_module maker m c p can idle for.images room) steps)
+            let images : AreImagesOf c.settings (memories_asked (Some m)) (images_asked (Some m)) = (share_for w c.settings number kept m steps.1 for).images in
+            turned_from c p q t (has_call maker (call.Module m) p.live c p can.party.sound.frame (idle, images) (brings_module m p.live)) refl
+            (step_turned maker c q t (called_module maker m c p can idle images room) steps.2)
       ]
 
-  begins : (w : World) (modules : ℕ → Option ModuleCall) (command : Command) (t : Turned P) → AreCallsFor w c.settings modules → Begins modules command c p t → p.done < length p.live → HasTurned c p t
-  begins w modules (command.Instantiate number) t calls is room = asks_for w number (modules number) t (calls number) is room
+  begins : (w : World) (modules : List ModuleCall) (command : Command) (t : Turned P) → AreCallsFor w c.settings modules → Begins modules command c p t → p.done < length p.live → HasTurned c p t
+  begins w modules (command.Instantiate number) t calls is room = asks_for w number (slice_get modules number) t (calls number) is room
   begins w modules (command.Read of k i len) t calls is room = reads k i len (slice_index_or p.live of None) t is
   begins w modules (command.Write of k i bytes) t calls is room = writes_turned of k i bytes (slice_index_or p.live of None) t refl is
   begins w modules (command.Drop of) t calls is room = returns of (slice_index_or p.live of None) t refl is
 
-  begins_keyed : (w : World) (commands : List Command) (keyed : Bool) (modules : ℕ → Option ModuleCall) (next : Option Command) (t : Turned P) → AreCallsFor w c.settings modules → slice_get commands p.done ≡ next → length commands ≤ length p.live → BeginsKeyed keyed modules next c p t → HasTurned c p t
+  begins_keyed : (w : World) (commands : List Command) (keyed : Bool) (modules : List ModuleCall) (next : Option Command) (t : Turned P) → AreCallsFor w c.settings modules → slice_get commands p.done ≡ next → length commands ≤ length p.live → BeginsKeyed keyed modules next c p t → HasTurned c p t
   begins_keyed w commands false modules None t calls next room is = subst (HasTurned c p) (sym is) (stayed c p can.party.to_come can.party.place)
   begins_keyed w commands true modules None t calls next room is = subst (HasTurned c p) (sym is) (stayed c p can.party.to_come can.party.place)
   begins_keyed w commands false modules (Some command) t calls next room steps =
@@ -268,10 +272,10 @@ module _ {P : Type 0} (maker : MakerTold) (c : PoolCore P) (p : RunningParty P) 
   begins_keyed w commands true modules (Some command) t calls next room is = begins w modules command t calls is (omega (arith, slice_get_within commands p.done command next))
 
 module _ {P : Type 0} where
-  turned_at : (w : World) (modules : ℕ → Option ModuleCall) (commands : List Command) (c : PoolCore P) (p : RunningParty P) (t : Turned P) (b : Bool) → is_idle p.frame.phase ≡ b → AreCallsFor w c.settings modules → CanTurn w.maker c p → length commands ≤ length p.live → TurnsAt b modules commands c p t → HasTurned c p t
+  turned_at : (w : World) (modules : List ModuleCall) (commands : List Command) (c : PoolCore P) (p : RunningParty P) (t : Turned P) (b : Bool) → is_idle p.frame.phase ≡ b → AreCallsFor w c.settings modules → CanTurn w.maker c p → length commands ≤ length p.live → TurnsAt b modules commands c p t → HasTurned c p t
   turned_at w modules commands c p t true idle calls can room turns = begins_keyed w.maker c p can (idle_is p.frame.phase idle) w commands p.keyed modules (slice_get commands p.done) t calls refl room turns
   turned_at w modules commands c p t false busy calls can room turns = step_turned w.maker c p t can turns
 
   -- What each turn of a party leaves.
-  pub has_turned : (w : World) (modules : ℕ → Option ModuleCall) (commands : List Command) (c : PoolCore P) (p : RunningParty P) (t : Turned P) → AreCallsFor w c.settings modules → CanTurn w.maker c p → length commands ≤ length p.live → Turns modules commands c p t → HasTurned c p t
+  pub has_turned : (w : World) (modules : List ModuleCall) (commands : List Command) (c : PoolCore P) (p : RunningParty P) (t : Turned P) → AreCallsFor w c.settings modules → CanTurn w.maker c p → length commands ≤ length p.live → Turns modules commands c p t → HasTurned c p t
   has_turned w modules commands c p t calls can room turns = turned_at w modules commands c p t (is_idle p.frame.phase) refl calls can room turns

@@ -45,16 +45,16 @@ module _ {P : Type 0} where
     replies = slice_set s.replies i (with_reply t.reply (replies_to i s.replies));
   }
 
-  abbrev pub TurnsIf : MakerTold → (ℕ → Option ModuleCall) → List Command → ℕ → Option (RunningParty P) → RunState P → RunState P → Type 0
+  abbrev pub TurnsIf : MakerTold → List ModuleCall → List Command → ℕ → Option (RunningParty P) → RunState P → RunState P → Type 0
   TurnsIf maker modules commands i None s new = new ≡ s
   TurnsIf maker modules commands i (Some p) s new = (t : Turned P) × Turns modules commands s.core p t × IsSoundTurn maker t × (new ≡ with_turn i t s)
 
   -- a turn of party i, if there is one; it leaves what is sound
-  abbrev pub TurnsOf : MakerTold → (ℕ → Option ModuleCall) → List (List Command) → ℕ → RunState P → RunState P → Type 0
+  abbrev pub TurnsOf : MakerTold → List ModuleCall → List (List Command) → ℕ → RunState P → RunState P → Type 0
   TurnsOf maker modules inputs i s new = TurnsIf maker modules (commands_of inputs i) i (slice_get s.parties i) s new
 
   -- turns of these parties, in order
-  abbrev pub Folds : MakerTold → (ℕ → Option ModuleCall) → List (List Command) → List ℕ → RunState P → RunState P → Type 0
+  abbrev pub Folds : MakerTold → List ModuleCall → List (List Command) → List ℕ → RunState P → RunState P → Type 0
   Folds maker modules inputs [] s end = end ≡ s
   Folds maker modules inputs (i ∷ schedule) s end = (mid : RunState P) × TurnsOf maker modules inputs i s mid × Folds maker modules inputs schedule mid end
 
@@ -67,14 +67,14 @@ module _ {P : Type 0} where
   IsFinished inputs s = (i : ℕ) → IfSome (slice_get s.parties i) (HasNothingLeft (commands_of inputs i))
 
   -- party 0 turns until it has nothing left, then party 1, and so on
-  pub record Finishes (maker : MakerTold) (modules : ℕ → Option ModuleCall) (inputs : List (List Command)) (s end : RunState P) : Type 0 where
+  pub record Finishes (maker : MakerTold) (modules : List ModuleCall) (inputs : List (List Command)) (s end : RunState P) : Type 0 where
     pub counts : List ℕ
     pub parties : length counts ≡ length s.parties
     pub folds : Folds maker modules inputs (party_by_party 0 counts) s end
     pub finished : IsFinished inputs end
 
   -- a whole run
-  pub record Runs (maker : MakerTold) (modules : ℕ → Option ModuleCall) (inputs : List (List Command)) (schedule : List ℕ) (s end : RunState P) : Type 0 where
+  pub record Runs (maker : MakerTold) (modules : List ModuleCall) (inputs : List (List Command)) (schedule : List ℕ) (s end : RunState P) : Type 0 where
     pub scheduled : RunState P
     pub folds : Folds maker modules inputs schedule s scheduled
     pub finishes : Finishes maker modules inputs scheduled end
@@ -93,7 +93,7 @@ module _ {P : Type 0} where
     pub private : IsPrivate w (no_grants commands) commands replies p
 
   -- What holds at each moment of a run.
-  pub record IsUnderWay (w : World) (modules : ℕ → Option ModuleCall) (inputs : List (List Command)) (s : RunState P) : Type 0 where
+  pub record IsUnderWay (w : World) (modules : List ModuleCall) (inputs : List (List Command)) (s : RunState P) : Type 0 where
     pub running : IsRunning w.maker s.core s.parties
     pub world : IsWorldOf w s.core
     pub calls : AreCallsFor w s.core.settings modules

@@ -1,5 +1,6 @@
 -- A turn of a party in a run: the next step of its call, or the first step of its next command.
 use Rattle.std.specs.Prelude.{◌≡◌, ℕ, ◌+◌, ◌<◌, ◌≤◌, List, [], ◌∷◌, ◌++◌, length, map, nat_le, slice_get, slice_index_or, slice_range, slice_set, ◌⊎◌, Bool, true, false, if◌then◌else◌, Option, Some, None, IfSome, option_map}
+use Rattle.std.specs.Arc.{arc_value}
 use Rattle.pool_memory.specs.Memories.{MemoryState}
 use Rattle.pool_images.specs.Slots.{written_at}
 use Rattle.pool_slots.specs.declared.request.AllocError.TheVariants as alloc
@@ -48,6 +49,12 @@ pub record Turned (P : Type 0) : Type 0 where
   pub core : PoolCore P
   pub party : RunningParty P
   pub reply : Option Reply
+
+-- the call is for the same module with the same images
+pub record IsShareOf (kept m : ModuleCall) : Type 0 where
+  pub info : arc_value m.info ≡ arc_value kept.info
+  pub images : option_map arc_value m.images ≡ option_map arc_value kept.images
+  pub id : m.id ≡ kept.id
 
 module _ {P : Type 0} where
   abbrev pub private_grant : Grant P → PrivateInstance
@@ -118,26 +125,27 @@ module _ {P : Type 0} where
   Writes None of k at bytes c p t = t ≡ replies (Refused NoSuchGrant) c p
   Writes (Some grant) of k at bytes c p t = WritesLease (slice_get (leases_of grant) k) of grant k at bytes c p t
 
-  -- a request for an instance: the reply's lists are reserved, or the command ends at once for want of memory
+  -- a request for an instance: the module and its images are shared, and the reply's lists reserved, or the command ends
+  -- at once for want of memory
   abbrev pub Asks : Option ModuleCall → PoolCore P → RunningParty P → Turned P → Type 0
   Asks None c p t = ⊥
-  Asks (Some m) c p t =
+  Asks (Some kept) c p t =
       (t ≡ replies (Refused (Alloc alloc.Memory)) c p)
-      ⊎ Steps c (record p { frame = begun_call (call.Module m) p.frame }) t
+      ⊎ ((m : ModuleCall) × IsShareOf kept m × Steps c (record p { frame = begun_call (call.Module m) p.frame }) t)
 
-  -- the first step of a command, where the module of each number is this
-  abbrev pub Begins : (ℕ → Option ModuleCall) → Command → PoolCore P → RunningParty P → Turned P → Type 0
-  Begins modules (Instantiate number) c p t = Asks (modules number) c p t
+  -- the first step of a command, where these are the calls for the modules by number
+  abbrev pub Begins : List ModuleCall → Command → PoolCore P → RunningParty P → Turned P → Type 0
+  Begins modules (Instantiate number) c p t = Asks (slice_get modules number) c p t
   Begins modules (Read of memory at len) c p t = Reads (slice_index_or p.live of None) memory at len c p t
   Begins modules (Write of memory at bytes) c p t = Writes (slice_index_or p.live of None) of memory at bytes c p t
   Begins modules (Drop of) c p t = Returns (slice_index_or p.live of None) of c p t
 
   -- the first step of the next command, if there is one
-  abbrev pub BeginsNext : (ℕ → Option ModuleCall) → Option Command → PoolCore P → RunningParty P → Turned P → Type 0
+  abbrev pub BeginsNext : List ModuleCall → Option Command → PoolCore P → RunningParty P → Turned P → Type 0
   BeginsNext modules None c p t = t ≡ record { core = c; party = p; reply = None }
   BeginsNext modules (Some command) c p t = Begins modules command c p t
 
-  abbrev pub BeginsKeyed : Bool → (ℕ → Option ModuleCall) → Option Command → PoolCore P → RunningParty P → Turned P → Type 0
+  abbrev pub BeginsKeyed : Bool → List ModuleCall → Option Command → PoolCore P → RunningParty P → Turned P → Type 0
   BeginsKeyed false modules None c p t = t ≡ record { core = c; party = p; reply = None }
   BeginsKeyed false modules (Some command) c p t = Steps c (record p { frame = begun_call call.Key p.frame }) t
   BeginsKeyed true modules next c p t = BeginsNext modules next c p t
@@ -146,10 +154,10 @@ module _ {P : Type 0} where
   is_idle Idle = true
   is_idle _ = false
 
-  abbrev pub TurnsAt : Bool → (ℕ → Option ModuleCall) → List Command → PoolCore P → RunningParty P → Turned P → Type 0
+  abbrev pub TurnsAt : Bool → List ModuleCall → List Command → PoolCore P → RunningParty P → Turned P → Type 0
   TurnsAt true modules commands c p t = BeginsKeyed p.keyed modules (slice_get commands p.done) c p t
   TurnsAt false modules commands c p t = Steps c p t
 
   -- a turn of a party
-  abbrev pub Turns : (ℕ → Option ModuleCall) → List Command → PoolCore P → RunningParty P → Turned P → Type 0
+  abbrev pub Turns : List ModuleCall → List Command → PoolCore P → RunningParty P → Turned P → Type 0
   Turns modules commands c p t = TurnsAt (is_idle p.frame.phase) modules commands c p t

@@ -1,6 +1,6 @@
 -- What a run relies on from its input: the pool has the sizes that replies speak of, each module is supported, and each
 -- call for a module is a call for its memories and their images.
-use Rattle.std.specs.Prelude.{◌≡◌, ℕ, length, slice_get, Option, Some, None, IfSome, IsOk}
+use Rattle.std.specs.Prelude.{◌≡◌, ℕ, List, length, slice_get, Option, Some, None, IfSome, IsOk}
 use Rattle.pool_pages.specs.declared.module_types.MemoryDecl.{MemoryDecl}
 use Rattle.pool_images.specs.Slots.{Slot}
 use Rattle.pool_limits.specs.Limiter.{yes}
@@ -34,5 +34,5 @@ pub record IsCallFor (w : World) (s : Settings) (number : ℕ) (m : ModuleCall) 
   pub images : AreImagesOf s (memories_asked (Some m)) (images_asked (Some m))
 
 -- each call is one for the module of its number
-abbrev pub AreCallsFor : World → Settings → (ℕ → Option ModuleCall) → Type 0
-AreCallsFor w s modules = (number : ℕ) → IfSome (modules number) (IsCallFor w s number)
+abbrev pub AreCallsFor : World → Settings → List ModuleCall → Type 0
+AreCallsFor w s modules = (number : ℕ) → IfSome (slice_get modules number) (IsCallFor w s number)
