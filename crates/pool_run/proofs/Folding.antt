@@ -10,11 +10,11 @@ use Rattle.pool_alloc.specs.Stepping.{IsSameSize}
 use Rattle.pool_alloc.specs.declared.pool_core.PoolCore.{PoolCore}
 use Rattle.pool_alloc.specs.declared.pool_core.Settings.{Settings}
 use Rattle.pool_alloc.specs.declared.frame.ModuleCall.{ModuleCall}
-use Rattle.pool_run.specs.Private.{World, memories_of, IsPrivateRun}
+use Rattle.pool_run.specs.Private.{World, memories_of, IsPrivateRun, no_grants}
 use Rattle.pool_run.specs.Turns.{Turned, Turns, TurnsAt, BeginsKeyed, with_reply, is_idle}
 use Rattle.pool_run.specs.Ties.{CanTurn, IsSoundTurn}
 use Rattle.pool_run.specs.Worlds.{IsMadeReady, IsWorldOf, IsCallFor, AreCallsFor}
-use Rattle.pool_run.specs.Folds.{RunState, commands_of, replies_to, no_grants, party_by_party, with_turn, TurnsIf, TurnsOf, Folds, HasNothingLeft, Finishes, Runs, IsRunTo, IsUnderWay}
+use Rattle.pool_run.specs.Folds.{RunState, commands_of, replies_to, party_by_party, with_turn, TurnsIf, TurnsOf, Folds, HasNothingLeft, Finishes, Runs, IsRunTo, IsUnderWay}
 use Rattle.pool_run.specs.declared.command.Command.{Command}
 use Rattle.pool_run.specs.declared.reply.Reply.{Reply}
 use Rattle.pool_run.specs.declared.running_party.RunningParty.{RunningParty}
@@ -104,7 +104,7 @@ module _ {P : Type 0} where
       runs.finishes.folds
 
   -- The replies to each party are a private run of its commands.
-  pub replies_private : (w : World) (modules : List ModuleCall) (inputs : List (List Command)) (s : RunState P) (i : ℕ) (d : RunningParty P) → IsUnderWay w modules inputs s → i < length s.parties → IsPrivateRun w (commands_of inputs i) (replies_to i s.replies) (no_grants (commands_of inputs i))
+  pub replies_private : (w : World) (modules : List ModuleCall) (inputs : List (List Command)) (s : RunState P) (i : ℕ) (d : RunningParty P) → IsUnderWay w modules inputs s → i < length s.parties → IsPrivateRun w (commands_of inputs i) (replies_to i s.replies)
   replies_private w modules inputs s i d way below = let to = way.each i d below in (to.private.grants, to.private.run)
 
   -- Turns that follow others.

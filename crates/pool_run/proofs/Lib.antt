@@ -2,6 +2,7 @@ pub mod Beginning
 pub mod Bytes
 pub mod Causes
 pub mod Counters
+pub mod Ended
 pub mod Folding
 pub mod FreeSlots
 pub mod Grants
@@ -10,6 +11,7 @@ pub mod Parties
 pub mod Placed
 pub mod Running
 pub mod Shares
+pub mod Sounds
 pub mod Started
 pub mod StepsTied
 pub mod Tied

@@ -17,11 +17,11 @@ use Rattle.pool_alloc.specs.declared.frame.Grant.{Grant}
 use Rattle.pool_alloc.specs.declared.frame.ModuleCall.{ModuleCall}
 use Rattle.pool_alloc.proofs.BegunCalls.{made_frame, made_count, made_instances, made_memories}
 use Rattle.pool_alloc.proofs.Untouched.{untouched_is_whole}
-use Rattle.pool_run.specs.Private.{World, PrivateInstance, Grants}
+use Rattle.pool_run.specs.Private.{World, PrivateInstance, Grants, no_grants}
 use Rattle.pool_run.specs.Turns.{private_grant, grants_of}
 use Rattle.pool_run.specs.Ties.{granted_to, held_by_party, IsParty, IsPrivate, IsRunning}
 use Rattle.pool_run.specs.Worlds.{IsWorldOf, AreCallsFor}
-use Rattle.pool_run.specs.Folds.{RunState, commands_of, replies_to, no_grants, IsMadeParty, IsRunTo, IsUnderWay}
+use Rattle.pool_run.specs.Folds.{RunState, commands_of, replies_to, IsMadeParty, IsRunTo, IsUnderWay}
 use Rattle.pool_run.specs.declared.command.Command.{Command}
 use Rattle.pool_run.specs.declared.reply.Reply.{Reply}
 use Rattle.pool_run.specs.declared.running_party.RunningParty.{RunningParty}

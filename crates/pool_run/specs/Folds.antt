@@ -6,7 +6,7 @@ use Rattle.pool_alloc.specs.Calls.{frame_made}
 use Rattle.pool_alloc.specs.declared.pool_core.PoolCore.{PoolCore}
 use Rattle.pool_alloc.specs.declared.pool_core.Settings.{Settings}
 use Rattle.pool_alloc.specs.declared.frame.ModuleCall.{ModuleCall}
-use Rattle.pool_run.specs.Private.{World, Grants}
+use Rattle.pool_run.specs.Private.{World, no_grants}
 use Rattle.pool_run.specs.Turns.{Turned, Turns, with_reply, is_idle}
 use Rattle.pool_run.specs.Ties.{IsPrivate, IsSoundTurn, IsRunning}
 use Rattle.pool_run.specs.Worlds.{IsWorldOf, AreCallsFor}
@@ -26,10 +26,6 @@ commands_of inputs i = slice_index_or inputs i []
 
 abbrev pub replies_to : ℕ → List (List Reply) → List Reply
 replies_to i replies = slice_index_or replies i []
-
--- a party of which no command was given yet has no grant
-abbrev pub no_grants : List Command → Grants
-no_grants commands = replicate (length commands) None
 
 -- so many turns of each party, party by party
 abbrev pub party_by_party : ℕ → List ℕ → List ℕ

@@ -1,5 +1,5 @@
 -- What a party may see: its grants as private lists of bytes, which its commands read and write, and no pool.
-use Rattle.std.specs.Prelude.{◌≡◌, ◌≢◌, ℕ, ◌+◌, ◌<◌, ◌≤◌, List, [], ◌∷◌, length, sum_by, slice_get, slice_index_or, slice_range, slice_set, All, ◌⊎◌, Bool, true, false, if◌then◌else◌, Option, Some, None, IfSome, option_map}
+use Rattle.std.specs.Prelude.{◌≡◌, ◌≢◌, ℕ, ◌+◌, ◌<◌, ◌≤◌, List, [], ◌∷◌, length, sum_by, slice_get, slice_index_or, slice_range, slice_set, All, replicate, ◌⊎◌, Bool, true, false, if◌then◌else◌, Option, Some, None, IfSome, option_map}
 use Rattle.std.specs.Option.{option_map_or}
 use Rattle.std.specs.List.{list_all}
 use Rattle.pool_pages.specs.Contents.{put}
@@ -176,6 +176,15 @@ PrivateRun w n commands [] grants end = end ≡ grants
 PrivateRun w n [] (reply ∷ replies) grants end = ⊥
 PrivateRun w n (command ∷ commands) (reply ∷ replies) grants end = (mid : Grants) × PrivateStep w n grants command reply mid × PrivateRun w (n + 1) commands replies mid end
 
--- so much of a run, to whatever grants at its end
-abbrev pub IsPrivateRun : World → List Command → List Reply → Grants → Type 0
-IsPrivateRun w commands replies start = (end : Grants) × PrivateRun w 0 commands replies start end
+-- a party of which no command was given yet has no grant
+abbrev pub no_grants : List Command → Grants
+no_grants commands = replicate (length commands) None
+
+-- the replies are those of a run from no grant, to whatever grants at its end
+abbrev pub IsPrivateRun : World → List Command → List Reply → Type 0
+IsPrivateRun w commands replies = (end : Grants) × PrivateRun w 0 commands replies (no_grants commands) end
+
+-- and each command has its reply
+pub record IsWholeRun (w : World) (commands : List Command) (replies : List Reply) : Type 0 where
+  pub private : IsPrivateRun w commands replies
+  pub all : length replies ≡ length commands
