@@ -1,35 +1,29 @@
 -- The first step of a command, and each turn, as the party sees it.
-use Rattle.std.proofs.Common.{◌≡◌, ℕ, ◌+◌, ◌<◌, ◌≤◌, Bool, true, false, List, [], ◌∷◌, ◌++◌, length, map, get_or, Option, Some, None, refl, sym, ap, ◌∙◌, subst, inl, inr, arith, All, ◌⊎◌}
-use Rattle.std.specs.Prelude.{◌==◌, nat_le, if◌then◌else◌, IfSome, IsSome, option_map, slice_get, slice_set, slice_index_or, sum_by}
+use Rattle.std.proofs.Common.{◌≡◌, ℕ, ◌+◌, ◌<◌, ◌≤◌, Bool, true, false, List, length, map, Option, Some, None, refl, sym, ap, ◌∙◌, subst, inl, inr, arith, All}
+use Rattle.std.specs.Prelude.{◌==◌, nat_le, if◌then◌else◌, IfSome, IsSome, option_map, slice_get, slice_set, slice_index_or}
 use Rattle.std.proofs.lemmas.Bool.{leb-true, leb-false}
-use Rattle.std.proofs.lemmas.List.{length_push, map-set}
+use Rattle.std.proofs.lemmas.List.{map-set}
 use Rattle.std.proofs.lemmas.List.Elements.{All-get_or}
 use Rattle.std.proofs.lemmas.Option.{slice_get-map, slice_get_within, get_or_from_slice_get}
 use Rattle.pool_pages.specs.Count.{Count}
-use Rattle.pool_pages.specs.MakerTold.{MakerTold}
 use Rattle.pool_slots.specs.declared.request.AllocError.TheVariants as alloc
 use Rattle.pool_alloc.specs.Leases.{Lease}
-use Rattle.pool_alloc.specs.Calls.{IsIdle, IsGrant, begun_call}
+use Rattle.pool_alloc.specs.Calls.{IsIdle, begun_call}
 use Rattle.pool_alloc.specs.Sound.{IsLeaseOf}
-use Rattle.pool_alloc.specs.Steps.{Given, After, row}
 use Rattle.pool_alloc.specs.declared.pool_core.PoolCore.{PoolCore}
-use Rattle.pool_alloc.specs.declared.pool_core.Settings.{Settings}
 use Rattle.pool_alloc.specs.declared.frame.Call.TheVariants as call
-use Rattle.pool_alloc.specs.declared.frame.Ending.{Ending}
 use Rattle.pool_alloc.specs.declared.frame.Ending.TheVariants.{Returned as returned}
 use Rattle.pool_alloc.specs.declared.frame.Frame.{Frame}
 use Rattle.pool_alloc.specs.declared.frame.ModuleCall.{ModuleCall}
 use Rattle.pool_alloc.specs.declared.frame.Grant.{Grant}
 use Rattle.pool_alloc.specs.declared.lease.InstanceLease.{InstanceLease}
 use Rattle.pool_alloc.specs.declared.frame.Grant.TheVariants.{Instance as instance}
-use Rattle.pool_alloc.specs.declared.frame.Outcome.{Outcome}
-use Rattle.pool_alloc.specs.declared.frame.Outcome.TheVariants as answer
 use Rattle.pool_alloc.specs.declared.frame.Phase.{Phase}
 use Rattle.pool_alloc.specs.declared.frame.Phase.TheVariants.{Idle, Key, Validate, CountInstance, Pick, TakeQueue, TakeRegion, Empty, Instantiate, MakeMemory, CountMemory, PutRefused, FreeRefused, UncountMemory, Reset, Merge, Decommit, PutRegion, Free, UncountInstance}
 use Rattle.pool_alloc.proofs.BegunCalls.{at_rest}
 use Rattle.pool_run.specs.Private.{World, PrivateMemory, PrivateInstance, Grants, grant_at, PrivateStep, ReadsMemory, ReadsFrom, WritesMemory, WritesTo, Drops, memory_written, with_memory}
-use Rattle.pool_run.specs.Turns.{Turned, with_reply, private_memory, lease_written, private_grant, grants_of, leases_of, replies, granted_reply, answered, after_step, StepsFreely, Steps, Returns, ReadsLease, Reads, grant_written, writes, WritesLease, Writes, Asks, Begins, BeginsNext, BeginsKeyed, is_idle, TurnsAt, Turns}
-use Rattle.pool_run.specs.Ties.{Stage, no_call, ends_as, stage_of, IsAsking, EndsAs, TiedAs, IsPrivate, CanTurn}
+use Rattle.pool_run.specs.Turns.{Turned, with_reply, private_memory, lease_written, private_grant, grants_of, replies, Returns, ReadsLease, Reads, grant_written, WritesLease, Writes, Asks, Begins, BeginsKeyed, is_idle, TurnsAt, Turns}
+use Rattle.pool_run.specs.Ties.{Stage, no_call, ends_as, stage_of, EndsAs, TiedAs, IsPrivate, CanTurn}
 use Rattle.pool_run.specs.Worlds.{IsWorldOf, IsCallFor, AreCallsFor}
 use Rattle.pool_run.specs.declared.command.Command.{Command}
 use Rattle.pool_run.specs.declared.command.Command.TheVariants as command
@@ -39,12 +33,10 @@ use Rattle.pool_run.specs.declared.reply.Trap.TheVariants.{MemoryOutOfBounds}
 use Rattle.pool_run.specs.declared.reply.Refusal.TheVariants.{NoSuchGrant, Alloc}
 use Rattle.pool_run.specs.declared.running_party.RunningParty.{RunningParty}
 use Rattle.pool_run.proofs.Bytes.{written_seen}
-use Rattle.pool_run.proofs.Grants.{grants_set, told_at, one_more}
+use Rattle.pool_run.proofs.Grants.{grants_set, told_at}
 use Rattle.pool_run.proofs.NewMemories.{begun_none}
-use Rattle.pool_run.proofs.Parties.{can_step, live_grant, called_key, called_module, called_back}
+use Rattle.pool_run.proofs.Parties.{live_grant, called_key, called_module, called_back}
 use Rattle.pool_run.proofs.Shares.{share_for}
-use Rattle.pool_run.proofs.StepsTied.{tied_at}
-use Rattle.pool_run.proofs.Tied.{Replies, TiedBy, IsTied}
 use Rattle.pool_run.proofs.Turning.{SeesTurn, replied, step_private}
 
 -- a grant that is given back is one of those told
@@ -110,9 +102,9 @@ module _ {P : Type 0} (w : World) (start : Grants) (commands : List Command) (be
   reads_seen of k i len (Some (instance lease)) t has is next =
       lease_read of k i len (slice_get lease.memories.items k) t is
       (λ reply step.
-        let From : Option PrivateInstance → Type 0 = λ o. ReadsFrom o private.grants k i len reply (grants_of p.live) in
-        let Memory : Option PrivateMemory → Type 0 = λ o. ReadsMemory o private.grants i len reply (grants_of p.live) in
-        subst From (sym (told_at p.live private.grants of (Some (instance lease)) told_now has)) (subst Memory (sym (slice_get-map private_memory lease.memories.items k)) step))
+      let From : Option PrivateInstance → Type 0 = λ o. ReadsFrom o private.grants k i len reply (grants_of p.live) in
+      let Memory : Option PrivateMemory → Type 0 = λ o. ReadsMemory o private.grants i len reply (grants_of p.live) in
+      subst From (sym (told_at p.live private.grants of (Some (instance lease)) told_now has)) (subst Memory (sym (slice_get-map private_memory lease.memories.items k)) step))
       next
 
   -- a write
@@ -138,7 +130,7 @@ module _ {P : Type 0} (w : World) (start : Grants) (commands : List Command) (be
       let memory : slice_get (map private_memory lease.memories.items) k ≡ Some (private_memory l) = slice_get-map private_memory lease.memories.items k ∙ ap (option_map private_memory) there in
       subst (SeesTurn w start commands before) (sym is)
       (replied w start commands before p (record p { live = new; done = p.done + 1 }) (command.Write of k i bytes) Done private refl settled_now next
-        (subst To (sym (told_at p.live private.grants of (Some (instance lease)) told_now has)) (subst Memory (sym memory) (within, written_now of k i bytes lease l has there within))))
+      (subst To (sym (told_at p.live private.grants of (Some (instance lease)) told_now has)) (subst Memory (sym memory) (within, written_now of k i bytes lease l has there within))))
   writes_within of k i bytes lease l false t has there fits is next =
       let To : Option PrivateInstance → Type 0 = λ o. WritesTo o private.grants of k i bytes (Trap MemoryOutOfBounds) (grants_of p.live) in
       let Memory : Option PrivateMemory → Type 0 = λ o. WritesMemory o private.grants of (private_grant (instance lease)) k i bytes (Trap MemoryOutOfBounds) (grants_of p.live) in

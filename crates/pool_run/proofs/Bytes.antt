@@ -1,10 +1,9 @@
 -- The bytes of a memory as the party sees them: as it begins, and once they are written.
-use Rattle.std.proofs.Common.{◌≡◌, ℕ, ◌+◌, ◌<◌, ◌≤◌, List, [], ◌∷◌, ◌++◌, length, take, replicate, zero, suc, map, Option, Some, None, Bool, true, false, refl, sym, ap, ◌∙◌, subst, arith, if◌then◌else◌, is_some}
-use Rattle.std.specs.Prelude.{IfSome, option_map, slice_get, slice_index_or, slice_range}
+use Rattle.std.proofs.Common.{◌≡◌, ℕ, ◌+◌, ◌≤◌, List, length, take, replicate, Option, Some, None, Bool, refl, sym, ap, ◌∙◌, subst, arith, if◌then◌else◌, is_some}
+use Rattle.std.specs.Prelude.{IfSome, option_map, slice_range}
 use Rattle.std.proofs.lemmas.List.{same_lists, places, take-replicate}
 use Rattle.pool_pages.specs.Count.{Count}
 use Rattle.pool_pages.specs.Contents.{Contents, put, written}
-use Rattle.pool_pages.specs.MakerTold.{MakerTold}
 use Rattle.pool_pages.specs.MemoryTypes.{minimum_byte_size}
 use Rattle.pool_pages.specs.declared.module_types.MemoryDecl.{MemoryDecl}
 use Rattle.pool_images.specs.Images.{Image, start}
@@ -15,7 +14,7 @@ use Rattle.pool_alloc.specs.Leases.{Lease}
 use Rattle.pool_alloc.specs.Sound.{IsNew, IsSupported}
 use Rattle.pool_alloc.specs.declared.pool_core.Settings.{Settings}
 use Rattle.pool_run.specs.Private.{World, PrivateMemory, image_at, begun_memory, memory_written}
-use Rattle.pool_run.specs.Turns.{bytes_of, private_memory, lease_written}
+use Rattle.pool_run.specs.Turns.{private_memory, lease_written}
 
 -- what is written into the first n elements is written into a list's first n
 take_put : (i n : ℕ) (new xs : List ℕ) → i + length new ≤ n → take n (put i new xs) ≡ put i new (take n xs)

@@ -1,7 +1,7 @@
 -- A request is refused only for a cause.
 use Rattle.std.proofs.Common.{◌≡◌, ℕ, ◌<◌, List, length, Option, Some, None, sym, ap, ◌∙◌, subst, inl, inr, arith}
 use Rattle.std.specs.Prelude.{IfSome, option_map}
-use Rattle.pool_pages.specs.MakerTold.{MakerTold, Planned, calls_of}
+use Rattle.pool_pages.specs.MakerTold.{Planned, calls_of}
 use Rattle.pool_pages.specs.declared.pages.RegionName.TheVariants.{Memory as memory_region}
 use Rattle.pool_images.specs.Slots.{Slot, IsLeft}
 use Rattle.pool_slots.specs.Cells.{IsSlotOf}

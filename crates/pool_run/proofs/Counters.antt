@@ -1,15 +1,14 @@
 -- No counter of a run comes to its end: there are no more instances than commands, and no more memories than slots.
-use Rattle.std.proofs.Common.{◌≡◌, ℕ, zero, suc, ◌+◌, ◌*◌, ◌^◌, ◌<◌, ◌≤◌, Bool, true, false, List, [], ◌∷◌, length, Option, Some, None, refl, sym, ap, ◌∙◌, subst, inl, inr, arith}
+use Rattle.std.proofs.Common.{◌≡◌, ℕ, zero, suc, ◌+◌, ◌^◌, ◌<◌, ◌≤◌, List, [], ◌∷◌, length, Option, Some, None, refl, ap, subst, inl, inr, arith}
 use Rattle.std.specs.Prelude.{sum_by}
 use Rattle.std.proofs.lemmas.Bool.{cases_lt, le-ltb}
 use Rattle.std.proofs.lemmas.List.Sums.{sum_by-cons, sum_by-le-sum_by}
 use Rattle.pool_pages.specs.MakerTold.{MakerTold}
 use Rattle.pool_index.specs.Shard.{one_if}
 use Rattle.pool_alloc.specs.Leases.{Lease}
-use Rattle.pool_alloc.specs.Places.{Thing, slot_of, both_count, leased_count, kept_count, frame_count, made_count, phase_instances, frame_memories}
+use Rattle.pool_alloc.specs.Places.{slot_of, both_count, leased_count, made_count, phase_instances}
 use Rattle.pool_alloc.specs.Stepping.{CanCount, grant_count, grant_instances, grant_memories}
 use Rattle.pool_alloc.specs.declared.pool_core.PoolCore.{PoolCore}
-use Rattle.pool_alloc.specs.declared.frame.Frame.{Frame}
 use Rattle.pool_alloc.specs.declared.frame.Grant.{Grant}
 use Rattle.pool_alloc.specs.declared.frame.Grant.TheVariants.{Instance as instance}
 use Rattle.pool_alloc.specs.declared.frame.Phase.{Phase}

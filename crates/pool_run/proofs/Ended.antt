@@ -1,7 +1,7 @@
 -- A whole run, from the pool as it is made to where nobody has anything left: each command has its reply, and the replies
 -- to each party are a private run.
-use Rattle.std.proofs.Common.{◌≡◌, ℕ, ◌+◌, ◌<◌, ◌≤◌, List, [], ◌∷◌, length, replicate, Option, Some, None, refl, sym, ap, ◌∙◌, subst, arith}
-use Rattle.std.specs.Prelude.{IfSome, slice_get, slice_set, slice_index_or}
+use Rattle.std.proofs.Common.{◌≡◌, ℕ, ◌+◌, ◌<◌, ◌≤◌, List, [], ◌∷◌, length, replicate, Option, Some, None, ap, ◌∙◌, subst, arith}
+use Rattle.std.specs.Prelude.{IfSome, slice_get, slice_index_or}
 use Rattle.std.proofs.lemmas.List.{length-set}
 use Rattle.std.proofs.lemmas.Option.{slice_get-get_or}
 use Rattle.pool_pages.specs.MakerTold.{MakerTold}
@@ -10,13 +10,12 @@ use Rattle.pool_alloc.specs.Whole.{IsUntouched}
 use Rattle.pool_alloc.specs.declared.pool_core.PoolCore.{PoolCore}
 use Rattle.pool_alloc.specs.declared.frame.ModuleCall.{ModuleCall}
 use Rattle.pool_run.specs.Private.{World, Grants, PrivateRun, IsWholeRun, no_grants}
-use Rattle.pool_run.specs.Turns.{Turned}
 use Rattle.pool_run.specs.Worlds.{IsWorldOf, AreCallsFor}
-use Rattle.pool_run.specs.Folds.{RunState, commands_of, replies_to, party_by_party, TurnsIf, TurnsOf, Folds, HasNothingLeft, IsFinished, Finishes, Runs, IsUnderWay}
+use Rattle.pool_run.specs.Folds.{RunState, commands_of, replies_to, party_by_party, TurnsIf, Folds, HasNothingLeft, IsFinished, Runs, IsUnderWay}
 use Rattle.pool_run.specs.declared.command.Command.{Command}
 use Rattle.pool_run.specs.declared.reply.Reply.{Reply}
 use Rattle.pool_run.specs.declared.running_party.RunningParty.{RunningParty}
-use Rattle.pool_run.proofs.Folding.{folds_under_way, run_under_way, replies_private}
+use Rattle.pool_run.proofs.Folding.{run_under_way, replies_private}
 use Rattle.pool_run.proofs.Started.{AreMade, run_started}
 
 -- there are no more replies than commands

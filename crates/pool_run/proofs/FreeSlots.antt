@@ -6,14 +6,14 @@ use Rattle.std.proofs.lemmas.List.{length-map, get_or-map}
 use Rattle.std.proofs.lemmas.List.Elements.{All-map}
 use Rattle.std.proofs.lemmas.List.Sums.{sum_by-cons, get_or-le-sum_by}
 use Rattle.pool_alloc.specs.Leases.{Lease}
-use Rattle.pool_alloc.specs.Places.{Thing, slot_of, both_count, leased_count, made_count}
+use Rattle.pool_alloc.specs.Places.{slot_of, both_count, leased_count, made_count}
 use Rattle.pool_alloc.specs.Stepping.{grant_count}
 use Rattle.pool_alloc.specs.declared.frame.Grant.{Grant}
 use Rattle.pool_alloc.specs.declared.frame.Grant.TheVariants.{Instance}
 use Rattle.pool_alloc.proofs.Held.{made_once, made_inside}
 use Rattle.pool_alloc.proofs.SlotCounts.{slot_once}
 use Rattle.pool_alloc.proofs.Wholes.{two_of_sum}
-use Rattle.pool_run.specs.Private.{PrivateMemory, PrivateInstance, Grants, grant_at, AllDiffer, IsFree}
+use Rattle.pool_run.specs.Private.{PrivateMemory, PrivateInstance, Grants, AllDiffer, IsFree}
 use Rattle.pool_run.specs.Turns.{private_memory, private_grant, grants_of}
 use Rattle.pool_run.specs.Ties.{granted_to}
 use Rattle.pool_run.proofs.Grants.{told_at}

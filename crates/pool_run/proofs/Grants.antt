@@ -1,9 +1,9 @@
 -- A party's live grants as it sees them; and one more reply of a private run.
-use Rattle.std.proofs.Common.{◌≡◌, ℕ, zero, suc, ◌+◌, ◌<◌, List, [], ◌∷◌, ◌++◌, length, map, Option, Some, None, refl, sym, ap, ◌∙◌, subst, arith}
+use Rattle.std.proofs.Common.{◌≡◌, ℕ, zero, suc, ◌+◌, List, [], ◌∷◌, ◌++◌, length, map, Option, Some, None, refl, sym, ap, ◌∙◌, subst, arith}
 use Rattle.std.specs.Prelude.{option_map, slice_get, slice_set, slice_index_or}
 use Rattle.std.proofs.lemmas.List.{map-set}
 use Rattle.pool_alloc.specs.declared.frame.Grant.{Grant}
-use Rattle.pool_run.specs.Private.{World, PrivateInstance, Grants, grant_at, PrivateStep, PrivateRun}
+use Rattle.pool_run.specs.Private.{World, Grants, grant_at, PrivateStep, PrivateRun}
 use Rattle.pool_run.specs.Turns.{private_grant, grants_of}
 use Rattle.pool_run.specs.declared.command.Command.{Command}
 use Rattle.pool_run.specs.declared.reply.Reply.{Reply}

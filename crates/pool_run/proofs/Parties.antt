@@ -1,14 +1,11 @@
 -- A party whose turn it is: its call can make its next step, and so it can once another call began.
-use Rattle.std.proofs.Common.{◌≡◌, ◌≢◌, ℕ, zero, suc, ◌+◌, ◌<◌, ◌≤◌, Bool, true, false, List, [], ◌∷◌, length, get_or, set, Option, Some, None, refl, sym, ap, ◌∙◌, subst, inl, inr, arith, All}
+use Rattle.std.proofs.Common.{◌≡◌, ℕ, zero, suc, ◌+◌, ◌<◌, ◌≤◌, Bool, true, false, List, [], ◌∷◌, length, Option, Some, None, refl, ap, subst, arith, All}
 use Rattle.std.specs.Prelude.{◌==◌, if◌then◌else◌, IfSome, sum_by, slice_set, slice_index_or}
-use Rattle.std.proofs.lemmas.Bool.{cases_eq}
-use Rattle.std.proofs.lemmas.List.{length-set, get_or-set_same, get_or-set_other, get_or_past}
 use Rattle.std.proofs.lemmas.List.Elements.{All-set, All-get_or}
 use Rattle.std.proofs.lemmas.List.Sums.{sum_by-set}
 use Rattle.pool_pages.specs.MakerTold.{MakerTold}
-use Rattle.pool_alloc.specs.Leases.{Lease}
-use Rattle.pool_alloc.specs.Places.{Thing, slot_of, region_of, kept_count, frame_count, made_count, phase_instances, frame_memories}
-use Rattle.pool_alloc.specs.Sound.{IsCore, IsFrame, Fits, AreImagesOf}
+use Rattle.pool_alloc.specs.Places.{Thing, slot_of, region_of}
+use Rattle.pool_alloc.specs.Sound.{IsFrame, AreImagesOf}
 use Rattle.pool_alloc.specs.Calls.{IsIdle, IsGrant, MayBegin, begun_call, call_has}
 use Rattle.pool_alloc.specs.Stepping.{CanStep, grant_count, grant_instances, grant_memories}
 use Rattle.pool_alloc.specs.declared.pool_core.PoolCore.{PoolCore}
@@ -26,7 +23,7 @@ use Rattle.pool_alloc.specs.declared.frame.Grant.TheVariants.{Instance as instan
 use Rattle.pool_alloc.proofs.BegunCalls.{begun_frame, begun_count, begun_instances, begun_memories}
 use Rattle.pool_alloc.proofs.Held.{made_once}
 use Rattle.pool_alloc.proofs.QueueCounts.{sum_by_agree, leased_regions}
-use Rattle.pool_run.specs.Ties.{asks, stage_of, granted_to, held_by_party, IsSoundParty, IsParty, FitsParty, CanTurn}
+use Rattle.pool_run.specs.Ties.{asks, stage_of, granted_to, held_by_party, FitsParty, CanTurn}
 use Rattle.pool_run.specs.declared.running_party.RunningParty.{RunningParty}
 
 no_asks : (P : Type 0) (b : Bool) (e : Ending) → stage_of {P = P} (if b then UncountInstance else UncountMemory) e ≡ asks → ⊥

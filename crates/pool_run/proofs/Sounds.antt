@@ -1,5 +1,5 @@
 -- What a turn leaves is sound where what its calls leave is.
-use Rattle.std.proofs.Common.{◌≡◌, ℕ, ◌+◌, ◌<◌, List, length, Option, Some, None, Bool, refl, sym, ap, ◌∙◌, subst, All}
+use Rattle.std.proofs.Common.{◌≡◌, ℕ, ◌+◌, List, Option, Some, None, refl, sym, ◌∙◌, subst, All}
 use Rattle.std.specs.Prelude.{IfSome, is_some, option_map, slice_get, slice_set, slice_index_or}
 use Rattle.std.proofs.lemmas.List.Elements.{All-set, All-get_or}
 use Rattle.std.proofs.lemmas.Option.{slice_get_within, get_or_from_slice_get}
@@ -14,16 +14,15 @@ use Rattle.pool_alloc.specs.Stepping.{IsSameSize}
 use Rattle.pool_alloc.specs.declared.pool_core.PoolCore.{PoolCore}
 use Rattle.pool_alloc.specs.declared.pool_core.Settings.{Settings}
 use Rattle.pool_alloc.specs.declared.frame.Frame.{Frame}
-use Rattle.pool_alloc.specs.declared.frame.Grant.{Grant}
 use Rattle.pool_alloc.specs.declared.frame.Grant.TheVariants.{Instance as instance}
 use Rattle.pool_alloc.specs.declared.frame.Outcome.{Outcome}
 use Rattle.pool_alloc.specs.declared.frame.Outcome.TheVariants as answer
 use Rattle.pool_alloc.specs.declared.lease.InstanceLease.{InstanceLease}
-use Rattle.pool_run.specs.Turns.{Turned, lease_written, grant_written, replies, answered, after_step}
+use Rattle.pool_run.specs.Turns.{lease_written, grant_written, replies, answered, after_step}
 use Rattle.pool_run.specs.Ties.{IsSoundParty, IsSoundTurn}
 use Rattle.pool_run.specs.declared.reply.Reply.{Reply}
 use Rattle.pool_run.specs.declared.running_party.RunningParty.{RunningParty}
-use Rattle.pool_run.proofs.Parties.{grant_inside, live_grant}
+use Rattle.pool_run.proofs.Parties.{live_grant}
 
 tells_still : (i : ℕ) (new : List ℕ) (o : Option Contents) → is_some (option_map (written i new) o) ≡ is_some o
 tells_still i new None = refl

@@ -1,11 +1,10 @@
 -- A run as it starts: nobody has anything, and nobody was told anything.
-use Rattle.std.proofs.Common.{◌≡◌, ℕ, zero, suc, ◌+◌, ◌<◌, ◌≤◌, Bool, true, false, List, [], ◌∷◌, length, get_or, map, replicate, Option, Some, None, refl, sym, ap, ◌∙◌, subst, arith, All}
+use Rattle.std.proofs.Common.{◌≡◌, ℕ, zero, suc, ◌<◌, Bool, false, List, [], ◌∷◌, length, get_or, replicate, Option, None, refl, sym, ap, ◌∙◌, subst, arith, All}
 use Rattle.std.specs.Prelude.{IfSome, sum_by, slice_index_or}
-use Rattle.std.proofs.lemmas.List.{length-replicate, get_or-replicate}
-use Rattle.std.proofs.lemmas.List.Elements.{All-replicate, All-from_get_or, recursion_from_All}
+use Rattle.std.proofs.lemmas.List.{length-replicate}
+use Rattle.std.proofs.lemmas.List.Elements.{All-replicate, recursion_from_All}
 use Rattle.std.proofs.lemmas.List.Sums.{sum_by-cons}
 use Rattle.pool_pages.specs.MakerTold.{MakerTold}
-use Rattle.pool_alloc.specs.Places.{Thing}
 use Rattle.pool_alloc.specs.Calls.{frame_made, IsGrant}
 use Rattle.pool_alloc.specs.Sound.{IsCore}
 use Rattle.pool_alloc.specs.Stepping.{grant_count, grant_instances, grant_memories}
@@ -17,11 +16,11 @@ use Rattle.pool_alloc.specs.declared.frame.Grant.{Grant}
 use Rattle.pool_alloc.specs.declared.frame.ModuleCall.{ModuleCall}
 use Rattle.pool_alloc.proofs.BegunCalls.{made_frame, made_count, made_instances, made_memories}
 use Rattle.pool_alloc.proofs.Untouched.{untouched_is_whole}
-use Rattle.pool_run.specs.Private.{World, PrivateInstance, Grants, no_grants}
-use Rattle.pool_run.specs.Turns.{private_grant, grants_of}
+use Rattle.pool_run.specs.Private.{World, Grants, no_grants}
+use Rattle.pool_run.specs.Turns.{grants_of}
 use Rattle.pool_run.specs.Ties.{granted_to, held_by_party, IsParty, IsPrivate, IsRunning}
 use Rattle.pool_run.specs.Worlds.{IsWorldOf, AreCallsFor}
-use Rattle.pool_run.specs.Folds.{RunState, commands_of, replies_to, IsMadeParty, IsRunTo, IsUnderWay}
+use Rattle.pool_run.specs.Folds.{commands_of, IsMadeParty, IsRunTo, IsUnderWay}
 use Rattle.pool_run.specs.declared.command.Command.{Command}
 use Rattle.pool_run.specs.declared.reply.Reply.{Reply}
 use Rattle.pool_run.specs.declared.running_party.RunningParty.{RunningParty}

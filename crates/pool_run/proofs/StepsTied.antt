@@ -1,17 +1,15 @@
 -- After each step of a call what the party has fits what it was told.
-use Rattle.std.proofs.Common.{◌≡◌, ℕ, ◌+◌, ◌-◌, ◌<◌, ◌≤◌, Bool, true, false, List, [], ◌∷◌, ◌++◌, length, Option, Some, None, Result, Ok, Err, refl, sym, ap, ◌∙◌, subst, arith}
-use Rattle.std.specs.Prelude.{◌==◌, ◌||◌, nat_lt, nat_le, if◌then◌else◌, slice_get, slice_index_or, sum_by, IfSome, IsOk}
-use Rattle.pool_pages.specs.MakerTold.{MakerTold}
-use Rattle.pool_pages.specs.MemoryTypes.{minimum_byte_size}
+use Rattle.std.proofs.Common.{◌≡◌, ℕ, ◌+◌, ◌-◌, ◌<◌, ◌≤◌, Bool, true, List, [], ◌∷◌, ◌++◌, length, Option, Some, None, Result, Ok, Err, refl, sym, ap, ◌∙◌, subst, arith}
+use Rattle.std.specs.Prelude.{◌==◌, ◌||◌, nat_lt, nat_le, slice_get, slice_index_or, sum_by, IfSome, IsOk}
 use Rattle.pool_pages.specs.declared.module_types.MemoryDecl.{MemoryDecl}
 use Rattle.pool_pages.specs.declared.unsupported.Unsupported.{Unsupported}
 use Rattle.pool_images.specs.Images.{Image}
 use Rattle.pool_images.specs.Slots.{Slot, IsLeft}
 use Rattle.pool_limits.specs.Limiter.{Asked, yes}
-use Rattle.pool_index.specs.Shard.{ShardState, slot_number, after_pick, pick_answer, after_free}
+use Rattle.pool_index.specs.Shard.{ShardState, after_pick, pick_answer, after_free}
 use Rattle.pool_index.specs.declared.ids.SlotId.{SlotId}
 use Rattle.pool_memory.specs.Memories.{MemoryState}
-use Rattle.pool_slots.specs.Cells.{Cell, unmapped, unknown, previously_used, taken, IsSlotOf}
+use Rattle.pool_slots.specs.Cells.{Cell, unmapped, unknown, previously_used, taken}
 use Rattle.pool_slots.specs.Queues.{QueueState, QueuedMemory, after_take, taken_into, joined, emptied}
 use Rattle.pool_slots.specs.declared.request.AllocError.{AllocError}
 use Rattle.pool_slots.specs.declared.request.AllocError.TheVariants as refusal
@@ -19,14 +17,13 @@ use Rattle.pool_slots.specs.declared.request.ConcurrencyKind.TheVariants.{Memory
 use Rattle.pool_alloc.specs.Answers.{Empties, InstantiatesFor, MayBeTold}
 use Rattle.pool_alloc.specs.Reserved.{with_item}
 use Rattle.pool_alloc.specs.Leases.{Lease}
-use Rattle.pool_alloc.specs.Own.{image_made, memories_refused, memory_made, reset_into}
-use Rattle.pool_alloc.specs.Places.{Thing, slot_of, both_count, leased_count, frame_count, made_count}
+use Rattle.pool_alloc.specs.Own.{memories_refused, memory_made, reset_into}
+use Rattle.pool_alloc.specs.Places.{Thing, slot_of, frame_count, made_count}
 use Rattle.pool_alloc.specs.Sound.{IsAllocating, IfAllocated, IsSupported, HasSlot, HasBegun, IsNew}
-use Rattle.pool_alloc.specs.Steps.{Given, memories_asked, images_asked, image_wanted, wanted, shard_at, cell_at, queue_at, shard_of, local_of, freed_of, freed_elsewhere, first_shard, after_frees, cell_returned, with_shard, with_cell, with_queue, counting_instances, counting_memories, goes, ends, give_back_next, refuses, allocate_next, flushes, after_flush, no_slot, shard_tried, queue_tried, validated, picked, took, holds_region, made, returns, was_reset, merged, puts, were_freed, row_of, row}
+use Rattle.pool_alloc.specs.Steps.{Given, memories_asked, images_asked, image_wanted, wanted, shard_at, cell_at, queue_at, shard_of, local_of, freed_elsewhere, first_shard, cell_returned, with_shard, with_cell, with_queue, counting_instances, counting_memories, goes, ends, give_back_next, refuses, allocate_next, flushes, after_flush, no_slot, shard_tried, queue_tried, validated, picked, holds_region, made, returns, merged, puts, were_freed, row_of}
 use Rattle.pool_alloc.specs.Stepping.{CanStep, grant_count}
 use Rattle.pool_alloc.specs.declared.pool_core.PoolCore.{PoolCore}
 use Rattle.pool_alloc.specs.declared.pool_core.Settings.{Settings}
-use Rattle.pool_alloc.specs.declared.frame.AfterFlush.{AfterFlush}
 use Rattle.pool_alloc.specs.declared.frame.AfterFlush.TheVariants.{PickAgain, GiveBackNext}
 use Rattle.pool_alloc.specs.declared.frame.Frame.{Frame}
 use Rattle.pool_alloc.specs.declared.frame.Grant.{Grant}
@@ -36,9 +33,9 @@ use Rattle.pool_alloc.specs.declared.frame.Phase.TheVariants.{Idle, Key, Validat
 use Rattle.pool_alloc.proofs.Balances.{in_phase}
 use Rattle.pool_alloc.proofs.QueueCounts.{leased_last}
 use Rattle.pool_alloc.proofs.Telling.{told_both, told_weaker, told_there}
-use Rattle.pool_run.specs.Private.{World, Grants, memories_of, image_at, SomeMayFault, IsLimit}
+use Rattle.pool_run.specs.Private.{World, Grants, memories_of, image_at, IsLimit}
 use Rattle.pool_run.specs.Turns.{grants_of}
-use Rattle.pool_run.specs.Ties.{granted_to, stage_of, IsAskedFor, AreNew, IsAsking, EndsAs, TiedAs}
+use Rattle.pool_run.specs.Ties.{granted_to, stage_of, AreNew, IsAsking, EndsAs, TiedAs}
 use Rattle.pool_run.specs.Worlds.{IsMadeReady, IsWorldOf}
 use Rattle.pool_run.specs.declared.command.Command.{Command}
 use Rattle.pool_run.specs.declared.command.Command.TheVariants as command
@@ -85,9 +82,9 @@ module _ {P : Type 0} where
       let Made : List MemoryDecl → Type 0 = λ ds. IsOk (memory_made c.settings ds k yes held) in
       subst Made same
       (told_there (Made (memories_of w n)) (memories_asked f.asked) k allocating.more
-        (told_of_three (IsNext w c.settings n f) (HasBegun (image_wanted f) held) (IsMadeReady w c.settings n k) (λ decl. Made (memories_of w n)) (slice_get (memories_asked f.asked) k)
-          (λ decl next is ready. let B : Option Image → Type 0 = λ i. HasBegun i held decl in ready slot held has.region (subst B next.image is))
-          (is_next w commands done c.settings f asking allocating) begun (subst Makes same (world.makes n k))))
+      (told_of_three (IsNext w c.settings n f) (HasBegun (image_wanted f) held) (IsMadeReady w c.settings n k) (λ decl. Made (memories_of w n)) (slice_get (memories_asked f.asked) k)
+      (λ decl next is ready. let B : Option Image → Type 0 = λ i. HasBegun i held decl in ready slot held has.region (subst B next.image is))
+      (is_next w commands done c.settings f asking allocating) begun (subst Makes same (world.makes n k))))
 
   -- It is new to the party once it is granted.
   new_lease : (w : World) (commands : List Command) (done slot : ℕ) (memory : MemoryState) (c : PoolCore P) (f : Frame P) (asking : IsAsking w commands done f.asked f.granted.items) → IsAllocating c.settings f → HasSlot w.maker c.settings (length c.cells) slot memory.slot → IfAllocated f (IsNew (image_wanted f) memory) → AreNew w asking.number (f.granted.items ++ record { index = slot; memory = memory } ∷ [])
@@ -98,19 +95,19 @@ module _ {P : Type 0} where
       let Then : Type 0 = AreNew w n (f.granted.items ++ lease ∷ []) in
       told_there Then (memories_asked f.asked) k allocating.more
       (told_both (IsNext w c.settings n f) (IsNew (image_wanted f) memory) (λ decl. Then) (slice_get (memories_asked f.asked) k)
-        (λ decl next is.
-          let N : Option Image → Type 0 = λ i. IsNew i memory decl in
-          let S : Option Image → Type 0 = λ i. IsSupported c.settings decl i in
-          begun_more w n f.granted.items lease decl asking.new (omega (arith, allocating.more, ap (length {A = MemoryDecl}) asking.asked_for.memories)) next.there
-          (begun_seen w c.settings n k slot decl memory has.region (subst N next.image is) (subst S next.image next.supported)))
-        (is_next w commands done c.settings f asking allocating) new)
+      (λ decl next is.
+      let N : Option Image → Type 0 = λ i. IsNew i memory decl in
+      let S : Option Image → Type 0 = λ i. IsSupported c.settings decl i in
+      begun_more w n f.granted.items lease decl asking.new (omega (arith, allocating.more, ap (length {A = MemoryDecl}) asking.asked_for.memories)) next.there
+      (begun_seen w c.settings n k slot decl memory has.region (subst N next.image is) (subst S next.image next.supported)))
+      (is_next w commands done c.settings f asking allocating) new)
 
   -- A call on the region of the slot failed where an instantiation did.
   left_by : (s : Settings) (g : Given) (held : Slot) (f : Frame P) → IsAllocating s f → g.fault ≡ true → IfAllocated f (λ decl. InstantiatesFor s decl g.fault (image_wanted f) held g.slot) → IsLeft held g.slot
   left_by s g held f allocating e told =
       told_there (IsLeft held g.slot) (memories_asked f.asked) (length f.granted.items) allocating.more
       (told_weaker (λ decl. InstantiatesFor s decl g.fault (image_wanted f) held g.slot) (λ decl. IsLeft held g.slot) (slice_get (memories_asked f.asked) (length f.granted.items))
-        (λ decl tells. let I : Bool → Type 0 = λ b. InstantiatesFor s decl b (image_wanted f) held g.slot in subst I e tells) told)
+      (λ decl tells. let I : Bool → Type 0 = λ b. InstantiatesFor s decl b (image_wanted f) held g.slot in subst I e tells) told)
 
 module _ {P : Type 0} (w : World) (commands : List Command) (live : List (Option (Grant P))) (done : ℕ) (told : Grants) where
   -- what the pool and the party's call have

@@ -1,5 +1,5 @@
 -- What a party has once a step was made fits what it was told: how the ends that rows share keep that.
-use Rattle.std.proofs.Common.{◌≡◌, ℕ, ◌+◌, ◌<◌, ◌≤◌, Bool, true, false, List, [], ◌∷◌, length, map, Option, Some, None, refl, sym, ap, ◌∙◌, subst, arith, All}
+use Rattle.std.proofs.Common.{◌≡◌, ℕ, ◌<◌, ◌≤◌, Bool, true, false, List, length, Option, Some, None, refl, sym, ap, ◌∙◌, subst, arith, All}
 use Rattle.std.specs.Prelude.{◌==◌, nat_lt, if◌then◌else◌, slice_get, slice_set, IsSome}
 use Rattle.std.proofs.lemmas.Bool.{ltb-false}
 use Rattle.std.proofs.lemmas.List.{length-map}
@@ -9,7 +9,7 @@ use Rattle.pool_slots.specs.declared.request.AllocError.TheVariants as refusal
 use Rattle.pool_slots.specs.declared.request.ConcurrencyKind.TheVariants.{MemoryStripe}
 use Rattle.pool_alloc.specs.Reserved.{no_room}
 use Rattle.pool_alloc.specs.Leases.{Lease}
-use Rattle.pool_alloc.specs.Steps.{After, memories_asked, goes, ends, give_back_next, refuses, allocate_next, flushes, after_flush, no_slot, answer_of}
+use Rattle.pool_alloc.specs.Steps.{After, memories_asked, goes, ends, give_back_next, refuses, allocate_next, flushes, no_slot, answer_of}
 use Rattle.pool_alloc.specs.declared.pool_core.PoolCore.{PoolCore}
 use Rattle.pool_alloc.specs.declared.frame.AfterFlush.TheVariants.{PickAgain, GiveBackNext}
 use Rattle.pool_alloc.specs.declared.frame.Ending.{Ending}
@@ -20,10 +20,10 @@ use Rattle.pool_alloc.specs.declared.frame.Grant.TheVariants.{Instance as instan
 use Rattle.pool_alloc.specs.declared.frame.Outcome.{Outcome}
 use Rattle.pool_alloc.specs.declared.frame.Outcome.TheVariants as answer
 use Rattle.pool_alloc.specs.declared.frame.Phase.{Phase}
-use Rattle.pool_alloc.specs.declared.frame.Phase.TheVariants.{Idle, Pick, TakeQueue, UncountMemory, UncountInstance, Decommit, PutRegion, Free}
+use Rattle.pool_alloc.specs.declared.frame.Phase.TheVariants.{Pick, TakeQueue, UncountMemory, UncountInstance, Decommit, PutRegion}
 use Rattle.pool_run.specs.Private.{World, PrivateMemory, PrivateInstance, Grants, memories_of, begun_memories, IsCause, IsLimit, PrivateStep, Drops, grant_at}
-use Rattle.pool_run.specs.Turns.{private_memory, private_grant, grants_of, granted_reply}
-use Rattle.pool_run.specs.Ties.{Stage, no_call, stage_of, IsAsking, EndsAs, TiedAs}
+use Rattle.pool_run.specs.Turns.{private_grant, grants_of, granted_reply}
+use Rattle.pool_run.specs.Ties.{no_call, stage_of, IsAsking, EndsAs, TiedAs}
 use Rattle.pool_run.specs.declared.command.Command.{Command}
 use Rattle.pool_run.specs.declared.command.Command.TheVariants as command
 use Rattle.pool_run.specs.declared.reply.Reply.{Reply}

@@ -1,22 +1,14 @@
 -- What a turn leaves of a party and of the pool: what one loses comes to the other, and what is to come is still to come.
-use Rattle.std.proofs.Common.{◌≡◌, ◌≢◌, ℕ, ◌+◌, ◌<◌, ◌≤◌, Bool, true, false, List, [], ◌∷◌, ◌++◌, length, map, get_or, Option, Some, None, refl, sym, ap, ◌∙◌, subst, inl, inr, arith, All, ◌⊎◌}
-use Rattle.std.specs.Prelude.{◌==◌, nat_le, if◌then◌else◌, IfSome, IsSome, option_map, slice_get, slice_set, slice_index_or, sum_by}
-use Rattle.std.proofs.lemmas.Bool.{leb-true, leb-false}
-use Rattle.std.proofs.lemmas.List.{length_push, map-set}
-use Rattle.std.proofs.lemmas.List.Elements.{All-get_or}
-use Rattle.std.proofs.lemmas.Option.{slice_get-map, slice_get_within, get_or_from_slice_get}
-use Rattle.pool_pages.specs.Count.{Count}
+use Rattle.std.proofs.Common.{◌≡◌, ◌≢◌, ℕ, ◌+◌, ◌<◌, ◌≤◌, Bool, true, false, List, length, get_or, Option, Some, None, refl, sym, ap, ◌∙◌, subst, inl, inr, arith}
+use Rattle.std.specs.Prelude.{nat_le, if◌then◌else◌, IfSome, slice_get, slice_set, slice_index_or, sum_by}
+use Rattle.std.proofs.lemmas.Option.{slice_get_within, get_or_from_slice_get}
 use Rattle.pool_pages.specs.MakerTold.{MakerTold}
 use Rattle.pool_slots.specs.declared.request.AllocError.TheVariants as alloc
 use Rattle.pool_alloc.specs.Leases.{Lease}
-use Rattle.pool_alloc.specs.Calls.{IsIdle, IsGrant, begun_call}
-use Rattle.pool_alloc.specs.Sound.{IsLeaseOf}
-use Rattle.pool_alloc.specs.Steps.{Given, After, row}
+use Rattle.pool_alloc.specs.Calls.{IsIdle, begun_call}
+use Rattle.pool_alloc.specs.Steps.{After}
 use Rattle.pool_alloc.specs.declared.pool_core.PoolCore.{PoolCore}
-use Rattle.pool_alloc.specs.declared.pool_core.Settings.{Settings}
 use Rattle.pool_alloc.specs.declared.frame.Call.TheVariants as call
-use Rattle.pool_alloc.specs.declared.frame.Ending.{Ending}
-use Rattle.pool_alloc.specs.declared.frame.Ending.TheVariants.{Returned as returned}
 use Rattle.pool_alloc.specs.declared.frame.Frame.{Frame}
 use Rattle.pool_alloc.specs.declared.frame.ModuleCall.{ModuleCall}
 use Rattle.pool_alloc.specs.declared.frame.Grant.{Grant}
@@ -24,12 +16,10 @@ use Rattle.pool_alloc.specs.declared.frame.Grant.TheVariants.{Instance as instan
 use Rattle.pool_alloc.specs.declared.frame.Outcome.{Outcome}
 use Rattle.pool_alloc.specs.declared.frame.Outcome.TheVariants as answer
 use Rattle.pool_alloc.specs.declared.frame.Phase.{Phase}
-use Rattle.pool_alloc.specs.declared.frame.Phase.TheVariants.{Idle, Key, Validate, CountInstance, Pick, TakeQueue, TakeRegion, Empty, Instantiate, MakeMemory, CountMemory, PutRefused, FreeRefused, UncountMemory, Reset, Merge, Decommit, PutRegion, Free, UncountInstance}
-use Rattle.pool_alloc.proofs.BegunCalls.{at_rest}
-use Rattle.pool_run.specs.Private.{World, PrivateMemory, PrivateInstance, Grants, grant_at, PrivateStep, ReadsMemory, ReadsFrom, WritesMemory, WritesTo, Drops, memory_written, with_memory}
-use Rattle.pool_run.specs.Turns.{Turned, with_reply, private_memory, lease_written, private_grant, grants_of, leases_of, replies, granted_reply, answered, after_step, StepsFreely, Steps, Returns, ReadsLease, Reads, grant_written, writes, WritesLease, Writes, Asks, Begins, BeginsNext, BeginsKeyed, is_idle, TurnsAt, Turns}
-use Rattle.pool_run.specs.Ties.{Stage, no_call, ends_as, stage_of, IsAsking, EndsAs, TiedAs, IsPrivate, CanTurn}
-use Rattle.pool_run.specs.Worlds.{IsWorldOf, IsCallFor, AreCallsFor}
+use Rattle.pool_run.specs.Private.{World}
+use Rattle.pool_run.specs.Turns.{Turned, lease_written, leases_of, replies, answered, Steps, Returns, ReadsLease, Reads, grant_written, WritesLease, Writes, Asks, Begins, BeginsKeyed, is_idle, TurnsAt, Turns}
+use Rattle.pool_run.specs.Ties.{Stage, no_call, ends_as, stage_of, CanTurn}
+use Rattle.pool_run.specs.Worlds.{IsCallFor, AreCallsFor}
 use Rattle.pool_run.specs.declared.command.Command.{Command}
 use Rattle.pool_run.specs.declared.command.Command.TheVariants as command
 use Rattle.pool_run.specs.declared.reply.Reply.{Reply}
@@ -37,26 +27,20 @@ use Rattle.pool_run.specs.declared.reply.Reply.TheVariants.{Done, Refused, Trap}
 use Rattle.pool_run.specs.declared.reply.Trap.TheVariants.{MemoryOutOfBounds}
 use Rattle.pool_run.specs.declared.reply.Refusal.TheVariants.{NoSuchGrant, Alloc}
 use Rattle.pool_run.specs.declared.running_party.RunningParty.{RunningParty}
-use Rattle.pool_run.proofs.Bytes.{written_seen}
-use Rattle.pool_run.proofs.Grants.{grants_set, told_at, one_more}
-use Rattle.pool_run.proofs.NewMemories.{begun_none}
 use Rattle.pool_run.proofs.Parties.{can_step, live_grant, called_key, called_module, called_back}
 use Rattle.pool_run.proofs.Shares.{share_for}
-use Rattle.pool_run.proofs.StepsTied.{tied_at}
-use Rattle.pool_run.proofs.Tied.{Replies, TiedBy, IsTied}
-use Rattle.std.proofs.lemmas.Bool.{cases_eq}
 use Rattle.std.proofs.lemmas.List.{length-set, get_or-set_other}
 use Rattle.std.proofs.lemmas.List.Sums.{sum_by-set}
-use Rattle.pool_alloc.specs.Places.{Thing, both_count, leased_count, kept_count, frame_count, phase_instances, frame_memories}
-use Rattle.pool_alloc.specs.Sound.{IsFrame, AreImagesOf}
+use Rattle.pool_alloc.specs.Places.{Thing, both_count, leased_count, kept_count}
+use Rattle.pool_alloc.specs.Sound.{AreImagesOf}
 use Rattle.pool_alloc.specs.Steps.{memories_asked, images_asked}
 use Rattle.pool_alloc.specs.Stepping.{Conserves, IsSameSize, grant_count, grant_instances, grant_memories}
 use Rattle.pool_alloc.specs.declared.lease.InstanceLease.{InstanceLease}
 use Rattle.pool_alloc.proofs.Fitting.{step_conserves, step_keeps_size}
-use Rattle.pool_run.specs.Ties.{asks, granted_to, held_by_party, IsParty, IsSoundParty}
+use Rattle.pool_run.specs.Ties.{asks, granted_to, held_by_party}
 use Rattle.pool_run.proofs.Beginning.{idle_is}
-use Rattle.pool_run.proofs.Parties.{HaveSame, Brings, grant_inside, still_none, has_call, brings_key, brings_module, brings_grant}
-use Rattle.pool_run.proofs.Placed.{PlacedAs, placed_as, has_place, PlacedBy, IsPlaced, placed_at}
+use Rattle.pool_run.proofs.Parties.{HaveSame, grant_inside, has_call, brings_key, brings_module, brings_grant}
+use Rattle.pool_run.proofs.Placed.{placed_as, has_place, PlacedBy, IsPlaced, placed_at}
 
 -- a stage is one
 no_call_no_place : {X : Type 0} (s : Stage) → s ≡ no_call → s ≡ asks → X

@@ -1,48 +1,25 @@
 -- A turn of a party, as the party sees it: what it was told stays a private run, with the reply if there is one.
-use Rattle.std.proofs.Common.{◌≡◌, ℕ, ◌+◌, ◌<◌, ◌≤◌, Bool, true, false, List, [], ◌∷◌, ◌++◌, length, map, get_or, Option, Some, None, refl, sym, ap, ◌∙◌, subst, inl, inr, arith, All, ◌⊎◌}
-use Rattle.std.specs.Prelude.{◌==◌, nat_le, if◌then◌else◌, IfSome, IsSome, option_map, slice_get, slice_set, slice_index_or, sum_by}
-use Rattle.std.proofs.lemmas.Bool.{leb-true, leb-false}
-use Rattle.std.proofs.lemmas.List.{length_push, map-set}
-use Rattle.std.proofs.lemmas.List.Elements.{All-get_or}
-use Rattle.std.proofs.lemmas.Option.{slice_get-map, slice_get_within, get_or_from_slice_get}
-use Rattle.pool_pages.specs.Count.{Count}
-use Rattle.pool_pages.specs.MakerTold.{MakerTold}
-use Rattle.pool_slots.specs.declared.request.AllocError.TheVariants as alloc
-use Rattle.pool_alloc.specs.Leases.{Lease}
-use Rattle.pool_alloc.specs.Calls.{IsIdle, IsGrant, begun_call}
-use Rattle.pool_alloc.specs.Sound.{IsLeaseOf}
-use Rattle.pool_alloc.specs.Steps.{Given, After, row}
+use Rattle.std.proofs.Common.{◌≡◌, ℕ, ◌+◌, List, [], ◌∷◌, ◌++◌, length, Option, Some, None, refl, sym, subst, arith}
+use Rattle.std.specs.Prelude.{slice_get, slice_set}
+use Rattle.std.proofs.lemmas.List.{length_push}
+use Rattle.pool_alloc.specs.Steps.{After}
 use Rattle.pool_alloc.specs.declared.pool_core.PoolCore.{PoolCore}
-use Rattle.pool_alloc.specs.declared.pool_core.Settings.{Settings}
-use Rattle.pool_alloc.specs.declared.frame.Call.TheVariants as call
-use Rattle.pool_alloc.specs.declared.frame.Ending.{Ending}
-use Rattle.pool_alloc.specs.declared.frame.Ending.TheVariants.{Returned as returned}
 use Rattle.pool_alloc.specs.declared.frame.Frame.{Frame}
-use Rattle.pool_alloc.specs.declared.frame.ModuleCall.{ModuleCall}
-use Rattle.pool_alloc.specs.declared.frame.Grant.{Grant}
-use Rattle.pool_alloc.specs.declared.frame.Grant.TheVariants.{Instance as instance}
 use Rattle.pool_alloc.specs.declared.frame.Outcome.{Outcome}
 use Rattle.pool_alloc.specs.declared.frame.Outcome.TheVariants as answer
-use Rattle.pool_alloc.specs.declared.frame.Phase.{Phase}
-use Rattle.pool_alloc.specs.declared.frame.Phase.TheVariants.{Idle, Key, Validate, CountInstance, Pick, TakeQueue, TakeRegion, Empty, Instantiate, MakeMemory, CountMemory, PutRefused, FreeRefused, UncountMemory, Reset, Merge, Decommit, PutRegion, Free, UncountInstance}
-use Rattle.pool_alloc.proofs.BegunCalls.{at_rest}
-use Rattle.pool_run.specs.Private.{World, PrivateMemory, PrivateInstance, Grants, grant_at, PrivateStep, ReadsMemory, ReadsFrom, WritesMemory, WritesTo, Drops, memory_written, with_memory}
-use Rattle.pool_run.specs.Turns.{Turned, with_reply, private_memory, lease_written, private_grant, grants_of, leases_of, replies, granted_reply, answered, after_step, StepsFreely, Steps, Returns, ReadsLease, Reads, grant_written, writes, WritesLease, Writes, Asks, Begins, BeginsNext, BeginsKeyed, is_idle, TurnsAt, Turns}
-use Rattle.pool_run.specs.Ties.{Stage, no_call, ends_as, stage_of, IsAsking, EndsAs, TiedAs, IsPrivate, CanTurn}
-use Rattle.pool_run.specs.Worlds.{IsWorldOf, IsCallFor, AreCallsFor}
+use Rattle.pool_run.specs.Private.{World, Grants, PrivateStep}
+use Rattle.pool_run.specs.Turns.{Turned, with_reply, grants_of, granted_reply, answered, StepsFreely, Steps}
+use Rattle.pool_run.specs.Ties.{Stage, no_call, stage_of, TiedAs, IsPrivate, CanTurn}
+use Rattle.pool_run.specs.Worlds.{IsWorldOf}
 use Rattle.pool_run.specs.declared.command.Command.{Command}
-use Rattle.pool_run.specs.declared.command.Command.TheVariants as command
 use Rattle.pool_run.specs.declared.reply.Reply.{Reply}
-use Rattle.pool_run.specs.declared.reply.Reply.TheVariants.{Done, Refused, Trap}
-use Rattle.pool_run.specs.declared.reply.Trap.TheVariants.{MemoryOutOfBounds}
-use Rattle.pool_run.specs.declared.reply.Refusal.TheVariants.{NoSuchGrant, Alloc}
+use Rattle.pool_run.specs.declared.reply.Reply.TheVariants.{Refused}
+use Rattle.pool_run.specs.declared.reply.Refusal.TheVariants.{Alloc}
 use Rattle.pool_run.specs.declared.running_party.RunningParty.{RunningParty}
-use Rattle.pool_run.proofs.Bytes.{written_seen}
-use Rattle.pool_run.proofs.Grants.{grants_set, told_at, one_more}
-use Rattle.pool_run.proofs.NewMemories.{begun_none}
-use Rattle.pool_run.proofs.Parties.{can_step, live_grant, called_key, called_module, called_back}
+use Rattle.pool_run.proofs.Grants.{one_more}
+use Rattle.pool_run.proofs.Parties.{can_step}
 use Rattle.pool_run.proofs.StepsTied.{tied_at}
-use Rattle.pool_run.proofs.Tied.{Replies, TiedBy, IsTied}
+use Rattle.pool_run.proofs.Tied.{TiedBy, IsTied}
 
 module _ {P : Type 0} where
   -- the replies are still a private run

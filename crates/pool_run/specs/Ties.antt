@@ -1,17 +1,14 @@
 -- What a party was told, and what it has: between two turns they fit each other.
-use Rattle.std.specs.Prelude.{◌≡◌, ℕ, ◌+◌, ◌<◌, ◌≤◌, ◌∷◌, [], List, length, slice_get, slice_index_or, slice_set, map, sum_by, All, Bool, true, false, Option, Some, None, IsSome, IfSome}
-use Rattle.std.specs.Arc.{arc_value}
-use Rattle.pool_pages.specs.declared.module_types.MemoryDecl.{MemoryDecl}
+use Rattle.std.specs.Prelude.{◌≡◌, ℕ, ◌+◌, ◌<◌, ◌≤◌, List, length, slice_get, slice_index_or, slice_set, map, sum_by, All, Option, Some, None, IsSome, IfSome}
 use Rattle.pool_pages.specs.MakerTold.{MakerTold}
 use Rattle.pool_alloc.specs.Leases.{Lease}
 use Rattle.pool_alloc.specs.Steps.{memories_asked, images_asked}
 use Rattle.pool_alloc.specs.Places.{Thing, slot_of, region_of, kept_count, frame_count, made_count, phase_instances, frame_memories}
 use Rattle.pool_alloc.specs.Stepping.{grant_count, grant_instances, grant_memories}
 use Rattle.pool_alloc.specs.Calls.{IsGrant}
-use Rattle.pool_alloc.specs.Sound.{IsCore, IsFrame, IsLeaseOf}
+use Rattle.pool_alloc.specs.Sound.{IsCore, IsFrame}
 use Rattle.pool_alloc.specs.Whole.{Holding, IsWhole}
 use Rattle.pool_alloc.specs.declared.pool_core.PoolCore.{PoolCore}
-use Rattle.pool_alloc.specs.declared.pool_core.Settings.{Settings}
 use Rattle.pool_alloc.specs.declared.frame.Frame.{Frame}
 use Rattle.pool_alloc.specs.declared.frame.ModuleCall.{ModuleCall}
 use Rattle.pool_alloc.specs.declared.frame.Grant.{Grant}
@@ -20,7 +17,7 @@ use Rattle.pool_alloc.specs.declared.frame.Ending.TheVariants as ending
 use Rattle.pool_alloc.specs.declared.frame.AfterFlush.TheVariants.{PickAgain, GiveBackNext}
 use Rattle.pool_alloc.specs.declared.frame.Phase.{Phase}
 use Rattle.pool_alloc.specs.declared.frame.Phase.TheVariants.{Idle, Key, Validate, CountInstance, Pick, TakeQueue, TakeRegion, Empty, Instantiate, MakeMemory, CountMemory, PutRefused, FreeRefused, UncountMemory, Reset, Merge, Decommit, PutRegion, Free, UncountInstance}
-use Rattle.pool_run.specs.Private.{PrivateInstance, Grants, World, grant_at, memories_of, image_at, begun_memories, IsCause, PrivateRun, PrivateStep}
+use Rattle.pool_run.specs.Private.{Grants, World, grant_at, memories_of, image_at, begun_memories, IsCause, PrivateRun}
 use Rattle.pool_run.specs.Turns.{Turned, grants_of, private_memory}
 use Rattle.pool_run.specs.declared.command.Command.{Command}
 use Rattle.pool_run.specs.declared.command.Command.TheVariants as command

@@ -1,6 +1,6 @@
 -- What a run relies on from its input: the pool has the sizes that replies speak of, each module is supported, and each
 -- call for a module is a call for its memories and their images.
-use Rattle.std.specs.Prelude.{◌≡◌, ℕ, List, length, slice_get, Option, Some, None, IfSome, IsOk}
+use Rattle.std.specs.Prelude.{◌≡◌, ℕ, List, length, slice_get, Some, None, IfSome, IsOk}
 use Rattle.pool_pages.specs.declared.module_types.MemoryDecl.{MemoryDecl}
 use Rattle.pool_images.specs.Slots.{Slot}
 use Rattle.pool_limits.specs.Limiter.{yes}
