@@ -19,23 +19,23 @@ use Rattle.pool_run.specs.Ties.{granted_to, held_by_party, IsRunning}
 use Rattle.pool_run.specs.declared.running_party.RunningParty.{RunningParty}
 
 -- the sum of f over the numbers below n
-abbrev below : (ℕ → ℕ) → ℕ → ℕ
+abbrev pub below : (ℕ → ℕ) → ℕ → ℕ
 below f zero = 0
 below f (suc n) = below f n + f n
 
-below_sum : (f g h : ℕ → ℕ) → ((k : ℕ) → h k ≡ f k + g k) → (n : ℕ) → below h n ≡ below f n + below g n
+pub below_sum : (f g h : ℕ → ℕ) → ((k : ℕ) → h k ≡ f k + g k) → (n : ℕ) → below h n ≡ below f n + below g n
 below_sum f g h each zero = refl
 below_sum f g h each (suc n) = omega (arith, each n, below_sum f g h each n)
 
-below_le : (f g : ℕ → ℕ) → ((k : ℕ) → f k ≤ g k) → (n : ℕ) → below f n ≤ below g n
+pub below_le : (f g : ℕ → ℕ) → ((k : ℕ) → f k ≤ g k) → (n : ℕ) → below f n ≤ below g n
 below_le f g each zero = omega arith
 below_le f g each (suc n) = omega (arith, each n, below_le f g each n)
 
-below_most : (f : ℕ → ℕ) → ((k : ℕ) → f k ≤ 1) → (n : ℕ) → below f n ≤ n
+pub below_most : (f : ℕ → ℕ) → ((k : ℕ) → f k ≤ 1) → (n : ℕ) → below f n ≤ n
 below_most f each zero = omega arith
 below_most f each (suc n) = omega (arith, each n, below_most f each n)
 
-below_one : (f : ℕ → ℕ) (i n : ℕ) → i < n → f i ≡ 1 → 1 ≤ below f n
+pub below_one : (f : ℕ → ℕ) (i n : ℕ) → i < n → f i ≡ 1 → 1 ≤ below f n
 below_one f i zero inside one = absurd (omega arith)
 below_one f i (suc n) inside one =
     elim (cases_lt i n) [
@@ -44,7 +44,7 @@ below_one f i (suc n) inside one =
     ]
 
 -- things that are counted at numbers below n alone are no more than all counts together
-sum_below : {X : Type 0} (of : ℕ → X → ℕ) (size : X → ℕ) (n : ℕ) (xs : List X) → ((x : X) → ((k : ℕ) → n ≤ k → of k x ≡ 0) → size x ≤ below (λ k. of k x) n) → ((k : ℕ) → n ≤ k → sum_by (of k) xs ≡ 0) → sum_by size xs ≤ below (λ k. sum_by (of k) xs) n
+pub sum_below : {X : Type 0} (of : ℕ → X → ℕ) (size : X → ℕ) (n : ℕ) (xs : List X) → ((x : X) → ((k : ℕ) → n ≤ k → of k x ≡ 0) → size x ≤ below (λ k. of k x) n) → ((k : ℕ) → n ≤ k → sum_by (of k) xs ≡ 0) → sum_by size xs ≤ below (λ k. sum_by (of k) xs) n
 sum_below of size n [] each none = omega arith
 sum_below of size n (x ∷ xs) each none =
     omega (
@@ -55,7 +55,7 @@ sum_below of size n (x ∷ xs) each none =
       sum_below of size n xs each (λ k past. omega (arith, none k past, sum_by-cons (of k) x xs)),
     )
 
-ones : {X : Type 0} (xs : List X) → sum_by (λ x. 1) xs ≡ length xs
+pub ones : {X : Type 0} (xs : List X) → sum_by (λ x. 1) xs ≡ length xs
 ones [] = refl
 ones (x ∷ xs) = omega (arith, sum_by-cons (λ y. 1) x xs, ones xs)
 
@@ -67,11 +67,11 @@ lease_below n l none =
       | inr past ↦ absurd (omega (arith, one, none l.index past))
     ]
 
-leases_below : (n : ℕ) (leases : List Lease) → ((k : ℕ) → n ≤ k → leased_count (slot_of k) leases ≡ 0) → length leases ≤ below (λ k. leased_count (slot_of k) leases) n
+pub leases_below : (n : ℕ) (leases : List Lease) → ((k : ℕ) → n ≤ k → leased_count (slot_of k) leases ≡ 0) → length leases ≤ below (λ k. leased_count (slot_of k) leases) n
 leases_below n leases none = omega (arith, ones leases, sum_below (λ k (l : Lease). both_count (slot_of k) l.index) (λ l. 1) n leases (lease_below n) none)
 
 module _ {P : Type 0} where
-  grant_below : (n : ℕ) (o : Option (Grant P)) → ((k : ℕ) → n ≤ k → granted_to (grant_count (slot_of k)) o ≡ 0) → granted_to grant_memories o ≤ below (λ k. granted_to (grant_count (slot_of k)) o) n
+  pub grant_below : (n : ℕ) (o : Option (Grant P)) → ((k : ℕ) → n ≤ k → granted_to (grant_count (slot_of k)) o ≡ 0) → granted_to grant_memories o ≤ below (λ k. granted_to (grant_count (slot_of k)) o) n
   grant_below n None none = omega arith
   grant_below n (Some (instance lease)) none = leases_below n lease.memories.items none
 

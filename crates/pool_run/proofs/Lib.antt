@@ -3,13 +3,16 @@ pub mod Bytes
 pub mod Causes
 pub mod Counters
 pub mod Ended
+pub mod Exhausted
 pub mod Folding
 pub mod FreeSlots
+pub mod FullShards
 pub mod Grants
 pub mod NewMemories
 pub mod Parties
 pub mod Placed
 pub mod Running
+pub mod Searching
 pub mod Shares
 pub mod Sounds
 pub mod Started
