@@ -21,6 +21,7 @@ use Rattle.pool_alloc.specs.declared.frame.Grant.TheVariants.{Instance as instan
 use Rattle.pool_alloc.specs.declared.frame.Phase.{Phase}
 use Rattle.pool_alloc.specs.declared.frame.Phase.TheVariants.{Idle, Key, Validate, CountInstance, Pick, TakeQueue, TakeRegion, Empty, Instantiate, MakeMemory, CountMemory, PutRefused, FreeRefused, UncountMemory, Reset, Merge, Decommit, PutRegion, Free, UncountInstance}
 use Rattle.pool_alloc.proofs.BegunCalls.{at_rest}
+use Rattle.pool_run.specs.Searches.{IsAlone}
 use Rattle.pool_run.specs.Private.{World, PrivateMemory, PrivateInstance, Grants, grant_at, PrivateStep, ReadsMemory, ReadsFrom, WritesMemory, WritesTo, Drops, memory_written, with_memory}
 use Rattle.pool_run.specs.Turns.{Turned, with_reply, private_memory, lease_written, private_grant, grants_of, replies, Returns, ReadsLease, Reads, grant_written, WritesLease, Writes, Asks, Begins, BeginsKeyed, is_idle, TurnsAt, Turns}
 use Rattle.pool_run.specs.Ties.{Stage, no_call, ends_as, stage_of, EndsAs, TiedAs, IsPrivate, CanTurn}
@@ -35,7 +36,7 @@ use Rattle.pool_run.specs.declared.running_party.RunningParty.{RunningParty}
 use Rattle.pool_run.proofs.Bytes.{written_seen}
 use Rattle.pool_run.proofs.Grants.{grants_set, told_at}
 use Rattle.pool_run.proofs.NewMemories.{begun_none}
-use Rattle.pool_run.proofs.Parties.{live_grant, called_key, called_module, called_back}
+use Rattle.pool_run.proofs.Parties.{live_grant, called_key, called_module, called_back, called_alone, returned_searched, brings_key, brings_module, brings_grant}
 use Rattle.pool_run.proofs.Shares.{share_for}
 use Rattle.pool_run.proofs.Turning.{SeesTurn, replied, step_private}
 
@@ -77,7 +78,7 @@ module _ {P : Type 0} where
       subst Tied (sym (back_stage P (length lease.memories.items == 0))) ending
 
 -- a party of this world that is idle: what it was told, and that it may turn
-module _ {P : Type 0} (w : World) (start : Grants) (commands : List Command) (before : List Reply) (c : PoolCore P) (p : RunningParty P) (private : IsPrivate w start commands before p) (world : IsWorldOf w c) (can : CanTurn w.maker c p) (idle : IsIdle p.frame) where
+module _ {P : Type 0} (w : World) (start : Grants) (commands : List Command) (before : List Reply) (c : PoolCore P) (p : RunningParty P) (private : IsPrivate w start commands before p) (world : IsWorldOf w c) (can : CanTurn w.maker c p) (alone : w.alone ≡ true → IsAlone c p.frame p.live) (idle : IsIdle p.frame) where
   told_now : grants_of p.live ≡ private.grants
   told_now =
       let Tied : Phase P → Type 0 = λ phase. TiedAs w (stage_of phase p.frame.ending) commands p.done p.live p.frame private.grants in
@@ -166,7 +167,9 @@ module _ {P : Type 0} (w : World) (start : Grants) (commands : List Command) (be
       let there : IsSome (grant_at private.grants of) = is_told private_grant (grant_at private.grants of) grant (told_at p.live private.grants of (Some grant) told_now has) in
       step_private w start commands before c (record p { live = new; frame = begun_call (call.GiveBack grant) p.frame }) t
       (record { grants = private.grants; run = private.run; count = private.count; tied = back_tied w commands p.done new private.grants grant p.frame (of, next, there, emptied) })
-      world (called_back w.maker of grant c p can idle has) steps
+      world (called_back w.maker of grant c p can idle has)
+      (λ e. called_alone w.maker (call.GiveBack grant) new c p can.party.sound.frame (idle, live_grant w.maker c.settings p.live of grant can.party.sound.grants has) (brings_grant p.live of grant has) (returned_searched grant c p.frame) (alone e))
+      steps
 
   -- a request for an instance
   asks_seen : (number : ℕ) (o : Option ModuleCall) (t : Turned P) → IfSome o (IsCallFor w c.settings number) → Asks o c p t → slice_get commands p.done ≡ Some (command.Instantiate number) → p.done < length p.live → SeesTurn w start commands before t
@@ -184,7 +187,7 @@ module _ {P : Type 0} (w : World) (start : Grants) (commands : List Command) (be
               count = private.count;
               tied = (told_now, record { number = number; command = next; asked_for = call_for.asked; new = begun_none w number p.frame.granted.items (at_rest w.maker c p.frame can.party.sound.frame idle).none_granted }, tt);
             })
-            world (called_module w.maker m c p can idle call_for.images room) steps.2
+            world (called_module w.maker m c p can idle call_for.images room) (λ e. called_alone w.maker (call.Module m) p.live c p can.party.sound.frame (idle, call_for.images) (brings_module m p.live) tt (alone e)) steps.2
       ]
 
   begins_seen : (modules : List ModuleCall) (command : Command) (t : Turned P) → AreCallsFor w c.settings modules → Begins modules command c p t → slice_get commands p.done ≡ Some command → p.done < length p.live → SeesTurn w start commands before t
@@ -199,14 +202,14 @@ module _ {P : Type 0} (w : World) (start : Grants) (commands : List Command) (be
   keyed_seen false modules (Some command) t calls next room steps =
       step_private w start commands before c (record p { frame = begun_call call.Key p.frame }) t
       (record { grants = private.grants; run = private.run; count = private.count; tied = told_now })
-      world (called_key w.maker c p can idle) steps
+      world (called_key w.maker c p can idle) (λ e. called_alone w.maker call.Key p.live c p can.party.sound.frame idle (brings_key p.live) tt (alone e)) steps
   keyed_seen true modules (Some command) t calls next room begins = begins_seen modules command t calls begins next (omega (arith, slice_get_within commands p.done command next))
 
 module _ {P : Type 0} where
-  turn_at : (w : World) (modules : List ModuleCall) (start : Grants) (commands : List Command) (before : List Reply) (c : PoolCore P) (p : RunningParty P) (t : Turned P) (b : Bool) → is_idle p.frame.phase ≡ b → IsPrivate w start commands before p → IsWorldOf w c → AreCallsFor w c.settings modules → CanTurn w.maker c p → length commands ≤ length p.live → TurnsAt b modules commands c p t → SeesTurn w start commands before t
-  turn_at w modules start commands before c p t true idle private world calls can room turns = keyed_seen w start commands before c p private world can (idle_is p.frame.phase idle) p.keyed modules (slice_get commands p.done) t calls refl room turns
-  turn_at w modules start commands before c p t false busy private world calls can room turns = step_private w start commands before c p t private world can turns
+  turn_at : (w : World) (modules : List ModuleCall) (start : Grants) (commands : List Command) (before : List Reply) (c : PoolCore P) (p : RunningParty P) (t : Turned P) (b : Bool) → is_idle p.frame.phase ≡ b → IsPrivate w start commands before p → IsWorldOf w c → AreCallsFor w c.settings modules → CanTurn w.maker c p → (w.alone ≡ true → IsAlone c p.frame p.live) → length commands ≤ length p.live → TurnsAt b modules commands c p t → SeesTurn w start commands before t
+  turn_at w modules start commands before c p t true idle private world calls can alone room turns = keyed_seen w start commands before c p private world can alone (idle_is p.frame.phase idle) p.keyed modules (slice_get commands p.done) t calls refl room turns
+  turn_at w modules start commands before c p t false busy private world calls can alone room turns = step_private w start commands before c p t private world can alone turns
 
   -- After a turn of a party its replies are still a private run.
-  pub turn_private : (w : World) (modules : List ModuleCall) (start : Grants) (commands : List Command) (before : List Reply) (c : PoolCore P) (p : RunningParty P) (t : Turned P) → IsWorldOf w c → AreCallsFor w c.settings modules → CanTurn w.maker c p → length commands ≤ length p.live → IsPrivate w start commands before p → Turns modules commands c p t → IsPrivate w start commands (with_reply t.reply before) t.party
-  turn_private w modules start commands before c p t world calls can room private turns = turn_at w modules start commands before c p t (is_idle p.frame.phase) refl private world calls can room turns
+  pub turn_private : (w : World) (modules : List ModuleCall) (start : Grants) (commands : List Command) (before : List Reply) (c : PoolCore P) (p : RunningParty P) (t : Turned P) → IsWorldOf w c → AreCallsFor w c.settings modules → CanTurn w.maker c p → (w.alone ≡ true → IsAlone c p.frame p.live) → length commands ≤ length p.live → IsPrivate w start commands before p → Turns modules commands c p t → IsPrivate w start commands (with_reply t.reply before) t.party
+  turn_private w modules start commands before c p t world calls can alone room private turns = turn_at w modules start commands before c p t (is_idle p.frame.phase) refl private world calls can alone room turns

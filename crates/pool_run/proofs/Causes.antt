@@ -1,5 +1,5 @@
 -- A request is refused only for a cause.
-use Rattle.std.proofs.Common.{◌≡◌, ℕ, ◌<◌, List, length, Option, Some, None, sym, ap, ◌∙◌, subst, inl, inr, arith}
+use Rattle.std.proofs.Common.{true, ◌+◌, ◌≤◌, ◌≡◌, ℕ, ◌<◌, List, length, Option, Some, None, sym, ap, ◌∙◌, subst, inl, inr, arith}
 use Rattle.std.specs.Prelude.{IfSome, option_map}
 use Rattle.pool_pages.specs.MakerTold.{Planned, calls_of}
 use Rattle.pool_pages.specs.declared.pages.RegionName.TheVariants.{Memory as memory_region}
@@ -7,20 +7,20 @@ use Rattle.pool_images.specs.Slots.{Slot, IsLeft}
 use Rattle.pool_slots.specs.Cells.{IsSlotOf}
 use Rattle.pool_slots.specs.declared.request.ConcurrencyKind.TheVariants.{MemoryStripe, CoreInstances}
 use Rattle.pool_slots.specs.declared.request.PoolConcurrencyLimitError.{PoolConcurrencyLimitError}
-use Rattle.pool_run.specs.Private.{World, IsLimit, SomeMayFault}
+use Rattle.pool_run.specs.Private.{World, Grants, memories_of, live_count, instance_count, IsLimit, SomeMayFault}
 
 -- no slot is free
-pub limit_of_slots : (w : World) (total stripe stripes : ℕ) → w.total ≡ total → stripe < stripes → stripes ≡ 1 → IsLimit w (record { limit = total; kind = MemoryStripe stripe })
-limit_of_slots w total stripe stripes is below one =
-    let first : stripe ≡ 0 = omega (arith, below, one) in
+pub limit_of_slots : (w : World) (number : ℕ) (told : Grants) (total stripe stripes : ℕ) → w.total ≡ total → stripe < stripes → stripes ≡ 1 → (w.alone ≡ true → w.total < live_count told + length (memories_of w number)) → IsLimit w number told (record { limit = total; kind = MemoryStripe stripe })
+limit_of_slots w number told total stripe stripes is under one full =
+    let first : stripe ≡ 0 = omega (arith, under, one) in
     let E : ℕ → ℕ → PoolConcurrencyLimitError = λ n i. record { limit = n; kind = MemoryStripe i } in
-    inl (ap (λ (i : ℕ). E total i) first ∙ ap (λ (n : ℕ). E n 0) (sym is))
+    inl (ap (λ (i : ℕ). E total i) first ∙ ap (λ (n : ℕ). E n 0) (sym is), full)
 
 -- as many instances are granted as there may be
-pub limit_of_instances : (w : World) (most : ℕ) → w.most_instances ≡ most → IsLimit w (record { limit = most; kind = CoreInstances })
-limit_of_instances w most is =
+pub limit_of_instances : (w : World) (number : ℕ) (told : Grants) (most : ℕ) → w.most_instances ≡ most → (w.alone ≡ true → w.most_instances ≤ instance_count told) → IsLimit w number told (record { limit = most; kind = CoreInstances })
+limit_of_instances w number told most is full =
     let E : ℕ → PoolConcurrencyLimitError = λ n. record { limit = n; kind = CoreInstances } in
-    inr (ap E (sym is))
+    inr (ap E (sym is), full)
 
 listed_somewhere : (o : Option (List Planned)) (told : Option (List ℕ)) (total i : ℕ) → i < total → told ≡ option_map (calls_of (memory_region i)) o → IfSome told (λ plan. 0 < length plan) → IfSome o (λ plan. (i : ℕ) × (i < total) × (0 < length (calls_of (memory_region i) plan)))
 listed_somewhere None told total i inside is listed = tt

@@ -1,6 +1,6 @@
 -- A whole run, from the pool as it is made to where nobody has anything left: each command has its reply, and the replies
 -- to each party are a private run.
-use Rattle.std.proofs.Common.{◌≡◌, ℕ, ◌+◌, ◌<◌, ◌≤◌, List, [], ◌∷◌, length, replicate, Option, Some, None, ap, ◌∙◌, subst, arith}
+use Rattle.std.proofs.Common.{◌≡◌, ℕ, ◌+◌, ◌<◌, ◌≤◌, List, [], ◌∷◌, length, replicate, Option, Some, None, ap, ◌∙◌, subst, arith, true}
 use Rattle.std.specs.Prelude.{IfSome, slice_get, slice_index_or}
 use Rattle.std.proofs.lemmas.List.{length-set}
 use Rattle.std.proofs.lemmas.Option.{slice_get-get_or}
@@ -51,9 +51,9 @@ module _ {P : Type 0} where
   at_start c parties = record { core = c; parties = parties; replies = replicate (length parties) [] }
 
   -- So a whole run tells each party a private run, to its end.
-  pub run_private : (w : World) (modules : List ModuleCall) (inputs : List (List Command)) (schedule : List ℕ) (c : PoolCore P) (parties : List (RunningParty P)) (end : RunState P) (i : ℕ) (d : RunningParty P) → IsCore w.maker c → IsUntouched c → IsWorldOf w c → AreCallsFor w c.settings modules → AreMade c.settings inputs parties → Runs w.maker modules inputs schedule (at_start c parties) end → i < length parties → IsWholeRun w (commands_of inputs i) (replies_to i end.replies)
-  run_private w modules inputs schedule c parties end i d core untouched world calls made runs below =
-      let way : IsUnderWay w modules inputs end = run_under_way w modules inputs schedule (at_start c parties) end (run_started w modules inputs c parties core untouched world calls made) runs in
+  pub run_private : (w : World) (modules : List ModuleCall) (inputs : List (List Command)) (schedule : List ℕ) (c : PoolCore P) (parties : List (RunningParty P)) (end : RunState P) (i : ℕ) (d : RunningParty P) → IsCore w.maker c → IsUntouched c → IsWorldOf w c → AreCallsFor w c.settings modules → AreMade c.settings inputs parties → (w.alone ≡ true → length parties ≡ 1) → Runs w.maker modules inputs schedule (at_start c parties) end → i < length parties → IsWholeRun w (commands_of inputs i) (replies_to i end.replies)
+  run_private w modules inputs schedule c parties end i d core untouched world calls made alone runs below =
+      let way : IsUnderWay w modules inputs end = run_under_way w modules inputs schedule (at_start c parties) end (run_started w modules inputs c parties core untouched world calls made alone) runs in
       let inside : i < length end.parties = omega (arith, below, run_count w.maker modules inputs schedule (at_start c parties) end runs) in
       record {
         private = replies_private w modules inputs end i d way inside;

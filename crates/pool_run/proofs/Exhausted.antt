@@ -12,7 +12,7 @@ use Rattle.pool_alloc.specs.declared.frame.Grant.{Grant}
 use Rattle.pool_alloc.specs.declared.frame.Grant.TheVariants.{Instance as instance}
 use Rattle.pool_alloc.proofs.Held.{made_once}
 use Rattle.pool_alloc.proofs.SlotCounts.{slot_once}
-use Rattle.pool_run.specs.Private.{PrivateInstance, Grants, memories_in, live_count}
+use Rattle.pool_run.specs.Private.{PrivateInstance, Grants, memories_in, live_count, instances_in, instance_count}
 use Rattle.pool_run.specs.Turns.{private_memory, private_grant, grants_of}
 use Rattle.pool_run.specs.Ties.{granted_to}
 use Rattle.pool_run.proofs.Counters.{below, below_sum, below_le, below_most, below_one, sum_below, ones, leases_below, grant_below}
@@ -64,6 +64,11 @@ made_below n (suc m) within =
     let here : made_count (slot_of m) n ≡ 1 = ap one_if (lt-ltb m n (omega (arith, within))) in
     omega (arith, here, made_below n m (omega (arith, within)))
 
+past_total : (total : ℕ) (n m : ℕ → ℕ) → ((k : ℕ) → n k + m k ≤ made_count (slot_of k) total) → (k : ℕ) → total ≤ k → (n k ≡ 0) × (m k ≡ 0)
+past_total total n m held k far =
+    let none : made_count (slot_of k) total ≡ 0 = ap one_if (le-ltb k total far) in
+    (omega (arith, held k, none), omega (arith, held k, none))
+
 module _ {P : Type 0} where
   grant_above : (n : ℕ) (o : Option (Grant P)) → below (λ k. granted_to (grant_count (slot_of k)) o) n ≤ granted_to grant_memories o
   grant_above n None = omega (arith, none_below n)
@@ -94,6 +99,28 @@ module _ {P : Type 0} where
         below_sum (λ k. leased_count (slot_of k) leases) (λ k. sum_by (granted_to (grant_count (slot_of k))) live) (λ k. made_count (slot_of k) total) (λ k. sym (all k)) total,
         leases_above total leases,
         sum_above (λ k o. granted_to (grant_count (slot_of k)) o) (granted_to grant_memories) total live (grant_above total),
+      )
+
+  instances_seen : (live : List (Option (Grant P))) → instance_count (grants_of live) ≡ sum_by (granted_to grant_instances) live
+  instances_seen [] = refl
+  instances_seen (None ∷ live) = omega (arith, instances_seen live, sum_by-cons instances_in None (grants_of live), sum_by-cons (granted_to grant_instances) None live)
+  instances_seen (Some (instance lease) ∷ live) =
+      omega (arith, instances_seen live, sum_by-cons instances_in (Some (private_grant (instance lease))) (grants_of live), sum_by-cons (granted_to grant_instances) (Some (instance lease)) live)
+
+  pub instances_told : (live : List (Option (Grant P))) (told : Grants) → grants_of live ≡ told → instance_count told ≡ sum_by (granted_to grant_instances) live
+  instances_told live told is = ap instance_count (sym is) ∙ instances_seen live
+
+  -- There is room for leases and live grants that are apart.
+  pub room_for : (total : ℕ) (leases : List Lease) (live : List (Option (Grant P))) → ((k : ℕ) → leased_count (slot_of k) leases + sum_by (granted_to (grant_count (slot_of k))) live ≤ made_count (slot_of k) total) → length leases + sum_by (granted_to grant_memories) live ≤ total
+  room_for total leases live apart =
+      let n : ℕ → ℕ = λ k. leased_count (slot_of k) leases in
+      let m : ℕ → ℕ = λ k. sum_by (granted_to (grant_count (slot_of k))) live in
+      omega (
+        arith,
+        leases_below total leases (λ k far. (past_total total n m apart k far).0),
+        sum_below (λ k o. granted_to (grant_count (slot_of k)) o) (granted_to grant_memories) total live (grant_below total) (λ k far. (past_total total n m apart k far).1),
+        below_sum n m (λ k. n k + m k) (λ k. refl) total,
+        below_most (λ k. n k + m k) (λ k. omega (arith, apart k, made_once (slot_of k) total)) total,
       )
 
   -- Where one more slot is with a call, there are more slots than live memories.

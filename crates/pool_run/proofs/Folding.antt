@@ -10,6 +10,8 @@ use Rattle.pool_alloc.specs.Stepping.{IsSameSize}
 use Rattle.pool_alloc.specs.declared.pool_core.PoolCore.{PoolCore}
 use Rattle.pool_alloc.specs.declared.pool_core.Settings.{Settings}
 use Rattle.pool_alloc.specs.declared.frame.ModuleCall.{ModuleCall}
+use Rattle.pool_alloc.specs.Places.{made_count}
+use Rattle.pool_run.specs.Searches.{IsAlone}
 use Rattle.pool_run.specs.Private.{World, memories_of, IsPrivateRun, no_grants}
 use Rattle.pool_run.specs.Turns.{Turned, Turns, TurnsAt, BeginsKeyed, with_reply, is_idle}
 use Rattle.pool_run.specs.Ties.{CanTurn, IsSoundTurn}
@@ -44,10 +46,18 @@ module _ {P : Type 0} where
       subst Calls (sym size.settings) calls
 
   -- One party's turn.
-  run_to : (w : World) (modules : List ModuleCall) (commands : List Command) (replies : List Reply) (c : PoolCore P) (p : RunningParty P) (t : Turned P) → IsWorldOf w c → AreCallsFor w c.settings modules → CanTurn w.maker c p → IsRunTo w commands replies p → Turns modules commands c p t → HasTurned c p t → IsRunTo w commands (with_reply t.reply replies) t.party
-  run_to w modules commands replies c p t world calls can to turns turned = record {
+  run_to : (w : World) (modules : List ModuleCall) (commands : List Command) (replies : List Reply) (c : PoolCore P) (p : RunningParty P) (t : Turned P) → IsWorldOf w c → AreCallsFor w c.settings modules → CanTurn w.maker c p → (w.alone ≡ true → IsAlone c p.frame p.live) → IsRunTo w commands replies p → Turns modules commands c p t → HasTurned c p t → IsRunTo w commands (with_reply t.reply replies) t.party
+  run_to w modules commands replies c p t world calls can alone to turns turned = record {
     room = turned.room ∙ to.room;
-    private = turn_private w modules (no_grants commands) commands replies c p t world calls can (omega (arith, to.room)) to.private turns;
+    private = turn_private w modules (no_grants commands) commands replies c p t world calls can alone (omega (arith, to.room)) to.private turns;
+  }
+
+  -- A party that is alone stays so.
+  alone_turned : (c : PoolCore P) (p : RunningParty P) (t : Turned P) → HasTurned c p t → IsAlone c p.frame p.live → IsAlone t.core t.party.frame t.party.live
+  alone_turned c p t turned alone = record {
+    places = λ x. omega (arith, turned.places x, alone.places x, ap (made_count x) turned.size.cells);
+    instances = omega (arith, turned.instances, alone.instances);
+    searched = turned.searched alone.searched;
   }
 
   turned_some : (w : World) (modules : List ModuleCall) (inputs : List (List Command)) (i : ℕ) (p : RunningParty P) (s : RunState P) (t : Turned P) → slice_get s.parties i ≡ Some p → IsUnderWay w modules inputs s → Turns modules (commands_of inputs i) s.core p t → IsSoundTurn w.maker t → IsUnderWay w modules inputs (with_turn i t s)
@@ -60,12 +70,28 @@ module _ {P : Type 0} where
       let to : IsRunTo w (commands_of inputs i) (replies_to i s.replies) p = subst To here (way.each i p below) in
       let can : CanTurn w.maker s.core p = subst Can here (can_turn w.maker s.core s.parties i p way.running below) in
       let turned : HasTurned s.core p t = has_turned w modules (commands_of inputs i) s.core p t way.calls can (omega (arith, to.room)) turns in
-      let now : IsRunTo w (commands_of inputs i) (with_reply t.reply (replies_to i s.replies)) t.party = run_to w modules (commands_of inputs i) (replies_to i s.replies) s.core p t way.world way.calls can to turns turned in
+      let alone : w.alone ≡ true → IsAlone s.core p.frame p.live =
+      λ e.
+          let one = way.alone e in
+          let A : RunningParty P → Type 0 = λ q. IsAlone s.core q.frame q.live in
+          let at_first : slice_index_or s.parties 0 p ≡ p = subst (λ (n : ℕ). slice_index_or s.parties n p ≡ p) {x = i} {y = 0} (omega (arith, below, one.one)) here in
+          subst A at_first (one.alone p) in
+      let now : IsRunTo w (commands_of inputs i) (with_reply t.reply (replies_to i s.replies)) t.party = run_to w modules (commands_of inputs i) (replies_to i s.replies) s.core p t way.world way.calls can alone to turns turned in
       let replies : List Reply = with_reply t.reply (replies_to i s.replies) in
       record {
         running = turned_running w.maker s.core s.parties i p t way.running below (subst Has (sym here) turned) sound;
         world = world_over w s.core t.core turned.size way.world;
         calls = calls_over w modules s.core t.core turned.size way.calls;
+        alone = λ e.
+            let one = way.alone e in
+            record {
+              one = length-set s.parties i t.party ∙ one.one;
+              alone = λ d.
+                  let A : RunningParty P → Type 0 = λ q. IsAlone t.core q.frame q.live in
+                  let first : 0 ≡ i = omega (arith, below, one.one) in
+                  let party : slice_index_or (slice_set s.parties i t.party) i d ≡ t.party = get_or-set_same s.parties i t.party d below in
+                  subst (λ (n : ℕ). A (slice_index_or (slice_set s.parties i t.party) n d)) (sym first) (subst A (sym party) (alone_turned s.core p t turned (alone e)));
+            };
         told = length-set s.replies i replies ∙ way.told ∙ sym (length-set s.parties i t.party);
         each = λ j d inside.
             let At : ℕ → List Reply → RunningParty P → Type 0 = λ n rs q. IsRunTo w (commands_of inputs n) rs q in

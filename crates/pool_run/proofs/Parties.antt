@@ -23,6 +23,7 @@ use Rattle.pool_alloc.specs.declared.frame.Grant.TheVariants.{Instance as instan
 use Rattle.pool_alloc.proofs.BegunCalls.{begun_frame, begun_count, begun_instances, begun_memories}
 use Rattle.pool_alloc.proofs.Held.{made_once}
 use Rattle.pool_alloc.proofs.QueueCounts.{sum_by_agree, leased_regions}
+use Rattle.pool_run.specs.Searches.{IsSearchedAt, IsAlone}
 use Rattle.pool_run.specs.Ties.{asks, stage_of, granted_to, held_by_party, FitsParty, CanTurn}
 use Rattle.pool_run.specs.declared.running_party.RunningParty.{RunningParty}
 
@@ -143,3 +144,20 @@ module _ {P : Type 0} where
       (All-set (λ g. IfSome g (IsGrant maker c.settings)) p.live i None tt can.party.sound.grants)
       (λ k behind. still_none p.live i k (can.party.to_come k behind))
       (λ asking. absurd (returned_asks grant p.frame asking))
+
+  -- A party that is alone stays so as a call begins.
+  pub called_alone : (maker : MakerTold) (asked : Call P) (new : List (Option (Grant P))) (c : PoolCore P) (p : RunningParty P) → IsFrame maker c p.frame → MayBegin maker c.settings asked p.frame → Brings asked p.live new → IsSearchedAt (begun_call asked p.frame).phase c (begun_call asked p.frame) → IsAlone c p.frame p.live → IsAlone c (begun_call asked p.frame) new
+  called_alone maker asked new c p frame may brings searched alone =
+      let same : HaveSame p (with_call asked new p) = has_call maker asked new c p frame may brings in
+      record {
+        places = λ t. omega (arith, alone.places t, same.places t);
+        instances = omega (arith, alone.instances, same.instances);
+        searched = searched;
+      }
+
+  back_searched : (b : Bool) (c : PoolCore P) (f : Frame P) → IsSearchedAt (if b then UncountInstance else UncountMemory) c f
+  back_searched true c f = tt
+  back_searched false c f = tt
+
+  pub returned_searched : (grant : Grant P) (c : PoolCore P) (f : Frame P) → IsSearchedAt (begun_call (call.GiveBack grant) f).phase c (begun_call (call.GiveBack grant) f)
+  returned_searched (instance lease) c f = back_searched (length lease.memories.items == 0) c (begun_call (call.GiveBack (instance lease)) f)

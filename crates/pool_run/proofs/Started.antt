@@ -1,5 +1,5 @@
 -- A run as it starts: nobody has anything, and nobody was told anything.
-use Rattle.std.proofs.Common.{◌≡◌, ℕ, zero, suc, ◌<◌, Bool, false, List, [], ◌∷◌, length, get_or, replicate, Option, None, refl, sym, ap, ◌∙◌, subst, arith, All}
+use Rattle.std.proofs.Common.{true, ◌≡◌, ℕ, zero, suc, ◌<◌, Bool, false, List, [], ◌∷◌, length, get_or, replicate, Option, None, refl, sym, ap, ◌∙◌, subst, arith, All}
 use Rattle.std.specs.Prelude.{IfSome, sum_by, slice_index_or}
 use Rattle.std.proofs.lemmas.List.{length-replicate}
 use Rattle.std.proofs.lemmas.List.Elements.{All-replicate, recursion_from_All}
@@ -15,7 +15,8 @@ use Rattle.pool_alloc.specs.declared.frame.Frame.{Frame}
 use Rattle.pool_alloc.specs.declared.frame.Grant.{Grant}
 use Rattle.pool_alloc.specs.declared.frame.ModuleCall.{ModuleCall}
 use Rattle.pool_alloc.proofs.BegunCalls.{made_frame, made_count, made_instances, made_memories}
-use Rattle.pool_alloc.proofs.Untouched.{untouched_is_whole}
+use Rattle.pool_alloc.proofs.Untouched.{untouched_is_whole, untouched_has_all}
+use Rattle.pool_run.specs.Searches.{IsAlone}
 use Rattle.pool_run.specs.Private.{World, Grants, no_grants}
 use Rattle.pool_run.specs.Turns.{grants_of}
 use Rattle.pool_run.specs.Ties.{granted_to, held_by_party, IsParty, IsPrivate, IsRunning}
@@ -94,17 +95,34 @@ module _ {P : Type 0} where
     whole = untouched_is_whole maker held_by_party c parties core untouched (recursion_from_All (λ p. HasNothing (held_by_party p)) parties (each_made (λ p. HasNothing (held_by_party p)) c.settings inputs parties (λ home n. party_has_nothing P home c.settings n) made));
   }
 
+  -- One party is alone.
+  made_alone : (maker : MakerTold) (home n : ℕ) (c : PoolCore P) → IsCore maker c → IsUntouched c → IsAlone c (party_made {P = P} home c.settings n).frame (party_made {P = P} home c.settings n).live
+  made_alone maker home n c core untouched =
+      let nothing : HasNothing (held_by_party (party_made {P = P} home c.settings n)) = party_has_nothing P home c.settings n in
+      record {
+        places = λ t. omega (arith, untouched_has_all maker t c core untouched, nothing.places t);
+        instances = omega (arith, untouched.instances, nothing.instances);
+        searched = tt;
+      }
+
   run_to_start : (w : World) (s : Settings) (commands : List Command) (p : RunningParty P) → IsMadeParty s (length commands) p → IsRunTo w commands [] p
   run_to_start w s commands p made =
       let To : RunningParty P → Type 0 = λ q. IsRunTo w commands [] q in
       let first : To (party_made made.home s (length commands)) = record { room = length-replicate {A = Option (Grant P)} (length commands) None; private = party_is_private P w commands made.home s } in
       subst To (sym (is_party_made s (length commands) p made)) first
 
-  pub run_started : (w : World) (modules : List ModuleCall) (inputs : List (List Command)) (c : PoolCore P) (parties : List (RunningParty P)) → IsCore w.maker c → IsUntouched c → IsWorldOf w c → AreCallsFor w c.settings modules → AreMade c.settings inputs parties → IsUnderWay w modules inputs (record { core = c; parties = parties; replies = replicate (length parties) [] })
-  run_started w modules inputs c parties core untouched world calls made = record {
+  pub run_started : (w : World) (modules : List ModuleCall) (inputs : List (List Command)) (c : PoolCore P) (parties : List (RunningParty P)) → IsCore w.maker c → IsUntouched c → IsWorldOf w c → AreCallsFor w c.settings modules → AreMade c.settings inputs parties → (w.alone ≡ true → length parties ≡ 1) → IsUnderWay w modules inputs (record { core = c; parties = parties; replies = replicate (length parties) [] })
+  run_started w modules inputs c parties core untouched world calls made alone = record {
     running = started_running w.maker c inputs parties core untouched made;
     world = world;
     calls = calls;
+    alone = λ e. record {
+        one = alone e;
+        alone = λ d.
+            let A : RunningParty P → Type 0 = λ q. IsAlone c q.frame q.live in
+            let one = made 0 d (omega (arith, alone e)) in
+            subst A (sym (is_party_made c.settings (length (commands_of inputs 0)) (slice_index_or parties 0 d) one)) (made_alone w.maker one.home (length (commands_of inputs 0)) c core untouched);
+      };
     told = length-replicate {A = List Reply} (length parties) [];
     each = λ i d below.
         let To : List Reply → Type 0 = λ rs. IsRunTo w (commands_of inputs i) rs (slice_index_or parties i d) in

@@ -29,6 +29,7 @@ use Rattle.pool_run.specs.declared.command.Command.TheVariants as command
 use Rattle.pool_run.specs.declared.reply.Reply.{Reply}
 use Rattle.pool_run.specs.declared.reply.Reply.TheVariants.{Returned, Refused}
 use Rattle.pool_run.specs.declared.reply.Refusal.TheVariants.{Alloc}
+use Rattle.pool_run.proofs.Exhausted.{live_told, room_for}
 use Rattle.pool_run.proofs.FreeSlots.{AreApart, slots_inside, slots_apart, slots_free}
 use Rattle.pool_run.proofs.Grants.{grants_set}
 use Rattle.pool_run.proofs.NewMemories.{slots_of}
@@ -69,13 +70,13 @@ module _ {P : Type 0} (w : World) (commands : List Command) (live : List (Option
   pub gives_back : (c : PoolCore P) (f : Frame P) → EndsAs w f.ending commands done live told → IsTied (give_back_next c f)
   gives_back c f end = goes_either c f (length f.returning.items == 0) UncountInstance UncountMemory (λ e. record { tied = end }) (λ e. record { tied = end })
 
-  pub refused : (c : PoolCore P) (f : Frame P) (e : AllocError) → grants_of live ≡ told → IsAsking w commands done f.asked f.granted.items → IsCause w (Alloc e) → IsTied (refuses c f e)
-  refused c f e is asking cause = gives_back c (record f { granted = no_room; returning = f.granted; ending = ending.Refused e }) (is, cause, asking.number, asking.command)
+  pub refused : (c : PoolCore P) (f : Frame P) (e : AllocError) → grants_of live ≡ told → (asking : IsAsking w commands done f.asked f.granted.items) → IsCause w asking.number told (Alloc e) → IsTied (refuses c f e)
+  refused c f e is asking cause = gives_back c (record f { granted = no_room; returning = f.granted; ending = ending.Refused e }) (is, asking.number, asking.command, cause)
 
-  pub no_slot_left : (queues : ℕ) (c : PoolCore P) (f : Frame P) → grants_of live ≡ told → IsAsking w commands done f.asked f.granted.items → IsLimit w (record { limit = length c.cells; kind = MemoryStripe f.stripe }) → IsTied (no_slot queues c f)
+  pub no_slot_left : (queues : ℕ) (c : PoolCore P) (f : Frame P) → grants_of live ≡ told → (asking : IsAsking w commands done f.asked f.granted.items) → (length c.queues ≤ queues → IsLimit w asking.number told (record { limit = length c.cells; kind = MemoryStripe f.stripe })) → IsTied (no_slot queues c f)
   no_slot_left queues c f is asking limit =
       let e : AllocError = refusal.Limit (record { limit = length c.cells; kind = MemoryStripe f.stripe }) in
-      either (nat_lt queues (length c.queues)) (goes c f (TakeQueue queues)) (refuses c f e) (λ more. record { tied = (is, asking, tt) }) (λ last. refused c f e is asking limit)
+      either (nat_lt queues (length c.queues)) (goes c f (TakeQueue queues)) (refuses c f e) (λ more. record { tied = (is, asking, tt) }) (λ last. refused c f e is asking (limit (ltb-false queues (length c.queues) last)))
 
   pub flush_of_request : (queues : ℕ) (c : PoolCore P) (f : Frame P) → grants_of live ≡ told → IsAsking w commands done f.asked f.granted.items → IsTied (flushes (PickAgain queues) c f)
   flush_of_request queues c f is asking = goes_either c f (length f.local.ranges == 0) (PutRegion (PickAgain queues)) (Decommit (PickAgain queues)) (λ e. record { tied = (is, asking, tt) }) (λ e. record { tied = (is, asking, tt) })
@@ -85,7 +86,7 @@ module _ {P : Type 0} (w : World) (commands : List Command) (live : List (Option
 
   -- A call ends as it is to end.
   pub ends_with : (e : Ending) (c : PoolCore P) (f : Frame P) → EndsAs w e commands done live told → IsTied (ends c f (answer_of e))
-  ends_with (ending.Refused e) c f end = record { tied = record { settled = refl; command = command.Instantiate end.2; next = end.3; step = (end.1, end.0) } }
+  ends_with (ending.Refused e) c f end = record { tied = record { settled = refl; command = command.Instantiate end.1; next = end.2; step = (end.3, end.0) } }
   ends_with ending.Returned c f end = record { tied = record { settled = refl; command = command.Drop end.0; next = end.1; step = dropped (grant_at told end.0) told (grants_of live) end.0 end.2 end.3 } }
 
   -- The instance is whole, and granted.
@@ -110,6 +111,7 @@ module _ {P : Type 0} (w : World) (commands : List Command) (live : List (Option
               inside = subst Inside (sym whole) (slots_inside items live total apart);
               free = slots_free items live told total is apart;
               differ = slots_apart items live total apart;
+              room = omega (arith, whole, live_told live told is, room_for total items live apart, all, asking.new.few, ap (length {A = MemoryDecl}) asking.asked_for.memories);
             },
             refl,
             grants,

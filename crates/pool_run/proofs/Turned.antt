@@ -16,6 +16,8 @@ use Rattle.pool_alloc.specs.declared.frame.Grant.TheVariants.{Instance as instan
 use Rattle.pool_alloc.specs.declared.frame.Outcome.{Outcome}
 use Rattle.pool_alloc.specs.declared.frame.Outcome.TheVariants as answer
 use Rattle.pool_alloc.specs.declared.frame.Phase.{Phase}
+use Rattle.pool_run.proofs.Searching.{IsSearched, searched_at}
+use Rattle.pool_run.specs.Searches.{IsSearchedAt}
 use Rattle.pool_run.specs.Private.{World}
 use Rattle.pool_run.specs.Turns.{Turned, lease_written, leases_of, replies, answered, Steps, Returns, ReadsLease, Reads, grant_written, WritesLease, Writes, Asks, Begins, BeginsKeyed, is_idle, TurnsAt, Turns}
 use Rattle.pool_run.specs.Ties.{Stage, no_call, ends_as, stage_of, CanTurn}
@@ -27,7 +29,7 @@ use Rattle.pool_run.specs.declared.reply.Reply.TheVariants.{Done, Refused, Trap}
 use Rattle.pool_run.specs.declared.reply.Trap.TheVariants.{MemoryOutOfBounds}
 use Rattle.pool_run.specs.declared.reply.Refusal.TheVariants.{NoSuchGrant, Alloc}
 use Rattle.pool_run.specs.declared.running_party.RunningParty.{RunningParty}
-use Rattle.pool_run.proofs.Parties.{can_step, live_grant, called_key, called_module, called_back}
+use Rattle.pool_run.proofs.Parties.{can_step, live_grant, called_key, called_module, called_back, returned_searched}
 use Rattle.pool_run.proofs.Shares.{share_for}
 use Rattle.std.proofs.lemmas.List.{length-set, get_or-set_other}
 use Rattle.std.proofs.lemmas.List.Sums.{sum_by-set}
@@ -59,17 +61,18 @@ module _ {P : Type 0} where
     pub room : length t.party.live ≡ length p.live
     pub to_come : (k : ℕ) → t.party.done ≤ k → slice_index_or t.party.live k None ≡ None
     pub place : stage_of t.party.frame.phase t.party.frame.ending ≡ asks → t.party.done < length t.party.live
+    pub searched : IsSearchedAt p.frame.phase c p.frame → IsSearchedAt t.party.frame.phase t.core t.party.frame
 
   same_size : (c : PoolCore P) → IsSameSize c c
   same_size c = record { settings = refl; cells = refl; shards = refl; queues = refl }
 
   -- Nothing happened.
   stayed : (c : PoolCore P) (p : RunningParty P) → ((k : ℕ) → p.done ≤ k → slice_index_or p.live k None ≡ None) → (stage_of p.frame.phase p.frame.ending ≡ asks → p.done < length p.live) → HasTurned c p (record { core = c; party = p; reply = None })
-  stayed c p to_come place = record { places = λ x. refl; instances = refl; memories = refl; size = same_size c; room = refl; to_come = to_come; place = place }
+  stayed c p to_come place = record { places = λ x. refl; instances = refl; memories = refl; size = same_size c; room = refl; to_come = to_come; place = place; searched = λ s. s }
 
   -- A command ended at once, and the party has the same of the pool.
-  ended : (c : PoolCore P) (p q : RunningParty P) (reply : Reply) → HaveSame p q → length q.live ≡ length p.live → q.done ≡ p.done → ((k : ℕ) → p.done ≤ k → slice_index_or q.live k None ≡ None) → stage_of q.frame.phase q.frame.ending ≡ no_call → HasTurned c p (replies reply c q)
-  ended c p q reply same room done to_come settled = record {
+  ended : (c : PoolCore P) (p q : RunningParty P) (reply : Reply) → HaveSame p q → length q.live ≡ length p.live → q.done ≡ p.done → ((k : ℕ) → p.done ≤ k → slice_index_or q.live k None ≡ None) → stage_of q.frame.phase q.frame.ending ≡ no_call → q.frame ≡ p.frame → HasTurned c p (replies reply c q)
+  ended c p q reply same room done to_come settled frame = record {
     places = λ x. omega (arith, same.places x);
     instances = omega (arith, same.instances);
     memories = omega (arith, same.memories);
@@ -77,6 +80,7 @@ module _ {P : Type 0} where
     room = room;
     to_come = λ k behind. to_come k (omega (arith, behind, done));
     place = λ is. no_call_no_place (stage_of q.frame.phase q.frame.ending) settled is;
+    searched = λ s. let S : Frame P → Type 0 = λ f. IsSearchedAt f.phase c f in subst S (sym frame) s;
   }
 
   -- what the live grants have, once one more is granted
@@ -85,8 +89,8 @@ module _ {P : Type 0} where
       let here : granted_to of (slice_index_or live i None) ≡ 0 = ap (granted_to of) none in
       omega (arith, sum_by-set (granted_to of) live i (Some grant) None inside)
 
-  answered_turned : (c : PoolCore P) (p : RunningParty P) (d : PoolCore P) (f : Frame P) (o : Option (Outcome P)) → ((k : ℕ) → p.done ≤ k → slice_index_or p.live k None ≡ None) → Conserves c p.frame (record { core = d; frame = f; outcome = o }) → IsSameSize c d → PlacedBy (p.done < length p.live) o f → HasTurned c p (answered o d (record p { frame = f }))
-  answered_turned c p d f None to_come b size placed = record {
+  answered_turned : (c : PoolCore P) (p : RunningParty P) (d : PoolCore P) (f : Frame P) (o : Option (Outcome P)) → ((k : ℕ) → p.done ≤ k → slice_index_or p.live k None ≡ None) → Conserves c p.frame (record { core = d; frame = f; outcome = o }) → IsSameSize c d → PlacedBy (p.done < length p.live) o f → (IsSearchedAt p.frame.phase c p.frame → IsSearchedAt f.phase d f) → HasTurned c p (answered o d (record p { frame = f }))
+  answered_turned c p d f None to_come b size placed after = record {
     places = λ x. omega (arith, b.places x);
     instances = omega (arith, b.instances);
     memories = omega (arith, b.memories);
@@ -94,8 +98,9 @@ module _ {P : Type 0} where
     room = refl;
     to_come = to_come;
     place = has_place (p.done < length p.live) (stage_of f.phase f.ending) placed;
+    searched = after;
   }
-  answered_turned c p d f (Some answer.Key) to_come b size placed = record {
+  answered_turned c p d f (Some answer.Key) to_come b size placed after = record {
     places = λ x. omega (arith, b.places x);
     instances = omega (arith, b.instances);
     memories = omega (arith, b.memories);
@@ -103,8 +108,9 @@ module _ {P : Type 0} where
     room = refl;
     to_come = to_come;
     place = λ is. no_call_no_place (stage_of f.phase f.ending) placed is;
+    searched = after;
   }
-  answered_turned c p d f (Some (answer.Granted grant)) to_come b size placed =
+  answered_turned c p d f (Some (answer.Granted grant)) to_come b size placed after =
       let none : slice_index_or p.live p.done None ≡ None = to_come p.done (omega arith) in
       record {
         places = λ x. omega (arith, b.places x, more (grant_count x) p.live p.done grant placed.1 none);
@@ -114,8 +120,9 @@ module _ {P : Type 0} where
         room = length-set p.live p.done (Some grant);
         to_come = λ k behind. get_or-set_other p.live p.done k (Some grant) None (λ is. omega (arith, is, behind)) ∙ to_come k (omega (arith, behind));
         place = λ is. no_call_no_place (stage_of f.phase f.ending) placed.0 is;
+        searched = after;
       }
-  answered_turned c p d f (Some answer.Returned) to_come b size placed = record {
+  answered_turned c p d f (Some answer.Returned) to_come b size placed after = record {
     places = λ x. omega (arith, b.places x);
     instances = omega (arith, b.instances);
     memories = omega (arith, b.memories);
@@ -123,8 +130,9 @@ module _ {P : Type 0} where
     room = refl;
     to_come = λ k behind. to_come k (omega (arith, behind));
     place = λ is. no_call_no_place (stage_of f.phase f.ending) placed is;
+    searched = after;
   }
-  answered_turned c p d f (Some (answer.Refused e)) to_come b size placed = record {
+  answered_turned c p d f (Some (answer.Refused e)) to_come b size placed after = record {
     places = λ x. omega (arith, b.places x);
     instances = omega (arith, b.instances);
     memories = omega (arith, b.memories);
@@ -132,6 +140,7 @@ module _ {P : Type 0} where
     room = refl;
     to_come = λ k behind. to_come k (omega (arith, behind));
     place = λ is. no_call_no_place (stage_of f.phase f.ending) placed is;
+    searched = after;
   }
 
   -- A step of the call under way.
@@ -143,11 +152,12 @@ module _ {P : Type 0} where
       let placed : IsPlaced (p.done < length p.live) a =
       subst Placed (sym by.2.is) (placed_at (p.done < length p.live) by.0 p.frame.phase c p.frame (placed_as (p.done < length p.live) (stage_of p.frame.phase p.frame.ending) can.party.place)) in
       subst (HasTurned c p) (sym steps.2)
-      (answered_turned c p a.core a.frame a.outcome can.party.to_come (step_conserves maker c p.frame a (can_step maker c p can) (by.0, by.2)) (step_keeps_size maker c p.frame a (can_step maker c p can) (by.0, by.2)) placed.placed)
+      (answered_turned c p a.core a.frame a.outcome can.party.to_come (step_conserves maker c p.frame a (can_step maker c p can) (by.0, by.2)) (step_keeps_size maker c p.frame a (can_step maker c p can) (by.0, by.2)) placed.placed
+        (λ searching. let Searched : After P → Type 0 = λ x. IsSearched x in (subst Searched (sym by.2.is) (searched_at maker by.0 p.frame.phase c p.frame can.core searching)).searched))
 
   -- The same from a party with as much of the pool.
-  turned_from : (c : PoolCore P) (p q : RunningParty P) (t : Turned P) → HaveSame p q → length q.live ≡ length p.live → HasTurned c q t → HasTurned c p t
-  turned_from c p q t same room turned = record {
+  turned_from : (c : PoolCore P) (p q : RunningParty P) (t : Turned P) → HaveSame p q → length q.live ≡ length p.live → IsSearchedAt q.frame.phase c q.frame → HasTurned c q t → HasTurned c p t
+  turned_from c p q t same room searching turned = record {
     places = λ x. omega (arith, turned.places x, same.places x);
     instances = omega (arith, turned.instances, same.instances);
     memories = omega (arith, turned.memories, same.memories);
@@ -155,6 +165,7 @@ module _ {P : Type 0} where
     room = turned.room ∙ room;
     to_come = turned.to_come;
     place = turned.place;
+    searched = λ s. turned.searched searching;
   }
 
 -- a party that is idle, and may turn
@@ -166,7 +177,7 @@ module _ {P : Type 0} (maker : MakerTold) (c : PoolCore P) (p : RunningParty P) 
   same_now = record { places = λ x. refl; instances = refl; memories = refl }
 
   at_once : (reply : Reply) (t : Turned P) → t ≡ replies reply c p → HasTurned c p t
-  at_once reply t is = subst (HasTurned c p) (sym is) (ended c p p reply same_now refl refl can.party.to_come settled_now)
+  at_once reply t is = subst (HasTurned c p) (sym is) (ended c p p reply same_now refl refl can.party.to_come settled_now refl)
 
   -- a read
   lease_read : (i len : ℕ) (y : Option Lease) (t : Turned P) → ReadsLease y i len c p t → HasTurned c p t
@@ -207,7 +218,7 @@ module _ {P : Type 0} (maker : MakerTold) (c : PoolCore P) (p : RunningParty P) 
         memories = omega (arith, swapped grant_memories p.live of (instance lease) new has (length-set items k (lease_written i bytes l)));
       } in
       subst (HasTurned c p) (sym is)
-      (ended c p q Done same (length-set p.live of (Some new)) refl (λ n behind. other_place p.live of n (instance lease) new has (can.party.to_come n behind)) settled_now)
+      (ended c p q Done same (length-set p.live of (Some new)) refl (λ n behind. other_place p.live of n (instance lease) new has (can.party.to_come n behind)) settled_now refl)
 
   writes_lease : (of k i : ℕ) (bytes : List ℕ) (lease : InstanceLease P) (y : Option Lease) (t : Turned P) → slice_index_or p.live of None ≡ Some (instance lease) → slice_get lease.memories.items k ≡ y → WritesLease y of (instance lease) k i bytes c p t → HasTurned c p t
   writes_lease of k i bytes lease None t has there is = at_once (Refused NoSuchGrant) t is
@@ -225,7 +236,7 @@ module _ {P : Type 0} (maker : MakerTold) (c : PoolCore P) (p : RunningParty P) 
       let q : RunningParty P = record p { live = new; frame = begun_call (call.GiveBack grant) p.frame } in
       turned_from c p q t
       (has_call maker (call.GiveBack grant) new c p can.party.sound.frame (idle, live_grant maker c.settings p.live of grant can.party.sound.grants has) (brings_grant p.live of grant has))
-      (length-set p.live of None) (step_turned maker c q t (called_back maker of grant c p can idle has) steps)
+      (length-set p.live of None) (returned_searched grant c p.frame) (step_turned maker c q t (called_back maker of grant c p can idle has) steps)
 
   -- a request for an instance
   asks_for : (w : World) (number : ℕ) (o : Option ModuleCall) (t : Turned P) → IfSome o (IsCallFor w c.settings number) → Asks o c p t → p.done < length p.live → HasTurned c p t
@@ -237,7 +248,7 @@ module _ {P : Type 0} (maker : MakerTold) (c : PoolCore P) (p : RunningParty P) 
             let m : ModuleCall = steps.0 in
             let q : RunningParty P = record p { frame = begun_call (call.Module m) p.frame } in
             let images : AreImagesOf c.settings (memories_asked (Some m)) (images_asked (Some m)) = (share_for w c.settings number kept m steps.1 for).images in
-            turned_from c p q t (has_call maker (call.Module m) p.live c p can.party.sound.frame (idle, images) (brings_module m p.live)) refl
+            turned_from c p q t (has_call maker (call.Module m) p.live c p can.party.sound.frame (idle, images) (brings_module m p.live)) refl tt
             (step_turned maker c q t (called_module maker m c p can idle images room) steps.2)
       ]
 
@@ -252,7 +263,7 @@ module _ {P : Type 0} (maker : MakerTold) (c : PoolCore P) (p : RunningParty P) 
   begins_keyed w commands true modules None t calls next room is = subst (HasTurned c p) (sym is) (stayed c p can.party.to_come can.party.place)
   begins_keyed w commands false modules (Some command) t calls next room steps =
       let q : RunningParty P = record p { frame = begun_call call.Key p.frame } in
-      turned_from c p q t (has_call maker call.Key p.live c p can.party.sound.frame idle (brings_key p.live)) refl (step_turned maker c q t (called_key maker c p can idle) steps)
+      turned_from c p q t (has_call maker call.Key p.live c p can.party.sound.frame idle (brings_key p.live)) refl tt (step_turned maker c q t (called_key maker c p can idle) steps)
   begins_keyed w commands true modules (Some command) t calls next room is = begins w modules command t calls is (omega (arith, slice_get_within commands p.done command next))
 
 module _ {P : Type 0} where

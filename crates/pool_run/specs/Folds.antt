@@ -9,6 +9,7 @@ use Rattle.pool_alloc.specs.declared.frame.ModuleCall.{ModuleCall}
 use Rattle.pool_run.specs.Private.{World, no_grants}
 use Rattle.pool_run.specs.Turns.{Turned, Turns, with_reply, is_idle}
 use Rattle.pool_run.specs.Ties.{IsPrivate, IsSoundTurn, IsRunning}
+use Rattle.pool_run.specs.Searches.{IsAlone}
 use Rattle.pool_run.specs.Worlds.{IsWorldOf, AreCallsFor}
 use Rattle.pool_run.specs.declared.command.Command.{Command}
 use Rattle.pool_run.specs.declared.reply.Reply.{Reply}
@@ -88,10 +89,16 @@ module _ {P : Type 0} where
     pub room : length p.live ≡ length commands
     pub private : IsPrivate w (no_grants commands) commands replies p
 
+  -- there is one party, which has all that the pool hasn't
+  pub record IsOfOne (s : RunState P) : Type 0 where
+    pub one : length s.parties ≡ 1
+    pub alone : (d : RunningParty P) → IsAlone s.core (slice_index_or s.parties 0 d).frame (slice_index_or s.parties 0 d).live
+
   -- What holds at each moment of a run.
   pub record IsUnderWay (w : World) (modules : List ModuleCall) (inputs : List (List Command)) (s : RunState P) : Type 0 where
     pub running : IsRunning w.maker s.core s.parties
     pub world : IsWorldOf w s.core
     pub calls : AreCallsFor w s.core.settings modules
+    pub alone : w.alone ≡ true → IsOfOne s
     pub told : length s.replies ≡ length s.parties
     pub each : (i : ℕ) (d : RunningParty P) → i < length s.parties → IsRunTo w (commands_of inputs i) (replies_to i s.replies) (slice_index_or s.parties i d)

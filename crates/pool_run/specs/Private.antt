@@ -1,5 +1,5 @@
 -- What a party may see: its grants as private lists of bytes, which its commands read and write, and no pool.
-use Rattle.std.specs.Prelude.{◌≡◌, ◌≢◌, ℕ, ◌+◌, ◌<◌, ◌≤◌, List, [], ◌∷◌, length, sum_by, slice_get, slice_index_or, slice_range, slice_set, All, replicate, ◌⊎◌, Bool, if◌then◌else◌, Option, Some, None, IfSome, option_map}
+use Rattle.std.specs.Prelude.{◌≡◌, ◌≢◌, ℕ, ◌+◌, ◌<◌, ◌≤◌, List, [], ◌∷◌, length, sum_by, slice_get, slice_index_or, slice_range, slice_set, All, replicate, ◌⊎◌, Bool, true, if◌then◌else◌, Option, Some, None, IfSome, option_map}
 use Rattle.std.specs.Option.{option_map_or}
 use Rattle.std.specs.List.{list_all}
 use Rattle.pool_pages.specs.Contents.{put}
@@ -45,6 +45,14 @@ memories_in (Some g) = length g.memories
 abbrev pub live_count : Grants → ℕ
 live_count grants = sum_by memories_in grants
 
+-- and how many instances
+abbrev pub instances_in : Option PrivateInstance → ℕ
+instances_in None = 0
+instances_in (Some g) = 1
+
+abbrev pub instance_count : Grants → ℕ
+instance_count grants = sum_by instances_in grants
+
 -- what is the same for the whole run: whether pages are told, the page of their maker and its plan, the modules, how
 -- many slots and how many instances there may be, and whether there is one party alone
 pub record World : Type 0 where
@@ -85,17 +93,20 @@ IsFree slot grants = (i : ℕ) → IfSome (grant_at grants i) (λ g. All (λ m. 
 abbrev pub SomeMayFault : World → Type 0
 SomeMayFault w = IfSome w.maker.plan (λ plan. (i : ℕ) × (i < w.total) × (0 < length (calls_of (memory_region i) plan)))
 
--- a refusal for room: no slot is free, or as many instances are granted as there may be
-abbrev pub IsLimit : World → PoolConcurrencyLimitError → Type 0
-IsLimit w e = ((e ≡ record { limit = w.total; kind = MemoryStripe 0 }) ⊎ (e ≡ record { limit = w.most_instances; kind = CoreInstances }))
+-- A refusal for room of a request for the module of this number: no slot is free for one of its memories, or as many
+-- instances are granted as there may be. A party that is alone has all these itself.
+abbrev pub IsLimit : World → ℕ → Grants → PoolConcurrencyLimitError → Type 0
+IsLimit w number grants e =
+    ((e ≡ record { limit = w.total; kind = MemoryStripe 0 }) × (w.alone ≡ true → w.total < live_count grants + length (memories_of w number)))
+    ⊎ ((e ≡ record { limit = w.most_instances; kind = CoreInstances }) × (w.alone ≡ true → w.most_instances ≤ instance_count grants))
 
--- why a request is refused
-abbrev pub IsCause : World → Refusal → Type 0
-IsCause w NoSuchGrant = ⊥
-IsCause w (Alloc (alloc.Memory)) = Unit {0}
-IsCause w (Alloc (alloc.Limit e)) = IsLimit w e
-IsCause w (Alloc (alloc.PageFault)) = SomeMayFault w
-IsCause w (Alloc _) = ⊥
+-- why such a request is refused; a call on pages fails only on those of a slot that is free
+abbrev pub IsCause : World → ℕ → Grants → Refusal → Type 0
+IsCause w number grants NoSuchGrant = ⊥
+IsCause w number grants (Alloc (alloc.Memory)) = Unit {0}
+IsCause w number grants (Alloc (alloc.Limit e)) = IsLimit w number grants e
+IsCause w number grants (Alloc (alloc.PageFault)) = SomeMayFault w × (live_count grants < w.total)
+IsCause w number grants (Alloc _) = ⊥
 
 -- no slot is named twice
 abbrev pub AllDiffer : List ℕ → Type 0
@@ -108,12 +119,13 @@ pub record AreGranted (w : World) (number : ℕ) (grants : Grants) (slots : List
   pub inside : All (λ slot. slot < w.total) slots
   pub free : All (λ slot. IsFree slot grants) slots
   pub differ : AllDiffer slots
+  pub room : live_count grants + length (memories_of w number) ≤ w.total
 
 -- the reply to command n, a request for an instance of the module of this number
 abbrev pub Instantiates : World → ℕ → ℕ → Grants → Reply → Grants → Type 0
 Instantiates w n number grants (Instance memories tables) new =
     AreGranted w number grants memories × (tables ≡ []) × (new ≡ slice_set grants n (Some (record { memories = begun_memories w number 0 (memories_of w number) memories })))
-Instantiates w n number grants (Refused refusal) new = IsCause w refusal × (new ≡ grants)
+Instantiates w n number grants (Refused refusal) new = IsCause w number grants refusal × (new ≡ grants)
 Instantiates w n number grants _ new = ⊥
 
 -- the reply to a read of a live memory

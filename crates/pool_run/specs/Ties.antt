@@ -77,23 +77,23 @@ module _ {P : Type 0} where
   stage_of UncountInstance e = ends_as e
 
   -- the refusal with which a step ends, or which the call is to end with, has a cause
-  abbrev pub IsRefusable : World → Phase P → Type 0
-  IsRefusable w (PutRefused slot held e) = IsCause w (Alloc e)
-  IsRefusable w (FreeRefused slot e) = IsCause w (Alloc e)
-  IsRefusable w _ = Unit {0}
+  abbrev pub IsRefusable : World → ℕ → Grants → Phase P → Type 0
+  IsRefusable w number told (PutRefused slot held e) = IsCause w number told (Alloc e)
+  IsRefusable w number told (FreeRefused slot e) = IsCause w number told (Alloc e)
+  IsRefusable w number told _ = Unit {0}
 
   -- A call is on its way to its end: a request that is refused, or a give-back. A grant ends where its give-back begins,
   -- though its reply comes later.
   abbrev pub EndsAs : World → Ending → List Command → ℕ → List (Option (Grant P)) → Grants → Type 0
   EndsAs w (ending.Refused e) commands done live told =
-      (grants_of live ≡ told) × IsCause w (Alloc e) × (number : ℕ) × (slice_get commands done ≡ Some (command.Instantiate number))
+      (grants_of live ≡ told) × (number : ℕ) × (slice_get commands done ≡ Some (command.Instantiate number)) × IsCause w number told (Alloc e)
   EndsAs w ending.Returned commands done live told =
       (of : ℕ) × (slice_get commands done ≡ Some (command.Drop of)) × IsSome (grant_at told of) × (grants_of live ≡ slice_set told of None)
 
   -- how what the party has at each stage fits what it was told
   abbrev pub TiedAs : World → Stage → List Command → ℕ → List (Option (Grant P)) → Frame P → Grants → Type 0
   TiedAs w no_call commands done live f told = grants_of live ≡ told
-  TiedAs w asks commands done live f told = (grants_of live ≡ told) × IsAsking w commands done f.asked f.granted.items × IsRefusable w f.phase
+  TiedAs w asks commands done live f told = (grants_of live ≡ told) × (asking : IsAsking w commands done f.asked f.granted.items) × IsRefusable w asking.number told f.phase
   TiedAs w (ends_as e) commands done live f told = EndsAs w e commands done live told
 
   -- What a party was told so far is a private run, whose grants fit what the party has.
