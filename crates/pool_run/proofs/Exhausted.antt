@@ -1,7 +1,7 @@
 -- Where the pool has no slot left and the party is alone, all slots are with its grants and its call.
-use Rattle.std.proofs.Common.{◌≡◌, ℕ, zero, suc, ◌+◌, ◌<◌, ◌≤◌, Bool, true, false, List, [], ◌∷◌, length, map, Option, Some, None, refl, sym, ap, ◌∙◌, subst, inl, inr, arith}
-use Rattle.std.specs.Prelude.{◌==◌, sum_by, option_map}
-use Rattle.std.proofs.lemmas.Bool.{cases_eq, cases_lt, eq-eqb, ne_eqb, lt-ltb, le-ltb}
+use Rattle.std.proofs.Common.{◌≡◌, ℕ, zero, suc, ◌+◌, ◌<◌, ◌≤◌, List, [], ◌∷◌, length, Option, Some, None, refl, sym, ap, ◌∙◌, inl, inr, arith}
+use Rattle.std.specs.Prelude.{sum_by}
+use Rattle.std.proofs.lemmas.Bool.{cases_eq, eq-eqb, ne_eqb, lt-ltb, le-ltb}
 use Rattle.std.proofs.lemmas.List.{length-map}
 use Rattle.std.proofs.lemmas.List.Sums.{sum_by-cons}
 use Rattle.pool_index.specs.Shard.{one_if}
@@ -12,7 +12,7 @@ use Rattle.pool_alloc.specs.declared.frame.Grant.{Grant}
 use Rattle.pool_alloc.specs.declared.frame.Grant.TheVariants.{Instance as instance}
 use Rattle.pool_alloc.proofs.Held.{made_once}
 use Rattle.pool_alloc.proofs.SlotCounts.{slot_once}
-use Rattle.pool_run.specs.Private.{PrivateInstance, Grants, memories_in, live_count, instances_in, instance_count}
+use Rattle.pool_run.specs.Private.{Grants, memories_in, live_count, instances_in, instance_count}
 use Rattle.pool_run.specs.Turns.{private_memory, private_grant, grants_of}
 use Rattle.pool_run.specs.Ties.{granted_to}
 use Rattle.pool_run.proofs.Counters.{below, below_sum, below_le, below_most, below_one, sum_below, ones, leases_below, grant_below}
@@ -54,7 +54,7 @@ leases_above n leases =
       arith,
       ones leases,
       sum_above (λ k (l : Lease). both_count (slot_of k) l.index) (λ l. 1) n leases
-      (λ l. omega (arith, (below_slot l.index n).0, below_le (λ k. both_count (slot_of k) l.index) (λ k. slot_count (slot_of k) l.index) (λ k. omega arith) n)),
+          (λ l. omega (arith, (below_slot l.index n).0, below_le (λ k. both_count (slot_of k) l.index) (λ k. slot_count (slot_of k) l.index) (λ k. omega arith) n)),
     )
 
 -- each slot is made once

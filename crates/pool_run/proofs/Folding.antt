@@ -72,10 +72,10 @@ module _ {P : Type 0} where
       let turned : HasTurned s.core p t = has_turned w modules (commands_of inputs i) s.core p t way.calls can (omega (arith, to.room)) turns in
       let alone : w.alone ≡ true → IsAlone s.core p.frame p.live =
       λ e.
-          let one = way.alone e in
-          let A : RunningParty P → Type 0 = λ q. IsAlone s.core q.frame q.live in
-          let at_first : slice_index_or s.parties 0 p ≡ p = subst (λ (n : ℕ). slice_index_or s.parties n p ≡ p) {x = i} {y = 0} (omega (arith, below, one.one)) here in
-          subst A at_first (one.alone p) in
+      let one = way.alone e in
+      let A : RunningParty P → Type 0 = λ q. IsAlone s.core q.frame q.live in
+      let at_first : slice_index_or s.parties 0 p ≡ p = subst (λ (n : ℕ). slice_index_or s.parties n p ≡ p) {x = i} {y = 0} (omega (arith, below, one.one)) here in
+      subst A at_first (one.alone p) in
       let now : IsRunTo w (commands_of inputs i) (with_reply t.reply (replies_to i s.replies)) t.party = run_to w modules (commands_of inputs i) (replies_to i s.replies) s.core p t way.world way.calls can alone to turns turned in
       let replies : List Reply = with_reply t.reply (replies_to i s.replies) in
       record {

@@ -1,26 +1,25 @@
 -- A request that goes on searching has searched so far: nobody but the party changes the pool meanwhile.
-use Rattle.std.proofs.Common.{◌≡◌, ◌≢◌, ℕ, ◌+◌, ◌-◌, ◌%◌, ◌<◌, ◌≤◌, Bool, true, false, List, [], ◌∷◌, length, Option, Some, None, Result, Ok, Err, refl, sym, ap, ◌∙◌, subst, inl, inr, arith}
-use Rattle.std.specs.Prelude.{◌==◌, ◌||◌, nat_lt, nat_le, if◌then◌else◌, slice_set, slice_index_or}
+use Rattle.std.proofs.Common.{◌≡◌, ◌≢◌, ℕ, ◌+◌, ◌-◌, ◌%◌, ◌<◌, Bool, true, false, List, [], ◌∷◌, length, Option, Some, None, Result, Ok, Err, refl, sym, ap, ◌∙◌, subst, inl, inr, arith}
+use Rattle.std.specs.Prelude.{◌==◌, ◌||◌, nat_lt, nat_le, if◌then◌else◌, slice_set}
 use Rattle.std.proofs.lemmas.Bool.{cases_eq, ltb-false}
-use Rattle.std.proofs.lemmas.List.{length-set, get_or-set_same, get_or-set_other, nil_from_length}
+use Rattle.std.proofs.lemmas.List.{length-set, get_or-set_same, get_or-set_other}
 use Rattle.pool_pages.specs.MakerTold.{MakerTold}
 use Rattle.pool_pages.specs.declared.unsupported.Unsupported.{Unsupported}
 use Rattle.pool_images.specs.Slots.{Slot}
-use Rattle.pool_index.specs.Shard.{ShardState, IsShard, after_pick, pick_answer, after_free}
+use Rattle.pool_index.specs.Shard.{ShardState, after_pick, pick_answer, after_free}
 use Rattle.pool_index.specs.declared.ids.SlotId.{SlotId}
-use Rattle.pool_index.specs.declared.ids.MemoryInModule.{MemoryInModule}
 use Rattle.pool_memory.specs.Memories.{MemoryState}
 use Rattle.pool_slots.specs.Cells.{Cell, unmapped, unknown, previously_used, taken}
 use Rattle.pool_slots.specs.Queues.{QueueState, QueuedMemory, empty_queue, after_take, taken_into, joined, emptied}
 use Rattle.pool_slots.specs.declared.request.AllocError.{AllocError}
 use Rattle.pool_slots.specs.declared.request.AllocError.TheVariants as refusal
 use Rattle.pool_slots.specs.declared.request.ConcurrencyKind.TheVariants.{MemoryStripe, CoreInstances}
-use Rattle.pool_alloc.specs.Places.{slot_of, shard_count}
+use Rattle.pool_alloc.specs.Places.{slot_of}
 use Rattle.pool_alloc.specs.Reserved.{no_room, with_item}
 use Rattle.pool_alloc.specs.Leases.{Lease}
 use Rattle.pool_alloc.specs.Own.{memories_refused, memory_made, reset_into}
 use Rattle.pool_alloc.specs.Sound.{IsCore}
-use Rattle.pool_alloc.specs.Steps.{Given, After, memories_asked, wanted, shard_at, cell_at, queue_at, shard_of, local_of, freed_elsewhere, first_shard, cell_returned, with_shard, with_cell, with_queue, counting_instances, counting_memories, goes, ends, give_back_next, refuses, allocate_next, flushes, after_flush, no_slot, answer_of, shard_tried, queue_tried, validated, picked, holds_region, made, returns, merged, puts, were_freed, row_of, row}
+use Rattle.pool_alloc.specs.Steps.{Given, After, memories_asked, wanted, shard_at, cell_at, queue_at, shard_of, local_of, freed_elsewhere, first_shard, cell_returned, with_shard, with_cell, with_queue, counting_instances, counting_memories, goes, ends, give_back_next, refuses, allocate_next, flushes, after_flush, no_slot, answer_of, shard_tried, queue_tried, validated, picked, holds_region, made, returns, merged, puts, were_freed, row_of}
 use Rattle.pool_alloc.specs.declared.pool_core.PoolCore.{PoolCore}
 use Rattle.pool_alloc.specs.declared.frame.AfterFlush.{AfterFlush}
 use Rattle.pool_alloc.specs.declared.frame.AfterFlush.TheVariants.{PickAgain, GiveBackNext}
@@ -127,7 +126,7 @@ module _ {P : Type 0} where
       let At : ℕ → Type 0 = λ n. HasNoSlot (shard_at ((f.home + j) % n) (slice_set c.shards i new)) in
       subst At (sym long)
       (shards_none c.shards i new ((f.home + j) % length c.shards) inside still
-        (λ other. full j (before_last j tried below (λ e. other (ap (λ (n : ℕ). (f.home + n) % length c.shards) e))))))
+      (λ other. full j (before_last j tried below (λ e. other (ap (λ (n : ℕ). (f.home + n) % length c.shards) e))))))
 
   -- the queue that was taken is empty
   taken_empty : (maker : MakerTold) (queues : ℕ) (queue : QueueState) (c : PoolCore P) (f : Frame P) → IsCore maker c → queue.memories ≡ [] → AreEmpty queues c f → AreEmpty (queues + 1) (with_queue (queue_tried queues c f) queue c) f
@@ -138,7 +137,7 @@ module _ {P : Type 0} where
       let At : ℕ → Type 0 = λ n. (queue_at ((f.home + j) % n) (slice_set c.queues i queue)).memories ≡ [] in
       subst At (sym long)
       (queues_none c.queues i queue ((f.home + j) % length c.queues) inside none
-        (λ other. empty j (before_last j queues below (λ e. other (ap (λ (n : ℕ). (f.home + n) % length c.queues) e)))))
+      (λ other. empty j (before_last j queues below (λ e. other (ap (λ (n : ℕ). (f.home + n) % length c.queues) e)))))
 
   holds_searched : (slot : ℕ) (cell : Cell) (c : PoolCore P) (f : Frame P) → IsSearched (holds_region slot cell c f)
   holds_searched slot (unmapped region) c f = record { searched = tt }

@@ -117,12 +117,12 @@ module _ {P : Type 0} where
     world = world;
     calls = calls;
     alone = λ e. record {
-        one = alone e;
-        alone = λ d.
-            let A : RunningParty P → Type 0 = λ q. IsAlone c q.frame q.live in
-            let one = made 0 d (omega (arith, alone e)) in
-            subst A (sym (is_party_made c.settings (length (commands_of inputs 0)) (slice_index_or parties 0 d) one)) (made_alone w.maker one.home (length (commands_of inputs 0)) c core untouched);
-      };
+      one = alone e;
+      alone = λ d.
+          let A : RunningParty P → Type 0 = λ q. IsAlone c q.frame q.live in
+          let one = made 0 d (omega (arith, alone e)) in
+          subst A (sym (is_party_made c.settings (length (commands_of inputs 0)) (slice_index_or parties 0 d) one)) (made_alone w.maker one.home (length (commands_of inputs 0)) c core untouched);
+    };
     told = length-replicate {A = List Reply} (length parties) [];
     each = λ i d below.
         let To : List Reply → Type 0 = λ rs. IsRunTo w (commands_of inputs i) rs (slice_index_or parties i d) in

@@ -208,17 +208,17 @@ module _ {P : Type 0} (w : World) (commands : List Command) (live : List (Option
       let shard : ShardState = shard_at (shard_tried tried c has) c.shards in
       picked_tied (pick_answer (wanted has) shard) shard queues tried (with_shard (shard_tried tried c has) (after_pick (wanted has) shard) c) has tied.0 tied.1
       (λ none round last. limit_of_slots w tied.1.number told (length c.cells) f.stripe c.settings.stripes world.total can.frame.stripe world.stripes
-        (λ e.
-          let searched = (alone e).searched in
-          let sound : IsShard shard = can.core.shards (shard_tried tried c has) (tried_is_shard w.maker tried c has can.core) in
-          let same : length (slice_set c.shards (shard_tried tried c has) (after_pick (wanted has) shard)) ≡ length c.shards = length-set c.shards (shard_tried tried c has) (after_pick (wanted has) shard) in
-          let full : AreFull (length c.shards) c has =
-          λ j below.
-              elim (cases_eq j tried) [
-                | inl is ↦ subst (λ (n : ℕ). HasNoSlot (shard_at (shard_tried n c has) c.shards)) (sym is) (none_free (wanted has) shard sound none)
-                | inr other ↦ searched.1 j (omega (arith, below, round, same, other))
-              ] in
-          too_many c has tied.1 world tied.0 can.frame.shape.0 can.frame.shape.1 (λ k. refl) (nothing_kept c has (λ j below. searched.0 j (omega (arith, below, last))) full) (alone e)))
+      (λ e.
+      let searched = (alone e).searched in
+      let sound : IsShard shard = can.core.shards (shard_tried tried c has) (tried_is_shard w.maker tried c has can.core) in
+      let same : length (slice_set c.shards (shard_tried tried c has) (after_pick (wanted has) shard)) ≡ length c.shards = length-set c.shards (shard_tried tried c has) (after_pick (wanted has) shard) in
+      let full : AreFull (length c.shards) c has =
+      λ j below.
+      elim (cases_eq j tried) [
+        | inl is ↦ subst (λ (n : ℕ). HasNoSlot (shard_at (shard_tried n c has) c.shards)) (sym is) (none_free (wanted has) shard sound none)
+        | inr other ↦ searched.1 j (omega (arith, below, round, same, other))
+      ] in
+      too_many c has tied.1 world tied.0 can.frame.shape.0 can.frame.shape.1 (λ k. refl) (nothing_kept c has (λ j below. searched.0 j (omega (arith, below, last))) full) (alone e)))
   tied_at g (TakeQueue queues) c f world can held alone free may tied =
       let has : Frame P = in_phase (TakeQueue queues) f in
       let q : QueueState = queue_at (queue_tried queues c has) c.queues in
@@ -226,17 +226,17 @@ module _ {P : Type 0} (w : World) (commands : List Command) (live : List (Option
       let took_it : Frame P = record has { local = taken_into f.local q } in
       either w commands live done told (length q.memories == 0) (no_slot (queues + 1) left took_it) (flushes (PickAgain (queues + 1)) left took_it)
       (λ none. no_slot_left w commands live done told (queues + 1) left took_it tied.0 tied.1
-        (λ last. limit_of_slots w tied.1.number told (length c.cells) f.stripe c.settings.stripes world.total can.frame.stripe world.stripes
-          (λ e.
-            let searched = (alone e).searched in
-            let same : length (slice_set c.queues (queue_tried queues c has) (after_take q)) ≡ length c.queues = length-set c.queues (queue_tried queues c has) (after_take q) in
-            let empty : AreEmpty (length c.queues) c has =
-            λ j below.
-                elim (cases_eq j queues) [
-                  | inl is ↦ subst (λ (n : ℕ). (queue_at (queue_tried n c has) c.queues).memories ≡ []) (sym is) (empty_length q.memories none)
-                  | inr other ↦ searched.0 j (omega (arith, below, last, same, other))
-                ] in
-            too_many c has tied.1 world tied.0 can.frame.shape.0 can.frame.shape.1 (λ k. refl) (nothing_kept c has empty searched.1) (alone e))))
+      (λ last. limit_of_slots w tied.1.number told (length c.cells) f.stripe c.settings.stripes world.total can.frame.stripe world.stripes
+      (λ e.
+      let searched = (alone e).searched in
+      let same : length (slice_set c.queues (queue_tried queues c has) (after_take q)) ≡ length c.queues = length-set c.queues (queue_tried queues c has) (after_take q) in
+      let empty : AreEmpty (length c.queues) c has =
+      λ j below.
+      elim (cases_eq j queues) [
+        | inl is ↦ subst (λ (n : ℕ). (queue_at (queue_tried n c has) c.queues).memories ≡ []) (sym is) (empty_length q.memories none)
+        | inr other ↦ searched.0 j (omega (arith, below, last, same, other))
+      ] in
+      too_many c has tied.1 world tied.0 can.frame.shape.0 can.frame.shape.1 (λ k. refl) (nothing_kept c has empty searched.1) (alone e))))
       (λ some. flush_of_request w commands live done told (queues + 1) left took_it tied.0 tied.1)
   tied_at g (TakeRegion slot) c f world can held alone free may tied = holds_tied slot (cell_at slot c.cells) (with_cell slot taken c) (in_phase (TakeRegion slot) f) tied.0 tied.1
   tied_at g (Empty slot had) c f world can held alone free may tied =

@@ -153,7 +153,7 @@ module _ {P : Type 0} where
       subst Placed (sym by.2.is) (placed_at (p.done < length p.live) by.0 p.frame.phase c p.frame (placed_as (p.done < length p.live) (stage_of p.frame.phase p.frame.ending) can.party.place)) in
       subst (HasTurned c p) (sym steps.2)
       (answered_turned c p a.core a.frame a.outcome can.party.to_come (step_conserves maker c p.frame a (can_step maker c p can) (by.0, by.2)) (step_keeps_size maker c p.frame a (can_step maker c p can) (by.0, by.2)) placed.placed
-        (λ searching. let Searched : After P → Type 0 = λ x. IsSearched x in (subst Searched (sym by.2.is) (searched_at maker by.0 p.frame.phase c p.frame can.core searching)).searched))
+      (λ searching. let Searched : After P → Type 0 = λ x. IsSearched x in (subst Searched (sym by.2.is) (searched_at maker by.0 p.frame.phase c p.frame can.core searching)).searched))
 
   -- The same from a party with as much of the pool.
   turned_from : (c : PoolCore P) (p q : RunningParty P) (t : Turned P) → HaveSame p q → length q.live ≡ length p.live → IsSearchedAt q.frame.phase c q.frame → HasTurned c q t → HasTurned c p t
