@@ -1,132 +1,88 @@
--- What a grant, a refusal and a write leave of a run.
-use Rattle.std.proofs.Common.{◌≡◌, ℕ, ◌+◌, ◌<◌, List, ◌++◌, length, Option, Some, None, sym, ap, ◌∙◌, subst}
-use Rattle.std.specs.Prelude.{slice_set, slice_index_or}
-use Rattle.std.proofs.lemmas.List.{length-set}
+-- A run of several parties: each may turn, and after a turn of one the run goes on.
+use Rattle.std.proofs.Common.{◌≡◌, ℕ, ◌+◌, ◌<◌, ◌≤◌, List, length, get_or, refl, sym, ap, subst, arith, All}
+use Rattle.std.specs.Prelude.{IfSome, remove, sum_by, slice_set, slice_index_or}
+use Rattle.std.proofs.lemmas.List.Elements.{All-set, All-get_or}
+use Rattle.std.proofs.lemmas.List.Sums.{sum_by-set, sum_by-remove, sum_by-le-sum_by, get_or-le-sum_by}
 use Rattle.pool_pages.specs.MakerTold.{MakerTold}
-use Rattle.pool_images.specs.Images.{Image}
-use Rattle.pool_slots.specs.Memories.{Lease}
-use Rattle.pool_slots.specs.Pools.{PoolState, IsPool, IsLeaseOf, Begins, IsRefused}
-use Rattle.pool_slots.specs.Queues.{QueuedMemory}
-use Rattle.pool_slots.specs.declared.request.AllocError.{AllocError}
-use Rattle.pool_run.specs.Private.{live_count}
-use Rattle.pool_run.specs.Runs.{RunState, IsRunning, KeepsSize, lease_at}
-use Rattle.pool_run.specs.Turns.{IsAllocated, IsDenied}
-use Rattle.pool_run.proofs.Grants.{live_more, live_same}
-use Rattle.pool_run.proofs.Held as held
+use Rattle.pool_alloc.specs.Places.{slot_of, region_of, made_count}
+use Rattle.pool_alloc.specs.Calls.{IsGrant}
+use Rattle.pool_alloc.specs.Stepping.{IsSameSize}
+use Rattle.pool_alloc.specs.Whole.{HasSlots, IsWhole}
+use Rattle.pool_alloc.specs.declared.pool_core.PoolCore.{PoolCore}
+use Rattle.pool_alloc.specs.declared.pool_core.Settings.{Settings}
+use Rattle.pool_alloc.specs.declared.frame.ModuleCall.{ModuleCall}
+use Rattle.pool_alloc.proofs.KeptCounts.{frame_regions}
+use Rattle.pool_alloc.proofs.SameSizes.{frame_over}
+use Rattle.pool_run.specs.Turns.{Turned, Turns}
+use Rattle.pool_run.specs.Ties.{held_by_party, IsParty, FitsParty, CanTurn, IsSoundTurn, IsRunning}
+use Rattle.pool_run.specs.Worlds.{AreCallsFor}
+use Rattle.pool_run.specs.Private.{World}
+use Rattle.pool_run.specs.declared.command.Command.{Command}
+use Rattle.pool_run.specs.declared.running_party.RunningParty.{RunningParty}
+use Rattle.pool_run.proofs.Parties.{live_regions}
+use Rattle.pool_run.proofs.Turned.{HasTurned, has_turned}
 
--- what is on its way back
-abbrev pub back_of : RunState → List QueuedMemory
-back_of s = s.queue.memories ++ s.spare.memories
+module _ {P : Type 0} where
+  -- A party has no region without its slot.
+  party_has_slots : (p : RunningParty P) → HasSlots (held_by_party p)
+  party_has_slots p k = omega (arith, frame_regions k p.frame, live_regions k p.live)
 
--- a memory began, as command n
-pub granted : (maker : MakerTold) (minimum : ℕ) (image : Option Image) (s : RunState) (pool : PoolState) (l : Lease) (n : ℕ) → IsRunning maker s → IsPool maker pool → Begins maker minimum image s.pool pool l → n < length s.live → lease_at s n ≡ None → IsRunning maker (record s { pool = pool; live = slice_set s.live n (Some l); instances = s.instances + 1; memories = s.memories + 1 })
-granted maker minimum image s pool l n running is_pool begins below none =
-    let more : live_count (slice_set s.live n (Some l)) ≡ live_count s.live + 1 = live_more s.live n l below none in
-    let i = running.sound in
-    record {
-      sound = record {
-        held = held.granted maker minimum image s.pool pool s.live (back_of s) l n i.held is_pool begins below none;
-        batch = i.batch;
-        owners = i.owners;
-        spare_owners = i.spare_owners;
-        range_room = i.range_room;
-        slot_room = i.slot_room;
-        spare_range_room = i.spare_range_room;
-        spare_slot_room = i.spare_slot_room;
-        instances = ap (λ (k : ℕ). k + 1) i.instances ∙ sym more;
-        memories = ap (λ (k : ℕ). k + 1) i.memories ∙ sym more;
-      };
-      waiting = record { below = running.waiting.below; few = running.waiting.few };
-      spare = record { ranges = running.spare.ranges; slots = running.spare.slots };
-    }
+  others_have_slots : (parties : List (RunningParty P)) (i k : ℕ) (d : RunningParty P) → i < length parties → sum_by (λ p. (held_by_party p).places (region_of k)) parties + (held_by_party (slice_index_or parties i d)).places (slot_of k) ≤ sum_by (λ p. (held_by_party p).places (slot_of k)) parties + (held_by_party (slice_index_or parties i d)).places (region_of k)
+  others_have_slots parties i k d below =
+      omega (
+        arith,
+        sum_by-remove (λ p. (held_by_party p).places (region_of k)) parties i d below,
+        sum_by-remove (λ p. (held_by_party p).places (slot_of k)) parties i d below,
+        sum_by-le-sum_by (λ p. (held_by_party p).places (region_of k)) (λ p. (held_by_party p).places (slot_of k)) (remove parties i) (λ p. party_has_slots p k),
+      )
 
--- a request was refused: every lease is still one
-pub refused : (maker : MakerTold) (s : RunState) (pool : PoolState) (e : AllocError) → IsRunning maker s → IsPool maker pool → (pool.page ≡ s.pool.page) × (pool.static_size ≡ s.pool.static_size) × (pool.keep_resident ≡ s.pool.keep_resident) → IsRefused maker s.pool pool e → IsRunning maker (record s { pool = pool })
-refused maker s pool e running is_pool sizes is =
-    let i = running.sound in
-    record {
-      sound = record {
-        held = held.refused maker s.pool pool s.live (back_of s) e i.held is_pool sizes is;
-        batch = i.batch;
-        owners = i.owners;
-        spare_owners = i.spare_owners;
-        range_room = i.range_room;
-        slot_room = i.slot_room;
-        spare_range_room = i.spare_range_room;
-        spare_slot_room = i.spare_slot_room;
-        instances = i.instances;
-        memories = i.memories;
-      };
-      waiting = record { below = running.waiting.below; few = running.waiting.few };
-      spare = record { ranges = running.spare.ranges; slots = running.spare.slots };
-    }
+  -- What each of the parties has fits what the pool has.
+  pub fits_party : (c : PoolCore P) (parties : List (RunningParty P)) (i : ℕ) (d : RunningParty P) → IsWhole held_by_party c parties → i < length parties → FitsParty c (slice_index_or parties i d)
+  fits_party c parties i d whole below = record {
+    once = λ t. omega (arith, whole.places t, get_or-le-sum_by (λ p. (held_by_party p).places t) parties i d below);
+    home = λ k some.
+        let both : made_count (region_of k) (length c.cells) ≡ made_count (slot_of k) (length c.cells) = refl in
+        omega (arith, some, both, whole.places (slot_of k), whole.places (region_of k), others_have_slots parties i k d below, get_or-le-sum_by (λ p. (held_by_party p).places (slot_of k)) parties i d below);
+    instances = omega (arith, whole.instances, get_or-le-sum_by (λ p. (held_by_party p).instances) parties i d below);
+    memories = omega (arith, whole.memories, get_or-le-sum_by (λ p. (held_by_party p).memories) parties i d below);
+  }
 
--- a lease was written
-pub rewritten : (maker : MakerTold) (s : RunState) (n : ℕ) (l m : Lease) → IsRunning maker s → n < length s.live → lease_at s n ≡ Some l → m.index ≡ l.index → IsLeaseOf maker s.pool m → IsRunning maker (record s { live = slice_set s.live n (Some m) })
-rewritten maker s n l m running below is same lease =
-    let count : live_count (slice_set s.live n (Some m)) ≡ live_count s.live = live_same s.live n l m is in
-    let i = running.sound in
-    record {
-      sound = record {
-        held = held.rewritten maker s.pool s.live (back_of s) n l m i.held below is same lease;
-        batch = i.batch;
-        owners = i.owners;
-        spare_owners = i.spare_owners;
-        range_room = i.range_room;
-        slot_room = i.slot_room;
-        spare_range_room = i.spare_range_room;
-        spare_slot_room = i.spare_slot_room;
-        instances = i.instances ∙ sym count;
-        memories = i.memories ∙ sym count;
-      };
-      waiting = record { below = running.waiting.below; few = running.waiting.few };
-      spare = record { ranges = running.spare.ranges; slots = running.spare.slots };
-    }
+  -- Each of them may turn.
+  pub can_turn : (maker : MakerTold) (c : PoolCore P) (parties : List (RunningParty P)) (i : ℕ) (d : RunningParty P) → IsRunning maker c parties → i < length parties → CanTurn maker c (slice_index_or parties i d)
+  can_turn maker c parties i d running below = record {
+    core = running.core;
+    party = All-get_or (IsParty maker c) parties i d below running.each;
+    fits = fits_party c parties i d running.whole below;
+  }
 
--- what a lease that was granted is put into
-abbrev pub with_lease_at : ℕ → Lease → RunState → RunState
-with_lease_at n l s = record s { live = slice_set s.live n (Some l); instances = s.instances + 1; memories = s.memories + 1 }
+  whole_turned : (c : PoolCore P) (parties : List (RunningParty P)) (i : ℕ) (d : RunningParty P) (t : Turned P) → IsWhole held_by_party c parties → i < length parties → HasTurned c (slice_index_or parties i d) t → IsWhole held_by_party t.core (slice_set parties i t.party)
+  whole_turned c parties i d t whole below turned = record {
+    places = λ x. omega (arith, ap (made_count x) turned.size.cells, whole.places x, turned.places x, sum_by-set (λ p. (held_by_party p).places x) parties i t.party d below);
+    instances = omega (arith, whole.instances, turned.instances, sum_by-set (λ p. (held_by_party p).instances) parties i t.party d below);
+    memories = omega (arith, whole.memories, turned.memories, sum_by-set (λ p. (held_by_party p).memories) parties i t.party d below);
+  }
 
--- a memory began, after a flush if need be
-pub allocated : (maker : MakerTold) (minimum : ℕ) (image : Option Image) (old new : RunState) (l : Lease) (n : ℕ) → IsAllocated maker minimum image old new l → n < length old.live → lease_at old n ≡ None → IsRunning maker (with_lease_at n l new)
-allocated maker minimum image old new l n is below none =
-    let B : List (Option Lease) → Type 0 = λ live. n < length live in
-    let N : List (Option Lease) → Type 0 = λ live. slice_index_or live n None ≡ None in
-    let P : RunState → Type 0 = λ r. IsRunning maker (with_lease_at n l r) in
-    let here = granted maker minimum image is.mid new.pool l n is.flushed.running is.pool is.begins (subst B (sym is.flushed.live) below) (subst N (sym is.flushed.live) none) in
-    subst P (sym is.rest) here
+  -- A party stays sound over a pool of the same sizes.
+  pub party_over : (maker : MakerTold) (c d : PoolCore P) (p : RunningParty P) → IsSameSize c d → IsParty maker c p → IsParty maker d p
+  party_over maker c d p size is =
+      let Grants : Settings → Type 0 = λ s. All (λ g. IfSome g (IsGrant maker s)) p.live in
+      record {
+        sound = record { frame = frame_over maker c d p.frame size is.sound.frame; grants = subst Grants (sym size.settings) is.sound.grants };
+        to_come = is.to_come;
+        place = is.place;
+      }
 
-pub allocated_size : (maker : MakerTold) (minimum : ℕ) (image : Option Image) (old new : RunState) (l : Lease) (n : ℕ) → IsAllocated maker minimum image old new l → KeepsSize old (with_lease_at n l new)
-allocated_size maker minimum image old new l n is =
-    let P : RunState → Type 0 = λ r. KeepsSize old (with_lease_at n l r) in
-    let size = is.flushed.size in
-    let changes = is.begins.changes in
-    let here : P (record is.mid { pool = new.pool }) = record {
-      places = length-set is.mid.live n (Some l) ∙ size.places;
-      slots = changes.count ∙ size.slots;
-      page = changes.page ∙ size.page;
-      static_size = changes.static_size ∙ size.static_size;
-      keep_resident = is.keep_resident ∙ size.keep_resident;
-      batch = size.batch;
-    } in
-    subst P (sym is.rest) here
+  -- The run goes on after a turn of one of them.
+  pub turned_running : (maker : MakerTold) (c : PoolCore P) (parties : List (RunningParty P)) (i : ℕ) (d : RunningParty P) (t : Turned P) → IsRunning maker c parties → i < length parties → HasTurned c (slice_index_or parties i d) t → IsSoundTurn maker t → IsRunning maker t.core (slice_set parties i t.party)
+  turned_running maker c parties i d t running below turned sound = record {
+    core = sound.core;
+    each =
+        All-set (IsParty maker t.core) parties i t.party
+        (record { sound = sound.party; to_come = turned.to_come; place = turned.place })
+        (λ k e inside. party_over maker c t.core (get_or parties k e) turned.size (All-get_or (IsParty maker c) parties k e inside running.each));
+    whole = whole_turned c parties i d t running.whole below turned;
+  }
 
--- a request was refused, after a flush if need be
-pub denied : (maker : MakerTold) (old new : RunState) (e : AllocError) → IsDenied maker old new e → IsRunning maker new
-denied maker old new e is =
-    let P : RunState → Type 0 = λ r. IsRunning maker r in
-    subst P (sym is.rest) (refused maker is.mid new.pool e is.flushed.running is.pool is.sizes is.refused)
-
-pub denied_size : (maker : MakerTold) (old new : RunState) (e : AllocError) → IsDenied maker old new e → KeepsSize old new
-denied_size maker old new e is =
-    let P : RunState → Type 0 = λ r. KeepsSize old r in
-    let size = is.flushed.size in
-    let here : P (record is.mid { pool = new.pool }) = record {
-      places = size.places;
-      slots = is.count ∙ size.slots;
-      page = is.sizes.0 ∙ size.page;
-      static_size = is.sizes.1 ∙ size.static_size;
-      keep_resident = is.sizes.2 ∙ size.keep_resident;
-      batch = size.batch;
-    } in
-    subst P (sym is.rest) here
+  pub turn_running : (w : World) (modules : List ModuleCall) (commands : List Command) (c : PoolCore P) (parties : List (RunningParty P)) (i : ℕ) (d : RunningParty P) (t : Turned P) → AreCallsFor w c.settings modules → IsRunning w.maker c parties → i < length parties → length commands ≤ length (slice_index_or parties i d).live → Turns modules commands c (slice_index_or parties i d) t → IsSoundTurn w.maker t → IsRunning w.maker t.core (slice_set parties i t.party)
+  turn_running w modules commands c parties i d t calls running below room turns sound =
+      turned_running w.maker c parties i d t running below (has_turned w modules commands c (slice_index_or parties i d) t calls (can_turn w.maker c parties i d running below) room turns) sound

@@ -1,145 +1,130 @@
--- A run as it starts, and what it gives.
-use Rattle.std.proofs.Common.{◌≡◌, ◌≢◌, ℕ, zero, suc, ◌<◌, ◌≤◌, Result, Err, List, [], ◌∷◌, length, replicate, Option, Some, None, Bool, true, false, ◌&&◌, ◌||◌, refl, sym, ◌∙◌, subst, arith}
-use Rattle.std.specs.Prelude.{IfSome, nat_le, ◌==◌, slice_index_or}
-use Rattle.std.specs.List.{list_all, slice_get}
-use Rattle.std.proofs.lemmas.Bool.{eqb-true, leb-true}
-use Rattle.pool_pages.specs.Count.{count, rounded_up}
-use Rattle.pool_pages.specs.Told.{Rose}
-use Rattle.pool_pages.specs.MakerTold.{MakerTold, Planned}
-use Rattle.pool_index.specs.Shard.{used_count}
-use Rattle.pool_slots.specs.Memories.{Lease}
-use Rattle.pool_slots.specs.Pools.{PoolState, IsPool, IsLeaseOf, makes_listed}
-use Rattle.pool_slots.specs.Queues.{holds}
-use Rattle.pool_run.specs.Built.{is_built, is_built_module}
-use Rattle.pool_run.specs.Private.{live_count, PrivateRun}
-use Rattle.pool_run.specs.Runs.{RunState, IsRunning, IsRun, PartiesRun, world_of, grants_of, metrics_of, calls_of_run, FaultsInMaking, making_listed, images_listed}
-use Rattle.pool_run.specs.Turns.{at_start}
-use Rattle.pool_run.specs.Validity.{is_valid, is_valid_party, are_valid_after, most_commands, most_modules}
-use Rattle.pool_run.specs.declared.input.Input.{Input}
-use Rattle.pool_run.specs.declared.input.Party.{Party}
+-- A run as it starts: nobody has anything, and nobody was told anything.
+use Rattle.std.proofs.Common.{true, ◌≡◌, ℕ, zero, suc, ◌<◌, Bool, false, List, [], ◌∷◌, length, get_or, replicate, Option, None, refl, sym, ap, ◌∙◌, subst, arith, All}
+use Rattle.std.specs.Prelude.{IfSome, sum_by, slice_index_or}
+use Rattle.std.proofs.lemmas.List.{length-replicate}
+use Rattle.std.proofs.lemmas.List.Elements.{All-replicate, recursion_from_All}
+use Rattle.std.proofs.lemmas.List.Sums.{sum_by-cons}
+use Rattle.pool_pages.specs.MakerTold.{MakerTold}
+use Rattle.pool_alloc.specs.Calls.{frame_made, IsGrant}
+use Rattle.pool_alloc.specs.Sound.{IsCore}
+use Rattle.pool_alloc.specs.Stepping.{grant_count, grant_instances, grant_memories}
+use Rattle.pool_alloc.specs.Whole.{HasNothing, IsUntouched}
+use Rattle.pool_alloc.specs.declared.pool_core.PoolCore.{PoolCore}
+use Rattle.pool_alloc.specs.declared.pool_core.Settings.{Settings}
+use Rattle.pool_alloc.specs.declared.frame.Frame.{Frame}
+use Rattle.pool_alloc.specs.declared.frame.Grant.{Grant}
+use Rattle.pool_alloc.specs.declared.frame.ModuleCall.{ModuleCall}
+use Rattle.pool_alloc.proofs.BegunCalls.{made_frame, made_count, made_instances, made_memories}
+use Rattle.pool_alloc.proofs.Untouched.{untouched_is_whole, untouched_has_all}
+use Rattle.pool_run.specs.Searches.{IsAlone}
+use Rattle.pool_run.specs.Private.{World, Grants, no_grants}
+use Rattle.pool_run.specs.Turns.{grants_of}
+use Rattle.pool_run.specs.Ties.{granted_to, held_by_party, IsParty, IsPrivate, IsRunning}
+use Rattle.pool_run.specs.Worlds.{IsWorldOf, AreCallsFor}
+use Rattle.pool_run.specs.Folds.{commands_of, IsMadeParty, IsRunTo, IsUnderWay}
+use Rattle.pool_run.specs.declared.command.Command.{Command}
 use Rattle.pool_run.specs.declared.reply.Reply.{Reply}
-use Rattle.pool_run.proofs.Asked.{first, second, none_leased, of_all}
+use Rattle.pool_run.specs.declared.running_party.RunningParty.{RunningParty}
 
-none_live : (n : ℕ) → live_count (replicate {A = Option Lease} n None) ≡ 0
-none_live zero = refl
-none_live (suc n) = none_live n
+none_at : {X : Type 0} (n k : ℕ) → slice_index_or (replicate {A = Option X} n None) k None ≡ None
+none_at zero k = refl
+none_at (suc n) zero = refl
+none_at (suc n) (suc k) = none_at n k
 
--- a run with no grant
-pub started : (maker : MakerTold) (pool : PoolState) (n batch : ℕ) → IsPool maker pool → used_count pool.shard ≡ 0 → 0 < batch → IsRunning maker (at_start pool n batch)
-started maker pool n batch is_pool unused some = record {
-  sound = record {
-    held = record {
-      pool = is_pool;
-      leases = λ i.
-          let P : Option Lease → Type 0 = λ o. IfSome o (IsLeaseOf maker pool) in
-          subst P (sym (none_leased n i)) tt;
-      apart = λ i j differ.
-          let P : Option Lease → Type 0 = λ o. IfSome {T = Lease} o (λ (l : Lease). IfSome {T = Lease} (slice_index_or (replicate n None) j None) (λ (m : Lease). l.index ≢ m.index)) in
-          subst P (sym (none_leased n i)) tt;
-      queued = tt;
-      slots = tt;
-      distinct = tt;
-      not_queued = λ i.
-          let P : Option Lease → Type 0 = λ o. IfSome o (λ l. holds l.index [] ≡ false) in
-          subst P (sym (none_leased n i)) tt;
-      used = omega (arith, unused, none_live n);
-    };
-    batch = some;
-    owners = tt;
-    spare_owners = tt;
-    range_room = refl;
-    slot_room = refl;
-    spare_range_room = refl;
-    spare_slot_room = refl;
-    instances = sym (none_live n);
-    memories = sym (none_live n);
-  };
-  waiting = record { below = some; few = omega arith };
-  spare = record { ranges = refl; slots = refl };
+empty_at : {X : Type 0} (n k : ℕ) → slice_index_or (replicate {A = List X} n []) k [] ≡ []
+empty_at zero k = refl
+empty_at (suc n) zero = refl
+empty_at (suc n) (suc k) = empty_at n k
+
+module _ {P : Type 0} where
+  -- a party as it is made
+  abbrev pub party_made : ℕ → Settings → ℕ → RunningParty P
+  party_made home s places = record { frame = frame_made home s; keyed = false; done = 0; live = replicate places None }
+
+  pub is_party_made : (s : Settings) (places : ℕ) (p : RunningParty P) (made : IsMadeParty s places p) → p ≡ party_made made.home s places
+  is_party_made s places p made =
+      let Q : Frame P → Bool → ℕ → List (Option (Grant P)) → RunningParty P = λ f keyed done live. record { frame = f; keyed = keyed; done = done; live = live } in
+      ap (λ (f : Frame P). Q f p.keyed p.done p.live) made.frame
+      ∙ ap (λ (keyed : Bool). Q (frame_made made.home s) keyed p.done p.live) made.keyed
+      ∙ ap (λ (done : ℕ). Q (frame_made made.home s) false done p.live) made.done
+      ∙ ap (λ (live : List (Option (Grant P))). Q (frame_made made.home s) false 0 live) made.live
+
+  none_live : (of : Grant P → ℕ) (n : ℕ) → sum_by (granted_to of) (replicate n None) ≡ 0
+  none_live of zero = refl
+  none_live of (suc n) = omega (arith, sum_by-cons (granted_to of) None (replicate n None), none_live of n)
+
+none_told : (P : Type 0) (n : ℕ) → grants_of {P = P} (replicate n None) ≡ replicate n None
+none_told P zero = refl
+none_told P (suc n) = ap (λ (g : Grants). None ∷ g) (none_told P n)
+
+-- It has nothing,
+party_has_nothing : (P : Type 0) (home : ℕ) (s : Settings) (n : ℕ) → HasNothing (held_by_party (party_made {P = P} home s n))
+party_has_nothing P home s n = record {
+  places = λ t. omega (arith, made_count P t home s, none_live {P = P} (grant_count t) n);
+  instances = omega (arith, made_instances P home s, none_live {P = P} grant_instances n);
+  memories = omega (arith, made_memories P home s, none_live {P = P} grant_memories n);
 }
 
-built_rest : (input : Input) → is_built input ≡ true → (nat_le input.config.limits.total_memories 100 && (nat_le (length input.parties) 1 && list_all is_built_module input.modules)) ≡ true
-built_rest input built = second (input.config.limits.max_memory_size == 65536) (nat_le input.config.limits.total_memories 100 && (nat_le (length input.parties) 1 && list_all is_built_module input.modules)) built
+-- and was told nothing.
+party_is_private : (P : Type 0) (w : World) (commands : List Command) (home : ℕ) (s : Settings) → IsPrivate w (no_grants commands) commands [] (party_made {P = P} home s (length commands))
+party_is_private P w commands home s = record { grants = no_grants commands; run = refl; count = refl; tied = none_told P (length commands) }
 
-built_parts : (input : Input) → is_built input ≡ true → (nat_le (length input.parties) 1 && list_all is_built_module input.modules) ≡ true
-built_parts input built = second (nat_le input.config.limits.total_memories 100) (nat_le (length input.parties) 1 && list_all is_built_module input.modules) (built_rest input built)
+module _ {P : Type 0} where
+  -- It is sound.
+  party_is_sound : (maker : MakerTold) (home n : ℕ) (c : PoolCore P) → IsCore maker c → IsParty maker c (party_made home c.settings n)
+  party_is_sound maker home n c core = record {
+    sound = record { frame = made_frame maker home c core; grants = All-replicate (λ g. IfSome g (IsGrant maker c.settings)) n None tt };
+    to_come = λ k behind. none_at n k;
+    place = λ is. absurd cc;
+  }
 
--- the modules of an input that can be run so far, and its size
-pub built_modules : (input : Input) → is_built input ≡ true → list_all is_built_module input.modules ≡ true
-built_modules input built = second (nat_le (length input.parties) 1) (list_all is_built_module input.modules) (built_parts input built)
+  -- the parties are as made, each with a place for each of its commands
+  abbrev pub AreMade : Settings → List (List Command) → List (RunningParty P) → Type 0
+  AreMade s inputs parties = (i : ℕ) (d : RunningParty P) → i < length parties → IsMadeParty s (length (commands_of inputs i)) (slice_index_or parties i d)
 
-pub built_size : (input : Input) → is_built input ≡ true → input.config.limits.max_memory_size ≡ 65536
-built_size input built = eqb-true input.config.limits.max_memory_size 65536 (first (input.config.limits.max_memory_size == 65536) (nat_le input.config.limits.total_memories 100 && (nat_le (length input.parties) 1 && list_all is_built_module input.modules)) built)
+  each_made : (Q : RunningParty P → Type 0) (s : Settings) (inputs : List (List Command)) (parties : List (RunningParty P)) → ((home n : ℕ) → Q (party_made home s n)) → AreMade s inputs parties → All Q parties
+  each_made Q s inputs parties holds made i d below =
+      let one = made i d below in
+      subst Q (sym (is_party_made s (length (commands_of inputs i)) (get_or parties i d) one)) (holds one.home (length (commands_of inputs i)))
 
-few_parties : (input : Input) → is_built input ≡ true → length input.parties ≤ 1
-few_parties input built = leb-true (length input.parties) 1 (first (nat_le (length input.parties) 1) (list_all is_built_module input.modules) (built_parts input built))
+  -- So a run starts.
+  pub started_running : (maker : MakerTold) (c : PoolCore P) (inputs : List (List Command)) (parties : List (RunningParty P)) → IsCore maker c → IsUntouched c → AreMade c.settings inputs parties → IsRunning maker c parties
+  started_running maker c inputs parties core untouched made = record {
+    core = core;
+    each = each_made (IsParty maker c) c.settings inputs parties (λ home n. party_is_sound maker home n c core) made;
+    whole = untouched_is_whole maker held_by_party c parties core untouched (recursion_from_All (λ p. HasNothing (held_by_party p)) parties (each_made (λ p. HasNothing (held_by_party p)) c.settings inputs parties (λ home n. party_has_nothing P home c.settings n) made));
+  }
 
-one_party : (parties : List Party) (p : Party) → length parties ≤ 1 → slice_get parties 0 ≡ Some p → parties ≡ p ∷ []
-one_party [] p few is = absurd cc
-one_party (x ∷ []) p few is = cc
-one_party (x ∷ y ∷ rest) p few is = absurd (omega (arith, few))
+  -- One party is alone.
+  made_alone : (maker : MakerTold) (home n : ℕ) (c : PoolCore P) → IsCore maker c → IsUntouched c → IsAlone c (party_made {P = P} home c.settings n).frame (party_made {P = P} home c.settings n).live
+  made_alone maker home n c core untouched =
+      let nothing : HasNothing (held_by_party (party_made {P = P} home c.settings n)) = party_has_nothing P home c.settings n in
+      record {
+        places = λ t. omega (arith, untouched_has_all maker t c core untouched, nothing.places t);
+        instances = omega (arith, untouched.instances, nothing.instances);
+        searched = tt;
+      }
 
-no_party : (parties : List Party) → slice_get parties 0 ≡ None → parties ≡ []
-no_party [] is = refl
-no_party (x ∷ xs) is = absurd cc
+  run_to_start : (w : World) (s : Settings) (commands : List Command) (p : RunningParty P) → IsMadeParty s (length commands) p → IsRunTo w commands [] p
+  run_to_start w s commands p made =
+      let To : RunningParty P → Type 0 = λ q. IsRunTo w commands [] q in
+      let first : To (party_made made.home s (length commands)) = record { room = length-replicate {A = Option (Grant P)} (length commands) None; private = party_is_private P w commands made.home s } in
+      subst To (sym (is_party_made s (length commands) p made)) first
 
-pub valid_commands : (input : Input) (p : Party) → is_valid input ≡ true → slice_get input.parties 0 ≡ Some p → are_valid_after input.modules [] p.commands ≡ true
-valid_commands input p valid is = second (nat_le (length p.commands) most_commands) (are_valid_after input.modules [] p.commands) (of_all (is_valid_party input.modules) input.parties 0 p (second (nat_le (length input.modules) most_modules) (list_all (is_valid_party input.modules) input.parties) valid) is)
-
--- the output of a run without a party
-pub run_of_none : (input : Input) (maker : MakerTold) (pool : PoolState) → IsPool maker pool → length pool.cells ≡ input.config.limits.total_memories → pool.keep_resident ≡ count maker.page (rounded_up maker.page input.config.linear_memory_keep_resident) → used_count pool.shard ≡ 0 → 0 < input.config.decommit_batch_size → slice_get input.parties 0 ≡ None → IsRun input maker (record { replies = []; metrics = metrics_of (at_start pool 0 input.config.decommit_batch_size); calls = calls_of_run (at_start pool 0 input.config.decommit_batch_size) })
-run_of_none input maker pool is_pool total kept unused some none =
-    let P : List Party → Type 0 = λ parties. PartiesRun (world_of input maker) parties [] [] in
-    record {
-      state = at_start pool 0 input.config.decommit_batch_size;
-      running = started maker pool 0 input.config.decommit_batch_size is_pool unused some;
-      slots = total;
-      keep_resident = kept;
-      batch = refl;
-      parties = subst P (sym (no_party input.parties none)) refl;
-      metrics = refl;
-      calls = refl;
-    }
-
--- the output of a run of one party
-pub run_of_one : (input : Input) (maker : MakerTold) (p : Party) (replies : List Reply) (slots : ℕ) (s : RunState) → is_built input ≡ true → slice_get input.parties 0 ≡ Some p → IsRunning maker s → length s.pool.cells ≡ slots → slots ≡ input.config.limits.total_memories → s.pool.keep_resident ≡ count maker.page (rounded_up maker.page input.config.linear_memory_keep_resident) → s.batch ≡ input.config.decommit_batch_size → PrivateRun (record { maker = maker; modules = input.modules; total = slots }) 0 p.commands replies (replicate (length p.commands) None) (grants_of s) → IsRun input maker (record { replies = replies ∷ []; metrics = metrics_of s; calls = calls_of_run s })
-run_of_one input maker p replies slots s built is running length_is total kept batch runs =
-    let P : List Party → Type 0 = λ parties. PartiesRun (world_of input maker) parties (replies ∷ []) (grants_of s) in
-    let Q : ℕ → Type 0 = λ n. PrivateRun (record { maker = maker; modules = input.modules; total = n }) 0 p.commands replies (replicate (length p.commands) None) (grants_of s) in
-    record {
-      state = s;
-      running = running;
-      slots = length_is ∙ total;
-      keep_resident = kept;
-      batch = batch;
-      parties = subst P (sym (one_party input.parties p (few_parties input built) is)) (subst Q total runs);
-      metrics = refl;
-      calls = refl;
-    }
-
-right_of : (a b : Bool) → b ≡ true → (a || b) ≡ true
-right_of true b is = refl
-right_of false b is = is
-
-left_of : (a b : Bool) → a ≡ true → (a || b) ≡ true
-left_of true b is = refl
-left_of false b is = absurd cc
-
-listed_right : (o : Option (List Planned)) (input : Input) → IfSome o (λ plan. images_listed 0 plan input.modules ≡ true) → IfSome o (λ plan. making_listed input plan ≡ true)
-listed_right None input is = is
-listed_right (Some plan) input is = right_of (makes_listed plan input.config.limits.total_memories) (images_listed 0 plan input.modules) is
-
-listed_left : (o : Option (List Planned)) (input : Input) → IfSome o (λ plan. makes_listed plan input.config.limits.total_memories ≡ true) → IfSome o (λ plan. making_listed input plan ≡ true)
-listed_left None input is = is
-listed_left (Some plan) input is = left_of (makes_listed plan input.config.limits.total_memories) (images_listed 0 plan input.modules) is
-
--- no region, or no image, could be made
-pub faults_of_pool : (input : Input) (old new : MakerTold) → Rose old.faults new.faults × IfSome old.plan (λ plan. makes_listed plan input.config.limits.total_memories ≡ true) → FaultsInMaking input old new
-faults_of_pool input old new fault = record { rose = fault.0; listed = listed_left old.plan input fault.1 }
-
-pub faults_of_images : (input : Input) (old new : MakerTold) → Rose old.faults new.faults × IfSome old.plan (λ plan. images_listed 0 plan input.modules ≡ true) → FaultsInMaking input old new
-faults_of_images input old new fault = record { rose = fault.0; listed = listed_right old.plan input fault.1 }
-
--- an error is the same error with any other result
-pub fault_in : {A B E : Type 0} {e f : E} → ◌≡◌ {A = Result A E} (Err e) (Err f) → ◌≡◌ {A = Result B E} (Err e) (Err f)
-fault_in is = cc
+  pub run_started : (w : World) (modules : List ModuleCall) (inputs : List (List Command)) (c : PoolCore P) (parties : List (RunningParty P)) → IsCore w.maker c → IsUntouched c → IsWorldOf w c → AreCallsFor w c.settings modules → AreMade c.settings inputs parties → (w.alone ≡ true → length parties ≡ 1) → IsUnderWay w modules inputs (record { core = c; parties = parties; replies = replicate (length parties) [] })
+  run_started w modules inputs c parties core untouched world calls made alone = record {
+    running = started_running w.maker c inputs parties core untouched made;
+    world = world;
+    calls = calls;
+    alone = λ e. record {
+      one = alone e;
+      alone = λ d.
+          let A : RunningParty P → Type 0 = λ q. IsAlone c q.frame q.live in
+          let one = made 0 d (omega (arith, alone e)) in
+          subst A (sym (is_party_made c.settings (length (commands_of inputs 0)) (slice_index_or parties 0 d) one)) (made_alone w.maker one.home (length (commands_of inputs 0)) c core untouched);
+    };
+    told = length-replicate {A = List Reply} (length parties) [];
+    each = λ i d below.
+        let To : List Reply → Type 0 = λ rs. IsRunTo w (commands_of inputs i) rs (slice_index_or parties i d) in
+        subst To (sym (empty_at (length parties) i)) (run_to_start w c.settings (commands_of inputs i) (slice_index_or parties i d) (made i d below));
+  }

@@ -1,7 +1,7 @@
-pub mod Built
-pub mod Held
-pub mod Made
+pub mod Folds
 pub mod Private
-pub mod Runs
+pub mod Searches
+pub mod Ties
 pub mod Turns
 pub mod Validity
+pub mod Worlds

@@ -1,24 +1,20 @@
 //! A run of the pool: the input, the parties' commands and the replies.
 #![tactic(auto)]
 
-mod built;
 mod command;
-mod images;
 mod input;
 mod leases;
 mod metrics;
 mod output;
 mod reply;
-mod run;
-mod schedule;
+mod running_party;
 mod validity;
 
-pub use built::is_built;
 pub use command::Command;
 pub use input::{Input, Party};
+pub use leases::Leases;
 pub use metrics::Metrics;
 pub use output::{RunFault, RunOutput};
-pub use pool_slots::Trap;
-pub use reply::{Refusal, Reply, ReplyList, SlotList};
-pub use schedule::run_schedule;
-pub use validity::{MOST_BYTES, MOST_COMMANDS, MOST_MODULES, is_valid};
+pub use reply::{Refusal, Reply, ReplyList, SlotList, Trap};
+pub use running_party::RunningParty;
+pub use validity::{MOST_BYTES, MOST_COMMANDS, is_valid};

@@ -1,0 +1,72 @@
+-- The bytes of a memory as the party sees them: as it begins, and once they are written.
+use Rattle.std.proofs.Common.{◌≡◌, ℕ, ◌+◌, ◌≤◌, List, length, take, replicate, Option, Some, None, Bool, refl, sym, ap, ◌∙◌, subst, arith, if◌then◌else◌, is_some}
+use Rattle.std.specs.Prelude.{IfSome, option_map, slice_range}
+use Rattle.std.proofs.lemmas.List.{same_lists, places, take-replicate}
+use Rattle.pool_pages.specs.Count.{Count}
+use Rattle.pool_pages.specs.Contents.{Contents, put, written}
+use Rattle.pool_pages.specs.MemoryTypes.{minimum_byte_size}
+use Rattle.pool_pages.specs.declared.module_types.MemoryDecl.{MemoryDecl}
+use Rattle.pool_images.specs.Images.{Image, start}
+use Rattle.pool_images.specs.Slots.{FitsInto}
+use Rattle.pool_slots.specs.Cells.{IsSlotOf}
+use Rattle.pool_memory.specs.Memories.{MemoryState}
+use Rattle.pool_alloc.specs.Leases.{Lease}
+use Rattle.pool_alloc.specs.Sound.{IsNew, IsSupported}
+use Rattle.pool_alloc.specs.declared.pool_core.Settings.{Settings}
+use Rattle.pool_run.specs.Private.{World, PrivateMemory, image_at, begun_memory, memory_written}
+use Rattle.pool_run.specs.Turns.{private_memory, lease_written}
+
+-- what is written into the first n elements is written into a list's first n
+take_put : (i n : ℕ) (new xs : List ℕ) → i + length new ≤ n → take n (put i new xs) ≡ put i new (take n xs)
+take_put i n new xs within = same_lists _ _ (grind (arith, places)) (λ k d h. grind (arith, places))
+
+-- a write to the first bytes of a region
+written_in : (i size base : ℕ) (new : List ℕ) (o : Option Contents) → base ≡ 0 → i + length new ≤ size → option_map (λ c. slice_range c.bytes base (base + size)) (option_map (written (base + i) new) o) ≡ option_map (put i new) (option_map (λ c. slice_range c.bytes base (base + size)) o)
+written_in i size base new None is within = refl
+written_in i size base new (Some c) is within =
+    let P : ℕ → Type 0 = λ b. Some (slice_range (put (b + i) new c.bytes) b (b + size)) ≡ Some (put i new (slice_range c.bytes b (b + size))) in
+    let from_start : (xs : List ℕ) → slice_range xs 0 (0 + size) ≡ take size xs = λ xs. ap (λ (n : ℕ). take n xs) (omega arith) in
+    let Q : ℕ → Type 0 = λ j. slice_range (put j new c.bytes) 0 (0 + size) ≡ put i new (slice_range c.bytes 0 (0 + size)) in
+    let here : i ≡ 0 + i = omega arith in
+    subst P (sym is) (ap Some (subst Q here (from_start (put i new c.bytes) ∙ take_put i size new c.bytes within ∙ ap (put i new) (sym (from_start c.bytes)))))
+
+-- a memory that is written is to the party what its private bytes are once they are written
+pub written_seen : (i : ℕ) (new : List ℕ) (l : Lease) → l.memory.slot.base.bytes ≡ 0 → i + length new ≤ l.memory.size → private_memory (lease_written i new l) ≡ memory_written i new (private_memory l)
+written_seen i new l base within =
+    ap (λ (b : Option (List ℕ)). record { slot = l.index; size = l.memory.size; bytes = b }) (written_in i l.memory.size l.memory.slot.base.bytes new l.memory.slot.region.contents base within)
+
+-- the first bytes of a list that begins as a memory does
+start_shorter : (image : Option Image) (m n : ℕ) → m ≤ n → IfSome image (λ i. i.offset + length i.bytes ≤ m) → take m (start image n) ≡ start image m
+start_shorter None m n le fits = take-replicate m n 0 le
+start_shorter (Some i) m n le fits = take_put i.offset m i.bytes (replicate n 0) fits ∙ ap (put i.offset i.bytes) (take-replicate m n 0 le)
+
+range_shorter : (xs : List ℕ) (m n : ℕ) → m ≤ n → slice_range xs 0 (0 + m) ≡ take m (slice_range xs 0 (0 + n))
+range_shorter xs m n le = same_lists _ _ (grind (arith, places)) (λ k d h. grind (arith, places))
+
+-- the bytes of a memory that began
+begun_bytes : (o : Option Contents) (image : Option Image) (m n base : ℕ) (tells : Bool) → is_some o ≡ tells → base ≡ 0 → m ≤ n → IfSome image (λ i. i.offset + length i.bytes ≤ m) → IfSome o (λ c. slice_range c.bytes base (base + n) ≡ start image n) → option_map (λ c. slice_range c.bytes base (base + m)) o ≡ (if tells then Some (start image m) else None)
+begun_bytes None image m n base tells told at_start le fits reads =
+    let P : Bool → Type 0 = λ b. None ≡ (if b then Some (start image m) else None) in
+    subst P told refl
+begun_bytes (Some c) image m n base tells told at_start le fits reads =
+    let P : Bool → Type 0 = λ b. Some (slice_range c.bytes base (base + m)) ≡ (if b then Some (start image m) else None) in
+    let Q : ℕ → Type 0 = λ b. slice_range c.bytes b (b + n) ≡ start image n in
+    let whole : slice_range c.bytes 0 (0 + n) ≡ start image n = subst Q at_start reads in
+    let R : ℕ → Type 0 = λ b. Some (slice_range c.bytes b (b + m)) ≡ Some (start image m) in
+    let first : slice_range c.bytes 0 (0 + m) ≡ start image m = range_shorter c.bytes m n le ∙ ap (take m) whole ∙ start_shorter image m n le fits in
+    subst P told (subst R (sym at_start) (ap Some first))
+
+fits_of : (page m : ℕ) (image : Option Image) → IfSome image (FitsInto page m) → IfSome image (λ i. i.offset + length i.bytes ≤ m)
+fits_of page m None fits = fits
+fits_of page m (Some i) fits = fits.inside
+
+-- a memory that is new is to the party as private ones begin
+pub begun_seen : (w : World) (s : Settings) (number k slot : ℕ) (decl : MemoryDecl) (m : MemoryState) → IsSlotOf w.maker s.max_memory_size slot m.slot → IsNew (image_at w number k decl) m decl → IsSupported s decl (image_at w number k decl) → private_memory (record { index = slot; memory = m }) ≡ begun_memory w number k decl slot
+begun_seen w s number k slot decl m of new supported =
+    let image : Option Image = image_at w number k decl in
+    let least : ℕ = minimum_byte_size decl.ty in
+    let le : least ≤ m.slot.static_size = omega (arith, supported.minimum, of.same_size) in
+    let base : m.slot.base.bytes ≡ 0 = ap (λ (c : Count). c.bytes) of.base in
+    let bytes = begun_bytes m.slot.region.contents image least m.slot.static_size m.slot.base.bytes w.maker.tells of.region.tells base le (fits_of s.page least image supported.image_fits) new.slot.begun.reads in
+    let Q : ℕ → Type 0 = λ n. ◌≡◌ {A = PrivateMemory} (record { slot = slot; size = n; bytes = option_map (λ c. slice_range c.bytes m.slot.base.bytes (m.slot.base.bytes + n)) m.slot.region.contents }) (begun_memory w number k decl slot) in
+    subst Q (sym new.size) (ap (λ (b : Option (List ℕ)). record { slot = slot; size = least; bytes = b }) bytes)

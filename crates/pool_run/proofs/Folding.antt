@@ -1,0 +1,162 @@
+-- A run of several parties stays what it is through all its turns, so the replies to each party are a private run.
+use Rattle.std.proofs.Common.{◌≡◌, ℕ, ◌<◌, ◌≤◌, Bool, true, false, List, [], ◌∷◌, ◌++◌, length, Option, Some, None, refl, sym, ap, ◌∙◌, subst, inl, inr, arith}
+use Rattle.std.specs.Prelude.{IfSome, slice_get, slice_set, slice_index_or}
+use Rattle.std.proofs.lemmas.Bool.{cases_eq}
+use Rattle.std.proofs.lemmas.List.{length-set, set-get_or, get_or-set_same, get_or-set_other}
+use Rattle.std.proofs.lemmas.Option.{slice_get_past, slice_get_within, get_or_from_slice_get}
+use Rattle.pool_pages.specs.MakerTold.{MakerTold}
+use Rattle.pool_alloc.specs.Own.{memories_refused}
+use Rattle.pool_alloc.specs.Stepping.{IsSameSize}
+use Rattle.pool_alloc.specs.declared.pool_core.PoolCore.{PoolCore}
+use Rattle.pool_alloc.specs.declared.pool_core.Settings.{Settings}
+use Rattle.pool_alloc.specs.declared.frame.ModuleCall.{ModuleCall}
+use Rattle.pool_alloc.specs.Places.{made_count}
+use Rattle.pool_run.specs.Searches.{IsAlone}
+use Rattle.pool_run.specs.Private.{World, memories_of, IsPrivateRun, no_grants}
+use Rattle.pool_run.specs.Turns.{Turned, Turns, TurnsAt, BeginsKeyed, with_reply, is_idle}
+use Rattle.pool_run.specs.Ties.{CanTurn, IsSoundTurn}
+use Rattle.pool_run.specs.Worlds.{IsMadeReady, IsWorldOf, AreCallsFor}
+use Rattle.pool_run.specs.Folds.{RunState, commands_of, replies_to, party_by_party, with_turn, TurnsIf, TurnsOf, Folds, HasNothingLeft, Runs, IsRunTo, IsUnderWay}
+use Rattle.pool_run.specs.declared.command.Command.{Command}
+use Rattle.pool_run.specs.declared.reply.Reply.{Reply}
+use Rattle.pool_run.specs.declared.running_party.RunningParty.{RunningParty}
+use Rattle.pool_run.proofs.Beginning.{turn_private}
+use Rattle.pool_run.proofs.Running.{can_turn, turned_running}
+use Rattle.pool_run.proofs.Turned.{HasTurned, has_turned}
+
+module _ {P : Type 0} where
+  -- The world stays that of the pool.
+  world_over : (w : World) (c d : PoolCore P) → IsSameSize c d → IsWorldOf w c → IsWorldOf w d
+  world_over w c d size world =
+      let One : Settings → Type 0 = λ s. s.stripes ≡ 1 in
+      let Most : Settings → Type 0 = λ s. w.most_instances ≡ s.max_core_instances in
+      let Supported : Settings → Type 0 = λ s. (number : ℕ) → memories_refused s (memories_of w number) ≡ None in
+      let Makes : Settings → Type 0 = λ s. (number k : ℕ) → IfSome (slice_get (memories_of w number) k) (IsMadeReady w s number k) in
+      record {
+        total = world.total ∙ sym size.cells;
+        most_instances = subst Most (sym size.settings) world.most_instances;
+        stripes = subst One (sym size.settings) world.stripes;
+        supported = subst Supported (sym size.settings) world.supported;
+        makes = subst Makes (sym size.settings) world.makes;
+      }
+
+  calls_over : (w : World) (modules : List ModuleCall) (c d : PoolCore P) → IsSameSize c d → AreCallsFor w c.settings modules → AreCallsFor w d.settings modules
+  calls_over w modules c d size calls =
+      let Calls : Settings → Type 0 = λ s. AreCallsFor w s modules in
+      subst Calls (sym size.settings) calls
+
+  -- One party's turn.
+  run_to : (w : World) (modules : List ModuleCall) (commands : List Command) (replies : List Reply) (c : PoolCore P) (p : RunningParty P) (t : Turned P) → IsWorldOf w c → AreCallsFor w c.settings modules → CanTurn w.maker c p → (w.alone ≡ true → IsAlone c p.frame p.live) → IsRunTo w commands replies p → Turns modules commands c p t → HasTurned c p t → IsRunTo w commands (with_reply t.reply replies) t.party
+  run_to w modules commands replies c p t world calls can alone to turns turned = record {
+    room = turned.room ∙ to.room;
+    private = turn_private w modules (no_grants commands) commands replies c p t world calls can alone (omega (arith, to.room)) to.private turns;
+  }
+
+  -- A party that is alone stays so.
+  alone_turned : (c : PoolCore P) (p : RunningParty P) (t : Turned P) → HasTurned c p t → IsAlone c p.frame p.live → IsAlone t.core t.party.frame t.party.live
+  alone_turned c p t turned alone = record {
+    places = λ x. omega (arith, turned.places x, alone.places x, ap (made_count x) turned.size.cells);
+    instances = omega (arith, turned.instances, alone.instances);
+    searched = turned.searched alone.searched;
+  }
+
+  turned_some : (w : World) (modules : List ModuleCall) (inputs : List (List Command)) (i : ℕ) (p : RunningParty P) (s : RunState P) (t : Turned P) → slice_get s.parties i ≡ Some p → IsUnderWay w modules inputs s → Turns modules (commands_of inputs i) s.core p t → IsSoundTurn w.maker t → IsUnderWay w modules inputs (with_turn i t s)
+  turned_some w modules inputs i p s t there way turns sound =
+      let below : i < length s.parties = slice_get_within s.parties i p there in
+      let here : slice_index_or s.parties i p ≡ p = get_or_from_slice_get s.parties i p p there in
+      let To : RunningParty P → Type 0 = λ q. IsRunTo w (commands_of inputs i) (replies_to i s.replies) q in
+      let Can : RunningParty P → Type 0 = λ q. CanTurn w.maker s.core q in
+      let Has : RunningParty P → Type 0 = λ q. HasTurned s.core q t in
+      let to : IsRunTo w (commands_of inputs i) (replies_to i s.replies) p = subst To here (way.each i p below) in
+      let can : CanTurn w.maker s.core p = subst Can here (can_turn w.maker s.core s.parties i p way.running below) in
+      let turned : HasTurned s.core p t = has_turned w modules (commands_of inputs i) s.core p t way.calls can (omega (arith, to.room)) turns in
+      let alone : w.alone ≡ true → IsAlone s.core p.frame p.live =
+      λ e.
+      let one = way.alone e in
+      let A : RunningParty P → Type 0 = λ q. IsAlone s.core q.frame q.live in
+      let at_first : slice_index_or s.parties 0 p ≡ p = subst (λ (n : ℕ). slice_index_or s.parties n p ≡ p) {x = i} {y = 0} (omega (arith, below, one.one)) here in
+      subst A at_first (one.alone p) in
+      let now : IsRunTo w (commands_of inputs i) (with_reply t.reply (replies_to i s.replies)) t.party = run_to w modules (commands_of inputs i) (replies_to i s.replies) s.core p t way.world way.calls can alone to turns turned in
+      let replies : List Reply = with_reply t.reply (replies_to i s.replies) in
+      record {
+        running = turned_running w.maker s.core s.parties i p t way.running below (subst Has (sym here) turned) sound;
+        world = world_over w s.core t.core turned.size way.world;
+        calls = calls_over w modules s.core t.core turned.size way.calls;
+        alone = λ e.
+            let one = way.alone e in
+            record {
+              one = length-set s.parties i t.party ∙ one.one;
+              alone = λ d.
+                  let A : RunningParty P → Type 0 = λ q. IsAlone t.core q.frame q.live in
+                  let first : 0 ≡ i = omega (arith, below, one.one) in
+                  let party : slice_index_or (slice_set s.parties i t.party) i d ≡ t.party = get_or-set_same s.parties i t.party d below in
+                  subst (λ (n : ℕ). A (slice_index_or (slice_set s.parties i t.party) n d)) (sym first) (subst A (sym party) (alone_turned s.core p t turned (alone e)));
+            };
+        told = length-set s.replies i replies ∙ way.told ∙ sym (length-set s.parties i t.party);
+        each = λ j d inside.
+            let At : ℕ → List Reply → RunningParty P → Type 0 = λ n rs q. IsRunTo w (commands_of inputs n) rs q in
+            elim (cases_eq j i) [
+              | inl is ↦
+                  let party : slice_index_or (slice_set s.parties i t.party) i d ≡ t.party = get_or-set_same s.parties i t.party d below in
+                  let told : replies_to i (slice_set s.replies i replies) ≡ replies = get_or-set_same s.replies i replies [] (omega (arith, below, way.told)) in
+                  subst (λ (n : ℕ). At n (replies_to n (slice_set s.replies i replies)) (slice_index_or (slice_set s.parties i t.party) n d)) (sym is)
+                  (subst (λ (rs : List Reply). At i rs (slice_index_or (slice_set s.parties i t.party) i d)) (sym told) (subst (At i replies) (sym party) now))
+              | inr other ↦
+                  let party : slice_index_or (slice_set s.parties i t.party) j d ≡ slice_index_or s.parties j d = get_or-set_other s.parties i j t.party d other in
+                  let told : replies_to j (slice_set s.replies i replies) ≡ replies_to j s.replies = get_or-set_other s.replies i j replies [] other in
+                  subst (λ (rs : List Reply). At j rs (slice_index_or (slice_set s.parties i t.party) j d)) (sym told)
+                  (subst (At j (replies_to j s.replies)) (sym party) (way.each j d (omega (arith, inside, length-set s.parties i t.party))))
+            ];
+      }
+
+  turned_if : (w : World) (modules : List ModuleCall) (inputs : List (List Command)) (i : ℕ) (o : Option (RunningParty P)) (s new : RunState P) → slice_get s.parties i ≡ o → IsUnderWay w modules inputs s → TurnsIf w.maker modules (commands_of inputs i) i o s new → IsUnderWay w modules inputs new
+  turned_if w modules inputs i None s new there way turns = subst (IsUnderWay w modules inputs) (sym turns) way
+  turned_if w modules inputs i (Some p) s new there way turns = subst (IsUnderWay w modules inputs) (sym turns.3) (turned_some w modules inputs i p s turns.0 there way turns.1 turns.2)
+
+  -- A turn of one of the parties.
+  pub run_turned : (w : World) (modules : List ModuleCall) (inputs : List (List Command)) (i : ℕ) (s new : RunState P) → IsUnderWay w modules inputs s → TurnsOf w.maker modules inputs i s new → IsUnderWay w modules inputs new
+  run_turned w modules inputs i s new way turns = turned_if w modules inputs i (slice_get s.parties i) s new refl way turns
+
+  -- Turns in any order.
+  pub folds_under_way : (w : World) (modules : List ModuleCall) (inputs : List (List Command)) (schedule : List ℕ) (s end : RunState P) → IsUnderWay w modules inputs s → Folds w.maker modules inputs schedule s end → IsUnderWay w modules inputs end
+  folds_under_way w modules inputs [] s end way folds = subst (IsUnderWay w modules inputs) (sym folds) way
+  folds_under_way w modules inputs (i ∷ schedule) s end way folds = folds_under_way w modules inputs schedule folds.0 end (run_turned w modules inputs i s folds.0 way folds.1) folds.2
+
+  -- A whole run.
+  pub run_under_way : (w : World) (modules : List ModuleCall) (inputs : List (List Command)) (schedule : List ℕ) (s end : RunState P) → IsUnderWay w modules inputs s → Runs w.maker modules inputs schedule s end → IsUnderWay w modules inputs end
+  run_under_way w modules inputs schedule s end way runs =
+      folds_under_way w modules inputs (party_by_party 0 runs.finishes.counts) runs.scheduled end
+      (folds_under_way w modules inputs schedule s runs.scheduled way runs.folds)
+      runs.finishes.folds
+
+  -- The replies to each party are a private run of its commands.
+  pub replies_private : (w : World) (modules : List ModuleCall) (inputs : List (List Command)) (s : RunState P) (i : ℕ) (d : RunningParty P) → IsUnderWay w modules inputs s → i < length s.parties → IsPrivateRun w (commands_of inputs i) (replies_to i s.replies)
+  replies_private w modules inputs s i d way below = let to = way.each i d below in (to.private.grants, to.private.run)
+
+  -- Turns that follow others.
+  pub folds_on : (maker : MakerTold) (modules : List ModuleCall) (inputs : List (List Command)) (first second : List ℕ) (s mid end : RunState P) → Folds maker modules inputs first s mid → Folds maker modules inputs second mid end → Folds maker modules inputs (first ++ second) s end
+  folds_on maker modules inputs [] second s mid end one other =
+      let F : RunState P → Type 0 = λ x. Folds maker modules inputs second x end in
+      subst F one other
+  folds_on maker modules inputs (i ∷ first) second s mid end one other = (one.0, one.1, folds_on maker modules inputs first second one.0 mid end one.2 other)
+
+  pub folds_more : (maker : MakerTold) (modules : List ModuleCall) (inputs : List (List Command)) (schedule : List ℕ) (i : ℕ) (s mid end : RunState P) → Folds maker modules inputs schedule s mid → TurnsOf maker modules inputs i mid end → Folds maker modules inputs (schedule ++ i ∷ []) s end
+  folds_more maker modules inputs schedule i s mid end folds turns = folds_on maker modules inputs schedule (i ∷ []) s mid end folds (end, turns, refl)
+
+  -- A turn of a party that has nothing left changes nothing.
+  nothing_begins : (keyed : Bool) (modules : List ModuleCall) (o : Option Command) (c : PoolCore P) (p : RunningParty P) (t : Turned P) → o ≡ None → BeginsKeyed keyed modules o c p t → t ≡ record { core = c; party = p; reply = None }
+  nothing_begins false modules None c p t none is = is
+  nothing_begins true modules None c p t none is = is
+  nothing_begins keyed modules (Some command) c p t none is = absurd cc
+
+  nothing_turns : (modules : List ModuleCall) (commands : List Command) (c : PoolCore P) (p : RunningParty P) (t : Turned P) (b : Bool) → b ≡ true → length commands ≤ p.done → TurnsAt b modules commands c p t → t ≡ record { core = c; party = p; reply = None }
+  nothing_turns modules commands c p t true idle all turns = nothing_begins p.keyed modules (slice_get commands p.done) c p t (slice_get_past commands p.done all) turns
+  nothing_turns modules commands c p t false idle all turns = absurd cc
+
+  pub nothing_left : (maker : MakerTold) (modules : List ModuleCall) (commands : List Command) (i : ℕ) (p : RunningParty P) (s new : RunState P) → slice_get s.parties i ≡ Some p → HasNothingLeft commands p → TurnsIf maker modules commands i (Some p) s new → new ≡ s
+  nothing_left maker modules commands i p s new there none turns =
+      let same : turns.0 ≡ record { core = s.core; party = p; reply = None } = nothing_turns modules commands s.core p turns.0 (is_idle p.frame.phase) none.idle none.all turns.1 in
+      let parties : slice_set s.parties i p ≡ s.parties = ap (λ (q : RunningParty P). slice_set s.parties i q) (sym (get_or_from_slice_get s.parties i p p there)) ∙ set-get_or s.parties i p in
+      turns.3 ∙ ap (λ (t : Turned P). with_turn i t s) same
+      ∙ ap (λ (ps : List (RunningParty P)). record { core = s.core; parties = ps; replies = slice_set s.replies i (replies_to i s.replies) }) parties
+      ∙ ap (λ (rs : List (List Reply)). record { core = s.core; parties = s.parties; replies = rs }) (set-get_or s.replies i [])

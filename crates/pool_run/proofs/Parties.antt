@@ -1,0 +1,163 @@
+-- A party whose turn it is: its call can make its next step, and so it can once another call began.
+use Rattle.std.proofs.Common.{◌≡◌, ℕ, zero, suc, ◌+◌, ◌<◌, ◌≤◌, Bool, true, false, List, [], ◌∷◌, length, Option, Some, None, refl, ap, subst, arith, All}
+use Rattle.std.specs.Prelude.{◌==◌, if◌then◌else◌, IfSome, sum_by, slice_set, slice_index_or}
+use Rattle.std.proofs.lemmas.List.Elements.{All-set, All-get_or}
+use Rattle.std.proofs.lemmas.List.Sums.{sum_by-set}
+use Rattle.pool_pages.specs.MakerTold.{MakerTold}
+use Rattle.pool_alloc.specs.Places.{Thing, slot_of, region_of}
+use Rattle.pool_alloc.specs.Sound.{IsFrame, AreImagesOf}
+use Rattle.pool_alloc.specs.Calls.{IsIdle, IsGrant, MayBegin, begun_call, call_has}
+use Rattle.pool_alloc.specs.Stepping.{CanStep, grant_count, grant_instances, grant_memories}
+use Rattle.pool_alloc.specs.declared.pool_core.PoolCore.{PoolCore}
+use Rattle.pool_alloc.specs.declared.pool_core.Settings.{Settings}
+use Rattle.pool_alloc.specs.Steps.{memories_asked, images_asked}
+use Rattle.pool_alloc.specs.declared.frame.ModuleCall.{ModuleCall}
+use Rattle.pool_alloc.specs.declared.frame.Ending.{Ending}
+use Rattle.pool_alloc.specs.declared.frame.Ending.TheVariants.{Returned as returned}
+use Rattle.pool_alloc.specs.declared.frame.Phase.TheVariants.{UncountMemory, UncountInstance}
+use Rattle.pool_alloc.specs.declared.frame.Call.{Call}
+use Rattle.pool_alloc.specs.declared.frame.Call.TheVariants as call
+use Rattle.pool_alloc.specs.declared.frame.Frame.{Frame}
+use Rattle.pool_alloc.specs.declared.frame.Grant.{Grant}
+use Rattle.pool_alloc.specs.declared.frame.Grant.TheVariants.{Instance as instance}
+use Rattle.pool_alloc.proofs.BegunCalls.{begun_frame, begun_count, begun_instances, begun_memories}
+use Rattle.pool_alloc.proofs.Held.{made_once}
+use Rattle.pool_alloc.proofs.QueueCounts.{sum_by_agree, leased_regions}
+use Rattle.pool_run.specs.Searches.{IsSearchedAt, IsAlone}
+use Rattle.pool_run.specs.Ties.{asks, stage_of, granted_to, held_by_party, FitsParty, CanTurn}
+use Rattle.pool_run.specs.declared.running_party.RunningParty.{RunningParty}
+
+no_asks : (P : Type 0) (b : Bool) (e : Ending) → stage_of {P = P} (if b then UncountInstance else UncountMemory) e ≡ asks → ⊥
+no_asks P true e is = absurd cc
+no_asks P false e is = absurd cc
+
+module _ {P : Type 0} where
+  grant_regions : (k : ℕ) (o : Option (Grant P)) → granted_to (grant_count (region_of k)) o ≡ granted_to (grant_count (slot_of k)) o
+  grant_regions k None = refl
+  grant_regions k (Some (instance lease)) = leased_regions k lease.memories.items
+
+  -- The live grants have the region of each of their slots.
+  pub live_regions : (k : ℕ) (live : List (Option (Grant P))) → sum_by (granted_to (grant_count (region_of k))) live ≡ sum_by (granted_to (grant_count (slot_of k))) live
+  live_regions k live = sum_by_agree (granted_to (grant_count (region_of k))) (granted_to (grant_count (slot_of k))) (grant_regions k) live
+
+  -- The party's call can make its next step.
+  pub can_step : (maker : MakerTold) (c : PoolCore P) (p : RunningParty P) → CanTurn maker c p → CanStep maker c p.frame
+  can_step maker c p can = record {
+    core = can.core;
+    frame = can.party.sound.frame;
+    fits = record {
+      once = λ t. omega (arith, can.fits.once t);
+      home = λ k some. omega (arith, can.fits.home k (omega arith), can.fits.once (slot_of k), made_once (slot_of k) (length c.cells), live_regions k p.live);
+      instances = omega (arith, can.fits.instances);
+      memories = omega (arith, can.fits.memories);
+    };
+  }
+
+  -- the parties have the same of the pool
+  pub record HaveSame (p q : RunningParty P) : Type 0 where
+    pub places : (t : Thing) → (held_by_party q).places t ≡ (held_by_party p).places t
+    pub instances : (held_by_party q).instances ≡ (held_by_party p).instances
+    pub memories : (held_by_party q).memories ≡ (held_by_party p).memories
+
+  pub fits_same : (c : PoolCore P) (p q : RunningParty P) → HaveSame p q → FitsParty c p → FitsParty c q
+  fits_same c p q same fits = record {
+    once = λ t. omega (arith, fits.once t, same.places t);
+    home = λ k some. omega (arith, fits.home k (omega (arith, same.places (slot_of k))), same.places (region_of k));
+    instances = omega (arith, fits.instances, same.instances);
+    memories = omega (arith, fits.memories, same.memories);
+  }
+
+  -- a place with a grant is there
+  pub grant_inside : (live : List (Option (Grant P))) (i : ℕ) (grant : Grant P) → slice_index_or live i None ≡ Some grant → i < length live
+  grant_inside [] i grant is = absurd cc
+  grant_inside (x ∷ xs) zero grant is = omega arith
+  grant_inside (x ∷ xs) (suc i) grant is = omega (arith, grant_inside xs i grant is)
+
+  pub live_grant : (maker : MakerTold) (s : Settings) (live : List (Option (Grant P))) (i : ℕ) (grant : Grant P) → All (λ g. IfSome g (IsGrant maker s)) live → slice_index_or live i None ≡ Some grant → IsGrant maker s grant
+  live_grant maker s live i grant each is =
+      let G : Option (Grant P) → Type 0 = λ g. IfSome g (IsGrant maker s) in
+      subst G is (All-get_or G live i None (grant_inside live i grant is) each)
+
+  -- a party with another call begun, whose grants are these
+  abbrev pub with_call : Call P → List (Option (Grant P)) → RunningParty P → RunningParty P
+  with_call asked live p = record p { frame = begun_call asked p.frame; live = live }
+
+  -- The grant that a call brings along was one of the party's, and the others stay.
+  pub record Brings (asked : Call P) (old new : List (Option (Grant P))) : Type 0 where
+    pub places : (t : Thing) → sum_by (granted_to (grant_count t)) new + call_has (grant_count t) asked ≡ sum_by (granted_to (grant_count t)) old
+    pub instances : sum_by (granted_to grant_instances) new + call_has grant_instances asked ≡ sum_by (granted_to grant_instances) old
+    pub memories : sum_by (granted_to grant_memories) new + call_has grant_memories asked ≡ sum_by (granted_to grant_memories) old
+
+  pub has_call : (maker : MakerTold) (asked : Call P) (new : List (Option (Grant P))) (c : PoolCore P) (p : RunningParty P) → IsFrame maker c p.frame → MayBegin maker c.settings asked p.frame → Brings asked p.live new → HaveSame p (with_call asked new p)
+  has_call maker asked new c p frame may brings = record {
+    places = λ t. omega (arith, begun_count maker t asked c p.frame frame may, brings.places t);
+    instances = omega (arith, begun_instances maker asked c p.frame may, brings.instances);
+    memories = omega (arith, begun_memories maker asked c p.frame frame may, brings.memories);
+  }
+
+  pub brings_key : (live : List (Option (Grant P))) → Brings call.Key live live
+  brings_key live = record { places = λ t. omega arith; instances = omega arith; memories = omega arith }
+
+  pub brings_module : (m : ModuleCall) (live : List (Option (Grant P))) → Brings (call.Module m) live live
+  brings_module m live = record { places = λ t. omega arith; instances = omega arith; memories = omega arith }
+
+  fewer : (of : Grant P → ℕ) (live : List (Option (Grant P))) (i : ℕ) (grant : Grant P) → slice_index_or live i None ≡ Some grant → sum_by (granted_to of) (slice_set live i None) + of grant ≡ sum_by (granted_to of) live
+  fewer of live i grant is =
+      let here : granted_to of (slice_index_or live i None) ≡ of grant = ap (granted_to of) is in
+      omega (arith, sum_by-set (granted_to of) live i None None (grant_inside live i grant is))
+
+  pub brings_grant : (live : List (Option (Grant P))) (i : ℕ) (grant : Grant P) → slice_index_or live i None ≡ Some grant → Brings (call.GiveBack grant) live (slice_set live i None)
+  brings_grant live i grant is = record { places = λ t. fewer (grant_count t) live i grant is; instances = fewer grant_instances live i grant is; memories = fewer grant_memories live i grant is }
+
+  -- nothing comes into a place that is emptied
+  pub still_none : (live : List (Option (Grant P))) (i k : ℕ) → slice_index_or live k None ≡ None → slice_index_or (slice_set live i None) k None ≡ None
+  still_none [] i k none = none
+  still_none (x ∷ xs) zero zero none = refl
+  still_none (x ∷ xs) zero (suc k) none = none
+  still_none (x ∷ xs) (suc i) zero none = none
+  still_none (x ∷ xs) (suc i) (suc k) none = still_none xs i k none
+
+  -- The party can make its turn once a call began that may.
+  pub called : (maker : MakerTold) (asked : Call P) (new : List (Option (Grant P))) (c : PoolCore P) (p : RunningParty P) → CanTurn maker c p → MayBegin maker c.settings asked p.frame → Brings asked p.live new → All (λ g. IfSome g (IsGrant maker c.settings)) new → ((k : ℕ) → p.done ≤ k → slice_index_or new k None ≡ None) → (stage_of (begun_call asked p.frame).phase (begun_call asked p.frame).ending ≡ asks → p.done < length new) → CanTurn maker c (with_call asked new p)
+  called maker asked new c p can may brings grants to_come place = record {
+    core = can.core;
+    party = record {
+      sound = record { frame = begun_frame maker asked c p.frame can.party.sound.frame may; grants = grants };
+      to_come = to_come;
+      place = place;
+    };
+    fits = fits_same c p (with_call asked new p) (has_call maker asked new c p can.party.sound.frame may brings) can.fits;
+  }
+
+  pub called_key : (maker : MakerTold) (c : PoolCore P) (p : RunningParty P) → CanTurn maker c p → IsIdle p.frame → CanTurn maker c (record p { frame = begun_call call.Key p.frame })
+  called_key maker c p can idle = called maker call.Key p.live c p can idle (brings_key p.live) can.party.sound.grants can.party.to_come (λ is. absurd cc)
+
+  pub called_module : (maker : MakerTold) (m : ModuleCall) (c : PoolCore P) (p : RunningParty P) → CanTurn maker c p → IsIdle p.frame → AreImagesOf c.settings (memories_asked (Some m)) (images_asked (Some m)) → p.done < length p.live → CanTurn maker c (record p { frame = begun_call (call.Module m) p.frame })
+  called_module maker m c p can idle images room = called maker (call.Module m) p.live c p can (idle, images) (brings_module m p.live) can.party.sound.grants can.party.to_come (λ is. room)
+
+  returned_asks : (grant : Grant P) (f : Frame P) → stage_of (begun_call (call.GiveBack grant) f).phase (begun_call (call.GiveBack grant) f).ending ≡ asks → ⊥
+  returned_asks (instance lease) f is = no_asks P (length lease.memories.items == 0) returned is
+
+  pub called_back : (maker : MakerTold) (i : ℕ) (grant : Grant P) (c : PoolCore P) (p : RunningParty P) → CanTurn maker c p → IsIdle p.frame → slice_index_or p.live i None ≡ Some grant → CanTurn maker c (record p { live = slice_set p.live i None; frame = begun_call (call.GiveBack grant) p.frame })
+  called_back maker i grant c p can idle is =
+      called maker (call.GiveBack grant) (slice_set p.live i None) c p can (idle, live_grant maker c.settings p.live i grant can.party.sound.grants is) (brings_grant p.live i grant is)
+      (All-set (λ g. IfSome g (IsGrant maker c.settings)) p.live i None tt can.party.sound.grants)
+      (λ k behind. still_none p.live i k (can.party.to_come k behind))
+      (λ asking. absurd (returned_asks grant p.frame asking))
+
+  -- A party that is alone stays so as a call begins.
+  pub called_alone : (maker : MakerTold) (asked : Call P) (new : List (Option (Grant P))) (c : PoolCore P) (p : RunningParty P) → IsFrame maker c p.frame → MayBegin maker c.settings asked p.frame → Brings asked p.live new → IsSearchedAt (begun_call asked p.frame).phase c (begun_call asked p.frame) → IsAlone c p.frame p.live → IsAlone c (begun_call asked p.frame) new
+  called_alone maker asked new c p frame may brings searched alone =
+      let same : HaveSame p (with_call asked new p) = has_call maker asked new c p frame may brings in
+      record {
+        places = λ t. omega (arith, alone.places t, same.places t);
+        instances = omega (arith, alone.instances, same.instances);
+        searched = searched;
+      }
+
+  back_searched : (b : Bool) (c : PoolCore P) (f : Frame P) → IsSearchedAt (if b then UncountInstance else UncountMemory) c f
+  back_searched true c f = tt
+  back_searched false c f = tt
+
+  pub returned_searched : (grant : Grant P) (c : PoolCore P) (f : Frame P) → IsSearchedAt (begun_call (call.GiveBack grant) f).phase c (begun_call (call.GiveBack grant) f)
+  returned_searched (instance lease) c f = back_searched (length lease.memories.items == 0) c (begun_call (call.GiveBack (instance lease)) f)

@@ -1,0 +1,33 @@
+-- A share of a call for a module is a call for that module.
+use Rattle.std.proofs.Common.{◌≡◌, ℕ, List, Option, Some, None, refl, sym, ap, ◌∙◌, subst}
+use Rattle.std.specs.Prelude.{IfSome, option_map, slice_get, slice_index_or}
+use Rattle.std.specs.Arc.{arc_value}
+use Rattle.std.specs.declared.sync.Arc.{Arc}
+use Rattle.std.specs.declared.alloc.Global.{Global}
+use Rattle.pool_pages.specs.declared.module_types.MemoryDecl.{MemoryDecl}
+use Rattle.pool_pages.specs.declared.module_types.ModuleInfo.{ModuleInfo}
+use Rattle.pool_images.specs.Images.{Image}
+use Rattle.pool_alloc.specs.Steps.{memories_asked, images_asked, images_made}
+use Rattle.pool_alloc.specs.Sound.{AreImagesOf}
+use Rattle.pool_alloc.specs.declared.pool_core.Settings.{Settings}
+use Rattle.pool_alloc.specs.declared.frame.ModuleCall.{ModuleCall}
+use Rattle.pool_run.specs.Private.{World, memories_of, image_at}
+use Rattle.pool_run.specs.Turns.{IsShareOf}
+use Rattle.pool_run.specs.Worlds.{IsCallFor}
+
+images_same : (a b : Option (Arc (List (Option Image)) Global)) → option_map arc_value a ≡ option_map arc_value b → images_made a ≡ images_made b
+images_same None None same = refl
+images_same None (Some b) same = absurd cc
+images_same (Some a) None same = absurd cc
+images_same (Some a) (Some b) same = cc
+
+pub share_for : (w : World) (s : Settings) (number : ℕ) (kept m : ModuleCall) → IsShareOf kept m → IsCallFor w s number kept → IsCallFor w s number m
+share_for w s number kept m share call =
+    let memories : memories_asked (Some m) ≡ memories_asked (Some kept) = ap (λ (i : ModuleInfo). i.memories) share.info in
+    let images : images_asked (Some m) ≡ images_asked (Some kept) = images_same m.images kept.images share.images in
+    let Images : List MemoryDecl → List (Option Image) → Type 0 = λ decls is. AreImagesOf s decls is in
+    let Begin : List (Option Image) → Type 0 = λ is. (k : ℕ) → IfSome (slice_get (memories_of w number) k) (λ decl. slice_index_or is k None ≡ image_at w number k decl) in
+    record {
+      asked = record { some = refl; memories = memories ∙ call.asked.memories; images = subst Begin (sym images) call.asked.images };
+      images = subst (λ (is : List (Option Image)). Images (memories_asked (Some m)) is) (sym images) (subst (λ (ds : List MemoryDecl). Images ds (images_asked (Some kept))) (sym memories) call.images);
+    }

@@ -1,0 +1,104 @@
+-- A run of several parties, turn by turn: in the order of the schedule, and then party by party until none has anything
+-- left.
+use Rattle.std.specs.Prelude.{◌≡◌, ℕ, ◌+◌, ◌<◌, ◌≤◌, List, [], ◌∷◌, ◌++◌, length, replicate, slice_get, slice_index_or, slice_set, true, false, Option, Some, None, IfSome}
+use Rattle.pool_pages.specs.MakerTold.{MakerTold}
+use Rattle.pool_alloc.specs.Calls.{frame_made}
+use Rattle.pool_alloc.specs.declared.pool_core.PoolCore.{PoolCore}
+use Rattle.pool_alloc.specs.declared.pool_core.Settings.{Settings}
+use Rattle.pool_alloc.specs.declared.frame.ModuleCall.{ModuleCall}
+use Rattle.pool_run.specs.Private.{World, no_grants}
+use Rattle.pool_run.specs.Turns.{Turned, Turns, with_reply, is_idle}
+use Rattle.pool_run.specs.Ties.{IsPrivate, IsSoundTurn, IsRunning}
+use Rattle.pool_run.specs.Searches.{IsAlone}
+use Rattle.pool_run.specs.Worlds.{IsWorldOf, AreCallsFor}
+use Rattle.pool_run.specs.declared.command.Command.{Command}
+use Rattle.pool_run.specs.declared.reply.Reply.{Reply}
+use Rattle.pool_run.specs.declared.running_party.RunningParty.{RunningParty}
+
+-- the pool, the parties, and the replies to each of them so far
+pub record RunState (P : Type 0) : Type 0 where
+  pub core : PoolCore P
+  pub parties : List (RunningParty P)
+  pub replies : List (List Reply)
+
+-- the commands of party i, and the replies to it
+abbrev pub commands_of : List (List Command) → ℕ → List Command
+commands_of inputs i = slice_index_or inputs i []
+
+abbrev pub replies_to : ℕ → List (List Reply) → List Reply
+replies_to i replies = slice_index_or replies i []
+
+-- so many turns of each party, party by party
+abbrev pub party_by_party : ℕ → List ℕ → List ℕ
+party_by_party i [] = []
+party_by_party i (n ∷ counts) = replicate n i ++ party_by_party (i + 1) counts
+
+module _ {P : Type 0} where
+  -- after a turn of party i
+  abbrev pub with_turn : ℕ → Turned P → RunState P → RunState P
+  with_turn i t s = record {
+    core = t.core;
+    parties = slice_set s.parties i t.party;
+    replies = slice_set s.replies i (with_reply t.reply (replies_to i s.replies));
+  }
+
+  abbrev pub TurnsIf : MakerTold → List ModuleCall → List Command → ℕ → Option (RunningParty P) → RunState P → RunState P → Type 0
+  TurnsIf maker modules commands i None s new = new ≡ s
+  TurnsIf maker modules commands i (Some p) s new = (t : Turned P) × Turns modules commands s.core p t × IsSoundTurn maker t × (new ≡ with_turn i t s)
+
+  -- a turn of party i, if there is one; it leaves what is sound
+  abbrev pub TurnsOf : MakerTold → List ModuleCall → List (List Command) → ℕ → RunState P → RunState P → Type 0
+  TurnsOf maker modules inputs i s new = TurnsIf maker modules (commands_of inputs i) i (slice_get s.parties i) s new
+
+  -- turns of these parties, in order
+  abbrev pub Folds : MakerTold → List ModuleCall → List (List Command) → List ℕ → RunState P → RunState P → Type 0
+  Folds maker modules inputs [] s end = end ≡ s
+  Folds maker modules inputs (i ∷ schedule) s end = (mid : RunState P) × TurnsOf maker modules inputs i s mid × Folds maker modules inputs schedule mid end
+
+  -- the party has nothing left: no call is under way, and each of its commands has its reply
+  pub record HasNothingLeft (commands : List Command) (p : RunningParty P) : Type 0 where
+    pub idle : is_idle p.frame.phase ≡ true
+    pub all : length commands ≤ p.done
+
+  abbrev pub IsFinished : List (List Command) → RunState P → Type 0
+  IsFinished inputs s = (i : ℕ) → IfSome (slice_get s.parties i) (HasNothingLeft (commands_of inputs i))
+
+  -- party 0 turns until it has nothing left, then party 1, and so on
+  pub record Finishes (maker : MakerTold) (modules : List ModuleCall) (inputs : List (List Command)) (s end : RunState P) : Type 0 where
+    pub counts : List ℕ
+    pub parties : length counts ≡ length s.parties
+    pub folds : Folds maker modules inputs (party_by_party 0 counts) s end
+    pub finished : IsFinished inputs end
+
+  -- a whole run
+  pub record Runs (maker : MakerTold) (modules : List ModuleCall) (inputs : List (List Command)) (schedule : List ℕ) (s end : RunState P) : Type 0 where
+    pub scheduled : RunState P
+    pub folds : Folds maker modules inputs schedule s scheduled
+    pub finishes : Finishes maker modules inputs scheduled end
+
+  -- a party as it is made, with places for so many commands
+  pub record IsMadeParty (s : Settings) (places : ℕ) (p : RunningParty P) : Type 0 where
+    pub home : ℕ
+    pub frame : p.frame ≡ frame_made home s
+    pub keyed : p.keyed ≡ false
+    pub done : p.done ≡ 0
+    pub live : p.live ≡ replicate places None
+
+  -- how far a party is: its replies are a private run of its commands, and it has a place for each of these
+  pub record IsRunTo (w : World) (commands : List Command) (replies : List Reply) (p : RunningParty P) : Type 0 where
+    pub room : length p.live ≡ length commands
+    pub private : IsPrivate w (no_grants commands) commands replies p
+
+  -- there is one party, which has all that the pool hasn't
+  pub record IsOfOne (s : RunState P) : Type 0 where
+    pub one : length s.parties ≡ 1
+    pub alone : (d : RunningParty P) → IsAlone s.core (slice_index_or s.parties 0 d).frame (slice_index_or s.parties 0 d).live
+
+  -- What holds at each moment of a run.
+  pub record IsUnderWay (w : World) (modules : List ModuleCall) (inputs : List (List Command)) (s : RunState P) : Type 0 where
+    pub running : IsRunning w.maker s.core s.parties
+    pub world : IsWorldOf w s.core
+    pub calls : AreCallsFor w s.core.settings modules
+    pub alone : w.alone ≡ true → IsOfOne s
+    pub told : length s.replies ≡ length s.parties
+    pub each : (i : ℕ) (d : RunningParty P) → i < length s.parties → IsRunTo w (commands_of inputs i) (replies_to i s.replies) (slice_index_or s.parties i d)
