@@ -6,9 +6,9 @@ use crate::image_slot::MemoryImageSlot;
 use crate::memory_image::{ImageError, ModuleMemoryImages};
 use crate::ranges::Ranges;
 use pool_pages::{
-    CompiledModuleId, DefinedMemoryIndex, HostAlignedByteCount, ImageDecl, IndexType, Limits,
-    MemoryDecl, MemoryKind, MemoryPages, MemoryTunables, MemoryType, ModuleInfo, PageMaker,
-    PageSize, Pages, PlainList, RegionName, Tunables, Unsupported,
+    CompiledModuleId, DecommitBehavior, DefinedMemoryIndex, HostAlignedByteCount, ImageDecl,
+    IndexType, Limits, MemoryDecl, MemoryKind, MemoryPages, MemoryTunables, MemoryType, ModuleInfo,
+    PageMaker, PageSize, Pages, PlainList, RegionName, Tunables, Unsupported,
 };
 use std::alloc::Global;
 use std::test::Fail;
@@ -78,7 +78,8 @@ fn a_reset_slot_reads_its_image_again(rt: HostRuntime) -> Result<(), Fail> {
     let tunables = MemoryTunables::new(&Tunables::default(), MemoryKind::LinearMemory);
 
     let len = HostAlignedByteCount::new(page, 64)?;
-    let region = maker.make(alloc, RegionName::Memory(0), page.zero(), len)?;
+    let restoring = DecommitBehavior::RestoreOriginalMapping;
+    let region = maker.make(alloc, RegionName::Memory(0), restoring, page.zero(), len)?;
     let mut slot = MemoryImageSlot::create(region, page.zero(), page.zero(), 64, None);
     slot.instantiate(48, Some(image), &ty, &tunables)?;
     let mut bytes = [9; 20];
