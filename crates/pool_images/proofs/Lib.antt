@@ -7,6 +7,7 @@ pub mod Images
 pub mod Kept
 pub mod Making
 pub mod Marks
+pub mod Ordering
 pub mod Pieces
 pub mod Queued
 pub mod Ready

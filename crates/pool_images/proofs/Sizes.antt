@@ -36,11 +36,12 @@ pub record IsLike (old new : Slot) : Type 0 where
   pub page : new.region.page ≡ old.region.page
   pub len : new.region.len ≡ old.region.len
   pub plan : new.region.plan ≡ old.region.plan
+  pub behaviour : new.region.behaviour ≡ old.region.behaviour
   pub tells : is_some new.region.contents ≡ is_some old.region.contents
   pub faults : new.region.faults ≡ old.region.faults
 
 like_self : (s : Slot) → IsLike s s
-like_self s = record { base = refl; static_size = refl; colour = refl; name = refl; page = refl; len = refl; plan = refl; tells = refl; faults = refl }
+like_self s = record { base = refl; static_size = refl; colour = refl; name = refl; page = refl; len = refl; plan = refl; behaviour = refl; tells = refl; faults = refl }
 
 like_then : (r s t : Slot) → IsLike r s → IsLike s t → IsLike r t
 like_then r s t first second = record {
@@ -51,30 +52,31 @@ like_then r s t first second = record {
   page = second.page ∙ first.page;
   len = second.len ∙ first.len;
   plan = second.plan ∙ first.plan;
+  behaviour = second.behaviour ∙ first.behaviour;
   tells = second.tells ∙ first.tells;
   faults = second.faults ∙ first.faults;
 }
 
-like_resized : (size : ℕ) (hide : Bool) (s : Slot) → IsLike s (resized size hide s)
+pub like_resized : (size : ℕ) (hide : Bool) (s : Slot) → IsLike s (resized size hide s)
 like_resized size hide s =
     let P : Slot → Type 0 = λ t. IsLike s t in
     by_if P (nat_lt s.accessible.bytes size)
     (record (called (exposing (s.base.bytes + s.accessible.bytes) (size - s.accessible.bytes)) s) { accessible = count s.region.page size })
     (if hide && nat_lt size s.accessible.bytes then record (called (hiding (s.base.bytes + size) (s.accessible.bytes - size)) s) { accessible = count s.region.page size } else s)
-    (record { base = refl; static_size = refl; colour = refl; name = refl; page = refl; len = refl; plan = refl; tells = still_some (exposed (s.base.bytes + s.accessible.bytes) (size - s.accessible.bytes)) s.region.contents; faults = refl })
+    (record { base = refl; static_size = refl; colour = refl; name = refl; page = refl; len = refl; plan = refl; behaviour = refl; tells = still_some (exposed (s.base.bytes + s.accessible.bytes) (size - s.accessible.bytes)) s.region.contents; faults = refl })
     (by_if P (hide && nat_lt size s.accessible.bytes)
     (record (called (hiding (s.base.bytes + size) (s.accessible.bytes - size)) s) { accessible = count s.region.page size })
     s
-    (record { base = refl; static_size = refl; colour = refl; name = refl; page = refl; len = refl; plan = refl; tells = still_some (hidden (s.base.bytes + size) (s.accessible.bytes - size)) s.region.contents; faults = refl })
+    (record { base = refl; static_size = refl; colour = refl; name = refl; page = refl; len = refl; plan = refl; behaviour = refl; tells = still_some (hidden (s.base.bytes + size) (s.accessible.bytes - size)) s.region.contents; faults = refl })
     (like_self s))
 
-like_without : (o : Option ImageName) (s : Slot) → IsLike s (without o s)
+pub like_without : (o : Option ImageName) (s : Slot) → IsLike s (without o s)
 like_without None s = like_self s
-like_without (Some name) s = record { base = refl; static_size = refl; colour = refl; name = refl; page = refl; len = refl; plan = refl; tells = still_some (remapped (s.base.bytes + name.offset) name.len) s.region.contents; faults = refl }
+like_without (Some name) s = record { base = refl; static_size = refl; colour = refl; name = refl; page = refl; len = refl; plan = refl; behaviour = refl; tells = still_some (remapped (s.base.bytes + name.offset) name.len) s.region.contents; faults = refl }
 
 like_with : (o : Option Image) (s : Slot) → IsLike s (with_image o s)
 like_with None s = like_self s
-like_with (Some i) s = record { base = refl; static_size = refl; colour = refl; name = refl; page = refl; len = refl; plan = refl; tells = still_some (mapped s.region.behaviour (s.base.bytes + i.offset) i.bytes) s.region.contents; faults = refl }
+like_with (Some i) s = record { base = refl; static_size = refl; colour = refl; name = refl; page = refl; len = refl; plan = refl; behaviour = refl; tells = still_some (mapped s.region.behaviour (s.base.bytes + i.offset) i.bytes) s.region.contents; faults = refl }
 
 accessible_with : (o : Option Image) (s : Slot) → (with_image o s).accessible ≡ s.accessible
 accessible_with None s = refl

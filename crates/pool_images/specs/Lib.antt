@@ -1,3 +1,4 @@
 pub mod ImageErrors
 pub mod Images
+pub mod Orders
 pub mod Slots

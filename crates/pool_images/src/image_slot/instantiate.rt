@@ -1,7 +1,8 @@
-ghost use Rattle.std.specs.Prelude.{◌≡◌, ◌+◌, ◌-◌, ◌%◌, ◌<◌, ◌≤◌, length, true, IfSome, OnOk, OnErr, option_map};
+ghost use Rattle.std.specs.Prelude.{◌≡◌, ◌+◌, ◌-◌, ◌%◌, ◌<◌, ◌≤◌, [], ◌∷◌, length, true, IfSome, is_ok, OnOk, OnErr, option_map};
 ghost use Rattle.std.specs.Arc.{arc_value};
 ghost use Rattle.pool_pages.specs.Count.{count, rounded_up};
 ghost use Rattle.pool_pages.specs.Told.{exposing, hiding};
+ghost use Rattle.pool_images.specs.Orders.{Follows, resizing, replacing};
 ghost use Rattle.pool_images.specs.Slots.{size_of, IsClean, IsLeft, IsBegun, IsSized, Fits, FitsInto, HasImage, name_of, called, resized, reused, replaced, hides};
 
 use crate::image_slot::MemoryImageSlot;
@@ -33,6 +34,10 @@ impl<P: Pages> MemoryImageSlot<P> {
         ensures replaced { OnOk result (IfSome self.old.region.contents (λ c. (HasImage self.old (option_map (λ i. arc_value i.now) image.entry) c → ⊥) →
             self.new ≡ replaced (rounded_up self.old.region.page initial) (hides ty.now tunables.now self.old.region.page) (option_map (λ i. arc_value i.now) image.entry) self.old)) }
         ensures fault { OnErr result (IsLeft self.old self.new) }
+        ensures reuse_order { IfSome self.old.region.contents (λ c. HasImage self.old (option_map (λ i. arc_value i.now) image.entry) c →
+            Follows (resizing (rounded_up self.old.region.page initial) (hides ty.now tunables.now self.old.region.page) self.old) (is_ok result) self.old.region self.new.region) }
+        ensures replace_order { IfSome self.old.region.contents (λ c. (HasImage self.old (option_map (λ i. arc_value i.now) image.entry) c → ⊥) →
+            Follows (replacing (rounded_up self.old.region.page initial) (hides ty.now tunables.now self.old.region.page) (option_map (λ i. arc_value i.now) image.entry) self.old) (is_ok result) self.old.region self.new.region) }
     {
         let hides = hides(ty, tunables, self.region.page());
         self.instantiate_image(initial, image_of(image), hides)
@@ -55,6 +60,10 @@ impl<P: Pages> MemoryImageSlot<P> {
         ensures replaced { OnOk result (IfSome self.old.region.contents (λ c. (HasImage self.old (option_map (λ i. i.now) image.entry) c → ⊥) →
             self.new ≡ replaced (rounded_up self.old.region.page initial) hides (option_map (λ i. i.now) image.entry) self.old)) }
         ensures fault { OnErr result (IsLeft self.old self.new) }
+        ensures reuse_order { IfSome self.old.region.contents (λ c. HasImage self.old (option_map (λ i. i.now) image.entry) c →
+            Follows (resizing (rounded_up self.old.region.page initial) hides self.old) (is_ok result) self.old.region self.new.region) }
+        ensures replace_order { IfSome self.old.region.contents (λ c. (HasImage self.old (option_map (λ i. i.now) image.entry) c → ⊥) →
+            Follows (replacing (rounded_up self.old.region.page initial) hides (option_map (λ i. i.now) image.entry) self.old) (is_ok result) self.old.region self.new.region) }
     {
         let size = self.rounded(initial);
         if self.has(image) {
@@ -94,6 +103,7 @@ impl<P: Pages> MemoryImageSlot<P> {
         ensures ok { OnOk result (self.new ≡ reused size.bytes hides self.old) }
         ensures begun { OnOk result (IsBegun (option_map (λ i. i.now) image.entry) self.new) }
         ensures fault { OnErr result (IsLeft self.old self.new) }
+        ensures order { Follows (resizing size.bytes hides self.old) (is_ok result) self.old.region self.new.region }
     {
         self.fits();
         self.resize(size, hides)?;
@@ -116,6 +126,7 @@ impl<P: Pages> MemoryImageSlot<P> {
         ensures ok { OnOk result (self.new ≡ replaced size.bytes hides (option_map (λ i. i.now) image.entry) self.old) }
         ensures begun { OnOk result (IsBegun (option_map (λ i. i.now) image.entry) self.new) }
         ensures fault { OnErr result (IsLeft self.old self.new) }
+        ensures order { Follows (replacing size.bytes hides (option_map (λ i. i.now) image.entry) self.old) (is_ok result) self.old.region self.new.region }
     {
         self.remove_image()?;
         self.resize(size, hides)?;
@@ -134,6 +145,7 @@ impl<P: Pages> MemoryImageSlot<P> {
         ensures ok { OnOk result (self.new ≡ resized size.bytes hides self.old) }
         ensures clean { OnOk result (IsClean self.new) }
         ensures fault { OnErr result (IsLeft self.old self.new) }
+        ensures order { Follows (resizing size.bytes hides self.old) (is_ok result) self.old.region self.new.region }
     {
         self.fits();
         if self.accessible.byte_count() < size.byte_count() {
@@ -155,6 +167,7 @@ impl<P: Pages> MemoryImageSlot<P> {
         ensures ok { OnOk result (self.new ≡ record (called (hiding (self.old.base.bytes + size.bytes) (self.old.accessible.bytes - size.bytes)) self.old) { accessible = count self.old.region.page size.bytes }) }
         ensures clean { OnOk result (IsClean self.new) }
         ensures fault { OnErr result (IsLeft self.old self.new) }
+        ensures order { Follows (hiding (self.old.base.bytes + size.bytes) (self.old.accessible.bytes - size.bytes) ∷ []) (is_ok result) self.old.region self.new.region }
     {
         let had = self.accessible;
         self.hide(size, had.saturating_sub(size))?;

@@ -1,4 +1,5 @@
-ghost use Rattle.std.specs.Prelude.{◌≡◌, ◌↔◌, ◌+◌, ◌%◌, ◌≤◌, length, slice_range, true, None, Some, Ok, IsTrue, IfSome, OnOk, OnErr, option_map};
+ghost use Rattle.std.specs.Prelude.{◌≡◌, ◌↔◌, ◌+◌, ◌%◌, ◌≤◌, length, slice_range, true, None, Some, Ok, IsTrue, IfSome, is_ok, OnOk, OnErr, option_map};
+ghost use Rattle.pool_images.specs.Orders.{Follows, unmapping, removing, image_mapping};
 ghost use Rattle.pool_images.specs.Slots.{IsReady, IsClean, IsLeft, Fits, FitsInto, HasImage, name_of, without, without_image, with_image};
 
 use crate::image_slot::{ImageName, MemoryImageSlot};
@@ -12,6 +13,7 @@ impl<P: Pages> MemoryImageSlot<P> {
         ensures ok { OnOk result (self.new ≡ without_image self.old) }
         ensures clean { OnOk result (IsClean self.new) }
         ensures fault { OnErr result (IsLeft self.old self.new) }
+        ensures order { Follows (removing self.old) (is_ok result) self.old.region self.new.region }
     {
         self.fits();
         match self.image {
@@ -27,6 +29,7 @@ impl<P: Pages> MemoryImageSlot<P> {
         ensures ok { OnOk result (self.new ≡ without (Some name) self.old) }
         ensures clean { OnOk result (IsClean self.new) }
         ensures fault { OnErr result (IsLeft self.old self.new) }
+        ensures order { Follows (unmapping self.old.base.bytes (Some name)) (is_ok result) self.old.region self.new.region }
     {
         let page = self.region.page();
         let start = HostAlignedByteCount::new_unchecked(page, name.offset);
@@ -45,6 +48,7 @@ impl<P: Pages> MemoryImageSlot<P> {
         ensures clean { OnOk result (IsClean self.new) }
         ensures has { OnOk result (IfSome self.new.region.contents (HasImage self.new (option_map (λ i. i.now) image.entry))) }
         ensures fault { OnErr result (IsLeft self.old self.new) }
+        ensures order { Follows (image_mapping (option_map (λ i. i.now) image.entry) self.old) (is_ok result) self.old.region self.new.region }
     {
         match image {
             None => self.map_none(),
@@ -70,6 +74,7 @@ impl<P: Pages> MemoryImageSlot<P> {
         ensures clean { OnOk result (IsClean self.new) }
         ensures has { OnOk result (IfSome self.new.region.contents (HasImage self.new (Some image.now))) }
         ensures fault { OnErr result (IsLeft self.old self.new) }
+        ensures order { Follows (image_mapping (Some image.now) self.old) (is_ok result) self.old.region self.new.region }
     {
         self.fits();
         let name = name_of(image);

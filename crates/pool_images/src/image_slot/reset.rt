@@ -1,6 +1,7 @@
-ghost use Rattle.std.specs.Prelude.{◌≡◌, ◌+◌, ◌≤◌, [], min, false, true, Ok, All, IfSome, OnOk, OnErr};
+ghost use Rattle.std.specs.Prelude.{◌≡◌, ◌+◌, ◌≤◌, [], min, false, true, Ok, All, IfSome, is_ok, OnOk, OnErr};
 ghost use Rattle.pool_pages.specs.Contents.{CanReach};
 ghost use Rattle.pool_pages.specs.Told.{TellsShaped, restored};
+ghost use Rattle.pool_images.specs.Orders.{Follows, emptying};
 ghost use Rattle.pool_images.specs.Slots.{size_of, Fits, IsReady, IsClean, IsLeft, IsShut, IsPart, emptied, cleared, reset_ranges, decommitted_all};
 
 use crate::image_slot::MemoryImageSlot;
@@ -57,6 +58,7 @@ impl<P: Pages> MemoryImageSlot<P> {
         ensures shut { OnOk result (IfSome self.new.region.contents (IsShut self.new)) }
         ensures mark { OnErr result (self.new.dirty ≡ self.old.dirty) }
         ensures fault { OnErr result (IsLeft self.old self.new) }
+        ensures order { Follows (emptying self.old) (is_ok result) self.old.region self.new.region }
     {
         self.fits();
         let page = self.region.page();
