@@ -1,5 +1,6 @@
-ghost use Rattle.std.specs.Prelude.{◌≡◌, ◌+◌, ◌≤◌, length, slice_range, false, None, is_ok, is_some, IfSome, OnOk, OnErr};
+ghost use Rattle.std.specs.Prelude.{◌≡◌, ◌+◌, ◌≤◌, [], ◌∷◌, length, slice_range, false, None, is_ok, is_some, IfSome, OnOk, OnErr};
 ghost use Rattle.pool_pages.specs.Told.{exposing, hiding, mapping, remapping, erasing, decommitting, passes};
+ghost use Rattle.pool_images.specs.Orders.{Follows};
 ghost use Rattle.pool_images.specs.Slots.{size_of, IsRangeOf, CallFaulted, IsFresh, IsReady, IsClean, Fits, FitsInto, called, written_at};
 
 mod instantiate;
@@ -125,6 +126,7 @@ impl<P: Pages> MemoryImageSlot<P> {
         ensures ok { OnOk result (self.new ≡ called (decommitting (self.old.base.bytes + start.bytes) len.bytes) self.old) }
         ensures fault { OnErr result (CallFaulted (decommitting (self.old.base.bytes + start.bytes) len.bytes) self.old self.new) }
         ensures planned { IfSome self.old.region.plan (λ plan. is_ok result ≡ passes plan (decommitting (self.old.base.bytes + start.bytes) len.bytes) self.old.region) }
+        ensures order { Follows (decommitting (self.old.base.bytes + start.bytes) len.bytes ∷ []) (is_ok result) self.old.region self.new.region }
         ensures clean { IsClean self.old → OnOk result (IsClean self.new) }
         ensures clean_still { IsClean self.old → OnErr result (IsClean self.new) }
     {
