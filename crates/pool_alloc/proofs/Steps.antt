@@ -1,5 +1,5 @@
 -- What the code of a step needs follows of what holds between steps, and what holds between steps holds after a step.
-use Rattle.std.proofs.Common.{◌≡◌, ℕ, ◌+◌, ◌*◌, ◌^◌, ◌<◌, ◌≤◌, true, false, List, length, get_or, sym, ap, subst, ◌∙◌, arith, Option, Some, None}
+use Rattle.std.proofs.Common.{◌≡◌, ℕ, ◌+◌, ◌*◌, ◌^◌, ◌<◌, ◌≤◌, true, false, List, length, get_or, refl, sym, ap, subst, ◌∙◌, arith, Option, Some, None}
 use Rattle.std.specs.Prelude.{IfSome, IsSome, is_some, slice_get}
 use Rattle.std.proofs.lemmas.List.Elements.{All-from_get_or}
 use Rattle.pool_pages.specs.MakerTold.{MakerTold}
@@ -40,11 +40,11 @@ no_lease = record { index = 0; memory = record { ty = record { idx_type = I32; l
 
 some_of : {X : Type 0} (o : Option X) → is_some o ≡ true → IsSome o
 some_of None e = absurd cc
-some_of (Some x) e = tt
+some_of (Some x) e = refl
 
 some_asked : (o : Option ModuleCall) (n : ℕ) → n < length (memories_asked o) → IsSome o
 some_asked None n below = absurd (omega arith)
-some_asked (Some m) n below = tt
+some_asked (Some m) n below = refl
 
 fits_region : (page other initial : ℕ) (o : Option Image) → other ≡ page → IfSome o (FitsInto page initial) → IfSome o (FitsInto other initial)
 fits_region page other initial o e fits =
