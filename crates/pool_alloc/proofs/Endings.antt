@@ -1,6 +1,6 @@
 -- A step answers exactly where its call ends with it, and no counter but the key rises by more than one.
 use Rattle.std.proofs.Common.{◌≡◌, ℕ, ◌+◌, ◌-◌, ◌≤◌, Bool, true, false, List, [], ◌∷◌, length, refl, sym, subst, arith, Option, Some, None, Result, Ok, Err}
-use Rattle.std.specs.Prelude.{◌==◌, ◌||◌, nat_lt, nat_le, if◌then◌else◌, is_some, slice_get}
+use Rattle.std.specs.Prelude.{◌==◌, ◌||◌, nat_lt, nat_le, if◌then◌else◌, is_some}
 use Rattle.pool_pages.specs.MakerTold.{MakerTold}
 use Rattle.pool_pages.specs.declared.unsupported.Unsupported.{Unsupported}
 use Rattle.pool_images.specs.Slots.{Slot}
@@ -15,7 +15,7 @@ use Rattle.pool_alloc.specs.Leases.{Lease}
 use Rattle.pool_alloc.specs.Reserved.{with_item}
 use Rattle.pool_alloc.specs.Own.{memory_made, reset_into}
 use Rattle.pool_alloc.specs.Refusals.{memories_refused}
-use Rattle.pool_alloc.specs.Steps.{Given, After, memories_asked, shard_at, cell_at, queue_at, shard_of, local_of, freed_of, freed_elsewhere, first_shard, after_frees, queue_tried, with_shard, with_cell, with_queue, counting_instances, counting_memories, goes, give_back_next, refuses, allocate_next, flushes, after_flush, no_slot, validated, shard_tried, picked, wanted, holds_region, made, returns, puts, row_of, row}
+use Rattle.pool_alloc.specs.Steps.{Given, After, memories_asked, shard_at, cell_at, queue_at, shard_of, local_of, freed_of, freed_elsewhere, first_shard, after_frees, queue_tried, with_shard, with_cell, with_queue, counting_instances, counting_memories, goes, give_back_next, refuses, allocate_next, flushes, after_flush, no_slot, validated, shard_tried, picked, wanted, holds_region, made, returns, puts, row_of}
 use Rattle.pool_alloc.specs.Stepping.{CanStep, StepsTo, is_idle, EndsWith}
 use Rattle.pool_alloc.specs.declared.pool_core.PoolCore.{PoolCore}
 use Rattle.pool_alloc.specs.declared.frame.Frame.{Frame}

@@ -48,7 +48,10 @@ impl<P: Pages> Frame<P> {
         ensures { result ≡ calls_in_frame self.now }
     {
         let leased = add_calls(calls_of(&self.granted), calls_of(&self.returning));
-        add_calls(leased, add_calls(self.local.page_calls(), self.phase.page_calls()))
+        add_calls(
+            leased,
+            add_calls(self.local.page_calls(), self.phase.page_calls()),
+        )
     }
 
     // How many memories the module has that is asked for.
