@@ -1,10 +1,12 @@
+ghost use Rattle.std.specs.Prelude.{◌≡◌, ◌+◌, ◌≤◌, false};
 ghost use Rattle.std.specs.Option.{option_copied_mut};
 ghost use Rattle.pool_pages.specs.MakerTold.{MakerTold};
 ghost use Rattle.pool_limits.specs.LimiterTold.{limiter_told, option_left};
+ghost use Rattle.pool_alloc.specs.Bounds.{HasGroups, steps_left};
 ghost use Rattle.pool_alloc.specs.Calls.{IsGrantOf, IfGranted};
 ghost use Rattle.pool_alloc.specs.CanStep.{CanStepAt};
 ghost use Rattle.pool_alloc.specs.Steps.{memories_asked};
-ghost use Rattle.pool_alloc.specs.Stepping.{CanStep, CanCount, StepsTo, Conserves, EndsWith, IsSameSize};
+ghost use Rattle.pool_alloc.specs.Stepping.{CanStep, CanCount, StepsTo, Conserves, EndsWith, IsSameSize, is_idle};
 
 use crate::frame::{Frame, Outcome, Phase};
 use crate::pool_core::PoolCore;
@@ -32,6 +34,8 @@ impl<P: Pages> PoolCore<P> {
         ensures granted { IfGranted (IsGrantOf maker self.old.settings (memories_asked frame.old.asked)) result }
         ensures ended { EndsWith self.old frame.old (record { core = self.new; frame = frame.new; outcome = result }) }
         ensures size { IsSameSize self.old self.new }
+        ensures groups { HasGroups self.old frame.old → HasGroups self.new frame.new }
+        ensures fewer { HasGroups self.old frame.old → is_idle frame.old.phase ≡ false → steps_left self.new frame.new + 1 ≤ steps_left self.old frame.old }
     {
         match limiter {
             Some(limiter) => self.advance(alloc, frame, limiter),

@@ -1,5 +1,7 @@
 use Rattle.pool_alloc.proofs.Endings.{step_ends}
 use Rattle.pool_alloc.proofs.Fitting.{step_conserves, step_keeps_size}
+use Rattle.pool_alloc.proofs.Grouping.{step_grouped}
+use Rattle.pool_alloc.proofs.StepBounds.{step_fewer}
 use Rattle.pool_alloc.proofs.Steps.{can_step_at, can_still, step_grants}
 use Rattle.pool_alloc.proofs.pool_core.PoolCore.step.Goals as goal
 
@@ -41,3 +43,15 @@ returns-in-None-clause-ended g c = step_ends g.maker _ _ c.args.self.now c.args.
 
 pub returns-in-None-clause-size : goal.returns-in-None-clause-size
 returns-in-None-clause-size g c = step_keeps_size g.maker _ _ c.args.self.now c.args.frame.now _ c.requires.1.1.1.0 c.advance-in-None.ensures
+
+pub returns-in-Some-clause-groups : goal.returns-in-Some-clause-groups
+returns-in-Some-clause-groups g c = λ has. step_grouped g.maker _ _ c.args.self.now c.args.frame.now _ c.requires.1.1.1.0 c.advance.ensures has
+
+pub returns-in-Some-clause-fewer : goal.returns-in-Some-clause-fewer
+returns-in-Some-clause-fewer g c = λ has on. step_fewer g.maker _ _ c.args.self.now c.args.frame.now _ c.requires.1.1.1.0 c.advance.ensures has on
+
+pub returns-in-None-clause-groups : goal.returns-in-None-clause-groups
+returns-in-None-clause-groups g c = λ has. step_grouped g.maker _ _ c.args.self.now c.args.frame.now _ c.requires.1.1.1.0 c.advance-in-None.ensures has
+
+pub returns-in-None-clause-fewer : goal.returns-in-None-clause-fewer
+returns-in-None-clause-fewer g c = λ has on. step_fewer g.maker _ _ c.args.self.now c.args.frame.now _ c.requires.1.1.1.0 c.advance-in-None.ensures has on
