@@ -11,6 +11,7 @@ pub mod QueueLists
 pub mod QueueChanges
 pub mod QueueFaults
 pub mod QueueFirst
+pub mod QueueOrders
 pub mod QueueRuns
 pub mod QueueSteps
 pub mod Fresh

@@ -3,6 +3,7 @@ pub mod Cells
 pub mod Ended
 pub mod Memories
 pub mod Pools
+pub mod QueueOrders
 pub mod QueueSteps
 pub mod Queues
 pub mod Texts

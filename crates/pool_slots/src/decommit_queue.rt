@@ -1,7 +1,8 @@
-ghost use Rattle.std.specs.Prelude.{◌≡◌, ◌+◌, ◌<◌, ◌≤◌, ◌==◌, ◌^◌, [], ◌∷◌, ◌++◌, length, ℕ, List, nat_lt, false, true, IfOk, IfSome, OnOk, OnErr, MatchOption, slice_index_or};
+ghost use Rattle.std.specs.Prelude.{◌≡◌, ◌+◌, ◌<◌, ◌≤◌, ◌==◌, ◌^◌, [], ◌∷◌, ◌++◌, length, ℕ, List, nat_lt, false, true, is_ok, IfOk, IfSome, OnOk, OnErr, MatchOption, slice_index_or};
 ghost use Rattle.std.specs.List.{HoldsAt};
 ghost use Rattle.pool_images.specs.declared.ranges.ByteRange.{ByteRange};
 ghost use Rattle.pool_slots.specs.Queues.{QueuedMemory, QueueState, empty_queue, emptied, is_held, holds, HasOwners, AreDistinct, AreApart, LeavesClean, ForgetsNothing, with_range, with_ranges, with_memory, joined, after_take, taken_into, IsSpareOf, after_run, after_run_of, IsFaulted, IsFlushed, AreSettled, IsSettled, calls_held, first_slot};
+ghost use Rattle.pool_slots.specs.QueueOrders.{run_of, first_of, AreInOrder};
 ghost use Rattle.pool_slots.specs.QueueSteps.{begins_with, after_first};
 ghost use Rattle.pool_slots.specs.declared.queued_range.QueueKind.TheVariants.{Memory};
 
@@ -195,6 +196,7 @@ impl<P: Pages> DecommitQueue<P> {
         requires owners { HasOwners self.old }
         ensures ok { OnOk result (self.new ≡ after_run self.old) }
         ensures err { OnErr result (IsFaulted self.old self.new) }
+        ensures order { AreInOrder (first_slot self.old.ranges) (run_of (first_slot self.old.ranges) self.old.ranges) (is_ok result) self.old.memories self.new.memories }
         ensures owners { HasOwners self.new }
     {
         let slot = self.first_slot();
@@ -224,6 +226,7 @@ impl<P: Pages> DecommitQueue<P> {
         requires owners { HasOwners self.old }
         ensures ok { OnOk result (self.new ≡ after_run_of slot.0 self.old) }
         ensures err { OnErr result (IsFaulted self.old self.new) }
+        ensures order { AreInOrder slot.0 (run_of slot.0 self.old.ranges) (is_ok result) self.old.memories self.new.memories }
         ensures owners { HasOwners self.new }
     {
         while self.continues(slot) {
@@ -269,6 +272,7 @@ impl<P: Pages> DecommitQueue<P> {
         requires index { HoldsAt (λ m. begins_with m.index self.old.ranges ≡ true) self.old.memories at }
         ensures ok { OnOk result (self.new ≡ after_first self.old) }
         ensures err { OnErr result (IsFaulted self.old self.new) }
+        ensures order { AreInOrder (first_slot self.old.ranges) (first_of self.old.ranges) (is_ok result) self.old.memories self.new.memories }
     {
         let Some(first) = self.ranges.pop_front() else {
             unreachable!()

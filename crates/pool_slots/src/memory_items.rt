@@ -1,7 +1,9 @@
-ghost use Rattle.std.specs.Prelude.{◌≡◌, ◌+◌, ◌<◌, ◌≤◌, ◌==◌, [], ◌∷◌, ◌++◌, length, List, map, slice_index_or, slice_set, IfOk, OnOk, OnErr};
+ghost use Rattle.std.specs.Prelude.{◌≡◌, ◌+◌, ◌<◌, ◌≤◌, ◌==◌, [], ◌∷◌, ◌++◌, length, List, map, slice_index_or, slice_set, is_ok, IfOk, OnOk, OnErr};
 ghost use Rattle.std.specs.List.{HoldsAt};
+ghost use Rattle.pool_images.specs.Orders.{Follows};
 ghost use Rattle.pool_images.specs.Slots.{IsPart, IsLeft, size_of};
 ghost use Rattle.pool_slots.specs.Queues.{QueuedMemory, TakesFirst, decommitted_at, forgotten, IsLeftItem};
+ghost use Rattle.pool_slots.specs.QueueOrders.{decommits};
 
 use crate::request::MemoryAllocationIndex;
 use crate::uses::decommit_one;
@@ -42,6 +44,7 @@ impl<P: Pages> MemoryItem<P> {
         requires { IsPart self.old.slot.region.page (size_of self.old.slot) range }
         ensures ok { OnOk result (self.new ≡ record self.old { slot = decommitted_at range self.old.slot }) }
         ensures err { OnErr result (IsLeftItem self.old self.new) }
+        ensures order { Follows (decommits self.old.slot.base.bytes (range ∷ [])) (is_ok result) self.old.slot.region self.new.slot.region }
     {
         decommit_one(&mut self.slot, range)
     }
@@ -125,6 +128,7 @@ impl<P: Pages> MemoryItems<P> {
         requires part { HoldsAt (λ m. IsPart m.slot.region.page (size_of m.slot) range) self.old.items at }
         ensures ok { OnOk result (HoldsAt (λ m. self.new ≡ record self.old { items = slice_set self.old.items at (record m { slot = decommitted_at range m.slot }) }) self.old.items at) }
         ensures err { OnErr result (HoldsAt (λ m. (n : QueuedMemory) × IsLeftItem m n × (self.new ≡ record self.old { items = slice_set self.old.items at n })) self.old.items at) }
+        ensures order { HoldsAt (λ m. HoldsAt (λ n. Follows (decommits m.slot.base.bytes (range ∷ [])) (is_ok result) m.slot.region n.slot.region) self.new.items at) self.old.items at }
     {
         let item = &mut self.list[at];
         item.decommit(range)

@@ -1,9 +1,11 @@
-ghost use Rattle.std.specs.Prelude.{◌≡◌, ◌+◌, ◌^◌, ◌<◌, ◌≤◌, IfOk, IfErr, IfSome, OnOk, OnErr, None, false, option_map};
+ghost use Rattle.std.specs.Prelude.{◌≡◌, ◌+◌, ◌^◌, ◌<◌, ◌≤◌, [], ◌∷◌, IfOk, IfErr, IfSome, OnOk, OnErr, None, false, is_ok, option_map};
 ghost use Rattle.std.specs.Arc.{arc_value};
 ghost use Rattle.pool_pages.specs.Count.{count};
 ghost use Rattle.pool_pages.specs.Told.{decommitting};
+ghost use Rattle.pool_images.specs.Orders.{Follows};
 ghost use Rattle.pool_images.specs.Slots.{IsClean, called, IsFresh, IsLeft, IsPart, FitsInto, emptied, size_of};
 ghost use Rattle.pool_slots.specs.CellOf.{cell_of};
+ghost use Rattle.pool_slots.specs.QueueOrders.{decommits};
 ghost use Rattle.pool_slots.specs.Uses.{CanBegin, IsReadyFrom, IsLostFrom, IsBegunFrom, IsBegunIn};
 
 use crate::cells::ImageSlot;
@@ -101,6 +103,7 @@ pub(crate) fn decommit_one<P: Pages>(
     requires { IsPart slot.old.region.page (size_of slot.old) range }
     ensures ok { OnOk result (slot.new ≡ called (decommitting (slot.old.base.bytes + range.start) range.len) slot.old) }
     ensures err { OnErr result (IsLeft slot.old slot.new) }
+    ensures order { Follows (decommits slot.old.base.bytes (range ∷ [])) (is_ok result) slot.old.region slot.new.region }
 {
     let page = slot.region().page();
     let start = HostAlignedByteCount::new_unchecked(page, range.start);

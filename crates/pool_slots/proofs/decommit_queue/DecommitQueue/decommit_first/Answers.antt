@@ -1,8 +1,12 @@
-use Rattle.std.proofs.Common.{◌≡◌, ◌<◌, true, length, map, refl, sym, ap, subst}
+use Rattle.std.proofs.Common.{◌≡◌, ◌<◌, true, false, length, get_or, map, refl, sym, ap, subst}
+use Rattle.std.specs.Prelude.{slice_set}
 use Rattle.std.specs.List.{HoldsAt}
-use Rattle.pool_slots.specs.Queues.{QueueState, IsQueue, forgotten}
+use Rattle.pool_slots.specs.declared.queued_range.QueuedRange.{QueuedRange}
+use Rattle.pool_slots.specs.Queues.{QueuedMemory, MemoryList, QueueState, IsQueue, decommitted_at, first_slot, forgotten}
+use Rattle.pool_slots.specs.QueueOrders.{first_of, AreInOrder}
 use Rattle.pool_slots.specs.QueueSteps.{begins_with}
 use Rattle.pool_slots.proofs.QueueFirst.{part_first, first_done, queue_done, queue_left, first_faulted}
+use Rattle.pool_slots.proofs.QueueOrders.{order_first, order_forgotten}
 use Rattle.pool_slots.proofs.decommit_queue.DecommitQueue.decommit_first.Goals as goal
 
 pub decommit-requires-clause-part : goal.decommit-requires-clause-part
@@ -61,3 +65,28 @@ returns-in-Err-clause-err g c =
       takes = refl;
       appended = refl;
     })
+
+pub returns-in-Ok-clause-order : goal.returns-in-Ok-clause-order
+returns-in-Ok-clause-order g c =
+    let i = c.self.inside in
+    let q : QueueState = record { ranges = i.ranges.items; memories = i.memories.items; range_room = i.range_room; slot_room = i.memories.room; takes = i.takes; appended = i.appended } in
+    let r : QueuedRange = c.in-Some.first in
+    let inside : c.args.at < length q.memories = rw (← c.self.view_is) at c.requires.inside in
+    let begins : HoldsAt (λ m. begins_with m.index q.ranges ≡ true) q.memories c.args.at = rw (← c.self.view_is) at c.requires.index in
+    let set : (d : QueuedMemory) → (x : QueuedMemory) × (c.decommit.new.self.items ≡ slice_set q.memories c.args.at x) = λ d.
+    let m : QueuedMemory = get_or q.memories c.args.at d in
+    (record m { slot = decommitted_at r.range m.slot }, ap (λ (l : MemoryList). l.items) (c.in-Ok.ensures.ok d)) in
+    rw (← c.self.view_is) (order_first q r c.pop_front.new.self.items c.args.at true c.decommit.new.self.items c.self.invariant.queue c.in-Some.ensures.items inside begins set c.in-Ok.ensures.order)
+
+pub returns-in-Err-clause-order : goal.returns-in-Err-clause-order
+returns-in-Err-clause-order g c =
+    let i = c.self.inside in
+    let q : QueueState = record { ranges = i.ranges.items; memories = i.memories.items; range_room = i.range_room; slot_room = i.memories.room; takes = i.takes; appended = i.appended } in
+    let r : QueuedRange = c.in-Some.first in
+    let inside : c.args.at < length q.memories = rw (← c.self.view_is) at c.requires.inside in
+    let begins : HoldsAt (λ m. begins_with m.index q.ranges ≡ true) q.memories c.args.at = rw (← c.self.view_is) at c.requires.index in
+    let set : (d : QueuedMemory) → (x : QueuedMemory) × (c.decommit.new.self.items ≡ slice_set q.memories c.args.at x) = λ d.
+    let w = c.in-Err.ensures.err d in (w.0, ap (λ (l : MemoryList). l.items) w.2) in
+    let order : AreInOrder (first_slot q.ranges) (first_of q.ranges) false q.memories c.decommit.new.self.items =
+    order_first q r c.pop_front.new.self.items c.args.at false c.decommit.new.self.items c.self.invariant.queue c.in-Some.ensures.items inside begins set c.in-Err.ensures.order in
+    rw (← c.self.view_is, c.forget.ensures) (order_forgotten (first_slot q.ranges) (first_of q.ranges) false q.memories c.decommit.new.self.items order)
