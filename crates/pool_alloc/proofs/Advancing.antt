@@ -11,7 +11,7 @@ use Rattle.pool_slots.specs.Queues.{QueuedMemory}
 use Rattle.pool_slots.specs.declared.request.AllocError.{AllocError}
 use Rattle.pool_limits.specs.LimiterTold.{LimiterTold}
 use Rattle.pool_limits.specs.declared.errors.LimiterError.{LimiterError}
-use Rattle.pool_alloc.specs.Answers.{MayBeTold, AsksOf}
+use Rattle.pool_alloc.specs.Answers.{MayBeTold, IsPlanned, AsksOf}
 use Rattle.pool_alloc.specs.Steps.{Given, After, memories_asked, shard_at, cell_at, freed_of, freed_elsewhere, first_shard, after_frees, with_shard, with_cell, counting_memories, goes, validated, validate_row, wanted, shard_tried, picked, pick_row, holds_region, take_region_row, made, make_memory_row, returns, uncount_memory_row, puts, put_region_row, after_flush, were_freed, free_row, row_of}
 use Rattle.pool_alloc.specs.Own.{memory_made}
 use Rattle.pool_alloc.specs.Refusals.{memories_refused}
@@ -25,13 +25,15 @@ use Rattle.pool_alloc.specs.declared.frame.AfterFlush.{AfterFlush}
 use Rattle.pool_alloc.specs.declared.frame.AfterFlush.TheVariants.{PickAgain, GiveBackNext}
 
 module _ {P : Type 0} where
-  pub by_row : (old new : LimiterTold) (g : Given) (next : Phase P) (c : PoolCore P) (f : Frame P) (a : After P) → f.phase ≡ next → MayBeTold c.settings g next f → AsksOf old new g next f → a ≡ row_of g next c f → StepsTo old new c f a
-  by_row old new g next c f a is told asks row =
+  pub by_row : (old new : LimiterTold) (g : Given) (next : Phase P) (c : PoolCore P) (f : Frame P) (a : After P) → f.phase ≡ next → MayBeTold c.settings g next f → IsPlanned c.settings g next f → AsksOf old new g next f → a ≡ row_of g next c f → StepsTo old new c f a
+  by_row old new g next c f a is told planned asks row =
       let T : Phase P → Type 0 = λ p. MayBeTold c.settings g p f in
+      let N : Phase P → Type 0 = λ p. IsPlanned c.settings g p f in
       let L : Phase P → Type 0 = λ p. AsksOf old new g p f in (
         g,
         record {
           told = subst T (sym is) told;
+          planned = subst N (sym is) planned;
           limiter = subst L (sym is) asks;
           is = row ∙ ap (λ (p : Phase P). row_of g p c f) (sym is);
         },

@@ -1,13 +1,14 @@
 -- An instantiation seen as one of the answers that may come.
 use Rattle.std.proofs.Common.{◌≡◌, ℕ, ◌≤◌, List, Bool, Option, Some, None}
-use Rattle.std.specs.Prelude.{Result, Ok, Err, OnOk, OnErr, IfSome, is_err, option_map, slice_get}
+use Rattle.std.specs.Prelude.{Result, Ok, Err, OnOk, OnErr, IfSome, is_err, is_ok, option_map, slice_get}
 use Rattle.pool_pages.specs.Count.{rounded_up}
 use Rattle.pool_images.specs.Images.{Image}
+use Rattle.pool_images.specs.Orders.{Follows, resizing, replacing}
 use Rattle.pool_images.specs.Slots.{Slot, Fits, FitsInto, IsLeft, IsBegun, IsSized, HasImage, reused, replaced, name_of}
 use Rattle.pool_memory.specs.Static.{CanHold}
 use Rattle.pool_memory.specs.Making.{EndsWithin}
 use Rattle.pool_memory.proofs.Begun.{instantiated_holds}
-use Rattle.pool_alloc.specs.Answers.{InstantiatesAs}
+use Rattle.pool_alloc.specs.Answers.{InstantiatesAs, FollowsPlan}
 
 pub instantiates_as : {T E : Type 0} (r : Result T E) (initial : ℕ) (hide : Bool) (image : Option Image) (old new : Slot)
     → OnOk r (IsBegun image new)
@@ -20,6 +21,14 @@ pub instantiates_as : {T E : Type 0} (r : Result T E) (initial : ℕ) (hide : Bo
     → InstantiatesAs (is_err r) initial hide image old new
 instantiates_as (Ok x) initial hide image old new begun holds sizes named again anew fault = record { begun = begun; holds = holds; sizes = sizes; named = named; reused = again; replaced = anew }
 instantiates_as (Err e) initial hide image old new begun holds sizes named again anew fault = fault
+
+-- its page calls, by whether one failed
+pub follows_as : {T E : Type 0} (r : Result T E) (initial : ℕ) (hide : Bool) (image : Option Image) (old new : Slot)
+    → IfSome old.region.contents (λ c. HasImage old image c → Follows (resizing (rounded_up old.region.page initial) hide old) (is_ok r) old.region new.region)
+    → IfSome old.region.contents (λ c. (HasImage old image c → ⊥) → Follows (replacing (rounded_up old.region.page initial) hide image old) (is_ok r) old.region new.region)
+    → FollowsPlan initial hide image (is_err r) old new
+follows_as (Ok x) initial hide image old new again anew = record { reuse = again; replace = anew }
+follows_as (Err e) initial hide image old new again anew = record { reuse = again; replace = anew }
 
 pub if_some_at : {X : Type 0} (Q : X → Type 0) (xs : List X) (k : ℕ) (x : X) → slice_get xs k ≡ Some x → Q x → IfSome (slice_get xs k) Q
 if_some_at Q xs k x e q = rw e q

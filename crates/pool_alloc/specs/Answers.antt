@@ -1,16 +1,18 @@
 -- What a step may be told: how its page calls on what the party holds end, and what they leave.
-use Rattle.std.specs.Prelude.{◌≡◌, ℕ, Bool, true, false, Option, IfSome, option_map, Result}
+use Rattle.std.specs.Prelude.{◌≡◌, ℕ, Bool, true, false, not, Option, IfSome, option_map, Result}
 use Rattle.pool_pages.specs.Count.{rounded_up}
 use Rattle.pool_pages.specs.MemoryTypes.{minimum_byte_size}
 use Rattle.pool_pages.specs.declared.module_types.MemoryDecl.{MemoryDecl}
 use Rattle.pool_images.specs.Images.{Image}
+use Rattle.pool_images.specs.Orders.{Follows, resizing, replacing, emptying}
 use Rattle.pool_images.specs.Slots.{Slot, IsClean, IsLeft, IsBegun, IsSized, HasImage, emptied, reused, replaced, name_of, hides}
 use Rattle.pool_limits.specs.Growth.{memory_answer}
 use Rattle.pool_limits.specs.LimiterTold.{LimiterTold, answered}
 use Rattle.pool_limits.specs.declared.errors.LimiterError.{LimiterError}
 use Rattle.pool_memory.specs.Making.{minimum_asked, maximum_asked}
 use Rattle.pool_memory.specs.Static.{CanHold}
-use Rattle.pool_slots.specs.Queues.{QueueState, LeavesClean, after_run, IsFaulted}
+use Rattle.pool_slots.specs.Queues.{QueueState, LeavesClean, after_run, first_slot, IsFaulted}
+use Rattle.pool_slots.specs.QueueOrders.{run_of, AreInOrder}
 use Rattle.pool_memory.specs.Memories.{slot_of}
 use Rattle.pool_alloc.specs.Modules.{IfAllocated}
 use Rattle.pool_alloc.specs.Own.{slot_ended, reset_listed}
@@ -53,6 +55,19 @@ abbrev pub Decommits : Bool → QueueState → QueueState → Type 0
 Decommits true old new = IsFaulted old new
 Decommits false old new = new ≡ after_run old
 
+-- The page calls of an instantiation, where pages are told: those that a slot with the wanted image needs, or those that
+-- another one does. Where the region tells its plan, they were made in their order, and ended so.
+pub record FollowsPlan (initial : ℕ) (hide : Bool) (image : Option Image) (fault : Bool) (old new : Slot) : Type 0 where
+  pub reuse : IfSome old.region.contents (λ c. HasImage old image c → Follows (resizing (rounded_up old.region.page initial) hide old) (not fault) old.region new.region)
+  pub replace : IfSome old.region.contents (λ c. (HasImage old image c → ⊥) → Follows (replacing (rounded_up old.region.page initial) hide image old) (not fault) old.region new.region)
+
+abbrev pub FollowsPlanFor : Settings → MemoryDecl → Bool → Option Image → Slot → Slot → Type 0
+FollowsPlanFor s decl fault image old new = FollowsPlan (minimum_byte_size decl.ty) (hides decl.ty s.tunables old.region.page) image fault old new
+
+-- the decommits of the next ranges of one slot, likewise
+abbrev pub FollowsRun : Bool → QueueState → QueueState → Type 0
+FollowsRun fault old new = AreInOrder (first_slot old.ranges) (run_of (first_slot old.ranges) old.ranges) (not fault) old.memories new.memories
+
 module _ {P : Type 0} where
   -- the given answers may come in this phase; a slot that was reset leaves clean once its ranges are decommitted
   abbrev pub MayBeTold : Settings → Given → Phase P → Frame P → Type 0
@@ -66,3 +81,10 @@ module _ {P : Type 0} where
   abbrev pub AsksOf : LimiterTold → LimiterTold → Given → Phase P → Frame P → Type 0
   AsksOf old new g (MakeMemory slot held) f = IfAllocated f (Asks g.limiter old new)
   AsksOf old new g _ f = new ≡ old
+
+  -- whether a page call of the step failed is as the regions' plans say, where they are told
+  abbrev pub IsPlanned : Settings → Given → Phase P → Frame P → Type 0
+  IsPlanned s g (Empty slot held) f = Follows (emptying held) (not g.fault) held.region g.slot.region
+  IsPlanned s g (Instantiate slot held) f = IfAllocated f (λ decl. FollowsPlanFor s decl g.fault (image_wanted f) held g.slot)
+  IsPlanned s g (Decommit after) f = FollowsRun g.fault f.local g.queue
+  IsPlanned s g _ f = Unit {0}

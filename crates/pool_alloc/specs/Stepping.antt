@@ -3,7 +3,7 @@ use Rattle.std.specs.Prelude.{◌≡◌, ℕ, ◌+◌, ◌^◌, ◌<◌, ◌≤�
 use Rattle.pool_pages.specs.MakerTold.{MakerTold}
 use Rattle.pool_limits.specs.LimiterTold.{LimiterTold}
 use Rattle.pool_alloc.specs.Steps.{Given, After, row}
-use Rattle.pool_alloc.specs.Answers.{MayBeTold, AsksOf}
+use Rattle.pool_alloc.specs.Answers.{MayBeTold, IsPlanned, AsksOf}
 use Rattle.pool_alloc.specs.Places.{Thing, kept_count, frame_count, leased_count, phase_instances, frame_memories}
 use Rattle.pool_alloc.specs.Sound.{IsCore, IsFrame, Fits}
 use Rattle.pool_alloc.specs.declared.pool_core.PoolCore.{PoolCore}
@@ -34,9 +34,10 @@ module _ {P : Type 0} where
   granted of (Some (Refused e)) = 0
   granted of None = 0
 
-  -- the answers are ones that may come, of the limiter too, and the row is taken
+  -- the answers are ones that may come, of the pages by their plans and of the limiter too, and the row is taken
   pub record Takes (old new : LimiterTold) (g : Given) (c : PoolCore P) (f : Frame P) (a : After P) : Type 0 where
     pub told : MayBeTold c.settings g f.phase f
+    pub planned : IsPlanned c.settings g f.phase f
     pub limiter : AsksOf old new g f.phase f
     pub is : a ≡ row g c f
 

@@ -1,7 +1,7 @@
 ghost use Rattle.std.specs.Prelude.{◌≡◌, ◌<◌, ◌≤◌, ◌^◌, length, Bool};
 ghost use Rattle.pool_slots.specs.CellOf.{cell_of};
 ghost use Rattle.pool_slots.specs.Queues.{QueueState, HasOwners, IsSpareOf};
-ghost use Rattle.pool_alloc.specs.Answers.{Decommits};
+ghost use Rattle.pool_alloc.specs.Answers.{Decommits, FollowsRun};
 ghost use Rattle.pool_alloc.specs.CanStep.{CanMerge, CanPut, CanFree};
 ghost use Rattle.pool_alloc.specs.Steps.{After, queue_at, queue_tried, flushes, after_flush, take_queue_row, merge_row, decommit_row, put_region_row, free_row, cell_returned};
 
@@ -77,7 +77,7 @@ impl<P: Pages> PoolCore<P> {
     pub(crate) fn decommit(&mut self, frame: &mut Frame<P>, after: AfterFlush) -> Option<Outcome<P>>
         requires some { 0 < length frame.old.local.ranges }
         requires owners { HasOwners frame.old.local }
-        ensures { (fault : Bool) × (queue : QueueState) × Decommits fault frame.old.local queue × (◌≡◌ {A = After P} (record { core = self.new; frame = frame.new; outcome = result }) (decommit_row queue after self.old frame.old)) }
+        ensures { (fault : Bool) × (queue : QueueState) × Decommits fault frame.old.local queue × FollowsRun fault frame.old.local queue × (◌≡◌ {A = After P} (record { core = self.new; frame = frame.new; outcome = result }) (decommit_row queue after self.old frame.old)) }
     {
         let _fault = frame.local.decommit_run().is_err();
         self.flush(frame, after)

@@ -2,7 +2,7 @@ ghost use Rattle.std.specs.Prelude.{◌≡◌, ◌<◌, ◌≤◌, ◌^◌, leng
 ghost use Rattle.std.specs.Arc.{arc_value};
 ghost use Rattle.pool_pages.specs.MemoryTypes.{minimum_byte_size};
 ghost use Rattle.pool_images.specs.Slots.{Slot, IsClean, FitsInto, hides};
-ghost use Rattle.pool_alloc.specs.Answers.{InstantiatesAs, InstantiatesFor};
+ghost use Rattle.pool_alloc.specs.Answers.{InstantiatesAs, InstantiatesFor, FollowsPlan, FollowsPlanFor};
 ghost use Rattle.pool_alloc.specs.Steps.{After, memories_asked, images_asked, image_wanted, instantiate_row};
 ghost use Rattle.pool_alloc.specs.CanStep.{HasNext, CanBegin};
 ghost use Rattle.pool_alloc.specs.Modules.{IfAllocated};
@@ -39,7 +39,7 @@ impl<P: Pages> PoolCore<P> {
         requires next { HasNext frame.old.asked (length frame.old.granted.items) }
         requires clean { IsClean held }
         requires can { IfAllocated frame.old (CanBegin held (image_wanted frame.old)) }
-        ensures { (fault : Bool) × (after : Slot) × IfAllocated frame.old (λ decl. InstantiatesFor self.old.settings decl fault (image_wanted frame.old) held after) × (◌≡◌ {A = After P} (record { core = self.new; frame = frame.new; outcome = result }) (instantiate_row fault after slot self.old frame.old)) }
+        ensures { (fault : Bool) × (after : Slot) × IfAllocated frame.old (λ decl. InstantiatesFor self.old.settings decl fault (image_wanted frame.old) held after) × IfAllocated frame.old (λ decl. FollowsPlanFor self.old.settings decl fault (image_wanted frame.old) held after) × (◌≡◌ {A = After P} (record { core = self.new; frame = frame.new; outcome = result }) (instantiate_row fault after slot self.old frame.old)) }
     {
         let mut held = held;
         let fault = self.begin(frame, &mut held);
@@ -52,7 +52,8 @@ impl<P: Pages> PoolCore<P> {
         requires next { HasNext frame.now.asked (length frame.now.granted.items) }
         requires clean { IsClean held.old }
         requires can { IfAllocated frame.now (CanBegin held.old (image_wanted frame.now)) }
-        ensures { IfAllocated frame.now (λ decl. InstantiatesFor self.now.settings decl result (image_wanted frame.now) held.old held.new) }
+        ensures begun { IfAllocated frame.now (λ decl. InstantiatesFor self.now.settings decl result (image_wanted frame.now) held.old held.new) }
+        ensures planned { IfAllocated frame.now (λ decl. FollowsPlanFor self.now.settings decl result (image_wanted frame.now) held.old held.new) }
     {
         let memory = frame.granted.len();
         match &frame.asked {
@@ -78,7 +79,8 @@ fn begin_memory<P: Pages>(
     requires minimum { minimum_byte_size ty.now ≤ held.old.static_size }
     requires bounded { held.old.static_size < 2 ^ 64 }
     requires image_fits { IfSome image (λ i. FitsInto held.old.region.page (minimum_byte_size ty.now) (arc_value i.now)) }
-    ensures { InstantiatesAs result (minimum_byte_size ty.now) (hides ty.now tunables.now held.old.region.page) (option_map (λ i. arc_value i.now) image.entry) held.old held.new }
+    ensures begun { InstantiatesAs result (minimum_byte_size ty.now) (hides ty.now tunables.now held.old.region.page) (option_map (λ i. arc_value i.now) image.entry) held.old held.new }
+    ensures planned { FollowsPlan (minimum_byte_size ty.now) (hides ty.now tunables.now held.old.region.page) (option_map (λ i. arc_value i.now) image.entry) result held.old held.new }
 {
     let fault = held
         .instantiate(minimum_of(ty), image, ty, tunables)

@@ -1,5 +1,6 @@
-ghost use Rattle.std.specs.Prelude.{◌≡◌, ◌+◌, ◌<◌, ◌≤◌, ◌^◌, ◌-◌, length, false, true, Bool, None, Some};
+ghost use Rattle.std.specs.Prelude.{◌≡◌, ◌+◌, ◌<◌, ◌≤◌, ◌^◌, ◌-◌, length, false, true, not, Bool, None, Some};
 ghost use Rattle.pool_pages.specs.Count.{count};
+ghost use Rattle.pool_images.specs.Orders.{Follows, emptying};
 ghost use Rattle.pool_images.specs.Slots.{Slot, IsFresh};
 ghost use Rattle.pool_slots.specs.Cells.{is_taken, unmapped};
 ghost use Rattle.pool_alloc.specs.Answers.{Empties};
@@ -51,7 +52,7 @@ impl<P: Pages> PoolCore<P> {
         slot: u32,
         held: MemoryImageSlot<P>,
     ) -> Option<Outcome<P>>
-        ensures { (fault : Bool) × (after : Slot) × Empties fault held after × (◌≡◌ {A = After P} (record { core = self.new; frame = frame.new; outcome = result }) (empty_row fault after slot self.old frame.old)) }
+        ensures { (fault : Bool) × (after : Slot) × Empties fault held after × Follows (emptying held) (not fault) held.region after.region × (◌≡◌ {A = After P} (record { core = self.new; frame = frame.new; outcome = result }) (empty_row fault after slot self.old frame.old)) }
     {
         let mut held = held;
         frame.phase = match held.reset_with_anon_memory() {

@@ -7,61 +7,61 @@ use Rattle.pool_alloc.proofs.pool_core.PoolCore.advance.Goals as goal
 pub returns-in-Idle : goal.returns-in-Idle
 returns-in-Idle g c =
     let is = sym c.replace.ensures.value ∙ c.in-Idle.is in
-    by_row _ _ nothing_told Idle c.args.self.now c.args.frame.now _ is tt refl (idle_row nothing_told c.args.self.now c.args.frame.now c.replace.new.dest is c.replace.ensures.after)
+    by_row _ _ nothing_told Idle c.args.self.now c.args.frame.now _ is tt tt refl (idle_row nothing_told c.args.self.now c.args.frame.now c.replace.new.dest is c.replace.ensures.after)
 
 pub returns-in-Validate : goal.returns-in-Validate
-returns-in-Validate g c = by_row _ _ (record nothing_told { wants = c.validate.ensures.0 }) Validate c.args.self.now c.args.frame.now _ (sym c.replace.ensures.value ∙ c.in-Validate.is) tt refl (c.validate.ensures.1 ∙ validate_reads c.replace.new.dest c.validate.ensures.0 c.args.self.now c.args.frame.now)
+returns-in-Validate g c = by_row _ _ (record nothing_told { wants = c.validate.ensures.0 }) Validate c.args.self.now c.args.frame.now _ (sym c.replace.ensures.value ∙ c.in-Validate.is) tt tt refl (c.validate.ensures.1 ∙ validate_reads c.replace.new.dest c.validate.ensures.0 c.args.self.now c.args.frame.now)
 
 pub returns-in-Empty : goal.returns-in-Empty
-returns-in-Empty g c = by_row _ _ (record nothing_told { fault = c.empty.ensures.0; slot = c.empty.ensures.1 }) (Empty c.in-Empty.slot c.in-Empty.held) c.args.self.now c.args.frame.now _ (sym c.replace.ensures.value ∙ c.in-Empty.is) c.empty.ensures.2 refl c.empty.ensures.3
+returns-in-Empty g c = by_row _ _ (record nothing_told { fault = c.empty.ensures.0; slot = c.empty.ensures.1 }) (Empty c.in-Empty.slot c.in-Empty.held) c.args.self.now c.args.frame.now _ (sym c.replace.ensures.value ∙ c.in-Empty.is) c.empty.ensures.2 c.empty.ensures.3 refl c.empty.ensures.4
 
 pub returns-in-Instantiate : goal.returns-in-Instantiate
-returns-in-Instantiate g c = by_row _ _ (record nothing_told { fault = c.instantiate.ensures.0; slot = c.instantiate.ensures.1 }) (Instantiate c.in-Instantiate.slot c.in-Instantiate.held) c.args.self.now c.args.frame.now _ (sym c.replace.ensures.value ∙ c.in-Instantiate.is) c.instantiate.ensures.2 refl c.instantiate.ensures.3
+returns-in-Instantiate g c = by_row _ _ (record nothing_told { fault = c.instantiate.ensures.0; slot = c.instantiate.ensures.1 }) (Instantiate c.in-Instantiate.slot c.in-Instantiate.held) c.args.self.now c.args.frame.now _ (sym c.replace.ensures.value ∙ c.in-Instantiate.is) c.instantiate.ensures.2 c.instantiate.ensures.3 refl c.instantiate.ensures.4
 
 pub returns-in-MakeMemory : goal.returns-in-MakeMemory
-returns-in-MakeMemory g c = by_row _ _ (record nothing_told { limiter = c.make_memory.ensures.0 }) (MakeMemory c.in-MakeMemory.slot c.in-MakeMemory.held) c.args.self.now c.args.frame.now _ (sym c.replace.ensures.value ∙ c.in-MakeMemory.is) tt c.make_memory.ensures.1 (c.make_memory.ensures.2 ∙ make_memory_reads c.replace.new.dest c.make_memory.ensures.0 c.in-MakeMemory.slot c.in-MakeMemory.held c.args.self.now c.args.frame.now)
+returns-in-MakeMemory g c = by_row _ _ (record nothing_told { limiter = c.make_memory.ensures.0 }) (MakeMemory c.in-MakeMemory.slot c.in-MakeMemory.held) c.args.self.now c.args.frame.now _ (sym c.replace.ensures.value ∙ c.in-MakeMemory.is) tt tt c.make_memory.ensures.1 (c.make_memory.ensures.2 ∙ make_memory_reads c.replace.new.dest c.make_memory.ensures.0 c.in-MakeMemory.slot c.in-MakeMemory.held c.args.self.now c.args.frame.now)
 
 pub returns-in-Reset : goal.returns-in-Reset
-returns-in-Reset g c = by_row _ _ nothing_told (Reset c.in-Reset.lease) c.args.self.now c.args.frame.now _ (sym c.replace.ensures.value ∙ c.in-Reset.is) c.reset.ensures.leaves refl c.reset.ensures.row
+returns-in-Reset g c = by_row _ _ nothing_told (Reset c.in-Reset.lease) c.args.self.now c.args.frame.now _ (sym c.replace.ensures.value ∙ c.in-Reset.is) c.reset.ensures.leaves tt refl c.reset.ensures.row
 
 pub returns-in-Decommit : goal.returns-in-Decommit
-returns-in-Decommit g c = by_row _ _ (record nothing_told { fault = c.decommit.ensures.0; queue = c.decommit.ensures.1 }) (Decommit c.in-Decommit.after) c.args.self.now c.args.frame.now _ (sym c.replace.ensures.value ∙ c.in-Decommit.is) c.decommit.ensures.2 refl c.decommit.ensures.3
+returns-in-Decommit g c = by_row _ _ (record nothing_told { fault = c.decommit.ensures.0; queue = c.decommit.ensures.1 }) (Decommit c.in-Decommit.after) c.args.self.now c.args.frame.now _ (sym c.replace.ensures.value ∙ c.in-Decommit.is) c.decommit.ensures.2 c.decommit.ensures.3 refl c.decommit.ensures.4
 
 pub returns-in-Key : goal.returns-in-Key
-returns-in-Key g c = by_row _ _ nothing_told Key c.args.self.now c.args.frame.now _ (sym c.replace.ensures.value ∙ c.in-Key.is) tt refl c.draw_key.ensures
+returns-in-Key g c = by_row _ _ nothing_told Key c.args.self.now c.args.frame.now _ (sym c.replace.ensures.value ∙ c.in-Key.is) tt tt refl c.draw_key.ensures
 
 pub returns-in-CountInstance : goal.returns-in-CountInstance
-returns-in-CountInstance g c = by_row _ _ nothing_told CountInstance c.args.self.now c.args.frame.now _ (sym c.replace.ensures.value ∙ c.in-CountInstance.is) tt refl c.count_instance.ensures
+returns-in-CountInstance g c = by_row _ _ nothing_told CountInstance c.args.self.now c.args.frame.now _ (sym c.replace.ensures.value ∙ c.in-CountInstance.is) tt tt refl c.count_instance.ensures
 
 pub returns-in-Pick : goal.returns-in-Pick
-returns-in-Pick g c = by_row _ _ nothing_told (Pick c.in-Pick.queues c.in-Pick.tried) c.args.self.now c.args.frame.now _ (sym c.replace.ensures.value ∙ c.in-Pick.is) tt refl (c.pick.ensures ∙ pick_reads c.replace.new.dest c.in-Pick.queues c.in-Pick.tried c.args.self.now c.args.frame.now)
+returns-in-Pick g c = by_row _ _ nothing_told (Pick c.in-Pick.queues c.in-Pick.tried) c.args.self.now c.args.frame.now _ (sym c.replace.ensures.value ∙ c.in-Pick.is) tt tt refl (c.pick.ensures ∙ pick_reads c.replace.new.dest c.in-Pick.queues c.in-Pick.tried c.args.self.now c.args.frame.now)
 
 pub returns-in-TakeQueue : goal.returns-in-TakeQueue
-returns-in-TakeQueue g c = by_row _ _ nothing_told (TakeQueue c.in-TakeQueue.queues) c.args.self.now c.args.frame.now _ (sym c.replace.ensures.value ∙ c.in-TakeQueue.is) tt refl c.take_queue.ensures
+returns-in-TakeQueue g c = by_row _ _ nothing_told (TakeQueue c.in-TakeQueue.queues) c.args.self.now c.args.frame.now _ (sym c.replace.ensures.value ∙ c.in-TakeQueue.is) tt tt refl c.take_queue.ensures
 
 pub returns-in-TakeRegion : goal.returns-in-TakeRegion
-returns-in-TakeRegion g c = by_row _ _ nothing_told (TakeRegion c.in-TakeRegion.slot) c.args.self.now c.args.frame.now _ (sym c.replace.ensures.value ∙ c.in-TakeRegion.is) tt refl (c.take_region.ensures ∙ take_region_reads c.replace.new.dest c.in-TakeRegion.slot c.args.self.now c.args.frame.now)
+returns-in-TakeRegion g c = by_row _ _ nothing_told (TakeRegion c.in-TakeRegion.slot) c.args.self.now c.args.frame.now _ (sym c.replace.ensures.value ∙ c.in-TakeRegion.is) tt tt refl (c.take_region.ensures ∙ take_region_reads c.replace.new.dest c.in-TakeRegion.slot c.args.self.now c.args.frame.now)
 
 pub returns-in-CountMemory : goal.returns-in-CountMemory
-returns-in-CountMemory g c = by_row _ _ nothing_told (CountMemory c.in-CountMemory.lease) c.args.self.now c.args.frame.now _ (sym c.replace.ensures.value ∙ c.in-CountMemory.is) tt refl c.count_memory.ensures
+returns-in-CountMemory g c = by_row _ _ nothing_told (CountMemory c.in-CountMemory.lease) c.args.self.now c.args.frame.now _ (sym c.replace.ensures.value ∙ c.in-CountMemory.is) tt tt refl c.count_memory.ensures
 
 pub returns-in-PutRefused : goal.returns-in-PutRefused
-returns-in-PutRefused g c = by_row _ _ nothing_told (PutRefused c.in-PutRefused.slot c.in-PutRefused.held c.in-PutRefused.error) c.args.self.now c.args.frame.now _ (sym c.replace.ensures.value ∙ c.in-PutRefused.is) tt refl c.put_refused.ensures
+returns-in-PutRefused g c = by_row _ _ nothing_told (PutRefused c.in-PutRefused.slot c.in-PutRefused.held c.in-PutRefused.error) c.args.self.now c.args.frame.now _ (sym c.replace.ensures.value ∙ c.in-PutRefused.is) tt tt refl c.put_refused.ensures
 
 pub returns-in-FreeRefused : goal.returns-in-FreeRefused
-returns-in-FreeRefused g c = by_row _ _ nothing_told (FreeRefused c.in-FreeRefused.slot c.in-FreeRefused.error) c.args.self.now c.args.frame.now _ (sym c.replace.ensures.value ∙ c.in-FreeRefused.is) tt refl c.free_refused.ensures
+returns-in-FreeRefused g c = by_row _ _ nothing_told (FreeRefused c.in-FreeRefused.slot c.in-FreeRefused.error) c.args.self.now c.args.frame.now _ (sym c.replace.ensures.value ∙ c.in-FreeRefused.is) tt tt refl c.free_refused.ensures
 
 pub returns-in-UncountMemory : goal.returns-in-UncountMemory
-returns-in-UncountMemory g c = by_row _ _ nothing_told UncountMemory c.args.self.now c.args.frame.now _ (sym c.replace.ensures.value ∙ c.in-UncountMemory.is) tt refl (c.uncount_memory.ensures ∙ uncount_memory_reads c.replace.new.dest c.args.self.now c.args.frame.now)
+returns-in-UncountMemory g c = by_row _ _ nothing_told UncountMemory c.args.self.now c.args.frame.now _ (sym c.replace.ensures.value ∙ c.in-UncountMemory.is) tt tt refl (c.uncount_memory.ensures ∙ uncount_memory_reads c.replace.new.dest c.args.self.now c.args.frame.now)
 
 pub returns-in-Merge : goal.returns-in-Merge
-returns-in-Merge g c = by_row _ _ nothing_told Merge c.args.self.now c.args.frame.now _ (sym c.replace.ensures.value ∙ c.in-Merge.is) tt refl c.merge.ensures
+returns-in-Merge g c = by_row _ _ nothing_told Merge c.args.self.now c.args.frame.now _ (sym c.replace.ensures.value ∙ c.in-Merge.is) tt tt refl c.merge.ensures
 
 pub returns-in-PutRegion : goal.returns-in-PutRegion
-returns-in-PutRegion g c = by_row _ _ nothing_told (PutRegion c.in-PutRegion.after) c.args.self.now c.args.frame.now _ (sym c.replace.ensures.value ∙ c.in-PutRegion.is) tt refl (c.put_region.ensures ∙ put_region_reads c.replace.new.dest c.in-PutRegion.after c.args.self.now c.args.frame.now)
+returns-in-PutRegion g c = by_row _ _ nothing_told (PutRegion c.in-PutRegion.after) c.args.self.now c.args.frame.now _ (sym c.replace.ensures.value ∙ c.in-PutRegion.is) tt tt refl (c.put_region.ensures ∙ put_region_reads c.replace.new.dest c.in-PutRegion.after c.args.self.now c.args.frame.now)
 
 pub returns-in-Free : goal.returns-in-Free
-returns-in-Free g c = by_row _ _ nothing_told (Free c.in-Free.after) c.args.self.now c.args.frame.now _ (sym c.replace.ensures.value ∙ c.in-Free.is) tt refl (c.free.ensures ∙ free_reads c.replace.new.dest c.in-Free.after c.args.self.now c.args.frame.now)
+returns-in-Free g c = by_row _ _ nothing_told (Free c.in-Free.after) c.args.self.now c.args.frame.now _ (sym c.replace.ensures.value ∙ c.in-Free.is) tt tt refl (c.free.ensures ∙ free_reads c.replace.new.dest c.in-Free.after c.args.self.now c.args.frame.now)
 
 pub returns-in-UncountInstance : goal.returns-in-UncountInstance
-returns-in-UncountInstance g c = by_row _ _ nothing_told UncountInstance c.args.self.now c.args.frame.now _ (sym c.replace.ensures.value ∙ c.in-UncountInstance.is) tt refl c.uncount_instance.ensures
+returns-in-UncountInstance g c = by_row _ _ nothing_told UncountInstance c.args.self.now c.args.frame.now _ (sym c.replace.ensures.value ∙ c.in-UncountInstance.is) tt tt refl c.uncount_instance.ensures
