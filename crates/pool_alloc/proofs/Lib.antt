@@ -21,7 +21,6 @@ pub mod MadePools
 pub mod Makings
 pub mod Picks
 pub mod QueueCounts
-pub mod QueueJoins
 pub mod QueueRuns
 pub mod Refusing
 pub mod RegionCounts
@@ -29,7 +28,6 @@ pub mod RegionRows
 pub mod Relying
 pub mod ReturnRows
 pub mod Rounding
-pub mod SameSizes
 pub mod ShardFrees
 pub mod SlotCounts
 pub mod SlotIdentity
