@@ -26,7 +26,7 @@ use Rattle.pool_alloc.specs.declared.frame.Outcome.TheVariants as answer
 use Rattle.pool_alloc.proofs.Supporting.{supported}
 use Rattle.pool_alloc.proofs.Telling.{mod_below, told_weaker}
 use Rattle.pool_alloc.proofs.CoreChanges.{core_with_shard, core_with_queue, core_with_counters}
-use Rattle.pool_alloc.proofs.QueueJoins.{no_ranges}
+use Rattle.pool_slots.proofs.QueueRuns.{no_slots}
 use Rattle.pool_alloc.proofs.LocalQueues.{taken_shared, taken_local, local_of_shared}
 use Rattle.pool_alloc.proofs.Picks.{picked_sound, picked_same, picked_inside}
 use Rattle.pool_alloc.proofs.Going.{Held, IsSoundAfter, either, goes_on, ended, refused, allocates_next, no_slot_found, begins_flush, empty_length, some_length}
@@ -123,5 +123,5 @@ module _ {P : Type 0} where
       either maker decls (length q.memories == 0) (no_slot (queues + 1) left has) (flushes (PickAgain (queues + 1)) left has)
       (λ e.
       let none = empty_length q.memories e in
-      no_slot_found maker decls (queues + 1) left has still holds (record { no_ranges = no_ranges q shared.owners none; no_slots = none; none_freed = settled.none_freed }) allocating)
+      no_slot_found maker decls (queues + 1) left has still holds (record { no_ranges = no_slots q.ranges q.memories none shared.owners; no_slots = none; none_freed = settled.none_freed }) allocating)
       (λ e. begins_flush maker decls (PickAgain (queues + 1)) left has still holds (allocating, gone) settled.none_freed (some_length q.memories e))

@@ -3,6 +3,7 @@ use Rattle.std.proofs.Common.{◌≡◌, ℕ, ◌+◌, ◌<◌, ◌≤◌, true,
 use Rattle.std.specs.List.{AllByRecursion}
 use Rattle.std.proofs.lemmas.Bool.{true_from_ne_false}
 use Rattle.pool_index.specs.Shard.{ShardState, after_free, is_used, slot_number}
+use Rattle.pool_slots.proofs.QueueLists.{each_weaker}
 use Rattle.pool_alloc.specs.Freeing.{AreUsedInTurn}
 use Rattle.pool_alloc.specs.Places.{Thing, slot_of, slot_count, unused_count, shard_count, freed_count}
 use Rattle.pool_alloc.specs.Steps.{local_of, after_frees}
@@ -10,10 +11,6 @@ use Rattle.pool_alloc.specs.declared.frame.FreedSlot.{FreedSlot}
 use Rattle.pool_alloc.specs.declared.pool_core.Settings.{Settings}
 use Rattle.pool_alloc.proofs.SlotCounts.{slot_once, unused_counted, free_more}
 use Rattle.pool_alloc.proofs.QueueCounts.{freed_first}
-
-pub each_weaker : {X : Type 0} (P Q : X → Type 0) (xs : List X) → ((x : X) → P x → Q x) → AllByRecursion P xs → AllByRecursion Q xs
-each_weaker P Q [] step a = tt
-each_weaker P Q (x ∷ xs) step a = (step x a.0, each_weaker P Q xs step a.1)
 
 -- the slot of the pool with this number is one of the shard
 pub record HasPlace (s : Settings) (shard : ShardState) (slot : ℕ) : Type 0 where

@@ -1,5 +1,4 @@
 -- Each row of the step table leaves the pool's parts and the frame sound, and what it grants are leases of the pool.
-use Rattle.std.proofs.Common.{subst}
 use Rattle.pool_pages.specs.MakerTold.{MakerTold}
 use Rattle.pool_alloc.specs.Steps.{Given, memories_asked, row, row_of}
 use Rattle.pool_alloc.specs.Answers.{MayBeTold}
@@ -7,11 +6,9 @@ use Rattle.pool_alloc.specs.Sound.{IsCore, IsFrame}
 use Rattle.pool_alloc.specs.Calls.{IsGrantOf, IfGranted}
 use Rattle.pool_alloc.proofs.Relying.{FitsAt}
 use Rattle.pool_alloc.specs.declared.pool_core.PoolCore.{PoolCore}
-use Rattle.pool_alloc.specs.declared.pool_core.Settings.{Settings}
 use Rattle.pool_alloc.specs.declared.frame.Frame.{Frame}
 use Rattle.pool_alloc.specs.declared.frame.Phase.{Phase}
 use Rattle.pool_alloc.specs.declared.frame.Phase.TheVariants.{Idle, Key, Validate, CountInstance, Pick, TakeQueue, TakeRegion, Empty, Instantiate, MakeMemory, CountMemory, PutRefused, FreeRefused, UncountMemory, Reset, Merge, Decommit, PutRegion, Free, UncountInstance}
-use Rattle.pool_alloc.proofs.SameSizes.{row_same_size}
 use Rattle.pool_alloc.proofs.Going.{Shaped, Held, IsSoundAfter, held_of}
 use Rattle.pool_alloc.proofs.AllocationRows.{key_kept, validate_kept, count_instance_kept, pick_kept, take_queue_kept}
 use Rattle.pool_alloc.proofs.RegionRows.{take_region_kept, empty_kept, instantiate_kept, make_memory_kept, count_memory_kept, put_refused_kept, free_refused_kept}
@@ -49,7 +46,5 @@ module _ {P : Type 0} where
   pub frame_kept : (maker : MakerTold) (g : Given) (c : PoolCore P) (f : Frame P) → IsCore maker c → IsFrame maker c f → MayBeTold c.settings g f.phase f → FitsAt f.phase c f → IsFrame maker (row g c f).core (row g c f).frame
   frame_kept maker g c f core frame told fits = (sound_kept maker g c f core frame told fits).frame
 
-  pub granted_leases : (maker : MakerTold) (g : Given) (c : PoolCore P) (f : Frame P) → IsCore maker c → IsFrame maker c f → MayBeTold c.settings g f.phase f → FitsAt f.phase c f → IfGranted (IsGrantOf maker c.settings (memories_asked f.asked)) (row g c f).outcome
-  granted_leases maker g c f core frame told fits =
-      let G : Settings → Type 0 = λ s. IfGranted (IsGrantOf maker s (memories_asked f.asked)) (row g c f).outcome in
-      subst G (row_same_size g c f).settings (sound_kept maker g c f core frame told fits).granted
+  pub granted_leases : (maker : MakerTold) (g : Given) (c : PoolCore P) (f : Frame P) → IsCore maker c → IsFrame maker c f → MayBeTold c.settings g f.phase f → FitsAt f.phase c f → IfGranted (IsGrantOf maker (row g c f).core.settings (memories_asked f.asked)) (row g c f).outcome
+  granted_leases maker g c f core frame told fits = (sound_kept maker g c f core frame told fits).granted

@@ -23,7 +23,6 @@ pub mod MadePools
 pub mod Makings
 pub mod Picks
 pub mod QueueCounts
-pub mod QueueJoins
 pub mod QueueRuns
 pub mod Refusing
 pub mod RegionCounts
@@ -32,7 +31,6 @@ pub mod Relying
 pub mod ReturnRows
 pub mod Rounding
 pub mod Runs
-pub mod SameSizes
 pub mod ShardFrees
 pub mod SlotCounts
 pub mod SlotIdentity

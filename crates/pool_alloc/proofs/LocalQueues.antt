@@ -17,8 +17,8 @@ use Rattle.pool_alloc.proofs.Relying.{IsResetLocal}
 use Rattle.pool_alloc.specs.declared.pool_core.Settings.{Settings}
 use Rattle.pool_alloc.proofs.SlotIdentity.{queued_after_run, length_after_run, queued_faulted}
 use Rattle.pool_slots.proofs.QueueChanges.{queue_joined, owned_joined}
-use Rattle.pool_alloc.proofs.QueueRuns.{run_queue, run_owners, faulted_queue, faulted_owners}
-use Rattle.pool_alloc.proofs.QueueJoins.{owners_same, rest_queue}
+use Rattle.pool_slots.proofs.QueueRuns.{faulted_owned}
+use Rattle.pool_alloc.proofs.QueueRuns.{run_queue, run_owners, faulted_queue, rest_queue}
 
 -- a queue once it was taken
 pub taken_shared : (maker : MakerTold) (s : Settings) (q : QueueState) → IsSettings s → q.range_room ≡ 2 * s.batch → q.slot_room ≡ 2 * s.batch → IsShared maker s (after_take q)
@@ -40,7 +40,7 @@ local_of_shared maker s q shared = record { owners = shared.owners; range_room =
 pub taken_local : (maker : MakerTold) (s : Settings) (spare q : QueueState) → IsLocal maker s spare → IsLocal maker s q → IsLocal maker s (taken_into spare q)
 taken_local maker s spare q had local =
     record {
-      owners = owners_same q (taken_into spare q) refl refl local.owners;
+      owners = local.owners;
       range_room = had.range_room;
       slot_room = had.slot_room;
       regions = local.regions;
@@ -94,7 +94,7 @@ pub decommitted_local : (maker : MakerTold) (s : Settings) (fault : Bool) (old n
 decommitted_local maker s true old new faulted local =
     record {
       queue = record {
-        owners = faulted_owners old new faulted;
+        owners = faulted_owned old new faulted;
         range_room = faulted.range_room ∙ local.range_room;
         slot_room = faulted.slot_room ∙ local.slot_room;
         regions = queued_faulted maker s.max_memory_size (first_slot old.ranges) old.memories new.memories faulted.memories local.regions;

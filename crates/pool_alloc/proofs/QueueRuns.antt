@@ -1,12 +1,13 @@
--- A queue stays one as the ranges of one slot are decommitted, or a decommit fails.
-use Rattle.std.proofs.Common.{◌≡◌, ℕ, List, [], ◌∷◌, refl, sym, ap, subst, ◌∙◌, inl, inr}
+-- A queue stays one as the ranges of one slot are decommitted, or a decommit fails, and as its first slot is taken out.
+use Rattle.std.proofs.Common.{◌≡◌, ◌≤◌, ℕ, List, [], ◌∷◌, refl, sym, ap, subst, ◌∙◌, inl, inr, length, arith}
+use Rattle.std.specs.List.{AllByRecursion}
 use Rattle.std.proofs.lemmas.Bool.{cases_Bool}
 use Rattle.pool_slots.specs.declared.queued_range.QueueKind.TheVariants.{Memory}
 use Rattle.pool_slots.specs.declared.queued_range.QueuedRange.{QueuedRange}
-use Rattle.pool_slots.specs.Queues.{QueueState, is_of, first_slot, after_run_of, after_run, HasOwners, IsQueue, IsFaulted}
+use Rattle.pool_slots.specs.Queues.{QueueState, QueuedMemory, AreDistinct, LeavesClean, is_of, first_slot, after_run_of, after_run, HasOwners, IsQueue, IsFaulted}
 use Rattle.pool_slots.specs.QueueSteps.{after_first_of}
 use Rattle.pool_slots.proofs.QueueFirst.{queue_left}
-use Rattle.pool_slots.proofs.QueueRuns.{of_kind, run_next, run_end, faulted_owned}
+use Rattle.pool_slots.proofs.QueueRuns.{of_kind, run_next, run_end}
 use Rattle.pool_slots.proofs.QueueSteps.{queue_first, owners_first}
 
 record IsOwnedQueue (q : QueueState) : Type 0 where
@@ -46,5 +47,20 @@ faulted_queue old new faulted is =
     let Q : QueueState → Type 0 = λ p. IsQueue p in
     subst Q (left_is old new faulted) (queue_left (first_slot old.ranges) old new.memories is faulted.memories)
 
-pub faulted_owners : (old new : QueueState) → IsFaulted old new → HasOwners new
-faulted_owners old new faulted = faulted_owned old new faulted
+-- a queue without ranges is one without its first slot, which is clean where it is known
+pub rest_queue : (m : QueuedMemory) (rest : List QueuedMemory) (q : QueueState) → q.memories ≡ m ∷ rest → IsQueue q → IsQueue (record q { memories = rest })
+rest_queue m rest q is queue =
+    let D : List QueuedMemory → Type 0 = λ ms. AreDistinct ms × AllByRecursion (LeavesClean q.ranges) ms × (length ms ≤ q.slot_room) in
+    let all = subst D is (queue.distinct, queue.each, queue.slot_room) in
+    record {
+      range_room = queue.range_room;
+      slot_room = omega (arith, all.2);
+      distinct = all.0.1;
+      each = all.1.1;
+    }
+
+pub first_leaves : (m : QueuedMemory) (rest : List QueuedMemory) (q : QueueState) → q.ranges ≡ [] → q.memories ≡ m ∷ rest → IsQueue q → LeavesClean [] m
+first_leaves m rest q none is queue =
+    let E : List QueuedRange → List QueuedMemory → Type 0 = λ rs ms. AllByRecursion (LeavesClean rs) ms in
+    let all = subst (λ (ms : List QueuedMemory). E [] ms) is (subst (λ (rs : List QueuedRange). E rs q.memories) none queue.each) in
+    all.0

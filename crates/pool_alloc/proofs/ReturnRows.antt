@@ -30,7 +30,7 @@ use Rattle.pool_alloc.specs.declared.frame.AfterFlush.TheVariants.{GiveBackNext}
 use Rattle.pool_alloc.specs.declared.frame.Ending.{Ending}
 use Rattle.pool_alloc.specs.declared.frame.Ending.TheVariants as ending
 use Rattle.pool_alloc.proofs.CoreChanges.{core_with_shard, core_past_shards, core_with_cell, core_with_queue, core_with_counters}
-use Rattle.pool_alloc.proofs.QueueJoins.{first_leaves}
+use Rattle.pool_alloc.proofs.QueueRuns.{first_leaves}
 use Rattle.pool_alloc.proofs.LocalQueues.{IsStillLocal, reset_local, taken_shared, taken_local, emptied_local, joined_local, joined_shared, decommitted_local, rest_local}
 use Rattle.pool_alloc.proofs.SlotIdentity.{one_cleared, slot_of_one}
 use Rattle.pool_alloc.proofs.ShardFrees.{IsShardOf, frees_shard}

@@ -24,7 +24,7 @@ use Rattle.pool_alloc.specs.declared.frame.ModuleCall.{ModuleCall}
 use Rattle.pool_alloc.specs.declared.frame.Phase.{Phase}
 use Rattle.pool_alloc.specs.declared.frame.Phase.TheVariants.{Idle, Key, Validate, CountInstance, Pick, TakeQueue, TakeRegion, Empty, Instantiate, MakeMemory, CountMemory, PutRefused, FreeRefused, UncountMemory, Reset, Merge, Decommit, PutRegion, Free, UncountInstance}
 use Rattle.pool_alloc.proofs.Balances.{in_phase}
-use Rattle.pool_alloc.proofs.Fitting.{step_fits}
+use Rattle.pool_alloc.proofs.Fitting.{step_keeps_size, step_fits}
 use Rattle.pool_alloc.proofs.Held.{held_is_inside}
 use Rattle.pool_alloc.proofs.Kept.{core_kept, frame_kept, granted_leases}
 use Rattle.pool_alloc.proofs.RegionRows.{region_is_fresh}
@@ -201,5 +201,7 @@ module _ {P : Type 0} where
   -- What a step grants is as many leases of the pool as memories were asked for.
   pub step_grants : (maker : MakerTold) (old new : LimiterTold) (c : PoolCore P) (f : Frame P) (a : After P) → CanStep maker c f → StepsTo old new c f a → IfGranted (IsGrantOf maker c.settings (memories_asked f.asked)) a.outcome
   step_grants maker old new c f a can steps =
-      let Grants : After P → Type 0 = λ b. IfGranted (IsGrantOf maker c.settings (memories_asked f.asked)) b.outcome in
-      subst Grants (sym steps.1.is) (granted_leases maker steps.0 c f can.core can.frame steps.1.told (fits_at maker f.phase c f can))
+      let size = step_keeps_size maker old new c f a can steps in
+      let Over : Settings → Type 0 = λ s. IfGranted (IsGrantOf maker s (memories_asked f.asked)) a.outcome in
+      let Grants : After P → Type 0 = λ b. IfGranted (IsGrantOf maker b.core.settings (memories_asked f.asked)) b.outcome in
+      subst Over size.settings (subst Grants (sym steps.1.is) (granted_leases maker steps.0 c f can.core can.frame steps.1.told (fits_at maker f.phase c f can)))

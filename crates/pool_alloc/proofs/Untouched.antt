@@ -19,7 +19,8 @@ use Rattle.pool_alloc.specs.declared.pool_core.PoolCore.{PoolCore}
 use Rattle.pool_alloc.specs.declared.frame.Frame.{Frame}
 use Rattle.pool_alloc.specs.declared.frame.Phase.TheVariants.{Idle}
 use Rattle.pool_alloc.proofs.Balances.{in_phase}
-use Rattle.pool_alloc.proofs.Frees.{HasPlace, each_weaker}
+use Rattle.pool_slots.proofs.QueueLists.{each_weaker}
+use Rattle.pool_alloc.proofs.Frees.{HasPlace}
 use Rattle.pool_alloc.proofs.Held.{place_of}
 use Rattle.pool_alloc.proofs.KeptCounts.{kept_slots, kept_regions}
 use Rattle.pool_alloc.proofs.RegionCounts.{region_once, cells_less, cell_uncounted}
