@@ -1,4 +1,6 @@
+pub mod Built
 pub mod Folds
+pub mod Made
 pub mod Private
 pub mod Searches
 pub mod Ties

@@ -7,6 +7,10 @@ use Rattle.pool_run.specs.declared.command.Command.TheVariants.{Instantiate, Rea
 use Rattle.pool_run.specs.declared.input.Input.{Input}
 use Rattle.pool_run.specs.declared.input.Party.{Party}
 
+-- how many modules there may be
+abbrev pub most_modules : ℕ
+most_modules = 1000
+
 -- how many commands a party may have
 abbrev pub most_commands : ℕ
 most_commands = 100000
@@ -61,4 +65,4 @@ abbrev pub is_valid_party : List ModuleInfo → Party → Bool
 is_valid_party modules party = nat_le (length party.commands) most_commands && are_valid_after modules [] party.commands
 
 abbrev pub is_valid : Input → Bool
-is_valid input = list_all (is_valid_party input.modules) input.parties
+is_valid input = nat_le (length input.modules) most_modules && list_all (is_valid_party input.modules) input.parties

@@ -1,11 +1,12 @@
 -- What a run relies on from its input: the pool has the sizes that replies speak of, each module is supported, and each
 -- call for a module is a call for its memories and their images.
-use Rattle.std.specs.Prelude.{◌≡◌, ℕ, List, length, slice_get, Some, None, IfSome, IsOk}
+use Rattle.std.specs.Prelude.{◌≡◌, ℕ, List, length, slice_get, true, Some, None, IfSome, Ok, IsOk}
 use Rattle.pool_pages.specs.declared.module_types.MemoryDecl.{MemoryDecl}
 use Rattle.pool_images.specs.Slots.{Slot}
-use Rattle.pool_limits.specs.Limiter.{yes}
 use Rattle.pool_slots.specs.Cells.{IsSlotOf}
-use Rattle.pool_alloc.specs.Own.{memories_refused, memory_made}
+use Rattle.pool_alloc.specs.Own.{memory_made}
+use Rattle.pool_alloc.specs.Refusals.{memories_refused}
+use Rattle.pool_alloc.specs.Modules.{HasImages}
 use Rattle.pool_alloc.specs.Steps.{memories_asked, images_asked}
 use Rattle.pool_alloc.specs.Sound.{AreImagesOf, HasBegun}
 use Rattle.pool_alloc.specs.declared.pool_core.PoolCore.{PoolCore}
@@ -18,7 +19,7 @@ use Rattle.pool_run.specs.Ties.{IsAskedFor}
 -- limiter refuses it.
 abbrev pub IsMadeReady : World → Settings → ℕ → ℕ → MemoryDecl → Type 0
 IsMadeReady w s number k decl =
-    (slot : ℕ) (held : Slot) → IsSlotOf w.maker s.max_memory_size slot held → HasBegun (image_at w number k decl) held decl → IsOk (memory_made s (memories_of w number) k yes held)
+    (slot : ℕ) (held : Slot) → IsSlotOf w.maker s.max_memory_size slot held → HasBegun (image_at w number k decl) held decl → IsOk (memory_made s (memories_of w number) k (Ok true) held)
 
 -- the pool breaks no rule of the modules, and has one stripe, and as many slots and instances as the world says
 pub record IsWorldOf {P : Type 0} (w : World) (c : PoolCore P) : Type 0 where
@@ -32,6 +33,7 @@ pub record IsWorldOf {P : Type 0} (w : World) (c : PoolCore P) : Type 0 where
 pub record IsCallFor (w : World) (s : Settings) (number : ℕ) (m : ModuleCall) : Type 0 where
   pub asked : IsAskedFor w number (Some m)
   pub images : AreImagesOf s (memories_asked (Some m)) (images_asked (Some m))
+  pub places : HasImages (Some m)
 
 -- each call is one for the module of its number
 abbrev pub AreCallsFor : World → Settings → List ModuleCall → Type 0

@@ -1,10 +1,13 @@
 ghost use Rattle.std.specs.Prelude.{◌≡◌, [], List, take};
 ghost use Rattle.std.specs.List.{list_all, slice_get};
-ghost use Rattle.pool_run.specs.Validity.{is_valid, is_valid_party, is_valid_after, are_valid_after, asks_for_grant, names_memory, most_commands, most_bytes};
+ghost use Rattle.pool_run.specs.Validity.{is_valid, is_valid_party, is_valid_after, are_valid_after, asks_for_grant, names_memory, most_modules, most_commands, most_bytes};
 
 use crate::command::Command;
 use crate::input::{Input, Party};
 use pool_pages::ModuleInfo;
+
+/// How many modules an input may have.
+pub const MOST_MODULES: usize = 1_000;
 
 /// How many commands a party may have.
 pub const MOST_COMMANDS: usize = 100_000;
@@ -68,14 +71,16 @@ fn is_valid_party(modules: &[ModuleInfo], party: &Party) -> bool
     party.commands.len() <= MOST_COMMANDS && are_valid(modules, party.commands.as_slice())
 }
 
+fn are_valid_parties(modules: &[ModuleInfo], parties: &[Party]) -> bool
+    ensures { result ≡ list_all (is_valid_party modules.now) parties.now }
+{
+    parties.iter().all(|party| is_valid_party(modules, party))
+}
+
 /// Whether the input can be run: its sizes are within the limits, and what it names is there.
 pub fn is_valid(input: &Input) -> bool
     ensures { result ≡ is_valid input.now }
 {
     let modules = input.modules.as_slice();
-    input
-        .parties
-        .as_slice()
-        .iter()
-        .all(|party| is_valid_party(modules, party))
+    modules.len() <= MOST_MODULES && are_valid_parties(modules, input.parties.as_slice())
 }
