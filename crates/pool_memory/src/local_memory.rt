@@ -171,6 +171,14 @@ impl<P: Pages> LocalMemory<(), StaticMemory<P>> {
         self.memory.into_slot()
     }
 
+    /// The slot that the memory lies in. It is in use.
+    pub fn slot(&self) -> &MemoryImageSlot<P>
+        ensures value { result.now ≡ slot_of self.now }
+        ensures holds { CanHold self.now.linear.size (slot_of self.now) }
+    {
+        self.memory.slot()
+    }
+
     /// The calls made on the memory's region so far.
     pub fn page_calls(&self) -> PageCalls
         ensures { result ≡ (slot_of self.now).region.calls }

@@ -157,6 +157,15 @@ impl<P: Pages> Memory<(), StaticMemory<P>> {
         memory.unwrap_static_image()
     }
 
+    /// The slot that the memory lies in. It is in use.
+    pub fn slot(&self) -> &MemoryImageSlot<P>
+        ensures value { result.now ≡ slot_of (state_of self.now) }
+        ensures holds { CanHold (state_of self.now).linear.size (slot_of (state_of self.now)) }
+    {
+        let Memory::Local(memory) = self;
+        memory.slot()
+    }
+
     /// The calls made on the memory's region so far.
     pub fn page_calls(&self) -> PageCalls
         ensures { result ≡ (slot_of (state_of self.now)).region.calls }

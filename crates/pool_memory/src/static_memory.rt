@@ -53,8 +53,10 @@ impl<P: Pages> StaticMemory<P> {
         })
     }
 
+    /// The slot that the memory lies in. It is in use.
     pub fn slot(&self) -> &MemoryImageSlot<P>
-        ensures { result.now ≡ self.now.slot }
+        ensures value { result.now ≡ self.now.slot }
+        ensures holds { CanHold self.now.size self.now.slot }
     {
         &self.slot
     }

@@ -1,6 +1,8 @@
+pub mod AtOnce
 pub mod Built
 pub mod Folds
 pub mod Made
+pub mod Numbers
 pub mod Private
 pub mod Searches
 pub mod Ties

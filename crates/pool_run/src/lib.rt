@@ -1,6 +1,7 @@
 //! A run of the pool: the input, the parties' commands and the replies.
 #![tactic(auto)]
 
+mod at_once;
 mod built;
 mod command;
 mod input;
@@ -8,6 +9,7 @@ mod leases;
 mod output;
 mod reply;
 mod running_party;
+mod turn;
 mod validity;
 
 pub use built::is_built;
@@ -17,4 +19,5 @@ pub use leases::Leases;
 pub use output::{RunFault, RunOutput};
 pub use reply::{Refusal, Reply, ReplyList, SlotList};
 pub use running_party::RunningParty;
+pub use turn::turn_of;
 pub use validity::{MOST_BYTES, MOST_COMMANDS, MOST_MODULES, is_valid};
