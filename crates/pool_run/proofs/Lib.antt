@@ -20,3 +20,4 @@ pub mod StepsTied
 pub mod Tied
 pub mod Turned
 pub mod Turning
+pub mod TurnsMade
