@@ -28,8 +28,7 @@ module _ {P : Type 0} where
   pub by_row : (old new : LimiterTold) (g : Given) (next : Phase P) (c : PoolCore P) (f : Frame P) (a : After P) → f.phase ≡ next → MayBeTold c.settings g next f → AsksOf old new g next f → a ≡ row_of g next c f → StepsTo old new c f a
   by_row old new g next c f a is told asks row =
       let T : Phase P → Type 0 = λ p. MayBeTold c.settings g p f in
-      let L : Phase P → Type 0 = λ p. AsksOf old new g p f in
-      (
+      let L : Phase P → Type 0 = λ p. AsksOf old new g p f in (
         g,
         record {
           told = subst T (sym is) told;

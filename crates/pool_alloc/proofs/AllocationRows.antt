@@ -1,15 +1,12 @@
 -- Each step of an allocation leaves what is sound.
-use Rattle.std.proofs.Common.{◌≡◌, ℕ, zero, suc, ◌+◌, ◌%◌, ◌<◌, ◌≤◌, Bool, true, false, List, [], ◌∷◌, length, get_or, refl, sym, ap, arith, Option, Some, None}
-use Rattle.std.specs.Prelude.{◌==◌, nat_lt, nat_le, if◌then◌else◌, IfSome, IsSome, slice_get}
-use Rattle.std.proofs.lemmas.Bool.{ltb-true, leb-true}
+use Rattle.std.proofs.Common.{◌≡◌, ℕ, ◌+◌, ◌%◌, ◌<◌, ◌≤◌, Bool, List, [], length, refl, sym, ap, arith, Option, Some, None}
+use Rattle.std.specs.Prelude.{◌==◌, nat_lt, IfSome, IsSome}
+use Rattle.std.proofs.lemmas.Bool.{ltb-true}
 use Rattle.std.proofs.lemmas.List.{length-set}
 use Rattle.std.proofs.lemmas.List.Elements.{All-nil}
 use Rattle.pool_pages.specs.MakerTold.{MakerTold}
-use Rattle.pool_pages.specs.MemoryTypes.{minimum_byte_size}
 use Rattle.pool_pages.specs.declared.module_types.MemoryDecl.{MemoryDecl}
 use Rattle.pool_pages.specs.declared.unsupported.Unsupported.{Unsupported}
-use Rattle.pool_images.specs.Images.{Image}
-use Rattle.pool_images.specs.Slots.{FitsInto}
 use Rattle.pool_index.specs.Shard.{ShardState, slot_number, after_pick, pick_answer}
 use Rattle.pool_index.specs.declared.ids.SlotId.{SlotId}
 use Rattle.pool_slots.specs.Queues.{QueueState, after_take, taken_into}
@@ -22,7 +19,6 @@ use Rattle.pool_alloc.specs.Refusals.{memories_refused}
 use Rattle.pool_alloc.specs.Steps.{memories_asked, images_asked, wanted, shard_at, queue_at, with_shard, with_queue, counting_instances, goes, ends, allocate_next, refuses, no_slot, flushes, shard_tried, queue_tried, key_row, validated, validate_row, count_instance_row, picked, pick_row, take_queue_row}
 use Rattle.pool_alloc.specs.Sound.{IsCore, IsShared, IsLeaseOf, IsSettled, IsAtRest, IsAllocating, AreSupported, AreImagesOf}
 use Rattle.pool_alloc.specs.declared.pool_core.PoolCore.{PoolCore}
-use Rattle.pool_alloc.specs.declared.pool_core.Settings.{Settings}
 use Rattle.pool_alloc.specs.declared.frame.Frame.{Frame}
 use Rattle.pool_alloc.specs.declared.frame.Phase.TheVariants.{Pick, TakeRegion, CountInstance}
 use Rattle.pool_alloc.specs.declared.frame.AfterFlush.TheVariants.{PickAgain}

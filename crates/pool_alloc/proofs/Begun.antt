@@ -1,6 +1,6 @@
 -- An instantiation seen as one of the answers that may come.
-use Rattle.std.proofs.Common.{◌≡◌, ℕ, ◌<◌, ◌≤◌, List, length, Bool, true, false, Option, Some, None, refl}
-use Rattle.std.specs.Prelude.{Result, Ok, Err, OnOk, OnErr, IfSome, is_err, option_map, slice_get, slice_index_or}
+use Rattle.std.proofs.Common.{◌≡◌, ℕ, ◌≤◌, List, Bool, Option, Some, None}
+use Rattle.std.specs.Prelude.{Result, Ok, Err, OnOk, OnErr, IfSome, is_err, option_map, slice_get}
 use Rattle.pool_pages.specs.Count.{rounded_up}
 use Rattle.pool_images.specs.Images.{Image}
 use Rattle.pool_images.specs.Slots.{Slot, Fits, FitsInto, IsLeft, IsBegun, IsSized, HasImage, reused, replaced, name_of}
@@ -10,14 +10,14 @@ use Rattle.pool_memory.proofs.Begun.{instantiated_holds}
 use Rattle.pool_alloc.specs.Answers.{InstantiatesAs}
 
 pub instantiates_as : {T E : Type 0} (r : Result T E) (initial : ℕ) (hide : Bool) (image : Option Image) (old new : Slot)
-  → OnOk r (IsBegun image new)
-  → OnOk r (CanHold initial new)
-  → OnOk r (IsSized initial hide old new)
-  → OnOk r (new.image ≡ option_map name_of image)
-  → OnOk r (IfSome old.region.contents (λ c. HasImage old image c → new ≡ reused (rounded_up old.region.page initial) hide old))
-  → OnOk r (IfSome old.region.contents (λ c. (HasImage old image c → ⊥) → new ≡ replaced (rounded_up old.region.page initial) hide image old))
-  → OnErr r (IsLeft old new)
-  → InstantiatesAs (is_err r) initial hide image old new
+    → OnOk r (IsBegun image new)
+    → OnOk r (CanHold initial new)
+    → OnOk r (IsSized initial hide old new)
+    → OnOk r (new.image ≡ option_map name_of image)
+    → OnOk r (IfSome old.region.contents (λ c. HasImage old image c → new ≡ reused (rounded_up old.region.page initial) hide old))
+    → OnOk r (IfSome old.region.contents (λ c. (HasImage old image c → ⊥) → new ≡ replaced (rounded_up old.region.page initial) hide image old))
+    → OnErr r (IsLeft old new)
+    → InstantiatesAs (is_err r) initial hide image old new
 instantiates_as (Ok x) initial hide image old new begun holds sizes named again anew fault = record { begun = begun; holds = holds; sizes = sizes; named = named; reused = again; replaced = anew }
 instantiates_as (Err e) initial hide image old new begun holds sizes named again anew fault = fault
 
@@ -30,11 +30,11 @@ ends_of image_of page initial (Some x) fits = fits.inside
 
 -- a slot that an instantiation leaves holds the memory
 pub holds_as : {T E : Type 0} (r : Result T E) (initial : ℕ) (hide : Bool) (image : Option Image) (old new : Slot)
-  → Fits new
-  → EndsWithin initial image
-  → initial ≤ old.static_size
-  → OnOk r (IsBegun image new)
-  → OnOk r (IsSized initial hide old new)
-  → OnOk r (CanHold initial new)
+    → Fits new
+    → EndsWithin initial image
+    → initial ≤ old.static_size
+    → OnOk r (IsBegun image new)
+    → OnOk r (IsSized initial hide old new)
+    → OnOk r (CanHold initial new)
 holds_as (Ok x) initial hide image old new fits ends inside begun sizes = instantiated_holds old new image initial hide fits begun sizes ends (rw sizes.static_size inside)
 holds_as (Err e) initial hide image old new fits ends inside begun sizes = tt

@@ -1,20 +1,21 @@
 -- A step answers exactly where its call ends with it, and no counter but the key rises by more than one.
 use Rattle.std.proofs.Common.{◌≡◌, ℕ, ◌+◌, ◌-◌, ◌≤◌, Bool, true, false, List, [], ◌∷◌, length, refl, sym, subst, arith, Option, Some, None, Result, Ok, Err}
-use Rattle.std.specs.Prelude.{◌==◌, ◌||◌, nat_lt, nat_le, if◌then◌else◌, is_some, slice_get}
+use Rattle.std.specs.Prelude.{◌==◌, ◌||◌, nat_lt, nat_le, if◌then◌else◌, is_some}
 use Rattle.pool_pages.specs.MakerTold.{MakerTold}
 use Rattle.pool_pages.specs.declared.unsupported.Unsupported.{Unsupported}
 use Rattle.pool_images.specs.Slots.{Slot}
-use Rattle.pool_index.specs.Shard.{ShardState, pick_answer, after_pick}
+use Rattle.pool_index.specs.Shard.{ShardState, pick_answer, after_pick, after_free}
 use Rattle.pool_index.specs.declared.ids.SlotId.{SlotId}
 use Rattle.pool_limits.specs.LimiterTold.{LimiterTold}
-use Rattle.pool_memory.specs.Memories.{MemoryState}
+use Rattle.pool_memory.specs.Memories.{MemoryState, slot_of}
 use Rattle.pool_slots.specs.Cells.{Cell, unmapped, unknown, previously_used, taken, is_taken}
-use Rattle.pool_slots.specs.Queues.{QueuedMemory}
+use Rattle.pool_slots.specs.Queues.{QueueState, QueuedMemory, joined, after_take, taken_into, emptied}
 use Rattle.pool_slots.specs.declared.request.AllocError.{AllocError}
 use Rattle.pool_alloc.specs.Leases.{Lease}
-use Rattle.pool_alloc.specs.Own.{memory_made}
+use Rattle.pool_alloc.specs.Reserved.{with_item}
+use Rattle.pool_alloc.specs.Own.{memory_made, reset_into}
 use Rattle.pool_alloc.specs.Refusals.{memories_refused}
-use Rattle.pool_alloc.specs.Steps.{Given, After, memories_asked, shard_at, cell_at, with_shard, with_cell, counting_instances, counting_memories, goes, give_back_next, refuses, allocate_next, flushes, after_flush, no_slot, validated, shard_tried, picked, wanted, holds_region, made, returns, puts, row_of, row}
+use Rattle.pool_alloc.specs.Steps.{Given, After, memories_asked, shard_at, cell_at, queue_at, shard_of, local_of, freed_of, freed_elsewhere, first_shard, after_frees, queue_tried, with_shard, with_cell, with_queue, counting_instances, counting_memories, goes, give_back_next, refuses, allocate_next, flushes, after_flush, no_slot, validated, shard_tried, picked, wanted, holds_region, made, returns, puts, row_of}
 use Rattle.pool_alloc.specs.Stepping.{CanStep, StepsTo, is_idle, EndsWith}
 use Rattle.pool_alloc.specs.declared.pool_core.PoolCore.{PoolCore}
 use Rattle.pool_alloc.specs.declared.frame.Frame.{Frame}
@@ -76,12 +77,12 @@ module _ {P : Type 0} where
 
     returns_ends : (leases : List Lease) (f : Frame P) → 1 ≤ length leases → Ends c (returns leases d f)
     returns_ends [] f some = absurd (omega arith)
-    returns_ends (lease ∷ rest) f some = goes_to c d f (Reset lease) refl instances memories
+    returns_ends (lease ∷ rest) f some = goes_to c d (record f { returning = record f.returning { items = rest } }) (Reset lease) refl instances memories
 
   module _ (c : PoolCore P) where
     validated_ends : (rule : Option Unsupported) (wants : Bool) (f : Frame P) → Ends c (validated rule wants c f)
     validated_ends (Some rule) wants f = record { answer = refl; instances = omega arith; memories = omega arith }
-    validated_ends None wants f = either c wants _ _ (record { answer = refl; instances = omega arith; memories = omega arith }) (goes_to c c f CountInstance refl (omega arith) (omega arith))
+    validated_ends None wants f = either c wants _ _ (record { answer = refl; instances = omega arith; memories = omega arith }) (goes_to c c (record f { granted = record { items = []; room = length (memories_asked f.asked) } }) CountInstance refl (omega arith) (omega arith))
 
     made_ends : (slot : ℕ) (held : Slot) (r : Result MemoryState AllocError) (f : Frame P) → Ends c (made slot held r c f)
     made_ends slot held (Ok memory) f = goes_to c c f (CountMemory _) refl (omega arith) (omega arith)
@@ -102,21 +103,34 @@ module _ {P : Type 0} where
       let shard : ShardState = shard_at (shard_tried tried c f) c.shards in
       picked_ends c (with_shard (shard_tried tried c f) (after_pick (wanted f) shard) c) (omega arith) (omega arith) (pick_answer (wanted f) shard) shard queues tried (in_phase (Pick queues tried) f)
   ends_at maker g (TakeQueue queues) c f on can =
-      let a : After P = row_of g (TakeQueue queues) c (in_phase (TakeQueue queues) f) in
-      either c _ _ _ (no_slot_ends c _ (omega arith) (omega arith) (queues + 1) _) (flushes_ends c _ (omega arith) (omega arith) (PickAgain (queues + 1)) _)
+      let q : QueueState = queue_at (queue_tried queues c f) c.queues in
+      let d : PoolCore P = with_queue (queue_tried queues c f) (after_take q) c in
+      let has : Frame P = record (in_phase (TakeQueue queues) f) { local = taken_into f.local q } in
+      either c (length has.local.memories == 0) _ _ (no_slot_ends c d (omega arith) (omega arith) (queues + 1) has) (flushes_ends c d (omega arith) (omega arith) (PickAgain (queues + 1)) has)
   ends_at maker g (TakeRegion slot) c f on can = holds_ends c (with_cell slot taken c) (omega arith) (omega arith) slot (cell_at slot c.cells) (in_phase (TakeRegion slot) f) (picked_is_home slot c f can.fits)
   ends_at maker g (Empty slot held) c f on can = goes_to c c f _ (one_phase g.fault (PutRefused slot g.slot _) (Instantiate slot g.slot) refl refl) (omega arith) (omega arith)
   ends_at maker g (Instantiate slot held) c f on can = goes_to c c f _ (one_phase g.fault (PutRefused slot g.slot _) (MakeMemory slot g.slot) refl refl) (omega arith) (omega arith)
   ends_at maker g (MakeMemory slot held) c f on can = made_ends c slot held (memory_made c.settings (memories_asked f.asked) (length f.granted.items) g.limiter held) (in_phase (MakeMemory slot held) f)
-  ends_at maker g (CountMemory lease) c f on can = allocates_ends c (counting_memories (c.counters.memories + 1) c) (omega arith) (omega arith) _
-  ends_at maker g (PutRefused slot held e) c f on can = goes_to c _ f (FreeRefused slot e) refl (omega arith) (omega arith)
-  ends_at maker g (FreeRefused slot e) c f on can = refuses_ends c _ (omega arith) (omega arith) (in_phase (FreeRefused slot e) f) e
+  ends_at maker g (CountMemory lease) c f on can = allocates_ends c (counting_memories (c.counters.memories + 1) c) (omega arith) (omega arith) (record (in_phase (CountMemory lease) f) { granted = with_item lease f.granted })
+  ends_at maker g (PutRefused slot held e) c f on can = goes_to c (with_cell slot (unknown held) c) f (FreeRefused slot e) refl (omega arith) (omega arith)
+  ends_at maker g (FreeRefused slot e) c f on can = refuses_ends c (with_shard (shard_of c.settings slot) (after_free (local_of c.settings slot) 0 (shard_at (shard_of c.settings slot) c.shards)) c) (omega arith) (omega arith) (in_phase (FreeRefused slot e) f) e
   ends_at maker g UncountMemory c f on can = returns_ends c (counting_memories (c.counters.memories - 1) c) (omega arith) (omega arith) f.returning.items (in_phase UncountMemory f) can.frame.shape.2
-  ends_at maker g (Reset lease) c f on can = either c _ _ _ (flushes_ends c c (omega arith) (omega arith) GiveBackNext _) (goes_to c c _ Merge refl (omega arith) (omega arith))
-  ends_at maker g Merge c f on can = either c _ _ _ (flushes_ends c _ (omega arith) (omega arith) GiveBackNext _) (gives_back_ends c _ (omega arith) (omega arith) _)
-  ends_at maker g (Decommit after) c f on can = flushes_ends c c (omega arith) (omega arith) after _
+  ends_at maker g (Reset lease) c f on can =
+      let has : Frame P = record (in_phase (Reset lease) f) { local = reset_into c.settings.keep_resident.bytes lease.index (slot_of lease.memory) f.local } in
+      either c ((length has.local.ranges == 0) || nat_le c.settings.batch (length has.local.ranges)) _ _ (flushes_ends c c (omega arith) (omega arith) GiveBackNext has) (goes_to c c has Merge refl (omega arith) (omega arith))
+  ends_at maker g Merge c f on can =
+      let q : QueueState = joined (queue_at (queue_tried 0 c f) c.queues) f.local in
+      let none : Frame P = record (in_phase Merge f) { local = emptied f.local } in
+      either c (nat_le c.settings.batch (length q.ranges)) _ _
+      (flushes_ends c (with_queue (queue_tried 0 c f) (after_take q) c) (omega arith) (omega arith) GiveBackNext (record none { local = taken_into (emptied f.local) q }))
+      (gives_back_ends c (with_queue (queue_tried 0 c f) q c) (omega arith) (omega arith) none)
+  ends_at maker g (Decommit after) c f on can = flushes_ends c c (omega arith) (omega arith) after (record (in_phase (Decommit after) f) { local = g.queue })
   ends_at maker g (PutRegion after) c f on can = puts_ends c after f.local.memories (in_phase (PutRegion after) f) can.frame.shape.2
-  ends_at maker g (Free after) c f on can = either c _ _ _ (after_flush_ends c _ (omega arith) (omega arith) after _) (goes_to c _ _ (Free after) refl (omega arith) (omega arith))
+  ends_at maker g (Free after) c f on can =
+      let j : ℕ = first_shard c.settings f.freed.items in
+      let d : PoolCore P = with_shard j (after_frees c.settings (freed_of c.settings j f.freed.items) (shard_at j c.shards)) c in
+      let has : Frame P = record (in_phase (Free after) f) { freed = record f.freed { items = freed_elsewhere c.settings j f.freed.items } } in
+      either c (length has.freed.items == 0) _ _ (after_flush_ends c d (omega arith) (omega arith) after has) (goes_to c d has (Free after) refl (omega arith) (omega arith))
   ends_at maker g UncountInstance c f on can = record { answer = refl; instances = omega arith; memories = omega arith }
 
   ended_with : (maker : MakerTold) (g : Given) (next : Phase P) (c : PoolCore P) (f : Frame P) → CanStep maker c (in_phase next f) → EndsWith c (in_phase next f) (row_of g next c (in_phase next f))

@@ -1,6 +1,6 @@
 -- The slots of one shard are freed in turns, one for each slot of the list.
 use Rattle.std.proofs.Common.{◌≡◌, ℕ, ◌+◌, ◌<◌, ◌≤◌, Bool, true, false, List, [], ◌∷◌, ◌++◌, length, length-set, take, drop, get_or, set, refl, sym, ap, subst, ◌∙◌, arith}
-use Rattle.std.specs.Prelude.{◌==◌, ◌^◌, All, IsSome, filter, if◌then◌else◌, not, min, slice_set}
+use Rattle.std.specs.Prelude.{◌==◌, ◌^◌, All, IsSome, if◌then◌else◌, not, min}
 use Rattle.std.proofs.lemmas.List.{take_more, drop_more, append-nil, append_assoc, drop_all, take_all, set-set, set-get_or, get_or-set_same}
 use Rattle.std.proofs.lemmas.List.Elements.{filter-append, All-get_or}
 use Rattle.std.proofs.lemmas.Bool.{eq-eqb}
@@ -30,11 +30,11 @@ record AfterTurn (s : Settings) (j : ℕ) (olds : List ShardState) (of more kept
   used : AreUsedInTurn s of (shard_at j shards)
 
 turn : (b : Bool) (s : Settings) (j : ℕ) (olds : List ShardState) (x : FreedSlot) (of more kept : List FreedSlot) (target : ShardState) (shards : List ShardState)
-  → j < length olds
-  → shards ≡ set olds j (shard_at j shards)
-  → after_frees s (if b then x ∷ of else of) (shard_at j shards) ≡ target
-  → AreUsedInTurn s (if b then x ∷ of else of) (shard_at j shards)
-  → AfterTurn s j olds of more (kept ++ (if not b then x ∷ [] else [])) target (if b then set shards j (after_free (local_of s x.slot) x.bytes (shard_at j shards)) else shards) (if b then more ++ kept else more ++ kept ++ x ∷ [])
+    → j < length olds
+    → shards ≡ set olds j (shard_at j shards)
+    → after_frees s (if b then x ∷ of else of) (shard_at j shards) ≡ target
+    → AreUsedInTurn s (if b then x ∷ of else of) (shard_at j shards)
+    → AfterTurn s j olds of more (kept ++ (if not b then x ∷ [] else [])) target (if b then set shards j (after_free (local_of s x.slot) x.bytes (shard_at j shards)) else shards) (if b then more ++ kept else more ++ kept ++ x ∷ [])
 turn true s j olds x of more kept target shards inside others rest used =
     let freed : ShardState = after_free (local_of s x.slot) x.bytes (shard_at j shards) in
     let long : j < length shards = rw others (omega (arith, length-set olds j (shard_at j shards))) in
@@ -94,7 +94,7 @@ module _ (s : Settings) (j : ℕ) (olds : List ShardState) (xs : List FreedSlot)
       let R : List FreedSlot → Type 0 = λ l. after_frees s (freed_of s j l) (shard_at j shards) ≡ after_frees s (freed_of s j xs) (shard_at j olds) in
       let after = turn b s j olds x (freed_of s j more) more kept (after_frees s (freed_of s j xs) (shard_at j olds)) shards below so_far.others (subst R left so_far.rest) (subst U left so_far.used) in
       let elsewhere : freed_elsewhere s j (take (i + 1) xs) ≡ kept ++ (if not b then x ∷ [] else []) =
-          ap (freed_elsewhere s j) (take_more xs i d inside) ∙ filter-append (λ (y : FreedSlot). not (shard_of s y.slot == j)) (take i xs) (x ∷ []) in
+      ap (freed_elsewhere s j) (take_more xs i d inside) ∙ filter-append (λ (y : FreedSlot). not (shard_of s y.slot == j)) (take i xs) (x ∷ []) in
       let F : List FreedSlot → Type 0 = λ l. FreesSoFar s j olds xs (i + 1) (shards_after_next s j l shards) (freed_after_next s j l) in
       subst F (sym now) (record {
         list = after.list ∙ ap (λ (l : List FreedSlot). more ++ l) (sym elsewhere);

@@ -17,7 +17,7 @@ pub mod Held
 pub mod Kept
 pub mod KeptCounts
 pub mod LocalQueues
-pub mod Making
+pub mod MadePools
 pub mod Makings
 pub mod Picks
 pub mod QueueCounts

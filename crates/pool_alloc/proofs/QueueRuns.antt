@@ -1,9 +1,9 @@
 -- A queue stays one as the ranges of one slot are decommitted, or a decommit fails.
-use Rattle.std.proofs.Common.{◌≡◌, ℕ, true, false, List, [], ◌∷◌, refl, sym, ap, subst, ◌∙◌, inl, inr}
+use Rattle.std.proofs.Common.{◌≡◌, ℕ, List, [], ◌∷◌, refl, sym, ap, subst, ◌∙◌, inl, inr}
 use Rattle.std.proofs.lemmas.Bool.{cases_Bool}
 use Rattle.pool_slots.specs.declared.queued_range.QueueKind.TheVariants.{Memory}
 use Rattle.pool_slots.specs.declared.queued_range.QueuedRange.{QueuedRange}
-use Rattle.pool_slots.specs.Queues.{QueueState, QueuedMemory, is_of, first_slot, after_run_of, after_run, HasOwners, IsQueue, IsFaulted}
+use Rattle.pool_slots.specs.Queues.{QueueState, is_of, first_slot, after_run_of, after_run, HasOwners, IsQueue, IsFaulted}
 use Rattle.pool_slots.specs.QueueSteps.{after_first_of}
 use Rattle.pool_slots.proofs.QueueFirst.{queue_left}
 use Rattle.pool_slots.proofs.QueueRuns.{of_kind, run_next, run_end, faulted_owned}

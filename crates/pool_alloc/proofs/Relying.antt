@@ -2,10 +2,8 @@
 use Rattle.std.specs.Prelude.{◌≡◌, ◌<◌, length, All, false, IsSome}
 use Rattle.pool_pages.specs.MakerTold.{MakerTold}
 use Rattle.pool_index.specs.Shard.{use_of}
-use Rattle.pool_memory.specs.Memories.{slot_of}
 use Rattle.pool_slots.specs.Cells.{is_taken}
 use Rattle.pool_slots.specs.Queues.{QueueState, AreApart}
-use Rattle.pool_alloc.specs.Own.{reset_into}
 use Rattle.pool_alloc.specs.Steps.{shard_at, cell_at, queue_at, shard_of, local_of, freed_of, first_shard, queue_tried}
 use Rattle.pool_alloc.specs.Sound.{IsLocal}
 use Rattle.pool_alloc.specs.Freeing.{AreUsedInTurn}
@@ -13,7 +11,7 @@ use Rattle.pool_alloc.specs.declared.pool_core.PoolCore.{PoolCore}
 use Rattle.pool_alloc.specs.declared.pool_core.Settings.{Settings}
 use Rattle.pool_alloc.specs.declared.frame.Frame.{Frame}
 use Rattle.pool_alloc.specs.declared.frame.Phase.{Phase}
-use Rattle.pool_alloc.specs.declared.frame.Phase.TheVariants.{TakeRegion, FreeRefused, UncountMemory, Reset, Merge, Free}
+use Rattle.pool_alloc.specs.declared.frame.Phase.TheVariants.{TakeRegion, FreeRefused, UncountMemory, Merge, Free}
 
 -- the local queue once a memory was reset into it: it has that slot alone
 pub record IsResetLocal (maker : MakerTold) (s : Settings) (q : QueueState) : Type 0 where

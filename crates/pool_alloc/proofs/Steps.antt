@@ -1,10 +1,9 @@
 -- What the code of a step needs follows of what holds between steps, and what holds between steps holds after a step.
-use Rattle.std.proofs.Common.{◌≡◌, ℕ, ◌+◌, ◌*◌, ◌^◌, ◌<◌, ◌≤◌, true, false, List, length, get_or, sym, ap, subst, ◌∙◌, arith, Option, Some, None}
+use Rattle.std.proofs.Common.{◌≡◌, ℕ, ◌<◌, true, false, length, get_or, refl, sym, subst, ◌∙◌, arith, Option, Some, None}
 use Rattle.std.specs.Prelude.{IfSome, IsSome, is_some, slice_get}
 use Rattle.std.proofs.lemmas.List.Elements.{All-from_get_or}
 use Rattle.pool_pages.specs.MakerTold.{MakerTold}
 use Rattle.pool_pages.specs.MemoryTypes.{minimum_byte_size}
-use Rattle.pool_pages.specs.declared.module_types.MemoryDecl.{MemoryDecl}
 use Rattle.pool_images.specs.Images.{Image}
 use Rattle.pool_images.specs.Slots.{Slot, FitsInto}
 use Rattle.pool_limits.specs.LimiterTold.{LimiterTold}
@@ -13,11 +12,11 @@ use Rattle.pool_memory.specs.Memories.{slot_of as image_slot_of}
 use Rattle.pool_pages.specs.declared.module_types.IndexType.TheVariants.{I32}
 use Rattle.pool_slots.specs.Cells.{IsSlotOf}
 use Rattle.pool_alloc.specs.Leases.{Lease}
-use Rattle.pool_alloc.specs.Steps.{After, memories_asked, images_asked, image_wanted, queue_tried, queue_at, first_shard, row}
+use Rattle.pool_alloc.specs.Steps.{After, memories_asked, images_asked, image_wanted, queue_tried}
 use Rattle.pool_alloc.specs.Calls.{IsGrantOf, IfGranted}
-use Rattle.pool_alloc.specs.CanStep.{CanStepAt, HasNext, CanBegin, CanMake, CanFreeOne}
-use Rattle.pool_alloc.specs.Sound.{IsCore, IsFrame, IsSettings, IsAllocating, IsSupported, HasSlot, HasBegun, IsShapedAt}
-use Rattle.pool_alloc.specs.Stepping.{CanStep, CanCount, StepsTo, Conserves, IsSameSize}
+use Rattle.pool_alloc.specs.CanStep.{CanStepAt, HasNext, CanBegin, CanMake}
+use Rattle.pool_alloc.specs.Sound.{IsCore, IsFrame, IsSettings, IsAllocating, IsSupported, HasSlot, HasBegun}
+use Rattle.pool_alloc.specs.Stepping.{CanStep, CanCount, StepsTo}
 use Rattle.pool_alloc.specs.declared.pool_core.PoolCore.{PoolCore}
 use Rattle.pool_alloc.specs.declared.pool_core.Settings.{Settings}
 use Rattle.pool_alloc.specs.declared.frame.Frame.{Frame}
@@ -25,7 +24,7 @@ use Rattle.pool_alloc.specs.declared.frame.ModuleCall.{ModuleCall}
 use Rattle.pool_alloc.specs.declared.frame.Phase.{Phase}
 use Rattle.pool_alloc.specs.declared.frame.Phase.TheVariants.{Idle, Key, Validate, CountInstance, Pick, TakeQueue, TakeRegion, Empty, Instantiate, MakeMemory, CountMemory, PutRefused, FreeRefused, UncountMemory, Reset, Merge, Decommit, PutRegion, Free, UncountInstance}
 use Rattle.pool_alloc.proofs.Balances.{in_phase}
-use Rattle.pool_alloc.proofs.Fitting.{step_conserves, step_keeps_size, step_fits}
+use Rattle.pool_alloc.proofs.Fitting.{step_fits}
 use Rattle.pool_alloc.proofs.Held.{held_is_inside}
 use Rattle.pool_alloc.proofs.Kept.{core_kept, frame_kept, granted_leases}
 use Rattle.pool_alloc.proofs.RegionRows.{region_is_fresh}
@@ -40,11 +39,11 @@ no_lease = record { index = 0; memory = record { ty = record { idx_type = I32; l
 
 some_of : {X : Type 0} (o : Option X) → is_some o ≡ true → IsSome o
 some_of None e = absurd cc
-some_of (Some x) e = tt
+some_of (Some x) e = refl
 
 some_asked : (o : Option ModuleCall) (n : ℕ) → n < length (memories_asked o) → IsSome o
 some_asked None n below = absurd (omega arith)
-some_asked (Some m) n below = tt
+some_asked (Some m) n below = refl
 
 fits_region : (page other initial : ℕ) (o : Option Image) → other ≡ page → IfSome o (FitsInto page initial) → IfSome o (FitsInto other initial)
 fits_region page other initial o e fits =
@@ -130,16 +129,18 @@ module _ {P : Type 0} where
   can_at maker Merge c f can counts =
       let below : queue_tried 0 c f < length c.queues = tried_is_queue maker 0 c f can.core in
       let shared = can.core.queues (queue_tried 0 c f) below in
-      let room = home_has_room maker c f can in
-      (can.core.queues_some, record {
-        ranges = room.ranges;
-        slots = room.slots;
-        owners = shared.owners;
-        local_owners = can.frame.queue.owners;
-        apart = local_is_apart (queue_tried 0 c f) c (in_phase Merge f) can.fits below;
-        range_room = can.frame.queue.range_room ∙ sym shared.range_room;
-        slot_room = can.frame.queue.slot_room ∙ sym shared.slot_room;
-      })
+      let room = home_has_room maker c f can in (
+        can.core.queues_some,
+        record {
+          ranges = room.ranges;
+          slots = room.slots;
+          owners = shared.owners;
+          local_owners = can.frame.queue.owners;
+          apart = local_is_apart (queue_tried 0 c f) c (in_phase Merge f) can.fits below;
+          range_room = can.frame.queue.range_room ∙ sym shared.range_room;
+          slot_room = can.frame.queue.slot_room ∙ sym shared.slot_room;
+        },
+      )
   can_at maker (Decommit after) c f can counts = (can.frame.shape.2, can.frame.queue.owners)
   can_at maker (PutRegion after) c f can counts = record {
     no_ranges = can.frame.shape.1;

@@ -72,7 +72,7 @@ held_append of ms ns =
     ∙ sum_by-append (λ (c : Cell). of (calls_in c)) (map (λ (m : QueuedMemory). unknown m.slot) ms) (map (λ (m : QueuedMemory). unknown m.slot) ns)
 
 queue_more : (of : PageCalls → ℕ) (queues : List QueueState) (i : ℕ) (d : QueueState) → i < length queues
-  → held_sum of (flat_map (λ (q : QueueState). q.memories) (take (i + 1) queues)) ≡ held_sum of (flat_map (λ (q : QueueState). q.memories) (take i queues)) + held_sum of (get_or queues i d).memories
+    → held_sum of (flat_map (λ (q : QueueState). q.memories) (take (i + 1) queues)) ≡ held_sum of (flat_map (λ (q : QueueState). q.memories) (take i queues)) + held_sum of (get_or queues i d).memories
 queue_more of queues i d inside =
     ap (λ (l : List QueueState). held_sum of (flat_map (λ (q : QueueState). q.memories) l)) (take_more queues i d inside)
     ∙ ap (held_sum of) (flat_map-append (λ (q : QueueState). q.memories) (take i queues) (get_or queues i d ∷ []))

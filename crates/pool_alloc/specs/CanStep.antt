@@ -14,7 +14,7 @@ use Rattle.pool_slots.specs.Queues.{QueueState, QueuedMemory, HasOwners, AreApar
 use Rattle.pool_alloc.specs.Freeing.{AreUsedInTurn}
 use Rattle.pool_alloc.specs.Modules.{HasImages, IfAllocated}
 use Rattle.pool_alloc.specs.Reserved.{Reserved}
-use Rattle.pool_alloc.specs.Steps.{memories_asked, images_asked, image_wanted, shard_at, cell_at, queue_at, shard_of, local_of, freed_of, first_shard, queue_tried}
+use Rattle.pool_alloc.specs.Steps.{memories_asked, image_wanted, shard_at, cell_at, queue_at, shard_of, local_of, freed_of, first_shard, queue_tried}
 use Rattle.pool_alloc.specs.declared.pool_core.PoolCore.{PoolCore}
 use Rattle.pool_alloc.specs.declared.pool_core.Settings.{Settings}
 use Rattle.pool_alloc.specs.declared.frame.Frame.{Frame}

@@ -1,5 +1,5 @@
 -- What is granted.
-use Rattle.std.specs.Prelude.{◌≡◌, ℕ, ◌≤◌}
+use Rattle.std.specs.Prelude.{ℕ, ◌≤◌}
 use Rattle.pool_images.specs.Slots.{IsInUse}
 use Rattle.pool_memory.specs.Memories.{MemoryState, slot_of}
 

@@ -1,15 +1,15 @@
 -- Where each slot and each region is: in the pool's parts, with a party's call, or in a grant. Each is counted once.
-use Rattle.std.specs.Prelude.{◌≡◌, ℕ, ◌+◌, ◌<◌, ◌≤◌, ◌==◌, List, [], ◌∷◌, length, sum_by, Option, None, Some, is_some, nat_lt, if◌then◌else◌}
+use Rattle.std.specs.Prelude.{ℕ, ◌+◌, ◌==◌, List, [], ◌∷◌, length, sum_by, Option, is_some, nat_lt, if◌then◌else◌}
 use Rattle.pool_index.specs.Shard.{ShardState, one_if}
 use Rattle.pool_index.specs.declared.ids.MemoryInModule.{MemoryInModule}
 use Rattle.pool_slots.specs.Cells.{Cell, is_taken}
-use Rattle.pool_slots.specs.Queues.{QueueState, QueuedMemory}
+use Rattle.pool_slots.specs.Queues.{QueuedMemory}
 use Rattle.pool_alloc.specs.Leases.{Lease}
 use Rattle.pool_alloc.specs.declared.pool_core.PoolCore.{PoolCore}
 use Rattle.pool_alloc.specs.declared.frame.Frame.{Frame}
 use Rattle.pool_alloc.specs.declared.frame.FreedSlot.{FreedSlot}
 use Rattle.pool_alloc.specs.declared.frame.Phase.{Phase}
-use Rattle.pool_alloc.specs.declared.frame.Phase.TheVariants.{Idle, Key, Validate, CountInstance, Pick, TakeQueue, TakeRegion, Empty, Instantiate, MakeMemory, CountMemory, PutRefused, FreeRefused, UncountMemory, Reset, Merge, Decommit, PutRegion, Free, UncountInstance}
+use Rattle.pool_alloc.specs.declared.frame.Phase.TheVariants.{Idle, Key, Validate, CountInstance, TakeRegion, Empty, Instantiate, MakeMemory, CountMemory, PutRefused, FreeRefused, Reset}
 
 -- the right to use a memory slot, and the region of a memory slot
 pub data Thing : Type 0 where

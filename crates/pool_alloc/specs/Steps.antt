@@ -1,5 +1,5 @@
 -- The step table: what each step of a call does to the pool, of which it changes one part, and to the party's frame.
-use Rattle.std.specs.Prelude.{ℕ, ◌+◌, ◌-◌, ◌/◌, ◌%◌, ◌^◌, ◌==◌, ◌||◌, List, [], ◌∷◌, length, filter, min, slice_index_or, slice_set, slice_get, Bool, true, false, not, nat_lt, nat_le, if◌then◌else◌, Option, Some, None, Result, Ok, Err}
+use Rattle.std.specs.Prelude.{ℕ, ◌+◌, ◌-◌, ◌/◌, ◌%◌, ◌^◌, ◌==◌, ◌||◌, List, [], ◌∷◌, length, filter, min, slice_index_or, slice_set, Bool, true, false, not, nat_lt, nat_le, if◌then◌else◌, Option, Some, None, Result, Ok, Err}
 use Rattle.std.specs.Arc.{arc_value}
 use Rattle.std.specs.declared.sync.Arc.{Arc}
 use Rattle.std.specs.declared.alloc.Global.{Global}
@@ -22,7 +22,7 @@ use Rattle.pool_slots.specs.Queues.{QueueState, QueuedMemory, empty_queue, joine
 use Rattle.pool_slots.specs.declared.request.AllocError.{AllocError}
 use Rattle.pool_slots.specs.declared.request.AllocError.TheVariants as refusal
 use Rattle.pool_slots.specs.declared.request.ConcurrencyKind.TheVariants.{MemoryStripe, CoreInstances}
-use Rattle.pool_alloc.specs.Reserved.{Reserved, no_room, with_item}
+use Rattle.pool_alloc.specs.Reserved.{no_room, with_item}
 use Rattle.pool_alloc.specs.Leases.{Lease}
 use Rattle.pool_alloc.specs.Own.{image_made, reset_into, refusal_of, memory_made}
 use Rattle.pool_alloc.specs.Refusals.{memories_refused}
@@ -219,12 +219,12 @@ module _ {P : Type 0} where
   abbrev pub pick_row : ℕ → ℕ → PoolCore P → Frame P → After P
   pick_row queues tried c f =
       picked
-        (pick_answer (wanted f) (shard_at (shard_tried tried c f) c.shards))
-        (shard_at (shard_tried tried c f) c.shards)
-        queues
-        tried
-        (with_shard (shard_tried tried c f) (after_pick (wanted f) (shard_at (shard_tried tried c f) c.shards)) c)
-        f
+      (pick_answer (wanted f) (shard_at (shard_tried tried c f) c.shards))
+      (shard_at (shard_tried tried c f) c.shards)
+      queues
+      tried
+      (with_shard (shard_tried tried c f) (after_pick (wanted f) (shard_at (shard_tried tried c f) c.shards)) c)
+      f
 
   abbrev pub took : ℕ → PoolCore P → Frame P → After P
   took queues c f = if length f.local.memories == 0 then no_slot (queues + 1) c f else flushes (PickAgain (queues + 1)) c f
@@ -233,9 +233,9 @@ module _ {P : Type 0} where
   abbrev pub take_queue_row : ℕ → PoolCore P → Frame P → After P
   take_queue_row queues c f =
       took
-        queues
-        (with_queue (queue_tried queues c f) (after_take (queue_at (queue_tried queues c f) c.queues)) c)
-        (record f { local = taken_into f.local (queue_at (queue_tried queues c f) c.queues) })
+      queues
+      (with_queue (queue_tried queues c f) (after_take (queue_at (queue_tried queues c f) c.queues)) c)
+      (record f { local = taken_into f.local (queue_at (queue_tried queues c f) c.queues) })
 
   abbrev pub holds_region : ℕ → Cell → PoolCore P → Frame P → After P
   holds_region slot (unmapped region) c f = goes c f (Instantiate slot (image_made c.settings.page c.settings.max_memory_size region))
@@ -312,9 +312,9 @@ module _ {P : Type 0} where
   puts after [] c f = goes c f Idle
   puts after (m ∷ rest) c f =
       goes
-        (with_cell m.index (cell_returned m) c)
-        (record f { local = record f.local { memories = rest }; freed = with_item (record { slot = m.index; bytes = m.bytes }) f.freed })
-        (if length rest == 0 then Free after else PutRegion after)
+      (with_cell m.index (cell_returned m) c)
+      (record f { local = record f.local { memories = rest }; freed = with_item (record { slot = m.index; bytes = m.bytes }) f.freed })
+      (if length rest == 0 then Free after else PutRegion after)
 
   -- The next region goes back into its cell.
   abbrev pub put_region_row : AfterFlush → PoolCore P → Frame P → After P
@@ -326,9 +326,9 @@ module _ {P : Type 0} where
   abbrev pub frees : AfterFlush → ℕ → PoolCore P → Frame P → After P
   frees after j c f =
       were_freed
-        after
-        (with_shard j (after_frees c.settings (freed_of c.settings j f.freed.items) (shard_at j c.shards)) c)
-        (record f { freed = record f.freed { items = freed_elsewhere c.settings j f.freed.items } })
+      after
+      (with_shard j (after_frees c.settings (freed_of c.settings j f.freed.items) (shard_at j c.shards)) c)
+      (record f { freed = record f.freed { items = freed_elsewhere c.settings j f.freed.items } })
 
   -- The slots of one shard are freed.
   abbrev pub free_row : AfterFlush → PoolCore P → Frame P → After P

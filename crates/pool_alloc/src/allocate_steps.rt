@@ -3,8 +3,8 @@ ghost use Rattle.pool_index.specs.Shard.{use_of};
 ghost use Rattle.pool_slots.specs.Cells.{is_taken};
 ghost use Rattle.pool_alloc.specs.Steps.{After, memories_asked, shard_at, cell_at, shard_of, local_of, wanted, allocate_next, give_back_next, refuses, no_slot, key_row, count_instance_row, pick_row, pick_next, take_region_row, count_memory_row, put_refused_row, free_refused_row};
 
-use crate::frame_calls::next_return;
 use crate::frame::{Ending, Frame, Grant, Outcome, Phase};
+use crate::frame_calls::next_return;
 use crate::lease::{InstanceLease, MemoryLease};
 use crate::pool_core::PoolCore;
 use crate::reserved::ReservedList;
@@ -39,7 +39,12 @@ impl<P: Pages> PoolCore<P> {
     }
 
     // What was granted so far is given back, and the call is refused.
-    fn refuse(&mut self, alloc: Global, frame: &mut Frame<P>, error: AllocError) -> Option<Outcome<P>>
+    fn refuse(
+        &mut self,
+        alloc: Global,
+        frame: &mut Frame<P>,
+        error: AllocError,
+    ) -> Option<Outcome<P>>
         ensures { ◌≡◌ {A = After P} (record { core = self.new; frame = frame.new; outcome = result }) (refuses self.old frame.old error) }
     {
         frame.returning = mem::replace(&mut frame.granted, ReservedList::none(alloc));
@@ -48,7 +53,12 @@ impl<P: Pages> PoolCore<P> {
     }
 
     // No shard had a slot: the next queue is taken, or the memory is refused after the last.
-    pub(crate) fn no_slot(&mut self, alloc: Global, frame: &mut Frame<P>, queues: usize) -> Option<Outcome<P>>
+    pub(crate) fn no_slot(
+        &mut self,
+        alloc: Global,
+        frame: &mut Frame<P>,
+        queues: usize,
+    ) -> Option<Outcome<P>>
         ensures { ◌≡◌ {A = After P} (record { core = self.new; frame = frame.new; outcome = result }) (no_slot queues self.old frame.old) }
     {
         if queues < self.queues.len() {
@@ -75,7 +85,11 @@ impl<P: Pages> PoolCore<P> {
         Some(Outcome::Key)
     }
 
-    pub(crate) fn count_instance(&mut self, alloc: Global, frame: &mut Frame<P>) -> Option<Outcome<P>>
+    pub(crate) fn count_instance(
+        &mut self,
+        alloc: Global,
+        frame: &mut Frame<P>,
+    ) -> Option<Outcome<P>>
         requires { self.old.counters.core_instances + 1 < 2 ^ 64 }
         ensures { ◌≡◌ {A = After P} (record { core = self.new; frame = frame.new; outcome = result }) (count_instance_row self.old frame.old) }
     {

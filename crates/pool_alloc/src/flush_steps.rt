@@ -84,7 +84,11 @@ impl<P: Pages> PoolCore<P> {
     }
 
     // Puts the first region of the local queue back into its cell.
-    pub(crate) fn put_region(&mut self, frame: &mut Frame<P>, after: AfterFlush) -> Option<Outcome<P>>
+    pub(crate) fn put_region(
+        &mut self,
+        frame: &mut Frame<P>,
+        after: AfterFlush,
+    ) -> Option<Outcome<P>>
         requires { CanPut (length self.old.cells) frame.old.local frame.old.freed }
         ensures { ◌≡◌ {A = After P} (record { core = self.new; frame = frame.new; outcome = result }) (put_region_row after self.old frame.old) }
     {

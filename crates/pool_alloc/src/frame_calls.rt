@@ -7,7 +7,7 @@ ghost use Rattle.pool_alloc.specs.Sums.{calls_in_frame, calls_in_phase};
 ghost use Rattle.pool_alloc.specs.Steps.{memories_asked, wanted};
 
 use crate::frame::{Call, Ending, Frame, Grant, Phase};
-use crate::lease::{InstanceLease, MemoryLease, calls_of};
+use crate::lease::{MemoryLease, calls_of};
 use crate::reserved::ReservedList;
 use pool_index::MemoryInModule;
 use pool_pages::{DefinedMemoryIndex, PageCalls, Pages};
@@ -26,17 +26,21 @@ impl<P: Pages> Frame<P> {
                 self.asked = Some(module);
                 self.phase = Phase::Validate;
             }
-            Call::GiveBack(Grant::Instance(lease)) => self.give_back(lease),
+            Call::GiveBack(grant) => self.give_back(grant),
         }
     }
 
     // The memories of an instance are given back in order, and then the instance.
-    fn give_back(&mut self, lease: InstanceLease<P>)
-        ensures { self.new ≡ gives_back (Grant.Instance lease) self.old }
+    fn give_back(&mut self, grant: Grant<P>)
+        ensures { self.new ≡ gives_back grant self.old }
     {
-        self.returning = lease.memories;
-        self.ending = Ending::Returned;
-        self.phase = next_return(&self.returning);
+        match grant {
+            Grant::Instance(lease) => {
+                self.returning = lease.memories;
+                self.ending = Ending::Returned;
+                self.phase = next_return(&self.returning);
+            }
+        }
     }
 
     /// The calls made so far on the regions that the call under way has.
@@ -44,7 +48,10 @@ impl<P: Pages> Frame<P> {
         ensures { result ≡ calls_in_frame self.now }
     {
         let leased = add_calls(calls_of(&self.granted), calls_of(&self.returning));
-        add_calls(leased, add_calls(self.local.page_calls(), self.phase.page_calls()))
+        add_calls(
+            leased,
+            add_calls(self.local.page_calls(), self.phase.page_calls()),
+        )
     }
 
     // How many memories the module has that is asked for.

@@ -94,8 +94,10 @@ fn settings_of(page: PageSize, config: &PoolingAllocationConfig, tunables: &Tuna
     let keep = config.linear_memory_keep_resident;
     Settings {
         page,
-        max_memory_size: HostAlignedByteCount::rounded_up_unchecked(page, limits.max_memory_size)
-            .byte_count(),
+        max_memory_size: HostAlignedByteCount::rounded_up_unchecked(
+            page,
+            limits.max_memory_size,
+        ).byte_count(),
         keep_resident: HostAlignedByteCount::rounded_up_unchecked(page, keep),
         batch: config.decommit_batch_size,
         stripes: 1,

@@ -17,7 +17,11 @@ use pool_slots::{DecommitQueue, MemoryAllocationIndex};
 impl<P: Pages> PoolCore<P> {
     // Resets a memory into the local queue. That is flushed where it has no range or as many as a batch, and else goes
     // to the home queue.
-    pub(crate) fn reset(&mut self, frame: &mut Frame<P>, lease: MemoryLease<P>) -> Option<Outcome<P>>
+    pub(crate) fn reset(
+        &mut self,
+        frame: &mut Frame<P>,
+        lease: MemoryLease<P>,
+    ) -> Option<Outcome<P>>
         requires { CanReset self.old.settings (slot_of lease.memory) frame.old.local }
         ensures row { ◌≡◌ {A = After P} (record { core = self.new; frame = frame.new; outcome = result }) (reset_row lease self.old frame.old) }
         ensures leaves { LeavesClean (reset_listed self.old.settings.keep_resident.bytes lease.index (slot_of lease.memory)) (slot_ended self.old.settings.keep_resident.bytes lease.index (slot_of lease.memory)) }

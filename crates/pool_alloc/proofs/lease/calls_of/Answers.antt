@@ -1,4 +1,4 @@
-use Rattle.std.proofs.Common.{◌<◌, length, take, sym, ap, ◌∙◌, arith}
+use Rattle.std.proofs.Common.{◌<◌, length, take, ap, ◌∙◌, arith}
 use Rattle.pool_pages.specs.declared.pages.PageCalls.{PageCalls}
 use Rattle.pool_memory.specs.Memories.{slot_of}
 use Rattle.pool_slots.specs.Cells.{added}

@@ -1,4 +1,4 @@
-use Rattle.std.proofs.Common.{◌≡◌, ◌≤◌, refl, length, le-ltb}
+use Rattle.std.proofs.Common.{◌≤◌, refl, length, le-ltb}
 use Rattle.pool_alloc.specs.Steps.{memories_asked}
 use Rattle.pool_alloc.proofs.pool_core.PoolCore.allocate_next.Goals as goal
 

@@ -6,7 +6,7 @@ use Rattle.pool_slots.proofs.Fresh.{cells_made}
 use Rattle.pool_alloc.specs.Made.{settings_of}
 use Rattle.pool_alloc.specs.Steps.{cell_at}
 use Rattle.pool_alloc.specs.declared.pool_core.Settings.{Settings}
-use Rattle.pool_alloc.proofs.Making.{made_core, made_untouched}
+use Rattle.pool_alloc.proofs.MadePools.{made_core, made_untouched}
 use Rattle.pool_alloc.proofs.pool_core.PoolCore.new.Goals as goal
 
 pub returns-clause-made : goal.returns-clause-made
@@ -17,13 +17,13 @@ returns-clause-made g c =
     let total : ℕ = config.limits.total_memories in
     let made = c.in_ok-cells.ensures.cells in
     record {
-      settings = c.settings_of-settings.ensures ∙ ap (λ (n : ℕ). settings_of n config c.args.tunables.now) c.page.ensures;
+      settings = c.settings_of-settings.ensures ∙ ap (λ (n : ℕ). settings_of n config c.args.tunables.now) c.page-page.ensures;
       shards = c.in_ok-shards.ensures.made;
       cells = record {
         number = ap length c.new.ensures ∙ made.count;
         each = λ i below.
             let C : List Cell → Type 0 = λ xs. cell_at i xs ≡ unmapped (region_made (g.M.PageMaker.told c.args.maker.now) settings.max_memory_size i) in
-            subst C (sym c.new.ensures) (cells_made (g.M.PageMaker.told c.args.maker.now) c.page.result settings.max_memory_size total c.rounded_up_unchecked-len.result c.in_ok-cells.cells.items c.page.ensures c.rounded_up_unchecked-len.ensures made i below);
+            subst C (sym c.new.ensures) (cells_made (g.M.PageMaker.told c.args.maker.now) c.page-page.result settings.max_memory_size total c.rounded_up_unchecked-len.result c.in_ok-cells.cells.items c.page-page.ensures c.rounded_up_unchecked-len.ensures made i below);
       };
       queues = c.in_ok-queues.ensures.made ∙ ap (λ (n : ℕ). empty_queue (2 * n) (2 * n) ∷ []) batch;
       counters = refl;
@@ -31,7 +31,7 @@ returns-clause-made g c =
 
 pub returns-clause-core : goal.returns-clause-core
 returns-clause-core g c =
-    let paged : IsPageSize (g.M.PageMaker.told c.args.maker.now).page = rw c.page.ensures at c.get-_bytes.ensures.valid in
+    let paged : IsPageSize (g.M.PageMaker.told c.args.maker.now).page = rw c.page-page.ensures at c.get-bytes.ensures.valid in
     made_core (g.M.PageMaker.told c.args.maker.now) c.args.config.now c.args.tunables.now _ paged c.requires.within c.requires.size c.in_ok-shards.ensures.sound (returns-clause-made g c)
 
 pub returns-clause-untouched : goal.returns-clause-untouched

@@ -1,5 +1,5 @@
 -- A pool as it is made is sound, and nothing of it is used.
-use Rattle.std.proofs.Common.{◌≡◌, ℕ, zero, suc, ◌+◌, ◌*◌, ◌/◌, ◌%◌, ◌^◌, ◌<◌, ◌≤◌, List, [], ◌∷◌, length, get_or, replicate, max, refl, sym, ap, subst, ◌∙◌, inl, inr, arith, Option, None}
+use Rattle.std.proofs.Common.{◌≡◌, ℕ, zero, suc, ◌+◌, ◌-◌, ◌*◌, ◌/◌, ◌%◌, ◌^◌, ◌<◌, ◌≤◌, List, [], ◌∷◌, length, get_or, replicate, max, refl, sym, ap, subst, ◌∙◌, inl, inr, arith, Option, None}
 use Rattle.std.proofs.lemmas.Bool.{cases_lt}
 use Rattle.std.proofs.lemmas.List.{length-replicate, get_or-replicate, get_or_past}
 use Rattle.std.proofs.lemmas.List.Elements.{All-nil}
@@ -43,7 +43,7 @@ settings_sound page config tunables paged within small =
 
 -- all slots are one shard's
 one_back : (s : Settings) (total warm j k : ℕ) → ((k : ℕ) → k < total → k / s.slots_per_shard ≡ 0) → ((k : ℕ) → k < total → k % s.slots_per_shard ≡ k) → j < 1 → k < (shard_at j (fresh_shard memory_kind 0 1 total warm ∷ [])).capacity
-  → (slot_number (shard_at j (fresh_shard memory_kind 0 1 total warm ∷ [])) k < total) × (shard_of s (slot_number (shard_at j (fresh_shard memory_kind 0 1 total warm ∷ [])) k) ≡ j) × ((local_of s (slot_number (shard_at j (fresh_shard memory_kind 0 1 total warm ∷ [])) k)).0 ≡ k)
+    → (slot_number (shard_at j (fresh_shard memory_kind 0 1 total warm ∷ [])) k < total) × (shard_of s (slot_number (shard_at j (fresh_shard memory_kind 0 1 total warm ∷ [])) k) ≡ j) × ((local_of s (slot_number (shard_at j (fresh_shard memory_kind 0 1 total warm ∷ [])) k)).0 ≡ k)
 one_back s total warm zero k first same one below =
     let e : 0 + k * 1 ≡ k = omega arith in
     (omega arith, ap (λ (n : ℕ). n / s.slots_per_shard) e ∙ first k below, ap (λ (n : ℕ). n % s.slots_per_shard) e ∙ same k below)
