@@ -3,6 +3,7 @@ pub mod AllocationRows
 pub mod Balances
 pub mod Begun
 pub mod BegunCalls
+pub mod Below
 pub mod Conserving
 pub mod CoreChanges
 pub mod Endings
@@ -13,6 +14,7 @@ pub mod Frees
 pub mod GiveBackRows
 pub mod Going
 pub mod GrantRows
+pub mod Grouping
 pub mod Held
 pub mod Kept
 pub mod KeptCounts
@@ -29,11 +31,13 @@ pub mod RegionRows
 pub mod Relying
 pub mod ReturnRows
 pub mod Rounding
+pub mod Runs
 pub mod SameSizes
 pub mod ShardFrees
 pub mod SlotCounts
 pub mod SlotIdentity
 pub mod Stages
+pub mod StepBounds
 pub mod Steps
 pub mod Supporting
 pub mod Telling
