@@ -1,14 +1,14 @@
 -- Slots that come back to the pool, one after the other.
-use Rattle.std.proofs.Common.{◌≡◌, ℕ, ◌+◌, ◌<◌, ◌≤◌, nat_lt, Bool, true, false, List, [], ◌∷◌, length, refl, sym, ap, ◌∙◌, subst, arith, Option}
+use Rattle.std.proofs.Common.{◌≡◌, ℕ, ◌+◌, ◌<◌, Bool, true, false, List, [], ◌∷◌, length, refl, sym, ap, ◌∙◌, subst, arith, Option}
 use Rattle.std.specs.Prelude.{is_some, ◌==◌}
-use Rattle.std.proofs.lemmas.Bool.{or_parts, or_from, eqb-false, ltb-false}
+use Rattle.std.proofs.lemmas.Bool.{or_parts, or_from, eqb-false}
 use Rattle.pool_pages.specs.MakerTold.{MakerTold}
 use Rattle.pool_index.specs.Shard.{use_of, is_used, used_count}
 use Rattle.pool_index.specs.declared.ids.MemoryInModule.{MemoryInModule}
 use Rattle.pool_images.specs.Slots.{Slot, IsClean}
 use Rattle.pool_slots.specs.Cells.{Cell, is_taken, IsCell, IsSlotOf}
-use Rattle.pool_slots.specs.Pools.{PoolState, IsPool, IsUsed, AreUsed, AreSlotsOf, Returns, CanReturnFirst, ReturnsFirst, cell_at, cell_left, returned, returned_all}
-use Rattle.pool_slots.specs.Queues.{QueuedMemory, holds, AreDistinct, IsSettled, AreSettled}
+use Rattle.pool_slots.specs.Pools.{PoolState, IsPool, IsUsed, AreUsed, AreSlotsOf, Returns, cell_at, cell_left, returned, returned_all}
+use Rattle.pool_slots.specs.Queues.{QueuedMemory, holds, AreDistinct, IsSettled}
 use Rattle.pool_slots.specs.Turns.{PutsSlot}
 use Rattle.pool_slots.proofs.Changes.{IsChanged, changed_put, pool_changed, used_more, not_used}
 use Rattle.pool_slots.proofs.QueueLists.{each_both, apart_other_way}
@@ -94,31 +94,3 @@ used_rest m ms old mid distinct first used =
       used = ap (λ (o : Option (Option MemoryInModule)). is_some o) (first.uses n.index other) ∙ u.used;
     })
     (apart_other_way (m ∷ []) ms (distinct.0, tt)) used
-
-pub can_first : (items : List QueuedMemory) (p : PoolState) → AreUsed p items → AreSettled items → CanReturnFirst p items
-can_first [] p used settled = tt
-can_first (m ∷ ms) p used settled = (used.0, settled.each.0)
-
--- the first came back: what is left can come back, and makes the return of all
-pub record IsLess (items rest : List QueuedMemory) (old new : PoolState) : Type 0 where
-  pub settled : AreSettled rest
-  pub used : AreUsed new rest
-  pub fewer : length rest < length items
-  pub more : (end : PoolState) → Returns rest new end → Returns items old end
-
-pub first_returned : (items rest : List QueuedMemory) (old new : PoolState) → nat_lt 0 (length items) ≡ true → ReturnsFirst items rest old new → AreSettled items → AreUsed old items → IsLess items rest old new
-first_returned [] rest old new some back settled used = absurd cc
-first_returned (m ∷ ms) rest old new some back settled used =
-    let L : List QueuedMemory → Type 0 = λ l. IsLess (m ∷ ms) l old new in
-    subst L (sym back.0) (record {
-      settled = record { distinct = settled.distinct.1; each = settled.each.1 };
-      used = used_rest m ms old new settled.distinct back.1 used.1;
-      fewer = omega arith;
-      more = λ end rest. returns_more m ms old new end settled.distinct back.1 rest;
-    })
-
-pub none_returned : (items rest : List QueuedMemory) (old new : PoolState) → nat_lt 0 (length items) ≡ false → ReturnsFirst items rest old new → (items ≡ []) × (rest ≡ []) × (new ≡ old)
-none_returned [] rest old new none back = (refl, back.0, back.1)
-none_returned (m ∷ ms) rest old new none back =
-    let empty : length (m ∷ ms) ≤ 0 = ltb-false 0 (length (m ∷ ms)) none in
-    absurd (omega (arith, empty))

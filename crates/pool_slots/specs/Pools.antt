@@ -3,13 +3,13 @@ use Rattle.std.specs.Prelude.{◌≡◌, ℕ, ◌+◌, ◌^◌, ◌<◌, ◌≤�
 use Rattle.std.specs.List.{list_any, range_with_len, AllByRecursion}
 use Rattle.pool_pages.specs.Count.{Count, IsPageSize, count as count_of, rounded_up}
 use Rattle.pool_pages.specs.Told.{Rose}
-use Rattle.pool_pages.specs.MakerTold.{MakerTold, Planned, fails_making, calls_of}
+use Rattle.pool_pages.specs.MakerTold.{MakerTold, Planned, fails_making, plan_for}
 use Rattle.pool_pages.specs.declared.pages.RegionName.TheVariants.{Memory as memory_region}
 use Rattle.pool_index.specs.Shard.{ShardState, IsShard, fresh_shard, use_of, is_used, used_count, after_free}
 use Rattle.pool_hall.specs.declared.unit_name.SlotKind.TheVariants.{Memory as memory_kind}
 use Rattle.pool_images.specs.Images.{Image}
 use Rattle.pool_images.specs.Slots.{Slot, IsBegun}
-use Rattle.pool_slots.specs.Queues.{QueuedMemory, IsSettled, holds}
+use Rattle.pool_slots.specs.Queues.{QueuedMemory, holds}
 use Rattle.pool_slots.specs.Memories.{Lease, IsMemory}
 use Rattle.pool_slots.specs.Cells.{Cell, unmapped, unknown, previously_used, taken, is_taken, faults_in, region_made, IsCell, IsSlotOf}
 use Rattle.pool_slots.specs.declared.request.AllocError.{AllocError}
@@ -98,9 +98,9 @@ pub record Begins (maker : MakerTold) (minimum : ℕ) (image : Option Image) (ol
   pub changes : ChangesSlot l.index old new
   pub used : used_count new.shard ≡ used_count old.shard + 1
 
--- the maker's plan, where it tells one, lists a call on the region of memory slot i
+-- the plan that the region of memory slot i is made with, where it is told, lists a call on it
 abbrev pub MayFault : MakerTold → ℕ → Type 0
-MayFault maker i = IfSome maker.plan (λ plan. 0 < length (calls_of (memory_region i) plan))
+MayFault maker i = IfSome (plan_for (memory_region i) maker) (λ plan. 0 < length plan)
 
 -- a call on the region of what was in the cell failed: nothing is known of the slot now
 abbrev pub IsLost : Cell → Cell → Type 0
@@ -171,13 +171,3 @@ pub record Returns (items : List QueuedMemory) (old new : PoolState) : Type 0 wh
   pub same : (new.page ≡ old.page) × (new.static_size ≡ old.static_size) × (new.keep_resident ≡ old.keep_resident)
   pub used : (maker : MakerTold) → IsPool maker old → AreSlotsOf maker old.static_size items → used_count new.shard + length items ≡ used_count old.shard
   pub pool : (maker : MakerTold) → IsPool maker old → AreSlotsOf maker old.static_size items → IsPool maker new
-
--- the first of the slots, if there is one, can come back
-abbrev pub CanReturnFirst : PoolState → List QueuedMemory → Type 0
-CanReturnFirst p [] = Unit {0}
-CanReturnFirst p (m ∷ ms) = IsUsed p m × IsSettled m
-
--- it came back, and the others are left
-abbrev pub ReturnsFirst : List QueuedMemory → List QueuedMemory → PoolState → PoolState → Type 0
-ReturnsFirst [] rest old new = (rest ≡ []) × (new ≡ old)
-ReturnsFirst (m ∷ ms) rest old new = (rest ≡ ms) × Returns (m ∷ []) old new

@@ -1,12 +1,12 @@
-ghost use Rattle.std.specs.Prelude.{◌≡◌, ◌+◌, ◌^◌, ◌<◌, ◌≤◌, ◌==◌, List, [], ◌∷◌, length, nat_lt, slice_set, false, true, IfOk, IfErr, IfSome, MatchResult, MatchOption, option_map};
+ghost use Rattle.std.specs.Prelude.{◌≡◌, ◌+◌, ◌^◌, ◌<◌, ◌≤◌, ◌==◌, [], ◌∷◌, length, slice_set, false, true, IfOk, IfErr, IfSome, MatchResult, MatchOption, option_map};
 ghost use Rattle.std.specs.Arc.{arc_value};
 ghost use Rattle.pool_pages.specs.MakerTold.{MakerTold};
 ghost use Rattle.pool_index.specs.Shard.{used_count, resident_bytes, is_used, after_free};
 ghost use Rattle.pool_images.specs.Slots.{FitsInto, IsClean};
 ghost use Rattle.pool_slots.specs.Cells.{calls_of_all};
 ghost use Rattle.pool_slots.specs.CellOf.{cell_of};
-ghost use Rattle.pool_slots.specs.Pools.{PoolState, IsPool, IsMade, Begins, IsRefused, IsUsed, AreUsed, Returns, cell_left, RaisesFaults, makes_listed, IsListed};
-ghost use Rattle.pool_slots.specs.Queues.{QueuedMemory, AreSettled};
+ghost use Rattle.pool_slots.specs.Pools.{PoolState, IsPool, IsMade, Begins, IsRefused, IsUsed, AreUsed, Returns, RaisesFaults, makes_listed, IsListed};
+ghost use Rattle.pool_slots.specs.Queues.{QueuedMemory, AreSettled, IsSettled};
 ghost use Rattle.pool_slots.specs.Turns.{TakesSlot, PutsSlot, IsFullNow};
 
 use crate::cells::{ImageSlot, MemoryCell, add_calls, no_calls};
@@ -221,7 +221,12 @@ impl<P: Pages> MemoryPool<P> {
         requires bytes { bytes ≤ 2 ^ 32 }
         ensures { Returns (record { index = index.0; slot = slot; known = known; bytes = bytes } ∷ []) self.old self.new }
     {
-        self.put_slot(SlotId(index.0), left(slot, known), bytes);
+        self.put_back(MemoryItem {
+            index,
+            slot,
+            known,
+            bytes,
+        });
     }
 
     /// The same for each of the slots in order, which are taken out of the list.
@@ -233,34 +238,13 @@ impl<P: Pages> MemoryPool<P> {
     {
         self.memories(items);
     }
-}
 
-// The first slot comes back. The bodies of these two traits call nothing that is generic in `P`: what an `impl` of a trait
-// calls can't rest on the bound that `P` is `Send`.
-trait PutBack<P: Pages> {
-    ghost accepts_first: { List QueuedMemory → Self → Type 0 };
-
-    ghost returns_first: { List QueuedMemory → List QueuedMemory → Self → Self → Type 0 };
-
-    // Answers whether there was one.
-    fn put_first(&mut self, items: &mut MemoryItems<P>) -> bool
-        requires { accepts_first items.old.items self.old }
-        ensures value { result ≡ nat_lt 0 (length items.old.items) }
-        ensures room { items.new.room ≡ items.old.room }
-        ensures returned { returns_first items.old.items items.new.items self.old self.new };
-}
-
-impl<P: Pages> PutBack<P> for MemoryPool<P> {
-    ghost use Rattle.pool_slots.specs.Pools.{CanReturnFirst, ReturnsFirst};
-
-    ghost accepts_first = { λ items p. CanReturnFirst p items };
-
-    ghost returns_first = { λ items rest old new. ReturnsFirst items rest old new };
-
-    fn put_first(&mut self, items: &mut MemoryItems<P>) -> bool {
-        let Some(item) = items.next() else {
-            return false;
-        };
+    // One slot comes back.
+    fn put_back(&mut self, item: MemoryItem<P>)
+        requires used { IsUsed self.old item }
+        requires settled { IsSettled item }
+        ensures { Returns (item ∷ []) self.old self.new }
+    {
         let slot = SlotId(item.index.0);
         let cell = &mut self.cells[slot.index()];
         let into = if item.known {
@@ -270,7 +254,6 @@ impl<P: Pages> PutBack<P> for MemoryPool<P> {
         };
         let _taken = mem::replace(cell, MemoryCell { slot: into });
         self.shard.free(slot, item.bytes);
-        true
     }
 }
 
@@ -282,16 +265,8 @@ impl<P: Pages> SlotReturn<P> for MemoryPool<P> {
     ghost returns = { Returns };
 
     fn memories(&mut self, items: &mut MemoryItems<P>) {
-        while self.put_first(items) {}
-    }
-}
-
-fn left<P: Pages>(slot: MemoryImageSlot<P>, known: bool) -> ImageSlot<P>
-    ensures { cell_of result ≡ cell_left known slot }
-{
-    if known {
-        ImageSlot::PreviouslyUsed(slot)
-    } else {
-        ImageSlot::Unknown(slot)
+        while let Some(item) = items.next() {
+            self.put_back(item);
+        }
     }
 }

@@ -6,7 +6,7 @@ use Rattle.pool_slots.proofs.QueueFirst.{part_first, first_done, queue_done, que
 use Rattle.pool_slots.proofs.decommit_queue.DecommitQueue.decommit_first.Goals as goal
 
 pub decommit-requires-clause-part : goal.decommit-requires-clause-part
-decommit-requires-clause-part g c κs within =
+decommit-requires-clause-part g c =
     let i = c.self.inside in
     let q : QueueState = record { ranges = i.ranges.items; memories = i.memories.items; range_room = i.range_room; slot_room = i.memories.room; takes = i.takes; appended = i.appended } in
     let inside : c.args.at < length q.memories = rw (← c.self.view_is) at c.requires.inside in

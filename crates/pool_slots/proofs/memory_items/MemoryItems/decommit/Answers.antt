@@ -7,8 +7,8 @@ use Rattle.pool_images.specs.Slots.{IsPart, size_of}
 use Rattle.pool_slots.specs.Queues.{QueuedMemory, MemoryList, decommitted_at, IsLeftItem}
 use Rattle.pool_slots.proofs.memory_items.MemoryItems.decommit.Goals as goal
 
-pub decommit-requires-after_bounds : goal.decommit-requires-after_bounds
-decommit-requires-after_bounds g c κs within =
+pub decommit-requires : goal.decommit-requires
+decommit-requires g c =
     let m : QueuedMemory = c.index_mut-item.result.now in
     let P : QueuedMemory → Type 0 = λ x. IsPart x.slot.region.page (size_of x.slot) c.args.range in
     let part : HoldsAt P c.self.inside.list.items c.args.at = rw (← c.self.view_is) at c.requires.part in

@@ -5,8 +5,8 @@ use Rattle.pool_slots.specs.Queues.{QueuedMemory, MemoryList, forgotten}
 use Rattle.pool_slots.proofs.QueueFaults.{turned, turned_length}
 use Rattle.pool_slots.proofs.memory_items.MemoryItems.forget.Goals as goal
 
-pub forget_first-requires-after_bounds : goal.forget_first-requires-after_bounds
-forget_first-requires-after_bounds g c κs within =
+pub forget_first-requires : goal.forget_first-requires
+forget_first-requires g c =
     let xs = c.args.self.now.items in
     let i = c.loop.counter in
     let inside : i < length xs = omega (arith, c.loop.invariant.all, c.loop-test.true) in
