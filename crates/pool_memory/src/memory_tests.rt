@@ -13,8 +13,8 @@ use crate::static_memory::StaticMemory;
 use pool_images::MemoryImageSlot;
 use pool_limits::{GrowError, GrowFault, LimiterError, StoreLimits, StoreLimitsBuilder, Trap};
 use pool_pages::{
-    HostAlignedByteCount, IndexType, Limits, MemoryKind, MemoryPages, MemoryRegion, MemoryTunables,
-    MemoryType, PageMaker, PageSize, Pages, RegionName, Tunables, Unsupported,
+    DecommitBehavior, HostAlignedByteCount, IndexType, Limits, MadeRegion, MemoryKind, MemoryPages,
+    MemoryTunables, MemoryType, PageMaker, PageSize, Pages, RegionName, Tunables, Unsupported,
 };
 use std::alloc::Global;
 use std::test::Fail;
@@ -44,7 +44,7 @@ fn begun(
     alloc: Global,
     ty: &MemoryType,
     minimum: usize,
-) -> Result<MemoryImageSlot<MemoryRegion>, Fail>
+) -> Result<MemoryImageSlot<MadeRegion>, Fail>
     requires log2 { ty.now.page_size_log2 ≡ 16 }
     requires fits { minimum ≤ 131072 }
     ensures holds { IfOk result (CanHold minimum) }
@@ -53,7 +53,8 @@ fn begun(
     let page = PageSize::new(4096)?;
     let mut maker = MemoryPages::new(page);
     let len = HostAlignedByteCount::new(page, SLOT)?;
-    let region = maker.make(alloc, RegionName::Memory(0), page.zero(), len)?;
+    let restoring = DecommitBehavior::RestoreOriginalMapping;
+    let region = maker.make(alloc, RegionName::Memory(0), restoring, page.zero(), len)?;
     let mut slot = MemoryImageSlot::create(region, page.zero(), page.zero(), SLOT, None);
     slot.instantiate(minimum, None, ty, &tunables())?;
     let _accessible = slot.accessible();
@@ -161,7 +162,7 @@ fn a_static_memory_has_its_capacity(rt: HostRuntime) -> Result<(), Fail> {
         return Err(Fail::new("the memory was refused"));
     };
     assert_eq!(rt;
-        sizes::<(), StaticMemory<MemoryRegion>>(&memory),
+        sizes::<(), StaticMemory<MadeRegion>>(&memory),
         (3, 8192, false, false)
     );
     assert_eq!(rt; grow_to_capacity(&mut memory, &mut ()), Ok(8192));

@@ -1,11 +1,10 @@
 -- A slot stays that of its region.
 use Rattle.std.proofs.Common.{◌≡◌, ℕ, ◌+◌, ◌-◌, ◌^◌, ◌<◌, ◌≤◌, Bool, true, false, List, length, refl, sym, ap, ◌∙◌, subst, arith, Option, Some, None, replicate, slice_range}
-use Rattle.std.specs.Prelude.{IfSome, is_some, option_map, if◌then◌else◌}
+use Rattle.std.specs.Prelude.{IfSome, is_some, if◌then◌else◌}
 use Rattle.pool_pages.specs.Count.{count, rounded_up}
 use Rattle.pool_pages.specs.Contents.{Contents, CanReach}
 use Rattle.pool_pages.specs.Told.{Told}
-use Rattle.pool_pages.specs.MakerTold.{MakerTold, Planned, calls_of, fresh}
-use Rattle.pool_pages.specs.declared.pages.RegionName.TheVariants.{Memory}
+use Rattle.pool_pages.specs.MakerTold.{MakerTold, fresh}
 use Rattle.pool_images.specs.Slots.{Slot, IsFresh}
 use Rattle.pool_images.proofs.Marks.{range-zeros}
 use Rattle.pool_slots.specs.Cells.{Cell, unmapped, unknown, previously_used, taken, is_taken, region_made, IsRegionOf, IsSlotOf, IsCell}
@@ -52,15 +51,11 @@ slot_from maker page static_size i cell s paged holds there from =
       colour = from.whole.colour;
     }
 
-unlisted : (f : List Planned → List ℕ) (o : Option (List Planned)) → IfSome (option_map f o) (λ plan. 0 < length plan) → IfSome o (λ plan. 0 < length (f plan))
-unlisted f None h = h
-unlisted f (Some x) h = h
-
--- what the plan of the slot's region lists, the maker's plan lists for that region
+-- what the plan of the slot's region lists, the maker told
 pub may_fault : (maker : MakerTold) (static_size i : ℕ) (t : Told) → IsRegionOf maker static_size i t → IfSome t.plan (λ plan. 0 < length plan) → MayFault maker i
 may_fault maker static_size i t r listed =
     let L : Option (List ℕ) → Type 0 = λ o. IfSome o (λ plan. 0 < length plan) in
-    unlisted (calls_of (Memory i)) maker.plan (subst L r.plan listed)
+    subst L r.plan listed
 
 pub may_fault_of : (maker : MakerTold) (static_size i : ℕ) (cell : Cell) → OfRegion (IsRegionOf maker static_size i) cell → OfRegion (λ t. IfSome t.plan (λ plan. 0 < length plan)) cell → MayFault maker i
 may_fault_of maker static_size i (unmapped region) r l = may_fault maker static_size i region r l

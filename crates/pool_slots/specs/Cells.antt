@@ -1,10 +1,11 @@
 -- What the cell of a memory slot holds.
-use Rattle.std.specs.Prelude.{◌≡◌, ℕ, ◌-◌, ◌^◌, ◌+◌, List, min, sum_by, Bool, true, false, None, is_some, option_map}
+use Rattle.std.specs.Prelude.{◌≡◌, ℕ, ◌-◌, ◌^◌, ◌+◌, List, min, sum_by, Bool, true, false, None, is_some}
 use Rattle.pool_pages.specs.Count.{count, rounded_up}
 use Rattle.pool_pages.specs.Told.{Told}
-use Rattle.pool_pages.specs.MakerTold.{MakerTold, made_region, calls_of, no_calls}
+use Rattle.pool_pages.specs.MakerTold.{MakerTold, made_region, plan_for, no_calls}
 use Rattle.pool_pages.specs.declared.pages.PageCalls.{PageCalls}
 use Rattle.pool_pages.specs.declared.pages.RegionName.TheVariants.{Memory}
+use Rattle.pool_pages.specs.declared.pages.DecommitBehavior.TheVariants.{RestoreOriginalMapping}
 use Rattle.pool_images.specs.Slots.{Slot, IsClean}
 
 -- the region as it was made, a slot of which nothing is known, a slot that was used and is clean, or nothing
@@ -69,7 +70,7 @@ pub record IsRegionOf (maker : MakerTold) (static_size i : ℕ) (t : Told) : Typ
   pub name : t.name ≡ Memory i
   pub page : t.page ≡ maker.page
   pub len : t.len ≡ rounded_up maker.page static_size
-  pub plan : t.plan ≡ option_map (calls_of (Memory i)) maker.plan
+  pub plan : t.plan ≡ plan_for (Memory i) maker
   pub tells : is_some t.contents ≡ maker.tells
 
 -- the image slot of memory slot i: it has the whole region
@@ -81,7 +82,7 @@ pub record IsSlotOf (maker : MakerTold) (static_size i : ℕ) (s : Slot) : Type 
 
 -- the region of memory slot i as it is made
 abbrev pub region_made : MakerTold → ℕ → ℕ → Told
-region_made maker static_size i = made_region (Memory i) (count maker.page 0) (count maker.page (rounded_up maker.page static_size)) maker
+region_made maker static_size i = made_region (Memory i) RestoreOriginalMapping (count maker.page 0) (count maker.page (rounded_up maker.page static_size)) maker
 
 -- what the cell of memory slot i may hold: a slot that was used before is clean
 abbrev pub IsCell : MakerTold → ℕ → ℕ → Cell → Type 0

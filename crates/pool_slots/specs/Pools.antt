@@ -3,7 +3,7 @@ use Rattle.std.specs.Prelude.{◌≡◌, ℕ, ◌+◌, ◌^◌, ◌<◌, ◌≤�
 use Rattle.std.specs.List.{list_any, range_with_len, AllByRecursion}
 use Rattle.pool_pages.specs.Count.{Count, IsPageSize, count as count_of, rounded_up}
 use Rattle.pool_pages.specs.Told.{Rose}
-use Rattle.pool_pages.specs.MakerTold.{MakerTold, Planned, fails_making, calls_of}
+use Rattle.pool_pages.specs.MakerTold.{MakerTold, Planned, fails_making, plan_for}
 use Rattle.pool_pages.specs.declared.pages.RegionName.TheVariants.{Memory as memory_region}
 use Rattle.pool_index.specs.Shard.{ShardState, IsShard, fresh_shard, use_of, is_used, used_count, after_free}
 use Rattle.pool_hall.specs.declared.unit_name.SlotKind.TheVariants.{Memory as memory_kind}
@@ -98,9 +98,9 @@ pub record Begins (maker : MakerTold) (minimum : ℕ) (image : Option Image) (ol
   pub changes : ChangesSlot l.index old new
   pub used : used_count new.shard ≡ used_count old.shard + 1
 
--- the maker's plan, where it tells one, lists a call on the region of memory slot i
+-- the plan that the region of memory slot i is made with, where it is told, lists a call on it
 abbrev pub MayFault : MakerTold → ℕ → Type 0
-MayFault maker i = IfSome maker.plan (λ plan. 0 < length (calls_of (memory_region i) plan))
+MayFault maker i = IfSome (plan_for (memory_region i) maker) (λ plan. 0 < length plan)
 
 -- a call on the region of what was in the cell failed: nothing is known of the slot now
 abbrev pub IsLost : Cell → Cell → Type 0

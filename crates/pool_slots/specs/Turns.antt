@@ -3,6 +3,7 @@ use Rattle.std.specs.Prelude.{◌≡◌, ℕ, ◌<◌, List, length, slice_index
 use Rattle.pool_pages.specs.Count.{Count, count as count_of}
 use Rattle.pool_pages.specs.MakerTold.{MakerTold, made_region}
 use Rattle.pool_pages.specs.declared.pages.RegionName.TheVariants.{Memory}
+use Rattle.pool_pages.specs.declared.pages.DecommitBehavior.TheVariants.{RestoreOriginalMapping}
 use Rattle.pool_index.specs.Shard.{IsShard, IsSameShard, use_of, is_used, used_count, after_free}
 use Rattle.pool_index.specs.declared.ids.SlotId.{SlotId}
 use Rattle.pool_slots.specs.Cells.{Cell, unmapped, taken}
@@ -46,4 +47,4 @@ pub record IsFullNow (old new : PoolState) : Type 0 where
 -- the cells of so many slots as they are made
 pub record AreMade (maker : MakerTold) (total : ℕ) (len : Count) (cells : List Cell) : Type 0 where
   pub count : length cells ≡ total
-  pub each : (i : ℕ) → i < total → slice_index_or cells i taken ≡ unmapped (made_region (Memory i) (count_of len.page 0) len maker)
+  pub each : (i : ℕ) → i < total → slice_index_or cells i taken ≡ unmapped (made_region (Memory i) RestoreOriginalMapping (count_of len.page 0) len maker)

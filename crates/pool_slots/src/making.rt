@@ -7,7 +7,7 @@ ghost use Rattle.pool_slots.specs.Turns.{AreMade};
 
 use crate::cells::MemoryCell;
 use crate::request::PoolNewError;
-use pool_pages::{HostAlignedByteCount, MakeFault, PageMaker, Pages, RegionName};
+use pool_pages::{DecommitBehavior, HostAlignedByteCount, MakeFault, PageMaker, Pages, RegionName};
 use std::alloc::Global;
 
 /// The cells of so many memory slots, each with a region of this length of which nothing can be reached.
@@ -43,12 +43,20 @@ fn make_cell<P: Pages, M: PageMaker<Region = P>>(
     slot: u32,
     len: HostAlignedByteCount,
 ) -> Result<MemoryCell<P>, PoolNewError>
-    ensures cell { IfOk result (λ cell. cell ≡ unmapped (made_region (RegionName.Memory slot) (count len.page 0) len (M.told maker.old))) }
+    ensures cell { IfOk result (λ cell. cell ≡ unmapped (made_region (RegionName.Memory slot) DecommitBehavior.RestoreOriginalMapping (count len.page 0) len (M.told maker.old))) }
     ensures maker { M.told maker.new ≡ record (M.told maker.old) { faults = (M.told maker.new).faults } }
     ensures faults { MatchResult result (λ _. (M.told maker.new).faults ≡ (M.told maker.old).faults) (RaisesFaults (M.told maker.old).faults (M.told maker.new).faults) }
     ensures planned { MatchResult result (λ _. IfSome (M.told maker.old).plan (λ plan. fails_making (RegionName.Memory slot) plan ≡ false)) (λ e. IfSome (M.told maker.old).plan (λ plan. IsListed (fails_making (RegionName.Memory slot) plan) e)) }
 {
-    match maker.make(alloc, RegionName::Memory(slot), len.page().zero(), len) {
+    let restoring = DecommitBehavior::RestoreOriginalMapping;
+    let made = maker.make(
+        alloc,
+        RegionName::Memory(slot),
+        restoring,
+        len.page().zero(),
+        len,
+    );
+    match made {
         Ok(region) => Ok(MemoryCell::new(region)),
         Err(MakeFault::Memory) => Err(PoolNewError::Memory),
         Err(MakeFault::PageFault) => Err(PoolNewError::PageFault),

@@ -3,6 +3,7 @@ use Rattle.std.specs.Prelude.{IfSome}
 use Rattle.pool_pages.specs.Count.{count}
 use Rattle.pool_pages.specs.MakerTold.{MakerTold, Planned, fails_making, made_region}
 use Rattle.pool_pages.specs.declared.pages.RegionName.TheVariants.{Memory}
+use Rattle.pool_pages.specs.declared.pages.DecommitBehavior.TheVariants.{RestoreOriginalMapping}
 use Rattle.pool_slots.specs.Cells.{Cell, unmapped}
 use Rattle.pool_slots.specs.Pools.{IsListed, makes_listed}
 use Rattle.pool_slots.specs.Turns.{AreMade}
@@ -21,7 +22,7 @@ returns-in_default-push-clause-planned g c = any_told _ (g.M.PageMaker.told c.ar
 
 pub loop-slot-preserved : goal.loop-slot-preserved
 loop-slot-preserved g c =
-    let C : MakerTold → Type 0 = λ m. c.in-Ok-make_cell.cell ≡ unmapped (made_region (Memory c.loop-slot.slot) (count c.args.len.page 0) c.args.len m) in
+    let C : MakerTold → Type 0 = λ m. c.in-Ok-make_cell.cell ≡ unmapped (made_region (Memory c.loop-slot.slot) RestoreOriginalMapping (count c.args.len.page 0) c.args.len m) in
     let F : MakerTold → Type 0 = λ m. IfSome m.plan (λ plan. fails_making (Memory c.loop-slot.slot) plan ≡ false) in
     let L : List Cell → Type 0 = λ l. AreMade (g.M.PageMaker.told c.args.maker.now) (c.loop-slot.slot + 1) c.args.len l in
     record {
