@@ -11,13 +11,16 @@ pub mod Grants
 pub mod NewMemories
 pub mod Parties
 pub mod Placed
+pub mod RunMade
 pub mod Running
 pub mod Searching
 pub mod Shares
 pub mod Sounds
 pub mod Started
 pub mod StepsTied
+pub mod Tests
 pub mod Tied
 pub mod Turned
 pub mod Turning
 pub mod TurnsMade
+pub mod Valid

@@ -4,6 +4,8 @@ pub mod Folds
 pub mod Made
 pub mod Numbers
 pub mod Private
+pub mod RunsMade
+pub mod Schedules
 pub mod Searches
 pub mod Ties
 pub mod Turns

@@ -8,16 +8,20 @@ mod input;
 mod leases;
 mod output;
 mod reply;
+mod run;
 mod running_party;
 mod turn;
 mod validity;
 
 pub use built::is_built;
 pub use command::Command;
-pub use input::{Input, Party};
+pub use input::{Input, Party, ScheduleEntry};
 pub use leases::Leases;
 pub use output::{RunFault, RunOutput};
 pub use reply::{Refusal, Reply, ReplyList, SlotList};
+pub use run::Run;
 pub use running_party::RunningParty;
 pub use turn::turn_of;
-pub use validity::{MOST_BYTES, MOST_COMMANDS, MOST_MODULES, is_valid};
+pub use validity::{
+    HOMES, MOST_BYTES, MOST_COMMANDS, MOST_MODULES, MOST_PARTIES, MOST_STEPS, is_valid,
+};
