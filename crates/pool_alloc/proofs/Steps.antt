@@ -35,7 +35,7 @@ use Rattle.pool_alloc.proofs.Telling.{told_both, told_weaker}
 
 -- what stands for a lease where there is none
 no_lease : Lease
-no_lease = record { index = 0; memory = record { ty = record { idx_type = I32; limits = record { min = 0; max = None }; shared = false; page_size_log2 = 0 }; may_move = false; linear = record { size = 0; capacity = 0; storage = stored 0 None } } }
+no_lease = record { index = 0; memory = record { ty = record { idx_type = I32; limits = record { min = 0; max = None }; shared = false; page_size_log2 = 0 }; may_move = false; linear = record { size = 0; capacity = 0; moves = false; storage = stored 0 None } } }
 
 some_of : {X : Type 0} (o : Option X) → is_some o ≡ true → IsSome o
 some_of None e = absurd cc
