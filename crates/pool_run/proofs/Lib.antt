@@ -8,6 +8,7 @@ pub mod Folding
 pub mod FreeSlots
 pub mod FullShards
 pub mod Grants
+pub mod ImagesMade
 pub mod NewMemories
 pub mod Parties
 pub mod Placed

@@ -1,5 +1,5 @@
 -- The images of an input's modules.
-use Rattle.std.specs.Prelude.{ℕ, ◌+◌, List, [], ◌∷◌, slice_index_or, if◌then◌else◌, Option, Some, None}
+use Rattle.std.specs.Prelude.{ℕ, ◌+◌, List, [], ◌∷◌, if◌then◌else◌, Option, Some, None}
 use Rattle.std.specs.List.{list_all}
 use Rattle.pool_pages.specs.declared.module_types.ModuleInfo.{ModuleInfo}
 use Rattle.pool_images.specs.Images.{Image, images_from, ends_in_minimum}
@@ -12,8 +12,3 @@ images_of_module page n m = if list_all (ends_in_minimum page) m.memories then S
 abbrev pub images_made : ℕ → ℕ → List ModuleInfo → List (Option (List (Option Image)))
 images_made page n [] = []
 images_made page n (m ∷ ms) = images_of_module page n m ∷ images_made page (n + 1) ms
-
--- the image of a module's first memory
-abbrev pub first_image : Option (List (Option Image)) → Option Image
-first_image None = None
-first_image (Some images) = slice_index_or images 0 None

@@ -4,12 +4,14 @@
 mod at_once;
 mod built;
 mod command;
+mod images;
 mod input;
 mod leases;
 mod output;
 mod reply;
 mod run;
 mod running_party;
+mod schedule;
 mod turn;
 mod validity;
 

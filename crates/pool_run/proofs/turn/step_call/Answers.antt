@@ -13,7 +13,7 @@ use Rattle.pool_run.proofs.turn.step_call.Goals as goal
 pub step-outcome-requires-send-R : goal.step-outcome-requires-send-R
 step-outcome-requires-send-R g c κs within =
     let can : CanStep g.maker c.args.core.now c.args.party.now.frame = can_step g.maker c.args.core.now c.args.party.now c.requires.1.0 in
-    (search rules, (search rules, (search rules, (can, (c.requires.1.1.0, ?)))))
+    search rules
 
 pub answer-requires-clause-place : goal.answer-requires-clause-place
 answer-requires-clause-place g c =
