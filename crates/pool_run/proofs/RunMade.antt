@@ -1,7 +1,7 @@
 -- A run keeps what it promises.
-use Rattle.std.proofs.Common.{◌≡◌, ℕ, ◌+◌, ◌^◌, ◌<◌, ◌≤◌, List, length, Option, Some, None, refl, sym, ap, ◌∙◌, subst, arith}
+use Rattle.std.proofs.Common.{◌≡◌, ℕ, ◌+◌, ◌^◌, ◌<◌, ◌≤◌, List, [], ◌∷◌, ◌++◌, length, map, take, get_or, replicate, Option, Some, None, refl, sym, ap, ◌∙◌, subst, arith}
 use Rattle.std.specs.Prelude.{IfSome, slice_get, slice_set, slice_index_or, sum_by}
-use Rattle.std.proofs.lemmas.List.{length-set, get_or-set_same}
+use Rattle.std.proofs.lemmas.List.{length-set, get_or-set_same, get_or-map, length-map, map-append, take_all, take_more, replicate_more}
 use Rattle.std.proofs.lemmas.List.Sums.{sum_by-set, get_or-le-sum_by}
 use Rattle.std.proofs.lemmas.Option.{slice_get_within, get_or_from_slice_get}
 use Rattle.pool_pages.specs.MakerTold.{MakerTold}
@@ -9,7 +9,11 @@ use Rattle.pool_alloc.specs.declared.frame.ModuleCall.{ModuleCall}
 use Rattle.pool_alloc.specs.Stepping.{CanCount}
 use Rattle.pool_alloc.specs.declared.pool_core.PoolCore.{PoolCore}
 use Rattle.pool_run.specs.Folds.{RunState, TurnsOf, TurnsIf, IsUnderWay, with_turn, commands_of, replies_to}
-use Rattle.pool_run.specs.RunsMade.{IsKept, places_in}
+use Rattle.pool_alloc.specs.Sound.{IsCore}
+use Rattle.pool_alloc.specs.Whole.{IsUntouched}
+use Rattle.pool_run.specs.Folds.{Folds, IsMadeParty}
+use Rattle.pool_run.specs.RunsMade.{IsKept, places_in, commands_in, party_made_for, run_made}
+use Rattle.pool_run.specs.declared.input.Party.{Party}
 use Rattle.pool_run.specs.Ties.{CanTurn, IsSoundTurn}
 use Rattle.pool_run.specs.Turns.{Turned, Turns}
 use Rattle.pool_run.specs.Worlds.{IsFit, AreFit, AreCallsFor, IsCallFor}
@@ -19,7 +23,8 @@ use Rattle.pool_run.specs.declared.running_party.RunningParty.{RunningParty}
 use Rattle.pool_alloc.specs.declared.pool_core.Settings.{Settings}
 use Rattle.pool_run.proofs.Counters.{can_count}
 use Rattle.pool_run.proofs.Ended.{no_more_replies}
-use Rattle.pool_run.proofs.Folding.{run_turned}
+use Rattle.pool_run.proofs.Folding.{run_turned, folds_more}
+use Rattle.pool_run.proofs.Started.{AreMade, started_running}
 use Rattle.pool_run.proofs.Running.{can_turn}
 use Rattle.pool_run.specs.Private.{no_grants}
 
@@ -30,6 +35,19 @@ one_fits w s number (Some m) call = record { images = call.images; places = call
 -- a call for a module is fit
 pub are_fit : (w : World) (s : Settings) (modules : List ModuleCall) → AreCallsFor w s modules → AreFit s modules
 are_fit w s modules calls number = one_fits w s number (slice_get modules number) (calls number)
+
+-- what is made of one element more
+pub map_more : {X Y : Type 0} (f : X → Y) (xs : List X) (i : ℕ) (x : X) → i < length xs → x ≡ get_or xs i x → map f (take i xs) ++ f x ∷ [] ≡ map f (take (i + 1) xs)
+map_more {Y = Y} f xs i x below is =
+    let L : List Y = map f (take i xs) in
+    ap (λ y. L ++ f y ∷ []) is ∙ sym (map-append f (take i xs) (get_or xs i x ∷ [])) ∙ ap (map f) (sym (take_more xs i x below))
+
+pub map_all : {X Y : Type 0} (f : X → Y) (xs : List X) (i : ℕ) → length xs ≤ i → map f (take i xs) ≡ map f xs
+map_all f xs i all = ap (map f) (take_all i xs all)
+
+-- a party that doesn't matter
+nobody : Party
+nobody = record { home = 0; commands = [] }
 
 module _ {P : Type 0} where
   -- a turn that was made is one of the run
@@ -89,3 +107,29 @@ module _ {P : Type 0} where
           few = omega (arith, kept.few, sum_by-set places s.parties i t.party p below, (way.each i p below).room, (on.each i p inside).room, live);
         };
       }
+
+  -- one turn more of the same party
+  pub repeated : (maker : MakerTold) (modules : List ModuleCall) (inputs : List (List Command)) (i n : ℕ) (s mid new : RunState P) → Folds maker modules inputs (replicate n i) s mid → TurnsOf maker modules inputs i mid new → Folds maker modules inputs (replicate (n + 1) i) s new
+  repeated maker modules inputs i n s mid new folds turns =
+      let F : List ℕ → Type 0 = λ schedule. Folds maker modules inputs schedule s new in
+      subst F (replicate_more n i) (folds_more maker modules inputs (replicate n i) i s mid new folds turns)
+
+  one_made : (s : Settings) (q : Party) → IsMadeParty s (length q.commands) (party_made_for {P = P} s q)
+  one_made s q = record { home = q.home; frame = refl; keyed = refl; done = refl; live = refl }
+
+  -- each party is as it is made, with a place for each of its commands
+  pub are_made : (s : Settings) (parties : List Party) → AreMade s (commands_in parties) (map (party_made_for {P = P} s) parties)
+  are_made s parties i d inside =
+      let below : i < length parties = omega (arith, inside, length-map parties (party_made_for {P = P} s)) in
+      let q : Party = get_or parties i nobody in
+      let party : get_or (map (party_made_for {P = P} s) parties) i d ≡ party_made_for s q = get_or-map (party_made_for {P = P} s) parties i nobody d below in
+      let commands : get_or (commands_in parties) i [] ≡ q.commands = get_or-map (λ (x : Party). x.commands) parties i nobody [] below in
+      let At : List Command → RunningParty P → Type 0 = λ cs p. IsMadeParty s (length cs) p in
+      subst (λ (cs : List Command). At cs (get_or (map (party_made_for {P = P} s) parties) i d)) (sym commands) (subst (At q.commands) (sym party) (one_made s q))
+
+  -- A run keeps what it promises from its start on.
+  pub kept_at_start : (maker : MakerTold) (c : PoolCore P) (parties : List Party) → IsCore maker c → IsUntouched c → places_in (run_made c parties).parties + 1 < 2 ^ 64 → IsKept (run_made c parties)
+  kept_at_start maker c parties core untouched few = record {
+    whole = (started_running maker c (commands_in parties) (run_made c parties).parties core untouched (are_made c.settings parties)).whole;
+    few = few;
+  }

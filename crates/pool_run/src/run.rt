@@ -103,12 +103,19 @@ impl<P: Pages> Run<P> {
     pub fn page_calls(&self) -> PageCalls
         ensures { result ≡ calls_of_run self.now.core self.now.parties }
     {
-        let mut calls = self.core.page_calls();
-        for party in &self.parties {
-            calls = add_party(calls, party);
-        }
-        calls
+        add_parties(self.core.page_calls(), self.parties.as_slice())
     }
+}
+
+// The calls with those on the regions of the parties.
+fn add_parties<P: Pages>(calls: PageCalls, parties: &[RunningParty<P>]) -> PageCalls
+    ensures { result ≡ fold with_party calls parties.now }
+{
+    let mut total = calls;
+    for party in parties {
+        total = add_party(total, party);
+    }
+    total
 }
 
 fn add_party<P: Pages>(calls: PageCalls, party: &RunningParty<P>) -> PageCalls
@@ -150,6 +157,7 @@ fn push_reply(
     Ok(replies)
 }
 
+#[tactic(auto, using(crate::proofs::RunMade::map_more, crate::proofs::RunMade::map_all))]
 fn make_parties<P: Pages>(
     alloc: Global,
     core: &PoolCore<P>,
@@ -162,7 +170,8 @@ fn make_parties<P: Pages>(
     let count = parties.len();
     let mut made = Vec::with_capacity(alloc, count)?;
     for at in 0..count {
-        made.push(make_party(alloc, core, &parties[at])?)?;
+        let party = make_party(alloc, core, &parties[at])?;
+        made.push(party)?;
     }
     Ok(made)
 }
