@@ -1,8 +1,11 @@
-ghost use Rattle.std.specs.Prelude.{◌≡◌};
-ghost use Rattle.pool_memory.specs.Memories.{slot_of};
+ghost use Rattle.std.specs.Prelude.{◌≡◌, ◌+◌, ◌<◌, length, slice_set, OnOk, OnErr};
+ghost use Rattle.std.specs.List.{HoldsAt};
+ghost use Rattle.pool_memory.specs.Memories.{slot_of, memory_written, access_answer};
+ghost use Rattle.pool_alloc.specs.Leases.{IsMemory};
 ghost use Rattle.pool_alloc.specs.Sums.{calls_of_leases};
 
 use crate::reserved::ReservedList;
+use pool_limits::Trap;
 use pool_memory::{Memory, StaticMemory};
 use pool_pages::{PageCalls, Pages};
 use pool_slots::{MemoryAllocationIndex, add_calls, no_calls};
@@ -30,6 +33,32 @@ impl<P: Pages> MemoryLease<P> {
         ensures { result ≡ (slot_of self.now.memory).region.calls }
     {
         self.memory.page_calls()
+    }
+
+    /// Writes the bytes from `at` on, or nothing where they pass the memory's size.
+    pub fn write(&mut self, at: u64, bytes: &[u8]) -> Result<(), Trap>
+        ensures answer { result ≡ access_answer (at + length bytes.now) self.old.memory.linear.size }
+        ensures written { OnOk result (self.new ≡ record self.old { memory = memory_written at bytes.now self.old.memory }) }
+        ensures same { OnErr result (self.new ≡ self.old) }
+        ensures memory { IsMemory self.new.memory }
+    {
+        let result = self.memory.write(at, bytes);
+        let _slot = self.memory.slot();
+        result
+    }
+}
+
+impl<P: Pages> ReservedList<MemoryLease<P>> {
+    /// Writes to the memory at this place.
+    pub fn write(&mut self, place: usize, at: u64, bytes: &[u8]) -> Result<(), Trap>
+        requires inside { place < length self.old.items }
+        ensures answer { HoldsAt (λ l. result ≡ access_answer (at + length bytes.now) l.memory.linear.size) self.old.items place }
+        ensures written { OnOk result (HoldsAt (λ l. self.new ≡ record self.old { items = slice_set self.old.items place (record l { memory = memory_written at bytes.now l.memory }) }) self.old.items place) }
+        ensures same { OnErr result (self.new ≡ self.old) }
+        ensures memory { OnOk result (HoldsAt (λ l. IsMemory (memory_written at bytes.now l.memory)) self.old.items place) }
+    {
+        let lease = &mut self.items[place];
+        lease.write(at, bytes)
     }
 }
 

@@ -8,7 +8,7 @@ use std::marker::Model;
 /// A list whose room is reserved when it is made. Adding to it takes no memory.
 #[derive(Drop)]
 pub struct ReservedList<T> {
-    items: VecDeque<T>,
+    pub(crate) items: VecDeque<T>,
     room: usize,
 }
 

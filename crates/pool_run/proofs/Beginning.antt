@@ -6,10 +6,12 @@ use Rattle.std.proofs.lemmas.List.{map-set}
 use Rattle.std.proofs.lemmas.List.Elements.{All-get_or}
 use Rattle.std.proofs.lemmas.Option.{slice_get-map, slice_get_within, get_or_from_slice_get}
 use Rattle.pool_pages.specs.Count.{Count}
+use Rattle.pool_memory.specs.Memories.{slot_of as image_slot_of}
 use Rattle.pool_slots.specs.declared.request.AllocError.TheVariants as alloc
 use Rattle.pool_alloc.specs.Leases.{Lease}
 use Rattle.pool_alloc.specs.Calls.{IsIdle, begun_call}
 use Rattle.pool_alloc.specs.Sound.{IsLeaseOf}
+use Rattle.pool_alloc.specs.Stepping.{is_idle}
 use Rattle.pool_alloc.specs.declared.pool_core.PoolCore.{PoolCore}
 use Rattle.pool_alloc.specs.declared.frame.Call.TheVariants as call
 use Rattle.pool_alloc.specs.declared.frame.Ending.TheVariants.{Returned as returned}
@@ -23,14 +25,14 @@ use Rattle.pool_alloc.specs.declared.frame.Phase.TheVariants.{Idle, Key, Validat
 use Rattle.pool_alloc.proofs.BegunCalls.{at_rest}
 use Rattle.pool_run.specs.Searches.{IsAlone}
 use Rattle.pool_run.specs.Private.{World, PrivateMemory, PrivateInstance, Grants, grant_at, PrivateStep, ReadsMemory, ReadsFrom, WritesMemory, WritesTo, Drops, memory_written, with_memory}
-use Rattle.pool_run.specs.Turns.{Turned, with_reply, private_memory, lease_written, private_grant, grants_of, replies, Returns, ReadsLease, Reads, grant_written, WritesLease, Writes, Asks, Begins, BeginsKeyed, is_idle, TurnsAt, Turns}
+use Rattle.pool_run.specs.Turns.{Turned, with_reply, private_memory, lease_written, private_grant, grants_of, replies, Returns, ReadsLease, Reads, grant_written, WritesLease, Writes, Asks, Begins, BeginsKeyed, TurnsAt, Turns}
 use Rattle.pool_run.specs.Ties.{Stage, no_call, ends_as, stage_of, EndsAs, TiedAs, IsPrivate, CanTurn}
 use Rattle.pool_run.specs.Worlds.{IsWorldOf, IsCallFor, AreCallsFor}
 use Rattle.pool_run.specs.declared.command.Command.{Command}
 use Rattle.pool_run.specs.declared.command.Command.TheVariants as command
 use Rattle.pool_run.specs.declared.reply.Reply.{Reply}
 use Rattle.pool_run.specs.declared.reply.Reply.TheVariants.{Done, Refused, Trap}
-use Rattle.pool_run.specs.declared.reply.Trap.TheVariants.{MemoryOutOfBounds}
+use Rattle.pool_limits.specs.declared.errors.Trap.TheVariants.{MemoryOutOfBounds}
 use Rattle.pool_run.specs.declared.reply.Refusal.TheVariants.{NoSuchGrant, Alloc}
 use Rattle.pool_run.specs.declared.running_party.RunningParty.{RunningParty}
 use Rattle.pool_run.proofs.Bytes.{written_seen}
@@ -60,7 +62,7 @@ module _ {P : Type 0} where
   idle_is (Empty slot held) e = absurd cc
   idle_is (Instantiate slot held) e = absurd cc
   idle_is (MakeMemory slot held) e = absurd cc
-  idle_is (CountMemory slot memory) e = absurd cc
+  idle_is (CountMemory lease) e = absurd cc
   idle_is (PutRefused slot held error) e = absurd cc
   idle_is (FreeRefused slot error) e = absurd cc
   idle_is UncountMemory e = absurd cc
@@ -109,23 +111,23 @@ module _ {P : Type 0} (w : World) (start : Grants) (commands : List Command) (be
       next
 
   -- a write
-  written_now : (of k i : ℕ) (bytes : List ℕ) (lease : InstanceLease P) (l : Lease) → slice_index_or p.live of None ≡ Some (instance lease) → slice_get lease.memories.items k ≡ Some l → i + length bytes ≤ l.memory.size → grants_of (slice_set p.live of (Some (grant_written k (lease_written i bytes l) (instance lease)))) ≡ with_memory private.grants of (private_grant (instance lease)) k (memory_written i bytes (private_memory l))
+  written_now : (of k i : ℕ) (bytes : List ℕ) (lease : InstanceLease P) (l : Lease) → slice_index_or p.live of None ≡ Some (instance lease) → slice_get lease.memories.items k ≡ Some l → i + length bytes ≤ l.memory.linear.size → grants_of (slice_set p.live of (Some (grant_written k (lease_written i bytes l) (instance lease)))) ≡ with_memory private.grants of (private_grant (instance lease)) k (memory_written i bytes (private_memory l))
   written_now of k i bytes lease l has there within =
       let items : List Lease = lease.memories.items in
       let inside : k < length items = slice_get_within items k l there in
       let leases : All (IsLeaseOf w.maker c.settings) items = live_grant w.maker c.settings p.live of (instance lease) can.party.sound.grants has in
       let L : Lease → Type 0 = IsLeaseOf w.maker c.settings in
       let one : IsLeaseOf w.maker c.settings l = subst L (get_or_from_slice_get items k l l there) (All-get_or L items k l inside leases) in
-      let base : l.memory.slot.base.bytes ≡ 0 = ap (λ (n : Count). n.bytes) one.slot.base in
+      let base : (image_slot_of l.memory).base.bytes ≡ 0 = ap (λ (n : Count). n.bytes) one.slot.base in
       let memories : map private_memory (slice_set items k (lease_written i bytes l)) ≡ slice_set (map private_memory items) k (memory_written i bytes (private_memory l)) =
       map-set private_memory items k (lease_written i bytes l) ∙ ap (λ (m : PrivateMemory). slice_set (map private_memory items) k m) (written_seen i bytes l base within) in
       let new : Grant P = grant_written k (lease_written i bytes l) (instance lease) in
       grants_set p.live of (Some new) ∙ ap (λ (g : Grants). slice_set g of (Some (private_grant new))) told_now ∙ ap (λ (ms : List PrivateMemory). slice_set private.grants of (Some (record { memories = ms }))) memories
 
-  writes_within : (of k i : ℕ) (bytes : List ℕ) (lease : InstanceLease P) (l : Lease) (b : Bool) (t : Turned P) → slice_index_or p.live of None ≡ Some (instance lease) → slice_get lease.memories.items k ≡ Some l → nat_le (i + length bytes) l.memory.size ≡ b → t ≡ (if b then replies Done c (record p { live = slice_set p.live of (Some (grant_written k (lease_written i bytes l) (instance lease))) }) else replies (Trap MemoryOutOfBounds) c p) → slice_get commands p.done ≡ Some (command.Write of k i bytes) → SeesTurn w start commands before t
+  writes_within : (of k i : ℕ) (bytes : List ℕ) (lease : InstanceLease P) (l : Lease) (b : Bool) (t : Turned P) → slice_index_or p.live of None ≡ Some (instance lease) → slice_get lease.memories.items k ≡ Some l → nat_le (i + length bytes) l.memory.linear.size ≡ b → t ≡ (if b then replies Done c (record p { live = slice_set p.live of (Some (grant_written k (lease_written i bytes l) (instance lease))) }) else replies (Trap MemoryOutOfBounds) c p) → slice_get commands p.done ≡ Some (command.Write of k i bytes) → SeesTurn w start commands before t
   writes_within of k i bytes lease l true t has there fits is next =
       let new : List (Option (Grant P)) = slice_set p.live of (Some (grant_written k (lease_written i bytes l) (instance lease))) in
-      let within : i + length bytes ≤ l.memory.size = leb-true (i + length bytes) l.memory.size fits in
+      let within : i + length bytes ≤ l.memory.linear.size = leb-true (i + length bytes) l.memory.linear.size fits in
       let To : Option PrivateInstance → Type 0 = λ o. WritesTo o private.grants of k i bytes Done (grants_of new) in
       let Memory : Option PrivateMemory → Type 0 = λ o. WritesMemory o private.grants of (private_grant (instance lease)) k i bytes Done (grants_of new) in
       let memory : slice_get (map private_memory lease.memories.items) k ≡ Some (private_memory l) = slice_get-map private_memory lease.memories.items k ∙ ap (option_map private_memory) there in
@@ -137,7 +139,7 @@ module _ {P : Type 0} (w : World) (start : Grants) (commands : List Command) (be
       let Memory : Option PrivateMemory → Type 0 = λ o. WritesMemory o private.grants of (private_grant (instance lease)) k i bytes (Trap MemoryOutOfBounds) (grants_of p.live) in
       let memory : slice_get (map private_memory lease.memories.items) k ≡ Some (private_memory l) = slice_get-map private_memory lease.memories.items k ∙ ap (option_map private_memory) there in
       replies_at_once (command.Write of k i bytes) (Trap MemoryOutOfBounds) t next
-      (subst To (sym (told_at p.live private.grants of (Some (instance lease)) told_now has)) (subst Memory (sym memory) (leb-false (i + length bytes) l.memory.size fits, told_now)))
+      (subst To (sym (told_at p.live private.grants of (Some (instance lease)) told_now has)) (subst Memory (sym memory) (refl, leb-false (i + length bytes) l.memory.linear.size fits, told_now)))
       is
 
   writes_lease : (of k i : ℕ) (bytes : List ℕ) (lease : InstanceLease P) (y : Option Lease) (t : Turned P) → slice_index_or p.live of None ≡ Some (instance lease) → slice_get lease.memories.items k ≡ y → WritesLease y of (instance lease) k i bytes c p t → slice_get commands p.done ≡ Some (command.Write of k i bytes) → SeesTurn w start commands before t
@@ -148,7 +150,7 @@ module _ {P : Type 0} (w : World) (start : Grants) (commands : List Command) (be
       replies_at_once (command.Write of k i bytes) (Refused NoSuchGrant) t next
       (subst To (sym (told_at p.live private.grants of (Some (instance lease)) told_now has)) (subst Memory (sym memory) (refl, told_now)))
       is
-  writes_lease of k i bytes lease (Some l) t has there is next = writes_within of k i bytes lease l (nat_le (i + length bytes) l.memory.size) t has there refl is next
+  writes_lease of k i bytes lease (Some l) t has there is next = writes_within of k i bytes lease l (nat_le (i + length bytes) l.memory.linear.size) t has there refl is next
 
   writes_seen : (of k i : ℕ) (bytes : List ℕ) (x : Option (Grant P)) (t : Turned P) → slice_index_or p.live of None ≡ x → Writes x of k i bytes c p t → slice_get commands p.done ≡ Some (command.Write of k i bytes) → SeesTurn w start commands before t
   writes_seen of k i bytes None t has is next =
@@ -187,7 +189,7 @@ module _ {P : Type 0} (w : World) (start : Grants) (commands : List Command) (be
               count = private.count;
               tied = (told_now, record { number = number; command = next; asked_for = call_for.asked; new = begun_none w number p.frame.granted.items (at_rest w.maker c p.frame can.party.sound.frame idle).none_granted }, tt);
             })
-            world (called_module w.maker m c p can idle call_for.images room) (λ e. called_alone w.maker (call.Module m) p.live c p can.party.sound.frame (idle, call_for.images) (brings_module m p.live) tt (alone e)) steps.2
+            world (called_module w.maker m c p can idle call_for.images call_for.places room) (λ e. called_alone w.maker (call.Module m) p.live c p can.party.sound.frame (idle, call_for.images, call_for.places) (brings_module m p.live) tt (alone e)) steps.2
       ]
 
   begins_seen : (modules : List ModuleCall) (command : Command) (t : Turned P) → AreCallsFor w c.settings modules → Begins modules command c p t → slice_get commands p.done ≡ Some command → p.done < length p.live → SeesTurn w start commands before t

@@ -9,7 +9,9 @@ use Rattle.pool_pages.specs.declared.module_types.MemoryDecl.{MemoryDecl}
 use Rattle.pool_images.specs.Images.{Image, start}
 use Rattle.pool_images.specs.Slots.{FitsInto}
 use Rattle.pool_slots.specs.Cells.{IsSlotOf}
-use Rattle.pool_memory.specs.Memories.{MemoryState}
+use Rattle.pool_images.specs.Slots.{IsBegun}
+use Rattle.pool_memory.specs.Linear.{Storage, in_slot, stored, slot_in, first_bytes, storage_written}
+use Rattle.pool_memory.specs.Memories.{slot_of as image_slot_of}
 use Rattle.pool_alloc.specs.Leases.{Lease}
 use Rattle.pool_alloc.specs.Sound.{IsNew, IsSupported}
 use Rattle.pool_alloc.specs.declared.pool_core.Settings.{Settings}
@@ -30,10 +32,16 @@ written_in i size base new (Some c) is within =
     let here : i ≡ 0 + i = omega arith in
     subst P (sym is) (ap Some (subst Q here (from_start (put i new c.bytes) ∙ take_put i size new c.bytes within ∙ ap (put i new) (sym (from_start c.bytes)))))
 
+-- a write to the first bytes of what a memory lies in
+storage_seen : (i size : ℕ) (new : List ℕ) (s : Storage) → (slot_in s).base.bytes ≡ 0 → i + length new ≤ size → first_bytes size (storage_written i new s) ≡ option_map (put i new) (first_bytes size s)
+storage_seen i size new (in_slot s) base within = written_in i size s.base.bytes new s.region.contents base within
+storage_seen i size new (stored len None) base within = refl
+storage_seen i size new (stored len (Some bytes)) base within = ap Some (take_put i size new bytes within)
+
 -- a memory that is written is to the party what its private bytes are once they are written
-pub written_seen : (i : ℕ) (new : List ℕ) (l : Lease) → l.memory.slot.base.bytes ≡ 0 → i + length new ≤ l.memory.size → private_memory (lease_written i new l) ≡ memory_written i new (private_memory l)
+pub written_seen : (i : ℕ) (new : List ℕ) (l : Lease) → (image_slot_of l.memory).base.bytes ≡ 0 → i + length new ≤ l.memory.linear.size → private_memory (lease_written i new l) ≡ memory_written i new (private_memory l)
 written_seen i new l base within =
-    ap (λ (b : Option (List ℕ)). record { slot = l.index; size = l.memory.size; bytes = b }) (written_in i l.memory.size l.memory.slot.base.bytes new l.memory.slot.region.contents base within)
+    ap (λ (b : Option (List ℕ)). record { slot = l.index; size = l.memory.linear.size; bytes = b }) (storage_seen i l.memory.linear.size new l.memory.linear.storage base within)
 
 -- the first bytes of a list that begins as a memory does
 start_shorter : (image : Option Image) (m n : ℕ) → m ≤ n → IfSome image (λ i. i.offset + length i.bytes ≤ m) → take m (start image n) ≡ start image m
@@ -60,13 +68,17 @@ fits_of : (page m : ℕ) (image : Option Image) → IfSome image (FitsInto page 
 fits_of page m None fits = fits
 fits_of page m (Some i) fits = fits.inside
 
+-- the bytes of one that began in a slot of the pool
+storage_begun : (w : World) (static_size i least : ℕ) (image : Option Image) (s : Storage) → IsSlotOf w.maker static_size i (slot_in s) → IsBegun image (slot_in s) → least ≤ static_size → IfSome image (λ m. m.offset + length m.bytes ≤ least) → first_bytes least s ≡ (if w.maker.tells then Some (start image least) else None)
+storage_begun w static_size i least image (stored len bytes) of begun le fits = absurd cc
+storage_begun w static_size i least image (in_slot s) of begun le fits =
+    begun_bytes s.region.contents image least s.static_size s.base.bytes w.maker.tells of.region.tells (ap (λ (c : Count). c.bytes) of.base) (omega (arith, le, of.same_size)) fits begun.reads
+
 -- a memory that is new is to the party as private ones begin
-pub begun_seen : (w : World) (s : Settings) (number k slot : ℕ) (decl : MemoryDecl) (m : MemoryState) → IsSlotOf w.maker s.max_memory_size slot m.slot → IsNew (image_at w number k decl) m decl → IsSupported s decl (image_at w number k decl) → private_memory (record { index = slot; memory = m }) ≡ begun_memory w number k decl slot
-begun_seen w s number k slot decl m of new supported =
+pub begun_seen : (w : World) (s : Settings) (number k : ℕ) (decl : MemoryDecl) (l : Lease) → IsSlotOf w.maker s.max_memory_size l.index (image_slot_of l.memory) → IsNew (image_at w number k decl) l.memory decl → IsSupported s decl (image_at w number k decl) → private_memory l ≡ begun_memory w number k decl l.index
+begun_seen w s number k decl l of new supported =
     let image : Option Image = image_at w number k decl in
     let least : ℕ = minimum_byte_size decl.ty in
-    let le : least ≤ m.slot.static_size = omega (arith, supported.minimum, of.same_size) in
-    let base : m.slot.base.bytes ≡ 0 = ap (λ (c : Count). c.bytes) of.base in
-    let bytes = begun_bytes m.slot.region.contents image least m.slot.static_size m.slot.base.bytes w.maker.tells of.region.tells base le (fits_of s.page least image supported.image_fits) new.slot.begun.reads in
-    let Q : ℕ → Type 0 = λ n. ◌≡◌ {A = PrivateMemory} (record { slot = slot; size = n; bytes = option_map (λ c. slice_range c.bytes m.slot.base.bytes (m.slot.base.bytes + n)) m.slot.region.contents }) (begun_memory w number k decl slot) in
-    subst Q (sym new.size) (ap (λ (b : Option (List ℕ)). record { slot = slot; size = least; bytes = b }) bytes)
+    let bytes = storage_begun w s.max_memory_size l.index least image l.memory.linear.storage of new.slot.begun supported.minimum (fits_of s.page least image supported.image_fits) in
+    let Q : ℕ → Type 0 = λ n. ◌≡◌ {A = PrivateMemory} (record { slot = l.index; size = n; bytes = first_bytes n l.memory.linear.storage }) (begun_memory w number k decl l.index) in
+    subst Q (sym new.size) (ap (λ (b : Option (List ℕ)). record { slot = l.index; size = least; bytes = b }) bytes)

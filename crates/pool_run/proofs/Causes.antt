@@ -1,8 +1,6 @@
 -- A request is refused only for a cause.
 use Rattle.std.proofs.Common.{true, ◌+◌, ◌≤◌, ◌≡◌, ℕ, ◌<◌, List, length, Option, Some, None, sym, ap, ◌∙◌, subst, inl, inr, arith}
-use Rattle.std.specs.Prelude.{IfSome, option_map}
-use Rattle.pool_pages.specs.MakerTold.{Planned, calls_of}
-use Rattle.pool_pages.specs.declared.pages.RegionName.TheVariants.{Memory as memory_region}
+use Rattle.std.specs.Prelude.{IfSome}
 use Rattle.pool_images.specs.Slots.{Slot, IsLeft}
 use Rattle.pool_slots.specs.Cells.{IsSlotOf}
 use Rattle.pool_slots.specs.declared.request.ConcurrencyKind.TheVariants.{MemoryStripe, CoreInstances}
@@ -22,12 +20,8 @@ limit_of_instances w number told most is full =
     let E : ℕ → PoolConcurrencyLimitError = λ n. record { limit = n; kind = CoreInstances } in
     inr (ap E (sym is), full)
 
-listed_somewhere : (o : Option (List Planned)) (told : Option (List ℕ)) (total i : ℕ) → i < total → told ≡ option_map (calls_of (memory_region i)) o → IfSome told (λ plan. 0 < length plan) → IfSome o (λ plan. (i : ℕ) × (i < total) × (0 < length (calls_of (memory_region i) plan)))
-listed_somewhere None told total i inside is listed = tt
-listed_somewhere (Some plan) told total i inside is listed =
-    let Q : Option (List ℕ) → Type 0 = λ t. IfSome t (λ p. 0 < length p) in
-    (i, inside, subst Q is listed)
-
 -- a call on the region of a slot of the pool failed
 pub fault_of_slot : (w : World) (static_size total slot : ℕ) (held new : Slot) → w.total ≡ total → slot < total → IsSlotOf w.maker static_size slot held → IsLeft held new → SomeMayFault w
-fault_of_slot w static_size total slot held new is inside of left = listed_somewhere w.maker.plan held.region.plan w.total slot (omega (arith, is, inside)) of.region.plan left.listed
+fault_of_slot w static_size total slot held new is inside of left =
+    let Q : Option (List ℕ) → Type 0 = λ t. IfSome t (λ p. 0 < length p) in
+    (slot, omega (arith, is, inside), subst Q of.region.plan left.listed)

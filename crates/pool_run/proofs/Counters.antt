@@ -111,7 +111,7 @@ module _ {P : Type 0} where
   phase_counts_one (Empty slot held) = omega arith
   phase_counts_one (Instantiate slot held) = omega arith
   phase_counts_one (MakeMemory slot held) = omega arith
-  phase_counts_one (CountMemory slot memory) = omega arith
+  phase_counts_one (CountMemory lease) = omega arith
   phase_counts_one (PutRefused slot held e) = omega arith
   phase_counts_one (FreeRefused slot e) = omega arith
   phase_counts_one UncountMemory = omega arith

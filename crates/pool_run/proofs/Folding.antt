@@ -5,7 +5,8 @@ use Rattle.std.proofs.lemmas.Bool.{cases_eq}
 use Rattle.std.proofs.lemmas.List.{length-set, set-get_or, get_or-set_same, get_or-set_other}
 use Rattle.std.proofs.lemmas.Option.{slice_get_past, slice_get_within, get_or_from_slice_get}
 use Rattle.pool_pages.specs.MakerTold.{MakerTold}
-use Rattle.pool_alloc.specs.Own.{memories_refused}
+use Rattle.pool_alloc.specs.Refusals.{memories_refused}
+use Rattle.pool_alloc.specs.Stepping.{is_idle}
 use Rattle.pool_alloc.specs.Stepping.{IsSameSize}
 use Rattle.pool_alloc.specs.declared.pool_core.PoolCore.{PoolCore}
 use Rattle.pool_alloc.specs.declared.pool_core.Settings.{Settings}
@@ -13,7 +14,7 @@ use Rattle.pool_alloc.specs.declared.frame.ModuleCall.{ModuleCall}
 use Rattle.pool_alloc.specs.Places.{made_count}
 use Rattle.pool_run.specs.Searches.{IsAlone}
 use Rattle.pool_run.specs.Private.{World, memories_of, IsPrivateRun, no_grants}
-use Rattle.pool_run.specs.Turns.{Turned, Turns, TurnsAt, BeginsKeyed, with_reply, is_idle}
+use Rattle.pool_run.specs.Turns.{Turned, Turns, TurnsAt, BeginsKeyed, with_reply}
 use Rattle.pool_run.specs.Ties.{CanTurn, IsSoundTurn}
 use Rattle.pool_run.specs.Worlds.{IsMadeReady, IsWorldOf, AreCallsFor}
 use Rattle.pool_run.specs.Folds.{RunState, commands_of, replies_to, party_by_party, with_turn, TurnsIf, TurnsOf, Folds, HasNothingLeft, Runs, IsRunTo, IsUnderWay}

@@ -6,6 +6,7 @@ use Rattle.std.proofs.lemmas.List.Sums.{sum_by-set}
 use Rattle.pool_pages.specs.MakerTold.{MakerTold}
 use Rattle.pool_alloc.specs.Places.{Thing, slot_of, region_of}
 use Rattle.pool_alloc.specs.Sound.{IsFrame, AreImagesOf}
+use Rattle.pool_alloc.specs.Modules.{HasImages}
 use Rattle.pool_alloc.specs.Calls.{IsIdle, IsGrant, MayBegin, begun_call, call_has}
 use Rattle.pool_alloc.specs.Stepping.{CanStep, grant_count, grant_instances, grant_memories}
 use Rattle.pool_alloc.specs.declared.pool_core.PoolCore.{PoolCore}
@@ -132,8 +133,8 @@ module _ {P : Type 0} where
   pub called_key : (maker : MakerTold) (c : PoolCore P) (p : RunningParty P) → CanTurn maker c p → IsIdle p.frame → CanTurn maker c (record p { frame = begun_call call.Key p.frame })
   called_key maker c p can idle = called maker call.Key p.live c p can idle (brings_key p.live) can.party.sound.grants can.party.to_come (λ is. absurd cc)
 
-  pub called_module : (maker : MakerTold) (m : ModuleCall) (c : PoolCore P) (p : RunningParty P) → CanTurn maker c p → IsIdle p.frame → AreImagesOf c.settings (memories_asked (Some m)) (images_asked (Some m)) → p.done < length p.live → CanTurn maker c (record p { frame = begun_call (call.Module m) p.frame })
-  called_module maker m c p can idle images room = called maker (call.Module m) p.live c p can (idle, images) (brings_module m p.live) can.party.sound.grants can.party.to_come (λ is. room)
+  pub called_module : (maker : MakerTold) (m : ModuleCall) (c : PoolCore P) (p : RunningParty P) → CanTurn maker c p → IsIdle p.frame → AreImagesOf c.settings (memories_asked (Some m)) (images_asked (Some m)) → HasImages (Some m) → p.done < length p.live → CanTurn maker c (record p { frame = begun_call (call.Module m) p.frame })
+  called_module maker m c p can idle images each room = called maker (call.Module m) p.live c p can (idle, images, each) (brings_module m p.live) can.party.sound.grants can.party.to_come (λ is. room)
 
   returned_asks : (grant : Grant P) (f : Frame P) → stage_of (begun_call (call.GiveBack grant) f).phase (begun_call (call.GiveBack grant) f).ending ≡ asks → ⊥
   returned_asks (instance lease) f is = no_asks P (length lease.memories.items == 0) returned is

@@ -8,7 +8,7 @@ use Rattle.pool_pages.specs.declared.unsupported.Unsupported.{Unsupported}
 use Rattle.pool_images.specs.Slots.{Slot}
 use Rattle.pool_index.specs.Shard.{ShardState, after_pick, pick_answer, after_free}
 use Rattle.pool_index.specs.declared.ids.SlotId.{SlotId}
-use Rattle.pool_memory.specs.Memories.{MemoryState}
+use Rattle.pool_memory.specs.Memories.{MemoryState, slot_of as image_slot_of}
 use Rattle.pool_slots.specs.Cells.{Cell, unmapped, unknown, previously_used, taken}
 use Rattle.pool_slots.specs.Queues.{QueueState, QueuedMemory, empty_queue, after_take, taken_into, joined, emptied}
 use Rattle.pool_slots.specs.declared.request.AllocError.{AllocError}
@@ -17,7 +17,8 @@ use Rattle.pool_slots.specs.declared.request.ConcurrencyKind.TheVariants.{Memory
 use Rattle.pool_alloc.specs.Places.{slot_of}
 use Rattle.pool_alloc.specs.Reserved.{no_room, with_item}
 use Rattle.pool_alloc.specs.Leases.{Lease}
-use Rattle.pool_alloc.specs.Own.{memories_refused, memory_made, reset_into}
+use Rattle.pool_alloc.specs.Own.{memory_made, reset_into}
+use Rattle.pool_alloc.specs.Refusals.{memories_refused}
 use Rattle.pool_alloc.specs.Sound.{IsCore}
 use Rattle.pool_alloc.specs.Steps.{Given, After, memories_asked, wanted, shard_at, cell_at, queue_at, shard_of, local_of, freed_elsewhere, first_shard, cell_returned, with_shard, with_cell, with_queue, counting_instances, counting_memories, goes, ends, give_back_next, refuses, allocate_next, flushes, after_flush, no_slot, answer_of, shard_tried, queue_tried, validated, picked, holds_region, made, returns, merged, puts, were_freed, row_of}
 use Rattle.pool_alloc.specs.declared.pool_core.PoolCore.{PoolCore}
@@ -100,7 +101,7 @@ module _ {P : Type 0} where
       either (nat_lt (length f.granted.items) (length (memories_asked f.asked))) (goes c f (Pick 0 0)) (ends c (record f { granted = no_room }) (answer.Granted (instance (record { memories = f.granted }))))
       (λ more. record { searched = (none_yet c f, none_tried c f) }) (λ last. record { searched = tt })
 
-  validated_searched : (g : Given) (o : Option Unsupported) (c : PoolCore P) (f : Frame P) → IsSearched (validated g o c f)
+  validated_searched : (g : Given) (o : Option Unsupported) (c : PoolCore P) (f : Frame P) → IsSearched (validated o g.wants c f)
   validated_searched g (Some rule) c f = record { searched = tt }
   validated_searched g None c f =
       either g.wants (ends c f (answer.Refused refusal.Memory)) (goes c (record f { granted = record { items = []; room = length (memories_asked f.asked) } }) CountInstance) (λ e. record { searched = tt }) (λ e. record { searched = tt })
@@ -195,12 +196,12 @@ module _ {P : Type 0} where
   searched_at maker g (Empty slot had) c f core s = goes_either c (in_phase (Empty slot had) f) g.fault (PutRefused slot g.slot refusal.PageFault) (Instantiate slot g.slot) (record { searched = tt }) (record { searched = tt })
   searched_at maker g (Instantiate slot had) c f core s = goes_either c (in_phase (Instantiate slot had) f) g.fault (PutRefused slot g.slot refusal.PageFault) (MakeMemory slot g.slot) (record { searched = tt }) (record { searched = tt })
   searched_at maker g (MakeMemory slot had) c f core s = made_searched slot had (memory_made c.settings (memories_asked f.asked) (length f.granted.items) g.limiter had) c (in_phase (MakeMemory slot had) f)
-  searched_at maker g (CountMemory slot memory) c f core s = allocates (counting_memories (c.counters.memories + 1) c) (record (in_phase (CountMemory slot memory) f) { granted = with_item (record { index = slot; memory = memory }) f.granted })
+  searched_at maker g (CountMemory lease) c f core s = allocates (counting_memories (c.counters.memories + 1) c) (record (in_phase (CountMemory lease) f) { granted = with_item lease f.granted })
   searched_at maker g (PutRefused slot had e) c f core s = record { searched = tt }
   searched_at maker g (FreeRefused slot e) c f core s = refused (with_shard (shard_of c.settings slot) (after_free (local_of c.settings slot) 0 (shard_at (shard_of c.settings slot) c.shards)) c) (in_phase (FreeRefused slot e) f) e
   searched_at maker g UncountMemory c f core s = returns_searched f.returning.items (counting_memories (c.counters.memories - 1) c) (in_phase UncountMemory f)
   searched_at maker g (Reset lease) c f core s =
-      let reset : Frame P = record (in_phase (Reset lease) f) { local = reset_into c.settings.keep_resident.bytes lease.index lease.memory.slot f.local } in
+      let reset : Frame P = record (in_phase (Reset lease) f) { local = reset_into c.settings.keep_resident.bytes lease.index (image_slot_of lease.memory) f.local } in
       either ((length reset.local.ranges == 0) || nat_le c.settings.batch (length reset.local.ranges)) (flushes GiveBackNext c reset) (goes c reset Merge) (λ e. flush_of_give_back c reset) (λ e. record { searched = tt })
   searched_at maker g Merge c f core s = merged_searched (joined (queue_at (queue_tried 0 c (in_phase Merge f)) c.queues) f.local) c (record (in_phase Merge f) { local = emptied f.local })
   searched_at maker g (Decommit (PickAgain queues)) c f core s = flush_of_request queues c (record (in_phase (Decommit (PickAgain queues)) f) { local = g.queue }) s

@@ -1,5 +1,5 @@
 -- A share of a call for a module is a call for that module.
-use Rattle.std.proofs.Common.{◌≡◌, ℕ, List, Option, Some, None, refl, sym, ap, ◌∙◌, subst}
+use Rattle.std.proofs.Common.{◌≡◌, ℕ, List, length, Option, Some, None, refl, sym, ap, ◌∙◌, subst}
 use Rattle.std.specs.Prelude.{IfSome, option_map, slice_get, slice_index_or}
 use Rattle.std.specs.Arc.{arc_value}
 use Rattle.std.specs.declared.sync.Arc.{Arc}
@@ -9,6 +9,7 @@ use Rattle.pool_pages.specs.declared.module_types.ModuleInfo.{ModuleInfo}
 use Rattle.pool_images.specs.Images.{Image}
 use Rattle.pool_alloc.specs.Steps.{memories_asked, images_asked, images_made}
 use Rattle.pool_alloc.specs.Sound.{AreImagesOf}
+use Rattle.pool_alloc.specs.Modules.{HasImages}
 use Rattle.pool_alloc.specs.declared.pool_core.Settings.{Settings}
 use Rattle.pool_alloc.specs.declared.frame.ModuleCall.{ModuleCall}
 use Rattle.pool_run.specs.Private.{World, memories_of, image_at}
@@ -21,6 +22,25 @@ images_same None (Some b) same = absurd cc
 images_same (Some a) None same = absurd cc
 images_same (Some a) (Some b) same = cc
 
+abbrev pub HavePlaces : ℕ → Option (List (Option Image)) → Type 0
+HavePlaces n images = IfSome images (λ is. length is ≡ n)
+
+places_of : (n : ℕ) (o : Option (Arc (List (Option Image)) Global)) → IfSome o (λ images. length (arc_value images) ≡ n) → HavePlaces n (option_map arc_value o)
+places_of n None is = is
+places_of n (Some images) is = is
+
+places_at : (n : ℕ) (o : Option (Arc (List (Option Image)) Global)) → HavePlaces n (option_map arc_value o) → IfSome o (λ images. length (arc_value images) ≡ n)
+places_at n None is = is
+places_at n (Some images) is = is
+
+-- where images are given, there is a place for each memory
+places_same : (kept m : ModuleCall) → IsShareOf kept m → HasImages (Some kept) → HasImages (Some m)
+places_same kept m share has =
+    let Number : ℕ → Type 0 = λ n. HavePlaces n (option_map arc_value m.images) in
+    let Images : Option (List (Option Image)) → Type 0 = λ is. HavePlaces (length (arc_value kept.info).memories) is in
+    let number : length (arc_value kept.info).memories ≡ length (arc_value m.info).memories = ap (λ (i : ModuleInfo). length i.memories) (sym share.info) in
+    places_at (length (arc_value m.info).memories) m.images (subst Number number (subst Images (sym share.images) (places_of (length (arc_value kept.info).memories) kept.images has)))
+
 pub share_for : (w : World) (s : Settings) (number : ℕ) (kept m : ModuleCall) → IsShareOf kept m → IsCallFor w s number kept → IsCallFor w s number m
 share_for w s number kept m share call =
     let memories : memories_asked (Some m) ≡ memories_asked (Some kept) = ap (λ (i : ModuleInfo). i.memories) share.info in
@@ -30,4 +50,5 @@ share_for w s number kept m share call =
     record {
       asked = record { some = refl; memories = memories ∙ call.asked.memories; images = subst Begin (sym images) call.asked.images };
       images = subst (λ (is : List (Option Image)). Images (memories_asked (Some m)) is) (sym images) (subst (λ (ds : List MemoryDecl). Images ds (images_asked (Some kept))) (sym memories) call.images);
+      places = places_same kept m share call.places;
     }

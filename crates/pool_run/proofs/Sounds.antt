@@ -17,6 +17,8 @@ use Rattle.pool_alloc.specs.declared.frame.Frame.{Frame}
 use Rattle.pool_alloc.specs.declared.frame.Grant.TheVariants.{Instance as instance}
 use Rattle.pool_alloc.specs.declared.frame.Outcome.{Outcome}
 use Rattle.pool_alloc.specs.declared.frame.Outcome.TheVariants as answer
+use Rattle.pool_memory.specs.Linear.{Storage, in_slot, stored, slot_in, storage_written}
+use Rattle.pool_slots.specs.Cells.{IsSlotOf}
 use Rattle.pool_alloc.specs.declared.lease.InstanceLease.{InstanceLease}
 use Rattle.pool_run.specs.Turns.{lease_written, grant_written, replies, answered, after_step}
 use Rattle.pool_run.specs.Ties.{IsSoundParty, IsSoundTurn}
@@ -28,23 +30,24 @@ tells_still : (i : ℕ) (new : List ℕ) (o : Option Contents) → is_some (opti
 tells_still i new None = refl
 tells_still i new (Some c) = refl
 
+slot_still : (maker : MakerTold) (static_size k i : ℕ) (new : List ℕ) (s : Storage) → IsSlotOf maker static_size k (slot_in s) → IsSlotOf maker static_size k (slot_in (storage_written i new s))
+slot_still maker static_size k i new (stored len bytes) is = is
+slot_still maker static_size k i new (in_slot s) is = record {
+  region = record {
+    name = is.region.name;
+    page = is.region.page;
+    len = is.region.len;
+    plan = is.region.plan;
+    tells = tells_still (s.base.bytes + i) new s.region.contents ∙ is.region.tells;
+  };
+  base = is.base;
+  same_size = is.same_size;
+  colour = is.colour;
+}
+
 -- A lease that is written stays one of the pool.
 pub lease_still : (maker : MakerTold) (s : Settings) (i : ℕ) (new : List ℕ) (l : Lease) → IsLeaseOf maker s l → IsMemory (lease_written i new l).memory → IsLeaseOf maker s (lease_written i new l)
-lease_still maker s i new l is memory = record {
-  slot = record {
-    region = record {
-      name = is.slot.region.name;
-      page = is.slot.region.page;
-      len = is.slot.region.len;
-      plan = is.slot.region.plan;
-      tells = tells_still (l.memory.slot.base.bytes + i) new l.memory.slot.region.contents ∙ is.slot.region.tells;
-    };
-    base = is.slot.base;
-    same_size = is.slot.same_size;
-    colour = is.slot.colour;
-  };
-  memory = memory;
-}
+lease_still maker s i new l is memory = record { slot = slot_still maker s.max_memory_size l.index i new l.memory.linear.storage is.slot; memory = memory }
 
 module _ {P : Type 0} where
   -- A grant of as many memories as were asked for is one of the pool.

@@ -22,6 +22,7 @@ use Rattle.pool_run.specs.Turns.{grants_of}
 use Rattle.pool_run.specs.Ties.{granted_to, held_by_party, IsParty, IsPrivate, IsRunning}
 use Rattle.pool_run.specs.Worlds.{IsWorldOf, AreCallsFor}
 use Rattle.pool_run.specs.Folds.{commands_of, IsMadeParty, IsRunTo, IsUnderWay}
+use Rattle.pool_run.specs.RunsMade.{party_made}
 use Rattle.pool_run.specs.declared.command.Command.{Command}
 use Rattle.pool_run.specs.declared.reply.Reply.{Reply}
 use Rattle.pool_run.specs.declared.running_party.RunningParty.{RunningParty}
@@ -37,10 +38,6 @@ empty_at (suc n) zero = refl
 empty_at (suc n) (suc k) = empty_at n k
 
 module _ {P : Type 0} where
-  -- a party as it is made
-  abbrev pub party_made : ℕ → Settings → ℕ → RunningParty P
-  party_made home s places = record { frame = frame_made home s; keyed = false; done = 0; live = replicate places None }
-
   pub is_party_made : (s : Settings) (places : ℕ) (p : RunningParty P) (made : IsMadeParty s places p) → p ≡ party_made made.home s places
   is_party_made s places p made =
       let Q : Frame P → Bool → ℕ → List (Option (Grant P)) → RunningParty P = λ f keyed done live. record { frame = f; keyed = keyed; done = done; live = live } in

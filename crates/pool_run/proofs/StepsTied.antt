@@ -5,21 +5,24 @@ use Rattle.pool_pages.specs.declared.module_types.MemoryDecl.{MemoryDecl}
 use Rattle.pool_pages.specs.declared.unsupported.Unsupported.{Unsupported}
 use Rattle.pool_images.specs.Images.{Image}
 use Rattle.pool_images.specs.Slots.{Slot, IsLeft}
-use Rattle.pool_limits.specs.Limiter.{Asked, yes}
+use Rattle.pool_limits.specs.LimiterTold.{unlimited}
+use Rattle.pool_limits.specs.declared.errors.LimiterError.{LimiterError}
 use Rattle.pool_index.specs.Shard.{ShardState, after_pick, pick_answer, after_free, IsShard}
 use Rattle.pool_index.specs.declared.ids.SlotId.{SlotId}
-use Rattle.pool_memory.specs.Memories.{MemoryState}
+use Rattle.pool_memory.specs.Memories.{MemoryState, slot_of as image_slot_of}
 use Rattle.pool_slots.specs.Cells.{Cell, unmapped, unknown, previously_used, taken}
 use Rattle.pool_slots.specs.Queues.{QueueState, QueuedMemory, after_take, taken_into, joined, emptied}
 use Rattle.pool_slots.specs.declared.request.AllocError.{AllocError}
 use Rattle.pool_slots.specs.declared.request.AllocError.TheVariants as refusal
 use Rattle.pool_slots.specs.declared.request.ConcurrencyKind.TheVariants.{MemoryStripe, CoreInstances}
-use Rattle.pool_alloc.specs.Answers.{Empties, InstantiatesFor, MayBeTold}
+use Rattle.pool_alloc.specs.Answers.{Asks, AsksOf, Empties, InstantiatesFor, MayBeTold}
+use Rattle.pool_alloc.specs.Modules.{IfAllocated}
 use Rattle.pool_alloc.specs.Reserved.{with_item}
 use Rattle.pool_alloc.specs.Leases.{Lease}
-use Rattle.pool_alloc.specs.Own.{memories_refused, memory_made, reset_into}
+use Rattle.pool_alloc.specs.Own.{memory_made, reset_into}
+use Rattle.pool_alloc.specs.Refusals.{memories_refused}
 use Rattle.pool_alloc.specs.Places.{leased_count, Thing, slot_of, frame_count, made_count, slot_count, queued_count, freed_count, kept_count, phase_count}
-use Rattle.pool_alloc.specs.Sound.{IsAllocating, IfAllocated, IsSupported, HasSlot, HasBegun, IsNew, IsSettled}
+use Rattle.pool_alloc.specs.Sound.{IsAllocating, IsSupported, HasSlot, HasBegun, IsNew, IsSettled}
 use Rattle.pool_alloc.specs.Steps.{Given, memories_asked, images_asked, image_wanted, wanted, shard_at, cell_at, queue_at, shard_of, local_of, freed_elsewhere, first_shard, cell_returned, with_shard, with_cell, with_queue, counting_instances, counting_memories, goes, ends, give_back_next, refuses, allocate_next, flushes, after_flush, no_slot, shard_tried, queue_tried, validated, picked, holds_region, made, returns, merged, puts, were_freed, row_of}
 use Rattle.pool_alloc.specs.Stepping.{CanStep, grant_count}
 use Rattle.pool_alloc.specs.declared.pool_core.PoolCore.{PoolCore}
@@ -80,13 +83,13 @@ module _ {P : Type 0} where
       (allocating.supported.each k)
 
   -- A memory is made of it.
-  makes_it : (w : World) (commands : List Command) (done slot : ℕ) (held : Slot) (c : PoolCore P) (f : Frame P) → IsWorldOf w c → IsAsking w commands done f.asked f.granted.items → IsAllocating c.settings f → HasSlot w.maker c.settings (length c.cells) slot held → IfAllocated f (HasBegun (image_wanted f) held) → IsOk (memory_made c.settings (memories_asked f.asked) (length f.granted.items) yes held)
+  makes_it : (w : World) (commands : List Command) (done slot : ℕ) (held : Slot) (c : PoolCore P) (f : Frame P) → IsWorldOf w c → IsAsking w commands done f.asked f.granted.items → IsAllocating c.settings f → HasSlot w.maker c.settings (length c.cells) slot held → IfAllocated f (HasBegun (image_wanted f) held) → IsOk (memory_made c.settings (memories_asked f.asked) (length f.granted.items) (Ok true) held)
   makes_it w commands done slot held c f world asking allocating has begun =
       let k : ℕ = length f.granted.items in
       let n : ℕ = asking.number in
       let same : memories_of w n ≡ memories_asked f.asked = sym asking.asked_for.memories in
       let Makes : List MemoryDecl → Type 0 = λ ds. IfSome (slice_get ds k) (IsMadeReady w c.settings n k) in
-      let Made : List MemoryDecl → Type 0 = λ ds. IsOk (memory_made c.settings ds k yes held) in
+      let Made : List MemoryDecl → Type 0 = λ ds. IsOk (memory_made c.settings ds k (Ok true) held) in
       subst Made same
       (told_there (Made (memories_of w n)) (memories_asked f.asked) k allocating.more
       (told_of_three (IsNext w c.settings n f) (HasBegun (image_wanted f) held) (IsMadeReady w c.settings n k) (λ decl. Made (memories_of w n)) (slice_get (memories_asked f.asked) k)
@@ -94,20 +97,25 @@ module _ {P : Type 0} where
       (is_next w commands done c.settings f asking allocating) begun (subst Makes same (world.makes n k))))
 
   -- It is new to the party once it is granted.
-  new_lease : (w : World) (commands : List Command) (done slot : ℕ) (memory : MemoryState) (c : PoolCore P) (f : Frame P) (asking : IsAsking w commands done f.asked f.granted.items) → IsAllocating c.settings f → HasSlot w.maker c.settings (length c.cells) slot memory.slot → IfAllocated f (IsNew (image_wanted f) memory) → AreNew w asking.number (f.granted.items ++ record { index = slot; memory = memory } ∷ [])
-  new_lease w commands done slot memory c f asking allocating has new =
+  new_lease : (w : World) (commands : List Command) (done : ℕ) (lease : Lease) (c : PoolCore P) (f : Frame P) (asking : IsAsking w commands done f.asked f.granted.items) → IsAllocating c.settings f → HasSlot w.maker c.settings (length c.cells) lease.index (image_slot_of lease.memory) → IfAllocated f (IsNew (image_wanted f) lease.memory) → AreNew w asking.number (f.granted.items ++ lease ∷ [])
+  new_lease w commands done lease c f asking allocating has new =
       let k : ℕ = length f.granted.items in
       let n : ℕ = asking.number in
-      let lease : Lease = record { index = slot; memory = memory } in
       let Then : Type 0 = AreNew w n (f.granted.items ++ lease ∷ []) in
       told_there Then (memories_asked f.asked) k allocating.more
-      (told_both (IsNext w c.settings n f) (IsNew (image_wanted f) memory) (λ decl. Then) (slice_get (memories_asked f.asked) k)
+      (told_both (IsNext w c.settings n f) (IsNew (image_wanted f) lease.memory) (λ decl. Then) (slice_get (memories_asked f.asked) k)
       (λ decl next is.
-      let N : Option Image → Type 0 = λ i. IsNew i memory decl in
+      let N : Option Image → Type 0 = λ i. IsNew i lease.memory decl in
       let S : Option Image → Type 0 = λ i. IsSupported c.settings decl i in
       begun_more w n f.granted.items lease decl asking.new (omega (arith, allocating.more, ap (length {A = MemoryDecl}) asking.asked_for.memories)) next.there
-      (begun_seen w c.settings n k slot decl memory has.region (subst N next.image is) (subst S next.image next.supported)))
+      (begun_seen w c.settings n k decl lease has.region (subst N next.image is) (subst S next.image next.supported)))
       (is_next w commands done c.settings f asking allocating) new)
+
+  -- Where there is no limiter each memory is granted.
+  freely : (g : Given) (f : Frame P) (s : Settings) → IsAllocating s f → IfAllocated f (Asks g.limiter unlimited unlimited) → g.limiter ≡ Ok true
+  freely g f s allocating asks =
+      told_there (g.limiter ≡ Ok true) (memories_asked f.asked) (length f.granted.items) allocating.more
+      (told_weaker (Asks g.limiter unlimited unlimited) (λ decl. g.limiter ≡ Ok true) (slice_get (memories_asked f.asked) (length f.granted.items)) (λ decl asked. asked.answer) asks)
 
   -- A call on the region of the slot failed where an instantiation did.
   left_by : (s : Settings) (g : Given) (held : Slot) (f : Frame P) → IsAllocating s f → g.fault ≡ true → IfAllocated f (λ decl. InstantiatesFor s decl g.fault (image_wanted f) held g.slot) → IsLeft held g.slot
@@ -132,7 +140,7 @@ module _ {P : Type 0} (w : World) (commands : List Command) (live : List (Option
   a_slot_more : (c : PoolCore P) (slot : ℕ) → IsWorldOf w c → grants_of live ≡ told → slot < length c.cells → ((k : ℕ) → slot_count (slot_of k) slot + sum_by (granted_to (grant_count (slot_of k))) live ≤ made_count (slot_of k) (length c.cells)) → live_count told < w.total
   a_slot_more c slot world is inside held = omega (arith, one_free (length c.cells) slot live held inside, live_told live told is, world.total)
 
-  validated_tied : (g : Given) (o : Option Unsupported) (c : PoolCore P) (f : Frame P) → o ≡ None → grants_of live ≡ told → IsAsking w commands done f.asked f.granted.items → IsTied w commands live done told (validated g o c f)
+  validated_tied : (g : Given) (o : Option Unsupported) (c : PoolCore P) (f : Frame P) → o ≡ None → grants_of live ≡ told → IsAsking w commands done f.asked f.granted.items → IsTied w commands live done told (validated o g.wants c f)
   validated_tied g (Some rule) c f none is asking = absurd cc
   validated_tied g None c f none is asking =
       let room : Frame P = record f { granted = record { items = []; room = length (memories_asked f.asked) } } in
@@ -189,7 +197,7 @@ module _ {P : Type 0} (w : World) (commands : List Command) (live : List (Option
       (λ full. flush_of_give_back w commands live done told (with_queue (queue_tried 0 c f) (after_take queue) c) (record f { local = taken_into f.local queue }) end)
       (λ fits. gives_back w commands live done told (with_queue (queue_tried 0 c f) queue c) f end)
 
-  pub tied_at : (g : Given) (phase : Phase P) (c : PoolCore P) (f : Frame P) → IsWorldOf w c → CanStep w.maker c (in_phase phase f) → AreHeld c (in_phase phase f) → (w.alone ≡ true → IsAlone c (in_phase phase f) live) → g.limiter ≡ yes → MayBeTold c.settings g phase (in_phase phase f) → TiedAs w (stage_of phase f.ending) commands done live (in_phase phase f) told → IsTied w commands live done told (row_of g phase c (in_phase phase f))
+  pub tied_at : (g : Given) (phase : Phase P) (c : PoolCore P) (f : Frame P) → IsWorldOf w c → CanStep w.maker c (in_phase phase f) → AreHeld c (in_phase phase f) → (w.alone ≡ true → IsAlone c (in_phase phase f) live) → AsksOf unlimited unlimited g phase (in_phase phase f) → MayBeTold c.settings g phase (in_phase phase f) → TiedAs w (stage_of phase f.ending) commands done live (in_phase phase f) told → IsTied w commands live done told (row_of g phase c (in_phase phase f))
   tied_at g Idle c f world can held alone free may tied = record { tied = tied }
   tied_at g Key c f world can held alone free may tied = record { tied = tied }
   tied_at g Validate c f world can held alone free may tied =
@@ -252,12 +260,12 @@ module _ {P : Type 0} (w : World) (commands : List Command) (live : List (Option
       (λ e. record { tied = (tied.0, tied.1, tt) })
   tied_at g (MakeMemory slot had) c f world can held alone free may tied =
       let has : Frame P = in_phase (MakeMemory slot had) f in
-      let Made : Asked → Type 0 = λ a. IsOk (memory_made c.settings (memories_asked f.asked) (length f.granted.items) a had) in
+      let Made : Result Bool LimiterError → Type 0 = λ a. IsOk (memory_made c.settings (memories_asked f.asked) (length f.granted.items) a had) in
+      let yes : g.limiter ≡ Ok true = freely g has c.settings can.frame.shape.1 free in
       made_tied slot had (memory_made c.settings (memories_asked f.asked) (length f.granted.items) g.limiter had) c has
-      (subst Made (sym free) (makes_it w commands done slot had c has world tied.1 can.frame.shape.1 can.frame.shape.2 can.frame.shape.3)) tied.0 tied.1
-  tied_at g (CountMemory slot memory) c f world can held alone free may tied =
-      let has : Frame P = in_phase (CountMemory slot memory) f in
-      let lease : Lease = record { index = slot; memory = memory } in
+      (subst Made (sym yes) (makes_it w commands done slot had c has world tied.1 can.frame.shape.1 can.frame.shape.2 can.frame.shape.3)) tied.0 tied.1
+  tied_at g (CountMemory lease) c f world can held alone free may tied =
+      let has : Frame P = in_phase (CountMemory lease) f in
       let more : Frame P = record has { granted = with_item lease f.granted } in
       let asking = tied.1 in
       allocates w commands live done told (counting_memories (c.counters.memories + 1) c) more (length c.cells) world.total tied.0
@@ -265,7 +273,7 @@ module _ {P : Type 0} (w : World) (commands : List Command) (live : List (Option
         number = asking.number;
         command = asking.command;
         asked_for = asking.asked_for;
-        new = new_lease w commands done slot memory c has asking can.frame.shape.1 can.frame.shape.2 can.frame.shape.4;
+        new = new_lease w commands done lease c has asking can.frame.shape.1 can.frame.shape.2 can.frame.shape.4;
       })
       (λ k. omega (arith, held (slot_of k), leased_last (slot_of k) f.granted.items lease))
   tied_at g (PutRefused slot had e) c f world can held alone free may tied = record { tied = tied }
@@ -274,7 +282,7 @@ module _ {P : Type 0} (w : World) (commands : List Command) (live : List (Option
       refused w commands live done told (with_shard j (after_free (local_of c.settings slot) 0 (shard_at j c.shards)) c) (in_phase (FreeRefused slot e) f) e tied.0 tied.1 tied.2
   tied_at g UncountMemory c f world can held alone free may tied = returns_tied f.returning.items (counting_memories (c.counters.memories - 1) c) (in_phase UncountMemory f) can.frame.shape.2 tied
   tied_at g (Reset lease) c f world can held alone free may tied =
-      let reset : Frame P = record (in_phase (Reset lease) f) { local = reset_into c.settings.keep_resident.bytes lease.index lease.memory.slot f.local } in
+      let reset : Frame P = record (in_phase (Reset lease) f) { local = reset_into c.settings.keep_resident.bytes lease.index (image_slot_of lease.memory) f.local } in
       either w commands live done told ((length reset.local.ranges == 0) || nat_le c.settings.batch (length reset.local.ranges)) (flushes GiveBackNext c reset) (goes c reset Merge)
       (λ full. flush_of_give_back w commands live done told c reset tied) (λ fits. record { tied = tied })
   tied_at g Merge c f world can held alone free may tied = merged_tied (joined (queue_at (queue_tried 0 c (in_phase Merge f)) c.queues) f.local) c (record (in_phase Merge f) { local = emptied f.local }) tied

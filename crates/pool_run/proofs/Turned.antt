@@ -3,10 +3,12 @@ use Rattle.std.proofs.Common.{◌≡◌, ◌≢◌, ℕ, ◌+◌, ◌<◌, ◌�
 use Rattle.std.specs.Prelude.{nat_le, if◌then◌else◌, IfSome, slice_get, slice_set, slice_index_or, sum_by}
 use Rattle.std.proofs.lemmas.Option.{slice_get_within, get_or_from_slice_get}
 use Rattle.pool_pages.specs.MakerTold.{MakerTold}
+use Rattle.pool_limits.specs.LimiterTold.{unlimited}
 use Rattle.pool_slots.specs.declared.request.AllocError.TheVariants as alloc
 use Rattle.pool_alloc.specs.Leases.{Lease}
 use Rattle.pool_alloc.specs.Calls.{IsIdle, begun_call}
 use Rattle.pool_alloc.specs.Steps.{After}
+use Rattle.pool_alloc.specs.Stepping.{is_idle}
 use Rattle.pool_alloc.specs.declared.pool_core.PoolCore.{PoolCore}
 use Rattle.pool_alloc.specs.declared.frame.Call.TheVariants as call
 use Rattle.pool_alloc.specs.declared.frame.Frame.{Frame}
@@ -19,14 +21,14 @@ use Rattle.pool_alloc.specs.declared.frame.Phase.{Phase}
 use Rattle.pool_run.proofs.Searching.{IsSearched, searched_at}
 use Rattle.pool_run.specs.Searches.{IsSearchedAt}
 use Rattle.pool_run.specs.Private.{World}
-use Rattle.pool_run.specs.Turns.{Turned, lease_written, leases_of, replies, answered, Steps, Returns, ReadsLease, Reads, grant_written, WritesLease, Writes, Asks, Begins, BeginsKeyed, is_idle, TurnsAt, Turns}
+use Rattle.pool_run.specs.Turns.{Turned, lease_written, leases_of, replies, answered, Steps, Returns, ReadsLease, Reads, grant_written, WritesLease, Writes, Asks, Begins, BeginsKeyed, TurnsAt, Turns}
 use Rattle.pool_run.specs.Ties.{Stage, no_call, ends_as, stage_of, CanTurn}
 use Rattle.pool_run.specs.Worlds.{IsCallFor, AreCallsFor}
 use Rattle.pool_run.specs.declared.command.Command.{Command}
 use Rattle.pool_run.specs.declared.command.Command.TheVariants as command
 use Rattle.pool_run.specs.declared.reply.Reply.{Reply}
 use Rattle.pool_run.specs.declared.reply.Reply.TheVariants.{Done, Refused, Trap}
-use Rattle.pool_run.specs.declared.reply.Trap.TheVariants.{MemoryOutOfBounds}
+use Rattle.pool_limits.specs.declared.errors.Trap.TheVariants.{MemoryOutOfBounds}
 use Rattle.pool_run.specs.declared.reply.Refusal.TheVariants.{NoSuchGrant, Alloc}
 use Rattle.pool_run.specs.declared.running_party.RunningParty.{RunningParty}
 use Rattle.pool_run.proofs.Parties.{can_step, live_grant, called_key, called_module, called_back, returned_searched}
@@ -150,10 +152,10 @@ module _ {P : Type 0} where
       let by = steps.1 in
       let Placed : After P → Type 0 = λ x. IsPlaced (p.done < length p.live) x in
       let placed : IsPlaced (p.done < length p.live) a =
-      subst Placed (sym by.2.is) (placed_at (p.done < length p.live) by.0 p.frame.phase c p.frame (placed_as (p.done < length p.live) (stage_of p.frame.phase p.frame.ending) can.party.place)) in
+      subst Placed (sym by.1.is) (placed_at (p.done < length p.live) by.0 p.frame.phase c p.frame (placed_as (p.done < length p.live) (stage_of p.frame.phase p.frame.ending) can.party.place)) in
       subst (HasTurned c p) (sym steps.2)
-      (answered_turned c p a.core a.frame a.outcome can.party.to_come (step_conserves maker c p.frame a (can_step maker c p can) (by.0, by.2)) (step_keeps_size maker c p.frame a (can_step maker c p can) (by.0, by.2)) placed.placed
-      (λ searching. let Searched : After P → Type 0 = λ x. IsSearched x in (subst Searched (sym by.2.is) (searched_at maker by.0 p.frame.phase c p.frame can.core searching)).searched))
+      (answered_turned c p a.core a.frame a.outcome can.party.to_come (step_conserves maker unlimited unlimited c p.frame a (can_step maker c p can) by) (step_keeps_size maker unlimited unlimited c p.frame a (can_step maker c p can) by) placed.placed
+      (λ searching. let Searched : After P → Type 0 = λ x. IsSearched x in (subst Searched (sym by.1.is) (searched_at maker by.0 p.frame.phase c p.frame can.core searching)).searched))
 
   -- The same from a party with as much of the pool.
   turned_from : (c : PoolCore P) (p q : RunningParty P) (t : Turned P) → HaveSame p q → length q.live ≡ length p.live → IsSearchedAt q.frame.phase c q.frame → HasTurned c q t → HasTurned c p t
@@ -222,7 +224,7 @@ module _ {P : Type 0} (maker : MakerTold) (c : PoolCore P) (p : RunningParty P) 
 
   writes_lease : (of k i : ℕ) (bytes : List ℕ) (lease : InstanceLease P) (y : Option Lease) (t : Turned P) → slice_index_or p.live of None ≡ Some (instance lease) → slice_get lease.memories.items k ≡ y → WritesLease y of (instance lease) k i bytes c p t → HasTurned c p t
   writes_lease of k i bytes lease None t has there is = at_once (Refused NoSuchGrant) t is
-  writes_lease of k i bytes lease (Some l) t has there is = writes_within of k i bytes lease l (nat_le (i + length bytes) l.memory.size) t has there is
+  writes_lease of k i bytes lease (Some l) t has there is = writes_within of k i bytes lease l (nat_le (i + length bytes) l.memory.linear.size) t has there is
 
   writes_turned : (of k i : ℕ) (bytes : List ℕ) (x : Option (Grant P)) (t : Turned P) → slice_index_or p.live of None ≡ x → Writes x of k i bytes c p t → HasTurned c p t
   writes_turned of k i bytes None t has is = at_once (Refused NoSuchGrant) t is
@@ -247,9 +249,9 @@ module _ {P : Type 0} (maker : MakerTold) (c : PoolCore P) (p : RunningParty P) 
         | inr steps ↦
             let m : ModuleCall = steps.0 in
             let q : RunningParty P = record p { frame = begun_call (call.Module m) p.frame } in
-            let images : AreImagesOf c.settings (memories_asked (Some m)) (images_asked (Some m)) = (share_for w c.settings number kept m steps.1 for).images in
-            turned_from c p q t (has_call maker (call.Module m) p.live c p can.party.sound.frame (idle, images) (brings_module m p.live)) refl tt
-            (step_turned maker c q t (called_module maker m c p can idle images room) steps.2)
+            let call_for : IsCallFor w c.settings number m = share_for w c.settings number kept m steps.1 for in
+            turned_from c p q t (has_call maker (call.Module m) p.live c p can.party.sound.frame (idle, call_for.images, call_for.places) (brings_module m p.live)) refl tt
+            (step_turned maker c q t (called_module maker m c p can idle call_for.images call_for.places room) steps.2)
       ]
 
   begins : (w : World) (modules : List ModuleCall) (command : Command) (t : Turned P) → AreCallsFor w c.settings modules → Begins modules command c p t → p.done < length p.live → HasTurned c p t

@@ -52,7 +52,7 @@ module _ {P : Type 0} where
   pub step_tied : (w : World) (start : Grants) (commands : List Command) (before : List Reply) (c : PoolCore P) (p : RunningParty P) (a : After P) (private : IsPrivate w start commands before p) → IsWorldOf w c → CanTurn w.maker c p → (w.alone ≡ true → IsAlone c p.frame p.live) → StepsFreely c p.frame a → IsTied w commands p.live p.done private.grants a
   step_tied w start commands before c p a private world can alone steps =
       let T : After P → Type 0 = λ x. IsTied w commands p.live p.done private.grants x in
-      subst T (sym steps.2.is) (tied_at w commands p.live p.done private.grants steps.0 p.frame.phase c p.frame world (can_step w.maker c p can) (λ t. omega (arith, can.fits.once t)) alone steps.1 steps.2.told private.tied)
+      subst T (sym steps.1.is) (tied_at w commands p.live p.done private.grants steps.0 p.frame.phase c p.frame world (can_step w.maker c p can) (λ t. omega (arith, can.fits.once t)) alone steps.1.limiter steps.1.told private.tied)
 
   pub step_private : (w : World) (start : Grants) (commands : List Command) (before : List Reply) (c : PoolCore P) (p : RunningParty P) (t : Turned P) → IsPrivate w start commands before p → IsWorldOf w c → CanTurn w.maker c p → (w.alone ≡ true → IsAlone c p.frame p.live) → Steps c p t → SeesTurn w start commands before t
   step_private w start commands before c p t private world can alone steps =

@@ -7,7 +7,8 @@ use Rattle.pool_alloc.specs.declared.pool_core.PoolCore.{PoolCore}
 use Rattle.pool_alloc.specs.declared.pool_core.Settings.{Settings}
 use Rattle.pool_alloc.specs.declared.frame.ModuleCall.{ModuleCall}
 use Rattle.pool_run.specs.Private.{World, no_grants}
-use Rattle.pool_run.specs.Turns.{Turned, Turns, with_reply, is_idle}
+use Rattle.pool_run.specs.Turns.{Turned, Turns, with_reply}
+use Rattle.pool_alloc.specs.Stepping.{is_idle}
 use Rattle.pool_run.specs.Ties.{IsPrivate, IsSoundTurn, IsRunning}
 use Rattle.pool_run.specs.Searches.{IsAlone}
 use Rattle.pool_run.specs.Worlds.{IsWorldOf, AreCallsFor}

@@ -1,5 +1,12 @@
+pub mod AtOnce
+pub mod Built
 pub mod Folds
+pub mod Made
+pub mod Numbers
 pub mod Private
+pub mod Runs
+pub mod RunsMade
+pub mod Schedules
 pub mod Searches
 pub mod Ties
 pub mod Turns

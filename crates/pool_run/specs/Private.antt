@@ -4,10 +4,11 @@ use Rattle.std.specs.Option.{option_map_or}
 use Rattle.std.specs.List.{list_all}
 use Rattle.pool_pages.specs.Contents.{put}
 use Rattle.pool_pages.specs.MemoryTypes.{minimum_byte_size}
-use Rattle.pool_pages.specs.MakerTold.{MakerTold, calls_of}
+use Rattle.pool_pages.specs.MakerTold.{MakerTold, plan_for}
 use Rattle.pool_pages.specs.declared.pages.RegionName.TheVariants.{Memory as memory_region}
 use Rattle.pool_pages.specs.declared.module_types.MemoryDecl.{MemoryDecl}
 use Rattle.pool_pages.specs.declared.module_types.ModuleInfo.{ModuleInfo}
+use Rattle.pool_limits.specs.declared.errors.Trap.TheVariants.{MemoryOutOfBounds}
 use Rattle.pool_images.specs.Images.{Image, image_of, start, ends_in_minimum}
 use Rattle.pool_slots.specs.declared.request.AllocError.TheVariants as alloc
 use Rattle.pool_slots.specs.declared.request.ConcurrencyKind.TheVariants.{MemoryStripe, CoreInstances}
@@ -89,9 +90,9 @@ begun_memories w number k (decl ∷ decls) (slot ∷ slots) = begun_memory w num
 abbrev pub IsFree : ℕ → Grants → Type 0
 IsFree slot grants = (i : ℕ) → IfSome (grant_at grants i) (λ g. All (λ m. m.slot ≢ slot) g.memories)
 
--- where a plan is told, it lists a call on the region of some slot
+-- the plan that the region of some slot is made with, where it is told, lists a call on it
 abbrev pub SomeMayFault : World → Type 0
-SomeMayFault w = IfSome w.maker.plan (λ plan. (i : ℕ) × (i < w.total) × (0 < length (calls_of (memory_region i) plan)))
+SomeMayFault w = (i : ℕ) × (i < w.total) × IfSome (plan_for (memory_region i) w.maker) (λ plan. 0 < length plan)
 
 -- A refusal for room of a request for the module of this number: no slot is free for one of its memories, or as many
 -- instances are granted as there may be. A party that is alone has all these itself.
@@ -131,7 +132,7 @@ Instantiates w n number grants _ new = ⊥
 -- the reply to a read of a live memory
 abbrev pub IsRead : PrivateMemory → ℕ → ℕ → Reply → Type 0
 IsRead m at len (Bytes bytes) = (at + len ≤ m.size) × IfSome m.bytes (λ b. bytes ≡ slice_range b at (at + len))
-IsRead m at len (Trap trap) = m.size < at + len
+IsRead m at len (Trap trap) = (trap ≡ MemoryOutOfBounds) × (m.size < at + len)
 IsRead m at len (Refused refusal) = refusal ≡ Alloc alloc.Memory
 IsRead m at len _ = ⊥
 
@@ -146,7 +147,7 @@ with_memory grants of g k m = slice_set grants of (Some (record { memories = sli
 -- the reply to a write to memory k of a live grant, command `of`'s
 abbrev pub Writes : Grants → ℕ → PrivateInstance → ℕ → PrivateMemory → ℕ → List ℕ → Reply → Grants → Type 0
 Writes grants of g k m at bytes Done new = (at + length bytes ≤ m.size) × (new ≡ with_memory grants of g k (memory_written at bytes m))
-Writes grants of g k m at bytes (Trap trap) new = (m.size < at + length bytes) × (new ≡ grants)
+Writes grants of g k m at bytes (Trap trap) new = (trap ≡ MemoryOutOfBounds) × (m.size < at + length bytes) × (new ≡ grants)
 Writes grants of g k m at bytes _ new = ⊥
 
 -- a command on a grant that isn't live, or on a memory that it hasn't, is refused, and changes nothing

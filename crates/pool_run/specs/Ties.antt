@@ -62,7 +62,7 @@ module _ {P : Type 0} where
   stage_of (Empty slot held) e = asks
   stage_of (Instantiate slot held) e = asks
   stage_of (MakeMemory slot held) e = asks
-  stage_of (CountMemory slot memory) e = asks
+  stage_of (CountMemory lease) e = asks
   stage_of (PutRefused slot held error) e = asks
   stage_of (FreeRefused slot error) e = asks
   stage_of UncountMemory e = ends_as e

@@ -1,14 +1,13 @@
 -- A turn of a party in a run: the next step of its call, or the first step of its next command.
 use Rattle.std.specs.Prelude.{◌≡◌, ℕ, ◌+◌, List, [], ◌∷◌, ◌++◌, length, map, nat_le, slice_get, slice_index_or, slice_range, slice_set, ◌⊎◌, Bool, true, false, if◌then◌else◌, Option, Some, None, option_map}
 use Rattle.std.specs.Arc.{arc_value}
-use Rattle.pool_memory.specs.Memories.{MemoryState}
-use Rattle.pool_images.specs.Slots.{written_at}
+use Rattle.pool_limits.specs.LimiterTold.{unlimited}
+use Rattle.pool_memory.specs.Memories.{bytes_of, memory_written}
 use Rattle.pool_slots.specs.declared.request.AllocError.TheVariants as alloc
 use Rattle.pool_alloc.specs.Leases.{Lease}
 use Rattle.pool_alloc.specs.Calls.{begun_call}
-use Rattle.pool_limits.specs.Limiter.{yes}
-use Rattle.pool_alloc.specs.Steps.{Given, After}
-use Rattle.pool_alloc.specs.Stepping.{Takes}
+use Rattle.pool_alloc.specs.Steps.{After}
+use Rattle.pool_alloc.specs.Stepping.{StepsTo, is_idle}
 use Rattle.pool_alloc.specs.declared.pool_core.PoolCore.{PoolCore}
 use Rattle.pool_alloc.specs.declared.frame.Frame.{Frame}
 use Rattle.pool_alloc.specs.declared.frame.ModuleCall.{ModuleCall}
@@ -24,20 +23,17 @@ use Rattle.pool_run.specs.declared.command.Command.{Command}
 use Rattle.pool_run.specs.declared.command.Command.TheVariants.{Instantiate, Read, Write, Drop}
 use Rattle.pool_run.specs.declared.reply.Reply.{Reply}
 use Rattle.pool_run.specs.declared.reply.Reply.TheVariants.{Instance, Done, Returned, Refused, Trap}
-use Rattle.pool_run.specs.declared.reply.Trap.TheVariants.{MemoryOutOfBounds}
+use Rattle.pool_limits.specs.declared.errors.Trap.TheVariants.{MemoryOutOfBounds}
 use Rattle.pool_run.specs.declared.reply.Refusal.TheVariants.{NoSuchGrant, Alloc}
 use Rattle.pool_run.specs.declared.running_party.RunningParty.{RunningParty}
 
--- a memory and a grant as the party sees them
-abbrev pub bytes_of : MemoryState → Option (List ℕ)
-bytes_of m = option_map (λ c. slice_range c.bytes m.slot.base.bytes (m.slot.base.bytes + m.size)) m.slot.region.contents
-
+-- a memory as the party sees it
 abbrev pub private_memory : Lease → PrivateMemory
-private_memory l = record { slot = l.index; size = l.memory.size; bytes = bytes_of l.memory }
+private_memory l = record { slot = l.index; size = l.memory.linear.size; bytes = bytes_of l.memory }
 
 -- a lease whose memory was written
 abbrev pub lease_written : ℕ → List ℕ → Lease → Lease
-lease_written at new l = record l { memory = record l.memory { slot = written_at at new l.memory.slot } }
+lease_written at new l = record l { memory = memory_written at new l.memory }
 
 -- the replies so far, with one more if there is one
 abbrev pub with_reply : Option Reply → List Reply → List Reply
@@ -87,7 +83,7 @@ module _ {P : Type 0} where
 
   -- a step of a call, where there is no limiter that could refuse a memory
   abbrev pub StepsFreely : PoolCore P → Frame P → After P → Type 0
-  StepsFreely c f a = (g : Given) × (g.limiter ≡ yes) × Takes g c f a
+  StepsFreely c f a = StepsTo unlimited unlimited c f a
 
   -- the party's call makes its next step
   abbrev pub Steps : PoolCore P → RunningParty P → Turned P → Type 0
@@ -113,7 +109,7 @@ module _ {P : Type 0} where
 
   abbrev pub writes : ℕ → Grant P → ℕ → Lease → ℕ → List ℕ → PoolCore P → RunningParty P → Turned P
   writes of grant k l at bytes c p =
-      if nat_le (at + length bytes) l.memory.size
+      if nat_le (at + length bytes) l.memory.linear.size
       then replies Done c (record p { live = slice_set p.live of (Some (grant_written k (lease_written at bytes l) grant)) })
       else replies (Trap MemoryOutOfBounds) c p
 
@@ -149,10 +145,6 @@ module _ {P : Type 0} where
   BeginsKeyed false modules None c p t = t ≡ record { core = c; party = p; reply = None }
   BeginsKeyed false modules (Some command) c p t = Steps c (record p { frame = begun_call call.Key p.frame }) t
   BeginsKeyed true modules next c p t = BeginsNext modules next c p t
-
-  abbrev pub is_idle : Phase P → Bool
-  is_idle Idle = true
-  is_idle _ = false
 
   abbrev pub TurnsAt : Bool → List ModuleCall → List Command → PoolCore P → RunningParty P → Turned P → Type 0
   TurnsAt true modules commands c p t = BeginsKeyed p.keyed modules (slice_get commands p.done) c p t

@@ -1,11 +1,12 @@
 -- What a run relies on from its input: the pool has the sizes that replies speak of, each module is supported, and each
 -- call for a module is a call for its memories and their images.
-use Rattle.std.specs.Prelude.{◌≡◌, ℕ, List, length, slice_get, Some, None, IfSome, IsOk}
+use Rattle.std.specs.Prelude.{◌≡◌, ℕ, ◌<◌, List, length, slice_get, true, Some, None, IfSome, Ok, IsOk}
 use Rattle.pool_pages.specs.declared.module_types.MemoryDecl.{MemoryDecl}
 use Rattle.pool_images.specs.Slots.{Slot}
-use Rattle.pool_limits.specs.Limiter.{yes}
 use Rattle.pool_slots.specs.Cells.{IsSlotOf}
-use Rattle.pool_alloc.specs.Own.{memories_refused, memory_made}
+use Rattle.pool_alloc.specs.Own.{memory_made}
+use Rattle.pool_alloc.specs.Refusals.{memories_refused}
+use Rattle.pool_alloc.specs.Modules.{HasImages}
 use Rattle.pool_alloc.specs.Steps.{memories_asked, images_asked}
 use Rattle.pool_alloc.specs.Sound.{AreImagesOf, HasBegun}
 use Rattle.pool_alloc.specs.declared.pool_core.PoolCore.{PoolCore}
@@ -13,12 +14,14 @@ use Rattle.pool_alloc.specs.declared.pool_core.Settings.{Settings}
 use Rattle.pool_alloc.specs.declared.frame.ModuleCall.{ModuleCall}
 use Rattle.pool_run.specs.Private.{World, memories_of, image_at}
 use Rattle.pool_run.specs.Ties.{IsAskedFor}
+use Rattle.pool_run.specs.declared.command.Command.{Command}
+use Rattle.pool_run.specs.declared.command.Command.TheVariants.{Instantiate, Read, Write, Drop}
 
 -- A memory of the module of this number, which is memory k of it, is made in each slot that is ready for it, where no
 -- limiter refuses it.
 abbrev pub IsMadeReady : World → Settings → ℕ → ℕ → MemoryDecl → Type 0
 IsMadeReady w s number k decl =
-    (slot : ℕ) (held : Slot) → IsSlotOf w.maker s.max_memory_size slot held → HasBegun (image_at w number k decl) held decl → IsOk (memory_made s (memories_of w number) k yes held)
+    (slot : ℕ) (held : Slot) → IsSlotOf w.maker s.max_memory_size slot held → HasBegun (image_at w number k decl) held decl → IsOk (memory_made s (memories_of w number) k (Ok true) held)
 
 -- the pool breaks no rule of the modules, and has one stripe, and as many slots and instances as the world says
 pub record IsWorldOf {P : Type 0} (w : World) (c : PoolCore P) : Type 0 where
@@ -32,7 +35,26 @@ pub record IsWorldOf {P : Type 0} (w : World) (c : PoolCore P) : Type 0 where
 pub record IsCallFor (w : World) (s : Settings) (number : ℕ) (m : ModuleCall) : Type 0 where
   pub asked : IsAskedFor w number (Some m)
   pub images : AreImagesOf s (memories_asked (Some m)) (images_asked (Some m))
+  pub places : HasImages (Some m)
 
 -- each call is one for the module of its number
 abbrev pub AreCallsFor : World → Settings → List ModuleCall → Type 0
 AreCallsFor w s modules = (number : ℕ) → IfSome (slice_get modules number) (IsCallFor w s number)
+
+-- the images that are given are those of the module's memories
+pub record IsFit (s : Settings) (m : ModuleCall) : Type 0 where
+  pub images : AreImagesOf s (memories_asked (Some m)) (images_asked (Some m))
+  pub places : HasImages (Some m)
+
+abbrev pub AreFit : Settings → List ModuleCall → Type 0
+AreFit s modules = (number : ℕ) → IfSome (slice_get modules number) (IsFit s)
+
+-- a module that the command names is one of so many
+abbrev pub NamesModule : ℕ → Command → Type 0
+NamesModule count (Instantiate number) = number < count
+NamesModule count (Read of memory at len) = Unit {0}
+NamesModule count (Write of memory at bytes) = Unit {0}
+NamesModule count (Drop of) = Unit {0}
+
+abbrev pub NameModules : ℕ → List Command → Type 0
+NameModules count commands = (k : ℕ) → IfSome (slice_get commands k) (NamesModule count)

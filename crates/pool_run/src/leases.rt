@@ -1,5 +1,10 @@
+ghost use Rattle.std.specs.Prelude.{◌≡◌, ◌<◌, length, replicate, slice_index_or, slice_set, None, Some, IfOk, fold, option_copied};
+ghost use Rattle.pool_run.specs.Numbers.{with_grant};
+
 use pool_alloc::Grant;
-use pool_pages::Pages;
+use pool_pages::{PageCalls, Pages};
+use pool_slots::add_calls;
+use std::alloc::{AllocError, Global};
 use std::marker::Model;
 
 /// A party's live grants, by the numbers of its commands.
@@ -15,4 +20,73 @@ impl<P: Pages> Model for Leases<P> {
     ghost Value = { List (Option (Grant P)) };
 
     ghost view = { λ l. l.places.items };
+}
+
+impl<P: Pages> Leases<P> {
+    /// A place for each of `count` commands, and no grant.
+    pub fn new(alloc: Global, count: usize) -> Result<Self, AllocError>
+        ensures { IfOk result (λ l. l ≡ replicate count None) }
+    {
+        let mut places = Vec::with_capacity(alloc, count)?;
+        for place in 0..count {
+            places.push(None)?;
+        }
+        Ok(Leases { places })
+    }
+
+    pub fn len(&self) -> usize
+        ensures { result ≡ length self.now }
+    {
+        self.places.len()
+    }
+
+    /// The grant of a command, if it is live.
+    pub fn get(&self, of: usize) -> Option<&Grant<P>>
+        ensures { option_copied result ≡ slice_index_or self.now of None }
+    {
+        match self.places.get(of) {
+            Some(place) => place.as_ref(),
+            None => None,
+        }
+    }
+
+    /// Takes out the grant of a command.
+    pub fn take(&mut self, of: usize) -> Option<Grant<P>>
+        ensures value { result ≡ slice_index_or self.old of None }
+        ensures rest { self.new ≡ slice_set self.old of None }
+    {
+        if of < self.places.len() {
+            self.places[of].take()
+        } else {
+            None
+        }
+    }
+
+    /// Puts a grant into the place of a command.
+    pub fn put(&mut self, of: usize, grant: Grant<P>)
+        requires { of < length self.old }
+        ensures { self.new ≡ slice_set self.old of (Some grant) }
+    {
+        self.places[of] = Some(grant);
+    }
+
+    /// The calls on the regions of the live grants so far, added to these.
+    pub fn page_calls(&self, calls: PageCalls) -> PageCalls
+        ensures { result ≡ fold with_grant calls self.now }
+    {
+        let mut total = calls;
+        for place in &self.places {
+            total = with_grant(total, place);
+        }
+        total
+    }
+}
+
+fn with_grant<P: Pages>(calls: PageCalls, place: &Option<Grant<P>>) -> PageCalls
+    ensures { result ≡ with_grant calls place.now }
+{
+    match place {
+        None => calls,
+        Some(Grant::Instance(lease)) => add_calls(calls, lease.page_calls()),
+    }
 }

@@ -1,20 +1,29 @@
 //! A run of the pool: the input, the parties' commands and the replies.
 #![tactic(auto)]
 
+mod at_once;
+mod built;
 mod command;
+mod images;
 mod input;
 mod leases;
-mod metrics;
 mod output;
 mod reply;
+mod run;
 mod running_party;
+mod schedule;
+mod turn;
 mod validity;
 
+pub use built::is_built;
 pub use command::Command;
-pub use input::{Input, Party};
+pub use input::{Input, Party, ScheduleEntry};
 pub use leases::Leases;
-pub use metrics::Metrics;
 pub use output::{RunFault, RunOutput};
-pub use reply::{Refusal, Reply, ReplyList, SlotList, Trap};
+pub use reply::{Refusal, Reply, ReplyList, SlotList};
+pub use run::Run;
 pub use running_party::RunningParty;
-pub use validity::{MOST_BYTES, MOST_COMMANDS, is_valid};
+pub use turn::turn_of;
+pub use validity::{
+    HOMES, MOST_BYTES, MOST_COMMANDS, MOST_MODULES, MOST_PARTIES, MOST_STEPS, is_valid,
+};

@@ -1,6 +1,6 @@
-use crate::metrics::Metrics;
 use crate::reply::ReplyList;
-use pool_pages::{PageCalls, PlainList};
+use pool_alloc::Metrics;
+use pool_pages::{BadConfig, PageCalls, PlainList};
 
 /// What a run gives: each party's replies, the pool's numbers at the end, and the calls on all its regions.
 #[derive(Debug, Drop)]
@@ -13,6 +13,8 @@ pub struct RunOutput {
 /// Why nothing was run.
 #[derive(Clone, Copy, Debug, PartialEq, Eq)]
 pub enum RunFault {
+    /// A limit of the settings is broken: the first of them.
+    BadConfig(BadConfig),
     /// A region or an image couldn't be made, or a call on a region as the pool was made failed.
     PageFault,
     Memory,

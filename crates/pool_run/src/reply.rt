@@ -1,11 +1,6 @@
+use pool_limits::Trap;
 use pool_pages::{ByteList, PlainList};
 use pool_slots::AllocError;
-
-/// A rule of the machine that a command broke. Nothing changes then.
-#[derive(Clone, Copy, Debug, PartialEq, Eq)]
-pub enum Trap {
-    MemoryOutOfBounds,
-}
 
 /// The slots of a grant, in order.
 pub type SlotList = PlainList<u32>;

@@ -1,0 +1,135 @@
+-- A run keeps what it promises.
+use Rattle.std.proofs.Common.{◌≡◌, ℕ, ◌+◌, ◌^◌, ◌<◌, ◌≤◌, List, [], ◌∷◌, ◌++◌, length, map, take, get_or, replicate, Option, Some, None, refl, sym, ap, ◌∙◌, subst, arith}
+use Rattle.std.specs.Prelude.{IfSome, slice_get, slice_set, slice_index_or, sum_by}
+use Rattle.std.proofs.lemmas.List.{length-set, get_or-set_same, get_or-map, length-map, map-append, take_all, take_more, replicate_more}
+use Rattle.std.proofs.lemmas.List.Sums.{sum_by-set, get_or-le-sum_by}
+use Rattle.std.proofs.lemmas.Option.{slice_get_within, get_or_from_slice_get}
+use Rattle.pool_pages.specs.MakerTold.{MakerTold}
+use Rattle.pool_alloc.specs.declared.frame.ModuleCall.{ModuleCall}
+use Rattle.pool_alloc.specs.Stepping.{CanCount}
+use Rattle.pool_alloc.specs.declared.pool_core.PoolCore.{PoolCore}
+use Rattle.pool_run.specs.Folds.{RunState, TurnsOf, TurnsIf, IsUnderWay, with_turn, commands_of, replies_to}
+use Rattle.pool_alloc.specs.Sound.{IsCore}
+use Rattle.pool_alloc.specs.Whole.{IsUntouched}
+use Rattle.pool_run.specs.Folds.{Folds, IsMadeParty}
+use Rattle.pool_run.specs.RunsMade.{IsKept, places_in, commands_in, party_made_for, run_made}
+use Rattle.pool_run.specs.declared.input.Party.{Party}
+use Rattle.pool_run.specs.Ties.{CanTurn, IsSoundTurn}
+use Rattle.pool_run.specs.Turns.{Turned, Turns}
+use Rattle.pool_run.specs.Worlds.{IsFit, AreFit, AreCallsFor, IsCallFor}
+use Rattle.pool_run.specs.Private.{World}
+use Rattle.pool_run.specs.declared.command.Command.{Command}
+use Rattle.pool_run.specs.declared.running_party.RunningParty.{RunningParty}
+use Rattle.pool_alloc.specs.declared.pool_core.Settings.{Settings}
+use Rattle.pool_run.proofs.Counters.{can_count}
+use Rattle.pool_run.proofs.Ended.{no_more_replies}
+use Rattle.pool_run.proofs.Folding.{run_turned, folds_more}
+use Rattle.pool_run.proofs.Started.{AreMade, started_running}
+use Rattle.pool_run.proofs.Running.{can_turn}
+use Rattle.pool_run.specs.Private.{no_grants}
+
+one_fits : (w : World) (s : Settings) (number : ℕ) (o : Option ModuleCall) → IfSome o (IsCallFor w s number) → IfSome o (IsFit s)
+one_fits w s number None call = tt
+one_fits w s number (Some m) call = record { images = call.images; places = call.places }
+
+-- a call for a module is fit
+pub are_fit : (w : World) (s : Settings) (modules : List ModuleCall) → AreCallsFor w s modules → AreFit s modules
+are_fit w s modules calls number = one_fits w s number (slice_get modules number) (calls number)
+
+-- what is made of one element more
+pub map_more : {X Y : Type 0} (f : X → Y) (xs : List X) (i : ℕ) (x : X) → i < length xs → x ≡ get_or xs i x → map f (take i xs) ++ f x ∷ [] ≡ map f (take (i + 1) xs)
+map_more {Y = Y} f xs i x below is =
+    let L : List Y = map f (take i xs) in
+    ap (λ y. L ++ f y ∷ []) is ∙ sym (map-append f (take i xs) (get_or xs i x ∷ [])) ∙ ap (map f) (sym (take_more xs i x below))
+
+pub map_all : {X Y : Type 0} (f : X → Y) (xs : List X) (i : ℕ) → length xs ≤ i → map f (take i xs) ≡ map f xs
+map_all f xs i all = ap (map f) (take_all i xs all)
+
+-- a party that doesn't matter
+nobody : Party
+nobody = record { home = 0; commands = [] }
+
+module _ {P : Type 0} where
+  -- a turn that was made is one of the run
+  turn_taken : (maker : MakerTold) (modules : List ModuleCall) (inputs : List (List Command)) (commands : List Command) (i : ℕ) (p : RunningParty P) (s : RunState P) (t : Turned P) → slice_get s.parties i ≡ Some p → commands ≡ commands_of inputs i → Turns modules commands s.core p t → IsSoundTurn maker t → TurnsOf maker modules inputs i s (with_turn i t s)
+  turn_taken maker modules inputs commands i p s t there same turns sound =
+      let If : Option (RunningParty P) → Type 0 = λ o. TurnsIf maker modules (commands_of inputs i) i o s (with_turn i t s) in
+      let T : List Command → Type 0 = λ cs. Turns modules cs s.core p t in
+      subst If (sym there) (t, subst T same turns, sound, refl)
+
+  -- what a turn of the party wants
+  pub record CanTake (maker : MakerTold) (modules : List ModuleCall) (commands : List Command) (c : PoolCore P) (p : RunningParty P) : Type 0 where
+    pub can : CanTurn maker c p
+    pub counts : CanCount c
+    pub calls : AreFit c.settings modules
+    pub places : length commands ≤ length p.live
+    pub small : p.done + 1 < 2 ^ 64
+
+  pub can_take : (w : World) (modules : List ModuleCall) (inputs : List (List Command)) (commands : List Command) (i : ℕ) (p : RunningParty P) (s : RunState P) → IsUnderWay w modules inputs s → IsKept s → slice_get s.parties i ≡ Some p → commands ≡ commands_of inputs i → CanTake w.maker modules commands s.core p
+  can_take w modules inputs commands i p s way kept there same =
+      let below : i < length s.parties = slice_get_within s.parties i p there in
+      let here : slice_index_or s.parties i p ≡ p = get_or_from_slice_get s.parties i p p there in
+      let Can : RunningParty P → Type 0 = λ q. CanTurn w.maker s.core q in
+      let to = way.each i p below in
+      let places : RunningParty P → ℕ = λ q. 1 + length q.live in
+      let long : length commands ≡ length (commands_of inputs i) = ap (length {A = Command}) same in
+      let live : length (slice_index_or s.parties i p).live ≡ length p.live = ap (λ (q : RunningParty P). length q.live) here in
+      let done : (slice_index_or s.parties i p).done ≡ p.done = ap (λ (q : RunningParty P). q.done) here in
+      let told = no_more_replies w 0 (commands_of inputs i) (replies_to i s.replies) (no_grants (commands_of inputs i)) to.private.grants to.private.run in
+      let few : 1 + length (slice_index_or s.parties i p).live ≤ places_in s.parties = get_or-le-sum_by places s.parties i p below in
+      record {
+        can = subst Can here (can_turn w.maker s.core s.parties i p way.running below);
+        counts = can_count w.maker s.core s.parties way.running kept.few;
+        calls = are_fit w s.core.settings modules way.calls;
+        places = omega (arith, to.room, long, live);
+        small = omega (arith, kept.few, few, told, to.private.count, to.room, live, done);
+      }
+
+  -- a turn is one of the run, which goes on, and keeps what it promises
+  pub record IsAfter (w : World) (modules : List ModuleCall) (inputs : List (List Command)) (i : ℕ) (s new : RunState P) : Type 0 where
+    pub turn : TurnsOf w.maker modules inputs i s new
+    pub way : IsUnderWay w modules inputs new
+    pub kept : IsKept new
+
+  pub turn_after : (w : World) (modules : List ModuleCall) (inputs : List (List Command)) (commands : List Command) (i : ℕ) (p : RunningParty P) (s : RunState P) (t : Turned P) → IsUnderWay w modules inputs s → IsKept s → slice_get s.parties i ≡ Some p → commands ≡ commands_of inputs i → Turns modules commands s.core p t → IsSoundTurn w.maker t → IsAfter w modules inputs i s (with_turn i t s)
+  turn_after w modules inputs commands i p s t way kept there same turns sound =
+      let turn : TurnsOf w.maker modules inputs i s (with_turn i t s) = turn_taken w.maker modules inputs commands i p s t there same turns sound in
+      let on : IsUnderWay w modules inputs (with_turn i t s) = run_turned w modules inputs i s (with_turn i t s) way turn in
+      let below : i < length s.parties = slice_get_within s.parties i p there in
+      let inside : i < length (slice_set s.parties i t.party) = omega (arith, below, length-set s.parties i t.party) in
+      let places : RunningParty P → ℕ = λ q. 1 + length q.live in
+      let live : length (slice_index_or (slice_set s.parties i t.party) i p).live ≡ length t.party.live = ap (λ (q : RunningParty P). length q.live) (get_or-set_same s.parties i t.party p below) in
+      record {
+        turn = turn;
+        way = on;
+        kept = record {
+          whole = on.running.whole;
+          few = omega (arith, kept.few, sum_by-set places s.parties i t.party p below, (way.each i p below).room, (on.each i p inside).room, live);
+        };
+      }
+
+  -- one turn more of the same party
+  pub repeated : (maker : MakerTold) (modules : List ModuleCall) (inputs : List (List Command)) (i n : ℕ) (s mid new : RunState P) → Folds maker modules inputs (replicate n i) s mid → TurnsOf maker modules inputs i mid new → Folds maker modules inputs (replicate (n + 1) i) s new
+  repeated maker modules inputs i n s mid new folds turns =
+      let F : List ℕ → Type 0 = λ schedule. Folds maker modules inputs schedule s new in
+      subst F (replicate_more n i) (folds_more maker modules inputs (replicate n i) i s mid new folds turns)
+
+  one_made : (s : Settings) (q : Party) → IsMadeParty s (length q.commands) (party_made_for {P = P} s q)
+  one_made s q = record { home = q.home; frame = refl; keyed = refl; done = refl; live = refl }
+
+  -- each party is as it is made, with a place for each of its commands
+  pub are_made : (s : Settings) (parties : List Party) → AreMade s (commands_in parties) (map (party_made_for {P = P} s) parties)
+  are_made s parties i d inside =
+      let below : i < length parties = omega (arith, inside, length-map parties (party_made_for {P = P} s)) in
+      let q : Party = get_or parties i nobody in
+      let party : get_or (map (party_made_for {P = P} s) parties) i d ≡ party_made_for s q = get_or-map (party_made_for {P = P} s) parties i nobody d below in
+      let commands : get_or (commands_in parties) i [] ≡ q.commands = get_or-map (λ (x : Party). x.commands) parties i nobody [] below in
+      let At : List Command → RunningParty P → Type 0 = λ cs p. IsMadeParty s (length cs) p in
+      subst (λ (cs : List Command). At cs (get_or (map (party_made_for {P = P} s) parties) i d)) (sym commands) (subst (At q.commands) (sym party) (one_made s q))
+
+  -- A run keeps what it promises from its start on.
+  pub kept_at_start : (maker : MakerTold) (c : PoolCore P) (parties : List Party) → IsCore maker c → IsUntouched c → places_in (run_made c parties).parties + 1 < 2 ^ 64 → IsKept (run_made c parties)
+  kept_at_start maker c parties core untouched few = record {
+    whole = (started_running maker c (commands_in parties) (run_made c parties).parties core untouched (are_made c.settings parties)).whole;
+    few = few;
+  }

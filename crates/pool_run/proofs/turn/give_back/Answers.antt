@@ -1,0 +1,21 @@
+use Rattle.std.proofs.Common.{rules, ◌≡◌, Some, None, sym, ◌∙◌, subst, List, Option}
+use Rattle.std.specs.Prelude.{slice_index_or, slice_set}
+use Rattle.pool_alloc.specs.Calls.{begun_call}
+use Rattle.pool_alloc.specs.declared.frame.Call.TheVariants as call
+use Rattle.pool_alloc.specs.declared.frame.Frame.{Frame}
+use Rattle.pool_alloc.specs.declared.frame.Grant.{Grant}
+use Rattle.pool_run.specs.Ties.{CanTurn}
+use Rattle.pool_run.specs.declared.running_party.RunningParty.{RunningParty}
+use Rattle.pool_run.proofs.Parties.{called_back}
+use Rattle.pool_run.proofs.turn.give_back.Goals as goal
+
+pub step_call-requires : goal.step_call-requires
+step_call-requires g c κs within =
+    let P : Type 0 = g.row.P.Denot in
+    let p : RunningParty P = c.args.party.now in
+    let grant : Grant P = c.in-Some.grant in
+    let has : slice_index_or p.live c.args.of None ≡ Some grant = sym c.take.ensures.value ∙ c.in-Some.is in
+    let begun = called_back g.maker c.args.of grant c.args.core.now p c.requires.1.0 c.requires.1.1.1.1 has in
+    let Live : List (Option (Grant P)) → Frame P → Type 0 = λ live f. CanTurn g.maker c.args.core.now (record p { live = live; frame = f }) in
+    let can : Live c.take.new.self c.begin.new.self = subst (Live c.take.new.self) (sym c.begin.ensures.value) (subst (λ (live : List (Option (Grant P))). Live live (begun_call (call.GiveBack grant) p.frame)) (sym c.take.ensures.rest) begun) in
+    search rules

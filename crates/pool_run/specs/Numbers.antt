@@ -1,0 +1,22 @@
+-- The numbers of a run: the calls on all regions, wherever they are.
+use Rattle.std.specs.Prelude.{List, fold, Option, Some, None}
+use Rattle.pool_pages.specs.declared.pages.PageCalls.{PageCalls}
+use Rattle.pool_slots.specs.Cells.{added}
+use Rattle.pool_alloc.specs.Sums.{calls_of_leases, calls_kept, calls_in_frame}
+use Rattle.pool_alloc.specs.declared.pool_core.PoolCore.{PoolCore}
+use Rattle.pool_alloc.specs.declared.frame.Grant.{Grant}
+use Rattle.pool_alloc.specs.declared.frame.Grant.TheVariants.{Instance as instance}
+use Rattle.pool_run.specs.declared.running_party.RunningParty.{RunningParty}
+
+module _ {P : Type 0} where
+  -- the calls with those on the regions of a live grant, and of all that a party has
+  abbrev pub with_grant : PageCalls → Option (Grant P) → PageCalls
+  with_grant calls None = calls
+  with_grant calls (Some (instance lease)) = added calls (calls_of_leases lease.memories.items)
+
+  abbrev pub with_party : PageCalls → RunningParty P → PageCalls
+  with_party calls p = fold with_grant (added calls (calls_in_frame p.frame)) p.live
+
+  -- the calls on the regions that the pool has, and on those of the parties
+  abbrev pub calls_of_run : PoolCore P → List (RunningParty P) → PageCalls
+  calls_of_run c parties = fold with_party (calls_kept c) parties

@@ -1,0 +1,42 @@
+-- A run as it is made, and what the type that keeps it promises at each moment.
+use Rattle.std.specs.Prelude.{ℕ, ◌+◌, ◌^◌, ◌<◌, List, [], length, map, replicate, sum_by, false, None}
+use Rattle.pool_alloc.specs.Calls.{frame_made}
+use Rattle.pool_alloc.specs.Whole.{IsWhole}
+use Rattle.pool_alloc.specs.declared.pool_core.PoolCore.{PoolCore}
+use Rattle.pool_alloc.specs.declared.pool_core.Settings.{Settings}
+use Rattle.pool_run.specs.Folds.{RunState}
+use Rattle.pool_run.specs.Private.{World}
+use Rattle.pool_run.specs.Ties.{held_by_party}
+use Rattle.pool_run.specs.declared.command.Command.{Command}
+use Rattle.pool_run.specs.declared.input.Party.{Party}
+use Rattle.pool_run.specs.declared.running_party.RunningParty.{RunningParty}
+
+-- the commands of each party
+abbrev pub commands_in : List Party → List (List Command)
+commands_in parties = map (λ p. p.commands) parties
+
+-- what a run is of: what stays the same for all of it, and the commands of each party
+pub record Background : Type 0 where
+  pub world : World
+  pub inputs : List (List Command)
+
+module _ {P : Type 0} where
+  -- a party as it is made, with places for so many commands
+  abbrev pub party_made : ℕ → Settings → ℕ → RunningParty P
+  party_made home s places = record { frame = frame_made home s; keyed = false; done = 0; live = replicate places None }
+
+  abbrev pub party_made_for : Settings → Party → RunningParty P
+  party_made_for s p = party_made p.home s (length p.commands)
+
+  -- no party has done anything, nor was told anything
+  abbrev pub run_made : PoolCore P → List Party → RunState P
+  run_made c parties = record { core = c; parties = map (party_made_for c.settings) parties; replies = replicate (length parties) [] }
+
+  -- how many instances parties may have counted at once
+  abbrev pub places_in : List (RunningParty P) → ℕ
+  places_in parties = sum_by (λ p. 1 + length p.live) parties
+
+  -- Each slot and each region is in one place, the counters count what is granted or under way, and can count on.
+  pub record IsKept (s : RunState P) : Type 0 where
+    pub whole : IsWhole held_by_party s.core s.parties
+    pub few : places_in s.parties + 1 < 2 ^ 64
