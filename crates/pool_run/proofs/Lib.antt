@@ -10,3 +10,4 @@ pub mod Running
 pub mod Started
 pub mod Steps
 pub mod Turning
+pub mod Valid

@@ -10,15 +10,14 @@ use Rattle.pool_index.specs.Shard.{used_count}
 use Rattle.pool_slots.specs.Memories.{Lease}
 use Rattle.pool_slots.specs.Pools.{PoolState, IsPool, IsLeaseOf, makes_listed}
 use Rattle.pool_slots.specs.Queues.{holds}
-use Rattle.pool_run.specs.Built.{is_built, is_built_module}
+use Rattle.pool_run.specs.Built.{is_built, is_sequential, is_built_module}
 use Rattle.pool_run.specs.Private.{live_count, PrivateRun}
 use Rattle.pool_run.specs.Runs.{RunState, IsRunning, IsRun, PartiesRun, world_of, grants_of, metrics_of, calls_of_run, FaultsInMaking, making_listed, images_listed}
 use Rattle.pool_run.specs.Turns.{at_start}
-use Rattle.pool_run.specs.Validity.{is_valid, is_valid_party, are_valid_after, most_commands, most_modules}
 use Rattle.pool_run.specs.declared.input.Input.{Input}
 use Rattle.pool_run.specs.declared.input.Party.{Party}
 use Rattle.pool_run.specs.declared.reply.Reply.{Reply}
-use Rattle.pool_run.proofs.Asked.{first, second, none_leased, of_all}
+use Rattle.pool_run.proofs.Asked.{first, second, none_leased}
 
 none_live : (n : ℕ) → live_count (replicate {A = Option Lease} n None) ≡ 0
 none_live zero = refl
@@ -58,21 +57,21 @@ started maker pool n batch is_pool unused some = record {
   spare = record { ranges = refl; slots = refl };
 }
 
-built_rest : (input : Input) → is_built input ≡ true → (nat_le input.config.limits.total_memories 100 && (nat_le (length input.parties) 1 && list_all is_built_module input.modules)) ≡ true
-built_rest input built = second (input.config.limits.max_memory_size == 65536) (nat_le input.config.limits.total_memories 100 && (nat_le (length input.parties) 1 && list_all is_built_module input.modules)) built
+built_rest : (input : Input) → is_built input ≡ true → (nat_le input.config.limits.total_memories 100 && (is_sequential input && list_all is_built_module input.modules)) ≡ true
+built_rest input built = second (input.config.limits.max_memory_size == 65536) (nat_le input.config.limits.total_memories 100 && (is_sequential input && list_all is_built_module input.modules)) built
 
-built_parts : (input : Input) → is_built input ≡ true → (nat_le (length input.parties) 1 && list_all is_built_module input.modules) ≡ true
-built_parts input built = second (nat_le input.config.limits.total_memories 100) (nat_le (length input.parties) 1 && list_all is_built_module input.modules) (built_rest input built)
+built_parts : (input : Input) → is_built input ≡ true → (is_sequential input && list_all is_built_module input.modules) ≡ true
+built_parts input built = second (nat_le input.config.limits.total_memories 100) (is_sequential input && list_all is_built_module input.modules) (built_rest input built)
 
 -- the modules of an input that can be run so far, and its size
 pub built_modules : (input : Input) → is_built input ≡ true → list_all is_built_module input.modules ≡ true
-built_modules input built = second (nat_le (length input.parties) 1) (list_all is_built_module input.modules) (built_parts input built)
+built_modules input built = second (is_sequential input) (list_all is_built_module input.modules) (built_parts input built)
 
 pub built_size : (input : Input) → is_built input ≡ true → input.config.limits.max_memory_size ≡ 65536
-built_size input built = eqb-true input.config.limits.max_memory_size 65536 (first (input.config.limits.max_memory_size == 65536) (nat_le input.config.limits.total_memories 100 && (nat_le (length input.parties) 1 && list_all is_built_module input.modules)) built)
+built_size input built = eqb-true input.config.limits.max_memory_size 65536 (first (input.config.limits.max_memory_size == 65536) (nat_le input.config.limits.total_memories 100 && (is_sequential input && list_all is_built_module input.modules)) built)
 
 few_parties : (input : Input) → is_built input ≡ true → length input.parties ≤ 1
-few_parties input built = leb-true (length input.parties) 1 (first (nat_le (length input.parties) 1) (list_all is_built_module input.modules) (built_parts input built))
+few_parties input built = leb-true (length input.parties) 1 (first (nat_le (length input.parties) 1) ((length input.schedule == 0) && input.finish) (first (is_sequential input) (list_all is_built_module input.modules) (built_parts input built)))
 
 one_party : (parties : List Party) (p : Party) → length parties ≤ 1 → slice_get parties 0 ≡ Some p → parties ≡ p ∷ []
 one_party [] p few is = absurd cc
@@ -82,9 +81,6 @@ one_party (x ∷ y ∷ rest) p few is = absurd (omega (arith, few))
 no_party : (parties : List Party) → slice_get parties 0 ≡ None → parties ≡ []
 no_party [] is = refl
 no_party (x ∷ xs) is = absurd cc
-
-pub valid_commands : (input : Input) (p : Party) → is_valid input ≡ true → slice_get input.parties 0 ≡ Some p → are_valid_after input.modules [] p.commands ≡ true
-valid_commands input p valid is = second (nat_le (length p.commands) most_commands) (are_valid_after input.modules [] p.commands) (of_all (is_valid_party input.modules) input.parties 0 p (second (nat_le (length input.modules) most_modules) (list_all (is_valid_party input.modules) input.parties) valid) is)
 
 -- the output of a run without a party
 pub run_of_none : (input : Input) (maker : MakerTold) (pool : PoolState) → IsPool maker pool → length pool.cells ≡ input.config.limits.total_memories → pool.keep_resident ≡ count maker.page (rounded_up maker.page input.config.linear_memory_keep_resident) → used_count pool.shard ≡ 0 → 0 < input.config.decommit_batch_size → slice_get input.parties 0 ≡ None → IsRun input maker (record { replies = []; metrics = metrics_of (at_start pool 0 input.config.decommit_batch_size); calls = calls_of_run (at_start pool 0 input.config.decommit_batch_size) })

@@ -14,6 +14,10 @@ is_built_memory decl = (decl.ty.page_size_log2 == 16) && (nat_le decl.ty.limits.
 abbrev pub is_built_module : ModuleInfo → Bool
 is_built_module m = (length m.memories == 1) && list_all is_built_memory m.memories
 
--- one party at most, a hundred slots of the size of such a memory at most, and such modules
+-- One party at most, which is run to its end with no schedule. Where there is one shard, each home is the same.
+abbrev pub is_sequential : Input → Bool
+is_sequential input = nat_le (length input.parties) 1 && ((length input.schedule == 0) && input.finish)
+
+-- such parties, a hundred slots of the size of such a memory at most, and such modules
 abbrev pub is_built : Input → Bool
-is_built input = (input.config.limits.max_memory_size == 65536) && (nat_le input.config.limits.total_memories 100 && (nat_le (length input.parties) 1 && list_all is_built_module input.modules))
+is_built input = (input.config.limits.max_memory_size == 65536) && (nat_le input.config.limits.total_memories 100 && (is_sequential input && list_all is_built_module input.modules))

@@ -3,5 +3,6 @@ pub mod Held
 pub mod Made
 pub mod Private
 pub mod Runs
+pub mod Schedules
 pub mod Turns
 pub mod Validity

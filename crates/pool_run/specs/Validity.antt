@@ -6,10 +6,24 @@ use Rattle.pool_run.specs.declared.command.Command.{Command}
 use Rattle.pool_run.specs.declared.command.Command.TheVariants.{Instantiate, Read, Write, Drop}
 use Rattle.pool_run.specs.declared.input.Input.{Input}
 use Rattle.pool_run.specs.declared.input.Party.{Party}
+use Rattle.pool_run.specs.declared.input.ScheduleEntry.{ScheduleEntry}
+use Rattle.pool_run.specs.Schedules.{turns_of}
 
 -- how many modules there may be
 abbrev pub most_modules : ℕ
 most_modules = 1000
+
+-- how many parties there may be
+abbrev pub most_parties : ℕ
+most_parties = 64
+
+-- the home of a party is a number below this
+abbrev pub homes : ℕ
+homes = 65536
+
+-- how many steps a schedule may have
+abbrev pub most_steps : ℕ
+most_steps = 10000000
 
 -- how many commands a party may have
 abbrev pub most_commands : ℕ
@@ -61,8 +75,17 @@ abbrev pub are_valid_after : List ModuleInfo → List Command → List Command �
 are_valid_after modules earlier [] = true
 are_valid_after modules earlier (command ∷ rest) = is_valid_after modules earlier command && are_valid_after modules (earlier ++ command ∷ []) rest
 
+-- its home is one of those that there are, and its commands are valid one after another
 abbrev pub is_valid_party : List ModuleInfo → Party → Bool
-is_valid_party modules party = nat_le (length party.commands) most_commands && are_valid_after modules [] party.commands
+is_valid_party modules party = nat_lt party.home homes && (nat_le (length party.commands) most_commands && are_valid_after modules [] party.commands)
+
+-- each step is one of a party that there is, of so many parties
+abbrev pub is_valid_schedule : ℕ → List ScheduleEntry → Bool
+is_valid_schedule parties schedule = nat_le (length (turns_of schedule)) most_steps && list_all (λ entry. nat_lt entry.party parties) schedule
 
 abbrev pub is_valid : Input → Bool
-is_valid input = nat_le (length input.modules) most_modules && list_all (is_valid_party input.modules) input.parties
+is_valid input =
+    nat_le (length input.modules) most_modules
+    && (nat_le (length input.parties) most_parties
+    && (is_valid_schedule (length input.parties) input.schedule
+    && list_all (is_valid_party input.modules) input.parties))

@@ -1,19 +1,26 @@
 ghost use Rattle.std.specs.Prelude.{◌≡◌};
 ghost use Rattle.std.specs.List.{list_all};
-ghost use Rattle.pool_run.specs.Built.{is_built, is_built_module, is_built_memory};
+ghost use Rattle.pool_run.specs.Built.{is_built, is_sequential, is_built_module, is_built_memory};
 
 use crate::input::Input;
 use pool_pages::{MemoryDecl, ModuleInfo};
 
-/// Whether the input is of those that can be run so far: one party at most, a hundred slots of 65,536 bytes at most, and
-/// modules of one memory each, which has the size of a slot at most and perhaps an image at its start.
+/// Whether the input is of those that can be run so far: one party at most, which is run to its end with no schedule, a
+/// hundred slots of 65,536 bytes at most, and modules of one memory each, which has the size of a slot at most and
+/// perhaps an image at its start.
 pub fn is_built(input: &Input) -> bool
     ensures { result ≡ is_built input.now }
 {
     input.config.limits.max_memory_size == 65536
         && input.config.limits.total_memories <= 100
-        && input.parties.len() <= 1
+        && is_sequential(input)
         && are_built_modules(input.modules.as_slice())
+}
+
+fn is_sequential(input: &Input) -> bool
+    ensures { result ≡ is_sequential input.now }
+{
+    input.parties.len() <= 1 && input.schedule.len() == 0 && input.finish
 }
 
 fn are_built_modules(modules: &[ModuleInfo]) -> bool

@@ -15,10 +15,12 @@ mod validity;
 
 pub use built::is_built;
 pub use command::Command;
-pub use input::{Input, Party};
+pub use input::{Input, Party, ScheduleEntry};
 pub use metrics::Metrics;
 pub use output::{RunFault, RunOutput};
 pub use pool_slots::Trap;
 pub use reply::{Refusal, Reply, ReplyList, SlotList};
 pub use schedule::run_schedule;
-pub use validity::{MOST_BYTES, MOST_COMMANDS, MOST_MODULES, is_valid};
+pub use validity::{
+    HOMES, MOST_BYTES, MOST_COMMANDS, MOST_MODULES, MOST_PARTIES, MOST_STEPS, is_valid,
+};

@@ -1,13 +1,23 @@
-ghost use Rattle.std.specs.Prelude.{◌≡◌, [], List, take};
+ghost use Rattle.std.specs.Prelude.{◌≡◌, [], List, length, nat_le, nat_lt, take};
 ghost use Rattle.std.specs.List.{list_all, slice_get};
-ghost use Rattle.pool_run.specs.Validity.{is_valid, is_valid_party, is_valid_after, are_valid_after, asks_for_grant, names_memory, most_modules, most_commands, most_bytes};
+ghost use Rattle.pool_run.specs.Schedules.{turns_of};
+ghost use Rattle.pool_run.specs.Validity.{is_valid, is_valid_schedule, is_valid_party, is_valid_after, are_valid_after, asks_for_grant, names_memory, homes, most_modules, most_parties, most_steps, most_commands, most_bytes};
 
 use crate::command::Command;
-use crate::input::{Input, Party};
+use crate::input::{Input, Party, ScheduleEntry};
 use pool_pages::ModuleInfo;
 
 /// How many modules an input may have.
 pub const MOST_MODULES: usize = 1_000;
+
+/// How many parties an input may have.
+pub const MOST_PARTIES: usize = 64;
+
+/// The home of a party is a number below this.
+pub const HOMES: u64 = 65_536;
+
+/// How many steps a schedule may have.
+pub const MOST_STEPS: u64 = 10_000_000;
 
 /// How many commands a party may have.
 pub const MOST_COMMANDS: usize = 100_000;
@@ -68,7 +78,9 @@ fn are_valid(modules: &[ModuleInfo], commands: &[Command]) -> bool
 fn is_valid_party(modules: &[ModuleInfo], party: &Party) -> bool
     ensures { result ≡ is_valid_party modules.now party.now }
 {
-    party.commands.len() <= MOST_COMMANDS && are_valid(modules, party.commands.as_slice())
+    party.home < HOMES
+        && party.commands.len() <= MOST_COMMANDS
+        && are_valid(modules, party.commands.as_slice())
 }
 
 fn are_valid_parties(modules: &[ModuleInfo], parties: &[Party]) -> bool
@@ -77,10 +89,39 @@ fn are_valid_parties(modules: &[ModuleInfo], parties: &[Party]) -> bool
     parties.iter().all(|party| is_valid_party(modules, party))
 }
 
+fn has_few_steps(schedule: &[ScheduleEntry]) -> bool
+    ensures { result ≡ nat_le (length (turns_of schedule.now)) most_steps }
+{
+    let mut left = MOST_STEPS;
+    for entry in schedule {
+        if entry.times > left {
+            return false;
+        }
+        left -= entry.times;
+    }
+    true
+}
+
+fn are_named(parties: usize, schedule: &[ScheduleEntry]) -> bool
+    ensures { result ≡ list_all (λ entry. nat_lt entry.party parties) schedule.now }
+{
+    schedule.iter().all(|entry| entry.party < parties)
+}
+
+fn is_valid_schedule(parties: usize, schedule: &[ScheduleEntry]) -> bool
+    ensures { result ≡ is_valid_schedule parties schedule.now }
+{
+    has_few_steps(schedule) && are_named(parties, schedule)
+}
+
 /// Whether the input can be run: its sizes are within the limits, and what it names is there.
 pub fn is_valid(input: &Input) -> bool
     ensures { result ≡ is_valid input.now }
 {
     let modules = input.modules.as_slice();
-    modules.len() <= MOST_MODULES && are_valid_parties(modules, input.parties.as_slice())
+    let parties = input.parties.as_slice();
+    modules.len() <= MOST_MODULES
+        && parties.len() <= MOST_PARTIES
+        && is_valid_schedule(parties.len(), input.schedule.as_slice())
+        && are_valid_parties(modules, parties)
 }

@@ -12,7 +12,8 @@ use Rattle.pool_run.specs.declared.command.Command.{Command}
 use Rattle.pool_run.specs.declared.output.RunOutput.{RunOutput}
 use Rattle.pool_run.specs.declared.reply.Reply.{Reply}
 use Rattle.pool_run.specs.Turns.{at_start}
-use Rattle.pool_run.proofs.Started.{started, built_modules, valid_commands, run_of_none, run_of_one}
+use Rattle.pool_run.proofs.Started.{started, built_modules, run_of_none, run_of_one}
+use Rattle.pool_run.proofs.Valid.{valid_commands}
 use Rattle.pool_run.proofs.schedule.run_parties.Goals as goal
 
 pub run_party-requires-send-P : goal.run_party-requires-send-P
@@ -30,7 +31,7 @@ run_party-requires-send-P g c κs within =
     let images : c.args.images.now ≡ images_made g.maker.page 0 c.as_slice-modules.result.now = subst I (sym c.as_slice-modules.ensures) c.requires.1.1.1.1.1.1.1.1.1.1 in
     let V : List ModuleInfo → Type 0 = λ l. are_valid_after l [] c.as_slice-commands.result.now ≡ true in
     let W : List Command → Type 0 = λ l. are_valid_after c.args.input.now.modules [] l ≡ true in
-    let valid : are_valid_after c.as_slice-modules.result.now [] c.as_slice-commands.result.now ≡ true = subst V (sym c.as_slice-modules.ensures) (subst W (sym c.as_slice-commands.ensures) (valid_commands c.args.input.now c.in-Some.party.now c.requires.1.1.1.1.1.1.1.1.1.0 (sym c.in-Some.ensures))) in
+    let valid : are_valid_after c.as_slice-modules.result.now [] c.as_slice-commands.result.now ≡ true = subst V (sym c.as_slice-modules.ensures) (subst W (sym c.as_slice-commands.ensures) (valid_commands c.args.input.now 0 c.in-Some.party.now c.requires.1.1.1.1.1.1.1.1.1.0 (sym c.in-Some.ensures))) in
     search rules
 
 pub returns-in_ok-run-in-None : goal.returns-in_ok-run-in-None

@@ -1,0 +1,49 @@
+-- What an input has that can be run.
+use Rattle.std.proofs.Common.{◌≡◌, ℕ, ◌<◌, ◌≤◌, [], length, Some, Bool, true, ◌&&◌}
+use Rattle.std.specs.Prelude.{nat_le, nat_lt}
+use Rattle.std.specs.List.{list_all, slice_get}
+use Rattle.std.proofs.lemmas.Bool.{leb-true, ltb-true}
+use Rattle.pool_run.specs.Schedules.{turns_of}
+use Rattle.pool_run.specs.Validity.{is_valid, is_valid_party, is_valid_schedule, are_valid_after, homes, most_commands, most_modules, most_parties, most_steps}
+use Rattle.pool_run.specs.declared.input.Input.{Input}
+use Rattle.pool_run.specs.declared.input.Party.{Party}
+use Rattle.pool_run.specs.declared.input.ScheduleEntry.{ScheduleEntry}
+use Rattle.pool_run.proofs.Asked.{first, second, of_all}
+
+valid_rest : (input : Input) → is_valid input ≡ true → (nat_le (length input.parties) most_parties && (is_valid_schedule (length input.parties) input.schedule && list_all (is_valid_party input.modules) input.parties)) ≡ true
+valid_rest input valid = second (nat_le (length input.modules) most_modules) (nat_le (length input.parties) most_parties && (is_valid_schedule (length input.parties) input.schedule && list_all (is_valid_party input.modules) input.parties)) valid
+
+valid_turns : (input : Input) → is_valid input ≡ true → (is_valid_schedule (length input.parties) input.schedule && list_all (is_valid_party input.modules) input.parties) ≡ true
+valid_turns input valid = second (nat_le (length input.parties) most_parties) (is_valid_schedule (length input.parties) input.schedule && list_all (is_valid_party input.modules) input.parties) (valid_rest input valid)
+
+valid_party : (input : Input) (i : ℕ) (p : Party) → is_valid input ≡ true → slice_get input.parties i ≡ Some p → is_valid_party input.modules p ≡ true
+valid_party input i p valid is = of_all (is_valid_party input.modules) input.parties i p (second (is_valid_schedule (length input.parties) input.schedule) (list_all (is_valid_party input.modules) input.parties) (valid_turns input valid)) is
+
+-- there are not too many parties
+pub valid_parties : (input : Input) → is_valid input ≡ true → length input.parties ≤ most_parties
+valid_parties input valid = leb-true (length input.parties) most_parties (first (nat_le (length input.parties) most_parties) (is_valid_schedule (length input.parties) input.schedule && list_all (is_valid_party input.modules) input.parties) (valid_rest input valid))
+
+-- each party has a home, and not too many commands, of which each can stand after those before it
+pub valid_home : (input : Input) (i : ℕ) (p : Party) → is_valid input ≡ true → slice_get input.parties i ≡ Some p → p.home < homes
+valid_home input i p valid is = ltb-true p.home homes (first (nat_lt p.home homes) (nat_le (length p.commands) most_commands && are_valid_after input.modules [] p.commands) (valid_party input i p valid is))
+
+valid_rest_of_party : (input : Input) (i : ℕ) (p : Party) → is_valid input ≡ true → slice_get input.parties i ≡ Some p → (nat_le (length p.commands) most_commands && are_valid_after input.modules [] p.commands) ≡ true
+valid_rest_of_party input i p valid is = second (nat_lt p.home homes) (nat_le (length p.commands) most_commands && are_valid_after input.modules [] p.commands) (valid_party input i p valid is)
+
+pub few_commands : (input : Input) (i : ℕ) (p : Party) → is_valid input ≡ true → slice_get input.parties i ≡ Some p → length p.commands ≤ most_commands
+few_commands input i p valid is = leb-true (length p.commands) most_commands (first (nat_le (length p.commands) most_commands) (are_valid_after input.modules [] p.commands) (valid_rest_of_party input i p valid is))
+
+pub valid_commands : (input : Input) (i : ℕ) (p : Party) → is_valid input ≡ true → slice_get input.parties i ≡ Some p → are_valid_after input.modules [] p.commands ≡ true
+valid_commands input i p valid is = second (nat_le (length p.commands) most_commands) (are_valid_after input.modules [] p.commands) (valid_rest_of_party input i p valid is)
+
+valid_schedule : (input : Input) → is_valid input ≡ true → is_valid_schedule (length input.parties) input.schedule ≡ true
+valid_schedule input valid = first (is_valid_schedule (length input.parties) input.schedule) (list_all (is_valid_party input.modules) input.parties) (valid_turns input valid)
+
+-- the schedule has not too many steps, each of a party that there is
+pub few_steps : (input : Input) → is_valid input ≡ true → length (turns_of input.schedule) ≤ most_steps
+few_steps input valid = leb-true (length (turns_of input.schedule)) most_steps (first (nat_le (length (turns_of input.schedule)) most_steps) (list_all (λ entry. nat_lt entry.party (length input.parties)) input.schedule) (valid_schedule input valid))
+
+pub valid_entry : (input : Input) (i : ℕ) (entry : ScheduleEntry) → is_valid input ≡ true → slice_get input.schedule i ≡ Some entry → entry.party < length input.parties
+valid_entry input i entry valid is =
+    let named : (e : ScheduleEntry) → Bool = λ e. nat_lt e.party (length input.parties) in
+    ltb-true entry.party (length input.parties) (of_all (λ e. nat_lt e.party (length input.parties)) input.schedule i entry (second (nat_le (length (turns_of input.schedule)) most_steps) (list_all (λ e. nat_lt e.party (length input.parties)) input.schedule) (valid_schedule input valid)) is)
