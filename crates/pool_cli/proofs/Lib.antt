@@ -3,5 +3,6 @@ mod Items
 mod Lists
 mod Members
 mod Numerals
+mod Pairs
 mod Pieces
 mod Texts

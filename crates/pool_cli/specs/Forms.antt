@@ -1,8 +1,8 @@
 -- The input that a JSON value is. `None` says that it has another form than those accepted so far.
-use Rattle.std.specs.Prelude.{ℕ, ◌==◌, ◌&&◌, ◌||◌, List, [], ◌∷◌, length, codes, nat_le, false, if◌then◌else◌, Option, Some, None, is_none}
+use Rattle.std.specs.Prelude.{ℕ, ◌==◌, ◌&&◌, ◌||◌, List, [], ◌∷◌, length, codes, nat_le, true, false, if◌then◌else◌, Option, Some, None, is_none}
 use Rattle.std.specs.Str.{bytes_eq}
-use Rattle.serde_json.specs.Data.{Data}
-use Rattle.serde_json.specs.Find.{get, as_str}
+use Rattle.serde_json.specs.Data.{Data, Items, no_items, item}
+use Rattle.serde_json.specs.Find.{get, as_str, as_array, as_bool}
 use Rattle.pool_pages.specs.Config.{default_config, default_limits}
 use Rattle.pool_pages.specs.declared.config.PoolingAllocationConfig.{PoolingAllocationConfig}
 use Rattle.pool_pages.specs.declared.module_types.IndexType.TheVariants.{I32}
@@ -14,6 +14,7 @@ use Rattle.pool_run.specs.declared.command.Command.{Command}
 use Rattle.pool_run.specs.declared.command.Command.TheVariants.{Instantiate, Read, Write, Drop}
 use Rattle.pool_run.specs.declared.input.Input.{Input}
 use Rattle.pool_run.specs.declared.input.Party.{Party}
+use Rattle.pool_run.specs.declared.input.ScheduleEntry.{ScheduleEntry}
 use Rattle.pool_cli.specs.Fields.{◌>>=◌, only, given, whole_number, hex_bytes, required, optional, or_null, list_of}
 
 unfoldable pub instantiate_form : Data → Option Command
@@ -90,9 +91,34 @@ module_form value = do
 
 unfoldable pub party_form : Data → Option Party
 party_form value = do
-  fields ← only (codes "commands" ∷ []) value
+  fields ← only (codes "home" ∷ codes "commands" ∷ []) value
+  home ← optional 0 whole_number (get (codes "home") fields)
   commands ← optional [] (list_of command_form) (get (codes "commands") fields)
-  Some (record { commands = commands })
+  Some (record { home = home; commands = commands })
+
+-- the number of a party: one step of it
+unfoldable pub step_form : Data → Option ScheduleEntry
+step_form value = do
+  party ← whole_number value
+  Some (record { party = party; times = 1 })
+
+-- the number of a party, and how many steps of it
+abbrev pub pair_form : Items → Option ScheduleEntry
+pair_form no_items = None
+pair_form (item party no_items) = None
+pair_form (item party (item times no_items)) = do
+  number ← whole_number party
+  steps ← whole_number times
+  Some (record { party = number; times = steps })
+pair_form (item party (item times (item more rest))) = None
+
+-- an entry is a pair where it is a list, and else one step
+abbrev pub step_or_pair_form : Option Items → Data → Option ScheduleEntry
+step_or_pair_form None value = step_form value
+step_or_pair_form (Some items) value = pair_form items
+
+unfoldable pub schedule_entry_form : Data → Option ScheduleEntry
+schedule_entry_form value = step_or_pair_form (as_array value) value
 
 -- the default settings, but for the number of memories, which is at most 100, how many ranges are decommitted together,
 -- and how many bytes of a memory a reset keeps resident
@@ -104,11 +130,12 @@ config_form value = do
   resident ← optional 0 whole_number (get (codes "linear_memory_keep_resident") fields)
   given (nat_le total 100) (record default_config { limits = record default_limits { total_memories = total }; decommit_batch_size = batch; linear_memory_keep_resident = resident })
 
--- at most one party
 unfoldable pub input_form : Data → Option Input
 input_form value = do
-  fields ← only (codes "config" ∷ codes "modules" ∷ codes "parties" ∷ []) value
+  fields ← only (codes "config" ∷ codes "modules" ∷ codes "parties" ∷ codes "schedule" ∷ codes "finish" ∷ []) value
   config ← optional default_config config_form (get (codes "config") fields)
   modules ← optional [] (list_of module_form) (get (codes "modules") fields)
   parties ← optional [] (list_of party_form) (get (codes "parties") fields)
-  given (nat_le (length parties) 1) (record { config = config; modules = modules; parties = parties })
+  schedule ← optional [] (list_of schedule_entry_form) (get (codes "schedule") fields)
+  finish ← optional true as_bool (get (codes "finish") fields)
+  Some (record { config = config; modules = modules; parties = parties; schedule = schedule; finish = finish })

@@ -3,7 +3,7 @@ ghost use Rattle.std.specs.List.{list_any};
 ghost use Rattle.std.specs.Str.{bytes_eq};
 ghost use Rattle.serde_json.specs.View.{view, members_view};
 ghost use Rattle.pool_cli.specs.Fields.{is_among, all_among, has_only, whole_number, required, optional, hex_bytes, IsOfForm};
-ghost use Rattle.serde_json.specs.Find.{as_str};
+ghost use Rattle.serde_json.specs.Find.{as_bool, as_str};
 
 use crate::form_fault::FormFault;
 use hex::FromHexError;
@@ -52,6 +52,16 @@ pub fn number_or(default: u64, field: Option<&Value>) -> Option<u64>
     match field {
         None => Some(default),
         Some(value) => value.as_u64(),
+    }
+}
+
+/// True or false, which may be left out.
+pub fn flag_or(default: bool, field: Option<&Value>) -> Option<bool>
+    ensures { result ≡ optional default as_bool (option_map (λ v. view v.now) field.entry) }
+{
+    match field {
+        None => Some(default),
+        Some(value) => value.as_bool(),
     }
 }
 

@@ -1,14 +1,14 @@
 ghost use Rattle.std.specs.Prelude.{◌≡◌, option_map};
-ghost use Rattle.serde_json.specs.View.{view};
+ghost use Rattle.serde_json.specs.View.{view, items_view};
 ghost use Rattle.pool_pages.specs.Config.{default_config};
 ghost use Rattle.pool_cli.specs.Fields.{IsOfForm, optional};
-ghost use Rattle.pool_cli.specs.Forms.{party_form, config_form, input_form};
+ghost use Rattle.pool_cli.specs.Forms.{party_form, step_form, pair_form, schedule_entry_form, config_form, input_form};
 
-use crate::fields::{has_only, number_or};
+use crate::fields::{flag_or, has_only, number_or};
 use crate::form_fault::FormFault;
 use crate::from_json::{FromJson, list_or_empty};
 use pool_pages::PoolingAllocationConfig;
-use pool_run::{Input, Party};
+use pool_run::{Input, Party, ScheduleEntry};
 use serde_json::Value;
 use std::alloc::Global;
 
@@ -17,11 +17,53 @@ impl FromJson for Party {
 
     #[tactic(auto, unfolding(crate::specs::Forms::party_form))]
     fn from_json(alloc: Global, value: &Value) -> Result<Party, FormFault> {
-        if !has_only(value, &["commands"]) {
+        if !has_only(value, &["home", "commands"]) {
             return Err(FormFault::OtherForm);
         }
+        let home = number_or(0, value.get("home")).ok_or(FormFault::OtherForm)?;
         let commands = list_or_empty(alloc, value.get("commands"))?;
-        Ok(Party { commands })
+        Ok(Party { home, commands })
+    }
+}
+
+/// One step of a party, as the party's number.
+#[tactic(auto, unfolding(crate::specs::Forms::step_form))]
+fn step(value: &Value) -> Option<ScheduleEntry>
+    ensures { result ≡ step_form (view value.now) }
+{
+    let party = value.as_u64()?;
+    Some(ScheduleEntry {
+        party: party as usize,
+        times: 1,
+    })
+}
+
+/// Steps of a party, as its number and how many they are.
+fn pair(items: &[Value]) -> Option<ScheduleEntry>
+    ensures { result ≡ pair_form (items_view items.now) }
+{
+    match items {
+        [party, times] => {
+            let party = party.as_u64()?;
+            let times = times.as_u64()?;
+            Some(ScheduleEntry {
+                party: party as usize,
+                times,
+            })
+        }
+        _ => None,
+    }
+}
+
+impl FromJson for ScheduleEntry {
+    ghost form = { schedule_entry_form };
+
+    #[tactic(auto, unfolding(crate::specs::Forms::schedule_entry_form))]
+    fn from_json(_alloc: Global, value: &Value) -> Result<ScheduleEntry, FormFault> {
+        match value.as_array() {
+            Some(items) => pair(items.as_slice()).ok_or(FormFault::OtherForm),
+            None => step(value).ok_or(FormFault::OtherForm),
+        }
     }
 }
 
@@ -67,20 +109,23 @@ impl FromJson for Input {
 
     #[tactic(auto, unfolding(crate::specs::Forms::input_form))]
     fn from_json(alloc: Global, value: &Value) -> Result<Input, FormFault> {
-        if !has_only(value, &["config", "modules", "parties"]) {
+        if !has_only(
+            value,
+            &["config", "modules", "parties", "schedule", "finish"],
+        ) {
             return Err(FormFault::OtherForm);
         }
         let config = config(value.get("config")).ok_or(FormFault::OtherForm)?;
         let modules = list_or_empty(alloc, value.get("modules"))?;
         let parties = list_or_empty(alloc, value.get("parties"))?;
-        if parties.len() <= 1 {
-            Ok(Input {
-                config,
-                modules,
-                parties,
-            })
-        } else {
-            Err(FormFault::OtherForm)
-        }
+        let schedule = list_or_empty(alloc, value.get("schedule"))?;
+        let finish = flag_or(true, value.get("finish")).ok_or(FormFault::OtherForm)?;
+        Ok(Input {
+            config,
+            modules,
+            parties,
+            schedule,
+            finish,
+        })
     }
 }

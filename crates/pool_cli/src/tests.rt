@@ -71,6 +71,8 @@ const CUT_OFF: &str = "{\"parties\":[";
 
 const DROPS_NOTHING: &str = "{\"parties\":[{\"commands\":[{\"do\":\"drop\",\"of\":0}]}]}";
 
+const NO_HOME: &str = "{\"parties\":[{\"home\":65536}]}";
+
 const MINUS_NOUGHT: &str = "{\"parties\":[{\"commands\":[{\"do\":\"drop\",\"of\":-0}]}]}";
 
 #[test]
@@ -79,7 +81,16 @@ fn statuses_of_inputs(rt: HostRuntime) -> Result<(), Fail> {
         (CUT_OFF, 0, 0, Status::BadInput, BAD_INPUT),
         (CUT_OFF, 1, 0, Status::ReadFault, ""),
         (CUT_OFF, 0, 2, Status::WriteFault, "error BadI"),
-        ("{\"finish\":true}", 0, 0, Status::NotBuilt, NOT_BUILT),
+        ("{\"finish\":1}", 0, 0, Status::NotBuilt, NOT_BUILT),
+        ("{\"faults\":[]}", 0, 0, Status::NotBuilt, NOT_BUILT),
+        (
+            "{\"schedule\":[[0,1,2]]}",
+            0,
+            0,
+            Status::NotBuilt,
+            NOT_BUILT,
+        ),
+        (NO_HOME, 0, 0, Status::BadInput, BAD_INPUT),
         (DROPS_NOTHING, 0, 0, Status::BadInput, BAD_INPUT),
         (MINUS_NOUGHT, 0, 0, Status::NotBuilt, NOT_BUILT),
     ] {
@@ -124,6 +135,7 @@ const OUTPUT: &str = "0.0: granted memories 0,12 tables -\n\
 0.7: refused NoMemory\n\
 0.8: refused NoSuchGrant\n\
 0.9: trap MemoryOutOfBounds\n\
+2.0: done\n\
 metrics core=1 component=0 memories=1 tables=0 stacks=0 heaps=0 warm_memories=0 memory_resident=0 warm_tables=0 table_resident=0 warm_stacks=0 stack_resident=none\n\
 pages expose=1 hide=0 map_image=1 remap_zeros=0 erase=0 recolour=0 decommit=1\n";
 
@@ -132,6 +144,8 @@ fn prints_an_output(rt: HostRuntime) -> Result<(), Fail> {
     let alloc = rt.alloc();
     let mut parties = Vec::new(alloc);
     parties.push(replies(alloc)?)?;
+    parties.push(ReplyList::new(alloc))?;
+    parties.push(PlainList::from_vec(vec![in alloc; Reply::Done]?))?;
     let output = RunOutput {
         replies: PlainList::from_vec(parties),
         metrics: Metrics {
@@ -204,6 +218,8 @@ const RESIDENT_OUTPUT: &str = "0.0: granted memories 0 tables -\n\
 metrics core=0 component=0 memories=0 tables=0 stacks=0 heaps=0 warm_memories=1 memory_resident=4096 warm_tables=0 table_resident=0 warm_stacks=0 stack_resident=none\n\
 pages expose=1 hide=0 map_image=0 remap_zeros=0 erase=0 recolour=0 decommit=1\n";
 
+const FAR_FROM_HOME: &str = "{\"parties\":[{\"home\":65535}],\"schedule\":[],\"finish\":true}";
+
 const NO_BATCH: &str = "{\"config\":{\"decommit_batch_size\":0}}";
 
 const NO_BATCH_LINE: &str = "error BadConfig: decommit batch size 0 is not from 1 to 4096\n";
@@ -223,6 +239,7 @@ fn runs(rt: HostRuntime) -> Result<(), Fail> {
         (FIRST, 0, Status::Ok, FIRST_OUTPUT),
         (FIRST, 2, Status::WriteFault, "0.0: grant"),
         ("{}", 0, Status::Ok, NO_RUN_OUTPUT),
+        (FAR_FROM_HOME, 0, Status::Ok, NO_RUN_OUTPUT),
         (BATCH, 0, Status::Ok, BATCH_OUTPUT),
         (OTHER_MODULE, 0, Status::Ok, OTHER_MODULE_OUTPUT),
         (RESIDENT, 0, Status::Ok, RESIDENT_OUTPUT),
