@@ -157,7 +157,6 @@ fn push_reply(
     Ok(replies)
 }
 
-#[tactic(auto, using(crate::proofs::RunMade::map_more, crate::proofs::RunMade::map_all))]
 fn make_parties<P: Pages>(
     alloc: Global,
     core: &PoolCore<P>,
