@@ -141,11 +141,7 @@ fn add_reply(
     }
 }
 
-fn push_reply(
-    replies: Vec<ReplyList>,
-    i: usize,
-    reply: Reply,
-) -> Result<Vec<ReplyList>, AllocError>
+fn push_reply(replies: Vec<ReplyList>, i: usize, reply: Reply) -> Result<Vec<ReplyList>, AllocError>
     requires { i < length replies.items }
     ensures { IfOk result (λ r. r.items ≡ slice_set replies.items i (with_reply (Some reply) (replies_to i replies.items))) }
 {
