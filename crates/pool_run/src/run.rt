@@ -141,11 +141,7 @@ fn add_reply(
     }
 }
 
-fn push_reply(
-    replies: Vec<ReplyList>,
-    i: usize,
-    reply: Reply,
-) -> Result<Vec<ReplyList>, AllocError>
+fn push_reply(replies: Vec<ReplyList>, i: usize, reply: Reply) -> Result<Vec<ReplyList>, AllocError>
     requires { i < length replies.items }
     ensures { IfOk result (λ r. r.items ≡ slice_set replies.items i (with_reply (Some reply) (replies_to i replies.items))) }
 {
@@ -157,7 +153,6 @@ fn push_reply(
     Ok(replies)
 }
 
-#[tactic(auto, using(crate::proofs::RunMade::map_more, crate::proofs::RunMade::map_all))]
 fn make_parties<P: Pages>(
     alloc: Global,
     core: &PoolCore<P>,
