@@ -60,27 +60,27 @@ limits_of : (input : Input) (o : Option BadConfig) (status : Status) → first_b
 limits_of input o status limits is = is ∙ ap status_of_limits (sym limits)
 
 -- the bytes lead to the status, or something stands in the way
-follows_at : (task : Task) (status : Status) (so sn : SourceTold) (ko kn : SinkTold) (mo mn : MakerTold) (rest : List ℕ) → so.rest ≡ Some rest → Ends task status so sn ko kn mo mn → task ≡ Run → FollowsBytes status rest
-follows_at task Success so sn ko kn mo mn rest told ends asked =
+follows_at : (P : Type 0) (task : Task) (status : Status) (so sn : SourceTold) (ko kn : SinkTold) (mo mn : MakerTold) (rest : List ℕ) → so.rest ≡ Some rest → Ends P task status so sn ko kn mo mn → task ≡ Run → FollowsBytes status rest
+follows_at P task Success so sn ko kn mo mn rest told ends asked =
     read_follows (accepted ends.run.input) Success so sn rest told ends.run.read (limits_of ends.run.input None Success ends.run.limits refl)
-follows_at task BadUsage so sn ko kn mo mn rest told ends asked = let is : Unknown ≡ Run = sym ends.0.0 ∙ asked in absurd cc
-follows_at task BadInput so sn ko kn mo mn rest told ends asked = read_follows invalid BadInput so sn rest told ends.0.1 refl
-follows_at task BadSettings so sn ko kn mo mn rest told ends asked =
+follows_at P task BadUsage so sn ko kn mo mn rest told ends asked = let is : Unknown ≡ Run = sym ends.0.0 ∙ asked in absurd cc
+follows_at P task BadInput so sn ko kn mo mn rest told ends asked = read_follows invalid BadInput so sn rest told ends.0.1 refl
+follows_at P task BadSettings so sn ko kn mo mn rest told ends asked =
     read_follows (accepted ends.refused.input) BadSettings so sn rest told ends.refused.read (limits_of ends.refused.input (Some ends.error) BadSettings ends.refused.broken refl)
-follows_at task PageFault so sn ko kn mo mn rest told ends asked = hindered PageFault rest (inr (inr (inl refl)))
-follows_at task ReadFault so sn ko kn mo mn rest told ends asked = hindered ReadFault rest (inl refl)
-follows_at task WriteFault so sn ko kn mo mn rest told ends asked = hindered WriteFault rest (inr (inl refl))
-follows_at task NoMemory so sn ko kn mo mn rest told ends asked = hindered NoMemory rest (inr (inr (inr refl)))
-follows_at task TooLong so sn ko kn mo mn rest told ends asked =
+follows_at P task PageFault so sn ko kn mo mn rest told ends asked = hindered PageFault rest (inr (inr (inl refl)))
+follows_at P task ReadFault so sn ko kn mo mn rest told ends asked = hindered ReadFault rest (inl refl)
+follows_at P task WriteFault so sn ko kn mo mn rest told ends asked = hindered WriteFault rest (inr (inl refl))
+follows_at P task NoMemory so sn ko kn mo mn rest told ends asked = hindered NoMemory rest (inr (inr (inr refl)))
+follows_at P task TooLong so sn ko kn mo mn rest told ends asked =
     let more : most_input < length rest = at_some so.rest rest (λ r. most_input < length r) told ends.0.1.more in
     record { short = λ h. absurd (omega (arith, h, more)); long = λ h. inl refl }
-follows_at task NotBuilt so sn ko kn mo mn rest told ends asked = elim ends.0 [
+follows_at P task NotBuilt so sn ko kn mo mn rest told ends asked = elim ends.0 [
   | inl later ↦ let is : Later ≡ Run = sym later.0 ∙ asked in absurd cc
   | inr read ↦ read_follows not_built NotBuilt so sn rest told read.1 refl
 ]
 
-pub follows : (task : Task) (status : Status) (so sn : SourceTold) (ko kn : SinkTold) (mo mn : MakerTold) → Ends task status so sn ko kn mo mn → task ≡ Run → IfSome so.rest (FollowsBytes status)
-follows task status so sn ko kn mo mn ends asked = some_of so.rest (FollowsBytes status) (λ rest told. follows_at task status so sn ko kn mo mn rest told ends asked)
+pub follows : (P : Type 0) (task : Task) (status : Status) (so sn : SourceTold) (ko kn : SinkTold) (mo mn : MakerTold) → Ends P task status so sn ko kn mo mn → task ≡ Run → IfSome so.rest (FollowsBytes status)
+follows P task status so sn ko kn mo mn ends asked = some_of so.rest (FollowsBytes status) (λ rest told. follows_at P task status so sn ko kn mo mn rest told ends asked)
 
 -- a making failed of the input that the bytes are
 making_failed : (input : Input) (so sn : SourceTold) (mo mn : MakerTold) (rest : List ℕ) → so.rest ≡ Some rest → reading rest ≡ accepted input → (other : Input) → HasRead (accepted other) so sn → FaultsInMaking other mo mn → FaultsInMaking input mo mn
@@ -91,10 +91,10 @@ making_failed input so sn mo mn rest told reads other read making =
     subst (λ (i : Input). FaultsInMaking i mo mn) input_is making
 
 -- nothing stood in the way but want of memory
-unhindered_at : (task : Task) (status : Status) (so sn : SourceTold) (ko kn : SinkTold) (mo mn : MakerTold) (rest : List ℕ) → so.rest ≡ Some rest → Ends task status so sn ko kn mo mn → task ≡ Run → length rest ≤ most_input → (input : Input) → reading rest ≡ accepted input → IsUnhindered input so sn ko kn mo mn → (status ≡ status_of (accepted input)) ⊎ (status ≡ NoMemory)
-unhindered_at task status so sn ko kn mo mn rest told ends asked short input reads free =
-    let E : Status → Type 0 = λ s. Ends task s so sn ko kn mo mn in
-    elim ((follows_at task status so sn ko kn mo mn rest told ends asked).short short) [
+unhindered_at : (P : Type 0) (task : Task) (status : Status) (so sn : SourceTold) (ko kn : SinkTold) (mo mn : MakerTold) (rest : List ℕ) → so.rest ≡ Some rest → Ends P task status so sn ko kn mo mn → task ≡ Run → length rest ≤ most_input → (input : Input) → reading rest ≡ accepted input → IsUnhindered input so sn ko kn mo mn → (status ≡ status_of (accepted input)) ⊎ (status ≡ NoMemory)
+unhindered_at P task status so sn ko kn mo mn rest told ends asked short input reads free =
+    let E : Status → Type 0 = λ s. Ends P task s so sn ko kn mo mn in
+    elim ((follows_at P task status so sn ko kn mo mn rest told ends asked).short short) [
       | inl is ↦ inl (is ∙ ap status_of reads)
       | inr hindrance ↦ elim hindrance [
         | inl is ↦ let end = subst E is ends in absurd (free.reads end.0.1)
@@ -108,6 +108,6 @@ unhindered_at task status so sn ko kn mo mn rest told ends asked short input rea
       ]
     ]
 
-pub unhindered : (task : Task) (status : Status) (so sn : SourceTold) (ko kn : SinkTold) (mo mn : MakerTold) → Ends task status so sn ko kn mo mn → task ≡ Run → IfSome so.rest (λ bytes. length bytes ≤ most_input → (input : Input) → reading bytes ≡ accepted input → IsUnhindered input so sn ko kn mo mn → (status ≡ status_of (accepted input)) ⊎ (status ≡ NoMemory))
-unhindered task status so sn ko kn mo mn ends asked =
-    some_of so.rest (λ bytes. length bytes ≤ most_input → (input : Input) → reading bytes ≡ accepted input → IsUnhindered input so sn ko kn mo mn → (status ≡ status_of (accepted input)) ⊎ (status ≡ NoMemory)) (λ rest told. unhindered_at task status so sn ko kn mo mn rest told ends asked)
+pub unhindered : (P : Type 0) (task : Task) (status : Status) (so sn : SourceTold) (ko kn : SinkTold) (mo mn : MakerTold) → Ends P task status so sn ko kn mo mn → task ≡ Run → IfSome so.rest (λ bytes. length bytes ≤ most_input → (input : Input) → reading bytes ≡ accepted input → IsUnhindered input so sn ko kn mo mn → (status ≡ status_of (accepted input)) ⊎ (status ≡ NoMemory))
+unhindered P task status so sn ko kn mo mn ends asked =
+    some_of so.rest (λ bytes. length bytes ≤ most_input → (input : Input) → reading bytes ≡ accepted input → IsUnhindered input so sn ko kn mo mn → (status ≡ status_of (accepted input)) ⊎ (status ≡ NoMemory)) (λ rest told. unhindered_at P task status so sn ko kn mo mn rest told ends asked)

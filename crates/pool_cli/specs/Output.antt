@@ -1,14 +1,16 @@
 -- The text of a run's output.
-use Rattle.std.specs.Prelude.{ℕ, ◌+◌, List, [], ◌∷◌, ◌++◌, codes, Option, Some, None}
+use Rattle.std.specs.Prelude.{ℕ, ◌+◌, List, [], ◌∷◌, ◌++◌, codes, Bool, true, false, Option, Some, None}
 use Rattle.std.specs.Fmt.{decimal}
 use Rattle.hex.specs.Hex.{encode_lower}
+use Rattle.pool_pages.specs.UnsupportedTexts.{unsupported_text}
 use Rattle.pool_pages.specs.declared.pages.PageCalls.{PageCalls}
 use Rattle.pool_slots.specs.Texts.{limit_text}
 use Rattle.pool_slots.specs.declared.request.AllocError.{AllocError}
-use Rattle.pool_slots.specs.declared.request.AllocError.TheVariants.{Memory as NoMemory, Limit, PageFault}
-use Rattle.pool_slots.specs.declared.static_memory.Trap.{Trap}
-use Rattle.pool_slots.specs.declared.static_memory.Trap.TheVariants.{MemoryOutOfBounds}
-use Rattle.pool_run.specs.declared.metrics.Metrics.{Metrics}
+use Rattle.pool_slots.specs.declared.request.AllocError.TheVariants.{Memory as NoMemory, Unsupported, Limit, LimiterDenied, LimiterFault, PageFault}
+use Rattle.pool_limits.specs.Texts.{limiter_text}
+use Rattle.pool_limits.specs.declared.errors.Trap.{Trap}
+use Rattle.pool_limits.specs.declared.errors.Trap.TheVariants.{MemoryOutOfBounds, TableOutOfBounds, HeapMisaligned, AtomicWaitNonSharedMemory}
+use Rattle.pool_alloc.specs.declared.metrics.Metrics.{Metrics}
 use Rattle.pool_run.specs.declared.output.RunOutput.{RunOutput}
 use Rattle.pool_run.specs.declared.reply.Refusal.{Refusal}
 use Rattle.pool_run.specs.declared.reply.Refusal.TheVariants.{NoSuchGrant, Alloc}
@@ -34,9 +36,17 @@ abbrev pub bytes_text : List ℕ → List ℕ
 bytes_text [] = codes "-"
 bytes_text (b ∷ bs) = encode_lower (b ∷ bs)
 
+-- what a limiter said no to
+abbrev pub denied_text : Bool → ℕ → List ℕ
+denied_text false min = codes "memory minimum size of " ++ decimal min ++ codes " pages exceeds memory limits"
+denied_text true min = codes "table minimum size of " ++ decimal min ++ codes " elements exceeds table limits"
+
 abbrev pub alloc_error_text : AllocError → List ℕ
 alloc_error_text NoMemory = codes "NoMemory"
+alloc_error_text (Unsupported u) = codes "Unsupported: " ++ unsupported_text u
 alloc_error_text (Limit e) = codes "PoolConcurrencyLimitError: " ++ limit_text e
+alloc_error_text (LimiterDenied table min) = codes "LimiterDenied: " ++ denied_text table min
+alloc_error_text (LimiterFault e) = codes "LimiterFault: " ++ limiter_text e
 alloc_error_text PageFault = codes "PageFault"
 
 abbrev pub refusal_text : Refusal → List ℕ
@@ -45,6 +55,9 @@ refusal_text (Alloc e) = alloc_error_text e
 
 abbrev pub trap_text : Trap → List ℕ
 trap_text MemoryOutOfBounds = codes "MemoryOutOfBounds"
+trap_text TableOutOfBounds = codes "TableOutOfBounds"
+trap_text HeapMisaligned = codes "HeapMisaligned"
+trap_text AtomicWaitNonSharedMemory = codes "AtomicWaitNonSharedMemory"
 
 abbrev pub reply_text : Reply → List ℕ
 reply_text (Instance memories tables) = codes "granted memories " ++ numbers_text memories ++ codes " tables " ++ numbers_text tables

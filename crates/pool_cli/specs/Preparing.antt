@@ -32,9 +32,9 @@ Refuses error TooLong = ⊥
 Refuses error NotBuilt = ⊥
 
 -- the text of the output, or why there is none
-abbrev pub Prepares : Task → SourceTold → SourceTold → MakerTold → MakerTold → Result (String Global) Failure → Type 0
-Prepares task source_old source_new maker_old maker_new (Ok text) = (task ≡ Run) × HasRun (string_bytes text) source_old source_new maker_old
-Prepares task source_old source_new maker_old maker_new (Err failure) = Fails task failure source_old source_new maker_old maker_new
+abbrev pub Prepares : Type 0 → Task → SourceTold → SourceTold → MakerTold → MakerTold → Result (String Global) Failure → Type 0
+Prepares P task source_old source_new maker_old maker_new (Ok text) = (task ≡ Run) × HasRun P (string_bytes text) source_old source_new maker_old
+Prepares P task source_old source_new maker_old maker_new (Err failure) = Fails task failure source_old source_new maker_old maker_new
 
 -- the text was written and the status stays, or a write failed
 abbrev pub Finishes : Status → List ℕ → SinkTold → SinkTold → Status → Type 0

@@ -1,5 +1,6 @@
 -- Why the program ends with a status, and what it wrote.
 use Rattle.std.specs.Prelude.{◌≡◌, ℕ, ◌≤◌, ◌<◌, List, length, ◌⊎◌, Option, Some, None, string_bytes}
+use Rattle.pool_pages.specs.Config.{default_tunables}
 use Rattle.pool_pages.specs.ConfigLimits.{first_broken_limit}
 use Rattle.pool_pages.specs.declared.bad_config.BadConfig.{BadConfig}
 use Rattle.pool_pages.specs.MakerTold.{MakerTold}
@@ -25,13 +26,13 @@ pub record HasRead (is : Reading) (source_old source_new : SourceTold) : Type 0 
   pub reads : reading bytes ≡ is
 
 -- The source was read to its end, the bytes read are an input that can be run, no limit of its settings is broken, and
--- the text is that of the output of a run of it.
-pub record HasRun (text : List ℕ) (source_old source_new : SourceTold) (maker_old : MakerTold) : Type 0 where
+-- the text is that of the output of a run of it, over regions of type P.
+pub record HasRun (P : Type 0) (text : List ℕ) (source_old source_new : SourceTold) (maker_old : MakerTold) : Type 0 where
   pub input : Input
   pub output : RunOutput
   pub read : HasRead (accepted input) source_old source_new
   pub limits : first_broken_limit input.config ≡ None
-  pub run : IsRun input maker_old output
+  pub run : IsRun P default_tunables input maker_old output
   pub text_is : text ≡ output_text output
 
 -- The source was read to its end, and the bytes read are an input that can be run but for its settings: this is the
@@ -70,16 +71,16 @@ Fails task failure.TooLong source_old source_new maker_old maker_new = (task ≡
 Fails task failure.NotBuilt source_old source_new maker_old maker_new = AsksForMore task source_old source_new
 
 -- what is to be written, and why: the text of an output, or the line of a failure
-abbrev pub IsToWrite : Task → List ℕ → SourceTold → SourceTold → MakerTold → MakerTold → Type 0
-IsToWrite task text source_old source_new maker_old maker_new =
-    ((task ≡ Run) × HasRun text source_old source_new maker_old)
+abbrev pub IsToWrite : Type 0 → Task → List ℕ → SourceTold → SourceTold → MakerTold → MakerTold → Type 0
+IsToWrite P task text source_old source_new maker_old maker_new =
+    ((task ≡ Run) × HasRun P text source_old source_new maker_old)
     ⊎ ((cause : Failure) × Fails task cause source_old source_new maker_old maker_new × (text ≡ line_of cause))
 
 -- the output of a run was written, all of it
-pub record WroteOutput (task : Task) (source_old source_new : SourceTold) (sink_old sink_new : SinkTold) (maker_old : MakerTold) : Type 0 where
+pub record WroteOutput (P : Type 0) (task : Task) (source_old source_new : SourceTold) (sink_old sink_new : SinkTold) (maker_old : MakerTold) : Type 0 where
   pub asked : task ≡ Run
   pub text : List ℕ
-  pub run : HasRun text source_old source_new maker_old
+  pub run : HasRun P text source_old source_new maker_old
   pub wrote : Wrote text sink_old sink_new
 
 -- the settings are refused, and the line that says why was written, all of it
@@ -95,23 +96,23 @@ WroteLine task cause source_old source_new sink_old sink_new maker_old maker_new
     Fails task cause source_old source_new maker_old maker_new × Wrote (line_of cause) sink_old sink_new
 
 -- a write failed, after a part of what was to be written
-pub record WroteLess (task : Task) (source_old source_new : SourceTold) (sink_old sink_new : SinkTold) (maker_old maker_new : MakerTold) : Type 0 where
+pub record WroteLess (P : Type 0) (task : Task) (source_old source_new : SourceTold) (sink_old sink_new : SinkTold) (maker_old maker_new : MakerTold) : Type 0 where
   pub text : List ℕ
-  pub intended : IsToWrite task text source_old source_new maker_old maker_new
+  pub intended : IsToWrite P task text source_old source_new maker_old maker_new
   pub wrote : WrotePart text sink_old sink_new
 
 -- how the program ends
-abbrev pub Ends : Task → Status → SourceTold → SourceTold → SinkTold → SinkTold → MakerTold → MakerTold → Type 0
-Ends task Success source_old source_new sink_old sink_new maker_old maker_new = WroteOutput task source_old source_new sink_old sink_new maker_old
-Ends task WriteFault source_old source_new sink_old sink_new maker_old maker_new = WroteLess task source_old source_new sink_old sink_new maker_old maker_new
-Ends task BadSettings source_old source_new sink_old sink_new maker_old maker_new = WroteBadConfig task source_old source_new sink_old sink_new
-Ends task BadUsage source_old source_new sink_old sink_new maker_old maker_new = WroteLine task failure.BadUsage source_old source_new sink_old sink_new maker_old maker_new
-Ends task BadInput source_old source_new sink_old sink_new maker_old maker_new = WroteLine task failure.BadInput source_old source_new sink_old sink_new maker_old maker_new
-Ends task PageFault source_old source_new sink_old sink_new maker_old maker_new = WroteLine task failure.PageFault source_old source_new sink_old sink_new maker_old maker_new
-Ends task ReadFault source_old source_new sink_old sink_new maker_old maker_new = WroteLine task failure.ReadFault source_old source_new sink_old sink_new maker_old maker_new
-Ends task NoMemory source_old source_new sink_old sink_new maker_old maker_new = WroteLine task failure.NoMemory source_old source_new sink_old sink_new maker_old maker_new
-Ends task TooLong source_old source_new sink_old sink_new maker_old maker_new = WroteLine task failure.TooLong source_old source_new sink_old sink_new maker_old maker_new
-Ends task NotBuilt source_old source_new sink_old sink_new maker_old maker_new = WroteLine task failure.NotBuilt source_old source_new sink_old sink_new maker_old maker_new
+abbrev pub Ends : Type 0 → Task → Status → SourceTold → SourceTold → SinkTold → SinkTold → MakerTold → MakerTold → Type 0
+Ends P task Success source_old source_new sink_old sink_new maker_old maker_new = WroteOutput P task source_old source_new sink_old sink_new maker_old
+Ends P task WriteFault source_old source_new sink_old sink_new maker_old maker_new = WroteLess P task source_old source_new sink_old sink_new maker_old maker_new
+Ends P task BadSettings source_old source_new sink_old sink_new maker_old maker_new = WroteBadConfig task source_old source_new sink_old sink_new
+Ends P task BadUsage source_old source_new sink_old sink_new maker_old maker_new = WroteLine task failure.BadUsage source_old source_new sink_old sink_new maker_old maker_new
+Ends P task BadInput source_old source_new sink_old sink_new maker_old maker_new = WroteLine task failure.BadInput source_old source_new sink_old sink_new maker_old maker_new
+Ends P task PageFault source_old source_new sink_old sink_new maker_old maker_new = WroteLine task failure.PageFault source_old source_new sink_old sink_new maker_old maker_new
+Ends P task ReadFault source_old source_new sink_old sink_new maker_old maker_new = WroteLine task failure.ReadFault source_old source_new sink_old sink_new maker_old maker_new
+Ends P task NoMemory source_old source_new sink_old sink_new maker_old maker_new = WroteLine task failure.NoMemory source_old source_new sink_old sink_new maker_old maker_new
+Ends P task TooLong source_old source_new sink_old sink_new maker_old maker_new = WroteLine task failure.TooLong source_old source_new sink_old sink_new maker_old maker_new
+Ends P task NotBuilt source_old source_new sink_old sink_new maker_old maker_new = WroteLine task failure.NotBuilt source_old source_new sink_old sink_new maker_old maker_new
 
 -- a fault of the source, of the sink or of a making, or want of memory, stands in the way
 abbrev pub IsHindrance : Status → Type 0

@@ -1,8 +1,10 @@
 ghost use Rattle.std.specs.Prelude.{◌≡◌, ◌++◌, Some, IfOk, OnOk, string_bytes};
 ghost use Rattle.pool_cli.specs.Output.{numbers_text, bytes_text, refusal_text, alloc_error_text, trap_text, reply_text, reply_line, reply_lines, party_lines, named, named_or_none, live_text, warm_text, metrics_line, pages_line, output_text};
 
+use pool_alloc::Metrics;
+use pool_limits::Trap;
 use pool_pages::PageCalls;
-use pool_run::{Metrics, Refusal, Reply, ReplyList, RunOutput, Trap};
+use pool_run::{Refusal, Reply, ReplyList, RunOutput};
 use pool_slots::AllocError as Refused;
 use std::alloc::{AllocError, Global};
 use std::fmt::Write;
@@ -37,9 +39,36 @@ fn push_refusal(out: &mut String, refusal: Refusal) -> Result<(), AllocError>
 {
     match refusal {
         Refusal::NoSuchGrant => out.push_str("NoSuchGrant"),
-        Refusal::Alloc(Refused::Memory) => out.push_str("NoMemory"),
-        Refusal::Alloc(Refused::PageFault) => out.push_str("PageFault"),
-        Refusal::Alloc(Refused::Limit(limit)) => write!(out, "PoolConcurrencyLimitError: {limit}"),
+        Refusal::Alloc(error) => push_alloc_error(out, error),
+    }
+}
+
+fn push_alloc_error(out: &mut String, error: Refused) -> Result<(), AllocError>
+    ensures { OnOk result (string_bytes out.new ≡ string_bytes out.old ++ alloc_error_text error) }
+{
+    match error {
+        Refused::Memory => out.push_str("NoMemory"),
+        Refused::Unsupported(rule) => write!(out, "Unsupported: {rule}"),
+        Refused::Limit(limit) => write!(out, "PoolConcurrencyLimitError: {limit}"),
+        Refused::LimiterDenied { table, min } => push_denied(out, table, min),
+        Refused::LimiterFault(fault) => write!(out, "LimiterFault: {fault}"),
+        Refused::PageFault => out.push_str("PageFault"),
+    }
+}
+
+fn push_denied(out: &mut String, table: bool, min: u64) -> Result<(), AllocError>
+    ensures { OnOk result (string_bytes out.new ≡ string_bytes out.old ++ alloc_error_text (Refused.LimiterDenied table min)) }
+{
+    if table {
+        write!(
+            out,
+            "LimiterDenied: table minimum size of {min} elements exceeds table limits"
+        )
+    } else {
+        write!(
+            out,
+            "LimiterDenied: memory minimum size of {min} pages exceeds memory limits"
+        )
     }
 }
 
@@ -48,6 +77,9 @@ fn push_trap(out: &mut String, trap: Trap) -> Result<(), AllocError>
 {
     match trap {
         Trap::MemoryOutOfBounds => out.push_str("MemoryOutOfBounds"),
+        Trap::TableOutOfBounds => out.push_str("TableOutOfBounds"),
+        Trap::HeapMisaligned => out.push_str("HeapMisaligned"),
+        Trap::AtomicWaitNonSharedMemory => out.push_str("AtomicWaitNonSharedMemory"),
     }
 }
 

@@ -54,7 +54,7 @@ fn run<S: Source, M: PageMaker>(
     source: &mut S,
     pages: &mut M,
 ) -> Result<String, Failure>
-    ensures { Prepares Run (S.told source.old) (S.told source.new) (M.told pages.old) (M.told pages.new) result }
+    ensures { Prepares M.Region Run (S.told source.old) (S.told source.new) (M.told pages.old) (M.told pages.new) result }
 {
     let input = input_from(alloc, source)?;
     let output = match run_schedule(alloc, &input, pages) {
@@ -76,7 +76,7 @@ pub fn prepare<S: Source, M: PageMaker>(
     source: &mut S,
     pages: &mut M,
 ) -> Result<String, Failure>
-    ensures { Prepares (task_of words.now) (S.told source.old) (S.told source.new) (M.told pages.old) (M.told pages.new) result }
+    ensures { Prepares M.Region (task_of words.now) (S.told source.old) (S.told source.new) (M.told pages.old) (M.told pages.new) result }
 {
     match task_of(words) {
         Task::Run => run(alloc, source, pages),
