@@ -3,7 +3,7 @@ ghost use Rattle.pool_hall.specs.declared.unit_name.SlotKind.TheVariants.{Memory
 ghost use Rattle.pool_pages.specs.ConfigLimits.{IsWithinLimits};
 ghost use Rattle.pool_pages.specs.MakerTold.{MakerTold};
 ghost use Rattle.pool_index.specs.Shard.{IsShard, fresh_shard};
-ghost use Rattle.pool_slots.specs.Pools.{RaisesFaults, makes_listed, IsListed};
+ghost use Rattle.pool_slots.specs.Makings.{RaisesFaults, makes_listed, IsListed};
 ghost use Rattle.pool_slots.specs.Queues.{empty_queue};
 ghost use Rattle.pool_alloc.specs.Calls.{frame_made};
 ghost use Rattle.pool_alloc.specs.Made.{settings_of, IsMadeCore, HasMadeCells};

@@ -6,7 +6,7 @@ use Rattle.pool_pages.specs.Told.{Rose}
 use Rattle.pool_pages.specs.declared.module_types.ModuleInfo.{ModuleInfo}
 use Rattle.pool_pages.specs.declared.module_types.Tunables.{Tunables}
 use Rattle.pool_images.specs.Images.{makes_listed as makes_listed_images}
-use Rattle.pool_slots.specs.Pools.{makes_listed}
+use Rattle.pool_slots.specs.Makings.{makes_listed}
 use Rattle.pool_alloc.specs.Made.{IsMadeCore}
 use Rattle.pool_alloc.specs.Sums.{metrics_of}
 use Rattle.pool_alloc.specs.declared.frame.ModuleCall.{ModuleCall}

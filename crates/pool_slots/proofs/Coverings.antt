@@ -1,12 +1,11 @@
 -- A slot that is clean once ranges are decommitted has no other page that is to be.
-use Rattle.std.proofs.Common.{◌≡◌, ℕ, ◌+◌, ◌-◌, ◌*◌, ◌/◌, ◌%◌, ◌<◌, ◌≤◌, true, List, [], ◌∷◌, length, refl, sym, ap, ◌∙◌, subst, inl, inr, arith, slice_range, Option, None, Some}
+use Rattle.std.proofs.Common.{◌≡◌, ℕ, ◌+◌, ◌-◌, ◌*◌, ◌/◌, ◌%◌, ◌<◌, ◌≤◌, true, List, [], ◌∷◌, length, sym, ap, ◌∙◌, subst, inl, inr, arith, slice_range, Option, None, Some}
 use Rattle.std.specs.Prelude.{IfSome, All, option_map, ◌⊎◌}
-use Rattle.std.specs.List.{AllByRecursion}
 use Rattle.std.proofs.lemmas.Bool.{cases_lt}
 use Rattle.std.proofs.lemmas.List.Elements.{All-head, All-tail}
 use Rattle.std.proofs.Math.Nat.{mul-mod_left}
 use Rattle.pool_pages.specs.Contents.{Contents, IsShaped, IsIn, Page, page_at, page_bytes, page_origin, decommitted}
-use Rattle.pool_pages.specs.PageLaws.{IsPages, ChangesExactly}
+use Rattle.pool_pages.specs.PageLaws.{IsPages}
 use Rattle.pool_pages.proofs.Multiples.{whole, add_whole, page_below}
 use Rattle.pool_pages.proofs.PageChanges.{decommit_law}
 use Rattle.pool_images.specs.declared.ranges.ByteRange.{ByteRange}
@@ -14,8 +13,7 @@ use Rattle.pool_images.specs.Slots.{Slot, Fits, IsSound, IsClean, IsPart, size_o
 use Rattle.pool_images.proofs.Marks.{page_lt}
 use Rattle.pool_images.proofs.Queued.{next, fits_next}
 use Rattle.pool_slots.specs.declared.queued_range.QueueKind.TheVariants.{Memory}
-use Rattle.pool_slots.specs.declared.queued_range.QueuedRange.{QueuedRange}
-use Rattle.pool_slots.specs.Queues.{QueuedMemory, QueueState, ranges_of, LeavesClean, IsQueue, IsInSome, IsCovered, ForgetsNothing}
+use Rattle.pool_slots.specs.Queues.{QueueState, ranges_of, LeavesClean, IsQueue, IsInSome, IsCovered, ForgetsNothing}
 use Rattle.pool_slots.proofs.Plans.{both_told}
 use Rattle.pool_slots.proofs.QueueLists.{each_weaker}
 use Rattle.pool_slots.proofs.Reading.{range_of_range}

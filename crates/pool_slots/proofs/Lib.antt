@@ -1,9 +1,6 @@
-pub mod Changes
 pub mod Coverings
-pub mod Identity
 pub mod Reading
 pub mod Resets
-pub mod Returns
 pub mod PageSizes
 pub mod Plans
 pub mod Progress
@@ -15,5 +12,3 @@ pub mod QueueOrders
 pub mod QueueRuns
 pub mod QueueSteps
 pub mod Fresh
-pub mod GiveBacks
-pub mod Written

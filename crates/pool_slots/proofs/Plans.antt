@@ -11,10 +11,9 @@ use Rattle.pool_pages.specs.MakerTold.{MakerTold, Planned, fails_making, made_re
 use Rattle.pool_pages.specs.declared.pages.RegionName.TheVariants.{Memory}
 use Rattle.pool_pages.specs.declared.pages.DecommitBehavior.TheVariants.{RestoreOriginalMapping}
 use Rattle.pool_slots.specs.Cells.{Cell, unmapped, taken}
-use Rattle.pool_slots.specs.Pools.{makes_listed, IsListed}
+use Rattle.pool_slots.specs.Makings.{AreMade, makes_listed, IsListed}
 use Rattle.pool_slots.specs.declared.request.PoolNewError.{PoolNewError}
 use Rattle.pool_slots.specs.declared.request.PoolNewError.TheVariants as refused
-use Rattle.pool_slots.specs.Turns.{AreMade}
 
 -- none of the first n makings is listed
 abbrev pub NoneListed : List Planned → ℕ → Type 0

@@ -1,5 +1,5 @@
 -- A queue stays one where ranges and slots are pushed, and where two queues are joined.
-use Rattle.std.proofs.Common.{◌≡◌, ℕ, ◌+◌, ◌^◌, ◌<◌, ◌≤◌, Bool, true, false, List, [], ◌∷◌, ◌++◌, length, refl, sym, ap, ◌∙◌, subst, arith, Ok, Err}
+use Rattle.std.proofs.Common.{◌≡◌, ℕ, ◌+◌, ◌^◌, ◌<◌, ◌≤◌, true, false, List, [], ◌∷◌, ◌++◌, length, refl, sym, ap, ◌∙◌, subst, arith, Ok, Err}
 use Rattle.std.specs.Prelude.{map, ◌==◌, ◌&&◌, All, Result}
 use Rattle.std.proofs.lemmas.Bool.{eq-eqb, or_left, or_right}
 use Rattle.std.proofs.lemmas.List.Folds.{list_any-append}
@@ -10,7 +10,7 @@ use Rattle.pool_images.specs.Slots.{Fits, IsClean, IsPart, size_of, decommitted_
 use Rattle.pool_slots.specs.declared.queued_range.QueueKind.{QueueKind}
 use Rattle.pool_slots.specs.declared.queued_range.QueueKind.TheVariants.{Memory, Table, Stack}
 use Rattle.pool_slots.specs.declared.queued_range.QueuedRange.{QueuedRange}
-use Rattle.pool_slots.specs.Queues.{QueuedMemory, QueueState, same_kind, is_of, ranges_of, holds, is_held, HasOwners, AreDistinct, AreApart, LeavesClean, IsQueue, emptied, with_range, with_ranges, with_memory, joined}
+use Rattle.pool_slots.specs.Queues.{QueuedMemory, QueueState, same_kind, is_of, ranges_of, holds, is_held, HasOwners, AreApart, LeavesClean, IsQueue, with_range, with_ranges, with_memory, joined}
 use Rattle.pool_slots.proofs.QueueFaults.{range_of}
 use Rattle.pool_slots.proofs.QueueLists.{each_append, each_both, each_known, ranges_append, ranges_here, ranges_none, none_unheld, unheld_each, distinct_append, apart_other_way, owned_more, owned_later, AreOwned}
 
@@ -78,9 +78,6 @@ pub owned_joined : (q more : QueueState) → HasOwners q → HasOwners more → 
 owned_joined q more owned also_owned =
     each_append (λ r. is_held r.kind r.slot.0 (q.memories ++ more.memories) ≡ true) q.ranges more.ranges
     (owned_more q.ranges q.memories more.memories owned) (owned_later more.ranges q.memories more.memories also_owned)
-
-pub queue_emptied : (q : QueueState) → IsQueue (emptied q)
-queue_emptied q = record { range_room = omega arith; slot_room = omega arith; distinct = tt; each = tt }
 
 -- the ranges that were just pushed for a slot
 own_ranges : (k : ℕ) (rs : List ByteRange) → ranges_of Memory k (map (range_of k) rs) ≡ rs

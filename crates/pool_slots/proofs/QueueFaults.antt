@@ -1,16 +1,14 @@
 -- The lists in a queue's loops, and what a fault leaves.
-use Rattle.std.proofs.Common.{◌≡◌, ℕ, zero, suc, ◌+◌, ◌-◌, ◌<◌, ◌≤◌, Bool, true, false, List, [], ◌∷◌, ◌++◌, length, get_or, take, drop, refl, sym, ap, ◌∙◌, subst, inl, inr, arith, set}
+use Rattle.std.proofs.Common.{◌≡◌, ℕ, zero, suc, ◌+◌, ◌<◌, ◌≤◌, Bool, false, List, [], ◌∷◌, ◌++◌, length, get_or, take, drop, refl, sym, ap, ◌∙◌, subst, arith}
 use Rattle.std.specs.Prelude.{map, ◌==◌, slice_set}
-use Rattle.std.specs.List.{AllZip, HoldsAt}
+use Rattle.std.specs.List.{AllZip}
 use Rattle.std.proofs.lemmas.Bool.{eq-eqb, ne_eqb, eqb-false, or_parts}
-use Rattle.std.proofs.lemmas.List.{append_assoc, append-nil, length-append, length-map, length-take-le, length-drop, drop_more, take_more, map_more, map_push, take-map, get_or-map, get_or_default}
-use Rattle.pool_pages.specs.declared.pages.PageCalls.{PageCalls}
+use Rattle.std.proofs.lemmas.List.{append_assoc, length-append, length-map, length-take-le, length-drop, drop_more, map_more, take-map, get_or-map}
 use Rattle.pool_images.specs.declared.ranges.ByteRange.{ByteRange}
-use Rattle.pool_images.specs.Slots.{Slot, IsLeft}
-use Rattle.pool_slots.specs.Cells.{Cell, unknown, calls_of_all, added}
+use Rattle.pool_slots.specs.Cells.{Cell, unknown, added}
 use Rattle.pool_slots.specs.declared.queued_range.QueueKind.TheVariants.{Memory}
 use Rattle.pool_slots.specs.declared.queued_range.QueuedRange.{QueuedRange}
-use Rattle.pool_slots.specs.Queues.{QueuedMemory, MemoryList, QueueState, holds, AreDistinct, with_range, with_ranges, forgotten, calls_held, IsLeftItem, IsLeftBy, IsSlotLeft}
+use Rattle.pool_slots.specs.Queues.{QueuedMemory, QueueState, holds, AreDistinct, with_range, with_ranges, forgotten, calls_held, IsLeftItem, IsLeftBy, IsSlotLeft}
 use Rattle.pool_slots.proofs.Fresh.{calls_more}
 use Rattle.pool_slots.proofs.QueueLists.{apart_of_unheld}
 
@@ -23,10 +21,6 @@ pub ranges_more : (slot : ℕ) (rs : List ByteRange) (i : ℕ) (d : ByteRange) (
 ranges_more slot rs i d q inside =
     let more : map (range_of slot) (take (i + 1) rs) ≡ map (range_of slot) (take i rs) ++ range_of slot (get_or rs i d) ∷ [] = map_more (range_of slot) rs i d inside in
     ap (λ (l : List QueuedRange). record q { ranges = l }) (append_assoc q.ranges (map (range_of slot) (take i rs)) (range_of slot (get_or rs i d) ∷ []) ∙ ap (λ (l : List QueuedRange). q.ranges ++ l) (sym more))
-
-pub room_left : (slot : ℕ) (rs : List ByteRange) (i : ℕ) (q : QueueState) → i < length rs → length q.ranges + length rs ≤ q.range_room → length (with_ranges slot (take i rs) q).ranges < q.range_room
-room_left slot rs i q inside room =
-    omega (arith, length-append q.ranges (map (range_of slot) (take i rs)), length-map (take i rs) (range_of slot), length-take-le i rs (omega arith))
 
 -- the first of a list is moved to its end, and is forgotten
 turned_of : (front : List QueuedMemory) (rest done : List QueuedMemory) (m : QueuedMemory) (new : List QueuedMemory) → front ≡ m ∷ rest → ((n : QueuedMemory) (more : List QueuedMemory) → front ++ done ≡ n ∷ more → new ≡ more ++ forgotten n ∷ []) → new ≡ rest ++ (done ++ forgotten m ∷ [])

@@ -1,10 +1,10 @@
 -- What the decommit of the first range makes of a queue, by the place of its slot.
-use Rattle.std.proofs.Common.{◌≡◌, ℕ, zero, suc, ◌+◌, ◌<◌, ◌≤◌, Bool, true, false, List, [], ◌∷◌, length, get_or, refl, sym, ap, ◌∙◌, subst, arith}
+use Rattle.std.proofs.Common.{◌≡◌, ℕ, ◌<◌, true, List, [], ◌∷◌, length, get_or, refl, sym, ap, ◌∙◌, subst, arith}
 use Rattle.std.specs.Prelude.{map, slice_set, All}
 use Rattle.std.specs.List.{AllByRecursion, AllZip, HoldsAt}
 use Rattle.std.proofs.lemmas.List.Elements.{All-head, All-nil}
 use Rattle.pool_images.specs.declared.ranges.ByteRange.{ByteRange}
-use Rattle.pool_images.specs.Slots.{IsClean, IsPart, size_of, decommitted_all}
+use Rattle.pool_images.specs.Slots.{IsPart, size_of}
 use Rattle.pool_slots.specs.declared.queued_range.QueueKind.TheVariants.{Memory}
 use Rattle.pool_slots.specs.declared.queued_range.QueuedRange.{QueuedRange}
 use Rattle.pool_slots.specs.Queues.{QueuedMemory, MemoryList, QueueState, is_of, ranges_of, holds, AreDistinct, LeavesClean, IsQueue, change_at, decommitted_at, forgotten, IsLeftItem, IsLeftBy}

@@ -1,8 +1,8 @@
 -- The lists of a queue: which ranges are of which slot, and slots that differ.
-use Rattle.std.proofs.Common.{◌≡◌, ℕ, zero, suc, ◌+◌, ◌<◌, ◌≤◌, Bool, true, false, List, [], ◌∷◌, ◌++◌, length, get_or, refl, sym, ap, ◌∙◌, subst, inl, inr, arith, set}
-use Rattle.std.specs.Prelude.{map, filter, cond, ◌==◌, ◌&&◌, ◌||◌, All}
-use Rattle.std.specs.List.{list_any, AllByRecursion, HoldsAt}
-use Rattle.std.proofs.lemmas.Bool.{cases_eq, cases_lt, cases_Bool, eqb-true, eqb-false, eq-eqb, ne_eqb, or_parts, or_from, or_left, or_right, true≢false}
+use Rattle.std.proofs.Common.{◌≡◌, ℕ, zero, suc, ◌<◌, ◌≤◌, Bool, true, false, List, [], ◌∷◌, ◌++◌, length, get_or, refl, sym, ap, ◌∙◌, subst, inl, inr, arith, set}
+use Rattle.std.specs.Prelude.{map, filter, cond, ◌==◌, ◌&&◌}
+use Rattle.std.specs.List.{AllByRecursion, HoldsAt}
+use Rattle.std.proofs.lemmas.Bool.{cases_eq, cases_lt, eqb-false, eq-eqb, ne_eqb, or_parts, or_from, or_left, or_right, true≢false}
 use Rattle.std.proofs.lemmas.List.{map-append}
 use Rattle.std.proofs.lemmas.List.Folds.{list_any-append, list_any_none}
 use Rattle.pool_images.specs.declared.ranges.ByteRange.{ByteRange}

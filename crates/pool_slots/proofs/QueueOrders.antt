@@ -1,8 +1,8 @@
 -- The decommits of a run in their order: those of its ranges, one after the other.
-use Rattle.std.proofs.Common.{◌≡◌, ℕ, zero, suc, ◌+◌, ◌<◌, Bool, true, false, List, [], ◌∷◌, ◌++◌, length, get_or, refl, sym, ap, ◌∙◌, subst, arith, Option, Some, None}
+use Rattle.std.proofs.Common.{◌≡◌, ℕ, zero, suc, ◌+◌, ◌<◌, Bool, true, false, List, [], ◌∷◌, length, get_or, refl, sym, ap, ◌∙◌, subst, arith, Option, Some, None}
 use Rattle.std.specs.Prelude.{map, ◌==◌, slice_set, if◌then◌else◌, IfSome}
 use Rattle.std.specs.List.{AllZip, HoldsAt}
-use Rattle.std.proofs.lemmas.Bool.{true≢false, eq-eqb, ne_eqb, eqb-false, or_parts}
+use Rattle.std.proofs.lemmas.Bool.{true≢false, ne_eqb, eqb-false, or_parts}
 use Rattle.std.proofs.lemmas.Option.{IfSome_then}
 use Rattle.pool_pages.specs.Count.{Count}
 use Rattle.pool_pages.specs.Told.{Told, PageCall, succeeded, passes, decommitting}
@@ -11,7 +11,7 @@ use Rattle.pool_images.specs.declared.ranges.ByteRange.{ByteRange}
 use Rattle.pool_images.proofs.Ordering.{follows_then}
 use Rattle.pool_slots.specs.declared.queued_range.QueueKind.TheVariants.{Memory}
 use Rattle.pool_slots.specs.declared.queued_range.QueuedRange.{QueuedRange}
-use Rattle.pool_slots.specs.Queues.{QueuedMemory, MemoryList, QueueState, is_of, holds, AreDistinct, IsQueue, change_at, decommitted_at, first_slot, forgotten}
+use Rattle.pool_slots.specs.Queues.{QueuedMemory, QueueState, is_of, holds, AreDistinct, IsQueue, change_at, decommitted_at, first_slot, forgotten}
 use Rattle.pool_slots.specs.QueueOrders.{decommits, run_of, first_of, FollowsAt, AreInOrder}
 use Rattle.pool_slots.specs.QueueSteps.{begins_with, after_first_of, after_first}
 use Rattle.pool_slots.proofs.QueueLists.{apart_of_unheld}

@@ -1,16 +1,16 @@
 -- Runs of ranges of one slot, and a flush made of them.
-use Rattle.std.proofs.Common.{◌≡◌, ℕ, zero, suc, ◌+◌, ◌<◌, ◌≤◌, Bool, true, false, List, [], ◌∷◌, ◌++◌, length, get_or, refl, sym, ap, ◌∙◌, subst, inl, inr, arith, Ok, Err}
-use Rattle.std.specs.Prelude.{map, cond, ◌==◌, ◌&&◌, Result, OnErr}
-use Rattle.std.specs.List.{AllByRecursion, AllZip, HoldsAt}
+use Rattle.std.proofs.Common.{◌≡◌, ℕ, suc, ◌+◌, ◌<◌, ◌≤◌, Bool, true, false, List, [], ◌∷◌, length, get_or, refl, sym, ap, ◌∙◌, subst, inl, inr, arith, Ok, Err}
+use Rattle.std.specs.Prelude.{map, ◌==◌, Result, OnErr}
+use Rattle.std.specs.List.{AllZip, HoldsAt}
 use Rattle.std.proofs.lemmas.Bool.{cases_Bool, and_parts, and_from, eqb-true, eq-eqb, or_cases}
 use Rattle.std.proofs.lemmas.List.{length-map, get_or-map}
-use Rattle.pool_pages.specs.Told.{Rose, decommitting}
+use Rattle.pool_pages.specs.Told.{decommitting}
 use Rattle.pool_images.specs.declared.ranges.ByteRange.{ByteRange}
 use Rattle.pool_images.specs.Slots.{Slot, IsLeft, called, decommitted_all}
 use Rattle.pool_slots.specs.declared.queued_range.QueueKind.{QueueKind}
 use Rattle.pool_slots.specs.declared.queued_range.QueueKind.TheVariants.{Memory, Table, Stack}
 use Rattle.pool_slots.specs.declared.queued_range.QueuedRange.{QueuedRange}
-use Rattle.pool_slots.specs.Queues.{QueuedMemory, QueueState, same_kind, is_of, ranges_of, holds, is_held, HasOwners, change_at, decommitted_at, settle, settled, first_slot, front, behind, after_run_of, after_run, forgotten, IsFaulted, IsLeftBy, IsSlotLeft, IsLost, AreLost, HasFaulted, IsSameSlot, AnyZip}
+use Rattle.pool_slots.specs.Queues.{QueuedMemory, QueueState, same_kind, is_of, holds, is_held, HasOwners, change_at, decommitted_at, settle, settled, first_slot, front, behind, after_run_of, after_run, IsFaulted, IsLeftBy, IsSlotLeft, IsLost, AreLost, HasFaulted, IsSameSlot, AnyZip}
 use Rattle.pool_slots.specs.QueueSteps.{begins_with, after_first_of, after_first}
 use Rattle.pool_slots.proofs.Resets.{IsKept, kept_self, kept_called, left_after}
 use Rattle.pool_slots.proofs.QueueLists.{change_index, change_here, change_elsewhere, AreOwned}

@@ -1,18 +1,17 @@
 -- The first range of a queue is decommitted.
-use Rattle.std.proofs.Common.{◌≡◌, ℕ, zero, suc, ◌+◌, ◌<◌, ◌≤◌, Bool, true, false, List, [], ◌∷◌, ◌++◌, length, get_or, refl, sym, ap, ◌∙◌, subst, inl, inr, arith, set}
-use Rattle.std.specs.Prelude.{map, filter, cond, ◌==◌, ◌&&◌, All}
-use Rattle.std.specs.List.{AllByRecursion, AllZip}
-use Rattle.std.proofs.lemmas.Bool.{cases_Bool, cases_eq, and_parts, eqb-true}
+use Rattle.std.proofs.Common.{◌≡◌, ℕ, Bool, true, List, [], ◌∷◌, refl, sym, ap, ◌∙◌, subst, inl, inr, arith}
+use Rattle.std.specs.Prelude.{map, ◌==◌, ◌&&◌, All}
+use Rattle.std.proofs.lemmas.Bool.{cases_Bool}
 use Rattle.std.proofs.lemmas.List.{length-map}
 use Rattle.std.proofs.lemmas.List.Elements.{All-head, All-tail}
 use Rattle.pool_images.specs.declared.ranges.ByteRange.{ByteRange}
-use Rattle.pool_images.specs.Slots.{Slot, IsClean, IsLeft, IsPart, size_of, decommitted_all}
+use Rattle.pool_images.specs.Slots.{IsClean, IsPart, size_of, decommitted_all}
 use Rattle.pool_images.proofs.Queued.{fits_next}
 use Rattle.pool_slots.specs.declared.queued_range.QueueKind.{QueueKind}
 use Rattle.pool_slots.specs.declared.queued_range.QueueKind.TheVariants.{Memory, Table, Stack}
 use Rattle.pool_slots.specs.declared.queued_range.QueuedRange.{QueuedRange}
-use Rattle.pool_slots.specs.Queues.{QueuedMemory, QueueState, same_kind, is_of, ranges_of, holds, is_held, HasOwners, AreDistinct, LeavesClean, IsQueue, change_at, decommitted_at, settle, settled, front, behind, after_run_of, forgotten, IsLeftBy, IsSlotLeft, IsLeftItem}
-use Rattle.pool_slots.specs.QueueSteps.{begins_with, after_first_of, after_first}
+use Rattle.pool_slots.specs.Queues.{QueuedMemory, QueueState, same_kind, is_of, ranges_of, HasOwners, LeavesClean, IsQueue, change_at, decommitted_at, settle, settled}
+use Rattle.pool_slots.specs.QueueSteps.{after_first_of}
 use Rattle.pool_slots.proofs.QueueLists.{each_map, ranges_here, ranges_elsewhere, change_index, change_here, change_elsewhere, distinct_map, owned_map}
 
 pub memory_kind : (kind : QueueKind) (b : Bool) → (same_kind Memory kind && b) ≡ true → kind ≡ Memory

@@ -1,10 +1,9 @@
--- A slot whose ranges are decommitted one by one.
-use Rattle.std.proofs.Common.{◌≡◌, ℕ, suc, ◌+◌, ◌<◌, List, ◌∷◌, length, get_or, drop, refl, ◌∙◌, subst, Option, Some, None, drop-cons, add-one}
+-- A slot on whose region calls succeed, and then one fails.
+use Rattle.std.proofs.Common.{◌≡◌, ℕ, ◌<◌, List, length, refl, ◌∙◌, subst, Option, Some, None}
 use Rattle.std.specs.Prelude.{IfSome, is_some, option_map}
 use Rattle.pool_pages.specs.Contents.{Contents}
-use Rattle.pool_pages.specs.Told.{Rose, PageCall, decommitting}
-use Rattle.pool_images.specs.declared.ranges.ByteRange.{ByteRange}
-use Rattle.pool_images.specs.Slots.{Slot, IsPart, IsLeft, called, size_of, decommitted_all}
+use Rattle.pool_pages.specs.Told.{Rose, PageCall}
+use Rattle.pool_images.specs.Slots.{Slot, IsLeft, called}
 
 -- calls on the slot's region succeeded
 pub record IsKept (old new : Slot) : Type 0 where
@@ -44,15 +43,3 @@ left_after s t u k l =
       rose = subst R k.faults l.rose;
       listed = subst L k.plan l.listed;
     }
-
--- a range of the slot is one of the slot as it became
-pub part_kept : (s t : Slot) (r : ByteRange) → IsKept s t → IsPart s.region.page (size_of s) r → IsPart t.region.page (size_of t) r
-part_kept s t r k part =
-    rw (k.page, k.static_size) part
-
--- the next range is decommitted
-pub rest_next : (rs : List ByteRange) (i : ℕ) (d : ByteRange) (s t u : Slot) → i < length rs → decommitted_all (drop i rs) s ≡ t → u ≡ called (decommitting (s.base.bytes + (get_or rs i d).start) (get_or rs i d).len) s → decommitted_all (drop (i + 1) rs) u ≡ t
-rest_next rs i d s t u inside rest now =
-    let D : List ByteRange → Type 0 = λ l. decommitted_all l s ≡ t in
-    let first : decommitted_all (get_or rs i d ∷ drop (suc i) rs) s ≡ t = subst D (drop-cons rs i d inside) rest in
-    rw (add-one, now) first

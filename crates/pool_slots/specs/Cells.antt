@@ -21,18 +21,12 @@ is_taken (unknown slot) = false
 is_taken (previously_used slot) = false
 is_taken taken = true
 
--- the calls made so far on the region that lies in a cell, and how often one failed; none where it is taken
+-- the calls made so far on the region that lies in a cell, none where it is taken
 abbrev pub calls_in : Cell → PageCalls
 calls_in (unmapped region) = region.calls
 calls_in (unknown slot) = slot.region.calls
 calls_in (previously_used slot) = slot.region.calls
 calls_in taken = no_calls
-
-abbrev pub faults_in : Cell → ℕ
-faults_in (unmapped region) = region.faults
-faults_in (unknown slot) = slot.region.faults
-faults_in (previously_used slot) = slot.region.faults
-faults_in taken = 0
 
 -- a sum that stands still at the end of its type
 abbrev pub sum_at_most : (PageCalls → ℕ) → List Cell → ℕ

@@ -1,11 +1,7 @@
 pub mod CellOf
 pub mod Cells
-pub mod Ended
-pub mod Memories
-pub mod Pools
+pub mod Makings
 pub mod QueueOrders
 pub mod QueueSteps
 pub mod Queues
 pub mod Texts
-pub mod Turns
-pub mod Uses

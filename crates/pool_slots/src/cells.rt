@@ -24,7 +24,7 @@ pub enum ImageSlot<P: Pages> {
 /// The cell of one memory slot.
 #[derive(Drop)]
 pub struct MemoryCell<P: Pages> {
-    pub(crate) slot: ImageSlot<P>,
+    slot: ImageSlot<P>,
 }
 
 impl<P: Pages> Model for MemoryCell<P> {

@@ -2,8 +2,7 @@ ghost use Rattle.std.specs.Prelude.{◌≡◌, ◌%◌, ◌<◌, length, false, 
 ghost use Rattle.pool_pages.specs.Count.{count};
 ghost use Rattle.pool_pages.specs.MakerTold.{fails_making, made_region};
 ghost use Rattle.pool_slots.specs.Cells.{unmapped};
-ghost use Rattle.pool_slots.specs.Pools.{RaisesFaults, IsListed, makes_listed};
-ghost use Rattle.pool_slots.specs.Turns.{AreMade};
+ghost use Rattle.pool_slots.specs.Makings.{AreMade, RaisesFaults, IsListed, makes_listed};
 
 use crate::cells::MemoryCell;
 use crate::request::PoolNewError;

@@ -1,14 +1,14 @@
 ghost use Rattle.std.specs.Prelude.{◌≡◌, ◌+◌, ◌<◌, ◌≤◌, ◌==◌, [], ◌∷◌, ◌++◌, length, List, map, slice_index_or, slice_set, is_ok, IfOk, OnOk, OnErr};
 ghost use Rattle.std.specs.List.{HoldsAt};
 ghost use Rattle.pool_images.specs.Orders.{Follows};
-ghost use Rattle.pool_images.specs.Slots.{IsPart, IsLeft, size_of};
+ghost use Rattle.pool_images.specs.Slots.{IsPart, IsLeft, called, size_of};
+ghost use Rattle.pool_pages.specs.Told.{decommitting};
 ghost use Rattle.pool_slots.specs.Queues.{QueuedMemory, TakesFirst, decommitted_at, forgotten, IsLeftItem};
 ghost use Rattle.pool_slots.specs.QueueOrders.{decommits};
 
 use crate::request::MemoryAllocationIndex;
-use crate::uses::decommit_one;
 use pool_images::{ByteRange, MemoryImageSlot};
-use pool_pages::{PageCalls, PageFault, Pages};
+use pool_pages::{HostAlignedByteCount, PageCalls, PageFault, Pages};
 use std::alloc::{AllocError, Global};
 use std::collections::VecDeque;
 use std::marker::Model;
@@ -172,4 +172,17 @@ impl<P: Pages> Iterator for MemoryItems<P> {
     fn next(&mut self) -> Option<MemoryItem<P>> {
         self.list.pop_front()
     }
+}
+
+// Decommits a range of the slot.
+fn decommit_one<P: Pages>(slot: &mut MemoryImageSlot<P>, range: ByteRange) -> Result<(), PageFault>
+    requires { IsPart slot.old.region.page (size_of slot.old) range }
+    ensures ok { OnOk result (slot.new ≡ called (decommitting (slot.old.base.bytes + range.start) range.len) slot.old) }
+    ensures err { OnErr result (IsLeft slot.old slot.new) }
+    ensures order { Follows (decommits slot.old.base.bytes (range ∷ [])) (is_ok result) slot.old.region slot.new.region }
+{
+    let page = slot.region().page();
+    let start = HostAlignedByteCount::new_unchecked(page, range.start);
+    let len = HostAlignedByteCount::new_unchecked(page, range.len);
+    slot.decommit(start, len)
 }

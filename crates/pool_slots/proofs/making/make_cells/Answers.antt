@@ -5,8 +5,7 @@ use Rattle.pool_pages.specs.MakerTold.{MakerTold, Planned, fails_making, made_re
 use Rattle.pool_pages.specs.declared.pages.RegionName.TheVariants.{Memory}
 use Rattle.pool_pages.specs.declared.pages.DecommitBehavior.TheVariants.{RestoreOriginalMapping}
 use Rattle.pool_slots.specs.Cells.{Cell, unmapped}
-use Rattle.pool_slots.specs.Pools.{IsListed, makes_listed}
-use Rattle.pool_slots.specs.Turns.{AreMade}
+use Rattle.pool_slots.specs.Makings.{AreMade, IsListed, makes_listed}
 use Rattle.pool_slots.proofs.Plans.{NoneListed, none_listed, none_more, mapped_told, both_told, any_told, made_more, listed_of, same_maker}
 use Rattle.pool_slots.proofs.making.make_cells.Goals as goal
 

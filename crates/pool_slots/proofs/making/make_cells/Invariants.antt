@@ -1,7 +1,7 @@
 use Rattle.std.proofs.Common.{◌≡◌}
 use Rattle.std.specs.Prelude.{IfSome}
 use Rattle.pool_slots.proofs.Plans.{NoneListed}
-use Rattle.pool_slots.specs.Turns.{AreMade}
+use Rattle.pool_slots.specs.Makings.{AreMade}
 use Rattle.pool_slots.proofs.making.make_cells.Given as goal
 
 -- the cells so far are made, by a maker that tells what it told

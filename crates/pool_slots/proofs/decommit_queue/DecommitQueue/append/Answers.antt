@@ -1,5 +1,5 @@
-use Rattle.std.proofs.Common.{◌≡◌, ◌+◌, ◌≤◌, List, length, ℕ, ap, arith, rules}
-use Rattle.pool_slots.specs.Queues.{QueuedMemory, MemoryList, QueueState, HasOwners, AreApart}
+use Rattle.std.proofs.Common.{◌+◌, ◌≤◌, length, arith}
+use Rattle.pool_slots.specs.Queues.{QueueState, HasOwners, AreApart}
 use Rattle.pool_slots.proofs.QueueChanges.{queue_joined, owned_joined}
 use Rattle.pool_slots.proofs.decommit_queue.DecommitQueue.append.Goals as goal
 

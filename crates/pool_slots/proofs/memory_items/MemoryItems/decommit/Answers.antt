@@ -1,10 +1,10 @@
-use Rattle.std.proofs.Common.{◌≡◌, ◌<◌, List, length, refl, sym, ap, ◌∙◌, subst, arith}
+use Rattle.std.proofs.Common.{◌≡◌, ◌<◌, List, length, refl, sym, ap, ◌∙◌, subst}
 use Rattle.std.specs.Prelude.{slice_index_or, slice_set}
 use Rattle.std.specs.List.{HoldsAt}
 use Rattle.std.proofs.lemmas.List.{get_or_read}
 use Rattle.std.proofs.lemmas.Result.{on_ok_weaker, on_err_weaker}
 use Rattle.pool_images.specs.Slots.{IsPart, size_of}
-use Rattle.pool_slots.specs.Queues.{QueuedMemory, MemoryList, decommitted_at, IsLeftItem}
+use Rattle.pool_slots.specs.Queues.{QueuedMemory, decommitted_at, IsLeftItem}
 use Rattle.pool_slots.proofs.memory_items.MemoryItems.decommit.Goals as goal
 
 pub decommit-requires : goal.decommit-requires

@@ -1,7 +1,7 @@
-use Rattle.std.proofs.Common.{◌≡◌, ℕ, ◌<◌, ◌≤◌, List, length, take, drop, [], ◌∷◌, ◌++◌, sym, ap, ◌∙◌, subst, arith}
+use Rattle.std.proofs.Common.{◌≡◌, ℕ, ◌<◌, ◌≤◌, List, length, take, drop, [], ◌++◌, ap, ◌∙◌, arith}
 use Rattle.std.specs.Prelude.{map}
-use Rattle.std.proofs.lemmas.List.{append-nil, drop_all, take_all}
-use Rattle.pool_slots.specs.Queues.{QueuedMemory, MemoryList, forgotten}
+use Rattle.std.proofs.lemmas.List.{drop_all, take_all}
+use Rattle.pool_slots.specs.Queues.{QueuedMemory, forgotten}
 use Rattle.pool_slots.proofs.QueueFaults.{turned, turned_length}
 use Rattle.pool_slots.proofs.memory_items.MemoryItems.forget.Goals as goal
 
