@@ -9,6 +9,8 @@ pub mod FreeSlots
 pub mod FullShards
 pub mod Grants
 pub mod ImagesMade
+pub mod Limits
+pub mod LimitsOfRuns
 pub mod NewMemories
 pub mod Parties
 pub mod Placed

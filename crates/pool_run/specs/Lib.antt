@@ -1,6 +1,7 @@
 pub mod AtOnce
 pub mod Built
 pub mod Folds
+pub mod Limits
 pub mod Made
 pub mod Numbers
 pub mod Private
