@@ -27,3 +27,4 @@ pub mod Turned
 pub mod Turning
 pub mod TurnsMade
 pub mod Valid
+pub mod WorldsMade
