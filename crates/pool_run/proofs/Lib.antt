@@ -1,5 +1,7 @@
 pub mod Beginning
+pub mod BuiltInputs
 pub mod Bytes
+pub mod CallsMade
 pub mod Causes
 pub mod Counters
 pub mod Ended
@@ -27,3 +29,4 @@ pub mod Turned
 pub mod Turning
 pub mod TurnsMade
 pub mod Valid
+pub mod WorldsMade

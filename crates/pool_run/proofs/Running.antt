@@ -12,7 +12,7 @@ use Rattle.pool_alloc.specs.declared.pool_core.PoolCore.{PoolCore}
 use Rattle.pool_alloc.specs.declared.pool_core.Settings.{Settings}
 use Rattle.pool_alloc.specs.declared.frame.ModuleCall.{ModuleCall}
 use Rattle.pool_alloc.proofs.KeptCounts.{frame_regions}
-use Rattle.pool_alloc.proofs.SameSizes.{frame_over}
+use Rattle.pool_alloc.proofs.Fitting.{frame_stays}
 use Rattle.pool_run.specs.Turns.{Turned, Turns}
 use Rattle.pool_run.specs.Ties.{held_by_party, IsParty, FitsParty, CanTurn, IsSoundTurn, IsRunning}
 use Rattle.pool_run.specs.Worlds.{AreCallsFor}
@@ -67,7 +67,7 @@ module _ {P : Type 0} where
   party_over maker c d p size is =
       let Grants : Settings → Type 0 = λ s. All (λ g. IfSome g (IsGrant maker s)) p.live in
       record {
-        sound = record { frame = frame_over maker c d p.frame size is.sound.frame; grants = subst Grants (sym size.settings) is.sound.grants };
+        sound = record { frame = frame_stays maker c d p.frame size is.sound.frame; grants = subst Grants (sym size.settings) is.sound.grants };
         to_come = is.to_come;
         place = is.place;
       }

@@ -1,14 +1,22 @@
--- The images of an input's modules.
-use Rattle.std.specs.Prelude.{ℕ, ◌+◌, List, [], ◌∷◌, if◌then◌else◌, Option, Some, None}
+-- The images of an input's modules, and the calls for them.
+use Rattle.std.specs.Prelude.{◌≡◌, ℕ, List, length, slice_get, if◌then◌else◌, Option, Some, None, IfSome, option_map}
+use Rattle.std.specs.Arc.{arc_value}
 use Rattle.std.specs.List.{list_all}
 use Rattle.pool_pages.specs.declared.module_types.ModuleInfo.{ModuleInfo}
 use Rattle.pool_images.specs.Images.{Image, images_from, ends_in_minimum}
+use Rattle.pool_alloc.specs.declared.frame.ModuleCall.{ModuleCall}
 
 -- the images of the module of this number: none where some image, padded, ends past the minimum of its memory
 abbrev pub images_of_module : ℕ → ℕ → ModuleInfo → Option (List (Option Image))
 images_of_module page n m = if list_all (ends_in_minimum page) m.memories then Some (images_from (record { 0 = n }) page 0 m.memories) else None
 
--- those of modules of which the first has this number
-abbrev pub images_made : ℕ → ℕ → List ModuleInfo → List (Option (List (Option Image)))
-images_made page n [] = []
-images_made page n (m ∷ ms) = images_of_module page n m ∷ images_made page (n + 1) ms
+-- the call is one for the module of this number, with its images
+pub record IsMadeCall (page number : ℕ) (m : ModuleInfo) (call : ModuleCall) : Type 0 where
+  pub info : arc_value call.info ≡ m
+  pub images : option_map arc_value call.images ≡ images_of_module page number m
+  pub id : call.id ≡ record { 0 = number }
+
+-- there is such a call for each module, in order
+pub record AreMadeCalls (page : ℕ) (modules : List ModuleInfo) (calls : List ModuleCall) : Type 0 where
+  pub number : length calls ≡ length modules
+  pub each : (k : ℕ) → IfSome (slice_get calls k) (λ call. IfSome (slice_get modules k) (λ m. IsMadeCall page k m call))

@@ -1,46 +1,18 @@
 ghost use Rattle.std.specs.Prelude.{◌≡◌, true, Err, false, IfOk, IfErr, IfSome, OnOk};
-ghost use Rattle.std.specs.List.{list_all};
 ghost use Rattle.pool_pages.specs.Told.{Rose};
 ghost use Rattle.pool_images.specs.Images.{makes_listed};
 ghost use Rattle.pool_run.specs.Built.{is_built_module};
-ghost use Rattle.pool_run.specs.Made.{images_of_module, images_made};
-ghost use Rattle.pool_run.specs.Runs.{images_listed, is_bad_config};
+ghost use Rattle.pool_run.specs.Made.{images_of_module};
+ghost use Rattle.pool_run.specs.Runs.{is_bad_config};
 
 use crate::output::RunFault;
 use pool_images::{ImageError, ModuleMemoryImages};
 use pool_pages::{CompiledModuleId, ModuleInfo, PageMaker};
 use std::alloc::Global;
 
-/// Makes the images of the modules. None of a module where some image, padded, ends past its memory's minimum.
+/// Makes the images of the module with this number. None where some image of it, padded, ends past its memory's
+/// minimum.
 pub(crate) fn make_images<M: PageMaker>(
-    alloc: Global,
-    maker: &mut M,
-    modules: &[ModuleInfo],
-) -> Result<Vec<Option<ModuleMemoryImages>>, RunFault>
-    requires { list_all is_built_module modules.now ≡ true }
-    ensures ok { IfOk result (λ v. v.items ≡ images_made (M.told maker.old).page 0 modules.now) }
-    ensures same { OnOk result (M.told maker.new ≡ M.told maker.old) }
-    ensures maker { M.told maker.new ≡ record (M.told maker.old) { faults = (M.told maker.new).faults } }
-    ensures fault { result ≡ Err RunFault.PageFault → Rose (M.told maker.old).faults (M.told maker.new).faults × IfSome (M.told maker.old).plan (λ plan. images_listed 0 plan modules.now ≡ true) }
-    ensures settings { IfErr result (λ fault. is_bad_config fault ≡ false) }
-{
-    let Ok(mut images) = Vec::with_capacity(alloc, modules.len()) else {
-        return Err(RunFault::Memory);
-    };
-    for info in modules {
-        let made = match make_of_module(alloc, maker, images.len() as u64, info) {
-            Ok(made) => made,
-            Err(fault) => return Err(fault),
-        };
-        let Ok(()) = images.push(made) else {
-            return Err(RunFault::Memory);
-        };
-    }
-    Ok(images)
-}
-
-// The images of the module with this number.
-fn make_of_module<M: PageMaker>(
     alloc: Global,
     maker: &mut M,
     number: u64,

@@ -3,7 +3,9 @@
 
 mod at_once;
 mod built;
+mod calls;
 mod command;
+mod copies;
 mod images;
 mod input;
 mod leases;

@@ -5,7 +5,7 @@ ghost use Rattle.pool_alloc.specs.Sums.{metrics_of};
 ghost use Rattle.pool_alloc.specs.Whole.{IsUntouched};
 ghost use Rattle.pool_run.specs.Folds.{RunState, TurnsOf, IsUnderWay, commands_of, replies_to};
 ghost use Rattle.pool_run.specs.Numbers.{with_party, calls_of_run};
-ghost use Rattle.pool_run.specs.RunsMade.{Background, party_made_for, run_made, places_in};
+ghost use Rattle.pool_run.specs.RunsMade.{Background, IsKept, party_made_for, run_made, places_in};
 ghost use Rattle.pool_run.specs.Turns.{with_reply};
 ghost use Rattle.pool_run.specs.Worlds.{NameModules};
 ghost use Rattle.pool_run.specs.declared.reply.Reply.{Reply as reply_type};
@@ -17,7 +17,7 @@ use crate::reply::{Reply, ReplyList};
 use crate::running_party::RunningParty;
 use crate::turn::turn_of;
 use pool_alloc::{Metrics, ModuleCall, PoolCore};
-use pool_pages::{PageCalls, Pages};
+use pool_pages::{PageCalls, Pages, PlainList};
 use pool_slots::add_calls;
 use std::alloc::{AllocError, Global};
 use std::marker::Model;
@@ -47,7 +47,7 @@ impl<P: Pages> Run<P> {
         ghost maker: { MakerTold }
         requires core { IsCore maker core }
         requires untouched { IsUntouched core }
-        requires homes { (k : ℕ) (d : Party) → (slice_index_or parties.now k d).home < 2 ^ 32 }
+        requires homes { (k : ℕ) (d : Party) → k < length parties.now → (slice_index_or parties.now k d).home < 2 ^ 32 }
         requires few { places_in (run_made core parties.now).parties + 1 < 2 ^ 64 }
         ensures { IfOk result (λ run. run ≡ run_made core parties.now) }
     {
@@ -105,6 +105,14 @@ impl<P: Pages> Run<P> {
     {
         add_parties(self.core.page_calls(), self.parties.as_slice())
     }
+
+    /// The replies to each party.
+    pub fn into_replies(self) -> PlainList<ReplyList>
+        ensures replies { result ≡ self.replies }
+        ensures kept { IsKept self }
+    {
+        PlainList::from_vec(self.replies)
+    }
 }
 
 // The calls with those on the regions of the parties.
@@ -159,7 +167,7 @@ fn make_parties<P: Pages>(
     parties: &[Party],
 ) -> Result<Vec<RunningParty<P>>, AllocError>
     requires batch { core.now.settings.batch ≤ 4096 }
-    requires homes { (k : ℕ) (d : Party) → (slice_index_or parties.now k d).home < 2 ^ 32 }
+    requires homes { (k : ℕ) (d : Party) → k < length parties.now → (slice_index_or parties.now k d).home < 2 ^ 32 }
     ensures { IfOk result (λ v. v.items ≡ map (party_made_for core.now.settings) parties.now) }
 {
     let count = parties.len();

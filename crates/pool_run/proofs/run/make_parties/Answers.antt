@@ -11,7 +11,7 @@ make_party-requires-clause-home g c =
     let x : Party = c.index-parties-at.result in
     let is : x ≡ slice_index_or c.args.parties.now c.loop-at.at x = search rules in
     let Home : Party → Type 0 = λ q. q.home < 2 ^ 32 in
-    subst Home (sym is) (c.requires.homes c.loop-at.at x)
+    subst Home (sym is) (c.requires.homes c.loop-at.at x (omega (arith, c.loop-at-test.true)))
 
 pub loop-at-preserved : goal.loop-at-preserved
 loop-at-preserved g c =

@@ -1,0 +1,99 @@
+ghost use Rattle.std.specs.Prelude.{◌≡◌, true, Err, false, IfOk, IfErr, IfSome, OnOk, option_map};
+ghost use Rattle.std.specs.Arc.{arc_value};
+ghost use Rattle.std.specs.List.{list_all};
+ghost use Rattle.pool_pages.specs.Told.{Rose};
+ghost use Rattle.pool_images.specs.Images.{makes_listed};
+ghost use Rattle.pool_run.specs.Built.{is_built_module};
+ghost use Rattle.pool_run.specs.Made.{IsMadeCall, AreMadeCalls};
+ghost use Rattle.pool_run.specs.Runs.{images_listed, is_bad_config};
+
+use crate::copies::copy_of;
+use crate::images::make_images;
+use crate::output::RunFault;
+use pool_alloc::ModuleCall;
+use pool_images::ModuleMemoryImages;
+use pool_pages::{CompiledModuleId, ModuleInfo, PageMaker};
+use std::alloc::{AllocError, Global};
+use std::sync::Arc;
+
+/// Makes a call for each module, with its images.
+pub(crate) fn make_calls<M: PageMaker>(
+    alloc: Global,
+    maker: &mut M,
+    modules: &[ModuleInfo],
+) -> Result<Vec<ModuleCall>, RunFault>
+    requires { list_all is_built_module modules.now ≡ true }
+    ensures calls { IfOk result (λ v. AreMadeCalls (M.told maker.old).page modules.now v.items) }
+    ensures same { OnOk result (M.told maker.new ≡ M.told maker.old) }
+    ensures maker { M.told maker.new ≡ record (M.told maker.old) { faults = (M.told maker.new).faults } }
+    ensures fault { result ≡ Err RunFault.PageFault → Rose (M.told maker.old).faults (M.told maker.new).faults × IfSome (M.told maker.old).plan (λ plan. images_listed 0 plan modules.now ≡ true) }
+    ensures settings { IfErr result (λ fault. is_bad_config fault ≡ false) }
+{
+    let Ok(mut calls) = Vec::with_capacity(alloc, modules.len()) else {
+        return Err(RunFault::Memory);
+    };
+    for info in modules {
+        let call = match make_call(alloc, maker, calls.len() as u64, info) {
+            Ok(call) => call,
+            Err(fault) => return Err(fault),
+        };
+        let Ok(()) = calls.push(call) else {
+            return Err(RunFault::Memory);
+        };
+    }
+    Ok(calls)
+}
+
+// The call for the module with this number.
+fn make_call<M: PageMaker>(
+    alloc: Global,
+    maker: &mut M,
+    number: u64,
+    info: &ModuleInfo,
+) -> Result<ModuleCall, RunFault>
+    requires { is_built_module info.now ≡ true }
+    ensures call { IfOk result (IsMadeCall (M.told maker.old).page number info.now) }
+    ensures same { OnOk result (M.told maker.new ≡ M.told maker.old) }
+    ensures maker { M.told maker.new ≡ record (M.told maker.old) { faults = (M.told maker.new).faults } }
+    ensures fault { result ≡ Err RunFault.PageFault → Rose (M.told maker.old).faults (M.told maker.new).faults × IfSome (M.told maker.old).plan (λ plan. makes_listed (record { 0 = number }) plan info.now.memories ≡ true) }
+    ensures settings { IfErr result (λ fault. is_bad_config fault ≡ false) }
+{
+    match make_images(alloc, maker, number, info) {
+        Ok(images) => match call_of(alloc, CompiledModuleId(number), info, images) {
+            Ok(call) => Ok(call),
+            Err(_) => Err(RunFault::Memory),
+        },
+        Err(fault) => Err(fault),
+    }
+}
+
+// The call for a module with these images.
+fn call_of(
+    alloc: Global,
+    id: CompiledModuleId,
+    info: &ModuleInfo,
+    images: Option<ModuleMemoryImages>,
+) -> Result<ModuleCall, AllocError>
+    ensures info { IfOk result (λ call. arc_value call.info ≡ info.now) }
+    ensures images { IfOk result (λ call. option_map arc_value call.images ≡ images) }
+    ensures id { IfOk result (λ call. call.id ≡ id) }
+{
+    let info = copy_of(alloc, info)?;
+    Ok(ModuleCall {
+        info: Arc::new(alloc, info).map_err(AllocError::from)?,
+        images: shared(alloc, images)?,
+        id,
+    })
+}
+
+fn shared(
+    alloc: Global,
+    images: Option<ModuleMemoryImages>,
+) -> Result<Option<Arc<ModuleMemoryImages>>, AllocError>
+    ensures { IfOk result (λ shared. option_map arc_value shared ≡ images) }
+{
+    match images {
+        None => Ok(None),
+        Some(images) => Ok(Some(Arc::new(alloc, images).map_err(AllocError::from)?)),
+    }
+}
