@@ -1,6 +1,6 @@
-ghost use Rattle.std.specs.Prelude.{◌≡◌, ◌+◌, ◌^◌, ◌<◌, ◌≤◌, ◌++◌, [], length, false, IfOk, OnOk};
-ghost use Rattle.pool_images.specs.Slots.{IsClean, IsInUse};
-ghost use Rattle.pool_slots.specs.Queues.{QueuedMemory, HasOwners, holds};
+ghost use Rattle.std.specs.Prelude.{◌≡◌, ◌+◌, ◌<◌, length, false, IfOk, OnOk};
+ghost use Rattle.pool_images.specs.Slots.{IsInUse};
+ghost use Rattle.pool_slots.specs.Queues.{HasOwners, holds};
 
 use crate::decommit_queue::DecommitQueue;
 use crate::memory_items::MemoryItems;
