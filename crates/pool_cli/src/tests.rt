@@ -2,8 +2,10 @@ use crate::memory_streams::{MemorySink, MemorySource};
 use crate::pool_main::pool_main;
 use crate::print::output_text;
 use crate::status::Status;
+use pool_alloc::Metrics;
+use pool_limits::Trap;
 use pool_pages::{ByteList, MemoryPages, PageCalls, PageSize, PlainList};
-use pool_run::{Metrics, Refusal, Reply, ReplyList, RunOutput, Trap};
+use pool_run::{Refusal, Reply, ReplyList, RunOutput};
 use pool_slots::{AllocError as Refused, ConcurrencyKind, PoolConcurrencyLimitError};
 use std::alloc::{AllocError, Global};
 use std::test::Fail;
@@ -249,6 +251,47 @@ fn runs(rt: HostRuntime) -> Result<(), Fail> {
     ] {
         let (ends, sink) = ended(rt.alloc(), "run", input, 0, write)?;
         assert_eq!(rt; ends, status, "at {input}");
+        assert_eq!(rt; sink.taken(), written.as_bytes(), "at {input}");
+    }
+    Ok(())
+}
+
+const STOPPED: &str =
+    "{\"config\":{\"total_memories\":1},\"modules\":[{\"memories\":[{\"min\":1,\"image\":{\"offset\":0,\"hex\":\"696e6974\"}}]}],\"parties\":[{\"commands\":[{\"do\":\"instantiate\",\"module\":0},{\"do\":\"write\",\"of\":0,\"at\":4,\"hex\":\"64697274\"},{\"do\":\"drop\",\"of\":0},{\"do\":\"instantiate\",\"module\":0},{\"do\":\"read\",\"of\":3,\"at\":0,\"len\":8}]}],\"schedule\":[[0,7]],\"finish\":false}";
+
+const STOPPED_OUTPUT: &str =
+    "metrics core=1 component=0 memories=0 tables=0 stacks=0 heaps=0 warm_memories=0 memory_resident=0 warm_tables=0 table_resident=0 warm_stacks=0 stack_resident=none\n\
+pages expose=1 hide=0 map_image=1 remap_zeros=0 erase=0 recolour=0 decommit=0\n";
+
+const STOPPED_LATER: &str =
+    "{\"config\":{\"total_memories\":1},\"modules\":[{\"memories\":[{\"min\":1,\"image\":{\"offset\":0,\"hex\":\"696e6974\"}}]}],\"parties\":[{\"commands\":[{\"do\":\"instantiate\",\"module\":0},{\"do\":\"write\",\"of\":0,\"at\":4,\"hex\":\"64697274\"},{\"do\":\"drop\",\"of\":0},{\"do\":\"instantiate\",\"module\":0},{\"do\":\"read\",\"of\":3,\"at\":0,\"len\":8}]}],\"schedule\":[[0,8]],\"finish\":false}";
+
+const STOPPED_LATER_OUTPUT: &str = "0.0: granted memories 0 tables -\n\
+metrics core=1 component=0 memories=1 tables=0 stacks=0 heaps=0 warm_memories=0 memory_resident=0 warm_tables=0 table_resident=0 warm_stacks=0 stack_resident=none\n\
+pages expose=1 hide=0 map_image=1 remap_zeros=0 erase=0 recolour=0 decommit=0\n";
+
+const TWO_PARTIES: &str =
+    "{\"config\":{\"total_memories\":2,\"decommit_batch_size\":3},\"modules\":[{\"memories\":[{\"min\":1}]}],\"parties\":[{\"commands\":[{\"do\":\"instantiate\",\"module\":0},{\"do\":\"instantiate\",\"module\":0},{\"do\":\"drop\",\"of\":0},{\"do\":\"drop\",\"of\":1},{\"do\":\"instantiate\",\"module\":0}]},{\"commands\":[{\"do\":\"instantiate\",\"module\":0},{\"do\":\"instantiate\",\"module\":0}]}],\"schedule\":[[0,27],[1,6]]}";
+
+const TWO_PARTIES_OUTPUT: &str = "0.0: granted memories 0 tables -\n\
+0.1: granted memories 1 tables -\n\
+0.2: returned\n\
+0.3: returned\n\
+0.4: granted memories 1 tables -\n\
+1.0: refused PoolConcurrencyLimitError: maximum concurrent limit of 2 for memory stripe 0 reached\n\
+1.1: granted memories 0 tables -\n\
+metrics core=2 component=0 memories=2 tables=0 stacks=0 heaps=0 warm_memories=0 memory_resident=0 warm_tables=0 table_resident=0 warm_stacks=0 stack_resident=none\n\
+pages expose=2 hide=0 map_image=0 remap_zeros=0 erase=0 recolour=0 decommit=2\n";
+
+#[test]
+fn runs_by_a_schedule(rt: HostRuntime) -> Result<(), Fail> {
+    for (input, written) in [
+        (STOPPED, STOPPED_OUTPUT),
+        (STOPPED_LATER, STOPPED_LATER_OUTPUT),
+        (TWO_PARTIES, TWO_PARTIES_OUTPUT),
+    ] {
+        let (ends, sink) = ended(rt.alloc(), "run", input, 0, 0)?;
+        assert_eq!(rt; ends, Status::Ok, "at {input}");
         assert_eq!(rt; sink.taken(), written.as_bytes(), "at {input}");
     }
     Ok(())
