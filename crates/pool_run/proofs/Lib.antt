@@ -11,6 +11,7 @@ pub mod FreeSlots
 pub mod FullShards
 pub mod Grants
 pub mod ImagesMade
+pub mod InputsRun
 pub mod NewMemories
 pub mod Parties
 pub mod Placed
