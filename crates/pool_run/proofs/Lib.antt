@@ -7,6 +7,7 @@ pub mod Counters
 pub mod Ended
 pub mod Exhausted
 pub mod Folding
+pub mod Following
 pub mod FreeSlots
 pub mod FullShards
 pub mod Grants
