@@ -55,15 +55,25 @@ all_name modules earlier [] valid k = tt
 all_name modules earlier (c ∷ cs) valid zero = names modules earlier c (first _ _ valid)
 all_name modules earlier (c ∷ cs) valid (suc k) = all_name modules (earlier ++ c ∷ []) cs (second (is_valid_after modules earlier c) _ valid) k
 
-pub parties_name : (input : Input) (i : ℕ) (d : Party) → is_valid input ≡ true → i < length input.parties → NameModules (length input.modules) (slice_index_or input.parties i d).commands
-parties_name input i d valid below = all_name input.modules [] (slice_index_or input.parties i d).commands (valid_commands input i (get_or input.parties i d) valid (slice_get-get_or input.parties i d below))
+pub parties_name : (input : Input) (parties : List Party) (modules : ℕ) → parties ≡ input.parties → modules ≡ length input.modules → is_valid input ≡ true → (i : ℕ) (d : Party) → i < length parties → NameModules modules (slice_index_or parties i d).commands
+parties_name input parties modules same count valid i d below =
+    let inside : i < length input.parties = omega (arith, below, ap (length {A = Party}) same) in
+    let Names : ℕ → List Party → Type 0 = λ n ps. NameModules n (slice_index_or ps i d).commands in
+    subst (Names modules) (sym same)
+    (subst (λ n. Names n input.parties) (sym count) (all_name input.modules [] (slice_index_or input.parties i d).commands (valid_commands input i (get_or input.parties i d) valid (slice_get-get_or input.parties i d inside))))
 
 -- Each entry of the schedule is of a party that there is, and each home is a small number.
-pub entry_below : (input : Input) (k : ℕ) (d : ScheduleEntry) → is_valid input ≡ true → k < length input.schedule → (slice_index_or input.schedule k d).party < length input.parties
-entry_below input k d valid below = valid_entry input k (get_or input.schedule k d) valid (slice_get-get_or input.schedule k d below)
+pub entries_below : (input : Input) (parties : List Party) (schedule : List ScheduleEntry) → parties ≡ input.parties → schedule ≡ input.schedule → is_valid input ≡ true → (k : ℕ) (d : ScheduleEntry) → k < length schedule → (slice_index_or schedule k d).party < length parties
+entries_below input parties schedule same entries valid k d below =
+    let inside : k < length input.schedule = omega (arith, below, ap (length {A = ScheduleEntry}) entries) in
+    let Below : List ScheduleEntry → List Party → Type 0 = λ es ps. (slice_index_or es k d).party < length ps in
+    subst (Below schedule) (sym same) (subst (λ es. Below es input.parties) (sym entries) (valid_entry input k (get_or input.schedule k d) valid (slice_get-get_or input.schedule k d inside)))
 
-pub home_below : (input : Input) (k : ℕ) (d : Party) → is_valid input ≡ true → k < length input.parties → (slice_index_or input.parties k d).home < 2 ^ 32
-home_below input k d valid below = omega (arith, valid_home input k (get_or input.parties k d) valid (slice_get-get_or input.parties k d below))
+pub homes_below : (input : Input) (parties : List Party) → parties ≡ input.parties → is_valid input ≡ true → (k : ℕ) (d : Party) → k < length parties → (slice_index_or parties k d).home < 2 ^ 32
+homes_below input parties same valid k d below =
+    let inside : k < length input.parties = omega (arith, below, ap (length {A = Party}) same) in
+    let Below : List Party → Type 0 = λ ps. (slice_index_or ps k d).home < 2 ^ 32 in
+    subst Below (sym same) (omega (arith, valid_home input k (get_or input.parties k d) valid (slice_get-get_or input.parties k d inside)))
 
 places_of : (P : Type 0) (s : Settings) (party : Party) → length (party_made_for {P = P} s party).live ≡ length party.commands
 places_of P s party = length-replicate {A = Option (Grant P)} (length party.commands) None
@@ -77,18 +87,30 @@ places_below P s (p ∷ ps) few =
     omega (arith, sum_by-cons places (party_made_for s p) (map (party_made_for {P = P} s) ps), places_of P s p, one, places_below P s ps (λ k d below. few (suc k) d (omega (arith, below))))
 
 module _ {P : Type 0} where
-  pub few_places : (input : Input) (c : PoolCore P) → is_valid input ≡ true → places_in (run_made c input.parties).parties + 1 < 2 ^ 64
-  few_places input c valid =
-      omega (arith, valid_parties input valid, places_below P c.settings input.parties (λ k d below. few_commands input k (get_or input.parties k d) valid (slice_get-get_or input.parties k d below)))
+  pub few_places : (input : Input) (c : PoolCore P) (parties : List Party) → parties ≡ input.parties → is_valid input ≡ true → places_in (run_made c parties).parties + 1 < 2 ^ 64
+  few_places input c parties same valid =
+      let Few : List Party → Type 0 = λ ps. places_in (run_made c ps).parties + 1 < 2 ^ 64 in
+      subst Few (sym same)
+      (omega (arith, valid_parties input valid, places_below P c.settings input.parties (λ k d below. few_commands input k (get_or input.parties k d) valid (slice_get-get_or input.parties k d below))))
 
   -- The run as it is made is under way.
-  pub under_way : (input : Input) (maker : MakerTold) (c : PoolCore P) (modules : List ModuleCall) → IsCore maker c → IsUntouched c → IsWorldOf (world_of input maker) c → AreCallsFor (world_of input maker) c.settings modules → IsUnderWay (world_of input maker) modules (commands_in input.parties) (run_made c input.parties)
+  under_way : (input : Input) (maker : MakerTold) (c : PoolCore P) (modules : List ModuleCall) → IsCore maker c → IsUntouched c → IsWorldOf (world_of input maker) c → AreCallsFor (world_of input maker) c.settings modules → IsUnderWay (world_of input maker) modules (commands_in input.parties) (run_made c input.parties)
   under_way input maker c modules core untouched world calls =
       let w : World = world_of input maker in
       let parties : List (RunningParty P) = map (party_made_for {P = P} c.settings) input.parties in
       let count : length parties ≡ length input.parties = length-map input.parties (party_made_for {P = P} c.settings) in
       let Way : ℕ → Type 0 = λ n. IsUnderWay w modules (commands_in input.parties) (record { core = c; parties = parties; replies = replicate n [] }) in
       subst Way count (run_started w modules (commands_in input.parties) c parties core untouched world calls (are_made c.settings input.parties) (λ alone. count ∙ eqb-true (length input.parties) 1 alone))
+
+  calls_there : (input : Input) (maker : MakerTold) (c : PoolCore P) (modules : List ModuleCall) → is_built input ≡ true → IsCore maker c → AreMadeCalls maker.page input.modules modules → AreCallsFor (world_of input maker) c.settings modules
+  calls_there input maker c modules built core calls = are_calls_for (world_of input maker) c.settings modules (built_input input built).modules core.page (omega (arith, core.settings.page.at_least)) calls
+
+  pub made_under_way : (input : Input) (maker : MakerTold) (c : PoolCore P) (modules : List ModuleCall) → is_built input ≡ true → IsMadeCore maker input.config default_tunables c → IsCore maker c → IsUntouched c → AreMadeCalls maker.page input.modules modules → IsUnderWay (world_of input maker) modules (commands_in input.parties) (run_made c input.parties)
+  made_under_way input maker c modules built made core untouched calls =
+      under_way input maker c modules core untouched (is_world input maker c built core made) (calls_there input maker c modules built core calls)
+
+  pub made_count : (c : PoolCore P) (parties : List Party) → length (run_made c parties).parties ≡ length parties
+  made_count c parties = length-map parties (party_made_for {P = P} c.settings)
 
   -- What the parties were told at the end of a run.
   told_by : (finish : Bool) (w : World) (modules : List ModuleCall) (inputs : List (List Command)) (schedule : List ℕ) (s end : RunState P) (i : ℕ) (d : RunningParty P) → IsUnderWay w modules inputs s → Performs finish w.maker modules inputs schedule s end → i < length s.parties → IsToldBy finish w (commands_of inputs i) (replies_to i end.replies)
@@ -101,27 +123,24 @@ module _ {P : Type 0} where
       replies_private w modules inputs end i d ended (omega (arith, below, folds_count w.maker modules inputs schedule s end folds))
 
   -- So the output of its end is that of a run of the input.
-  pub is_run : (input : Input) (maker : MakerTold) (c : PoolCore P) (modules : List ModuleCall) (end : RunState P) (output : RunOutput) → is_built input ≡ true → IsCore maker c → IsUntouched c → IsMadeCore maker input.config default_tunables c → AreMadeCalls maker.page input.modules modules
+  pub is_run : (input : Input) (maker : MakerTold) (c : PoolCore P) (modules : List ModuleCall) (end : RunState P) (output : RunOutput) → is_built input ≡ true → IsMadeCore maker input.config default_tunables c → IsCore maker c → IsUntouched c → AreMadeCalls maker.page input.modules modules
       → Performs input.finish maker modules (commands_in input.parties) (turns_of input.schedule) (run_made c input.parties) end → IsKept end
       → output.replies ≡ end.replies → output.metrics ≡ metrics_of end.core → output.calls ≡ calls_of_run end.core end.parties → IsRun P default_tunables input maker output
-  is_run input maker c modules end output built core untouched made calls performed kept replies metrics numbers =
+  is_run input maker c modules end output built made core untouched calls performed kept replies metrics numbers =
       let w : World = world_of input maker in
-      let page : c.settings.page ≡ maker.page = core.page in
-      let for : AreCallsFor w c.settings modules = are_calls_for w c.settings modules (built_input input built).modules page (omega (arith, core.settings.page.at_least)) calls in
-      let way = under_way input maker c modules core untouched (is_world input maker c built core made) for in
-      let count : length (map (party_made_for {P = P} c.settings) input.parties) ≡ length input.parties = length-map input.parties (party_made_for {P = P} c.settings) in
+      let way = made_under_way input maker c modules built made core untouched calls in
       record {
         core = c;
         made = made;
         modules = modules;
-        calls = for;
+        calls = calls_there input maker c modules built core calls;
         end = end;
         performed = performed;
         kept = kept;
         replies = replies;
         told = λ i below.
             let Told : List (List Reply) → Type 0 = λ rs. IsToldBy input.finish w (commands_of (commands_in input.parties) i) (replies_to i rs) in
-            subst Told (sym replies) (told_by input.finish w modules (commands_in input.parties) (turns_of input.schedule) (run_made c input.parties) end i (party_made 0 c.settings 0) way performed (omega (arith, below, count)));
+            subst Told (sym replies) (told_by input.finish w modules (commands_in input.parties) (turns_of input.schedule) (run_made c input.parties) end i (party_made 0 c.settings 0) way performed (omega (arith, below, made_count c input.parties)));
         metrics = metrics;
         calls_made = numbers;
       }
