@@ -1,4 +1,6 @@
+pub mod Advanced
 pub mod Beginning
+pub mod Between
 pub mod Bytes
 pub mod Causes
 pub mod Counters
@@ -10,6 +12,7 @@ pub mod FreeSlots
 pub mod FullShards
 pub mod Grants
 pub mod ImagesMade
+pub mod Keyless
 pub mod NewMemories
 pub mod Parties
 pub mod Placed
