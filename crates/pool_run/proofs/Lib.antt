@@ -1,4 +1,6 @@
+pub mod Advanced
 pub mod Beginning
+pub mod Between
 pub mod BuiltInputs
 pub mod Bytes
 pub mod CallsMade
@@ -13,6 +15,7 @@ pub mod FullShards
 pub mod Grants
 pub mod ImagesMade
 pub mod InputsRun
+pub mod Keyless
 pub mod NewMemories
 pub mod Parties
 pub mod Placed

@@ -4,6 +4,7 @@ pub mod Folds
 pub mod Made
 pub mod Numbers
 pub mod Private
+pub mod Progress
 pub mod Runs
 pub mod RunsMade
 pub mod Schedules
