@@ -4,7 +4,8 @@ use Rattle.std.specs.Prelude.{◌%◌, ◌*◌, ◌==◌, ◌||◌, IfSome, is_s
 use Rattle.std.specs.List.{list_all}
 use Rattle.std.proofs.lemmas.Bool.{eqb-true}
 use Rattle.std.proofs.Math.Nat.{zero-mod}
-use Rattle.pool_pages.specs.MakerTold.{Planned}
+use Rattle.pool_pages.specs.MakerTold.{MakerTold, Planned}
+use Rattle.pool_pages.specs.Told.{Rose}
 use Rattle.pool_pages.specs.declared.module_types.ImageDecl.{ImageDecl}
 use Rattle.pool_pages.specs.declared.module_types.MemoryDecl.{MemoryDecl}
 use Rattle.pool_pages.specs.declared.module_types.ModuleInfo.{ModuleInfo}
@@ -13,10 +14,12 @@ use Rattle.pool_pages.specs.declared.unsupported.Unsupported.TheVariants.{ImageO
 use Rattle.pool_images.specs.declared.memory_image.ImageError.{ImageError}
 use Rattle.pool_images.specs.declared.memory_image.ImageError.TheVariants.{Unsupported as refused}
 use Rattle.pool_images.specs.Images.{first_misplaced, makes_listed}
+use Rattle.pool_slots.specs.Pools.{makes_listed as makes_listed_regions}
 use Rattle.pool_run.proofs.BuiltInputs.{built_memory}
 use Rattle.pool_run.proofs.Tests.{first, second}
 use Rattle.pool_run.specs.Built.{is_built_image, is_built_memory, is_built_module}
-use Rattle.pool_run.specs.Runs.{images_listed}
+use Rattle.pool_run.specs.Runs.{images_listed, making_listed, FaultsInMaking}
+use Rattle.pool_run.specs.declared.input.Input.{Input}
 
 -- an image at a memory's start isn't inside a page
 placed_of : (page most : ℕ) (o : Option ImageDecl) → is_built_image most o ≡ true → option_and_then (λ image. if image.offset % page == 0 then None else Some image.offset) o ≡ None
@@ -67,3 +70,13 @@ listed_at (Some p) modules i d below is =
     let place : i ≡ 0 + i = omega arith in
     let P : ℕ → Type 0 = λ k. makes_listed (record { 0 = k }) p (get_or modules i d).memories ≡ true in
     listed_from 0 p modules i d below (subst P place is)
+
+-- and so is some making for the input
+plan_lists : (input : Input) (plan : Option (List Planned)) → IfSome plan (λ p. images_listed 0 p input.modules ≡ true) → IfSome plan (λ p. making_listed input p ≡ true)
+plan_lists input None listed = tt
+plan_lists input (Some p) listed = or_right (makes_listed_regions p input.config.limits.total_memories) (images_listed 0 p input.modules) listed
+
+pub images_fault : (input : Input) (modules : List ModuleInfo) (old new : MakerTold) → modules ≡ input.modules → Rose old.faults new.faults × IfSome old.plan (λ p. images_listed 0 p modules ≡ true) → FaultsInMaking input old new
+images_fault input modules old new same fault =
+    let Listed : List ModuleInfo → Type 0 = λ ms. IfSome old.plan (λ p. images_listed 0 p ms ≡ true) in
+    record { rose = fault.0; listed = plan_lists input old.plan (subst Listed same fault.1) }

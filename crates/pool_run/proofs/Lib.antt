@@ -1,4 +1,6 @@
+pub mod Advanced
 pub mod Beginning
+pub mod Between
 pub mod BuiltInputs
 pub mod Bytes
 pub mod CallsMade
@@ -12,6 +14,8 @@ pub mod FreeSlots
 pub mod FullShards
 pub mod Grants
 pub mod ImagesMade
+pub mod InputsRun
+pub mod Keyless
 pub mod Limits
 pub mod LimitsOfRuns
 pub mod NewMemories

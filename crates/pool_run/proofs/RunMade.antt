@@ -2,9 +2,11 @@
 use Rattle.std.proofs.Common.{◌≡◌, ℕ, ◌+◌, ◌^◌, ◌<◌, ◌≤◌, List, [], ◌∷◌, ◌++◌, length, map, take, get_or, replicate, Option, Some, None, refl, sym, ap, ◌∙◌, subst, arith}
 use Rattle.std.specs.Prelude.{IfSome, slice_get, slice_set, slice_index_or, sum_by}
 use Rattle.std.proofs.lemmas.List.{length-set, get_or-set_same, get_or-map, length-map, map-append, take_all, take_more, replicate_more}
+use Rattle.std.proofs.lemmas.List.Elements.{All-map}
 use Rattle.std.proofs.lemmas.List.Sums.{sum_by-set, get_or-le-sum_by}
 use Rattle.std.proofs.lemmas.Option.{slice_get_within, get_or_from_slice_get}
 use Rattle.pool_pages.specs.MakerTold.{MakerTold}
+use Rattle.pool_index.specs.Shard.{one_if}
 use Rattle.pool_alloc.specs.declared.frame.ModuleCall.{ModuleCall}
 use Rattle.pool_alloc.specs.Stepping.{CanCount}
 use Rattle.pool_alloc.specs.declared.pool_core.PoolCore.{PoolCore}
@@ -12,7 +14,8 @@ use Rattle.pool_run.specs.Folds.{RunState, TurnsOf, TurnsIf, IsUnderWay, with_tu
 use Rattle.pool_alloc.specs.Sound.{IsCore}
 use Rattle.pool_alloc.specs.Whole.{IsUntouched}
 use Rattle.pool_run.specs.Folds.{Folds, IsMadeParty}
-use Rattle.pool_run.specs.RunsMade.{IsKept, places_in, commands_in, party_made_for, run_made}
+use Rattle.pool_run.specs.Progress.{begins_by, Advances}
+use Rattle.pool_run.specs.RunsMade.{IsBetweenTurns, IsKept, places_in, commands_in, party_made_for, run_made}
 use Rattle.pool_run.specs.declared.input.Party.{Party}
 use Rattle.pool_run.specs.Ties.{CanTurn, IsSoundTurn}
 use Rattle.pool_run.specs.Turns.{Turned, Turns}
@@ -21,6 +24,8 @@ use Rattle.pool_run.specs.Private.{World}
 use Rattle.pool_run.specs.declared.command.Command.{Command}
 use Rattle.pool_run.specs.declared.running_party.RunningParty.{RunningParty}
 use Rattle.pool_alloc.specs.declared.pool_core.Settings.{Settings}
+use Rattle.pool_run.proofs.Advanced.{HasAdvanced, has_advanced}
+use Rattle.pool_run.proofs.Between.{untouched_grouped, made_between, ready_there, still_between, advances}
 use Rattle.pool_run.proofs.Counters.{can_count}
 use Rattle.pool_run.proofs.Ended.{no_more_replies}
 use Rattle.pool_run.proofs.Folding.{run_turned, folds_more}
@@ -90,6 +95,7 @@ module _ {P : Type 0} where
     pub turn : TurnsOf w.maker modules inputs i s new
     pub way : IsUnderWay w modules inputs new
     pub kept : IsKept new
+    pub advances : Advances (length (commands_of inputs i)) i s new
 
   pub turn_after : (w : World) (modules : List ModuleCall) (inputs : List (List Command)) (commands : List Command) (i : ℕ) (p : RunningParty P) (s : RunState P) (t : Turned P) → IsUnderWay w modules inputs s → IsKept s → slice_get s.parties i ≡ Some p → commands ≡ commands_of inputs i → Turns modules commands s.core p t → IsSoundTurn w.maker t → IsAfter w modules inputs i s (with_turn i t s)
   turn_after w modules inputs commands i p s t way kept there same turns sound =
@@ -99,12 +105,21 @@ module _ {P : Type 0} where
       let inside : i < length (slice_set s.parties i t.party) = omega (arith, below, length-set s.parties i t.party) in
       let places : RunningParty P → ℕ = λ q. 1 + length q.live in
       let live : length (slice_index_or (slice_set s.parties i t.party) i p).live ≡ length t.party.live = ap (λ (q : RunningParty P). length q.live) (get_or-set_same s.parties i t.party p below) in
+      let take : CanTake w.maker modules commands s.core p = can_take w modules inputs commands i p s way kept there same in
+      let T : List Command → Type 0 = λ cs. Turns modules cs s.core p t in
+      let L : List Command → Type 0 = λ cs. length cs ≤ length p.live in
+      let count : ℕ = length (commands_of inputs i) in
+      let turned : HasAdvanced (one_if (begins_by count p)) s.core p t =
+      has_advanced w modules (commands_of inputs i) s.core p t way.calls take.can (ready_there s i p kept.queues kept.between there) (subst L same take.places) (subst T same turns) in
       record {
         turn = turn;
         way = on;
+        advances = advances s i count p t there turned;
         kept = record {
           whole = on.running.whole;
           few = omega (arith, kept.few, sum_by-set places s.parties i t.party p below, (way.each i p below).room, (on.each i p inside).room, live);
+          queues = turned.ready.groups.queues;
+          between = still_between s i (one_if (begins_by count p)) p t kept.between turned;
         };
       }
 
@@ -132,4 +147,6 @@ module _ {P : Type 0} where
   kept_at_start maker c parties core untouched few = record {
     whole = (started_running maker c (commands_in parties) (run_made c parties).parties core untouched (are_made c.settings parties)).whole;
     few = few;
+    queues = untouched_grouped maker c core untouched;
+    between = All-map IsBetweenTurns (party_made_for c.settings) parties (λ k d below. made_between (slice_index_or parties k d).home (length (slice_index_or parties k d).commands) c.settings);
   }

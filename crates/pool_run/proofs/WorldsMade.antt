@@ -167,11 +167,11 @@ is_call_for w s number m call there built page some made =
         each = λ k.
             if_some (slice_get m.memories k) (λ d. (d.ty.page_size_log2 < 64) × IfSome (slice_index_or (images_made call.images) k None) (FitsInto s.page (minimum_byte_size d.ty)))
             (λ d at.
-                let is : IsBuiltMemory d = built_memory d (of_all is_built_memory m.memories k d (of_module m built).all at) in
-                let If : Option Image → Type 0 = λ o. IfSome o (FitsInto s.page (minimum_byte_size d.ty)) in
-                let On : ℕ → Type 0 = λ p. IfSome (if all then option_map (image_of id w.maker.page k) d.image else None) (FitsInto p (minimum_byte_size d.ty)) in
-                let some_page : 0 < w.maker.page = omega (arith, page, some) in
-                (omega (arith, is.page_log2), subst If (sym (image k d at)) (subst On (sym page) (fits_if all id w.maker.page k d some_page (λ ends. of_all (ends_in_minimum w.maker.page) m.memories k d ends at)))));
+            let is : IsBuiltMemory d = built_memory d (of_all is_built_memory m.memories k d (of_module m built).all at) in
+            let If : Option Image → Type 0 = λ o. IfSome o (FitsInto s.page (minimum_byte_size d.ty)) in
+            let On : ℕ → Type 0 = λ p. IfSome (if all then option_map (image_of id w.maker.page k) d.image else None) (FitsInto p (minimum_byte_size d.ty)) in
+            let some_page : 0 < w.maker.page = omega (arith, page, some) in
+            (omega (arith, is.page_log2), subst If (sym (image k d at)) (subst On (sym page) (fits_if all id w.maker.page k d some_page (λ ends. of_all (ends_in_minimum w.maker.page) m.memories k d ends at)))));
       });
       places = subst Places (sym made.info) (place_for_each all id w.maker.page m.memories call.images made.images);
     }
@@ -184,9 +184,9 @@ pub are_calls_for : (w : World) (s : Settings) (calls : List ModuleCall) → lis
 are_calls_for w s calls built page some made number =
     if_some (slice_get calls number) (IsCallFor w s number)
     (λ call at.
-        let below : number < length w.modules = omega (arith, slice_get_within calls number call at, made.number) in
-        let m : ModuleInfo = get_or w.modules number nothing_known in
-        let there : slice_get w.modules number ≡ Some m = slice_get-get_or w.modules number nothing_known below in
-        let Call : Option ModuleCall → Type 0 = λ o. IfSome o (λ c. IfSome (slice_get w.modules number) (λ info. IsMadeCall w.maker.page number info c)) in
-        let Info : Option ModuleInfo → Type 0 = λ o. IfSome o (λ info. IsMadeCall w.maker.page number info call) in
-        is_call_for w s number m call there (of_all is_built_module w.modules number m built there) page some (subst Info there (subst Call at (made.each number))))
+    let below : number < length w.modules = omega (arith, slice_get_within calls number call at, made.number) in
+    let m : ModuleInfo = get_or w.modules number nothing_known in
+    let there : slice_get w.modules number ≡ Some m = slice_get-get_or w.modules number nothing_known below in
+    let Call : Option ModuleCall → Type 0 = λ o. IfSome o (λ c. IfSome (slice_get w.modules number) (λ info. IsMadeCall w.maker.page number info c)) in
+    let Info : Option ModuleInfo → Type 0 = λ o. IfSome o (λ info. IsMadeCall w.maker.page number info call) in
+    is_call_for w s number m call there (of_all is_built_module w.modules number m built there) page some (subst Info there (subst Call at (made.each number))))

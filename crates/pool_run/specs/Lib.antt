@@ -5,6 +5,7 @@ pub mod Limits
 pub mod Made
 pub mod Numbers
 pub mod Private
+pub mod Progress
 pub mod Runs
 pub mod RunsMade
 pub mod Schedules

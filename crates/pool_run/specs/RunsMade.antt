@@ -1,9 +1,12 @@
 -- A run as it is made, and what the type that keeps it promises at each moment.
-use Rattle.std.specs.Prelude.{ℕ, ◌+◌, ◌^◌, ◌<◌, List, [], length, map, replicate, sum_by, false, None}
+use Rattle.std.specs.Prelude.{◌≡◌, ℕ, ◌+◌, ◌^◌, ◌<◌, List, [], length, map, replicate, sum_by, All, Bool, true, false, None}
+use Rattle.pool_alloc.specs.Bounds.{IsGrouped, AreGrouped}
 use Rattle.pool_alloc.specs.Calls.{frame_made}
 use Rattle.pool_alloc.specs.Whole.{IsWhole}
 use Rattle.pool_alloc.specs.declared.pool_core.PoolCore.{PoolCore}
 use Rattle.pool_alloc.specs.declared.pool_core.Settings.{Settings}
+use Rattle.pool_alloc.specs.declared.frame.Phase.{Phase}
+use Rattle.pool_alloc.specs.declared.frame.Phase.TheVariants.{Key}
 use Rattle.pool_run.specs.Folds.{RunState}
 use Rattle.pool_run.specs.Private.{World}
 use Rattle.pool_run.specs.Ties.{held_by_party}
@@ -36,7 +39,21 @@ module _ {P : Type 0} where
   abbrev pub places_in : List (RunningParty P) → ℕ
   places_in parties = sum_by (λ p. 1 + length p.live) parties
 
-  -- Each slot and each region is in one place, the counters count what is granted or under way, and can count on.
+  -- a call's next step draws the party's stripe
+  abbrev pub draws_stripe : Phase P → Bool
+  draws_stripe Key = true
+  draws_stripe _ = false
+
+  -- Between turns the ranges of each slot that a party has lie together, and no party is about to draw its stripe, since it
+  -- does so in one turn.
+  pub record IsBetweenTurns (p : RunningParty P) : Type 0 where
+    pub local : IsGrouped p.frame.local
+    pub drawn : draws_stripe p.frame.phase ≡ false
+
+  -- Each slot and each region is in one place, the counters count what is granted or under way, and can count on. The ranges
+  -- of each queued slot lie together.
   pub record IsKept (s : RunState P) : Type 0 where
     pub whole : IsWhole held_by_party s.core s.parties
     pub few : places_in s.parties + 1 < 2 ^ 64
+    pub queues : AreGrouped s.core.queues
+    pub between : All IsBetweenTurns s.parties

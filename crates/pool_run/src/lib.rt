@@ -12,6 +12,7 @@ mod leases;
 mod output;
 mod reply;
 mod run;
+mod run_input;
 mod running_party;
 mod schedule;
 mod turn;
@@ -24,6 +25,7 @@ pub use leases::Leases;
 pub use output::{RunFault, RunOutput};
 pub use reply::{Refusal, Reply, ReplyList, SlotList};
 pub use run::Run;
+pub use run_input::run_schedule;
 pub use running_party::RunningParty;
 pub use turn::turn_of;
 pub use validity::{

@@ -5,6 +5,7 @@ ghost use Rattle.pool_alloc.specs.Sums.{metrics_of};
 ghost use Rattle.pool_alloc.specs.Whole.{IsUntouched};
 ghost use Rattle.pool_run.specs.Folds.{RunState, TurnsOf, IsUnderWay, commands_of, replies_to};
 ghost use Rattle.pool_run.specs.Numbers.{with_party, calls_of_run};
+ghost use Rattle.pool_run.specs.Progress.{is_busy, commands_done, Advances};
 ghost use Rattle.pool_run.specs.RunsMade.{Background, IsKept, party_made_for, run_made, places_in};
 ghost use Rattle.pool_run.specs.Turns.{with_reply};
 ghost use Rattle.pool_run.specs.Worlds.{NameModules};
@@ -15,7 +16,7 @@ use crate::input::Party;
 use crate::leases::Leases;
 use crate::reply::{Reply, ReplyList};
 use crate::running_party::RunningParty;
-use crate::turn::turn_of;
+use crate::turn::{is_idle, turn_of};
 use pool_alloc::{Metrics, ModuleCall, PoolCore};
 use pool_pages::{PageCalls, Pages, PlainList};
 use pool_slots::add_calls;
@@ -75,6 +76,7 @@ impl<P: Pages> Run<P> {
         requires named { NameModules (length modules.now) commands.now }
         ensures turn { IfOk result (TurnsOf of.world.maker modules.now of.inputs i self) }
         ensures way { IfOk result (IsUnderWay of.world modules.now of.inputs) }
+        ensures advances { IfOk result (Advances (length commands.now) i self) }
     {
         let Run {
             mut core,
@@ -90,6 +92,22 @@ impl<P: Pages> Run<P> {
             parties,
             replies,
         })
+    }
+
+    /// Whether a call of party `i` is under way.
+    pub fn is_busy(&self, i: usize) -> bool
+        requires { i < length self.now.parties }
+        ensures { result ≡ is_busy (slice_get self.now.parties i) }
+    {
+        !is_idle(&self.parties[i].frame)
+    }
+
+    /// How many commands of party `i` have their replies.
+    pub fn done(&self, i: usize) -> usize
+        requires { i < length self.now.parties }
+        ensures { result ≡ commands_done (slice_get self.now.parties i) }
+    {
+        self.parties[i].done
     }
 
     /// The pool's numbers.

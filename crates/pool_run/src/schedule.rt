@@ -23,7 +23,7 @@ fn repeat<P: Pages>(
     requires way { IsUnderWay of.world modules.now of.inputs run }
     requires inputs { of.inputs ≡ commands_in parties.now }
     requires parties { length run.parties ≡ length parties.now }
-    requires named { (k : ℕ) (d : Party) → NameModules (length modules.now) (slice_index_or parties.now k d).commands }
+    requires named { (k : ℕ) (d : Party) → k < length parties.now → NameModules (length modules.now) (slice_index_or parties.now k d).commands }
     requires inside { i < length parties.now }
     ensures folds { IfOk result (Folds of.world.maker modules.now of.inputs (replicate times i) run) }
     ensures way { IfOk result (IsUnderWay of.world modules.now of.inputs) }
@@ -49,7 +49,7 @@ pub(crate) fn follow<P: Pages>(
     requires way { IsUnderWay of.world modules.now of.inputs run }
     requires inputs { of.inputs ≡ commands_in parties.now }
     requires parties { length run.parties ≡ length parties.now }
-    requires named { (i : ℕ) (d : Party) → NameModules (length modules.now) (slice_index_or parties.now i d).commands }
+    requires named { (i : ℕ) (d : Party) → i < length parties.now → NameModules (length modules.now) (slice_index_or parties.now i d).commands }
     requires entries { (k : ℕ) (d : ScheduleEntry) → k < length schedule.now → (slice_index_or schedule.now k d).party < length parties.now }
     ensures folds { IfOk result (Folds of.world.maker modules.now of.inputs (turns_of schedule.now) run) }
     ensures way { IfOk result (IsUnderWay of.world modules.now of.inputs) }

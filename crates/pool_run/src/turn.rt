@@ -44,7 +44,8 @@ pub fn turn_of<P: Pages>(
     }
 }
 
-fn is_idle<P: Pages>(frame: &Frame<P>) -> bool
+// Whether no call is under way.
+pub(crate) fn is_idle<P: Pages>(frame: &Frame<P>) -> bool
     ensures { result ≡ is_idle frame.now.phase }
 {
     matches!(&frame.phase, Phase::Idle)

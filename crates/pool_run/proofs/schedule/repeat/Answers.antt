@@ -12,7 +12,7 @@ turn-requires g c κs within =
     let N : List Command → Type 0 = λ commands. NameModules (length c.args.modules.now) commands in
     let same : c.as_slice-commands.result.now ≡ commands_of g.of.inputs c.args.i = c.as_slice-commands.ensures ∙ commands_there g.of.inputs c.args.parties.now c.args.i c.index-parties-i.result c.requires.1.1.0 c.requires.1.1.1.1.1 in
     let inside : c.args.i < length c.loop-turn.run.parties = omega (arith, c.loop-turn.invariant.parties, c.requires.1.1.1.0, c.requires.1.1.1.1.1) in
-    let named : N c.as_slice-commands.result.now = subst N (sym c.as_slice-commands.ensures) (c.requires.1.1.1.1.0 c.args.i c.index-parties-i.result) in
+    let named : N c.as_slice-commands.result.now = subst N (sym c.as_slice-commands.ensures) (c.requires.1.1.1.1.0 c.args.i c.index-parties-i.result c.requires.1.1.1.1.1) in
     (search rules, (c.loop-turn.invariant.way, (same, (inside, named))))
 
 pub loop-turn-preserved : goal.loop-turn-preserved

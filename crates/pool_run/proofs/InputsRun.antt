@@ -1,0 +1,146 @@
+-- A run of an input: the program's conditions follow from those of the input, and its end from its turns.
+use Rattle.std.proofs.Common.{◌≡◌, ℕ, ◌+◌, ◌*◌, ◌^◌, ◌<◌, ◌≤◌, zero, suc, List, [], ◌∷◌, ◌++◌, length, map, get_or, replicate, refl, sym, ap, ◌∙◌, subst, arith, Option, Some, None, Bool, true, false}
+use Rattle.std.specs.Prelude.{◌&&◌, ◌==◌, IfSome, slice_get, slice_index_or, sum_by, nat_lt, nat_le}
+use Rattle.std.specs.List.{list_all}
+use Rattle.std.proofs.lemmas.Bool.{eqb-true, leb-true, ltb-true}
+use Rattle.std.proofs.lemmas.List.{length-map, length-replicate}
+use Rattle.std.proofs.lemmas.List.Sums.{sum_by-cons}
+use Rattle.std.proofs.lemmas.Option.{slice_get-get_or}
+use Rattle.pool_pages.specs.Config.{default_tunables}
+use Rattle.pool_pages.specs.MakerTold.{MakerTold}
+use Rattle.pool_pages.specs.declared.module_types.ModuleInfo.{ModuleInfo}
+use Rattle.pool_alloc.specs.Made.{IsMadeCore}
+use Rattle.pool_alloc.specs.Sound.{IsCore}
+use Rattle.pool_alloc.specs.Sums.{metrics_of}
+use Rattle.pool_alloc.specs.Whole.{IsUntouched}
+use Rattle.pool_alloc.specs.declared.frame.Grant.{Grant}
+use Rattle.pool_alloc.specs.declared.frame.ModuleCall.{ModuleCall}
+use Rattle.pool_alloc.specs.declared.pool_core.PoolCore.{PoolCore}
+use Rattle.pool_alloc.specs.declared.pool_core.Settings.{Settings}
+use Rattle.pool_run.specs.Built.{is_built}
+use Rattle.pool_run.specs.Folds.{RunState, Folds, Runs, IsUnderWay, commands_of, replies_to}
+use Rattle.pool_run.specs.Made.{AreMadeCalls}
+use Rattle.pool_run.specs.Numbers.{calls_of_run}
+use Rattle.pool_run.specs.Private.{World}
+use Rattle.pool_run.specs.Runs.{Performs, IsToldBy, IsRun, world_of}
+use Rattle.pool_run.specs.RunsMade.{IsKept, commands_in, party_made, party_made_for, run_made, places_in}
+use Rattle.pool_run.specs.Schedules.{turns_of}
+use Rattle.pool_run.specs.Validity.{is_valid, is_valid_after, are_valid_after, is_valid_party, is_valid_schedule, most_commands}
+use Rattle.pool_run.specs.Worlds.{IsWorldOf, AreCallsFor, NamesModule, NameModules}
+use Rattle.pool_run.specs.declared.command.Command.{Command}
+use Rattle.pool_run.specs.declared.command.Command.TheVariants.{Instantiate, Read, Write, Drop}
+use Rattle.pool_run.specs.declared.input.Input.{Input}
+use Rattle.pool_run.specs.declared.input.Party.{Party}
+use Rattle.pool_run.specs.declared.input.ScheduleEntry.{ScheduleEntry}
+use Rattle.pool_run.specs.declared.output.RunOutput.{RunOutput}
+use Rattle.pool_run.specs.declared.reply.Reply.{Reply}
+use Rattle.pool_run.specs.declared.running_party.RunningParty.{RunningParty}
+use Rattle.pool_run.proofs.Ended.{folds_count, run_count, all_replied}
+use Rattle.pool_run.proofs.Folding.{folds_under_way, run_under_way, replies_private}
+use Rattle.pool_run.proofs.RunMade.{are_made}
+use Rattle.pool_run.proofs.Started.{run_started}
+use Rattle.pool_run.proofs.Tests.{first, second}
+use Rattle.pool_run.proofs.Valid.{valid_parties, valid_home, few_commands, valid_commands, valid_entry}
+use Rattle.pool_run.proofs.WorldsMade.{built_input, is_world, are_calls_for}
+
+-- Each command names a module that there is.
+names : (modules : List ModuleInfo) (earlier : List Command) (command : Command) → is_valid_after modules earlier command ≡ true → NamesModule (length modules) command
+names modules earlier (Instantiate number) valid = ltb-true number (length modules) valid
+names modules earlier (Read of memory at len) valid = tt
+names modules earlier (Write of memory at bytes) valid = tt
+names modules earlier (Drop of) valid = tt
+
+pub all_name : (modules : List ModuleInfo) (earlier commands : List Command) → are_valid_after modules earlier commands ≡ true → NameModules (length modules) commands
+all_name modules earlier [] valid k = tt
+all_name modules earlier (c ∷ cs) valid zero = names modules earlier c (first _ _ valid)
+all_name modules earlier (c ∷ cs) valid (suc k) = all_name modules (earlier ++ c ∷ []) cs (second (is_valid_after modules earlier c) _ valid) k
+
+pub parties_name : (input : Input) (parties : List Party) (modules : ℕ) → parties ≡ input.parties → modules ≡ length input.modules → is_valid input ≡ true → (i : ℕ) (d : Party) → i < length parties → NameModules modules (slice_index_or parties i d).commands
+parties_name input parties modules same count valid i d below =
+    let inside : i < length input.parties = omega (arith, below, ap (length {A = Party}) same) in
+    let Names : ℕ → List Party → Type 0 = λ n ps. NameModules n (slice_index_or ps i d).commands in
+    subst (Names modules) (sym same)
+    (subst (λ n. Names n input.parties) (sym count) (all_name input.modules [] (slice_index_or input.parties i d).commands (valid_commands input i (get_or input.parties i d) valid (slice_get-get_or input.parties i d inside))))
+
+-- Each entry of the schedule is of a party that there is, and each home is a small number.
+pub entries_below : (input : Input) (parties : List Party) (schedule : List ScheduleEntry) → parties ≡ input.parties → schedule ≡ input.schedule → is_valid input ≡ true → (k : ℕ) (d : ScheduleEntry) → k < length schedule → (slice_index_or schedule k d).party < length parties
+entries_below input parties schedule same entries valid k d below =
+    let inside : k < length input.schedule = omega (arith, below, ap (length {A = ScheduleEntry}) entries) in
+    let Below : List ScheduleEntry → List Party → Type 0 = λ es ps. (slice_index_or es k d).party < length ps in
+    subst (Below schedule) (sym same) (subst (λ es. Below es input.parties) (sym entries) (valid_entry input k (get_or input.schedule k d) valid (slice_get-get_or input.schedule k d inside)))
+
+pub homes_below : (input : Input) (parties : List Party) → parties ≡ input.parties → is_valid input ≡ true → (k : ℕ) (d : Party) → k < length parties → (slice_index_or parties k d).home < 2 ^ 32
+homes_below input parties same valid k d below =
+    let inside : k < length input.parties = omega (arith, below, ap (length {A = Party}) same) in
+    let Below : List Party → Type 0 = λ ps. (slice_index_or ps k d).home < 2 ^ 32 in
+    subst Below (sym same) (omega (arith, valid_home input k (get_or input.parties k d) valid (slice_get-get_or input.parties k d inside)))
+
+places_of : (P : Type 0) (s : Settings) (party : Party) → length (party_made_for {P = P} s party).live ≡ length party.commands
+places_of P s party = length-replicate {A = Option (Grant P)} (length party.commands) None
+
+-- There are not too many places.
+places_below : (P : Type 0) (s : Settings) (parties : List Party) → ((k : ℕ) (d : Party) → k < length parties → length (get_or parties k d).commands ≤ most_commands) → places_in (map (party_made_for {P = P} s) parties) ≤ length parties * 100001
+places_below P s [] few = omega arith
+places_below P s (p ∷ ps) few =
+    let places : RunningParty P → ℕ = λ q. 1 + length q.live in
+    let one : length p.commands ≤ most_commands = few 0 p (omega arith) in
+    omega (arith, sum_by-cons places (party_made_for s p) (map (party_made_for {P = P} s) ps), places_of P s p, one, places_below P s ps (λ k d below. few (suc k) d (omega (arith, below))))
+
+module _ {P : Type 0} where
+  pub few_places : (input : Input) (c : PoolCore P) (parties : List Party) → parties ≡ input.parties → is_valid input ≡ true → places_in (run_made c parties).parties + 1 < 2 ^ 64
+  few_places input c parties same valid =
+      let Few : List Party → Type 0 = λ ps. places_in (run_made c ps).parties + 1 < 2 ^ 64 in
+      subst Few (sym same)
+      (omega (arith, valid_parties input valid, places_below P c.settings input.parties (λ k d below. few_commands input k (get_or input.parties k d) valid (slice_get-get_or input.parties k d below))))
+
+  -- The run as it is made is under way.
+  under_way : (input : Input) (maker : MakerTold) (c : PoolCore P) (modules : List ModuleCall) → IsCore maker c → IsUntouched c → IsWorldOf (world_of input maker) c → AreCallsFor (world_of input maker) c.settings modules → IsUnderWay (world_of input maker) modules (commands_in input.parties) (run_made c input.parties)
+  under_way input maker c modules core untouched world calls =
+      let w : World = world_of input maker in
+      let parties : List (RunningParty P) = map (party_made_for {P = P} c.settings) input.parties in
+      let count : length parties ≡ length input.parties = length-map input.parties (party_made_for {P = P} c.settings) in
+      let Way : ℕ → Type 0 = λ n. IsUnderWay w modules (commands_in input.parties) (record { core = c; parties = parties; replies = replicate n [] }) in
+      subst Way count (run_started w modules (commands_in input.parties) c parties core untouched world calls (are_made c.settings input.parties) (λ alone. count ∙ eqb-true (length input.parties) 1 alone))
+
+  calls_there : (input : Input) (maker : MakerTold) (c : PoolCore P) (modules : List ModuleCall) → is_built input ≡ true → IsCore maker c → AreMadeCalls maker.page input.modules modules → AreCallsFor (world_of input maker) c.settings modules
+  calls_there input maker c modules built core calls = are_calls_for (world_of input maker) c.settings modules (built_input input built).modules core.page (omega (arith, core.settings.page.at_least)) calls
+
+  pub made_under_way : (input : Input) (maker : MakerTold) (c : PoolCore P) (modules : List ModuleCall) → is_built input ≡ true → IsMadeCore maker input.config default_tunables c → IsCore maker c → IsUntouched c → AreMadeCalls maker.page input.modules modules → IsUnderWay (world_of input maker) modules (commands_in input.parties) (run_made c input.parties)
+  made_under_way input maker c modules built made core untouched calls =
+      under_way input maker c modules core untouched (is_world input maker c built core made) (calls_there input maker c modules built core calls)
+
+  pub made_count : (c : PoolCore P) (parties : List Party) → length (run_made c parties).parties ≡ length parties
+  made_count c parties = length-map parties (party_made_for {P = P} c.settings)
+
+  -- What the parties were told at the end of a run.
+  told_by : (finish : Bool) (w : World) (modules : List ModuleCall) (inputs : List (List Command)) (schedule : List ℕ) (s end : RunState P) (i : ℕ) (d : RunningParty P) → IsUnderWay w modules inputs s → Performs finish w.maker modules inputs schedule s end → i < length s.parties → IsToldBy finish w (commands_of inputs i) (replies_to i end.replies)
+  told_by true w modules inputs schedule s end i d way runs below =
+      let ended : IsUnderWay w modules inputs end = run_under_way w modules inputs schedule s end way runs in
+      let inside : i < length end.parties = omega (arith, below, run_count w.maker modules inputs schedule s end runs) in
+      record { private = replies_private w modules inputs end i d ended inside; all = all_replied w modules inputs end i d ended runs.finishes.finished inside }
+  told_by false w modules inputs schedule s end i d way folds below =
+      let ended : IsUnderWay w modules inputs end = folds_under_way w modules inputs schedule s end way folds in
+      replies_private w modules inputs end i d ended (omega (arith, below, folds_count w.maker modules inputs schedule s end folds))
+
+  -- So the output of its end is that of a run of the input.
+  pub is_run : (input : Input) (maker : MakerTold) (c : PoolCore P) (modules : List ModuleCall) (end : RunState P) (output : RunOutput) → is_built input ≡ true → IsMadeCore maker input.config default_tunables c → IsCore maker c → IsUntouched c → AreMadeCalls maker.page input.modules modules
+      → Performs input.finish maker modules (commands_in input.parties) (turns_of input.schedule) (run_made c input.parties) end → IsKept end
+      → output.replies ≡ end.replies → output.metrics ≡ metrics_of end.core → output.calls ≡ calls_of_run end.core end.parties → IsRun P default_tunables input maker output
+  is_run input maker c modules end output built made core untouched calls performed kept replies metrics numbers =
+      let w : World = world_of input maker in
+      let way = made_under_way input maker c modules built made core untouched calls in
+      record {
+        core = c;
+        made = made;
+        modules = modules;
+        calls = calls_there input maker c modules built core calls;
+        end = end;
+        performed = performed;
+        kept = kept;
+        replies = replies;
+        told = λ i below.
+            let Told : List (List Reply) → Type 0 = λ rs. IsToldBy input.finish w (commands_of (commands_in input.parties) i) (replies_to i rs) in
+            subst Told (sym replies) (told_by input.finish w modules (commands_in input.parties) (turns_of input.schedule) (run_made c input.parties) end i (party_made 0 c.settings 0) way performed (omega (arith, below, made_count c input.parties)));
+        metrics = metrics;
+        calls_made = numbers;
+      }

@@ -1,0 +1,64 @@
+-- How far the parties are: how many calls began, whether one is under way, and at most how many turns it still takes.
+use Rattle.std.specs.Prelude.{◌≡◌, ℕ, ◌+◌, ◌≤◌, List, length, replicate, slice_get, slice_index_or, nat_lt, ◌&&◌, Bool, true, false, not, Option, Some, None}
+use Rattle.pool_pages.specs.MakerTold.{MakerTold}
+use Rattle.pool_index.specs.Shard.{one_if}
+use Rattle.pool_alloc.specs.Bounds.{steps_left}
+use Rattle.pool_alloc.specs.Stepping.{is_idle}
+use Rattle.pool_alloc.specs.declared.pool_core.PoolCore.{PoolCore}
+use Rattle.pool_alloc.specs.declared.frame.ModuleCall.{ModuleCall}
+use Rattle.pool_run.specs.Folds.{RunState, Folds, IsUnderWay}
+use Rattle.pool_run.specs.RunsMade.{Background, commands_in}
+use Rattle.pool_run.specs.Worlds.{NameModules}
+use Rattle.pool_run.specs.declared.command.Command.{Command}
+use Rattle.pool_run.specs.declared.input.Party.{Party}
+use Rattle.pool_run.specs.declared.running_party.RunningParty.{RunningParty}
+
+module _ {P : Type 0} where
+  -- the party's call is under way
+  abbrev pub is_busy : Option (RunningParty P) → Bool
+  is_busy None = false
+  is_busy (Some p) = not (is_idle p.frame.phase)
+
+  -- how many of its commands have their replies
+  abbrev pub commands_done : Option (RunningParty P) → ℕ
+  commands_done None = 0
+  commands_done (Some p) = p.done
+
+  -- How many calls it began, where a command that ends with its first step counts as one: that which drew its stripe,
+  -- those of the commands that have their replies, and the one under way.
+  abbrev pub begun_by : RunningParty P → ℕ
+  begun_by p = p.done + one_if p.keyed + one_if (not (is_idle p.frame.phase))
+
+  abbrev pub calls_begun : Option (RunningParty P) → ℕ
+  calls_begun None = 0
+  calls_begun (Some p) = begun_by p
+
+  -- its next turn begins one, where it has so many commands
+  abbrev pub begins_by : ℕ → RunningParty P → Bool
+  begins_by count p = is_idle p.frame.phase && nat_lt p.done count
+
+  abbrev pub begins_call : ℕ → Option (RunningParty P) → Bool
+  begins_call count None = false
+  begins_call count (Some p) = begins_by count p
+
+  -- at most how many turns its call still takes
+  abbrev pub turns_left : PoolCore P → Option (RunningParty P) → ℕ
+  turns_left c None = 0
+  turns_left c (Some p) = steps_left c p.frame
+
+  -- A turn of party i, which has so many commands, takes its call further, or begins its next.
+  pub record Advances (count i : ℕ) (s new : RunState P) : Type 0 where
+    pub fewer : is_busy (slice_get s.parties i) ≡ true → turns_left new.core (slice_get new.parties i) + 1 ≤ turns_left s.core (slice_get s.parties i)
+    pub begun : calls_begun (slice_get new.parties i) ≡ calls_begun (slice_get s.parties i) + one_if (begins_call count (slice_get s.parties i))
+
+  -- some turns of party i, one after another
+  pub record TurnsSome (maker : MakerTold) (modules : List ModuleCall) (inputs : List (List Command)) (i : ℕ) (s end : RunState P) : Type 0 where
+    pub times : ℕ
+    pub folds : Folds maker modules inputs (replicate times i) s end
+
+  -- The run is under way, and is one of these parties, whose commands name modules that are there.
+  pub record IsRunOf (of : Background) (modules : List ModuleCall) (given : List Party) (s : RunState P) : Type 0 where
+    pub way : IsUnderWay of.world modules of.inputs s
+    pub inputs : of.inputs ≡ commands_in given
+    pub parties : length s.parties ≡ length given
+    pub named : (i : ℕ) (d : Party) → NameModules (length modules) (slice_index_or given i d).commands
