@@ -12,12 +12,12 @@ use Rattle.pool_alloc.specs.Stepping.{CanCount}
 use Rattle.pool_alloc.specs.declared.pool_core.PoolCore.{PoolCore}
 use Rattle.pool_run.specs.Folds.{RunState, TurnsOf, TurnsIf, IsUnderWay, with_turn, commands_of, replies_to}
 use Rattle.pool_alloc.specs.Sound.{IsCore}
-use Rattle.pool_alloc.specs.Whole.{IsUntouched}
+use Rattle.pool_alloc.specs.Whole.{IsUntouched, IsWhole}
 use Rattle.pool_run.specs.Folds.{Folds, IsMadeParty}
 use Rattle.pool_run.specs.Progress.{begins_by, Advances}
 use Rattle.pool_run.specs.RunsMade.{IsBetweenTurns, IsKept, places_in, commands_in, party_made_for, run_made}
 use Rattle.pool_run.specs.declared.input.Party.{Party}
-use Rattle.pool_run.specs.Ties.{CanTurn, IsSoundTurn}
+use Rattle.pool_run.specs.Ties.{CanTurn, IsSoundTurn, held_by_party}
 use Rattle.pool_run.specs.Turns.{Turned, Turns}
 use Rattle.pool_run.specs.Worlds.{IsFit, AreFit, AreCallsFor, IsCallFor}
 use Rattle.pool_run.specs.Private.{World}
@@ -30,6 +30,7 @@ use Rattle.pool_run.proofs.Counters.{can_count}
 use Rattle.pool_run.proofs.Ended.{no_more_replies}
 use Rattle.pool_run.proofs.Folding.{run_turned, folds_more}
 use Rattle.pool_run.proofs.Started.{AreMade, started_running}
+use Rattle.pool_run.proofs.LimitsOfRuns.{made_within, turns_of_within}
 use Rattle.pool_run.proofs.Running.{can_turn}
 use Rattle.pool_run.specs.Private.{no_grants}
 
@@ -117,6 +118,7 @@ module _ {P : Type 0} where
         advances = advances s i count p t there turned;
         kept = record {
           whole = on.running.whole;
+          within = turns_of_within w modules inputs i s (with_turn i t s) way turn kept.within;
           few = omega (arith, kept.few, sum_by-set places s.parties i t.party p below, (way.each i p below).room, (on.each i p inside).room, live);
           queues = turned.ready.groups.queues;
           between = still_between s i (one_if (begins_by count p)) p t kept.between turned;
@@ -144,8 +146,11 @@ module _ {P : Type 0} where
 
   -- A run keeps what it promises from its start on.
   pub kept_at_start : (maker : MakerTold) (c : PoolCore P) (parties : List Party) → IsCore maker c → IsUntouched c → places_in (run_made c parties).parties + 1 < 2 ^ 64 → IsKept (run_made c parties)
-  kept_at_start maker c parties core untouched few = record {
-    whole = (started_running maker c (commands_in parties) (run_made c parties).parties core untouched (are_made c.settings parties)).whole;
+  kept_at_start maker c parties core untouched few =
+    let whole : IsWhole held_by_party c (run_made c parties).parties = (started_running maker c (commands_in parties) (run_made c parties).parties core untouched (are_made c.settings parties)).whole in
+    record {
+    whole = whole;
+    within = made_within c (run_made c parties).parties untouched whole;
     few = few;
     queues = untouched_grouped maker c core untouched;
     between = All-map IsBetweenTurns (party_made_for c.settings) parties (λ k d below. made_between (slice_index_or parties k d).home (length (slice_index_or parties k d).commands) c.settings);

@@ -9,6 +9,7 @@ use Rattle.pool_alloc.specs.declared.frame.Phase.{Phase}
 use Rattle.pool_alloc.specs.declared.frame.Phase.TheVariants.{Key}
 use Rattle.pool_run.specs.Folds.{RunState}
 use Rattle.pool_run.specs.Private.{World}
+use Rattle.pool_run.specs.Limits.{IsWithinCounts}
 use Rattle.pool_run.specs.Ties.{held_by_party}
 use Rattle.pool_run.specs.declared.command.Command.{Command}
 use Rattle.pool_run.specs.declared.input.Party.{Party}
@@ -50,10 +51,11 @@ module _ {P : Type 0} where
     pub local : IsGrouped p.frame.local
     pub drawn : draws_stripe p.frame.phase ≡ false
 
-  -- Each slot and each region is in one place, the counters count what is granted or under way, and can count on. The ranges
-  -- of each queued slot lie together.
+  -- Each slot and each region is in one place, the counters count what is granted or under way, and can count on, and no
+  -- more instances are granted than there may be. The ranges of each queued slot lie together.
   pub record IsKept (s : RunState P) : Type 0 where
     pub whole : IsWhole held_by_party s.core s.parties
+    pub within : IsWithinCounts s.core s.parties
     pub few : places_in s.parties + 1 < 2 ^ 64
     pub queues : AreGrouped s.core.queues
     pub between : All IsBetweenTurns s.parties
