@@ -8,6 +8,7 @@ pub mod Causes
 pub mod Counters
 pub mod Ended
 pub mod Exhausted
+pub mod Finishing
 pub mod Folding
 pub mod Following
 pub mod FreeSlots

@@ -1,4 +1,4 @@
-use Rattle.std.proofs.Common.{rules, ◌≡◌, ℕ, List, replicate, take, ◌∙◌, subst, arith}
+use Rattle.std.proofs.Common.{rules, ◌≡◌, ℕ, List, replicate, take, ◌∙◌, sym, subst, arith}
 use Rattle.std.specs.Prelude.{slice_index_or}
 use Rattle.pool_run.specs.Folds.{Folds}
 use Rattle.pool_run.specs.Schedules.{turns_of}
@@ -10,7 +10,7 @@ use Rattle.pool_run.proofs.schedule.follow.Goals as goal
 pub repeat-requires : goal.repeat-requires
 repeat-requires g c κs within =
     let none : ScheduleEntry = record { party = 0; times = 0 } in
-    (search rules, (c.loop-at.invariant.way, (c.requires.1.1.0, (c.loop-at.invariant.parties ∙ c.requires.1.1.1.0, (c.requires.1.1.1.1.0, c.requires.1.1.1.1.1 c.loop-at.at none c.loop-at-test.true)))))
+    (search rules, (c.loop-at.invariant.run, c.requires.1.1.1.1.1 c.loop-at.at none c.loop-at-test.true))
 
 pub loop-at-preserved : goal.loop-at-preserved
 loop-at-preserved g c =
@@ -23,8 +23,7 @@ loop-at-preserved g c =
       folds =
           subst F (turns_more schedule i none c.loop-at-test.true)
           (folds_on g.of.world.maker c.args.modules.now g.of.inputs (turns_of (take i schedule)) (replicate entry.times entry.party) c.args.run c.loop-at.run c.in_ok-run.run' c.loop-at.invariant.folds c.in_ok-run.ensures.folds);
-      way = c.in_ok-run.ensures.way;
-      parties = c.in_ok-run.ensures.parties ∙ c.loop-at.invariant.parties;
+      run = c.in_ok-run.ensures.run;
     }
 
 pub returns-clause-folds : goal.returns-clause-folds

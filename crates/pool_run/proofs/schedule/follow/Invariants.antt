@@ -1,5 +1,6 @@
-use Rattle.std.proofs.Common.{◌≡◌, length, take}
-use Rattle.pool_run.specs.Folds.{Folds, IsUnderWay}
+use Rattle.std.proofs.Common.{take}
+use Rattle.pool_run.specs.Folds.{Folds}
+use Rattle.pool_run.specs.Progress.{IsRunOf}
 use Rattle.pool_run.specs.Schedules.{turns_of}
 use Rattle.pool_run.proofs.schedule.follow.Given as goal
 
@@ -10,6 +11,5 @@ ghost-repeat g a = g.of
 abbrev pub invariant-loop-at : goal.invariant-loop-at
 invariant-loop-at g l = record {
   folds : Folds g.of.world.maker l.modules g.of.inputs (turns_of (take l.at l.schedule)) l.fn.run l.run;
-  way : IsUnderWay g.of.world l.modules g.of.inputs l.run;
-  parties : length l.run.parties ≡ length l.fn.run.parties;
+  run : IsRunOf g.of l.modules l.parties l.run;
 }

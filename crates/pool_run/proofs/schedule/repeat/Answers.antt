@@ -1,12 +1,9 @@
-use Rattle.std.proofs.Common.{rules, ◌≡◌, ℕ, ◌+◌, ◌<◌, ◌∙◌, List, length, replicate, subst, sym, arith}
-use Rattle.pool_run.specs.Folds.{Folds, commands_of}
-use Rattle.pool_run.specs.Worlds.{NameModules}
-use Rattle.pool_run.specs.declared.command.Command.{Command}
-use Rattle.pool_run.proofs.Ended.{folds_count}
-use Rattle.pool_run.proofs.Following.{commands_there}
+use Rattle.std.proofs.Common.{◌≡◌, ℕ, replicate, subst, arith}
+use Rattle.pool_run.specs.Folds.{Folds}
 use Rattle.pool_run.proofs.RunMade.{repeated}
 use Rattle.pool_run.proofs.schedule.repeat.Goals as goal
 
+<<<<<<< HEAD
 pub turn-requires : goal.turn-requires
 turn-requires g c κs within =
     let N : List Command → Type 0 = λ commands. NameModules (length c.args.modules.now) commands in
@@ -15,15 +12,13 @@ turn-requires g c κs within =
     let named : N c.as_slice-commands.result.now = subst N (sym c.as_slice-commands.ensures) (c.requires.1.1.1.1.0 c.args.i c.index-parties-i.result c.requires.1.1.1.1.1) in
     (search rules, (c.loop-turn.invariant.way, (same, (inside, named))))
 
+=======
+>>>>>>> 6671450cd2a64ca9dfcb45b14808a34fcfd53fb4
 pub loop-turn-preserved : goal.loop-turn-preserved
-loop-turn-preserved g c =
-    let n : ℕ = c.loop-turn.turn in
-    let folds = repeated g.of.world.maker c.args.modules.now g.of.inputs c.args.i n c.args.run c.loop-turn.run c.in_ok-run.run' c.loop-turn.invariant.folds c.in_ok-run.ensures.turn in
-    record {
-      folds = folds;
-      way = c.in_ok-run.ensures.way;
-      parties = folds_count g.of.world.maker c.args.modules.now g.of.inputs (replicate (n + 1) c.args.i) c.args.run c.in_ok-run.run' folds;
-    }
+loop-turn-preserved g c = record {
+  folds = repeated g.of.world.maker c.args.modules.now g.of.inputs c.args.i c.loop-turn.turn c.args.run c.loop-turn.run c.in_ok-run.run' c.loop-turn.invariant.folds c.in_ok-run.ensures.turn;
+  run = c.in_ok-run.ensures.run;
+}
 
 pub returns-clause-folds : goal.returns-clause-folds
 returns-clause-folds g c =

@@ -1,0 +1,150 @@
+-- A run that is finished: party by party, turns until it has nothing left.
+use Rattle.std.proofs.Common.{◌≡◌, ◌≢◌, ℕ, zero, suc, ◌+◌, ◌<◌, ◌≤◌, Bool, true, false, List, [], ◌∷◌, ◌++◌, length, replicate, Option, Some, None, refl, sym, ap, ◌∙◌, subst, inl, inr, arith, append_assoc, add-zero}
+use Rattle.std.specs.Prelude.{◌&&◌, not, nat_lt, IfSome, IsSome, slice_get, slice_set}
+use Rattle.std.proofs.lemmas.Bool.{lt-ltb, not-true, not-false, cases_lt}
+use Rattle.std.proofs.lemmas.List.{append-nil, length_push, replicate-append-replicate}
+use Rattle.std.proofs.lemmas.Option.{slice_get_past}
+use Rattle.pool_pages.specs.MakerTold.{MakerTold}
+use Rattle.pool_index.specs.Shard.{one_if}
+use Rattle.pool_alloc.specs.Stepping.{is_idle}
+use Rattle.pool_alloc.specs.declared.frame.ModuleCall.{ModuleCall}
+use Rattle.pool_run.specs.Folds.{RunState, commands_of, party_by_party, TurnsIf, TurnsOf, Folds, HasNothingLeft, Finishes}
+use Rattle.pool_run.specs.Progress.{is_busy, commands_done, calls_begun, begins_call, TurnsSome, IsRunOf}
+use Rattle.pool_run.specs.RunsMade.{Background}
+use Rattle.pool_run.specs.declared.command.Command.{Command}
+use Rattle.pool_run.specs.declared.input.Party.{Party}
+use Rattle.pool_run.specs.declared.running_party.RunningParty.{RunningParty}
+use Rattle.pool_run.proofs.Ended.{folds_count}
+use Rattle.pool_run.proofs.Folding.{run_turned, folds_on}
+use Rattle.pool_run.proofs.RunMade.{repeated}
+
+set_other : {X : Type 0} (xs : List X) (i k : ℕ) (x : X) → k ≢ i → slice_get (slice_set xs i x) k ≡ slice_get xs k
+set_other [] i k x other = refl
+set_other (y ∷ ys) zero zero x other = absurd (other refl)
+set_other (y ∷ ys) zero (suc k) x other = refl
+set_other (y ∷ ys) (suc i) zero x other = refl
+set_other (y ∷ ys) (suc i) (suc k) x other = set_other ys i k x (λ e. other (ap suc e))
+
+is_there : {X : Type 0} (xs : List X) (i : ℕ) → i < length xs → IsSome (slice_get xs i)
+is_there [] i below = absurd (omega arith)
+is_there (x ∷ xs) zero below = refl
+is_there (x ∷ xs) (suc i) below = is_there xs i (omega arith)
+
+one_at_most : (b : Bool) → one_if b ≤ 1
+one_at_most true = omega arith
+one_at_most false = omega arith
+
+-- the turns of one party more
+party_by_party-push : (i n : ℕ) (counts : List ℕ) → party_by_party i (counts ++ n ∷ []) ≡ party_by_party i counts ++ replicate n (i + length counts)
+party_by_party-push i n [] = append-nil (replicate n i) ∙ ap (λ (k : ℕ). replicate n k) (sym (add-zero i))
+party_by_party-push i n (m ∷ counts) =
+    let next : i + 1 + length counts ≡ i + length (m ∷ counts) = omega arith in
+    ap (λ (turns : List ℕ). replicate m i ++ turns) (party_by_party-push (i + 1) n counts)
+    ∙ sym (append_assoc (replicate m i) (party_by_party (i + 1) counts) (replicate n (i + 1 + length counts)))
+    ∙ ap (λ (k : ℕ). replicate m i ++ party_by_party (i + 1) counts ++ replicate n k) next
+
+module _ {P : Type 0} where
+  -- A run goes on with a turn, over the same parties.
+  pub run_goes_on : (of : Background) (modules : List ModuleCall) (given : List Party) (i : ℕ) (s new : RunState P) → IsRunOf of modules given s → TurnsOf of.world.maker modules of.inputs i s new → IsRunOf of modules given new
+  run_goes_on of modules given i s new run turns = record {
+    way = run_turned of.world modules of.inputs i s new run.way turns;
+    inputs = run.inputs;
+    parties = folds_count of.world.maker modules of.inputs (i ∷ []) s new (new, turns, refl) ∙ run.parties;
+    named = run.named;
+  }
+
+  -- no turns, one more, and more after others
+  pub some_none : (maker : MakerTold) (modules : List ModuleCall) (inputs : List (List Command)) (i : ℕ) (s : RunState P) → TurnsSome maker modules inputs i s s
+  some_none maker modules inputs i s = record { times = 0; folds = refl }
+
+  pub some_more : (maker : MakerTold) (modules : List ModuleCall) (inputs : List (List Command)) (i : ℕ) (s mid new : RunState P) → TurnsSome maker modules inputs i s mid → TurnsOf maker modules inputs i mid new → TurnsSome maker modules inputs i s new
+  some_more maker modules inputs i s mid new some turns = record { times = some.times + 1; folds = repeated maker modules inputs i some.times s mid new some.folds turns }
+
+  pub some_on : (maker : MakerTold) (modules : List ModuleCall) (inputs : List (List Command)) (i : ℕ) (s mid end : RunState P) → TurnsSome maker modules inputs i s mid → TurnsSome maker modules inputs i mid end → TurnsSome maker modules inputs i s end
+  some_on maker modules inputs i s mid end some more =
+      let F : List ℕ → Type 0 = λ turns. Folds maker modules inputs turns s end in
+      record {
+        times = some.times + more.times;
+        folds = subst F (replicate-append-replicate some.times more.times i) (folds_on maker modules inputs (replicate some.times i) (replicate more.times i) s mid end some.folds more.folds);
+      }
+
+  -- The other parties stay as they are.
+  turned_others : (maker : MakerTold) (modules : List ModuleCall) (commands : List Command) (i k : ℕ) (o : Option (RunningParty P)) (s new : RunState P) → k ≢ i → TurnsIf maker modules commands i o s new → slice_get new.parties k ≡ slice_get s.parties k
+  turned_others maker modules commands i k None s new other turns = ap (λ (x : RunState P). slice_get x.parties k) turns
+  turned_others maker modules commands i k (Some p) s new other turns = ap (λ (x : RunState P). slice_get x.parties k) turns.3 ∙ set_other s.parties i k turns.0.party other
+
+  folds_others : (maker : MakerTold) (modules : List ModuleCall) (inputs : List (List Command)) (i k n : ℕ) (s end : RunState P) → k ≢ i → Folds maker modules inputs (replicate n i) s end → slice_get end.parties k ≡ slice_get s.parties k
+  folds_others maker modules inputs i k zero s end other folds = ap (λ (x : RunState P). slice_get x.parties k) folds
+  folds_others maker modules inputs i k (suc n) s end other folds = folds_others maker modules inputs i k n folds.0 end other folds.2 ∙ turned_others maker modules (commands_of inputs i) i k (slice_get s.parties i) s folds.0 other folds.1
+
+  -- A party without a call that has all its replies has nothing left.
+  pub nothing_is_left : (commands : List Command) (o : Option (RunningParty P)) → is_busy o ≡ false → length commands ≤ commands_done o → IfSome o (HasNothingLeft commands)
+  nothing_is_left commands None idle all = tt
+  nothing_is_left commands (Some p) idle all = record { idle = not-false (is_idle p.frame.phase) idle; all = all }
+
+  -- While its call is under way none begins.
+  pub none_begins : (count : ℕ) (o : Option (RunningParty P)) → is_busy o ≡ true → one_if (begins_call count o) ≡ 0
+  none_begins count None busy = refl
+  none_begins count (Some p) busy = ap (λ (v : Bool). one_if (v && nat_lt p.done count)) (not-true (is_idle p.frame.phase) busy)
+
+  -- One that hasn't begins its next call, of which there are no more than commands, and one for its stripe.
+  pub record BeginsNext (count : ℕ) (o : Option (RunningParty P)) : Type 0 where
+    pub next : begins_call count o ≡ true
+    pub few : calls_begun o ≤ count
+
+  begins_some : (count : ℕ) (o : Option (RunningParty P)) → IsSome o → is_busy o ≡ false → commands_done o < count → BeginsNext count o
+  begins_some count None there idle more = absurd cc
+  begins_some count (Some p) there idle more =
+      let is : is_idle p.frame.phase ≡ true = not-false (is_idle p.frame.phase) idle in
+      let none : one_if (not (is_idle p.frame.phase)) ≡ 0 = ap one_if idle in
+      record {
+        next = ap (λ (v : Bool). v && nat_lt p.done count) is ∙ lt-ltb p.done count more;
+        few = omega (arith, more, none, one_at_most p.keyed);
+      }
+
+  pub begins_there : (count i : ℕ) (s : RunState P) → i < length s.parties → is_busy (slice_get s.parties i) ≡ false → commands_done (slice_get s.parties i) < count → BeginsNext count (slice_get s.parties i)
+  begins_there count i s below idle more = begins_some count (slice_get s.parties i) (is_there s.parties i below) idle more
+
+  -- the parties below i have nothing left, after so many turns of each
+  pub record FinishesBelow (maker : MakerTold) (modules : List ModuleCall) (inputs : List (List Command)) (i : ℕ) (s end : RunState P) : Type 0 where
+    pub counts : List ℕ
+    pub parties : length counts ≡ i
+    pub folds : Folds maker modules inputs (party_by_party 0 counts) s end
+    pub finished : (k : ℕ) → k < i → IfSome (slice_get end.parties k) (HasNothingLeft (commands_of inputs k))
+
+  pub finishes_none : (maker : MakerTold) (modules : List ModuleCall) (inputs : List (List Command)) (s : RunState P) → FinishesBelow maker modules inputs 0 s s
+  finishes_none maker modules inputs s = record { counts = []; parties = refl; folds = refl; finished = λ k below. absurd (omega (arith, below)) }
+
+  pub finishes_more : (maker : MakerTold) (modules : List ModuleCall) (inputs : List (List Command)) (i : ℕ) (s mid end : RunState P) → FinishesBelow maker modules inputs i s mid → TurnsSome maker modules inputs i mid end → IfSome (slice_get end.parties i) (HasNothingLeft (commands_of inputs i)) → FinishesBelow maker modules inputs (i + 1) s end
+  finishes_more maker modules inputs i s mid end below some left =
+      let n : ℕ = some.times in
+      let F : List ℕ → Type 0 = λ turns. Folds maker modules inputs turns s end in
+      let number : 0 + length below.counts ≡ i = omega (arith, below.parties) in
+      let turns : party_by_party 0 (below.counts ++ n ∷ []) ≡ party_by_party 0 below.counts ++ replicate n i = party_by_party-push 0 n below.counts ∙ ap (λ (k : ℕ). party_by_party 0 below.counts ++ replicate n k) number in
+      record {
+        counts = below.counts ++ n ∷ [];
+        parties = omega (arith, length_push below.counts n, below.parties);
+        folds = subst F (sym turns) (folds_on maker modules inputs (party_by_party 0 below.counts) (replicate n i) s mid end below.folds some.folds);
+        finished = λ k inside.
+            let Left : ℕ → Type 0 = λ j. IfSome (slice_get end.parties j) (HasNothingLeft (commands_of inputs j)) in
+            elim (cases_lt k i) [
+              | inl before ↦
+                  let Q : Option (RunningParty P) → Type 0 = λ o. IfSome o (HasNothingLeft (commands_of inputs k)) in
+                  subst Q (sym (folds_others maker modules inputs i k n mid end (λ e. omega (arith, e, before)) some.folds)) (below.finished k before)
+              | inr past ↦ subst Left {x = i} {y = k} (omega (arith, inside, past)) left
+            ];
+      }
+
+  -- All of them have.
+  pub finishes_all : (maker : MakerTold) (modules : List ModuleCall) (inputs : List (List Command)) (i : ℕ) (s end : RunState P) → FinishesBelow maker modules inputs i s end → i ≡ length s.parties → length end.parties ≡ length s.parties → Finishes maker modules inputs s end
+  finishes_all maker modules inputs i s end below all same = record {
+    counts = below.counts;
+    parties = below.parties ∙ all;
+    folds = below.folds;
+    finished = λ k.
+        let Q : Option (RunningParty P) → Type 0 = λ o. IfSome o (HasNothingLeft (commands_of inputs k)) in
+        elim (cases_lt k i) [
+          | inl before ↦ below.finished k before
+          | inr past ↦ subst Q (sym (slice_get_past end.parties k (omega (arith, past, all, same)))) tt
+        ];
+  }

@@ -1,0 +1,19 @@
+use Rattle.std.proofs.Common.{◌≡◌}
+use Rattle.std.specs.Prelude.{slice_get}
+use Rattle.pool_run.specs.Progress.{calls_begun, turns_left, TurnsSome, IsRunOf}
+use Rattle.pool_run.proofs.schedule.end_call.Given as goal
+
+abbrev pub ghost-turn_party : goal.ghost-turn_party
+ghost-turn_party g a = g.of
+
+-- some turns so far, and no call more
+abbrev pub invariant-loop-alloc : goal.invariant-loop-alloc
+invariant-loop-alloc g l = record {
+  turns : TurnsSome g.of.world.maker l.modules g.of.inputs l.i l.fn.run l.run;
+  run : IsRunOf g.of l.modules l.parties l.run;
+  begun : calls_begun (slice_get l.run.parties l.i) ≡ calls_begun (slice_get l.fn.run.parties l.i);
+}
+
+-- at most how many turns are left
+abbrev pub decreases-loop-alloc : goal.decreases-loop-alloc
+decreases-loop-alloc g l = turns_left l.run.core (slice_get l.run.parties l.i)

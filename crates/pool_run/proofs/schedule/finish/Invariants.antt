@@ -1,0 +1,13 @@
+use Rattle.pool_run.specs.Progress.{IsRunOf}
+use Rattle.pool_run.proofs.Finishing.{FinishesBelow}
+use Rattle.pool_run.proofs.schedule.finish.Given as goal
+
+abbrev pub ghost-finish_party : goal.ghost-finish_party
+ghost-finish_party g a = g.of
+
+-- the parties so far have nothing left
+abbrev pub invariant-loop-i : goal.invariant-loop-i
+invariant-loop-i g l = record {
+  finishes : FinishesBelow g.of.world.maker l.modules g.of.inputs l.i l.fn.run l.run;
+  run : IsRunOf g.of l.modules l.parties l.run;
+}

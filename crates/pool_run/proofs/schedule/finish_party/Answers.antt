@@ -1,0 +1,41 @@
+use Rattle.std.proofs.Common.{◌≡◌, ℕ, ◌<◌, ◌≤◌, List, length, ap, ◌∙◌, arith}
+use Rattle.std.specs.Prelude.{slice_get}
+use Rattle.pool_index.specs.Shard.{one_if}
+use Rattle.pool_run.specs.Folds.{commands_of}
+use Rattle.pool_run.specs.Progress.{commands_done, begins_call}
+use Rattle.pool_run.specs.declared.command.Command.{Command}
+use Rattle.pool_run.proofs.Finishing.{BeginsNext, begins_there, nothing_is_left, some_on}
+use Rattle.pool_run.proofs.Following.{commands_there}
+use Rattle.pool_run.proofs.schedule.finish_party.Goals as goal
+
+pub loop-alloc-init : goal.loop-alloc-init
+loop-alloc-init g c = record {
+  turns = c.in_ok-run.ensures.turns;
+  run = c.in_ok-run.ensures.run;
+  idle = c.in_ok-run.ensures.idle;
+  count = c.len-count.ensures ∙ ap (length {A = Command}) (commands_there g.of.inputs c.args.parties.now c.args.i c.index-parties-i.result c.requires.1.0.inputs c.requires.1.1);
+}
+
+pub loop-alloc-smaller : goal.loop-alloc-smaller
+loop-alloc-smaller g c =
+    let i : ℕ = c.args.i in
+    let count : ℕ = length (commands_of g.of.inputs i) in
+    let below : i < length c.loop-alloc.run.parties = omega (arith, c.loop-alloc.invariant.run.parties, c.requires.1.1) in
+    let more : commands_done (slice_get c.loop-alloc.run.parties i) < count = omega (arith, c.done.ensures, c.loop-alloc-test.true, c.loop-alloc.invariant.count) in
+    let next : BeginsNext count (slice_get c.loop-alloc.run.parties i) = begins_there count i c.loop-alloc.run below c.loop-alloc.invariant.idle more in
+    let one : one_if (begins_call count (slice_get c.loop-alloc.run.parties i)) ≡ 1 = ap one_if next.next in
+    omega (arith, c.in_ok-run-2.ensures.begun, one, next.few, c.loop-alloc.invariant.count)
+
+pub loop-alloc-preserved : goal.loop-alloc-preserved
+loop-alloc-preserved g c = record {
+  turns = some_on g.of.world.maker c.args.modules.now g.of.inputs c.args.i c.args.run c.loop-alloc.run c.in_ok-run-2.run' c.loop-alloc.invariant.turns c.in_ok-run-2.ensures.turns;
+  run = c.in_ok-run-2.ensures.run;
+  idle = c.in_ok-run-2.ensures.idle;
+  count = c.loop-alloc.invariant.count;
+}
+
+pub returns-clause-finished : goal.returns-clause-finished
+returns-clause-finished g c =
+    let commands : List Command = commands_of g.of.inputs c.args.i in
+    let all : length commands ≤ commands_done (slice_get c.loop-alloc.run.parties c.args.i) = omega (arith, c.done.ensures, c.loop-alloc-test.false, c.loop-alloc.invariant.count) in
+    nothing_is_left commands (slice_get c.loop-alloc.run.parties c.args.i) c.loop-alloc.invariant.idle all
