@@ -14,7 +14,7 @@ use Rattle.pool_pages.specs.declared.unsupported.Unsupported.TheVariants.{ImageO
 use Rattle.pool_images.specs.declared.memory_image.ImageError.{ImageError}
 use Rattle.pool_images.specs.declared.memory_image.ImageError.TheVariants.{Unsupported as refused}
 use Rattle.pool_images.specs.Images.{first_misplaced, makes_listed}
-use Rattle.pool_slots.specs.Pools.{makes_listed as makes_listed_regions}
+use Rattle.pool_slots.specs.Makings.{makes_listed as makes_listed_regions}
 use Rattle.pool_run.proofs.BuiltInputs.{built_memory}
 use Rattle.pool_run.proofs.Tests.{first, second}
 use Rattle.pool_run.specs.Built.{is_built_image, is_built_memory, is_built_module}

@@ -1,5 +1,5 @@
 -- How far the parties are: how many calls began, whether one is under way, and at most how many turns it still takes.
-use Rattle.std.specs.Prelude.{◌≡◌, ℕ, ◌+◌, ◌≤◌, List, length, replicate, slice_get, slice_index_or, nat_lt, ◌&&◌, Bool, true, false, not, Option, Some, None}
+use Rattle.std.specs.Prelude.{◌≡◌, ℕ, ◌+◌, ◌<◌, ◌≤◌, List, length, replicate, slice_get, slice_index_or, nat_lt, ◌&&◌, Bool, true, false, not, Option, Some, None}
 use Rattle.pool_pages.specs.MakerTold.{MakerTold}
 use Rattle.pool_index.specs.Shard.{one_if}
 use Rattle.pool_alloc.specs.Bounds.{steps_left}
@@ -61,4 +61,4 @@ module _ {P : Type 0} where
     pub way : IsUnderWay of.world modules of.inputs s
     pub inputs : of.inputs ≡ commands_in given
     pub parties : length s.parties ≡ length given
-    pub named : (i : ℕ) (d : Party) → NameModules (length modules) (slice_index_or given i d).commands
+    pub named : (i : ℕ) (d : Party) → i < length given → NameModules (length modules) (slice_index_or given i d).commands

@@ -40,14 +40,7 @@ fn repeat<P: Pages>(
     times: u64,
 ) -> Result<Run<P>, AllocError>
     ghost of: { Background }
-<<<<<<< HEAD
-    requires way { IsUnderWay of.world modules.now of.inputs run }
-    requires inputs { of.inputs ≡ commands_in parties.now }
-    requires parties { length run.parties ≡ length parties.now }
-    requires named { (k : ℕ) (d : Party) → k < length parties.now → NameModules (length modules.now) (slice_index_or parties.now k d).commands }
-=======
     requires run { IsRunOf of modules.now parties.now run }
->>>>>>> 6671450cd2a64ca9dfcb45b14808a34fcfd53fb4
     requires inside { i < length parties.now }
     ensures folds { IfOk result (Folds of.world.maker modules.now of.inputs (replicate times i) run) }
     ensures run { IfOk result (IsRunOf of modules.now parties.now) }
@@ -162,7 +155,7 @@ pub(crate) fn finish<P: Pages>(
     requires way { IsUnderWay of.world modules.now of.inputs run }
     requires inputs { of.inputs ≡ commands_in parties.now }
     requires parties { length run.parties ≡ length parties.now }
-    requires named { (i : ℕ) (d : Party) → NameModules (length modules.now) (slice_index_or parties.now i d).commands }
+    requires named { (i : ℕ) (d : Party) → i < length parties.now → NameModules (length modules.now) (slice_index_or parties.now i d).commands }
     ensures finishes { IfOk result (Finishes of.world.maker modules.now of.inputs run) }
     ensures way { IfOk result (IsUnderWay of.world modules.now of.inputs) }
     ensures parties { IfOk result (λ end. length end.parties ≡ length run.parties) }

@@ -15,7 +15,7 @@ turn-requires g c κs within =
     let N : List Command → Type 0 = λ commands. NameModules (length c.args.modules.now) commands in
     let same : c.as_slice.result.now ≡ commands_of g.of.inputs c.args.i = c.as_slice.ensures ∙ commands_there g.of.inputs c.args.parties.now c.args.i c.index-parties-i.result run.inputs c.requires.1.1 in
     let inside : c.args.i < length c.args.run.parties = omega (arith, run.parties, c.requires.1.1) in
-    let named : N c.as_slice.result.now = subst N (sym c.as_slice.ensures) (run.named c.args.i c.index-parties-i.result) in
+    let named : N c.as_slice.result.now = subst N (sym c.as_slice.ensures) (run.named c.args.i c.index-parties-i.result c.requires.1.1) in
     (search rules, (run.way, (same, (inside, named))))
 
 pub returns-clause-advances : goal.returns-clause-advances
