@@ -14,7 +14,7 @@ use Rattle.pool_run.specs.Folds.{RunState, TurnsOf, TurnsIf, IsUnderWay, with_tu
 use Rattle.pool_alloc.specs.Sound.{IsCore}
 use Rattle.pool_alloc.specs.Whole.{IsUntouched}
 use Rattle.pool_run.specs.Folds.{Folds, IsMadeParty}
-use Rattle.pool_run.specs.Progress.{begins_by, Advances}
+use Rattle.pool_run.specs.Progress.{begins_by, bound_by, Advances}
 use Rattle.pool_run.specs.RunsMade.{IsBetweenTurns, IsKept, places_in, commands_in, party_made_for, run_made}
 use Rattle.pool_run.specs.declared.input.Party.{Party}
 use Rattle.pool_run.specs.Ties.{CanTurn, IsSoundTurn}
@@ -31,6 +31,7 @@ use Rattle.pool_run.proofs.Ended.{no_more_replies}
 use Rattle.pool_run.proofs.Folding.{run_turned, folds_more}
 use Rattle.pool_run.proofs.Started.{AreMade, started_running}
 use Rattle.pool_run.proofs.Running.{can_turn}
+use Rattle.pool_run.proofs.Turned.{has_turned}
 use Rattle.pool_run.specs.Private.{no_grants}
 
 one_fits : (w : World) (s : Settings) (number : ℕ) (o : Option ModuleCall) → IfSome o (IsCallFor w s number) → IfSome o (IsFit s)
@@ -95,7 +96,7 @@ module _ {P : Type 0} where
     pub turn : TurnsOf w.maker modules inputs i s new
     pub way : IsUnderWay w modules inputs new
     pub kept : IsKept new
-    pub advances : Advances (length (commands_of inputs i)) i s new
+    pub advances : Advances modules (commands_of inputs i) i s new
 
   pub turn_after : (w : World) (modules : List ModuleCall) (inputs : List (List Command)) (commands : List Command) (i : ℕ) (p : RunningParty P) (s : RunState P) (t : Turned P) → IsUnderWay w modules inputs s → IsKept s → slice_get s.parties i ≡ Some p → commands ≡ commands_of inputs i → Turns modules commands s.core p t → IsSoundTurn w.maker t → IsAfter w modules inputs i s (with_turn i t s)
   turn_after w modules inputs commands i p s t way kept there same turns sound =
@@ -109,17 +110,17 @@ module _ {P : Type 0} where
       let T : List Command → Type 0 = λ cs. Turns modules cs s.core p t in
       let L : List Command → Type 0 = λ cs. length cs ≤ length p.live in
       let count : ℕ = length (commands_of inputs i) in
-      let turned : HasAdvanced (one_if (begins_by count p)) s.core p t =
+      let turned : HasAdvanced (one_if (begins_by count p)) (bound_by modules (commands_of inputs i) s.core p) s.core p t =
       has_advanced w modules (commands_of inputs i) s.core p t way.calls take.can (ready_there s i p kept.queues kept.between there) (subst L same take.places) (subst T same turns) in
       record {
         turn = turn;
         way = on;
-        advances = advances s i count p t there turned;
+        advances = advances modules (commands_of inputs i) s i p t there (has_turned w modules (commands_of inputs i) s.core p t way.calls take.can (subst L same take.places) (subst T same turns)).size turned;
         kept = record {
           whole = on.running.whole;
           few = omega (arith, kept.few, sum_by-set places s.parties i t.party p below, (way.each i p below).room, (on.each i p inside).room, live);
           queues = turned.ready.groups.queues;
-          between = still_between s i (one_if (begins_by count p)) p t kept.between turned;
+          between = still_between s i (one_if (begins_by count p)) (bound_by modules (commands_of inputs i) s.core p) p t kept.between turned;
         };
       }
 
