@@ -1,5 +1,5 @@
 -- How far a turn takes a party: its call goes on, and has fewer steps left, or it ends, or the next one begins.
-use Rattle.std.proofs.Common.{◌≡◌, ℕ, ◌+◌, ◌<◌, ◌≤◌, Bool, true, false, List, [], length, get_or, Option, Some, None, refl, sym, ap, ◌∙◌, subst, inl, inr, arith, All}
+use Rattle.std.proofs.Common.{◌≡◌, ℕ, ◌+◌, ◌<◌, ◌≤◌, Bool, true, false, List, length, get_or, Option, Some, None, refl, sym, ap, ◌∙◌, subst, inl, inr, arith}
 use Rattle.std.specs.Prelude.{◌==◌, ◌&&◌, not, nat_le, nat_lt, if◌then◌else◌, is_some, IfSome, slice_get, slice_set, slice_index_or}
 use Rattle.std.proofs.lemmas.Bool.{lt-ltb, le-ltb, cases_lt}
 use Rattle.std.proofs.lemmas.Option.{slice_get_within, slice_get-get_or}
@@ -13,7 +13,7 @@ use Rattle.pool_alloc.specs.Bounds.{HasGroups, instance_bound, pool_sizes, bound
 use Rattle.pool_alloc.specs.Calls.{IsIdle, begun_call}
 use Rattle.pool_alloc.specs.Leases.{Lease}
 use Rattle.pool_alloc.specs.Steps.{After}
-use Rattle.pool_alloc.specs.Stepping.{StepsTo, CanStep, is_idle}
+use Rattle.pool_alloc.specs.Stepping.{CanStep, is_idle}
 use Rattle.pool_alloc.specs.declared.pool_core.PoolCore.{PoolCore}
 use Rattle.pool_alloc.specs.declared.frame.Call.{Call}
 use Rattle.pool_alloc.specs.declared.frame.Call.TheVariants as call
@@ -23,16 +23,15 @@ use Rattle.pool_alloc.specs.declared.frame.Grant.TheVariants.{Instance as instan
 use Rattle.pool_alloc.specs.declared.frame.ModuleCall.{ModuleCall}
 use Rattle.pool_alloc.specs.declared.frame.Outcome.{Outcome}
 use Rattle.pool_alloc.specs.declared.frame.Outcome.TheVariants as answer
-use Rattle.pool_alloc.specs.declared.frame.Phase.{Phase}
 use Rattle.pool_alloc.specs.declared.frame.Phase.TheVariants.{UncountMemory, UncountInstance}
 use Rattle.pool_alloc.proofs.Endings.{step_ends}
 use Rattle.pool_alloc.proofs.Grouping.{step_grouped, begun_grouped}
 use Rattle.pool_alloc.proofs.StepBounds.{step_fewer, idle_left, begun_bounded}
 use Rattle.pool_run.specs.Private.{World}
 use Rattle.pool_run.specs.Progress.{begun_by, begins_by, bound_asked, bound_returned, bound_begun, bound_keyed, bound_by}
-use Rattle.pool_run.specs.RunsMade.{draws_stripe, IsBetweenTurns}
+use Rattle.pool_run.specs.RunsMade.{draws_stripe}
 use Rattle.pool_run.specs.Ties.{CanTurn}
-use Rattle.pool_run.specs.Turns.{Turned, lease_written, leases_of, replies, answered, after_step, StepsFreely, Steps, Returns, ReadsLease, Reads, grant_written, WritesLease, Writes, Asks, Begins, BeginsKeyed, TurnsAt, Turns}
+use Rattle.pool_run.specs.Turns.{Turned, lease_written, leases_of, replies, answered, StepsFreely, Steps, Returns, ReadsLease, Reads, grant_written, WritesLease, Writes, Asks, Begins, BeginsKeyed, TurnsAt, Turns}
 use Rattle.pool_run.specs.Worlds.{IsCallFor, AreCallsFor}
 use Rattle.pool_run.specs.declared.command.Command.{Command}
 use Rattle.pool_run.specs.declared.command.Command.TheVariants as command

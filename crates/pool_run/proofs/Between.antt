@@ -8,11 +8,11 @@ use Rattle.std.proofs.lemmas.List.Elements.{All-set, All-get_or}
 use Rattle.std.proofs.lemmas.Option.{slice_get_within, slice_get-get_or, get_or_from_slice_get}
 use Rattle.pool_pages.specs.MakerTold.{MakerTold}
 use Rattle.pool_index.specs.Shard.{one_if}
-use Rattle.pool_slots.specs.Queues.{QueueState, QueuedMemory, HasOwners, is_held}
+use Rattle.pool_slots.specs.Queues.{QueueState, QueuedMemory, is_held}
 use Rattle.pool_slots.specs.declared.queued_range.QueueKind.{QueueKind}
 use Rattle.pool_slots.specs.declared.queued_range.QueueKind.TheVariants.{Memory, Table, Stack}
 use Rattle.pool_slots.specs.declared.queued_range.QueuedRange.{QueuedRange}
-use Rattle.pool_alloc.specs.Bounds.{runs, IsGrouped, AreGrouped}
+use Rattle.pool_alloc.specs.Bounds.{runs, AreGrouped}
 use Rattle.pool_alloc.specs.Sound.{IsCore}
 use Rattle.pool_alloc.specs.Steps.{queue_at}
 use Rattle.pool_alloc.specs.Stepping.{IsSameSize, is_idle}
