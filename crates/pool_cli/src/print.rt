@@ -1,5 +1,5 @@
 ghost use Rattle.std.specs.Prelude.{◌≡◌, ◌++◌, Some, IfOk, OnOk, string_bytes};
-ghost use Rattle.pool_cli.specs.Output.{numbers_text, bytes_text, refusal_text, alloc_error_text, trap_text, reply_text, reply_line, reply_lines, party_lines, named, named_or_none, live_text, warm_text, metrics_line, pages_line, output_text};
+ghost use Rattle.pool_cli.specs.Output.{numbers_text, bytes_text, refusal_text, alloc_error_text, denied_text, trap_text, reply_text, reply_line, reply_lines, party_lines, named, named_or_none, live_text, warm_text, metrics_line, pages_line, output_text};
 
 use pool_alloc::Metrics;
 use pool_limits::Trap;
@@ -50,24 +50,27 @@ fn push_alloc_error(out: &mut String, error: Refused) -> Result<(), AllocError>
         Refused::Memory => out.push_str("NoMemory"),
         Refused::Unsupported(rule) => write!(out, "Unsupported: {rule}"),
         Refused::Limit(limit) => write!(out, "PoolConcurrencyLimitError: {limit}"),
-        Refused::LimiterDenied { table, min } => push_denied(out, table, min),
+        Refused::LimiterDenied { table, min } => {
+            out.push_str("LimiterDenied: ")?;
+            push_denied(out, table, min)
+        }
         Refused::LimiterFault(fault) => write!(out, "LimiterFault: {fault}"),
         Refused::PageFault => out.push_str("PageFault"),
     }
 }
 
 fn push_denied(out: &mut String, table: bool, min: u64) -> Result<(), AllocError>
-    ensures { OnOk result (string_bytes out.new ≡ string_bytes out.old ++ alloc_error_text (Refused.LimiterDenied table min)) }
+    ensures { OnOk result (string_bytes out.new ≡ string_bytes out.old ++ denied_text table min) }
 {
     if table {
         write!(
             out,
-            "LimiterDenied: table minimum size of {min} elements exceeds table limits"
+            "table minimum size of {min} elements exceeds table limits"
         )
     } else {
         write!(
             out,
-            "LimiterDenied: memory minimum size of {min} pages exceeds memory limits"
+            "memory minimum size of {min} pages exceeds memory limits"
         )
     }
 }

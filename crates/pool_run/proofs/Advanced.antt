@@ -1,18 +1,19 @@
 -- How far a turn takes a party: its call goes on, and has fewer steps left, or it ends, or the next one begins.
-use Rattle.std.proofs.Common.{◌≡◌, ℕ, ◌+◌, ◌<◌, ◌≤◌, Bool, true, false, List, [], length, get_or, Option, Some, None, refl, sym, ap, ◌∙◌, subst, inl, inr, arith, All}
+use Rattle.std.proofs.Common.{◌≡◌, ℕ, ◌+◌, ◌<◌, ◌≤◌, Bool, true, false, List, length, get_or, Option, Some, None, refl, sym, ap, ◌∙◌, subst, inl, inr, arith}
 use Rattle.std.specs.Prelude.{◌==◌, ◌&&◌, not, nat_le, nat_lt, if◌then◌else◌, is_some, IfSome, slice_get, slice_set, slice_index_or}
 use Rattle.std.proofs.lemmas.Bool.{lt-ltb, le-ltb, cases_lt}
 use Rattle.std.proofs.lemmas.Option.{slice_get_within, slice_get-get_or}
 use Rattle.pool_pages.specs.MakerTold.{MakerTold}
+use Rattle.pool_pages.specs.declared.module_types.ModuleInfo.{ModuleInfo}
 use Rattle.pool_index.specs.Shard.{one_if}
 use Rattle.pool_limits.specs.LimiterTold.{unlimited}
 use Rattle.pool_limits.specs.declared.errors.Trap.TheVariants.{MemoryOutOfBounds}
 use Rattle.pool_slots.specs.declared.request.AllocError.TheVariants as alloc
-use Rattle.pool_alloc.specs.Bounds.{HasGroups, steps_left}
+use Rattle.pool_alloc.specs.Bounds.{HasGroups, instance_bound, pool_sizes, bound_of, steps_left}
 use Rattle.pool_alloc.specs.Calls.{IsIdle, begun_call}
 use Rattle.pool_alloc.specs.Leases.{Lease}
 use Rattle.pool_alloc.specs.Steps.{After}
-use Rattle.pool_alloc.specs.Stepping.{StepsTo, CanStep, is_idle}
+use Rattle.pool_alloc.specs.Stepping.{CanStep, is_idle}
 use Rattle.pool_alloc.specs.declared.pool_core.PoolCore.{PoolCore}
 use Rattle.pool_alloc.specs.declared.frame.Call.{Call}
 use Rattle.pool_alloc.specs.declared.frame.Call.TheVariants as call
@@ -22,16 +23,15 @@ use Rattle.pool_alloc.specs.declared.frame.Grant.TheVariants.{Instance as instan
 use Rattle.pool_alloc.specs.declared.frame.ModuleCall.{ModuleCall}
 use Rattle.pool_alloc.specs.declared.frame.Outcome.{Outcome}
 use Rattle.pool_alloc.specs.declared.frame.Outcome.TheVariants as answer
-use Rattle.pool_alloc.specs.declared.frame.Phase.{Phase}
 use Rattle.pool_alloc.specs.declared.frame.Phase.TheVariants.{UncountMemory, UncountInstance}
 use Rattle.pool_alloc.proofs.Endings.{step_ends}
 use Rattle.pool_alloc.proofs.Grouping.{step_grouped, begun_grouped}
-use Rattle.pool_alloc.proofs.StepBounds.{step_fewer}
+use Rattle.pool_alloc.proofs.StepBounds.{step_fewer, idle_left, begun_bounded}
 use Rattle.pool_run.specs.Private.{World}
-use Rattle.pool_run.specs.Progress.{begun_by, begins_by}
-use Rattle.pool_run.specs.RunsMade.{draws_stripe, IsBetweenTurns}
+use Rattle.pool_run.specs.Progress.{begun_by, begins_by, bound_asked, bound_returned, bound_begun, bound_keyed, bound_by}
+use Rattle.pool_run.specs.RunsMade.{draws_stripe}
 use Rattle.pool_run.specs.Ties.{CanTurn}
-use Rattle.pool_run.specs.Turns.{Turned, lease_written, leases_of, replies, answered, after_step, StepsFreely, Steps, Returns, ReadsLease, Reads, grant_written, WritesLease, Writes, Asks, Begins, BeginsKeyed, TurnsAt, Turns}
+use Rattle.pool_run.specs.Turns.{Turned, lease_written, leases_of, replies, answered, StepsFreely, Steps, Returns, ReadsLease, Reads, grant_written, WritesLease, Writes, Asks, Begins, BeginsKeyed, TurnsAt, Turns}
 use Rattle.pool_run.specs.Worlds.{IsCallFor, AreCallsFor}
 use Rattle.pool_run.specs.declared.command.Command.{Command}
 use Rattle.pool_run.specs.declared.command.Command.TheVariants as command
@@ -72,11 +72,16 @@ module _ {P : Type 0} where
   begun_groups : (c : PoolCore P) (asked : Call P) (f : Frame P) → HasGroups c f → HasGroups c (begun_call asked f)
   begun_groups c asked f groups = record { queues = groups.queues; local = begun_grouped asked f groups.local }
 
-  -- A turn leaves the frame ready for the next, and so many more calls began. A call under way has fewer steps left.
-  pub record HasAdvanced (more : ℕ) (c : PoolCore P) (p : RunningParty P) (t : Turned P) : Type 0 where
+  -- A turn leaves the frame ready for the next, and so many more calls began. A call under way has fewer steps left, and one
+  -- that begins has fewer than its bound.
+  pub record HasAdvanced (more bound : ℕ) (c : PoolCore P) (p : RunningParty P) (t : Turned P) : Type 0 where
     pub ready : IsReady t.core t.party.frame
     pub fewer : is_idle p.frame.phase ≡ false → steps_left t.core t.party.frame + 1 ≤ steps_left c p.frame
+    pub bounded : is_idle p.frame.phase ≡ true → steps_left t.core t.party.frame + 1 ≤ bound
     pub begun : begun_by t.party ≡ begun_by p + more
+
+  looser : (more bound most : ℕ) (c : PoolCore P) (p : RunningParty P) (t : Turned P) → bound ≤ most → HasAdvanced more bound c p t → HasAdvanced more most c p t
+  looser more bound most c p t less on = record { ready = on.ready; fewer = on.fewer; bounded = λ idle. omega (arith, on.bounded idle, less); begun = on.begun }
 
   -- An answer leaves the pool and the frame as the step did,
   answered_ready : (o : Option (Outcome P)) (c : PoolCore P) (p : RunningParty P) → IsReady c p.frame → IsReady (answered o c p).core (answered o c p).party.frame
@@ -107,8 +112,8 @@ module _ {P : Type 0} where
   ends_where false idle o is busy = is
 
   -- A step of the call under way.
-  step_advanced : (maker : MakerTold) (c : PoolCore P) (p : RunningParty P) (t : Turned P) → CanTurn maker c p → IsReady c p.frame → is_idle p.frame.phase ≡ false → Steps c p t → HasAdvanced 0 c p t
-  step_advanced maker c p t can ready busy steps =
+  step_advanced : (maker : MakerTold) (bound : ℕ) (c : PoolCore P) (p : RunningParty P) (t : Turned P) → CanTurn maker c p → IsReady c p.frame → is_idle p.frame.phase ≡ false → Steps c p t → HasAdvanced 0 bound c p t
+  step_advanced maker bound c p t can ready busy steps =
       let a : After P = steps.0 in
       let by : StepsFreely c p.frame a = steps.1 in
       let may : CanStep maker c p.frame = can_step maker c p can in
@@ -117,10 +122,11 @@ module _ {P : Type 0} where
       let keyless : IsKeyless a = step_keyless unlimited unlimited c p.frame a by ready.drawn in
       let q : RunningParty P = record p { frame = a.frame } in
       let ends : is_some a.outcome ≡ is_idle a.frame.phase = ends_where (is_idle p.frame.phase) (is_idle a.frame.phase) a.outcome (step_ends maker unlimited unlimited c p.frame a may by).answer busy in
-      subst (HasAdvanced 0 c p) (sym steps.2)
+      subst (HasAdvanced 0 bound c p) (sym steps.2)
       (record {
         ready = answered_ready a.outcome a.core q (record { groups = groups; drawn = keyless.phase });
         fewer = λ on. omega (arith, answered_left a.outcome a.core q, left);
+        bounded = λ idle. absurd cc;
         begun = omega (arith, answered_begun a.core p a.frame a.outcome busy ends keyless.answer);
       })
 
@@ -136,77 +142,84 @@ module _ {P : Type 0} (maker : MakerTold) (c : PoolCore P) (p : RunningParty P) 
   never : {X : Type 0} → is_idle p.frame.phase ≡ false → X
   never busy = absurd cc
 
+  none_left : steps_left c p.frame + 1 ≤ 1
+  none_left = omega (arith, idle_left c p.frame idle)
+
   -- a command that ends at once
-  replies_advanced : (q : RunningParty P) (reply : Reply) (t : Turned P) → q.frame ≡ p.frame → q.keyed ≡ p.keyed → q.done ≡ p.done → t ≡ replies reply c q → HasAdvanced 1 c p t
+  replies_advanced : (q : RunningParty P) (reply : Reply) (t : Turned P) → q.frame ≡ p.frame → q.keyed ≡ p.keyed → q.done ≡ p.done → t ≡ replies reply c q → HasAdvanced 1 1 c p t
   replies_advanced q reply t frame keyed done same =
       let R : Frame P → Type 0 = λ f. IsReady c f in
       let idles : one_if (not (is_idle q.frame.phase)) ≡ one_if (not (is_idle p.frame.phase)) = ap (λ (f : Frame P). one_if (not (is_idle f.phase))) frame in
       let drawn : one_if q.keyed ≡ one_if p.keyed = ap one_if keyed in
-      subst (HasAdvanced 1 c p) (sym same) (record { ready = subst R (sym frame) ready; fewer = λ busy. never busy; begun = omega (arith, idles, drawn, done) })
+      let L : Frame P → Type 0 = λ f. steps_left c f + 1 ≤ 1 in
+      subst (HasAdvanced 1 1 c p) (sym same) (record { ready = subst R (sym frame) ready; fewer = λ busy. never busy; bounded = λ idles. subst L (sym frame) none_left; begun = omega (arith, idles, drawn, done) })
 
-  at_once : (reply : Reply) (t : Turned P) → t ≡ replies reply c p → HasAdvanced 1 c p t
+  at_once : (reply : Reply) (t : Turned P) → t ≡ replies reply c p → HasAdvanced 1 1 c p t
   at_once reply t same = replies_advanced p reply t refl refl refl same
 
   -- a call that begins, and makes its first step
-  begins_step : (q : RunningParty P) (t : Turned P) → CanTurn maker c q → IsReady c q.frame → is_idle q.frame.phase ≡ false → q.keyed ≡ p.keyed → q.done ≡ p.done → Steps c q t → HasAdvanced 1 c p t
-  begins_step q t may begun busy keyed done steps =
-      let on : HasAdvanced 0 c q t = step_advanced maker c q t may begun busy steps in
+  begins_step : (bound : ℕ) (q : RunningParty P) (t : Turned P) → CanTurn maker c q → IsReady c q.frame → is_idle q.frame.phase ≡ false → q.keyed ≡ p.keyed → q.done ≡ p.done → steps_left c q.frame ≤ bound → Steps c q t → HasAdvanced 1 bound c p t
+  begins_step bound q t may begun busy keyed done most steps =
+      let on : HasAdvanced 0 bound c q t = step_advanced maker bound c q t may begun busy steps in
       let one : one_if (not (is_idle q.frame.phase)) ≡ 1 = ap (λ (v : Bool). one_if (not v)) busy in
       let drawn : one_if q.keyed ≡ one_if p.keyed = ap one_if keyed in
-      record { ready = on.ready; fewer = λ busy. never busy; begun = omega (arith, on.begun, one, not_busy, drawn, done) }
+      record { ready = on.ready; fewer = λ busy. never busy; bounded = λ idles. omega (arith, on.fewer busy, most); begun = omega (arith, on.begun, one, not_busy, drawn, done) }
 
   -- a read
-  lease_read : (i len : ℕ) (y : Option Lease) (t : Turned P) → ReadsLease y i len c p t → HasAdvanced 1 c p t
+  lease_read : (i len : ℕ) (y : Option Lease) (t : Turned P) → ReadsLease y i len c p t → HasAdvanced 1 1 c p t
   lease_read i len None t reads = at_once (Refused NoSuchGrant) t reads
   lease_read i len (Some l) t reads = at_once reads.0 t reads.2
 
-  reads_on : (k i len : ℕ) (x : Option (Grant P)) (t : Turned P) → Reads x k i len c p t → HasAdvanced 1 c p t
+  reads_on : (k i len : ℕ) (x : Option (Grant P)) (t : Turned P) → Reads x k i len c p t → HasAdvanced 1 1 c p t
   reads_on k i len None t reads = at_once (Refused NoSuchGrant) t reads
   reads_on k i len (Some grant) t reads = lease_read i len (slice_get (leases_of grant) k) t reads
 
   -- a write
-  writes_within : (of k i : ℕ) (bytes : List ℕ) (grant : Grant P) (l : Lease) (b : Bool) (t : Turned P) → t ≡ (if b then replies Done c (record p { live = slice_set p.live of (Some (grant_written k (lease_written i bytes l) grant)) }) else replies (Trap MemoryOutOfBounds) c p) → HasAdvanced 1 c p t
+  writes_within : (of k i : ℕ) (bytes : List ℕ) (grant : Grant P) (l : Lease) (b : Bool) (t : Turned P) → t ≡ (if b then replies Done c (record p { live = slice_set p.live of (Some (grant_written k (lease_written i bytes l) grant)) }) else replies (Trap MemoryOutOfBounds) c p) → HasAdvanced 1 1 c p t
   writes_within of k i bytes grant l true t same = replies_advanced (record p { live = slice_set p.live of (Some (grant_written k (lease_written i bytes l) grant)) }) Done t refl refl refl same
   writes_within of k i bytes grant l false t same = at_once (Trap MemoryOutOfBounds) t same
 
-  lease_write : (of k i : ℕ) (bytes : List ℕ) (grant : Grant P) (y : Option Lease) (t : Turned P) → WritesLease y of grant k i bytes c p t → HasAdvanced 1 c p t
+  lease_write : (of k i : ℕ) (bytes : List ℕ) (grant : Grant P) (y : Option Lease) (t : Turned P) → WritesLease y of grant k i bytes c p t → HasAdvanced 1 1 c p t
   lease_write of k i bytes grant None t writes = at_once (Refused NoSuchGrant) t writes
   lease_write of k i bytes grant (Some l) t writes = writes_within of k i bytes grant l (nat_le (i + length bytes) l.memory.linear.size) t writes
 
-  writes_on : (of k i : ℕ) (bytes : List ℕ) (x : Option (Grant P)) (t : Turned P) → Writes x of k i bytes c p t → HasAdvanced 1 c p t
+  writes_on : (of k i : ℕ) (bytes : List ℕ) (x : Option (Grant P)) (t : Turned P) → Writes x of k i bytes c p t → HasAdvanced 1 1 c p t
   writes_on of k i bytes None t writes = at_once (Refused NoSuchGrant) t writes
   writes_on of k i bytes (Some grant) t writes = lease_write of k i bytes grant (slice_get (leases_of grant) k) t writes
 
   -- a give-back
-  returns_on : (of : ℕ) (x : Option (Grant P)) (t : Turned P) → slice_index_or p.live of None ≡ x → Returns x of c p t → HasAdvanced 1 c p t
+  returns_on : (of : ℕ) (x : Option (Grant P)) (t : Turned P) → slice_index_or p.live of None ≡ x → Returns x of c p t → HasAdvanced 1 (bound_returned c x) c p t
   returns_on of None t has returns = at_once (Refused NoSuchGrant) t returns
   returns_on of (Some grant) t has steps =
-      begins_step (record p { live = slice_set p.live of None; frame = begun_call (call.GiveBack grant) p.frame }) t (called_back maker of grant c p can idle has)
+      begins_step (bound_of c (call.GiveBack grant)) (record p { live = slice_set p.live of None; frame = begun_call (call.GiveBack grant) p.frame }) t (called_back maker of grant c p can idle has)
       (record { groups = begun_groups c (call.GiveBack grant) p.frame ready.groups; drawn = returned_keyless grant p.frame })
-      (returned_busy grant p.frame) refl refl steps
+      (returned_busy grant p.frame) refl refl
+      (begun_bounded c (call.GiveBack grant) p.frame) steps
 
   -- a request for an instance
-  asks_on : (w : World) (number : ℕ) (o : Option ModuleCall) (t : Turned P) → IfSome o (IsCallFor w c.settings number) → Asks o c p t → p.done < length p.live → HasAdvanced 1 c p t
+  asks_on : (w : World) (number : ℕ) (o : Option ModuleCall) (t : Turned P) → IfSome o (IsCallFor w c.settings number) → Asks o c p t → p.done < length p.live → HasAdvanced 1 (bound_asked c o) c p t
   asks_on w number None t for asked room = absurd asked
   asks_on w number (Some kept) t for asked room =
       elim asked [
-        | inl refused ↦ at_once (Refused (Alloc alloc.Memory)) t refused
+        | inl refused ↦ looser 1 1 (bound_of c (call.Module kept)) c p t (omega arith) (at_once (Refused (Alloc alloc.Memory)) t refused)
         | inr steps ↦
             let m : ModuleCall = steps.0 in
             let call_for : IsCallFor w c.settings number m = share_for w c.settings number kept m steps.1 for in
-            begins_step (record p { frame = begun_call (call.Module m) p.frame }) t (called_module maker m c p can idle call_for.images call_for.places room)
+            let same : bound_of c (call.Module m) ≡ bound_of c (call.Module kept) = ap (λ (i : ModuleInfo). instance_bound (pool_sizes c) (length i.memories)) steps.1.info in
+            begins_step (bound_of c (call.Module kept)) (record p { frame = begun_call (call.Module m) p.frame }) t (called_module maker m c p can idle call_for.images call_for.places room)
             (record { groups = begun_groups c (call.Module m) p.frame ready.groups; drawn = refl })
-            refl refl refl steps.2
+            refl refl refl
+            (omega (arith, begun_bounded c (call.Module m) p.frame, same)) steps.2
       ]
 
-  begins_on : (w : World) (modules : List ModuleCall) (command : Command) (t : Turned P) → AreCallsFor w c.settings modules → Begins modules command c p t → p.done < length p.live → HasAdvanced 1 c p t
+  begins_on : (w : World) (modules : List ModuleCall) (command : Command) (t : Turned P) → AreCallsFor w c.settings modules → Begins modules command c p t → p.done < length p.live → HasAdvanced 1 (bound_begun modules command c p) c p t
   begins_on w modules (command.Instantiate number) t calls begins room = asks_on w number (slice_get modules number) t (calls number) begins room
   begins_on w modules (command.Read of k i len) t calls begins room = reads_on k i len (slice_index_or p.live of None) t begins
   begins_on w modules (command.Write of k i bytes) t calls begins room = writes_on of k i bytes (slice_index_or p.live of None) t begins
   begins_on w modules (command.Drop of) t calls begins room = returns_on of (slice_index_or p.live of None) t refl begins
 
   -- The stripe is drawn in one turn.
-  drawn_on : (t : Turned P) → p.keyed ≡ false → Steps c (record p { frame = begun_call call.Key p.frame }) t → HasAdvanced 1 c p t
+  drawn_on : (t : Turned P) → p.keyed ≡ false → Steps c (record p { frame = begun_call call.Key p.frame }) t → HasAdvanced 1 1 c p t
   drawn_on t keyed steps =
       let q : RunningParty P = record p { frame = begun_call call.Key p.frame } in
       let a : After P = steps.0 in
@@ -218,10 +231,11 @@ module _ {P : Type 0} (maker : MakerTold) (c : PoolCore P) (p : RunningParty P) 
       let same : t ≡ record { core = a.core; party = record p { frame = a.frame; keyed = true }; reply = None } = steps.2 ∙ ap (λ (o : Option (Outcome P)). answered o a.core (record p { frame = a.frame })) outcome in
       let none : one_if p.keyed ≡ 0 = ap one_if keyed in
       let over : one_if (not (is_idle a.frame.phase)) ≡ 0 = ap (λ (v : Bool). one_if (not v)) phase in
-      subst (HasAdvanced 1 c p) (sym same) (record { ready = record { groups = groups; drawn = drawn }; fewer = λ busy. never busy; begun = omega (arith, none, over, not_busy) })
+      let left : steps_left a.core a.frame ≡ 0 = idle_left a.core a.frame (idle_is a.frame.phase phase) in
+      subst (HasAdvanced 1 1 c p) (sym same) (record { ready = record { groups = groups; drawn = drawn }; fewer = λ busy. never busy; bounded = λ idles. omega (arith, left); begun = omega (arith, none, over, not_busy) })
 
-  nothing_on : (t : Turned P) → t ≡ record { core = c; party = p; reply = None } → HasAdvanced 0 c p t
-  nothing_on t same = subst (HasAdvanced 0 c p) (sym same) (record { ready = ready; fewer = λ busy. never busy; begun = omega arith })
+  nothing_on : (t : Turned P) → t ≡ record { core = c; party = p; reply = None } → HasAdvanced 0 1 c p t
+  nothing_on t same = subst (HasAdvanced 0 1 c p) (sym same) (record { ready = ready; fewer = λ busy. never busy; bounded = λ idles. none_left; begun = omega arith })
 
   has_next : (commands : List Command) (next : Option Command) → slice_get commands p.done ≡ next → nat_lt p.done (length commands) ≡ is_some next
   has_next commands None there =
@@ -237,25 +251,25 @@ module _ {P : Type 0} (maker : MakerTold) (c : PoolCore P) (p : RunningParty P) 
       let B : Bool → Bool = λ v. v && nat_lt p.done (length commands) in
       ap (λ (v : Bool). one_if (B v)) is ∙ ap one_if (has_next commands next there)
 
-  keyed_on : (w : World) (commands : List Command) (keyed : Bool) (modules : List ModuleCall) (next : Option Command) (t : Turned P) → AreCallsFor w c.settings modules → slice_get commands p.done ≡ next → p.keyed ≡ keyed → length commands ≤ length p.live → BeginsKeyed keyed modules next c p t → HasAdvanced (one_if (is_some next)) c p t
+  keyed_on : (w : World) (commands : List Command) (keyed : Bool) (modules : List ModuleCall) (next : Option Command) (t : Turned P) → AreCallsFor w c.settings modules → slice_get commands p.done ≡ next → p.keyed ≡ keyed → length commands ≤ length p.live → BeginsKeyed keyed modules next c p t → HasAdvanced (one_if (is_some next)) (bound_keyed keyed modules next c p) c p t
   keyed_on w commands false modules None t calls next keyed room begins = nothing_on t begins
   keyed_on w commands true modules None t calls next keyed room begins = nothing_on t begins
   keyed_on w commands false modules (Some command) t calls next keyed room steps = drawn_on t keyed steps
   keyed_on w commands true modules (Some command) t calls next keyed room begins = begins_on w modules command t calls begins (omega (arith, room, slice_get_within commands p.done command next))
 
-  idle_on : (w : World) (commands : List Command) (modules : List ModuleCall) (t : Turned P) → AreCallsFor w c.settings modules → length commands ≤ length p.live → BeginsKeyed p.keyed modules (slice_get commands p.done) c p t → HasAdvanced (one_if (begins_by (length commands) p)) c p t
+  idle_on : (w : World) (commands : List Command) (modules : List ModuleCall) (t : Turned P) → AreCallsFor w c.settings modules → length commands ≤ length p.live → BeginsKeyed p.keyed modules (slice_get commands p.done) c p t → HasAdvanced (one_if (begins_by (length commands) p)) (bound_by modules commands c p) c p t
   idle_on w commands modules t calls room begins =
-      let A : ℕ → Type 0 = λ n. HasAdvanced n c p t in
+      let A : ℕ → Type 0 = λ n. HasAdvanced n (bound_by modules commands c p) c p t in
       subst A (sym (counts_next commands (slice_get commands p.done) refl)) (keyed_on w commands p.keyed modules (slice_get commands p.done) t calls refl refl room begins)
 
 module _ {P : Type 0} where
-  advanced_at : (w : World) (modules : List ModuleCall) (commands : List Command) (c : PoolCore P) (p : RunningParty P) (t : Turned P) (b : Bool) → is_idle p.frame.phase ≡ b → AreCallsFor w c.settings modules → CanTurn w.maker c p → IsReady c p.frame → length commands ≤ length p.live → TurnsAt b modules commands c p t → HasAdvanced (one_if (begins_by (length commands) p)) c p t
+  advanced_at : (w : World) (modules : List ModuleCall) (commands : List Command) (c : PoolCore P) (p : RunningParty P) (t : Turned P) (b : Bool) → is_idle p.frame.phase ≡ b → AreCallsFor w c.settings modules → CanTurn w.maker c p → IsReady c p.frame → length commands ≤ length p.live → TurnsAt b modules commands c p t → HasAdvanced (one_if (begins_by (length commands) p)) (bound_by modules commands c p) c p t
   advanced_at w modules commands c p t true idle calls can ready room turns = idle_on w.maker c p can ready idle w commands modules t calls room turns
   advanced_at w modules commands c p t false busy calls can ready room turns =
-      let A : ℕ → Type 0 = λ n. HasAdvanced n c p t in
+      let A : ℕ → Type 0 = λ n. HasAdvanced n (bound_by modules commands c p) c p t in
       let none : one_if (begins_by (length commands) p) ≡ 0 = ap (λ (v : Bool). one_if (v && nat_lt p.done (length commands))) busy in
-      subst A (sym none) (step_advanced w.maker c p t can ready busy turns)
+      subst A (sym none) (step_advanced w.maker (bound_by modules commands c p) c p t can ready busy turns)
 
   -- How far each turn of a party takes it.
-  pub has_advanced : (w : World) (modules : List ModuleCall) (commands : List Command) (c : PoolCore P) (p : RunningParty P) (t : Turned P) → AreCallsFor w c.settings modules → CanTurn w.maker c p → IsReady c p.frame → length commands ≤ length p.live → Turns modules commands c p t → HasAdvanced (one_if (begins_by (length commands) p)) c p t
+  pub has_advanced : (w : World) (modules : List ModuleCall) (commands : List Command) (c : PoolCore P) (p : RunningParty P) (t : Turned P) → AreCallsFor w c.settings modules → CanTurn w.maker c p → IsReady c p.frame → length commands ≤ length p.live → Turns modules commands c p t → HasAdvanced (one_if (begins_by (length commands) p)) (bound_by modules commands c p) c p t
   has_advanced w modules commands c p t calls can ready room turns = advanced_at w modules commands c p t (is_idle p.frame.phase) refl calls can ready room turns

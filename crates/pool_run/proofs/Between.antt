@@ -1,29 +1,32 @@
 -- What frames and queues keep between turns: at the start, and after each turn.
-use Rattle.std.proofs.Common.{◌≡◌, ℕ, ◌+◌, ◌<◌, ◌≤◌, true, List, [], ◌∷◌, length, Option, Some, refl, sym, ap, ◌∙◌, subst, arith, All}
+use Rattle.std.proofs.Common.{◌≡◌, ◌≢◌, ℕ, zero, suc, ◌+◌, ◌<◌, ◌≤◌, true, false, List, [], ◌∷◌, length, Option, Some, None, refl, sym, ap, ◌∙◌, subst, arith, All}
 use Rattle.std.specs.List.{AllByRecursion}
 use Rattle.std.specs.Prelude.{slice_get, slice_set}
-use Rattle.std.proofs.lemmas.Bool.{not-true}
+use Rattle.std.proofs.lemmas.Bool.{not-true, not-false}
 use Rattle.std.proofs.lemmas.List.{length-set, get_or-set_same}
 use Rattle.std.proofs.lemmas.List.Elements.{All-set, All-get_or}
 use Rattle.std.proofs.lemmas.Option.{slice_get_within, slice_get-get_or, get_or_from_slice_get}
 use Rattle.pool_pages.specs.MakerTold.{MakerTold}
 use Rattle.pool_index.specs.Shard.{one_if}
-use Rattle.pool_slots.specs.Queues.{QueueState, QueuedMemory, HasOwners, is_held}
+use Rattle.pool_slots.specs.Queues.{QueueState, QueuedMemory, is_held}
 use Rattle.pool_slots.specs.declared.queued_range.QueueKind.{QueueKind}
 use Rattle.pool_slots.specs.declared.queued_range.QueueKind.TheVariants.{Memory, Table, Stack}
 use Rattle.pool_slots.specs.declared.queued_range.QueuedRange.{QueuedRange}
-use Rattle.pool_alloc.specs.Bounds.{runs, IsGrouped, AreGrouped}
+use Rattle.pool_alloc.specs.Bounds.{runs, AreGrouped}
 use Rattle.pool_alloc.specs.Sound.{IsCore}
 use Rattle.pool_alloc.specs.Steps.{queue_at}
-use Rattle.pool_alloc.specs.Stepping.{is_idle}
+use Rattle.pool_alloc.specs.Stepping.{IsSameSize, is_idle}
 use Rattle.pool_alloc.specs.Whole.{IsUntouched}
 use Rattle.pool_alloc.specs.declared.pool_core.PoolCore.{PoolCore}
 use Rattle.pool_alloc.specs.declared.pool_core.Settings.{Settings}
+use Rattle.pool_alloc.specs.declared.frame.ModuleCall.{ModuleCall}
 use Rattle.pool_alloc.proofs.Grouping.{frame_grouped}
+use Rattle.pool_alloc.proofs.StepBounds.{steps_left_same}
 use Rattle.pool_run.specs.Folds.{RunState, with_turn}
-use Rattle.pool_run.specs.Progress.{is_busy, begins_by, calls_begun, begins_call, turns_left, Advances}
+use Rattle.pool_run.specs.Progress.{is_busy, begins_by, calls_begun, begins_call, turns_left, bound_by, bound_next, Advances}
 use Rattle.pool_run.specs.RunsMade.{party_made, IsBetweenTurns}
 use Rattle.pool_run.specs.Turns.{Turned}
+use Rattle.pool_run.specs.declared.command.Command.{Command}
 use Rattle.pool_run.specs.declared.running_party.RunningParty.{RunningParty}
 use Rattle.pool_run.proofs.Advanced.{IsReady, HasAdvanced}
 
@@ -38,6 +41,14 @@ unowned [] memories none owned = refl
 unowned (r ∷ ranges) memories none owned =
     let Held : List QueuedMemory → Type 0 = λ ms. is_held r.kind r.slot.0 ms ≡ true in
     absurd (none_held r.kind r.slot.0 (subst Held none owned.0))
+
+-- the elements in other places stay
+pub set_other : {X : Type 0} (xs : List X) (i k : ℕ) (x : X) → k ≢ i → slice_get (slice_set xs i x) k ≡ slice_get xs k
+set_other [] i k x other = refl
+set_other (y ∷ ys) zero zero x other = absurd (other refl)
+set_other (y ∷ ys) zero (suc k) x other = refl
+set_other (y ∷ ys) (suc i) zero x other = refl
+set_other (y ∷ ys) (suc i) (suc k) x other = set_other ys i k x (λ e. other (ap suc e))
 
 module _ {P : Type 0} where
   -- Nothing is queued in a pool that nobody touched.
@@ -56,16 +67,26 @@ module _ {P : Type 0} where
       record { groups = record { queues = queues; local = one.local }; drawn = one.drawn }
 
   -- and so are all after a turn.
-  pub still_between : (s : RunState P) (i more : ℕ) (p : RunningParty P) (t : Turned P) → All IsBetweenTurns s.parties → HasAdvanced more s.core p t → All IsBetweenTurns (slice_set s.parties i t.party)
-  still_between s i more p t between turned = All-set IsBetweenTurns s.parties i t.party (record { local = turned.ready.groups.local; drawn = turned.ready.drawn }) between
+  pub still_between : (s : RunState P) (i more bound : ℕ) (p : RunningParty P) (t : Turned P) → All IsBetweenTurns s.parties → HasAdvanced more bound s.core p t → All IsBetweenTurns (slice_set s.parties i t.party)
+  still_between s i more bound p t between turned = All-set IsBetweenTurns s.parties i t.party (record { local = turned.ready.groups.local; drawn = turned.ready.drawn }) between
+
+  -- A call has as many turns left over a pool of the same sizes.
+  left_over : (c d : PoolCore P) (o : Option (RunningParty P)) → IsSameSize c d → turns_left d o ≡ turns_left c o
+  left_over c d None size = refl
+  left_over c d (Some p) size = steps_left_same c d p.frame size
 
   -- The turn takes the party further in the run.
-  pub advances : (s : RunState P) (i count : ℕ) (p : RunningParty P) (t : Turned P) → slice_get s.parties i ≡ Some p → HasAdvanced (one_if (begins_by count p)) s.core p t → Advances count i s (with_turn i t s)
-  advances s i count p t there turned =
+  pub advances : (modules : List ModuleCall) (commands : List Command) (s : RunState P) (i : ℕ) (p : RunningParty P) (t : Turned P) → slice_get s.parties i ≡ Some p → IsSameSize s.core t.core → HasAdvanced (one_if (begins_by (length commands) p)) (bound_by modules commands s.core p) s.core p t → Advances modules commands i s (with_turn i t s)
+  advances modules commands s i p t there size turned =
       let below : i < length s.parties = slice_get_within s.parties i p there in
       let inside : i < length (slice_set s.parties i t.party) = omega (arith, below, length-set s.parties i t.party) in
       let here : slice_get (slice_set s.parties i t.party) i ≡ Some t.party = slice_get-get_or (slice_set s.parties i t.party) i p inside ∙ ap Some (get_or-set_same s.parties i t.party p below) in
-      let A : Option (RunningParty P) → Option (RunningParty P) → Type 0 = λ old new. (is_busy old ≡ true → turns_left t.core new + 1 ≤ turns_left s.core old) × (calls_begun new ≡ calls_begun old + one_if (begins_call count old)) in
-      let turn : A (Some p) (Some t.party) = (λ busy. turned.fewer (not-true (is_idle p.frame.phase) busy), turned.begun) in
+      let A : Option (RunningParty P) → Option (RunningParty P) → Type 0 = λ old new. (is_busy old ≡ true → turns_left t.core new + 1 ≤ turns_left s.core old) × (is_busy old ≡ false → turns_left t.core new + 1 ≤ bound_next modules commands s.core old) × (calls_begun new ≡ calls_begun old + one_if (begins_call (length commands) old)) in
+      let turn : A (Some p) (Some t.party) = (λ busy. turned.fewer (not-true (is_idle p.frame.phase) busy), λ idle. turned.bounded (not-false (is_idle p.frame.phase) idle), turned.begun) in
       let both : A (slice_get s.parties i) (slice_get (slice_set s.parties i t.party) i) = subst (λ (o : Option (RunningParty P)). A o (slice_get (slice_set s.parties i t.party) i)) (sym there) (subst (A (Some p)) (sym here) turn) in
-      record { fewer = both.0; begun = both.1 }
+      record {
+        fewer = both.0;
+        bounded = both.1;
+        begun = both.2;
+        others = λ k other. ap (turns_left t.core) (set_other s.parties i k t.party other) ∙ left_over s.core t.core (slice_get s.parties k) size;
+      }

@@ -1,5 +1,5 @@
 -- A request is refused only for a cause.
-use Rattle.std.proofs.Common.{true, ◌+◌, ◌≤◌, ◌≡◌, ℕ, ◌<◌, List, length, Option, Some, None, sym, ap, ◌∙◌, subst, inl, inr, arith}
+use Rattle.std.proofs.Common.{true, ◌+◌, ◌≤◌, ◌≡◌, ℕ, ◌<◌, List, length, Option, sym, ap, ◌∙◌, subst, inl, inr, arith}
 use Rattle.std.specs.Prelude.{IfSome}
 use Rattle.pool_images.specs.Slots.{Slot, IsLeft}
 use Rattle.pool_slots.specs.Cells.{IsSlotOf}

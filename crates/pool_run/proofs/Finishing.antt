@@ -1,6 +1,6 @@
 -- A run that is finished: party by party, turns until it has nothing left.
 use Rattle.std.proofs.Common.{◌≡◌, ◌≢◌, ℕ, zero, suc, ◌+◌, ◌<◌, ◌≤◌, Bool, true, false, List, [], ◌∷◌, ◌++◌, length, replicate, Option, Some, None, refl, sym, ap, ◌∙◌, subst, inl, inr, arith, append_assoc, add-zero}
-use Rattle.std.specs.Prelude.{◌&&◌, not, nat_lt, IfSome, IsSome, slice_get, slice_set}
+use Rattle.std.specs.Prelude.{◌&&◌, not, nat_lt, IfSome, IsSome, slice_get}
 use Rattle.std.proofs.lemmas.Bool.{lt-ltb, not-true, not-false, cases_lt}
 use Rattle.std.proofs.lemmas.List.{append-nil, length_push, replicate-append-replicate}
 use Rattle.std.proofs.lemmas.Option.{slice_get_past}
@@ -14,16 +14,10 @@ use Rattle.pool_run.specs.RunsMade.{Background}
 use Rattle.pool_run.specs.declared.command.Command.{Command}
 use Rattle.pool_run.specs.declared.input.Party.{Party}
 use Rattle.pool_run.specs.declared.running_party.RunningParty.{RunningParty}
+use Rattle.pool_run.proofs.Between.{set_other}
 use Rattle.pool_run.proofs.Ended.{folds_count}
 use Rattle.pool_run.proofs.Folding.{run_turned, folds_on}
 use Rattle.pool_run.proofs.RunMade.{repeated}
-
-set_other : {X : Type 0} (xs : List X) (i k : ℕ) (x : X) → k ≢ i → slice_get (slice_set xs i x) k ≡ slice_get xs k
-set_other [] i k x other = refl
-set_other (y ∷ ys) zero zero x other = absurd (other refl)
-set_other (y ∷ ys) zero (suc k) x other = refl
-set_other (y ∷ ys) (suc i) zero x other = refl
-set_other (y ∷ ys) (suc i) (suc k) x other = set_other ys i k x (λ e. other (ap suc e))
 
 is_there : {X : Type 0} (xs : List X) (i : ℕ) → i < length xs → IsSome (slice_get xs i)
 is_there [] i below = absurd (omega arith)

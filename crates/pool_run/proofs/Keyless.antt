@@ -11,7 +11,6 @@ use Rattle.pool_slots.specs.Cells.{Cell, unmapped, unknown, previously_used, tak
 use Rattle.pool_slots.specs.Queues.{QueueState, QueuedMemory, after_take, taken_into, joined, emptied}
 use Rattle.pool_slots.specs.declared.request.AllocError.{AllocError}
 use Rattle.pool_slots.specs.declared.request.AllocError.TheVariants as refusal
-use Rattle.pool_slots.specs.declared.request.ConcurrencyKind.TheVariants.{CoreInstances}
 use Rattle.pool_alloc.specs.Reserved.{no_room, with_item}
 use Rattle.pool_alloc.specs.Leases.{Lease}
 use Rattle.pool_alloc.specs.Own.{memory_made, reset_into}

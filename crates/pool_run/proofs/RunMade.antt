@@ -1,6 +1,6 @@
 -- A run keeps what it promises.
 use Rattle.std.proofs.Common.{◌≡◌, ℕ, ◌+◌, ◌^◌, ◌<◌, ◌≤◌, List, [], ◌∷◌, ◌++◌, length, map, take, get_or, replicate, Option, Some, None, refl, sym, ap, ◌∙◌, subst, arith}
-use Rattle.std.specs.Prelude.{IfSome, slice_get, slice_set, slice_index_or, sum_by}
+use Rattle.std.specs.Prelude.{IfSome, slice_get, slice_set, slice_index_or}
 use Rattle.std.proofs.lemmas.List.{length-set, get_or-set_same, get_or-map, length-map, map-append, take_all, take_more, replicate_more}
 use Rattle.std.proofs.lemmas.List.Elements.{All-map}
 use Rattle.std.proofs.lemmas.List.Sums.{sum_by-set, get_or-le-sum_by}
@@ -14,7 +14,7 @@ use Rattle.pool_run.specs.Folds.{RunState, TurnsOf, TurnsIf, IsUnderWay, with_tu
 use Rattle.pool_alloc.specs.Sound.{IsCore}
 use Rattle.pool_alloc.specs.Whole.{IsUntouched, IsWhole}
 use Rattle.pool_run.specs.Folds.{Folds, IsMadeParty}
-use Rattle.pool_run.specs.Progress.{begins_by, Advances}
+use Rattle.pool_run.specs.Progress.{begins_by, bound_by, Advances}
 use Rattle.pool_run.specs.RunsMade.{IsBetweenTurns, IsKept, places_in, commands_in, party_made_for, run_made}
 use Rattle.pool_run.specs.declared.input.Party.{Party}
 use Rattle.pool_run.specs.Ties.{CanTurn, IsSoundTurn, held_by_party}
@@ -32,6 +32,7 @@ use Rattle.pool_run.proofs.Folding.{run_turned, folds_more}
 use Rattle.pool_run.proofs.Started.{AreMade, started_running}
 use Rattle.pool_run.proofs.LimitsOfRuns.{made_within, turns_of_within}
 use Rattle.pool_run.proofs.Running.{can_turn}
+use Rattle.pool_run.proofs.Turned.{has_turned}
 use Rattle.pool_run.specs.Private.{no_grants}
 
 one_fits : (w : World) (s : Settings) (number : ℕ) (o : Option ModuleCall) → IfSome o (IsCallFor w s number) → IfSome o (IsFit s)
@@ -96,7 +97,7 @@ module _ {P : Type 0} where
     pub turn : TurnsOf w.maker modules inputs i s new
     pub way : IsUnderWay w modules inputs new
     pub kept : IsKept new
-    pub advances : Advances (length (commands_of inputs i)) i s new
+    pub advances : Advances modules (commands_of inputs i) i s new
 
   pub turn_after : (w : World) (modules : List ModuleCall) (inputs : List (List Command)) (commands : List Command) (i : ℕ) (p : RunningParty P) (s : RunState P) (t : Turned P) → IsUnderWay w modules inputs s → IsKept s → slice_get s.parties i ≡ Some p → commands ≡ commands_of inputs i → Turns modules commands s.core p t → IsSoundTurn w.maker t → IsAfter w modules inputs i s (with_turn i t s)
   turn_after w modules inputs commands i p s t way kept there same turns sound =
@@ -110,18 +111,18 @@ module _ {P : Type 0} where
       let T : List Command → Type 0 = λ cs. Turns modules cs s.core p t in
       let L : List Command → Type 0 = λ cs. length cs ≤ length p.live in
       let count : ℕ = length (commands_of inputs i) in
-      let turned : HasAdvanced (one_if (begins_by count p)) s.core p t =
+      let turned : HasAdvanced (one_if (begins_by count p)) (bound_by modules (commands_of inputs i) s.core p) s.core p t =
       has_advanced w modules (commands_of inputs i) s.core p t way.calls take.can (ready_there s i p kept.queues kept.between there) (subst L same take.places) (subst T same turns) in
       record {
         turn = turn;
         way = on;
-        advances = advances s i count p t there turned;
+        advances = advances modules (commands_of inputs i) s i p t there (has_turned w modules (commands_of inputs i) s.core p t way.calls take.can (subst L same take.places) (subst T same turns)).size turned;
         kept = record {
           whole = on.running.whole;
           within = turns_of_within w modules inputs i s (with_turn i t s) way turn kept.within;
           few = omega (arith, kept.few, sum_by-set places s.parties i t.party p below, (way.each i p below).room, (on.each i p inside).room, live);
           queues = turned.ready.groups.queues;
-          between = still_between s i (one_if (begins_by count p)) p t kept.between turned;
+          between = still_between s i (one_if (begins_by count p)) (bound_by modules (commands_of inputs i) s.core p) p t kept.between turned;
         };
       }
 
@@ -147,11 +148,11 @@ module _ {P : Type 0} where
   -- A run keeps what it promises from its start on.
   pub kept_at_start : (maker : MakerTold) (c : PoolCore P) (parties : List Party) → IsCore maker c → IsUntouched c → places_in (run_made c parties).parties + 1 < 2 ^ 64 → IsKept (run_made c parties)
   kept_at_start maker c parties core untouched few =
-    let whole : IsWhole held_by_party c (run_made c parties).parties = (started_running maker c (commands_in parties) (run_made c parties).parties core untouched (are_made c.settings parties)).whole in
-    record {
-    whole = whole;
-    within = made_within c (run_made c parties).parties untouched whole;
-    few = few;
-    queues = untouched_grouped maker c core untouched;
-    between = All-map IsBetweenTurns (party_made_for c.settings) parties (λ k d below. made_between (slice_index_or parties k d).home (length (slice_index_or parties k d).commands) c.settings);
-  }
+      let whole : IsWhole held_by_party c (run_made c parties).parties = (started_running maker c (commands_in parties) (run_made c parties).parties core untouched (are_made c.settings parties)).whole in
+      record {
+        whole = whole;
+        within = made_within c (run_made c parties).parties untouched whole;
+        few = few;
+        queues = untouched_grouped maker c core untouched;
+        between = All-map IsBetweenTurns (party_made_for c.settings) parties (λ k d below. made_between (slice_index_or parties k d).home (length (slice_index_or parties k d).commands) c.settings);
+      }

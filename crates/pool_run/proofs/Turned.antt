@@ -36,8 +36,6 @@ use Rattle.pool_run.proofs.Shares.{share_for}
 use Rattle.std.proofs.lemmas.List.{length-set, get_or-set_other}
 use Rattle.std.proofs.lemmas.List.Sums.{sum_by-set}
 use Rattle.pool_alloc.specs.Places.{Thing, both_count, leased_count, kept_count}
-use Rattle.pool_alloc.specs.Sound.{AreImagesOf}
-use Rattle.pool_alloc.specs.Steps.{memories_asked, images_asked}
 use Rattle.pool_alloc.specs.Stepping.{Conserves, IsSameSize, grant_count, grant_instances, grant_memories}
 use Rattle.pool_alloc.specs.declared.lease.InstanceLease.{InstanceLease}
 use Rattle.pool_alloc.proofs.Fitting.{step_conserves, step_keeps_size}

@@ -1,6 +1,6 @@
 -- What the steps of a turn leave, as its code makes them.
-use Rattle.std.proofs.Common.{◌≡◌, ℕ, ◌+◌, ◌<◌, ◌≤◌, Bool, true, false, List, [], length, Option, Some, None, refl, sym, ap, ◌∙◌, subst, arith, All}
-use Rattle.std.specs.Prelude.{nat_le, if◌then◌else◌, IfSome, slice_get, slice_set, slice_index_or}
+use Rattle.std.proofs.Common.{◌≡◌, ℕ, ◌+◌, ◌<◌, Bool, true, false, List, length, Option, Some, None, refl, sym, ap, ◌∙◌, subst}
+use Rattle.std.specs.Prelude.{nat_le, if◌then◌else◌, slice_get, slice_set, slice_index_or}
 use Rattle.std.proofs.lemmas.List.{set-get_or}
 use Rattle.pool_pages.specs.MakerTold.{MakerTold}
 use Rattle.pool_pages.specs.declared.module_types.MemoryDecl.{MemoryDecl}
@@ -18,15 +18,13 @@ use Rattle.pool_alloc.specs.declared.frame.Grant.TheVariants.{Instance as instan
 use Rattle.pool_alloc.specs.declared.frame.Outcome.{Outcome}
 use Rattle.pool_alloc.specs.declared.frame.Outcome.TheVariants as answer
 use Rattle.pool_alloc.specs.declared.lease.InstanceLease.{InstanceLease}
-use Rattle.pool_run.specs.AtOnce.{AnswersMemory, AnswersGrant, CanBeUsed, GrantCanBeUsed, live_outcome, grant_outcome, memory_outcome, Makes}
-use Rattle.pool_run.specs.Private.{IsRead}
-use Rattle.pool_run.specs.Ties.{CanTurn, IsSoundTurn, IsSoundParty, stage_of}
-use Rattle.pool_run.specs.Turns.{Turned, lease_written, leases_of, grant_written, private_memory, replies, answered, Steps, Reads, ReadsLease, Writes, WritesLease}
+use Rattle.pool_run.specs.AtOnce.{AnswersMemory, AnswersGrant, CanBeUsed, GrantCanBeUsed, live_outcome, memory_outcome, Makes}
+use Rattle.pool_run.specs.Ties.{CanTurn, IsSoundTurn, stage_of}
+use Rattle.pool_run.specs.Turns.{Turned, lease_written, leases_of, grant_written, replies, answered, Steps, Reads, ReadsLease, Writes, WritesLease}
 use Rattle.pool_run.specs.declared.reply.Reply.{Reply}
 use Rattle.pool_run.specs.declared.reply.Reply.TheVariants.{Done, Refused, Trap}
 use Rattle.pool_run.specs.declared.reply.Refusal.TheVariants.{NoSuchGrant}
 use Rattle.pool_run.specs.declared.running_party.RunningParty.{RunningParty}
-use Rattle.pool_run.proofs.Parties.{can_step}
 use Rattle.pool_run.proofs.Placed.{placed_as, PlacedBy, IsPlaced, placed_at}
 use Rattle.pool_run.proofs.Sounds.{granted_any, step_sound, reply_sound, write_sound}
 

@@ -1,5 +1,5 @@
 -- A turn of a party in a run: the next step of its call, or the first step of its next command.
-use Rattle.std.specs.Prelude.{◌≡◌, ℕ, ◌+◌, List, [], ◌∷◌, ◌++◌, length, map, nat_le, slice_get, slice_index_or, slice_range, slice_set, ◌⊎◌, Bool, true, false, if◌then◌else◌, Option, Some, None, option_map}
+use Rattle.std.specs.Prelude.{◌≡◌, ℕ, ◌+◌, List, [], ◌∷◌, ◌++◌, length, map, nat_le, slice_get, slice_index_or, slice_set, ◌⊎◌, Bool, true, false, if◌then◌else◌, Option, Some, None, option_map}
 use Rattle.std.specs.Arc.{arc_value}
 use Rattle.pool_limits.specs.LimiterTold.{unlimited}
 use Rattle.pool_memory.specs.Memories.{bytes_of, memory_written}
@@ -16,8 +16,6 @@ use Rattle.pool_alloc.specs.declared.frame.Grant.{Grant}
 use Rattle.pool_alloc.specs.declared.frame.Grant.TheVariants.{Instance as instance}
 use Rattle.pool_alloc.specs.declared.frame.Outcome.{Outcome}
 use Rattle.pool_alloc.specs.declared.frame.Outcome.TheVariants as answer
-use Rattle.pool_alloc.specs.declared.frame.Phase.{Phase}
-use Rattle.pool_alloc.specs.declared.frame.Phase.TheVariants.{Idle}
 use Rattle.pool_run.specs.Private.{PrivateMemory, PrivateInstance, Grants, IsRead}
 use Rattle.pool_run.specs.declared.command.Command.{Command}
 use Rattle.pool_run.specs.declared.command.Command.TheVariants.{Instantiate, Read, Write, Drop}

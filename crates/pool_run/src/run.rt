@@ -76,7 +76,7 @@ impl<P: Pages> Run<P> {
         requires named { NameModules (length modules.now) commands.now }
         ensures turn { IfOk result (TurnsOf of.world.maker modules.now of.inputs i self) }
         ensures way { IfOk result (IsUnderWay of.world modules.now of.inputs) }
-        ensures advances { IfOk result (Advances (length commands.now) i self) }
+        ensures advances { IfOk result (Advances modules.now commands.now i self) }
     {
         let Run {
             mut core,

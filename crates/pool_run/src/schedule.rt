@@ -24,7 +24,7 @@ fn turn_party<P: Pages>(
     requires run { IsRunOf of modules.now parties.now run }
     requires inside { i < length parties.now }
     ensures turn { IfOk result (TurnsOf of.world.maker modules.now of.inputs i run) }
-    ensures advances { IfOk result (Advances (length (commands_of of.inputs i)) i run) }
+    ensures advances { IfOk result (Advances modules.now (commands_of of.inputs i) i run) }
     ensures run { IfOk result (IsRunOf of modules.now parties.now) }
 {
     run.turn(alloc, modules, parties[i].commands.as_slice(), i)

@@ -1,4 +1,4 @@
-use Rattle.std.proofs.Common.{rules, ◌≡◌, ℕ, List, replicate, take, ◌∙◌, sym, subst, arith}
+use Rattle.std.proofs.Common.{rules, ℕ, List, replicate, take, subst, arith}
 use Rattle.std.specs.Prelude.{slice_index_or}
 use Rattle.pool_run.specs.Folds.{Folds}
 use Rattle.pool_run.specs.Schedules.{turns_of}

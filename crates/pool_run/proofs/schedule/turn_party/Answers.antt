@@ -22,7 +22,7 @@ pub returns-clause-advances : goal.returns-clause-advances
 returns-clause-advances g c =
     let P : Type 0 = g.row.P.Denot in
     let same : c.as_slice.result.now ≡ commands_of g.of.inputs c.args.i = c.as_slice.ensures ∙ commands_there g.of.inputs c.args.parties.now c.args.i c.index-parties-i.result c.requires.1.0.inputs c.requires.1.1 in
-    let A : List Command → Type 0 = λ commands. IfOk c.turn.result (Advances {P = P} (length commands) c.args.i c.args.run) in
+    let A : List Command → Type 0 = λ commands. IfOk c.turn.result (Advances {P = P} c.args.modules.now commands c.args.i c.args.run) in
     subst A same c.turn.ensures.advances
 
 pub returns-clause-run : goal.returns-clause-run

@@ -1,8 +1,7 @@
-use Rattle.std.proofs.Common.{◌≡◌, ℕ, ◌+◌, List, Some, sym, subst}
-use Rattle.std.specs.Prelude.{slice_index_or}
+use Rattle.std.proofs.Common.{ℕ, List, sym, subst}
 use Rattle.pool_alloc.specs.declared.pool_core.PoolCore.{PoolCore}
 use Rattle.pool_run.specs.AtOnce.{Makes}
-use Rattle.pool_run.specs.Turns.{Turned, Begins}
+use Rattle.pool_run.specs.Turns.{Begins}
 use Rattle.pool_run.specs.declared.command.Command.{Command}
 use Rattle.pool_run.specs.declared.command.Command.TheVariants.{Write}
 use Rattle.pool_run.specs.declared.running_party.RunningParty.{RunningParty}

@@ -1,4 +1,4 @@
-use Rattle.std.proofs.Common.{◌≡◌, List, [], length, map, replicate, sym, subst}
+use Rattle.std.proofs.Common.{List, map, sym, subst}
 use Rattle.pool_alloc.specs.declared.pool_core.PoolCore.{PoolCore}
 use Rattle.pool_run.specs.RunsMade.{IsKept, party_made_for}
 use Rattle.pool_run.specs.declared.reply.Reply.{Reply}

@@ -1,4 +1,4 @@
-use Rattle.std.proofs.Common.{rules, ◌≡◌, ℕ, ◌<◌, List, length, Option, Some, sym, ap, ◌∙◌, subst}
+use Rattle.std.proofs.Common.{rules, ◌≡◌, ◌<◌, List, length, Option, Some, sym, ap, ◌∙◌, subst}
 use Rattle.std.specs.Prelude.{slice_get, slice_set}
 use Rattle.std.proofs.lemmas.List.{get_or_read}
 use Rattle.std.proofs.lemmas.Option.{slice_get-get_or}
@@ -88,5 +88,5 @@ returns-clause-advances g c =
     let t : Turned P = record { core = c.turn_of.new.core; party = c.turn_of.new.party; reply = reply } in
     let after = turn_after w modules g.of.inputs c.args.commands.now c.args.i p s t way c.self.invariant there c.requires.1.1.0 c.in_ok-reply.ensures.turn c.in_ok-reply.ensures.sound in
     let To : List (List Reply) → Type 0 = λ rs. IsAfter w modules g.of.inputs c.args.i s (record { core = t.core; parties = slice_set s.parties c.args.i t.party; replies = rs }) in
-    let A : ℕ → Type 0 = λ n. Advances n c.args.i s (record { core = t.core; parties = slice_set s.parties c.args.i t.party; replies = c.in_ok-replies.replies.items }) in
-    rw (← c.self.view_is) (subst A (sym (ap (length {A = Command}) c.requires.1.1.0)) (subst To (sym c.in_ok-replies.ensures) after).advances)
+    let A : List Command → Type 0 = λ commands. Advances modules commands c.args.i s (record { core = t.core; parties = slice_set s.parties c.args.i t.party; replies = c.in_ok-replies.replies.items }) in
+    rw (← c.self.view_is) (subst A (sym c.requires.1.1.0) (subst To (sym c.in_ok-replies.ensures) after).advances)
