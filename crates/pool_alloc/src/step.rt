@@ -12,23 +12,26 @@ use crate::frame::{Frame, Outcome, Phase};
 use crate::pool_core::PoolCore;
 use pool_limits::{ResourceLimiter, Unlimited};
 use pool_pages::Pages;
+use pool_slots::HeapMaker;
 use std::alloc::Global;
 use std::mem;
 
 impl<P: Pages> PoolCore<P> {
     /// Makes one step of the frame's call, as the step table says. Answers Some exactly where the call ends with it. A
     /// step of a frame without a call changes nothing. Only the making of a memory asks the limiter; without one it is
-    /// granted.
-    pub fn step<R: ResourceLimiter>(
+    /// granted. No step makes a heap yet, so the maker of heaps stays as it is.
+    pub fn step<R: ResourceLimiter, K: HeapMaker>(
         &mut self,
         alloc: Global,
         frame: &mut Frame<P>,
         limiter: Option<&mut R>,
+        heaps: &mut K,
     ) -> Option<Outcome<P>>
         ghost maker: { MakerTold }
         requires can { CanStep maker self.old frame.old }
         requires counts { CanCount self.old }
         ensures row { StepsTo (limiter_told R.told (option_copied_mut limiter.entry)) (limiter_told R.told (option_left limiter.exit)) self.old frame.old (record { core = self.new; frame = frame.new; outcome = result }) }
+        ensures heaps { heaps.new ≡ heaps.old }
         ensures can { CanStep maker self.new frame.new }
         ensures conserves { Conserves self.old frame.old (record { core = self.new; frame = frame.new; outcome = result }) }
         ensures granted { IfGranted (IsGrantOf maker self.old.settings (memories_asked frame.old.asked)) result }

@@ -16,7 +16,7 @@ use crate::running_party::RunningParty;
 use pool_alloc::{Call, Frame, Grant, InstanceLease, ModuleCall, Outcome, Phase, PoolCore};
 use pool_limits::Unlimited;
 use pool_pages::Pages;
-use pool_slots::AllocError as Cause;
+use pool_slots::{AllocError as Cause, NoHeaps};
 use std::alloc::{AllocError, Global};
 use std::mem;
 
@@ -58,7 +58,7 @@ pub(crate) fn is_idle<P: Pages>(frame: &Frame<P>) -> bool
     matches!(&frame.phase, Phase::Idle)
 }
 
-// Makes the next step of the call that is under way. There is no limiter.
+// Makes the next step of the call that is under way. There is no limiter, and no maker of heaps.
 fn step_call<P: Pages>(
     alloc: Global,
     core: &mut PoolCore<P>,
@@ -74,7 +74,8 @@ fn step_call<P: Pages>(
     ensures reserved { IsReserved party.new.frame slots.new }
 {
     let nobody: Option<&mut Unlimited> = None;
-    let outcome = core.step(alloc, &mut party.frame, nobody);
+    let mut heaps = NoHeaps::new();
+    let outcome = core.step(alloc, &mut party.frame, nobody, &mut heaps);
     answer(alloc, party, slots, outcome)
 }
 

@@ -1,5 +1,6 @@
 pub mod CellOf
 pub mod Cells
+pub mod HeapsTold
 pub mod Makings
 pub mod QueueOrders
 pub mod QueueSteps

@@ -7,8 +7,8 @@ use Rattle.pool_run.proofs.Reserving.{room_granted, step_reserved, reserved_ther
 use Rattle.pool_run.proofs.TurnsMade.{place_for, step_made}
 use Rattle.pool_run.proofs.turn.step_call.Goals as goal
 
-pub step-outcome-requires-send-R : goal.step-outcome-requires-send-R
-step-outcome-requires-send-R g c κs within =
+pub step-outcome-requires : goal.step-outcome-requires
+step-outcome-requires g c κs within =
     let can : CanStep g.maker c.args.core.now c.args.party.now.frame = can_step g.maker c.args.core.now c.args.party.now c.requires.1.0 in
     search rules
 

@@ -6,52 +6,52 @@ use Rattle.pool_alloc.proofs.Steps.{can_step_at, can_still, step_grants}
 use Rattle.pool_alloc.proofs.pool_core.PoolCore.step.Goals as goal
 
 pub advance-requires-after_bounds : goal.advance-requires-after_bounds
-advance-requires-after_bounds g c κs within = can_step_at g.maker c.args.self.now c.args.frame.now c.requires.1.1.1.0 c.requires.1.1.1.1
+advance-requires-after_bounds g c κs within = can_step_at g.maker c.args.self.now c.args.frame.now c.requires.1.1.1.1.1.1.0 c.requires.1.1.1.1.1.1.1
 
 pub advance-requires-in-None-after_bounds : goal.advance-requires-in-None-after_bounds
-advance-requires-in-None-after_bounds g c κs within = can_step_at g.maker c.args.self.now c.args.frame.now c.requires.1.1.1.0 c.requires.1.1.1.1
+advance-requires-in-None-after_bounds g c κs within = can_step_at g.maker c.args.self.now c.args.frame.now c.requires.1.1.1.1.1.1.0 c.requires.1.1.1.1.1.1.1
 
 pub returns-in-Some-clause-row : goal.returns-in-Some-clause-row
 returns-in-Some-clause-row g c = rw c.in-Some.is c.advance.ensures
 
 pub returns-in-Some-clause-can : goal.returns-in-Some-clause-can
-returns-in-Some-clause-can g c = can_still g.maker _ _ c.args.self.now c.args.frame.now _ c.requires.1.1.1.0 c.advance.ensures
+returns-in-Some-clause-can g c = can_still g.maker _ _ c.args.self.now c.args.frame.now _ c.requires.1.1.1.1.1.1.0 c.advance.ensures
 
 pub returns-in-Some-clause-conserves : goal.returns-in-Some-clause-conserves
-returns-in-Some-clause-conserves g c = step_conserves g.maker _ _ c.args.self.now c.args.frame.now _ c.requires.1.1.1.0 c.advance.ensures
+returns-in-Some-clause-conserves g c = step_conserves g.maker _ _ c.args.self.now c.args.frame.now _ c.requires.1.1.1.1.1.1.0 c.advance.ensures
 
 pub returns-in-Some-clause-granted : goal.returns-in-Some-clause-granted
-returns-in-Some-clause-granted g c = step_grants g.maker _ _ c.args.self.now c.args.frame.now _ c.requires.1.1.1.0 c.advance.ensures
+returns-in-Some-clause-granted g c = step_grants g.maker _ _ c.args.self.now c.args.frame.now _ c.requires.1.1.1.1.1.1.0 c.advance.ensures
 
 pub returns-in-Some-clause-ended : goal.returns-in-Some-clause-ended
-returns-in-Some-clause-ended g c = step_ends g.maker _ _ c.args.self.now c.args.frame.now _ c.requires.1.1.1.0 c.advance.ensures
+returns-in-Some-clause-ended g c = step_ends g.maker _ _ c.args.self.now c.args.frame.now _ c.requires.1.1.1.1.1.1.0 c.advance.ensures
 
 pub returns-in-Some-clause-size : goal.returns-in-Some-clause-size
-returns-in-Some-clause-size g c = step_keeps_size g.maker _ _ c.args.self.now c.args.frame.now _ c.requires.1.1.1.0 c.advance.ensures
+returns-in-Some-clause-size g c = step_keeps_size g.maker _ _ c.args.self.now c.args.frame.now _ c.requires.1.1.1.1.1.1.0 c.advance.ensures
 
 pub returns-in-None-clause-can : goal.returns-in-None-clause-can
-returns-in-None-clause-can g c = can_still g.maker _ _ c.args.self.now c.args.frame.now _ c.requires.1.1.1.0 c.advance-in-None.ensures
+returns-in-None-clause-can g c = can_still g.maker _ _ c.args.self.now c.args.frame.now _ c.requires.1.1.1.1.1.1.0 c.advance-in-None.ensures
 
 pub returns-in-None-clause-conserves : goal.returns-in-None-clause-conserves
-returns-in-None-clause-conserves g c = step_conserves g.maker _ _ c.args.self.now c.args.frame.now _ c.requires.1.1.1.0 c.advance-in-None.ensures
+returns-in-None-clause-conserves g c = step_conserves g.maker _ _ c.args.self.now c.args.frame.now _ c.requires.1.1.1.1.1.1.0 c.advance-in-None.ensures
 
 pub returns-in-None-clause-granted : goal.returns-in-None-clause-granted
-returns-in-None-clause-granted g c = step_grants g.maker _ _ c.args.self.now c.args.frame.now _ c.requires.1.1.1.0 c.advance-in-None.ensures
+returns-in-None-clause-granted g c = step_grants g.maker _ _ c.args.self.now c.args.frame.now _ c.requires.1.1.1.1.1.1.0 c.advance-in-None.ensures
 
 pub returns-in-None-clause-ended : goal.returns-in-None-clause-ended
-returns-in-None-clause-ended g c = step_ends g.maker _ _ c.args.self.now c.args.frame.now _ c.requires.1.1.1.0 c.advance-in-None.ensures
+returns-in-None-clause-ended g c = step_ends g.maker _ _ c.args.self.now c.args.frame.now _ c.requires.1.1.1.1.1.1.0 c.advance-in-None.ensures
 
 pub returns-in-None-clause-size : goal.returns-in-None-clause-size
-returns-in-None-clause-size g c = step_keeps_size g.maker _ _ c.args.self.now c.args.frame.now _ c.requires.1.1.1.0 c.advance-in-None.ensures
+returns-in-None-clause-size g c = step_keeps_size g.maker _ _ c.args.self.now c.args.frame.now _ c.requires.1.1.1.1.1.1.0 c.advance-in-None.ensures
 
 pub returns-in-Some-clause-groups : goal.returns-in-Some-clause-groups
-returns-in-Some-clause-groups g c = λ has. step_grouped g.maker _ _ c.args.self.now c.args.frame.now _ c.requires.1.1.1.0 c.advance.ensures has
+returns-in-Some-clause-groups g c = λ has. step_grouped g.maker _ _ c.args.self.now c.args.frame.now _ c.requires.1.1.1.1.1.1.0 c.advance.ensures has
 
 pub returns-in-Some-clause-fewer : goal.returns-in-Some-clause-fewer
-returns-in-Some-clause-fewer g c = λ has on. step_fewer g.maker _ _ c.args.self.now c.args.frame.now _ c.requires.1.1.1.0 c.advance.ensures has on
+returns-in-Some-clause-fewer g c = λ has on. step_fewer g.maker _ _ c.args.self.now c.args.frame.now _ c.requires.1.1.1.1.1.1.0 c.advance.ensures has on
 
 pub returns-in-None-clause-groups : goal.returns-in-None-clause-groups
-returns-in-None-clause-groups g c = λ has. step_grouped g.maker _ _ c.args.self.now c.args.frame.now _ c.requires.1.1.1.0 c.advance-in-None.ensures has
+returns-in-None-clause-groups g c = λ has. step_grouped g.maker _ _ c.args.self.now c.args.frame.now _ c.requires.1.1.1.1.1.1.0 c.advance-in-None.ensures has
 
 pub returns-in-None-clause-fewer : goal.returns-in-None-clause-fewer
-returns-in-None-clause-fewer g c = λ has on. step_fewer g.maker _ _ c.args.self.now c.args.frame.now _ c.requires.1.1.1.0 c.advance-in-None.ensures has on
+returns-in-None-clause-fewer g c = λ has on. step_fewer g.maker _ _ c.args.self.now c.args.frame.now _ c.requires.1.1.1.1.1.1.0 c.advance-in-None.ensures has on
