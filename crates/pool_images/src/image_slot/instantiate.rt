@@ -131,7 +131,7 @@ impl<P: Pages> MemoryImageSlot<P> {
         self.remove_image()?;
         self.resize(size, hides)?;
         self.map(image)?;
-        self.begin(image);
+        self.mark();
         Ok(())
     }
 
@@ -184,6 +184,12 @@ impl<P: Pages> MemoryImageSlot<P> {
         ensures begun { IsBegun (option_map (λ i. i.now) _image.entry) self.new }
     {
         self.fits();
+        self.mark();
+    }
+
+    fn mark(&mut self)
+        ensures { self.new ≡ record self.old { dirty = true } }
+    {
         self.dirty = true;
     }
 }
