@@ -1,16 +1,18 @@
-ghost use Rattle.std.specs.Prelude.{◌≡◌, ◌+◌, ◌-◌, [], ◌∷◌, replicate, true, false, Some, IfOk, IfSome, OnOk};
+ghost use Rattle.std.specs.Prelude.{◌≡◌, ◌+◌, ◌-◌, ◌<◌, ◌≤◌, [], ◌∷◌, length, replicate, true, false, Some, IfOk, IfSome, OnOk};
+ghost use Rattle.std.specs.Arc.{arc_value};
 ghost use Rattle.pool_pages.specs.Told.{decommitting};
-ghost use Rattle.pool_images.specs.Slots.{IsReady, IsClean, called, cleared};
+ghost use Rattle.pool_images.specs.Slots.{IsReady, IsClean, FitsInto, called, cleared, emptied};
 
 use crate::image_slot::MemoryImageSlot;
-use crate::memory_image::{ImageError, ModuleMemoryImages};
+use crate::memory_image::{ImageError, MemoryImage, ModuleMemoryImages};
 use crate::ranges::Ranges;
 use pool_pages::{
-    CompiledModuleId, DefinedMemoryIndex, HostAlignedByteCount, ImageDecl, IndexType, Limits,
-    MemoryDecl, MemoryKind, MemoryPages, MemoryTunables, MemoryType, ModuleInfo, PageMaker,
-    PageSize, Pages, PlainList, RegionName, Tunables, Unsupported,
+    CompiledModuleId, DecommitBehavior, DefinedMemoryIndex, HostAlignedByteCount, ImageDecl,
+    IndexType, Limits, MadeRegion, MemoryDecl, MemoryKind, MemoryPages, MemoryTunables, MemoryType,
+    ModuleInfo, PageMaker, PageSize, Pages, PlainList, RegionName, Tunables, Unsupported,
 };
 use std::alloc::Global;
+use std::sync::Arc;
 use std::test::Fail;
 
 fn memory_type() -> MemoryType
@@ -35,8 +37,80 @@ fn module(alloc: Global, ty: MemoryType, offset: u64) -> Result<ModuleInfo, Fail
     Ok(ModuleInfo { memories })
 }
 
-// Resets the slot and decommits what that leaves, which must be some. Answers what was set by hand.
+// The images of such a module.
+fn images(
+    alloc: Global,
+    maker: &mut MemoryPages,
+    page: PageSize,
+    offset: u64,
+) -> Result<ModuleMemoryImages, Fail>
+    ensures { IfOk result (λ images. 0 < length images) }
+{
+    let module = module(alloc, memory_type(), offset)?;
+    match ModuleMemoryImages::new(alloc, maker, page, CompiledModuleId(offset), &module)? {
+        Some(images) => Ok(images),
+        None => Err(Fail::new("the image ends past the memory")),
+    }
+}
+
+// The first image, which must be one page and end within 48 bytes.
+fn first(images: &ModuleMemoryImages, page: PageSize) -> Result<&Arc<MemoryImage>, Fail>
+    requires { 0 < length images.now }
+    ensures { IfOk result (λ image. FitsInto page 48 (arc_value image.now)) }
+{
+    let Some(image) = images.get_memory_image(DefinedMemoryIndex(0)) else {
+        return Err(Fail::new("the memory has no image"));
+    };
+    let data = image.data();
+    if data.page() != page || data.as_slice().len() != 16 || image.offset() > 32 {
+        return Err(Fail::new("the image is no page of 16 bytes"));
+    }
+    Ok(image)
+}
+
+// A slot of 64 bytes over a region of this behaviour, whose pages are of 16 bytes.
+fn slot_of(alloc: Global, behaviour: DecommitBehavior) -> Result<MemoryImageSlot<MadeRegion>, Fail>
+    ensures clean { IfOk result (λ s. IsClean s) }
+    ensures size { IfOk result (λ s. s.static_size ≡ 64) }
+    ensures page { IfOk result (λ s. s.region.page ≡ 16) }
+    ensures behaviour { IfOk result (λ s. s.region.behaviour ≡ behaviour) }
+{
+    let page = PageSize::new(16)?;
+    let mut maker = MemoryPages::new(page);
+    let len = HostAlignedByteCount::new(page, 64)?;
+    let region = maker.make(alloc, RegionName::Memory(0), behaviour, page.zero(), len)?;
+    Ok(MemoryImageSlot::create(region, page.zero(), page.zero(), 64, None))
+}
+
+// A memory of 48 bytes begins in the slot with this image. Answers 20 bytes of it, from place 14 on.
+fn begin<P: Pages>(
+    slot: &mut MemoryImageSlot<P>,
+    image: &Arc<MemoryImage>,
+) -> Result<[u8; 20], Fail>
+    requires clean { IsClean slot.old }
+    requires fits { FitsInto slot.old.region.page 48 (arc_value image.now) }
+    requires size { slot.old.static_size ≡ 64 }
+    ensures dirty { OnOk result (slot.new.dirty ≡ true) }
+    ensures ready { OnOk result (IfSome slot.new.region.contents (IsReady slot.new)) }
+    ensures accessible { OnOk result (48 ≤ slot.new.accessible.bytes) }
+    ensures size { OnOk result (slot.new.static_size ≡ 64) }
+    ensures page { OnOk result (slot.new.region.page ≡ slot.old.region.page) }
+    ensures behaviour { OnOk result (slot.new.region.behaviour ≡ slot.old.region.behaviour) }
+{
+    let tunables = MemoryTunables::new(&Tunables::default(), MemoryKind::LinearMemory);
+    slot.instantiate(48, Some(image), &memory_type(), &tunables)?;
+    if slot.accessible().byte_count() < 48 {
+        return Err(Fail::new("fewer bytes are accessible"));
+    }
+    let mut bytes = [9; 20];
+    slot.read(14, &mut bytes);
+    Ok(bytes)
+}
+
+// Resets a slot whose pages go back to its image, and decommits what that leaves, which must be some. Answers what was
+// set by hand.
 fn reset<P: Pages>(slot: &mut MemoryImageSlot<P>, keep: HostAlignedByteCount) -> Result<usize, Fail>
+    requires restores { slot.old.region.behaviour ≡ DecommitBehavior.RestoreOriginalMapping }
     requires dirty { slot.old.dirty ≡ true }
     requires ready { IfSome slot.old.region.contents (IsReady slot.old) }
     requires page { keep.page ≡ slot.old.region.page }
@@ -57,53 +131,68 @@ fn reset<P: Pages>(slot: &mut MemoryImageSlot<P>, keep: HostAlignedByteCount) ->
     Ok(kept)
 }
 
+// Resets a slot whose pages go back to zeros, after which nothing is left to be done.
+fn reset_whole<P: Pages>(
+    slot: &mut MemoryImageSlot<P>,
+    keep: HostAlignedByteCount,
+) -> Result<usize, Fail>
+    requires zeros { slot.old.region.behaviour ≡ DecommitBehavior.Zero }
+    requires dirty { slot.old.dirty ≡ true }
+    requires ready { IfSome slot.old.region.contents (IsReady slot.old) }
+    requires page { keep.page ≡ slot.old.region.page }
+    ensures kept { IfOk result (λ n. n ≡ 0) }
+    ensures clean { OnOk result (IsClean slot.new) }
+    ensures value { OnOk result (slot.new ≡ emptied slot.old) }
+{
+    let mut ranges = Ranges::new();
+    let kept = slot.clear_and_remain_ready(keep, &mut ranges)?;
+    Ok(kept)
+}
+
 #[test]
 fn a_reset_slot_reads_its_image_again(rt: HostRuntime) -> Result<(), Fail> {
-    let alloc = rt.alloc();
     let page = PageSize::new(16)?;
     let mut maker = MemoryPages::new(page);
-    let ty = memory_type();
-    let module = module(alloc, ty, 16)?;
-    let id = CompiledModuleId(1);
-    let Some(images) = ModuleMemoryImages::new(alloc, &mut maker, page, id, &module)? else {
-        return Err(Fail::new("the image ends past the memory"));
-    };
-    let Some(image) = images.get_memory_image(DefinedMemoryIndex(0)) else {
-        return Err(Fail::new("the memory has no image"));
-    };
-    let data = image.data();
-    if data.page().get() != 16 || image.offset() != 16 || data.as_slice().len() != 16 {
-        return Err(Fail::new("the image is no page of 16 bytes"));
-    }
-    let tunables = MemoryTunables::new(&Tunables::default(), MemoryKind::LinearMemory);
-
-    let len = HostAlignedByteCount::new(page, 64)?;
-    let region = maker.make(alloc, RegionName::Memory(0), page.zero(), len)?;
-    let mut slot = MemoryImageSlot::create(region, page.zero(), page.zero(), 64, None);
-    slot.instantiate(48, Some(image), &ty, &tunables)?;
-    let mut bytes = [9; 20];
-    slot.read(14, &mut bytes);
-    assert_eq!(rt;
-        bytes,
-        [0, 0, 7, 7, 7, 7, 7, 0, 0, 0, 0, 0, 0, 0, 0, 0, 0, 0, 0, 0]
-    );
+    let images = images(rt.alloc(), &mut maker, page, 16)?;
+    let image = first(&images, page)?;
+    let restoring = DecommitBehavior::RestoreOriginalMapping;
+    let mut slot = slot_of(rt.alloc(), restoring)?;
+    let begun = [0, 0, 7, 7, 7, 7, 7, 0, 0, 0, 0, 0, 0, 0, 0, 0, 0, 0, 0, 0];
+    assert_eq!(rt; begin(&mut slot, image)?, begun);
     slot.write(14, &[1; 32]);
     let kept = HostAlignedByteCount::new(page, 32)?;
     assert_eq!(rt; reset(&mut slot, kept)?, 32);
 
     let calls = slot.region().calls();
-    slot.instantiate(48, Some(image), &ty, &tunables)?;
+    assert_eq!(rt; begin(&mut slot, image)?, begun);
     assert_eq!(rt; slot.region().calls(), calls);
-    slot.read(14, &mut bytes);
-    assert_eq!(rt;
-        bytes,
-        [0, 0, 7, 7, 7, 7, 7, 0, 0, 0, 0, 0, 0, 0, 0, 0, 0, 0, 0, 0]
-    );
     assert_eq!(rt; reset(&mut slot, page.zero())?, 0);
 
     slot.remove_image()?;
+    let mut bytes = [9; 20];
     slot.read(14, &mut bytes);
     assert_eq!(rt; bytes, [0; 20]);
+    Ok(())
+}
+
+#[test]
+fn a_slot_of_zeros_is_reset_whole(rt: HostRuntime) -> Result<(), Fail> {
+    let page = PageSize::new(16)?;
+    let mut maker = MemoryPages::new(page);
+    let old = images(rt.alloc(), &mut maker, page, 16)?;
+    let new = images(rt.alloc(), &mut maker, page, 32)?;
+    let mut slot = slot_of(rt.alloc(), DecommitBehavior::Zero)?;
+    let begun = [0, 0, 7, 7, 7, 7, 7, 0, 0, 0, 0, 0, 0, 0, 0, 0, 0, 0, 0, 0];
+    assert_eq!(rt; begin(&mut slot, first(&old, page)?)?, begun);
+    slot.write(14, &[1; 8]);
+    let kept = HostAlignedByteCount::new(page, 32)?;
+    assert_eq!(rt; reset_whole(&mut slot, kept)?, 0);
+    assert!(rt; !slot.has_image() && !slot.is_dirty());
+    assert_eq!(rt; slot.region().calls().erase, 1);
+
+    let begun = [0, 0, 0, 0, 0, 0, 0, 0, 0, 0, 0, 0, 0, 0, 0, 0, 0, 0, 7, 7];
+    assert_eq!(rt; begin(&mut slot, first(&new, page)?)?, begun);
+    assert_eq!(rt; slot.region().calls().map_image, 2);
     Ok(())
 }
 

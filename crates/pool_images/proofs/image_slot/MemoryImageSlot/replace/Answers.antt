@@ -12,7 +12,7 @@ returns-in_err-map-clause-order g c =
     let value : Bor Image → Image = λ i. i.now in
     let F : Bool → Type 0 = λ ok. Follows (replacing c.args.size.bytes c.args.hides (option_map value c.args.image) c.args.self.now) ok c.args.self.now.region c.map.new.self.region in
     subst F (sym (not_ok c.from_residual-in_err-map.result c.from_residual-in_err-map.ensures.0))
-      (replaced_in_order c.args.size.bytes c.args.hides (option_map value c.args.image) false c.args.self.now c.remove_image.new.self c.resize.new.self c.map.new.self.region c.in_ok-remove_image.ensures.ok c.in_ok-resize.ensures.ok c.in_ok-remove_image.ensures.order c.in_ok-resize.ensures.order c.in_err-map.ensures.order)
+    (replaced_in_order c.args.size.bytes c.args.hides (option_map value c.args.image) false c.args.self.now c.remove_image.new.self c.resize.new.self c.map.new.self.region c.in_ok-remove_image.ensures.ok c.in_ok-resize.ensures.ok c.in_ok-remove_image.ensures.order c.in_ok-resize.ensures.order c.in_err-map.ensures.order)
 
 pub returns-clause-order : goal.returns-clause-order
 returns-clause-order g c =
@@ -20,4 +20,4 @@ returns-clause-order g c =
     let value : Bor Image → Image = λ i. i.now in
     let F : Told → Type 0 = λ t. Follows (replacing c.args.size.bytes c.args.hides (option_map value c.args.image) s) true s.region t in
     subst F (sym (ap (λ (t : Slot). t.region) c.mark.ensures))
-      (replaced_in_order c.args.size.bytes c.args.hides (option_map value c.args.image) true s c.remove_image.new.self c.resize.new.self c.map.new.self.region c.in_ok-remove_image.ensures.ok c.in_ok-resize.ensures.ok c.in_ok-remove_image.ensures.order c.in_ok-resize.ensures.order c.in_ok-map.ensures.order)
+    (replaced_in_order c.args.size.bytes c.args.hides (option_map value c.args.image) true s c.remove_image.new.self c.resize.new.self c.map.new.self.region c.in_ok-remove_image.ensures.ok c.in_ok-resize.ensures.ok c.in_ok-remove_image.ensures.order c.in_ok-resize.ensures.order c.in_ok-map.ensures.order)
