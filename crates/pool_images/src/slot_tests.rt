@@ -38,16 +38,12 @@ fn module(alloc: Global, ty: MemoryType, offset: u64) -> Result<ModuleInfo, Fail
 }
 
 // The images of such a module.
-fn images(
-    alloc: Global,
-    maker: &mut MemoryPages,
-    page: PageSize,
-    offset: u64,
-) -> Result<ModuleMemoryImages, Fail>
+fn images(alloc: Global, page: PageSize, offset: u64) -> Result<ModuleMemoryImages, Fail>
     ensures { IfOk result (λ images. 0 < length images) }
 {
     let module = module(alloc, memory_type(), offset)?;
-    match ModuleMemoryImages::new(alloc, maker, page, CompiledModuleId(offset), &module)? {
+    let mut maker = MemoryPages::new(page);
+    match ModuleMemoryImages::new(alloc, &mut maker, page, CompiledModuleId(offset), &module)? {
         Some(images) => Ok(images),
         None => Err(Fail::new("the image ends past the memory")),
     }
@@ -72,7 +68,6 @@ fn first(images: &ModuleMemoryImages, page: PageSize) -> Result<&Arc<MemoryImage
 fn slot_of(alloc: Global, behaviour: DecommitBehavior) -> Result<MemoryImageSlot<MadeRegion>, Fail>
     ensures clean { IfOk result (λ s. IsClean s) }
     ensures size { IfOk result (λ s. s.static_size ≡ 64) }
-    ensures page { IfOk result (λ s. s.region.page ≡ 16) }
     ensures behaviour { IfOk result (λ s. s.region.behaviour ≡ behaviour) }
 {
     let page = PageSize::new(16)?;
@@ -82,21 +77,24 @@ fn slot_of(alloc: Global, behaviour: DecommitBehavior) -> Result<MemoryImageSlot
     Ok(MemoryImageSlot::create(region, page.zero(), page.zero(), 64, None))
 }
 
-// A memory of 48 bytes begins in the slot with this image. Answers 20 bytes of it, from place 14 on.
+// A memory of 48 bytes begins in the slot, with an image of five sevens at this offset. Answers 20 bytes of it, from
+// place 14 on.
 fn begin<P: Pages>(
+    alloc: Global,
     slot: &mut MemoryImageSlot<P>,
-    image: &Arc<MemoryImage>,
+    offset: u64,
 ) -> Result<[u8; 20], Fail>
     requires clean { IsClean slot.old }
-    requires fits { FitsInto slot.old.region.page 48 (arc_value image.now) }
     requires size { slot.old.static_size ≡ 64 }
     ensures dirty { OnOk result (slot.new.dirty ≡ true) }
     ensures ready { OnOk result (IfSome slot.new.region.contents (IsReady slot.new)) }
     ensures accessible { OnOk result (48 ≤ slot.new.accessible.bytes) }
     ensures size { OnOk result (slot.new.static_size ≡ 64) }
-    ensures page { OnOk result (slot.new.region.page ≡ slot.old.region.page) }
     ensures behaviour { OnOk result (slot.new.region.behaviour ≡ slot.old.region.behaviour) }
 {
+    let page = slot.region().page();
+    let images = images(alloc, page, offset)?;
+    let image = first(&images, page)?;
     let tunables = MemoryTunables::new(&Tunables::default(), MemoryKind::LinearMemory);
     slot.instantiate(48, Some(image), &memory_type(), &tunables)?;
     if slot.accessible().byte_count() < 48 {
@@ -109,22 +107,22 @@ fn begin<P: Pages>(
 
 // Resets a slot whose pages go back to its image, and decommits what that leaves, which must be some. Answers what was
 // set by hand.
-fn reset<P: Pages>(slot: &mut MemoryImageSlot<P>, keep: HostAlignedByteCount) -> Result<usize, Fail>
+fn reset<P: Pages>(slot: &mut MemoryImageSlot<P>, keep: usize) -> Result<usize, Fail>
     requires restores { slot.old.region.behaviour ≡ DecommitBehavior.RestoreOriginalMapping }
     requires dirty { slot.old.dirty ≡ true }
     requires ready { IfSome slot.old.region.contents (IsReady slot.old) }
-    requires page { keep.page ≡ slot.old.region.page }
-    ensures kept { IfOk result (λ n. n ≡ keep.bytes) }
+    ensures kept { IfOk result (λ n. n ≡ keep) }
     ensures clean { OnOk result (IsClean slot.new) }
-    ensures value { OnOk result (slot.new ≡ called (decommitting (slot.old.base.bytes + keep.bytes) (slot.old.accessible.bytes - keep.bytes)) (cleared keep.bytes slot.old)) }
+    ensures value { OnOk result (slot.new ≡ called (decommitting (slot.old.base.bytes + keep) (slot.old.accessible.bytes - keep)) (cleared keep slot.old)) }
 {
+    let page = slot.region().page();
+    let keep = HostAlignedByteCount::new(page, keep)?;
     if slot.accessible().byte_count() <= keep.byte_count() {
         return Err(Fail::new("all is kept"));
     }
     let mut ranges = Ranges::new();
     let kept = slot.clear_and_remain_ready(keep, &mut ranges)?;
     let range = ranges.as_slice()[0];
-    let page = slot.region().page();
     let start = HostAlignedByteCount::new(page, range.start)?;
     let len = HostAlignedByteCount::new(page, range.len)?;
     slot.decommit(start, len)?;
@@ -132,18 +130,15 @@ fn reset<P: Pages>(slot: &mut MemoryImageSlot<P>, keep: HostAlignedByteCount) ->
 }
 
 // Resets a slot whose pages go back to zeros, after which nothing is left to be done.
-fn reset_whole<P: Pages>(
-    slot: &mut MemoryImageSlot<P>,
-    keep: HostAlignedByteCount,
-) -> Result<usize, Fail>
+fn reset_whole<P: Pages>(slot: &mut MemoryImageSlot<P>, keep: usize) -> Result<usize, Fail>
     requires zeros { slot.old.region.behaviour ≡ DecommitBehavior.Zero }
     requires dirty { slot.old.dirty ≡ true }
     requires ready { IfSome slot.old.region.contents (IsReady slot.old) }
-    requires page { keep.page ≡ slot.old.region.page }
     ensures kept { IfOk result (λ n. n ≡ 0) }
     ensures clean { OnOk result (IsClean slot.new) }
     ensures value { OnOk result (slot.new ≡ emptied slot.old) }
 {
+    let keep = HostAlignedByteCount::new(slot.region().page(), keep)?;
     let mut ranges = Ranges::new();
     let kept = slot.clear_and_remain_ready(keep, &mut ranges)?;
     Ok(kept)
@@ -151,22 +146,17 @@ fn reset_whole<P: Pages>(
 
 #[test]
 fn a_reset_slot_reads_its_image_again(rt: HostRuntime) -> Result<(), Fail> {
-    let page = PageSize::new(16)?;
-    let mut maker = MemoryPages::new(page);
-    let images = images(rt.alloc(), &mut maker, page, 16)?;
-    let image = first(&images, page)?;
-    let restoring = DecommitBehavior::RestoreOriginalMapping;
-    let mut slot = slot_of(rt.alloc(), restoring)?;
+    let alloc = rt.alloc();
+    let mut slot = slot_of(alloc, DecommitBehavior::RestoreOriginalMapping)?;
     let begun = [0, 0, 7, 7, 7, 7, 7, 0, 0, 0, 0, 0, 0, 0, 0, 0, 0, 0, 0, 0];
-    assert_eq!(rt; begin(&mut slot, image)?, begun);
+    assert_eq!(rt; begin(alloc, &mut slot, 16)?, begun);
     slot.write(14, &[1; 32]);
-    let kept = HostAlignedByteCount::new(page, 32)?;
-    assert_eq!(rt; reset(&mut slot, kept)?, 32);
+    assert_eq!(rt; reset(&mut slot, 32)?, 32);
 
     let calls = slot.region().calls();
-    assert_eq!(rt; begin(&mut slot, image)?, begun);
+    assert_eq!(rt; begin(alloc, &mut slot, 16)?, begun);
     assert_eq!(rt; slot.region().calls(), calls);
-    assert_eq!(rt; reset(&mut slot, page.zero())?, 0);
+    assert_eq!(rt; reset(&mut slot, 0)?, 0);
 
     slot.remove_image()?;
     let mut bytes = [9; 20];
@@ -177,21 +167,17 @@ fn a_reset_slot_reads_its_image_again(rt: HostRuntime) -> Result<(), Fail> {
 
 #[test]
 fn a_slot_of_zeros_is_reset_whole(rt: HostRuntime) -> Result<(), Fail> {
-    let page = PageSize::new(16)?;
-    let mut maker = MemoryPages::new(page);
-    let old = images(rt.alloc(), &mut maker, page, 16)?;
-    let new = images(rt.alloc(), &mut maker, page, 32)?;
-    let mut slot = slot_of(rt.alloc(), DecommitBehavior::Zero)?;
+    let alloc = rt.alloc();
+    let mut slot = slot_of(alloc, DecommitBehavior::Zero)?;
     let begun = [0, 0, 7, 7, 7, 7, 7, 0, 0, 0, 0, 0, 0, 0, 0, 0, 0, 0, 0, 0];
-    assert_eq!(rt; begin(&mut slot, first(&old, page)?)?, begun);
+    assert_eq!(rt; begin(alloc, &mut slot, 16)?, begun);
     slot.write(14, &[1; 8]);
-    let kept = HostAlignedByteCount::new(page, 32)?;
-    assert_eq!(rt; reset_whole(&mut slot, kept)?, 0);
+    assert_eq!(rt; reset_whole(&mut slot, 32)?, 0);
     assert!(rt; !slot.has_image() && !slot.is_dirty());
     assert_eq!(rt; slot.region().calls().erase, 1);
 
     let begun = [0, 0, 0, 0, 0, 0, 0, 0, 0, 0, 0, 0, 0, 0, 0, 0, 0, 0, 7, 7];
-    assert_eq!(rt; begin(&mut slot, first(&new, page)?)?, begun);
+    assert_eq!(rt; begin(alloc, &mut slot, 32)?, begun);
     assert_eq!(rt; slot.region().calls().map_image, 2);
     Ok(())
 }
