@@ -1,12 +1,12 @@
 -- What stays of a slot where pages of it are exposed, or where that fails half-way.
-use Rattle.std.proofs.Common.{◌≡◌, ℕ, ◌+◌, ◌-◌, ◌*◌, ◌/◌, ◌%◌, ◌<◌, ◌≤◌, true, false, List, length, refl, sym, ap, ◌∙◌, subst, arith, slice_range, Option, Some, None, Result, Ok, Err}
-use Rattle.std.specs.Prelude.{IfSome, OnOk, OnErr, option_map, slice_index_or}
+use Rattle.std.proofs.Common.{◌≡◌, ℕ, ◌+◌, ◌-◌, ◌*◌, ◌/◌, ◌%◌, ◌<◌, ◌≤◌, true, false, List, length, refl, sym, ap, ◌∙◌, subst, arith, slice_range, Option, Some, None}
+use Rattle.std.specs.Prelude.{IfSome, option_map, slice_index_or}
 use Rattle.pool_pages.specs.Count.{Count, count}
-use Rattle.pool_pages.specs.Contents.{Contents, IsShaped, CanReach, page_at, page_bytes, page_origin, exposed}
-use Rattle.pool_pages.specs.Told.{Told, IsPartly, MayChangePartly, Faulted, TellsShaped, counted, exposing}
+use Rattle.pool_pages.specs.Contents.{Contents, IsShaped, CanReach, page_bytes, page_origin, exposed}
+use Rattle.pool_pages.specs.Told.{Told, IsPartly, MayChangePartly, counted, exposing}
 use Rattle.pool_pages.proofs.Multiples.{sub_whole}
 use Rattle.pool_pages.proofs.Puts.{range_within, same_by_pages}
-use Rattle.pool_images.specs.Slots.{Slot, Fits, IsSound, IsReady, IsClean, IsKept, CallFaulted, Holds, origin_image, placed, size_of, called, raising, raised}
+use Rattle.pool_images.specs.Slots.{Slot, Fits, IsSound, IsReady, IsKept, CallFaulted, Holds, origin_image, placed, size_of, called, raising, raised}
 use Rattle.pool_images.proofs.Decommits.{by_page}
 use Rattle.pool_images.proofs.Marks.{marked_stays, reach_exposed}
 use Rattle.pool_images.proofs.Ready.{lifted, followed, paired, page_some, page_inside, clean_exposed}

@@ -3,12 +3,11 @@ use Rattle.std.proofs.Common.{◌≡◌, ℕ, ◌+◌, ◌-◌, ◌/◌, ◌%◌
 use Rattle.std.specs.Prelude.{IfSome, option_map}
 use Rattle.std.proofs.lemmas.List.{length-replicate}
 use Rattle.pool_pages.specs.Count.{Count, count}
-use Rattle.pool_pages.specs.Contents.{Contents, CanReach, put, put_all, exposed, hidden, image_mapped, remapped}
-use Rattle.pool_pages.specs.Told.{exposing, hiding, mapping, remapping}
+use Rattle.pool_pages.specs.Contents.{Contents, CanReach, put, put_all, exposed, hidden, remapped}
+use Rattle.pool_pages.specs.Told.{exposing, hiding, remapping}
 use Rattle.std.proofs.Math.Nat.{div-mul-le_self, le-div_iff_mul-le}
 use Rattle.pool_pages.proofs.Multiples.{sub_whole}
-use Rattle.pool_pages.proofs.Puts.{length-put, length-range, range-put, range-put_both, range_within}
-use Rattle.pool_pages.specs.declared.pages.DecommitBehavior.{DecommitBehavior}
+use Rattle.pool_pages.proofs.Puts.{length-put, length-range, range-put_both, range_within}
 use Rattle.pool_images.specs.Images.{Image, start}
 use Rattle.pool_images.specs.declared.image_slot.ImageName.{ImageName}
 use Rattle.pool_images.specs.Slots.{Slot, Fits, IsSound, IsPlaced, IsReady, IsClean, Holds, HasImage, size_of, name_of, image_bytes, origin_image, placed, called, without}

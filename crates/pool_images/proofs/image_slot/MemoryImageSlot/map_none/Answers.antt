@@ -1,4 +1,3 @@
-use Rattle.std.proofs.Common.{None}
 use Rattle.pool_images.proofs.Begun.{begun_none}
 use Rattle.pool_images.proofs.image_slot.MemoryImageSlot.map_none.Goals as goal
 
