@@ -257,9 +257,9 @@ reset_ranges kept accessible = if nat_lt kept accessible then record { start = k
 
 -- What a reset makes of a slot depends on the region's behaviour: where pages go back to zeros, the slot is emptied
 -- whatever is to be kept. How many bytes stay resident:
-abbrev pub resident_bytes : DecommitBehavior → ℕ → ℕ → ℕ
-resident_bytes RestoreOriginalMapping keep accessible = min keep accessible
-resident_bytes Zero keep accessible = 0
+abbrev pub kept_bytes : DecommitBehavior → ℕ → ℕ → ℕ
+kept_bytes RestoreOriginalMapping keep accessible = min keep accessible
+kept_bytes Zero keep accessible = 0
 
 -- the ranges that are left to be decommitted
 abbrev pub left_ranges : DecommitBehavior → ℕ → ℕ → List ByteRange

@@ -13,8 +13,9 @@ use std::sync::Arc;
 impl<P: Pages> MemoryImageSlot<P> {
     /// Makes a clean slot what a memory of this type begins in: `initial` bytes of it accessible, the image mapped. It
     /// is in use then. An image that is mapped already isn't mapped again: it is told by its name, offset and length,
-    /// and by its bytes, which are read from the slot. What is accessible above `initial` is hidden only where the
-    /// memory's bounds may rest on it.
+    /// and by its bytes, which are read from the slot. Where pages go back to zeros no clean slot has an image, so that
+    /// it is mapped each time. What is accessible above `initial` is hidden only where the memory's bounds may rest on
+    /// it.
     pub fn instantiate(
         &mut self,
         initial: usize,

@@ -2,7 +2,7 @@ ghost use Rattle.std.specs.Prelude.{◌≡◌, ◌+◌, ◌≤◌, [], min, fals
 ghost use Rattle.pool_pages.specs.Contents.{CanReach};
 ghost use Rattle.pool_pages.specs.Told.{TellsShaped, restored};
 ghost use Rattle.pool_images.specs.Orders.{Follows, emptying, resetting, set_by_hand};
-ghost use Rattle.pool_images.specs.Slots.{size_of, Fits, IsReady, IsClean, IsLeft, IsShut, IsPart, emptied, cleared, reset_ranges, resident_bytes, left_ranges, reset_slot, decommitted_all};
+ghost use Rattle.pool_images.specs.Slots.{size_of, Fits, IsReady, IsClean, IsLeft, IsShut, IsPart, emptied, cleared, reset_ranges, kept_bytes, left_ranges, reset_slot, decommitted_all};
 
 use crate::image_slot::MemoryImageSlot;
 use crate::ranges::{ByteRange, Ranges};
@@ -26,7 +26,7 @@ impl<P: Pages> MemoryImageSlot<P> {
         requires ready { IfSome self.old.region.contents (IsReady self.old) }
         requires page { keep_resident.page ≡ self.old.region.page }
         requires empty { ranges.old ≡ [] }
-        ensures resident { IfOk result (λ n. n ≡ resident_bytes self.old.region.behaviour keep_resident.bytes self.old.accessible.bytes) }
+        ensures resident { IfOk result (λ n. n ≡ kept_bytes self.old.region.behaviour keep_resident.bytes self.old.accessible.bytes) }
         ensures ranges { ranges.new ≡ left_ranges self.old.region.behaviour keep_resident.bytes self.old.accessible.bytes }
         ensures value { OnOk result (self.new ≡ reset_slot self.old.region.behaviour keep_resident.bytes self.old) }
         ensures parts { All (IsPart self.new.region.page (size_of self.new)) ranges.new }
