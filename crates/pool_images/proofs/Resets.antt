@@ -6,11 +6,11 @@ use Rattle.std.proofs.lemmas.Bool.{ltb-true, ltb-false, le-ltb}
 use Rattle.pool_pages.specs.Contents.{Contents, put_back, decommitted}
 use Rattle.pool_pages.specs.Told.{decommitting}
 use Rattle.pool_pages.specs.declared.pages.DecommitBehavior.{DecommitBehavior}
-use Rattle.pool_pages.specs.declared.pages.DecommitBehavior.TheVariants.{RestoreOriginalMapping}
+use Rattle.pool_pages.specs.declared.pages.DecommitBehavior.TheVariants.{Zero, RestoreOriginalMapping}
 use Rattle.pool_pages.proofs.Multiples.{sub_whole}
 use Rattle.pool_pages.proofs.Puts.{range_joined, range_within}
 use Rattle.pool_images.specs.declared.image_slot.ImageName.{ImageName}
-use Rattle.pool_images.specs.Slots.{Slot, Fits, IsSound, IsReady, IsClean, IsPart, Holds, size_of, restored_image, called, cleared, reset_ranges, decommitted_all}
+use Rattle.pool_images.specs.Slots.{Slot, Fits, IsSound, IsReady, IsClean, IsPart, Holds, size_of, restored_image, called, cleared, reset_ranges, kept_bytes, decommitted_all}
 use Rattle.pool_images.proofs.Backs.{back_here, back_there, length-back}
 use Rattle.pool_images.proofs.Ready.{IsStarted, lifted, followed, paired}
 
@@ -146,3 +146,8 @@ parts_by page size keep accessible false is keep_whole accessible_whole within =
 -- what a reset leaves is whole pages of the slot
 pub reset_parts : (page size keep accessible : ℕ) → keep % page ≡ 0 → accessible % page ≡ 0 → accessible ≤ size → All (IsPart page size) (reset_ranges keep accessible)
 reset_parts page size keep accessible keep_whole accessible_whole within = parts_by page size keep accessible (nat_lt keep accessible) refl keep_whole accessible_whole within
+
+-- no more is kept than was asked for
+pub kept_at_most : (b : DecommitBehavior) (keep accessible : ℕ) → kept_bytes b keep accessible ≤ keep
+kept_at_most RestoreOriginalMapping keep accessible = omega arith
+kept_at_most Zero keep accessible = omega arith

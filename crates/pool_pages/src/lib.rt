@@ -40,7 +40,7 @@ pub use bad_config::{BadConfig, ConfigField, PairedTunable};
 pub use byte_count::{HostAlignedByteCount, PageSize};
 pub use byte_count_errors::{ByteCountNotAligned, ByteCountOutOfBounds};
 pub use byte_count_forms::{CompareBytes, byte_counts_agree};
-pub use config::{Enabled, InstanceLimits, PoolingAllocationConfig};
+pub use config::{Enabled, InstanceLimits, Offered, PoolingAllocationConfig};
 pub use failing::Failing;
 pub use failing_maker::FailingMaker;
 pub use fault_plan::{Fault, FaultKind};
