@@ -6,7 +6,7 @@ use Rattle.std.proofs.lemmas.Bool.{eqb-true, leb-true, ltb-true}
 use Rattle.std.proofs.lemmas.List.{length-map, length-replicate}
 use Rattle.std.proofs.lemmas.List.Sums.{sum_by-cons}
 use Rattle.std.proofs.lemmas.Option.{slice_get-get_or}
-use Rattle.pool_pages.specs.Config.{default_tunables}
+use Rattle.pool_pages.specs.Config.{default_offered, default_tunables}
 use Rattle.pool_pages.specs.MakerTold.{MakerTold}
 use Rattle.pool_pages.specs.declared.module_types.ModuleInfo.{ModuleInfo}
 use Rattle.pool_alloc.specs.Made.{IsMadeCore}
@@ -105,7 +105,7 @@ module _ {P : Type 0} where
   calls_there : (input : Input) (maker : MakerTold) (c : PoolCore P) (modules : List ModuleCall) → is_built input ≡ true → IsCore maker c → AreMadeCalls maker.page input.modules modules → AreCallsFor (world_of input maker) c.settings modules
   calls_there input maker c modules built core calls = are_calls_for (world_of input maker) c.settings modules (built_input input built).modules core.page (omega (arith, core.settings.page.at_least)) calls
 
-  pub made_under_way : (input : Input) (maker : MakerTold) (c : PoolCore P) (modules : List ModuleCall) → is_built input ≡ true → IsMadeCore maker input.config default_tunables c → IsCore maker c → IsUntouched c → AreMadeCalls maker.page input.modules modules → IsUnderWay (world_of input maker) modules (commands_in input.parties) (run_made c input.parties)
+  pub made_under_way : (input : Input) (maker : MakerTold) (c : PoolCore P) (modules : List ModuleCall) → is_built input ≡ true → IsMadeCore maker input.config default_tunables default_offered c → IsCore maker c → IsUntouched c → AreMadeCalls maker.page input.modules modules → IsUnderWay (world_of input maker) modules (commands_in input.parties) (run_made c input.parties)
   made_under_way input maker c modules built made core untouched calls =
       under_way input maker c modules core untouched (is_world input maker c built core made) (calls_there input maker c modules built core calls)
 
@@ -123,7 +123,7 @@ module _ {P : Type 0} where
       replies_private w modules inputs end i d ended (omega (arith, below, folds_count w.maker modules inputs schedule s end folds))
 
   -- So the output of its end is that of a run of the input.
-  pub is_run : (input : Input) (maker : MakerTold) (c : PoolCore P) (modules : List ModuleCall) (end : RunState P) (output : RunOutput) → is_built input ≡ true → IsMadeCore maker input.config default_tunables c → IsCore maker c → IsUntouched c → AreMadeCalls maker.page input.modules modules
+  pub is_run : (input : Input) (maker : MakerTold) (c : PoolCore P) (modules : List ModuleCall) (end : RunState P) (output : RunOutput) → is_built input ≡ true → IsMadeCore maker input.config default_tunables default_offered c → IsCore maker c → IsUntouched c → AreMadeCalls maker.page input.modules modules
       → Performs input.finish maker modules (commands_in input.parties) (turns_of input.schedule) (run_made c input.parties) end → IsKept end
       → output.replies ≡ end.replies → output.metrics ≡ metrics_of end.core → output.calls ≡ calls_of_run end.core end.parties → IsRun P default_tunables input maker output
   is_run input maker c modules end output built made core untouched calls performed kept replies metrics numbers =

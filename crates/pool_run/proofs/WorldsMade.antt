@@ -9,7 +9,7 @@ use Rattle.std.specs.declared.sync.Arc.{Arc}
 use Rattle.std.proofs.lemmas.Bool.{eqb-true, leb-true}
 use Rattle.std.proofs.lemmas.List.{length-append, length-replicate}
 use Rattle.std.proofs.lemmas.Option.{same_Some, slice_get-get_or, slice_get_within}
-use Rattle.pool_pages.specs.Config.{default_tunables}
+use Rattle.pool_pages.specs.Config.{default_offered, default_tunables}
 use Rattle.pool_pages.specs.Count.{rounded_up}
 use Rattle.pool_pages.specs.MakerTold.{MakerTold}
 use Rattle.pool_pages.specs.MemoryTypes.{minimum_byte_size}
@@ -75,7 +75,7 @@ of_number modules number (Some m) at built = of_module m (of_all is_built_module
 
 module _ {P : Type 0} where
   -- The pool as it is made has the sizes of the world, and takes its modules.
-  pub is_world : (input : Input) (maker : MakerTold) (c : PoolCore P) → is_built input ≡ true → IsCore maker c → IsMadeCore maker input.config default_tunables c → IsWorldOf (world_of input maker) c
+  pub is_world : (input : Input) (maker : MakerTold) (c : PoolCore P) → is_built input ≡ true → IsCore maker c → IsMadeCore maker input.config default_tunables default_offered c → IsWorldOf (world_of input maker) c
   is_world input maker c built core made =
       let w : World = world_of input maker in
       let is : IsBuilt input = built_input input built in

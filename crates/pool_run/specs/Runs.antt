@@ -1,6 +1,7 @@
 -- What a run of an input is: the turns of its schedule over a pool as it is made, and then of each party until it has
 -- nothing left; and the output, which tells each party a private run.
 use Rattle.std.specs.Prelude.{◌≡◌, ℕ, ◌<◌, ◌||◌, ◌==◌, List, [], ◌∷◌, ◌+◌, length, Bool, true, false, if◌then◌else◌, IfSome}
+use Rattle.pool_pages.specs.Config.{default_offered}
 use Rattle.pool_pages.specs.MakerTold.{MakerTold, Planned}
 use Rattle.pool_pages.specs.Told.{Rose}
 use Rattle.pool_pages.specs.declared.module_types.ModuleInfo.{ModuleInfo}
@@ -48,7 +49,7 @@ IsToldBy false w commands replies = IsPrivateRun w commands replies
 -- lead from there to an end, of which the output gives the replies and the numbers.
 pub record IsRun (P : Type 0) (tunables : Tunables) (input : Input) (maker : MakerTold) (output : RunOutput) : Type 0 where
   pub core : PoolCore P
-  pub made : IsMadeCore maker input.config tunables core
+  pub made : IsMadeCore maker input.config tunables default_offered core
   pub modules : List ModuleCall
   pub calls : AreCallsFor (world_of input maker) core.settings modules
   pub end : RunState P

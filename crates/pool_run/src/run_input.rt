@@ -1,5 +1,5 @@
 ghost use Rattle.std.specs.Prelude.{◌≡◌, ◌↔◌, Err, Some, length, true, false, IfOk, IfErr, OnOk};
-ghost use Rattle.pool_pages.specs.Config.{default_tunables};
+ghost use Rattle.pool_pages.specs.Config.{default_offered, default_tunables};
 ghost use Rattle.pool_pages.specs.ConfigLimits.{IsWithinLimits, first_broken_limit};
 ghost use Rattle.pool_pages.specs.MakerTold.{MakerTold};
 ghost use Rattle.pool_pages.specs.declared.bad_config.BadConfig.{BadConfig};
@@ -22,7 +22,7 @@ use crate::output::{RunFault, RunOutput};
 use crate::run::Run;
 use crate::schedule::{finish, follow};
 use pool_alloc::{ModuleCall, PoolCore};
-use pool_pages::{PageMaker, Pages, Tunables};
+use pool_pages::{Offered, PageMaker, Pages, Tunables};
 use pool_slots::PoolNewError;
 use std::alloc::{AllocError, Global};
 
@@ -74,7 +74,7 @@ fn run_over<P: Pages>(
     modules: &[ModuleCall],
 ) -> Result<RunOutput, AllocError>
     ghost maker: { MakerTold }
-    requires made { IsMadeCore maker input.now.config default_tunables core }
+    requires made { IsMadeCore maker input.now.config default_tunables default_offered core }
     requires core { IsCore maker core }
     requires untouched { IsUntouched core }
     requires calls { AreMadeCalls maker.page input.now.modules modules.now }
@@ -95,14 +95,15 @@ fn make_pool<P: Pages, M: PageMaker<Region = P>>(
 ) -> Result<PoolCore<P>, RunFault>
     requires built { is_built input.now ≡ true }
     requires within { IsWithinLimits input.now.config }
-    ensures made { IfOk result (IsMadeCore (M.told pages.old) input.now.config default_tunables) }
+    ensures made { IfOk result (IsMadeCore (M.told pages.old) input.now.config default_tunables default_offered) }
     ensures core { IfOk result (IsCore (M.told pages.old)) }
     ensures untouched { IfOk result IsUntouched }
     ensures same { OnOk result (M.told pages.new ≡ M.told pages.old) }
     ensures fault { result ≡ Err RunFault.PageFault → FaultsInMaking input.now (M.told pages.old) (M.told pages.new) }
     ensures settings { IfErr result (λ fault. is_bad_config fault ≡ false) }
 {
-    match PoolCore::new(alloc, &input.config, &Tunables::default(), pages) {
+    let offered = Offered::default();
+    match PoolCore::new(alloc, &input.config, &Tunables::default(), &offered, pages) {
         Ok(core) => Ok(core),
         Err(PoolNewError::PageFault) => Err(RunFault::PageFault),
         Err(PoolNewError::Memory) => Err(RunFault::Memory),
