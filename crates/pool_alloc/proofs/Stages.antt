@@ -7,7 +7,6 @@ use Rattle.pool_images.specs.Slots.{Slot}
 use Rattle.pool_index.specs.Shard.{is_used}
 use Rattle.pool_slots.specs.Cells.{is_taken}
 use Rattle.pool_slots.specs.Queues.{QueueState, QueuedMemory, empty_queue, holds, AreDistinct, AreApart, joined, emptied, IsSpareOf}
-use Rattle.pool_slots.specs.declared.request.AllocError.{AllocError}
 use Rattle.pool_alloc.specs.Freeing.{AreUsedInTurn}
 use Rattle.pool_alloc.specs.Leases.{Lease}
 use Rattle.pool_alloc.specs.Places.{Thing, slot_of, region_of, slot_count, both_count, queued_count, freed_count, frame_count}

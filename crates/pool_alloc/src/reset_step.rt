@@ -31,9 +31,7 @@ impl<P: Pages> PoolCore<P> {
             frame.phase = Phase::PutUnknown(index.0, slot, AfterFree::ReturnNext);
             return None;
         };
-        frame
-            .local
-            .push_ranges(SlotId(index.0), ranges.as_slice());
+        frame.local.push_ranges(SlotId(index.0), ranges.as_slice());
         frame.local.push_memory(index, slot, kept);
         self.was_reset(frame)
     }

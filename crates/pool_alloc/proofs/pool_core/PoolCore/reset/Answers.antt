@@ -1,10 +1,8 @@
-use Rattle.std.proofs.Common.{rules, ◌≡◌, true, false, List, sym, ap, subst}
+use Rattle.std.proofs.Common.{rules, true, false, List, sym, subst}
 use Rattle.pool_images.specs.Slots.{Slot}
 use Rattle.pool_images.specs.declared.ranges.ByteRange.{ByteRange}
-use Rattle.pool_memory.specs.Memories.{slot_of}
 use Rattle.pool_slots.specs.Queues.{QueuedMemory, QueueState, LeavesClean, with_ranges}
 use Rattle.pool_alloc.specs.Answers.{Resets}
-use Rattle.pool_alloc.specs.Leases.{Lease}
 use Rattle.pool_alloc.proofs.LocalQueues.{pushed_leaves, reset_told}
 use Rattle.pool_alloc.proofs.pool_core.PoolCore.reset.Goals as goal
 
