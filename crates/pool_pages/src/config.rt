@@ -3,7 +3,6 @@ ghost use Rattle.pool_pages.specs.ConfigLimits.{IsWithinLimits, first_broken_lim
 
 use crate::bad_config::BadConfig;
 use crate::greatest_values::{first_exceeded, limited_values};
-use crate::pages::DecommitBehavior;
 
 /// Whether a feature of the system is used: where it is offered, always, or never.
 #[derive(Clone, Copy, Debug, PartialEq, Eq)]
@@ -95,31 +94,6 @@ impl Default for PoolingAllocationConfig {
             memory_protection_keys: Enabled::No,
             max_memory_protection_keys: 15,
             pagemap_scan: Enabled::No,
-        }
-    }
-}
-
-/// What the system offers to a pool.
-#[derive(Clone, Copy, Debug, PartialEq, Eq)]
-pub struct Offered {
-    /// How many memory protection keys there are.
-    pub keys: u32,
-    /// Whether regions tell which of their pages were written.
-    pub dirty_pages: bool,
-    /// What a decommit leaves on a page of the pool's regions.
-    pub behaviour: DecommitBehavior,
-}
-
-impl Default for Offered {
-    ghost use Rattle.pool_pages.specs.Config.{IsDefaultOffered};
-
-    ghost is_default = { IsDefaultOffered };
-
-    fn default() -> Self {
-        Offered {
-            keys: 0,
-            dirty_pages: false,
-            behaviour: DecommitBehavior::RestoreOriginalMapping,
         }
     }
 }

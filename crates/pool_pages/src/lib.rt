@@ -26,6 +26,7 @@ mod memory_region;
 mod memory_tests;
 mod module_types;
 mod numerals;
+mod offered;
 mod page_laws;
 mod pages;
 mod plain_list;
@@ -40,7 +41,7 @@ pub use bad_config::{BadConfig, ConfigField, PairedTunable};
 pub use byte_count::{HostAlignedByteCount, PageSize};
 pub use byte_count_errors::{ByteCountNotAligned, ByteCountOutOfBounds};
 pub use byte_count_forms::{CompareBytes, byte_counts_agree};
-pub use config::{Enabled, InstanceLimits, Offered, PoolingAllocationConfig};
+pub use config::{Enabled, InstanceLimits, PoolingAllocationConfig};
 pub use failing::Failing;
 pub use failing_maker::FailingMaker;
 pub use fault_plan::{Fault, FaultKind};
@@ -53,6 +54,7 @@ pub use module_types::{
     CompiledModuleId, DefinedMemoryIndex, ImageDecl, IndexType, Limits, MemoryDecl, MemoryKind,
     MemoryTunables, MemoryType, ModuleInfo, Tunables,
 };
+pub use offered::Offered;
 pub use page_laws::calls_change_their_pages;
 pub use pages::{DecommitBehavior, PageCalls, PageFault, Pages, RegionName};
 pub use plain_list::{ByteList, PlainList};
