@@ -22,6 +22,7 @@ pub mod LimitsOfRuns
 pub mod NewMemories
 pub mod Parties
 pub mod Placed
+pub mod Reserving
 pub mod RunMade
 pub mod Running
 pub mod Searching
@@ -29,6 +30,7 @@ pub mod Shares
 pub mod Sounds
 pub mod Started
 pub mod StepsTied
+pub mod Telling
 pub mod Tests
 pub mod Tied
 pub mod Turned

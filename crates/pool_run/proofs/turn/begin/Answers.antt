@@ -8,8 +8,8 @@ use Rattle.pool_run.specs.declared.running_party.RunningParty.{RunningParty}
 use Rattle.pool_run.proofs.TurnsMade.{write_made, after_write}
 use Rattle.pool_run.proofs.turn.begin.Goals as goal
 
-pub returns-in-Write : goal.returns-in-Write
-returns-in-Write g c =
+pub returns-in-Write-clause-makes : goal.returns-in-Write-clause-makes
+returns-in-Write-clause-makes g c =
     let P : Type 0 = g.row.P.Denot in
     let core : PoolCore P = c.args.core.now in
     let p : RunningParty P = c.args.party.now in
