@@ -3,7 +3,7 @@ use Rattle.std.proofs.Common.{◌≡◌, ℕ, ◌-◌, Bool, List, [], ◌∷◌
 use Rattle.std.specs.Prelude.{◌==◌, if◌then◌else◌}
 use Rattle.pool_pages.specs.declared.unsupported.Unsupported.{Unsupported}
 use Rattle.pool_images.specs.Slots.{Slot}
-use Rattle.pool_index.specs.Shard.{ShardState, pick_answer, after_pick}
+use Rattle.pool_index.specs.Shard.{ShardState, pick_answer, after_pick, after_free}
 use Rattle.pool_index.specs.declared.ids.SlotId.{SlotId}
 use Rattle.pool_memory.specs.Memories.{MemoryState}
 use Rattle.pool_slots.specs.Cells.{Cell, unmapped, unknown, previously_used, taken}
@@ -12,7 +12,7 @@ use Rattle.pool_slots.specs.declared.request.AllocError.{AllocError}
 use Rattle.pool_limits.specs.LimiterTold.{LimiterTold}
 use Rattle.pool_limits.specs.declared.errors.LimiterError.{LimiterError}
 use Rattle.pool_alloc.specs.Answers.{MayBeTold, IsPlanned, AsksOf}
-use Rattle.pool_alloc.specs.Steps.{Given, After, memories_asked, shard_at, cell_at, freed_of, freed_elsewhere, first_shard, after_frees, with_shard, with_cell, counting_memories, goes, validated, validate_row, wanted, shard_tried, picked, pick_row, holds_region, take_region_row, made, make_memory_row, returns, uncount_memory_row, puts, put_region_row, after_flush, were_freed, free_row, row_of}
+use Rattle.pool_alloc.specs.Steps.{Given, After, memories_asked, shard_at, cell_at, shard_of, local_of, freed_of, freed_elsewhere, first_shard, after_frees, with_shard, with_cell, counting_memories, goes, validated, validate_row, wanted, shard_tried, picked, pick_row, holds_region, take_region_row, made, make_memory_row, was_freed, free_unknown_row, returns, uncount_memory_row, puts, put_region_row, after_flush, were_freed, free_row, row_of}
 use Rattle.pool_alloc.specs.Own.{memory_made}
 use Rattle.pool_alloc.specs.Refusals.{memories_refused}
 use Rattle.pool_alloc.specs.Leases.{Lease}
@@ -21,6 +21,8 @@ use Rattle.pool_alloc.specs.declared.pool_core.PoolCore.{PoolCore}
 use Rattle.pool_alloc.specs.declared.frame.Frame.{Frame}
 use Rattle.pool_alloc.specs.declared.frame.Phase.{Phase}
 use Rattle.pool_alloc.specs.declared.frame.Phase.TheVariants.{Idle, Free}
+use Rattle.pool_alloc.specs.declared.frame.AfterFree.{AfterFree}
+use Rattle.pool_alloc.specs.declared.frame.AfterFree.TheVariants.{Refuse, ReturnNext}
 use Rattle.pool_alloc.specs.declared.frame.AfterFlush.{AfterFlush}
 use Rattle.pool_alloc.specs.declared.frame.AfterFlush.TheVariants.{PickAgain, GiveBackNext}
 
@@ -75,6 +77,10 @@ module _ {P : Type 0} (p : Phase P) where
   after_flush_reads (PickAgain queues) c f = refl
   after_flush_reads GiveBackNext c f = refl
 
+  was_freed_reads : (after : AfterFree) (c : PoolCore P) (f : Frame P) → was_freed after c (record f { phase = p }) ≡ was_freed after c f
+  was_freed_reads (Refuse e) c f = refl
+  was_freed_reads ReturnNext c f = refl
+
   were_freed_reads : (after : AfterFlush) (c : PoolCore P) (f : Frame P) → were_freed after c (record f { phase = p }) ≡ were_freed after c f
   were_freed_reads after c f = ap (λ (x : After P). if length f.freed.items == 0 then x else goes c f (Free after)) (after_flush_reads after c f)
 
@@ -91,6 +97,9 @@ module _ {P : Type 0} (p : Phase P) where
 
   pub make_memory_reads : (answer : Result Bool LimiterError) (slot : ℕ) (held : Slot) (c : PoolCore P) (f : Frame P) → make_memory_row answer slot held c (record f { phase = p }) ≡ make_memory_row answer slot held c f
   make_memory_reads answer slot held c f = made_reads slot held (memory_made c.settings (memories_asked f.asked) (length f.granted.items) answer held) c f
+
+  pub free_unknown_reads : (slot : ℕ) (after : AfterFree) (c : PoolCore P) (f : Frame P) → free_unknown_row slot after c (record f { phase = p }) ≡ free_unknown_row slot after c f
+  free_unknown_reads slot after c f = was_freed_reads after (with_shard (shard_of c.settings slot) (after_free (local_of c.settings slot) 0 (shard_at (shard_of c.settings slot) c.shards)) c) f
 
   pub uncount_memory_reads : (c : PoolCore P) (f : Frame P) → uncount_memory_row c (record f { phase = p }) ≡ uncount_memory_row c f
   uncount_memory_reads c f = returns_reads f.returning.items (counting_memories (c.counters.memories - 1) c) f

@@ -46,7 +46,7 @@ module _ {P : Type 0} where
           owners = tt;
           range_room = refl;
           slot_room = refl;
-          regions = All-nil (IsQueuedOf maker c.settings.max_memory_size);
+          regions = All-nil (IsQueuedOf maker c.settings.behaviour c.settings.max_memory_size);
           queue = record { range_room = omega arith; slot_room = omega arith; distinct = tt; each = tt };
         };
         freed_room = (refl, omega arith);

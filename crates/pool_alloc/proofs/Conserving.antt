@@ -7,11 +7,11 @@ use Rattle.pool_alloc.specs.Stepping.{CanStep, Conserves, IsSameSize}
 use Rattle.pool_alloc.specs.declared.pool_core.PoolCore.{PoolCore}
 use Rattle.pool_alloc.specs.declared.frame.Frame.{Frame}
 use Rattle.pool_alloc.specs.declared.frame.Phase.{Phase}
-use Rattle.pool_alloc.specs.declared.frame.Phase.TheVariants.{Idle, Key, Validate, CountInstance, Pick, TakeQueue, TakeRegion, Empty, Instantiate, MakeMemory, CountMemory, PutRefused, FreeRefused, UncountMemory, Reset, Merge, Decommit, PutRegion, Free, UncountInstance}
+use Rattle.pool_alloc.specs.declared.frame.Phase.TheVariants.{Idle, Key, Validate, CountInstance, Pick, TakeQueue, TakeRegion, Empty, Instantiate, MakeMemory, CountMemory, PutUnknown, FreeUnknown, UncountMemory, Reset, Merge, Decommit, PutRegion, Free, UncountInstance}
 use Rattle.pool_alloc.proofs.Balances.{Balances, in_phase, sums_of, conserves_by, same_size}
-use Rattle.pool_alloc.proofs.GrantRows.{key_keeps, validate_keeps, count_instance_keeps, pick_keeps, take_queue_keeps, take_region_keeps, empty_keeps, instantiate_keeps, make_memory_keeps, count_memory_keeps, put_refused_keeps, free_refused_keeps}
+use Rattle.pool_alloc.proofs.GrantRows.{key_keeps, validate_keeps, count_instance_keeps, pick_keeps, take_queue_keeps, take_region_keeps, empty_keeps, instantiate_keeps, make_memory_keeps, count_memory_keeps, put_unknown_keeps, free_unknown_keeps}
 use Rattle.pool_alloc.proofs.GiveBackRows.{uncount_memory_keeps, reset_keeps, merge_keeps, decommit_keeps, put_region_keeps, free_keeps, uncount_instance_keeps}
-use Rattle.pool_alloc.proofs.Stages.{picked_is_home, refused_is_away, refused_is_used}
+use Rattle.pool_alloc.proofs.Stages.{picked_is_home, unknown_is_away, unknown_is_used}
 
 module _ {P : Type 0} where
   -- in each phase
@@ -27,10 +27,10 @@ module _ {P : Type 0} where
   balances_at maker g c f (Instantiate slot held) can told = instantiate_keeps g slot held c f
   balances_at maker g c f (MakeMemory slot held) can told = make_memory_keeps g slot held c f
   balances_at maker g c f (CountMemory lease) can told = count_memory_keeps lease c f
-  balances_at maker g c f (PutRefused slot held e) can told = put_refused_keeps slot held e c f can.frame.shape.2.inside (refused_is_away slot held e c f can.fits)
-  balances_at maker g c f (FreeRefused slot e) can told = free_refused_keeps maker slot e c f can.core can.frame.shape.2 can.frame.shape.1.none_returning (refused_is_used maker slot e c f can)
+  balances_at maker g c f (PutUnknown slot held after) can told = put_unknown_keeps slot held after c f can.frame.shape.2.inside (unknown_is_away slot held after c f can.fits)
+  balances_at maker g c f (FreeUnknown slot after) can told = free_unknown_keeps maker slot after c f can.core can.frame.shape.2 can.frame.shape.1 (unknown_is_used maker slot after c f can)
   balances_at maker g c f UncountMemory can told = uncount_memory_keeps c f can.frame.shape.2 can.fits.memories
-  balances_at maker g c f (Reset lease) can told = reset_keeps lease c f
+  balances_at maker g c f (Reset lease) can told = reset_keeps g.fault g.slot lease c f
   balances_at maker g c f Merge can told = merge_keeps maker c f can.core
   balances_at maker g c f (Decommit after) can told = decommit_keeps g after c f told
   balances_at maker g c f (PutRegion after) can told = put_region_keeps after c f can.fits can.frame.shape.2

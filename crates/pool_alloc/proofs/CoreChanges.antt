@@ -81,7 +81,7 @@ module _ {P : Type 0} where
       let C : List ShardState → Type 0 = λ shards. IsCore maker (record c { shards = shards }) in
       subst C (sym (set_past c.shards j shard past)) core
 
-  pub core_with_cell : (maker : MakerTold) (i : ℕ) (cell : Cell) (c : PoolCore P) → IsCore maker c → IsCell maker c.settings.max_memory_size i cell → IsCore maker (with_cell i cell c)
+  pub core_with_cell : (maker : MakerTold) (i : ℕ) (cell : Cell) (c : PoolCore P) → IsCore maker c → IsCell maker c.settings.behaviour c.settings.max_memory_size i cell → IsCore maker (with_cell i cell c)
   core_with_cell maker i cell c core holds =
       let long : length (set c.cells i cell) ≡ length c.cells = length-set c.cells i cell in
       record {
@@ -92,7 +92,7 @@ module _ {P : Type 0} where
         small = rw long core.small;
         cells = λ k below.
             let under : k < length c.cells = rw long at below in
-            at_set (λ n x. IsCell maker c.settings.max_memory_size n x) c.cells i k cell _ under holds (core.cells k under);
+            at_set (λ n x. IsCell maker c.settings.behaviour c.settings.max_memory_size n x) c.cells i k cell _ under holds (core.cells k under);
         queues_some = core.queues_some;
         queues = core.queues;
       }

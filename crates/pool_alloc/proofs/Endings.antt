@@ -15,12 +15,14 @@ use Rattle.pool_alloc.specs.Leases.{Lease}
 use Rattle.pool_alloc.specs.Reserved.{with_item}
 use Rattle.pool_alloc.specs.Own.{memory_made, reset_into}
 use Rattle.pool_alloc.specs.Refusals.{memories_refused}
-use Rattle.pool_alloc.specs.Steps.{Given, After, memories_asked, shard_at, cell_at, queue_at, shard_of, local_of, freed_of, freed_elsewhere, first_shard, after_frees, queue_tried, with_shard, with_cell, with_queue, counting_instances, counting_memories, goes, give_back_next, refuses, allocate_next, flushes, after_flush, no_slot, validated, shard_tried, picked, wanted, holds_region, made, returns, puts, row_of}
+use Rattle.pool_alloc.specs.Steps.{Given, After, memories_asked, shard_at, cell_at, queue_at, shard_of, local_of, freed_of, freed_elsewhere, first_shard, after_frees, queue_tried, with_shard, with_cell, with_queue, counting_instances, counting_memories, goes, give_back_next, refuses, allocate_next, was_freed, flushes, after_flush, no_slot, validated, shard_tried, picked, wanted, holds_region, made, returns, puts, row_of}
 use Rattle.pool_alloc.specs.Stepping.{CanStep, StepsTo, is_idle, EndsWith}
 use Rattle.pool_alloc.specs.declared.pool_core.PoolCore.{PoolCore}
 use Rattle.pool_alloc.specs.declared.frame.Frame.{Frame}
 use Rattle.pool_alloc.specs.declared.frame.Phase.{Phase}
-use Rattle.pool_alloc.specs.declared.frame.Phase.TheVariants.{Idle, Key, Validate, CountInstance, Pick, TakeQueue, TakeRegion, Empty, Instantiate, MakeMemory, CountMemory, PutRefused, FreeRefused, UncountMemory, Reset, Merge, Decommit, PutRegion, Free, UncountInstance}
+use Rattle.pool_alloc.specs.declared.frame.Phase.TheVariants.{Idle, Key, Validate, CountInstance, Pick, TakeQueue, TakeRegion, Empty, Instantiate, MakeMemory, CountMemory, PutUnknown, FreeUnknown, UncountMemory, Reset, Merge, Decommit, PutRegion, Free, UncountInstance}
+use Rattle.pool_alloc.specs.declared.frame.AfterFree.{AfterFree}
+use Rattle.pool_alloc.specs.declared.frame.AfterFree.TheVariants.{Refuse, ReturnNext}
 use Rattle.pool_alloc.specs.declared.frame.AfterFlush.{AfterFlush}
 use Rattle.pool_alloc.specs.declared.frame.AfterFlush.TheVariants.{PickAgain, GiveBackNext}
 use Rattle.pool_alloc.proofs.Balances.{in_phase}
@@ -65,6 +67,10 @@ module _ {P : Type 0} where
     after_flush_ends (PickAgain queues) f = goes_to c d f (Pick queues 0) refl instances memories
     after_flush_ends GiveBackNext f = gives_back_ends f
 
+    was_freed_ends : (after : AfterFree) (f : Frame P) → Ends c (was_freed after d f)
+    was_freed_ends (Refuse e) f = refuses_ends f e
+    was_freed_ends ReturnNext f = gives_back_ends f
+
     picked_ends : (o : Option (SlotId × ℕ)) (shard : ShardState) (queues tried : ℕ) (f : Frame P) → Ends c (picked o shard queues tried d f)
     picked_ends (Some p) shard queues tried f = goes_to c d f (TakeRegion _) refl instances memories
     picked_ends None shard queues tried f = either c (nat_lt (tried + 1) (length d.shards)) _ _ (goes_to c d f (Pick queues (tried + 1)) refl instances memories) (no_slot_ends queues f)
@@ -86,7 +92,7 @@ module _ {P : Type 0} where
 
     made_ends : (slot : ℕ) (held : Slot) (r : Result MemoryState AllocError) (f : Frame P) → Ends c (made slot held r c f)
     made_ends slot held (Ok memory) f = goes_to c c f (CountMemory _) refl (omega arith) (omega arith)
-    made_ends slot held (Err e) f = goes_to c c f (PutRefused slot held e) refl (omega arith) (omega arith)
+    made_ends slot held (Err e) f = goes_to c c f (PutUnknown slot held (Refuse e)) refl (omega arith) (omega arith)
 
     puts_ends : (after : AfterFlush) (memories : List QueuedMemory) (f : Frame P) → 1 ≤ length memories → Ends c (puts after memories c f)
     puts_ends after [] f some = absurd (omega arith)
@@ -108,16 +114,17 @@ module _ {P : Type 0} where
       let has : Frame P = record (in_phase (TakeQueue queues) f) { local = taken_into f.local q } in
       either c (length has.local.memories == 0) _ _ (no_slot_ends c d (omega arith) (omega arith) (queues + 1) has) (flushes_ends c d (omega arith) (omega arith) (PickAgain (queues + 1)) has)
   ends_at maker g (TakeRegion slot) c f on can = holds_ends c (with_cell slot taken c) (omega arith) (omega arith) slot (cell_at slot c.cells) (in_phase (TakeRegion slot) f) (picked_is_home slot c f can.fits)
-  ends_at maker g (Empty slot held) c f on can = goes_to c c f _ (one_phase g.fault (PutRefused slot g.slot _) (Instantiate slot g.slot) refl refl) (omega arith) (omega arith)
-  ends_at maker g (Instantiate slot held) c f on can = goes_to c c f _ (one_phase g.fault (PutRefused slot g.slot _) (MakeMemory slot g.slot) refl refl) (omega arith) (omega arith)
+  ends_at maker g (Empty slot held) c f on can = goes_to c c f _ (one_phase g.fault (PutUnknown slot g.slot _) (Instantiate slot g.slot) refl refl) (omega arith) (omega arith)
+  ends_at maker g (Instantiate slot held) c f on can = goes_to c c f _ (one_phase g.fault (PutUnknown slot g.slot _) (MakeMemory slot g.slot) refl refl) (omega arith) (omega arith)
   ends_at maker g (MakeMemory slot held) c f on can = made_ends c slot held (memory_made c.settings (memories_asked f.asked) (length f.granted.items) g.limiter held) (in_phase (MakeMemory slot held) f)
   ends_at maker g (CountMemory lease) c f on can = allocates_ends c (counting_memories (c.counters.memories + 1) c) (omega arith) (omega arith) (record (in_phase (CountMemory lease) f) { granted = with_item lease f.granted })
-  ends_at maker g (PutRefused slot held e) c f on can = goes_to c (with_cell slot (unknown held) c) f (FreeRefused slot e) refl (omega arith) (omega arith)
-  ends_at maker g (FreeRefused slot e) c f on can = refuses_ends c (with_shard (shard_of c.settings slot) (after_free (local_of c.settings slot) 0 (shard_at (shard_of c.settings slot) c.shards)) c) (omega arith) (omega arith) (in_phase (FreeRefused slot e) f) e
+  ends_at maker g (PutUnknown slot held after) c f on can = goes_to c (with_cell slot (unknown held) c) f (FreeUnknown slot after) refl (omega arith) (omega arith)
+  ends_at maker g (FreeUnknown slot after) c f on can = was_freed_ends c (with_shard (shard_of c.settings slot) (after_free (local_of c.settings slot) 0 (shard_at (shard_of c.settings slot) c.shards)) c) (omega arith) (omega arith) after (in_phase (FreeUnknown slot after) f)
   ends_at maker g UncountMemory c f on can = returns_ends c (counting_memories (c.counters.memories - 1) c) (omega arith) (omega arith) f.returning.items (in_phase UncountMemory f) can.frame.shape.2
   ends_at maker g (Reset lease) c f on can =
       let has : Frame P = record (in_phase (Reset lease) f) { local = reset_into c.settings.keep_resident.bytes lease.index (slot_of lease.memory) f.local } in
-      either c ((length has.local.ranges == 0) || nat_le c.settings.batch (length has.local.ranges)) _ _ (flushes_ends c c (omega arith) (omega arith) GiveBackNext has) (goes_to c c has Merge refl (omega arith) (omega arith))
+      either c g.fault _ _ (goes_to c c f (PutUnknown lease.index g.slot ReturnNext) refl (omega arith) (omega arith))
+      (either c ((length has.local.ranges == 0) || nat_le c.settings.batch (length has.local.ranges)) _ _ (flushes_ends c c (omega arith) (omega arith) GiveBackNext has) (goes_to c c has Merge refl (omega arith) (omega arith)))
   ends_at maker g Merge c f on can =
       let q : QueueState = joined (queue_at (queue_tried 0 c f) c.queues) f.local in
       let none : Frame P = record (in_phase Merge f) { local = emptied f.local } in

@@ -18,7 +18,8 @@ use Rattle.pool_alloc.specs.declared.pool_core.PoolCore.{PoolCore}
 use Rattle.pool_alloc.specs.declared.frame.Ending.{Ending}
 use Rattle.pool_alloc.specs.declared.frame.Ending.TheVariants.{Returned, Refused}
 use Rattle.pool_alloc.specs.declared.frame.Frame.{Frame}
-use Rattle.pool_alloc.specs.declared.frame.Phase.TheVariants.{UncountMemory, Reset, Merge, Decommit, PutRegion, Free, UncountInstance}
+use Rattle.pool_alloc.specs.declared.frame.Phase.TheVariants.{PutUnknown, UncountMemory, Reset, Merge, Decommit, PutRegion, Free, UncountInstance}
+use Rattle.pool_alloc.specs.declared.frame.AfterFree.TheVariants.{ReturnNext}
 use Rattle.pool_alloc.specs.declared.frame.AfterFlush.{AfterFlush}
 use Rattle.pool_alloc.specs.declared.frame.AfterFlush.TheVariants.{GiveBackNext}
 use Rattle.pool_alloc.proofs.Balances.{Sums, sizes_shard, sizes_cell, sizes_queue, Balances, IsEven, in_phase, sums_of, nothing, goes_on, either_next, either_end, give_back_keeps, flush_keeps, after_flush_keeps}
@@ -55,8 +56,8 @@ module _ {P : Type 0} where
         sizes = refl;
       })
 
-  pub reset_keeps : (lease : Lease) (c : PoolCore P) (f : Frame P) → Balances (sums_of c (in_phase (Reset lease) f)) (reset_row lease c (in_phase (Reset lease) f))
-  reset_keeps lease c f =
+  pub reset_keeps : (fault : Bool) (held : Slot) (lease : Lease) (c : PoolCore P) (f : Frame P) → Balances (sums_of c (in_phase (Reset lease) f)) (reset_row fault held lease c (in_phase (Reset lease) f))
+  reset_keeps fault held lease c f =
       let s : Sums = sums_of c (in_phase (Reset lease) f) in
       let queue : QueueState = reset_into c.settings.keep_resident.bytes lease.index (image_slot_of lease.memory) f.local in
       let has : Frame P = record f { phase = Reset lease; local = queue } in
@@ -66,7 +67,9 @@ module _ {P : Type 0} where
         memories = omega arith;
         sizes = refl;
       } in
-      either_end s ((length queue.ranges == 0) || nat_le c.settings.batch (length queue.ranges)) _ _ (flush_keeps s GiveBackNext c has even) (goes_on s c has Merge even)
+      either_end s fault _ _
+      (goes_on s c (in_phase (Reset lease) f) (PutUnknown lease.index held ReturnNext) (record { places = λ t. omega arith; instances = omega arith; memories = omega arith; sizes = refl }))
+      (either_end s ((length queue.ranges == 0) || nat_le c.settings.batch (length queue.ranges)) _ _ (flush_keeps s GiveBackNext c has even) (goes_on s c has Merge even))
 
   pub merge_keeps : (maker : MakerTold) (c : PoolCore P) (f : Frame P) → IsCore maker c → Balances (sums_of c (in_phase Merge f)) (merge_row c (in_phase Merge f))
   merge_keeps maker c f core =

@@ -17,18 +17,21 @@ use Rattle.pool_alloc.specs.Reserved.{with_item}
 use Rattle.pool_alloc.specs.Own.{memory_made}
 use Rattle.pool_alloc.specs.Refusals.{memories_refused}
 use Rattle.pool_alloc.specs.Places.{Thing, slot_count, both_count, queued_count, leased_count, frame_count, phase_instances}
-use Rattle.pool_alloc.specs.Sound.{IsCore}
-use Rattle.pool_alloc.specs.Steps.{Given, memories_asked, shard_at, queue_at, cell_at, shard_of, local_of, with_shard, with_cell, with_queue, counting_instances, counting_memories, goes, shard_tried, queue_tried, wanted, picked, holds_region, made, key_row, validated, validate_row, count_instance_row, pick_row, take_queue_row, take_region_row, empty_row, instantiate_row, make_memory_row, count_memory_row, put_refused_row, free_refused_row}
+use Rattle.pool_alloc.specs.Sound.{IsCore, IsShapedFree}
+use Rattle.pool_alloc.specs.Steps.{Given, memories_asked, shard_at, queue_at, cell_at, shard_of, local_of, with_shard, with_cell, with_queue, counting_instances, counting_memories, goes, shard_tried, queue_tried, wanted, picked, holds_region, made, key_row, validated, validate_row, count_instance_row, pick_row, take_queue_row, take_region_row, empty_row, instantiate_row, make_memory_row, count_memory_row, put_unknown_row, was_freed, free_unknown_row}
 use Rattle.pool_alloc.specs.declared.pool_core.PoolCore.{PoolCore}
+use Rattle.pool_alloc.specs.declared.pool_core.Settings.{Settings}
 use Rattle.pool_alloc.specs.declared.frame.Frame.{Frame}
 use Rattle.pool_alloc.specs.declared.frame.Phase.{Phase}
-use Rattle.pool_alloc.specs.declared.frame.Phase.TheVariants.{Key, Validate, CountInstance, Pick, TakeQueue, TakeRegion, Empty, Instantiate, MakeMemory, CountMemory, PutRefused, FreeRefused}
+use Rattle.pool_alloc.specs.declared.frame.Phase.TheVariants.{Key, Validate, CountInstance, Pick, TakeQueue, TakeRegion, Empty, Instantiate, MakeMemory, CountMemory, PutUnknown, FreeUnknown}
+use Rattle.pool_alloc.specs.declared.frame.AfterFree.{AfterFree}
+use Rattle.pool_alloc.specs.declared.frame.AfterFree.TheVariants.{Refuse, ReturnNext}
 use Rattle.pool_alloc.specs.declared.frame.AfterFlush.TheVariants.{PickAgain}
 use Rattle.pool_alloc.proofs.SlotCounts.{pick_less, pick_none, free_more}
 use Rattle.pool_alloc.proofs.QueueCounts.{leased_last}
 use Rattle.pool_alloc.proofs.KeptCounts.{kept_shard, kept_queue, kept_without, kept_with}
 use Rattle.pool_alloc.proofs.Held.{place_of}
-use Rattle.pool_alloc.proofs.Balances.{Sums, sizes_shard, sizes_cell, sizes_queue, Balances, IsEven, in_phase, sums_of, nothing, goes_on, either_next, either_end, refuse_keeps, allocate_keeps, flush_keeps, no_slot_keeps}
+use Rattle.pool_alloc.proofs.Balances.{Sums, sizes_shard, sizes_cell, sizes_queue, Balances, IsEven, in_phase, sums_of, nothing, goes_on, either_next, either_end, refuse_keeps, give_back_keeps, allocate_keeps, flush_keeps, no_slot_keeps}
 
 module _ {P : Type 0} where
   pub key_keeps : (c : PoolCore P) (f : Frame P) → Balances (sums_of c (in_phase Key f)) (key_row c (in_phase Key f))
@@ -119,18 +122,18 @@ module _ {P : Type 0} where
   pub empty_keeps : (g : Given) (slot : ℕ) (held : Slot) (c : PoolCore P) (f : Frame P) → Balances (sums_of c (in_phase (Empty slot held) f)) (empty_row g.fault g.slot slot c (in_phase (Empty slot held) f))
   empty_keeps g slot held c f =
       either_next (sums_of c (in_phase (Empty slot held) f)) g.fault c (in_phase (Empty slot held) f) _ _
-      (held_goes_on slot c f (Empty slot held) (PutRefused slot g.slot refusal.PageFault) (λ t. refl) refl)
+      (held_goes_on slot c f (Empty slot held) (PutUnknown slot g.slot (Refuse refusal.PageFault)) (λ t. refl) refl)
       (held_goes_on slot c f (Empty slot held) (Instantiate slot g.slot) (λ t. refl) refl)
 
   pub instantiate_keeps : (g : Given) (slot : ℕ) (held : Slot) (c : PoolCore P) (f : Frame P) → Balances (sums_of c (in_phase (Instantiate slot held) f)) (instantiate_row g.fault g.slot slot c (in_phase (Instantiate slot held) f))
   instantiate_keeps g slot held c f =
       either_next (sums_of c (in_phase (Instantiate slot held) f)) g.fault c (in_phase (Instantiate slot held) f) _ _
-      (held_goes_on slot c f (Instantiate slot held) (PutRefused slot g.slot refusal.PageFault) (λ t. refl) refl)
+      (held_goes_on slot c f (Instantiate slot held) (PutUnknown slot g.slot (Refuse refusal.PageFault)) (λ t. refl) refl)
       (held_goes_on slot c f (Instantiate slot held) (MakeMemory slot g.slot) (λ t. refl) refl)
 
   made_keeps : (slot : ℕ) (held : Slot) (r : Result MemoryState AllocError) (c : PoolCore P) (f : Frame P) → Balances (sums_of c (in_phase (MakeMemory slot held) f)) (made slot held r c (in_phase (MakeMemory slot held) f))
   made_keeps slot held (Ok memory) c f = held_goes_on slot c f (MakeMemory slot held) (CountMemory (record { index = slot; memory = memory })) (λ t. refl) refl
-  made_keeps slot held (Err e) c f = held_goes_on slot c f (MakeMemory slot held) (PutRefused slot held e) (λ t. refl) refl
+  made_keeps slot held (Err e) c f = held_goes_on slot c f (MakeMemory slot held) (PutUnknown slot held (Refuse e)) (λ t. refl) refl
 
   pub make_memory_keeps : (g : Given) (slot : ℕ) (held : Slot) (c : PoolCore P) (f : Frame P) → Balances (sums_of c (in_phase (MakeMemory slot held) f)) (make_memory_row g.limiter slot held c (in_phase (MakeMemory slot held) f))
   make_memory_keeps g slot held c f = made_keeps slot held (memory_made c.settings (memories_asked f.asked) (length f.granted.items) g.limiter held) c f
@@ -144,21 +147,25 @@ module _ {P : Type 0} where
         sizes = refl;
       })
 
-  pub put_refused_keeps : (slot : ℕ) (held : Slot) (e : AllocError) (c : PoolCore P) (f : Frame P) → slot < length c.cells → is_taken (cell_at slot c.cells) ≡ true → Balances (sums_of c (in_phase (PutRefused slot held e) f)) (put_refused_row slot held e c (in_phase (PutRefused slot held e) f))
-  put_refused_keeps slot held e c f below away =
-      goes_on (sums_of c (in_phase (PutRefused slot held e) f)) (with_cell slot (unknown held) c) (in_phase (PutRefused slot held e) f) (FreeRefused slot e) (record {
+  pub put_unknown_keeps : (slot : ℕ) (held : Slot) (after : AfterFree) (c : PoolCore P) (f : Frame P) → slot < length c.cells → is_taken (cell_at slot c.cells) ≡ true → Balances (sums_of c (in_phase (PutUnknown slot held after) f)) (put_unknown_row slot held after c (in_phase (PutUnknown slot held after) f))
+  put_unknown_keeps slot held after c f below away =
+      goes_on (sums_of c (in_phase (PutUnknown slot held after) f)) (with_cell slot (unknown held) c) (in_phase (PutUnknown slot held after) f) (FreeUnknown slot after) (record {
         places = λ t. omega (arith, kept_with t slot (unknown held) c below away refl);
         instances = omega arith;
         memories = omega arith;
         sizes = sizes_cell slot (unknown held) c;
       })
 
-  pub free_refused_keeps : (maker : MakerTold) (slot : ℕ) (e : AllocError) (c : PoolCore P) (f : Frame P) → IsCore maker c → slot < length c.cells → f.returning.items ≡ [] → is_used (shard_at (shard_of c.settings slot) c.shards) (local_of c.settings slot).0 ≡ true → Balances (sums_of c (in_phase (FreeRefused slot e) f)) (free_refused_row slot e c (in_phase (FreeRefused slot e) f))
-  free_refused_keeps maker slot e c f core below none used =
+  was_freed_keeps : (s : Sums) (settings : Settings) (after : AfterFree) (c : PoolCore P) (f : Frame P) → IsShapedFree settings after f → IsEven s nothing 1 c f → Balances s (was_freed after c f)
+  was_freed_keeps s settings (Refuse e) c f allocating even = refuse_keeps s c f e allocating.none_returning even
+  was_freed_keeps s settings ReturnNext c f none even = give_back_keeps s c f even
+
+  pub free_unknown_keeps : (maker : MakerTold) (slot : ℕ) (after : AfterFree) (c : PoolCore P) (f : Frame P) → IsCore maker c → slot < length c.cells → IsShapedFree c.settings after f → is_used (shard_at (shard_of c.settings slot) c.shards) (local_of c.settings slot).0 ≡ true → Balances (sums_of c (in_phase (FreeUnknown slot after) f)) (free_unknown_row slot after c (in_phase (FreeUnknown slot after) f))
+  free_unknown_keeps maker slot after c f core below shaped used =
       let j : ℕ = shard_of c.settings slot in
       let shard : ShardState = shard_at j c.shards in
       let place = place_of maker c slot core below in
-      refuse_keeps (sums_of c (in_phase (FreeRefused slot e) f)) (with_shard j (after_free (local_of c.settings slot) 0 shard) c) (in_phase (FreeRefused slot e) f) e none (record {
+      was_freed_keeps (sums_of c (in_phase (FreeUnknown slot after) f)) c.settings after (with_shard j (after_free (local_of c.settings slot) 0 shard) c) (in_phase (FreeUnknown slot after) f) shaped (record {
         places = λ t.
             let here : slot_count t (slot_number shard (local_of c.settings slot).0) ≡ slot_count t slot = ap (slot_count t) place.number in
             omega (arith, kept_shard t j (after_free (local_of c.settings slot) 0 shard) c (core.layout.inside slot below).0, free_more t (local_of c.settings slot) 0 shard place.inside used);

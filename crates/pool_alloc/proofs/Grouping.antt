@@ -1,13 +1,11 @@
--- The ranges of each slot lie together in the queues of a pool as it is made, and after each step.
-use Rattle.std.proofs.Common.{◌≡◌, ℕ, zero, suc, ◌+◌, ◌-◌, ◌<◌, ◌≤◌, Bool, true, false, List, [], ◌∷◌, length, sym, ap, subst, arith, Option, Some, None, Result, Ok, Err}
-use Rattle.std.specs.Prelude.{◌==◌, ◌*◌, nat_lt, if◌then◌else◌, slice_set}
+-- The ranges of each slot lie together after each step, and in a frame as it is made.
+use Rattle.std.proofs.Common.{◌≡◌, ℕ, ◌+◌, ◌-◌, ◌<◌, ◌≤◌, Bool, true, false, List, [], ◌∷◌, length, sym, ap, subst, arith, Option, Some, None, Result, Ok, Err}
+use Rattle.std.specs.Prelude.{◌==◌, nat_lt, if◌then◌else◌, slice_set}
 use Rattle.std.proofs.lemmas.List.{length-set}
 use Rattle.pool_pages.specs.MakerTold.{MakerTold}
-use Rattle.pool_pages.specs.declared.config.PoolingAllocationConfig.{PoolingAllocationConfig}
-use Rattle.pool_pages.specs.declared.module_types.Tunables.{Tunables}
 use Rattle.pool_pages.specs.declared.unsupported.Unsupported.{Unsupported}
 use Rattle.pool_images.specs.Slots.{Slot}
-use Rattle.pool_index.specs.Shard.{ShardState, pick_answer, after_pick}
+use Rattle.pool_index.specs.Shard.{ShardState, pick_answer, after_pick, after_free}
 use Rattle.pool_index.specs.declared.ids.SlotId.{SlotId}
 use Rattle.pool_limits.specs.LimiterTold.{LimiterTold}
 use Rattle.pool_memory.specs.Memories.{MemoryState, slot_of}
@@ -19,11 +17,10 @@ use Rattle.pool_alloc.specs.Answers.{MayBeTold}
 use Rattle.pool_alloc.specs.Bounds.{runs, IsGrouped, AreGrouped, HasGroups}
 use Rattle.pool_alloc.specs.Calls.{frame_made, begun_call}
 use Rattle.pool_alloc.specs.Leases.{Lease}
-use Rattle.pool_alloc.specs.Made.{IsMadeCore}
 use Rattle.pool_alloc.specs.Own.{memory_made}
 use Rattle.pool_alloc.specs.Refusals.{memories_refused}
 use Rattle.pool_alloc.specs.Reserved.{with_item}
-use Rattle.pool_alloc.specs.Steps.{Given, After, memories_asked, shard_at, cell_at, queue_at, with_shard, with_cell, with_queue, counting_instances, counting_memories, allocate_next, after_flush, no_slot, were_freed, first_shard, freed_of, freed_elsewhere, after_frees, validated, shard_tried, queue_tried, picked, wanted, holds_region, made, returns, puts, row_of}
+use Rattle.pool_alloc.specs.Steps.{Given, After, memories_asked, shard_at, cell_at, queue_at, shard_of, local_of, with_shard, with_cell, with_queue, counting_instances, counting_memories, allocate_next, was_freed, after_flush, no_slot, were_freed, first_shard, freed_of, freed_elsewhere, after_frees, validated, shard_tried, queue_tried, picked, wanted, holds_region, made, returns, puts, row_of}
 use Rattle.pool_alloc.specs.Stepping.{CanStep, StepsTo}
 use Rattle.pool_alloc.specs.declared.pool_core.PoolCore.{PoolCore}
 use Rattle.pool_alloc.specs.declared.pool_core.Settings.{Settings}
@@ -33,7 +30,9 @@ use Rattle.pool_alloc.specs.declared.frame.Frame.{Frame}
 use Rattle.pool_alloc.specs.declared.frame.Grant.TheVariants.{Instance}
 use Rattle.pool_alloc.specs.declared.frame.Outcome.{Outcome}
 use Rattle.pool_alloc.specs.declared.frame.Phase.{Phase}
-use Rattle.pool_alloc.specs.declared.frame.Phase.TheVariants.{Idle, Key, Validate, CountInstance, Pick, TakeQueue, TakeRegion, Empty, Instantiate, MakeMemory, CountMemory, PutRefused, FreeRefused, UncountMemory, Reset, Merge, Decommit, PutRegion, Free, UncountInstance}
+use Rattle.pool_alloc.specs.declared.frame.Phase.TheVariants.{Idle, Key, Validate, CountInstance, Pick, TakeQueue, TakeRegion, Empty, Instantiate, MakeMemory, CountMemory, PutUnknown, FreeUnknown, UncountMemory, Reset, Merge, Decommit, PutRegion, Free, UncountInstance}
+use Rattle.pool_alloc.specs.declared.frame.AfterFree.{AfterFree}
+use Rattle.pool_alloc.specs.declared.frame.AfterFree.TheVariants.{Refuse, ReturnNext}
 use Rattle.pool_alloc.specs.declared.frame.AfterFlush.{AfterFlush}
 use Rattle.pool_alloc.specs.declared.frame.AfterFlush.TheVariants.{PickAgain, GiveBackNext}
 use Rattle.pool_alloc.proofs.Balances.{in_phase}
@@ -45,10 +44,6 @@ grouped_set : (queues : List QueueState) (i : ℕ) (q : QueueState) → AreGroup
 grouped_set queues i q all here k below =
     let inside : k < length queues = rw (length-set queues i q) at below in
     at_set (λ n p. IsGrouped p) queues i k q (empty_queue 0 0) inside here (all k inside)
-
-only_grouped : (q : QueueState) → IsGrouped q → AreGrouped (q ∷ [])
-only_grouped q here zero below = here
-only_grouped q here (suc k) below = absurd (omega (arith, below))
 
 -- no ranges are no runs
 no_runs : (ranges : List QueuedRange) (n : ℕ) → ranges ≡ [] → runs ranges ≤ n
@@ -80,6 +75,10 @@ module _ {P : Type 0} where
     flushed : (after : AfterFlush) (f : Frame P) → IsGrouped f.local → Grouped (after_flush after d f)
     flushed (PickAgain n) f local = groups _ _ local
     flushed GiveBackNext f local = groups _ _ local
+
+    was_freed_groups : (after : AfterFree) (f : Frame P) → IsGrouped f.local → Grouped (was_freed after d f)
+    was_freed_groups (Refuse e) f local = groups _ _ local
+    was_freed_groups ReturnNext f local = groups _ _ local
 
     freed : (after : AfterFlush) (f : Frame P) → IsGrouped f.local → Grouped (were_freed after d f)
     freed after f local = either (length f.freed.items == 0) _ _ (flushed after f local) (groups _ _ local)
@@ -133,13 +132,15 @@ module _ {P : Type 0} where
   grouped_at maker g (Instantiate slot had) c f can told queues local = groups c queues _ _ local
   grouped_at maker g (MakeMemory slot had) c f can told queues local = makes c queues slot had (memory_made c.settings (memories_asked f.asked) (length f.granted.items) g.limiter had) (in_phase (MakeMemory slot had) f) local
   grouped_at maker g (CountMemory lease) c f can told queues local = allocates (counting_memories (c.counters.memories + 1) c) queues (record f { granted = with_item lease f.granted; phase = CountMemory lease }) local
-  grouped_at maker g (PutRefused slot had e) c f can told queues local = groups _ queues _ _ local
-  grouped_at maker g (FreeRefused slot e) c f can told queues local = groups _ queues _ _ local
+  grouped_at maker g (PutUnknown slot had after) c f can told queues local = groups _ queues _ _ local
+  grouped_at maker g (FreeUnknown slot after) c f can told queues local =
+      let j : ℕ = shard_of c.settings slot in
+      was_freed_groups (with_shard j (after_free (local_of c.settings slot) 0 (shard_at j c.shards)) c) queues after (in_phase (FreeUnknown slot after) f) local
   grouped_at maker g UncountMemory c f can told queues local = gives_back (counting_memories (c.counters.memories - 1) c) queues f.returning.items (in_phase UncountMemory f) local
   grouped_at maker g (Reset lease) c f can told queues local =
       let settled = can.frame.shape.0 in
       let reset = grouped_reset c.settings.keep_resident.bytes lease.index (slot_of lease.memory) f.local settled.no_ranges settled.no_slots in
-      either _ _ _ (groups c queues _ _ reset) (groups c queues _ _ reset)
+      either g.fault _ _ (groups c queues _ _ local) (either _ _ _ (groups c queues _ _ reset) (groups c queues _ _ reset))
   grouped_at maker g Merge c f can told queues local =
       let i : ℕ = queue_tried 0 c f in
       let q : QueueState = joined (queue_at i c.queues) f.local in
@@ -165,11 +166,3 @@ module _ {P : Type 0} where
   begun_grouped call.Key f local = local
   begun_grouped (call.Module m) f local = local
   begun_grouped (call.GiveBack (Instance lease)) f local = local
-
-  -- They do in a pool as it is made, and in a frame as it is.
-  pub made_grouped : (maker : MakerTold) (config : PoolingAllocationConfig) (tunables : Tunables) (c : PoolCore P) → IsMadeCore maker config tunables c → AreGrouped c.queues
-  made_grouped maker config tunables c is =
-      let G : List QueueState → Type 0 = λ queues. AreGrouped queues in
-      let room : ℕ = 2 * config.decommit_batch_size in
-      let one : G (empty_queue room room ∷ []) = only_grouped (empty_queue room room) (omega arith) in
-      subst G (sym is.queues) one

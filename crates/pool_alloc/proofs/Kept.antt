@@ -8,10 +8,10 @@ use Rattle.pool_alloc.proofs.Relying.{FitsAt}
 use Rattle.pool_alloc.specs.declared.pool_core.PoolCore.{PoolCore}
 use Rattle.pool_alloc.specs.declared.frame.Frame.{Frame}
 use Rattle.pool_alloc.specs.declared.frame.Phase.{Phase}
-use Rattle.pool_alloc.specs.declared.frame.Phase.TheVariants.{Idle, Key, Validate, CountInstance, Pick, TakeQueue, TakeRegion, Empty, Instantiate, MakeMemory, CountMemory, PutRefused, FreeRefused, UncountMemory, Reset, Merge, Decommit, PutRegion, Free, UncountInstance}
+use Rattle.pool_alloc.specs.declared.frame.Phase.TheVariants.{Idle, Key, Validate, CountInstance, Pick, TakeQueue, TakeRegion, Empty, Instantiate, MakeMemory, CountMemory, PutUnknown, FreeUnknown, UncountMemory, Reset, Merge, Decommit, PutRegion, Free, UncountInstance}
 use Rattle.pool_alloc.proofs.Going.{Shaped, Held, IsSoundAfter, held_of}
 use Rattle.pool_alloc.proofs.AllocationRows.{key_kept, validate_kept, count_instance_kept, pick_kept, take_queue_kept}
-use Rattle.pool_alloc.proofs.RegionRows.{take_region_kept, empty_kept, instantiate_kept, make_memory_kept, count_memory_kept, put_refused_kept, free_refused_kept}
+use Rattle.pool_alloc.proofs.RegionRows.{take_region_kept, empty_kept, instantiate_kept, make_memory_kept, count_memory_kept, put_unknown_kept, free_unknown_kept}
 use Rattle.pool_alloc.proofs.ReturnRows.{uncount_memory_kept, reset_kept, merge_kept, decommit_kept, put_region_kept, free_kept, uncount_instance_kept}
 
 module _ {P : Type 0} where
@@ -27,10 +27,10 @@ module _ {P : Type 0} where
   kept_at maker g (Instantiate slot had) c f core frame held shape told fits = instantiate_kept maker (memories_asked f.asked) g.fault g.slot slot had c f core held shape.0 shape.1 shape.2 told
   kept_at maker g (MakeMemory slot had) c f core frame held shape told fits = make_memory_kept maker (memories_asked f.asked) g.limiter slot had c f core held shape.0 shape.1 shape.2 shape.3
   kept_at maker g (CountMemory lease) c f core frame held shape told fits = count_memory_kept maker lease c f core held shape.0 shape.1 shape.2 shape.3
-  kept_at maker g (PutRefused slot had e) c f core frame held shape told fits = put_refused_kept maker (memories_asked f.asked) slot had e c f core held shape.0 shape.1 shape.2
-  kept_at maker g (FreeRefused slot e) c f core frame held shape told fits = free_refused_kept maker (memories_asked f.asked) slot e c f core held shape.0 shape.2 fits
+  kept_at maker g (PutUnknown slot had after) c f core frame held shape told fits = put_unknown_kept maker (memories_asked f.asked) slot had after c f core held shape.0 shape.1 shape.2
+  kept_at maker g (FreeUnknown slot after) c f core frame held shape told fits = free_unknown_kept maker (memories_asked f.asked) slot after c f core held shape.0 shape.1 shape.2 fits
   kept_at maker g UncountMemory c f core frame held shape told fits = uncount_memory_kept maker (memories_asked f.asked) c f core held shape.0 shape.1 shape.2 fits
-  kept_at maker g (Reset lease) c f core frame held shape told fits = reset_kept maker (memories_asked f.asked) lease c f core held shape.0 shape.1 shape.3.slot told
+  kept_at maker g (Reset lease) c f core frame held shape told fits = reset_kept maker (memories_asked f.asked) g.fault g.slot lease c f core held shape.0 shape.1 shape.2 shape.3.slot told
   kept_at maker g Merge c f core frame held shape told fits = merge_kept maker (memories_asked f.asked) c f core held shape.0 shape.1 shape.2 shape.3 shape.4 fits
   kept_at maker g (Decommit after) c f core frame held shape told fits = decommit_kept maker (memories_asked f.asked) g.fault g.queue after c f core held shape.0 shape.1 shape.3 told
   kept_at maker g (PutRegion after) c f core frame held shape told fits = put_region_kept maker (memories_asked f.asked) after c f core held shape.0 shape.1 shape.2

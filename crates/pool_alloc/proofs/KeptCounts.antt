@@ -11,7 +11,7 @@ use Rattle.pool_alloc.specs.Steps.{shard_at, queue_at, cell_at, with_shard, with
 use Rattle.pool_alloc.specs.declared.pool_core.PoolCore.{PoolCore}
 use Rattle.pool_alloc.specs.declared.frame.Frame.{Frame}
 use Rattle.pool_alloc.specs.declared.frame.Phase.{Phase}
-use Rattle.pool_alloc.specs.declared.frame.Phase.TheVariants.{Idle, Key, Validate, CountInstance, Pick, TakeQueue, TakeRegion, Empty, Instantiate, MakeMemory, CountMemory, PutRefused, FreeRefused, UncountMemory, Reset, Merge, Decommit, PutRegion, Free, UncountInstance}
+use Rattle.pool_alloc.specs.declared.frame.Phase.TheVariants.{Idle, Key, Validate, CountInstance, Pick, TakeQueue, TakeRegion, Empty, Instantiate, MakeMemory, CountMemory, PutUnknown, FreeUnknown, UncountMemory, Reset, Merge, Decommit, PutRegion, Free, UncountInstance}
 use Rattle.pool_alloc.proofs.SlotCounts.{unused_regions}
 use Rattle.pool_alloc.proofs.RegionCounts.{cells_less, cells_more, cells_slots}
 use Rattle.pool_alloc.proofs.QueueCounts.{sum_by_agree, sum_by_none, queued_regions, leased_regions, freed_regions}
@@ -56,8 +56,8 @@ module _ {P : Type 0} where
   phase_regions k (Instantiate slot held) = omega arith
   phase_regions k (MakeMemory slot held) = omega arith
   phase_regions k (CountMemory lease) = omega arith
-  phase_regions k (PutRefused slot held e) = omega arith
-  phase_regions k (FreeRefused slot e) = omega arith
+  phase_regions k (PutUnknown slot held after) = omega arith
+  phase_regions k (FreeUnknown slot after) = omega arith
   phase_regions k UncountMemory = omega arith
   phase_regions k (Reset lease) = omega arith
   phase_regions k Merge = omega arith

@@ -8,6 +8,7 @@ use Rattle.pool_pages.specs.Count.{IsPageSize, rounded_up}
 use Rattle.pool_pages.specs.MakerTold.{MakerTold}
 use Rattle.pool_pages.specs.ConfigLimits.{IsWithinLimits}
 use Rattle.pool_pages.specs.declared.config.PoolingAllocationConfig.{PoolingAllocationConfig}
+use Rattle.pool_pages.specs.declared.offered.Offered.{Offered}
 use Rattle.pool_pages.specs.declared.module_types.Tunables.{Tunables}
 use Rattle.pool_hall.specs.declared.unit_name.SlotKind.TheVariants.{Memory as memory_kind}
 use Rattle.pool_index.specs.Shard.{ShardState, IsShard, fresh_shard, use_of, slot_number}
@@ -24,8 +25,8 @@ use Rattle.pool_alloc.specs.declared.pool_core.Counters.{Counters}
 use Rattle.pool_alloc.specs.declared.pool_core.Settings.{Settings}
 use Rattle.pool_alloc.proofs.Rounding.{rounded_is_whole}
 
-settings_sound : (page : ℕ) (config : PoolingAllocationConfig) (tunables : Tunables) → IsPageSize page → IsWithinLimits config → config.limits.max_memory_size + 131072 < 2 ^ 64 → IsSettings (settings_of page config tunables)
-settings_sound page config tunables paged within small =
+settings_sound : (page : ℕ) (config : PoolingAllocationConfig) (tunables : Tunables) (offered : Offered) → IsPageSize page → IsWithinLimits config → config.limits.max_memory_size + 131072 < 2 ^ 64 → IsSettings (settings_of page config tunables offered)
+settings_sound page config tunables offered paged within small =
     let least = paged.at_least in
     let most = paged.at_most in
     let below : rounded_up page config.limits.max_memory_size ≤ config.limits.max_memory_size + page = omega (arith, div-mul-le_self (config.limits.max_memory_size + page - 1) page) in
@@ -71,7 +72,7 @@ empty_shared maker s zero some one = record {
   slots = omega arith;
   range_room = refl;
   slot_room = refl;
-  regions = All-nil (IsQueuedOf maker s.max_memory_size);
+  regions = All-nil (IsQueuedOf maker s.behaviour s.max_memory_size);
   queue = record { range_room = omega arith; slot_room = omega arith; distinct = tt; each = tt };
 }
 empty_shared maker s (suc i) some one = absurd (omega arith)
@@ -92,8 +93,8 @@ none_queued ranges slots zero one = refl
 none_queued ranges slots (suc i) one = absurd (omega arith)
 
 module _ {P : Type 0} where
-  pub made_core : (maker : MakerTold) (config : PoolingAllocationConfig) (tunables : Tunables) (c : PoolCore P) → IsPageSize maker.page → IsWithinLimits config → config.limits.max_memory_size + 131072 < 2 ^ 64 → IsShard (fresh_shard memory_kind 0 1 config.limits.total_memories config.max_unused_warm_slots) → IsMadeCore maker config tunables c → IsCore maker c
-  made_core maker config tunables c paged within small sound made =
+  pub made_core : (maker : MakerTold) (config : PoolingAllocationConfig) (tunables : Tunables) (offered : Offered) (c : PoolCore P) → IsPageSize maker.page → IsWithinLimits config → config.limits.max_memory_size + 131072 < 2 ^ 64 → IsShard (fresh_shard memory_kind 0 1 config.limits.total_memories config.max_unused_warm_slots) → IsMadeCore maker config tunables offered c → IsCore maker c
+  made_core maker config tunables offered c paged within small sound made =
       let total : ℕ = config.limits.total_memories in
       let batch : c.settings.batch ≡ config.decommit_batch_size = ap (λ (s : Settings). s.batch) made.settings in
       let room : empty_queue (2 * config.decommit_batch_size) (2 * config.decommit_batch_size) ≡ empty_queue (2 * c.settings.batch) (2 * c.settings.batch) = ap (λ (n : ℕ). empty_queue (2 * n) (2 * n)) (sym batch) in
@@ -102,20 +103,20 @@ module _ {P : Type 0} where
       let L : List ShardState → Type 0 = λ xs. IsLaidOut c.settings total xs in
       let Q : List QueueState → Type 0 = λ qs. (i : ℕ) → i < length qs → IsShared maker c.settings (queue_at i qs) in
       record {
-        settings = subst I (sym made.settings) (settings_sound maker.page config tunables paged within small);
+        settings = subst I (sym made.settings) (settings_sound maker.page config tunables offered paged within small);
         page = ap (λ (s : Settings). s.page) made.settings;
         shards = subst S (sym made.shards) (λ j below. one_shard total config.max_unused_warm_slots j sound below);
         layout = rw made.cells.number (subst L (sym made.shards) (laid_out c.settings total config.max_unused_warm_slots (ap (λ (s : Settings). s.slots_per_shard) made.settings)));
         small = omega (arith, made.cells.number, within.memories);
         cells = λ i below.
-            let C : Cell → Type 0 = λ x. IsCell maker c.settings.max_memory_size i x in
+            let C : Cell → Type 0 = λ x. IsCell maker c.settings.behaviour c.settings.max_memory_size i x in
             subst C (sym (made.cells.each i (rw made.cells.number at below))) refl;
         queues_some = omega (arith, ap length made.queues);
         queues = subst Q (sym (made.queues ∙ ap (λ (q : QueueState). q ∷ []) room)) (λ i below. empty_shared maker c.settings i (omega (arith, batch, within.batch_at_least)) below);
       }
 
-  pub made_untouched : (maker : MakerTold) (config : PoolingAllocationConfig) (tunables : Tunables) (c : PoolCore P) → IsMadeCore maker config tunables c → IsUntouched c
-  made_untouched maker config tunables c made =
+  pub made_untouched : (maker : MakerTold) (config : PoolingAllocationConfig) (tunables : Tunables) (offered : Offered) (c : PoolCore P) → IsMadeCore maker config tunables offered c → IsUntouched c
+  made_untouched maker config tunables offered c made =
       let U : List ShardState → Type 0 = λ xs. (j k : ℕ) → j < length xs → use_of (shard_at j xs) k ≡ None in
       let Q : List QueueState → Type 0 = λ qs. (i : ℕ) → i < length qs → (queue_at i qs).memories ≡ [] in
       record {

@@ -24,19 +24,21 @@ use Rattle.pool_slots.specs.declared.request.AllocError.TheVariants as refusal
 use Rattle.pool_alloc.specs.Reserved.{with_item}
 use Rattle.pool_alloc.specs.Leases.{Lease, IsMemory}
 use Rattle.pool_alloc.specs.Own.{image_made, made_of, made_with, made_for, memory_made}
-use Rattle.pool_alloc.specs.Steps.{memories_asked, image_wanted, shard_at, cell_at, shard_of, local_of, with_shard, with_cell, counting_memories, holds_region, take_region_row, empty_row, instantiate_row, made, make_memory_row, count_memory_row, put_refused_row, free_refused_row}
+use Rattle.pool_alloc.specs.Steps.{memories_asked, image_wanted, shard_at, cell_at, shard_of, local_of, with_shard, with_cell, counting_memories, holds_region, take_region_row, empty_row, instantiate_row, made, make_memory_row, count_memory_row, put_unknown_row, was_freed, free_unknown_row}
 use Rattle.pool_alloc.specs.Answers.{Empties, InstantiatesAs, InstantiatesFor}
-use Rattle.pool_alloc.specs.Sound.{IsCore, IsLeaseOf, IsSettled, IsAllocating, HasSlot, HasBegun, IsNew}
+use Rattle.pool_alloc.specs.Sound.{IsCore, IsLeaseOf, IsSettled, IsAllocating, IsShapedFree, HasSlot, HasBegun, IsNew}
 use Rattle.pool_alloc.specs.Modules.{IfAllocated}
 use Rattle.pool_alloc.specs.declared.pool_core.PoolCore.{PoolCore}
 use Rattle.pool_alloc.specs.declared.pool_core.Settings.{Settings}
 use Rattle.pool_alloc.specs.declared.frame.Frame.{Frame}
-use Rattle.pool_alloc.specs.declared.frame.Phase.TheVariants.{Empty, Instantiate, MakeMemory, CountMemory, PutRefused, FreeRefused}
+use Rattle.pool_alloc.specs.declared.frame.AfterFree.{AfterFree}
+use Rattle.pool_alloc.specs.declared.frame.AfterFree.TheVariants.{Refuse, ReturnNext}
+use Rattle.pool_alloc.specs.declared.frame.Phase.TheVariants.{Empty, Instantiate, MakeMemory, CountMemory, PutUnknown, FreeUnknown}
 use Rattle.pool_alloc.proofs.Telling.{told_both, told_weaker, told_there}
 use Rattle.pool_alloc.proofs.CoreChanges.{core_with_shard, core_with_cell, core_with_counters}
 use Rattle.pool_alloc.proofs.SlotIdentity.{IsOneSlot, one_left, one_sized, one_emptied, slot_of_one, slot_made, clean_made, fresh_made}
 use Rattle.pool_alloc.proofs.ShardFrees.{IsShardOf, freed_shard}
-use Rattle.pool_alloc.proofs.Going.{Held, IsSoundAfter, goes_on, goes_either, refused, allocates_next}
+use Rattle.pool_alloc.proofs.Going.{Held, IsSoundAfter, goes_on, goes_either, gives_back_next, refused, allocates_next}
 
 one_instantiated : (fault : Bool) (initial : ℕ) (hide : Bool) (image : Option Image) (old new : Slot) → InstantiatesAs fault initial hide image old new → IsOneSlot old new
 one_instantiated true initial hide image old new told = one_left old new told
@@ -78,17 +80,17 @@ made_in : (s : Settings) (decls : List MemoryDecl) (k : ℕ) (answer : Result Bo
 made_in s decls k answer held = made_in_of (memory_made s decls k answer held) decls k held (made_for_ok answer s.max_memory_size (slice_get decls k) held)
 
 has_of_one : (maker : MakerTold) (s : Settings) (total slot : ℕ) (old new : Slot) → IsOneSlot old new → HasSlot maker s total slot old → HasSlot maker s total slot new
-has_of_one maker s total slot old new one has = record { inside = has.inside; region = slot_of_one maker s.max_memory_size slot old new one has.region }
+has_of_one maker s total slot old new one has = record { inside = has.inside; region = slot_of_one maker s.behaviour s.max_memory_size slot old new one has.region }
 
 module _ {P : Type 0} where
-  has_still : (maker : MakerTold) (i : ℕ) (cell : Cell) (c : PoolCore P) (slot : ℕ) (held : Slot) → slot < length c.cells → IsSlotOf maker c.settings.max_memory_size slot held → HasSlot maker c.settings (length (set c.cells i cell)) slot held
+  has_still : (maker : MakerTold) (i : ℕ) (cell : Cell) (c : PoolCore P) (slot : ℕ) (held : Slot) → slot < length c.cells → IsSlotOf maker c.settings.behaviour c.settings.max_memory_size slot held → HasSlot maker c.settings (length (set c.cells i cell)) slot held
   has_still maker i cell c slot held inside of = record { inside = rw (length-set c.cells i cell) inside; region = of }
 
   -- The region leaves its cell.
-  holds_kept : (maker : MakerTold) (decls : List MemoryDecl) (slot : ℕ) (cell : Cell) (c : PoolCore P) (f : Frame P) → IsCore maker c → Held maker c.settings f → IsSettled f → IsAllocating c.settings f → slot < length c.cells → IsCell maker c.settings.max_memory_size slot cell → is_taken cell ≡ false → IsSoundAfter maker decls (holds_region slot cell (with_cell slot taken c) f)
+  holds_kept : (maker : MakerTold) (decls : List MemoryDecl) (slot : ℕ) (cell : Cell) (c : PoolCore P) (f : Frame P) → IsCore maker c → Held maker c.settings f → IsSettled f → IsAllocating c.settings f → slot < length c.cells → IsCell maker c.settings.behaviour c.settings.max_memory_size slot cell → is_taken cell ≡ false → IsSoundAfter maker decls (holds_region slot cell (with_cell slot taken c) f)
   holds_kept maker decls slot (unmapped region) c f core held settled allocating inside holds there =
       goes_on maker decls (with_cell slot taken c) f (Instantiate slot (image_made c.settings.page c.settings.max_memory_size region)) (core_with_cell maker slot taken c core tt) held
-      (settled, allocating, has_still maker slot taken c slot (image_made c.settings.page c.settings.max_memory_size region) inside (slot_made maker c.settings.page c.settings.max_memory_size slot region core.page holds), clean_made maker c.settings.page c.settings.max_memory_size slot region core.page holds)
+      (settled, allocating, has_still maker slot taken c slot (image_made c.settings.page c.settings.max_memory_size region) inside (slot_made maker c.settings.behaviour c.settings.page c.settings.max_memory_size slot region core.page holds), clean_made maker c.settings.behaviour c.settings.page c.settings.max_memory_size slot region core.page holds)
   holds_kept maker decls slot (unknown had) c f core held settled allocating inside holds there =
       goes_on maker decls (with_cell slot taken c) f (Empty slot had) (core_with_cell maker slot taken c core tt) held
       (settled, allocating, has_still maker slot taken c slot had inside holds)
@@ -101,10 +103,10 @@ module _ {P : Type 0} where
   take_region_kept maker decls slot c f core held settled allocating inside there = holds_kept maker decls slot (cell_at slot c.cells) c f core held settled allocating inside (core.cells slot inside) there
 
   -- A region that was never used can be made an image slot of.
-  fresh_cell : (maker : MakerTold) (slot : ℕ) (cell : Cell) (c : PoolCore P) → IsCore maker c → IsCell maker c.settings.max_memory_size slot cell → (region : Told) → cell ≡ unmapped region → IsFresh (count c.settings.page 0) (count c.settings.page 0) c.settings.max_memory_size region
+  fresh_cell : (maker : MakerTold) (slot : ℕ) (cell : Cell) (c : PoolCore P) → IsCore maker c → IsCell maker c.settings.behaviour c.settings.max_memory_size slot cell → (region : Told) → cell ≡ unmapped region → IsFresh (count c.settings.page 0) (count c.settings.page 0) c.settings.max_memory_size region
   fresh_cell maker slot cell c core holds region is =
-      let C : Cell → Type 0 = λ x. IsCell maker c.settings.max_memory_size slot x in
-      fresh_made maker c.settings.page c.settings.max_memory_size slot region core.page core.settings.bounded (subst C is holds)
+      let C : Cell → Type 0 = λ x. IsCell maker c.settings.behaviour c.settings.max_memory_size slot x in
+      fresh_made maker c.settings.behaviour c.settings.page c.settings.max_memory_size slot region core.page core.settings.bounded (subst C is holds)
 
   pub region_is_fresh : (maker : MakerTold) (slot : ℕ) (c : PoolCore P) → IsCore maker c → slot < length c.cells → (region : Told) → cell_at slot c.cells ≡ unmapped region → IsFresh (count c.settings.page 0) (count c.settings.page 0) c.settings.max_memory_size region
   region_is_fresh maker slot c core inside region is = fresh_cell maker slot (cell_at slot c.cells) c core (core.cells slot inside) region is
@@ -112,7 +114,7 @@ module _ {P : Type 0} where
   -- The slot is emptied.
   pub empty_kept : (maker : MakerTold) (decls : List MemoryDecl) (fault : Bool) (new : Slot) (slot : ℕ) (had : Slot) (c : PoolCore P) (f : Frame P) → IsCore maker c → Held maker c.settings f → IsSettled f → IsAllocating c.settings f → HasSlot maker c.settings (length c.cells) slot had → Empties fault had new → IsSoundAfter maker decls (empty_row fault new slot c f)
   empty_kept maker decls true new slot had c f core held settled allocating has left =
-      goes_on maker decls c f (PutRefused slot new refusal.PageFault) core held
+      goes_on maker decls c f (PutUnknown slot new (Refuse refusal.PageFault)) core held
       (settled, allocating, has_of_one maker c.settings (length c.cells) slot had new (one_left had new left) has)
   empty_kept maker decls false new slot had c f core held settled allocating has told =
       let one : IsOneSlot had new = subst (λ (s : Slot). IsOneSlot had s) (sym told.0) (one_emptied had) in
@@ -130,7 +132,7 @@ module _ {P : Type 0} where
   instantiate_kept maker decls fault new slot had c f core held settled allocating has told =
       let one : IsOneSlot had new = one_told c.settings fault new had f allocating told in
       let still : HasSlot maker c.settings (length c.cells) slot new = has_of_one maker c.settings (length c.cells) slot had new one has in
-      goes_either maker decls c f fault (PutRefused slot new refusal.PageFault) (MakeMemory slot new) core held
+      goes_either maker decls c f fault (PutUnknown slot new (Refuse refusal.PageFault)) (MakeMemory slot new) core held
       (λ e. (settled, allocating, still))
       (λ e. (
         settled,
@@ -159,7 +161,7 @@ module _ {P : Type 0} where
       let H : Slot → Type 0 = λ s. HasSlot maker c.settings (length c.cells) slot s in
       let new : IfAllocated f (IsNew (image_wanted f) memory) = memory_new f had memory in_slot begun in
       goes_on maker decls c f (CountMemory (record { index = slot; memory = memory })) core held (settled, allocating, subst H (sym in_slot.slot) has, memory_of c.settings f memory allocating new, new)
-  made_kept maker decls slot had (Err e) c f core held settled allocating has begun in_slot = goes_on maker decls c f (PutRefused slot had e) core held (settled, allocating, has)
+  made_kept maker decls slot had (Err e) c f core held settled allocating has begun in_slot = goes_on maker decls c f (PutUnknown slot had (Refuse e)) core held (settled, allocating, has)
 
   pub make_memory_kept : (maker : MakerTold) (decls : List MemoryDecl) (answer : Result Bool LimiterError) (slot : ℕ) (had : Slot) (c : PoolCore P) (f : Frame P) → IsCore maker c → Held maker c.settings f → IsSettled f → IsAllocating c.settings f → HasSlot maker c.settings (length c.cells) slot had → IfAllocated f (HasBegun (image_wanted f) had) → IsSoundAfter maker decls (make_memory_row answer slot had c f)
   make_memory_kept maker decls answer slot had c f core held settled allocating has begun =
@@ -181,15 +183,19 @@ module _ {P : Type 0} where
       })
       settled allocating.supported allocating.images allocating.room (omega (arith, allocating.more, long)) allocating.none_returning
 
-  -- The region of a refused memory is put back, and its slot freed.
-  pub put_refused_kept : (maker : MakerTold) (decls : List MemoryDecl) (slot : ℕ) (had : Slot) (e : AllocError) (c : PoolCore P) (f : Frame P) → IsCore maker c → Held maker c.settings f → IsSettled f → IsAllocating c.settings f → HasSlot maker c.settings (length c.cells) slot had → IsSoundAfter maker decls (put_refused_row slot had e c f)
-  put_refused_kept maker decls slot had e c f core held settled allocating has =
-      goes_on maker decls (with_cell slot (unknown had) c) f (FreeRefused slot e) (core_with_cell maker slot (unknown had) c core has.region) held
-      (settled, allocating, rw (length-set c.cells slot (unknown had)) has.inside)
+  -- The region of a slot of which nothing is known is put back, and the slot freed.
+  pub put_unknown_kept : (maker : MakerTold) (decls : List MemoryDecl) (slot : ℕ) (had : Slot) (after : AfterFree) (c : PoolCore P) (f : Frame P) → IsCore maker c → Held maker c.settings f → IsSettled f → IsShapedFree c.settings after f → HasSlot maker c.settings (length c.cells) slot had → IsSoundAfter maker decls (put_unknown_row slot had after c f)
+  put_unknown_kept maker decls slot had after c f core held settled shaped has =
+      goes_on maker decls (with_cell slot (unknown had) c) f (FreeUnknown slot after) (core_with_cell maker slot (unknown had) c core has.region) held
+      (settled, shaped, rw (length-set c.cells slot (unknown had)) has.inside)
 
-  pub free_refused_kept : (maker : MakerTold) (decls : List MemoryDecl) (slot : ℕ) (e : AllocError) (c : PoolCore P) (f : Frame P) → IsCore maker c → Held maker c.settings f → IsSettled f → slot < length c.cells → IsSome (use_of (shard_at (shard_of c.settings slot) c.shards) (local_of c.settings slot).0) → IsSoundAfter maker decls (free_refused_row slot e c f)
-  free_refused_kept maker decls slot e c f core held settled inside used =
+  was_freed_kept : (maker : MakerTold) (decls : List MemoryDecl) (after : AfterFree) (c : PoolCore P) (f : Frame P) → IsCore maker c → Held maker c.settings f → IsSettled f → IsShapedFree c.settings after f → IsSoundAfter maker decls (was_freed after c f)
+  was_freed_kept maker decls (Refuse e) c f core held settled allocating = refused maker decls c f e core held settled
+  was_freed_kept maker decls ReturnNext c f core held settled none = gives_back_next maker decls c f core held settled none
+
+  pub free_unknown_kept : (maker : MakerTold) (decls : List MemoryDecl) (slot : ℕ) (after : AfterFree) (c : PoolCore P) (f : Frame P) → IsCore maker c → Held maker c.settings f → IsSettled f → IsShapedFree c.settings after f → slot < length c.cells → IsSome (use_of (shard_at (shard_of c.settings slot) c.shards) (local_of c.settings slot).0) → IsSoundAfter maker decls (free_unknown_row slot after c f)
+  free_unknown_kept maker decls slot after c f core held settled shaped inside used =
       let j : ℕ = shard_of c.settings slot in
       let shard : ShardState = after_free (local_of c.settings slot) 0 (shard_at j c.shards) in
       let new : IsShardOf (shard_at j c.shards) shard = freed_shard (local_of c.settings slot) 0 (shard_at j c.shards) (core.shards j (core.layout.inside slot inside).0) used (omega arith) in
-      refused maker decls (with_shard j shard c) f e (core_with_shard maker j shard c core new.sound new.same) held settled
+      was_freed_kept maker decls after (with_shard j shard c) f (core_with_shard maker j shard c core new.sound new.same) held settled shaped

@@ -11,7 +11,7 @@ use Rattle.pool_alloc.specs.declared.pool_core.PoolCore.{PoolCore}
 use Rattle.pool_alloc.specs.declared.pool_core.Settings.{Settings}
 use Rattle.pool_alloc.specs.declared.frame.Frame.{Frame}
 use Rattle.pool_alloc.specs.declared.frame.Phase.{Phase}
-use Rattle.pool_alloc.specs.declared.frame.Phase.TheVariants.{TakeRegion, FreeRefused, UncountMemory, Merge, Free}
+use Rattle.pool_alloc.specs.declared.frame.Phase.TheVariants.{TakeRegion, FreeUnknown, UncountMemory, Merge, Free}
 
 -- the local queue once a memory was reset into it: it has that slot alone
 pub record IsResetLocal (maker : MakerTold) (s : Settings) (q : QueueState) : Type 0 where
@@ -24,7 +24,7 @@ module _ {P : Type 0} where
   -- has a slot of the local one.
   abbrev pub FitsAt : Phase P → PoolCore P → Frame P → Type 0
   FitsAt (TakeRegion slot) c f = is_taken (cell_at slot c.cells) ≡ false
-  FitsAt (FreeRefused slot e) c f = IsSome (use_of (shard_at (shard_of c.settings slot) c.shards) (local_of c.settings slot).0)
+  FitsAt (FreeUnknown slot after) c f = IsSome (use_of (shard_at (shard_of c.settings slot) c.shards) (local_of c.settings slot).0)
   FitsAt UncountMemory c f = All (λ l. l.index < length c.cells) f.returning.items
   FitsAt Merge c f = AreApart (queue_at (queue_tried 0 c f) c.queues).memories f.local.memories
   FitsAt (Free after) c f = AreUsedInTurn c.settings (freed_of c.settings (first_shard c.settings f.freed.items) f.freed.items) (shard_at (first_shard c.settings f.freed.items) c.shards)

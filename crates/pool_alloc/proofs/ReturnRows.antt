@@ -1,13 +1,15 @@
 -- Each step of a give-back and of a flush leaves what is sound.
 use Rattle.std.proofs.Common.{◌≡◌, ℕ, ◌+◌, ◌-◌, ◌^◌, ◌<◌, ◌≤◌, Bool, true, false, List, [], ◌∷◌, ◌++◌, length, refl, sym, ap, inl, inr, arith, Some, All}
-use Rattle.std.specs.Prelude.{◌==◌, ◌||◌, ◌*◌, min, not, nat_le, nat_lt, filter, if◌then◌else◌}
+use Rattle.std.specs.Prelude.{◌==◌, ◌||◌, ◌*◌, not, nat_le, nat_lt, filter, if◌then◌else◌}
 use Rattle.std.proofs.lemmas.Bool.{cases_lt, leb-false, or_parts}
 use Rattle.std.proofs.lemmas.List.{length-append}
 use Rattle.std.proofs.lemmas.List.Elements.{All-head, All-tail, All-same, All-push, All-filter}
 use Rattle.std.proofs.lemmas.List.Filters.{length-filter_both}
 use Rattle.pool_pages.specs.MakerTold.{MakerTold}
 use Rattle.pool_pages.specs.declared.module_types.MemoryDecl.{MemoryDecl}
-use Rattle.pool_images.specs.Slots.{Slot, IsClean, cleared, reset_ranges}
+use Rattle.pool_pages.specs.declared.pages.DecommitBehavior.{DecommitBehavior}
+use Rattle.pool_pages.specs.declared.pages.DecommitBehavior.TheVariants.{Zero, RestoreOriginalMapping}
+use Rattle.pool_images.specs.Slots.{Slot, IsClean, left_ranges, reset_slot}
 use Rattle.pool_images.specs.declared.ranges.ByteRange.{ByteRange}
 use Rattle.pool_index.specs.Shard.{ShardState}
 use Rattle.pool_memory.specs.Memories.{slot_of as image_slot_of}
@@ -15,16 +17,17 @@ use Rattle.pool_slots.specs.Cells.{unknown, previously_used, IsCell, IsSlotOf}
 use Rattle.pool_slots.specs.Queues.{QueueState, QueuedMemory, AreApart, LeavesClean, after_take, taken_into, emptied, joined}
 use Rattle.pool_alloc.specs.Leases.{Lease}
 use Rattle.pool_alloc.specs.Reserved.{with_item}
-use Rattle.pool_alloc.specs.Own.{slot_ended, reset_listed, reset_into}
+use Rattle.pool_alloc.specs.Own.{slot_ended, reset_into}
 use Rattle.pool_alloc.specs.Steps.{shard_at, queue_at, shard_of, freed_of, freed_elsewhere, first_shard, after_frees, cell_returned, goes, give_back_next, flushes, after_flush, queue_tried, with_shard, with_cell, with_queue, counting_instances, counting_memories, returns, uncount_memory_row, reset_row, merge_row, decommit_row, puts, put_region_row, free_row, answer_of, uncount_instance_row}
-use Rattle.pool_alloc.specs.Answers.{Decommits}
+use Rattle.pool_alloc.specs.Answers.{Decommits, Resets}
 use Rattle.pool_alloc.specs.Sound.{IsCore, IsShared, IsLocal, IsLeaseOf, IsQueuedOf, IsSettled, IsAtRest, IsShapedAfter}
 use Rattle.pool_alloc.specs.Calls.{IsGrantOf, IfGranted}
 use Rattle.pool_alloc.specs.Freeing.{AreUsedInTurn}
 use Rattle.pool_alloc.specs.declared.pool_core.PoolCore.{PoolCore}
 use Rattle.pool_alloc.specs.declared.frame.Frame.{Frame}
 use Rattle.pool_alloc.specs.declared.frame.FreedSlot.{FreedSlot}
-use Rattle.pool_alloc.specs.declared.frame.Phase.TheVariants.{Reset, Merge, PutRegion, Free}
+use Rattle.pool_alloc.specs.declared.frame.Phase.TheVariants.{PutUnknown, Reset, Merge, PutRegion, Free}
+use Rattle.pool_alloc.specs.declared.frame.AfterFree.TheVariants.{ReturnNext}
 use Rattle.pool_alloc.specs.declared.frame.AfterFlush.{AfterFlush}
 use Rattle.pool_alloc.specs.declared.frame.AfterFlush.TheVariants.{GiveBackNext}
 use Rattle.pool_alloc.specs.declared.frame.Ending.{Ending}
@@ -32,22 +35,23 @@ use Rattle.pool_alloc.specs.declared.frame.Ending.TheVariants as ending
 use Rattle.pool_alloc.proofs.CoreChanges.{core_with_shard, core_past_shards, core_with_cell, core_with_queue, core_with_counters}
 use Rattle.pool_alloc.proofs.QueueRuns.{first_leaves}
 use Rattle.pool_alloc.proofs.LocalQueues.{IsStillLocal, reset_local, taken_shared, taken_local, emptied_local, joined_local, joined_shared, decommitted_local, rest_local}
-use Rattle.pool_alloc.proofs.SlotIdentity.{one_cleared, slot_of_one}
+use Rattle.pool_alloc.proofs.SlotIdentity.{one_left, one_reset, slot_of_one}
 use Rattle.pool_alloc.proofs.ShardFrees.{IsShardOf, frees_shard}
 use Rattle.pool_alloc.proofs.Telling.{mod_below}
 use Rattle.pool_alloc.proofs.Going.{Held, IsSoundAfter, either, goes_on, goes_either, ended, gives_back_next, begins_flush, goes_after_flush, empty_length, some_length}
 
-returned_if : (maker : MakerTold) (static_size i : ℕ) (known : Bool) (s : Slot) → IsSlotOf maker static_size i s → (known ≡ true → IsClean s) → IsCell maker static_size i (if known then previously_used s else unknown s)
-returned_if maker static_size i true s of clean = (of, clean refl)
-returned_if maker static_size i false s of clean = of
+returned_if : (maker : MakerTold) (behaviour : DecommitBehavior) (static_size i : ℕ) (known : Bool) (s : Slot) → IsSlotOf maker behaviour static_size i s → (known ≡ true → IsClean s) → IsCell maker behaviour static_size i (if known then previously_used s else unknown s)
+returned_if maker behaviour static_size i true s of clean = (of, clean refl)
+returned_if maker behaviour static_size i false s of clean = of
 
 -- a reset leaves one range at most
 one_if_more : (b : Bool) (r : ByteRange) → length (if b then r ∷ [] else []) ≤ 1
 one_if_more true r = omega arith
 one_if_more false r = omega arith
 
-one_range : (keep accessible : ℕ) → length (reset_ranges keep accessible) ≤ 1
-one_range keep accessible = one_if_more (nat_lt keep accessible) (record { start = keep; len = accessible - keep })
+one_range : (b : DecommitBehavior) (keep accessible : ℕ) → length (left_ranges b keep accessible) ≤ 1
+one_range RestoreOriginalMapping keep accessible = one_if_more (nat_lt keep accessible) (record { start = keep; len = accessible - keep })
+one_range Zero keep accessible = omega arith
 
 fewer : (p : FreedSlot → Bool) (xs : List FreedSlot) → length (filter (λ x. not (p x)) xs) ≤ length xs
 fewer p xs = omega (arith, length-filter_both p (λ (x : FreedSlot). not (p x)) (λ x. refl) xs)
@@ -74,14 +78,20 @@ module _ {P : Type 0} where
   uncount_memory_kept maker decls c f core held settled none some inside =
       returns_kept maker decls f.returning.items (counting_memories (c.counters.memories - 1) c) f refl (core_with_counters maker (record c.counters { memories = c.counters.memories - 1 }) c core) held settled none some inside
 
-  -- The memory is reset.
-  pub reset_kept : (maker : MakerTold) (decls : List MemoryDecl) (lease : Lease) (c : PoolCore P) (f : Frame P) → IsCore maker c → Held maker c.settings f → IsSettled f → f.granted.items ≡ [] → IsSlotOf maker c.settings.max_memory_size lease.index (image_slot_of lease.memory) → LeavesClean (reset_listed c.settings.keep_resident.bytes lease.index (image_slot_of lease.memory)) (slot_ended c.settings.keep_resident.bytes lease.index (image_slot_of lease.memory)) → IsSoundAfter maker decls (reset_row lease c f)
-  reset_kept maker decls lease c f core held settled none of leaves =
+  -- The memory is reset, or a page call of that failed.
+  pub reset_kept : (maker : MakerTold) (decls : List MemoryDecl) (fault : Bool) (new : Slot) (lease : Lease) (c : PoolCore P) (f : Frame P) → IsCore maker c → Held maker c.settings f → IsSettled f → f.granted.items ≡ [] → lease.index < length c.cells → IsSlotOf maker c.settings.behaviour c.settings.max_memory_size lease.index (image_slot_of lease.memory) → Resets fault c.settings.keep_resident.bytes lease.index (image_slot_of lease.memory) new → IsSoundAfter maker decls (reset_row fault new lease c f)
+  reset_kept maker decls true new lease c f core held settled none inside of told =
+      let slot : Slot = image_slot_of lease.memory in
+      goes_on maker decls c f (PutUnknown lease.index new ReturnNext) core held
+      (settled, none, record { inside = inside; region = slot_of_one maker c.settings.behaviour c.settings.max_memory_size lease.index slot new (one_left slot new told.1) of })
+  reset_kept maker decls false new lease c f core held settled none inside of told =
       let keep : ℕ = c.settings.keep_resident.bytes in
       let slot : Slot = image_slot_of lease.memory in
-      let still : IsSlotOf maker c.settings.max_memory_size lease.index (cleared (min keep slot.accessible.bytes) slot) = slot_of_one maker c.settings.max_memory_size lease.index slot (cleared (min keep slot.accessible.bytes) slot) (one_cleared (min keep slot.accessible.bytes) slot) of in
-      let few : length (reset_ranges keep slot.accessible.bytes) ≤ 2 * c.settings.batch = omega (arith, one_range keep slot.accessible.bytes, core.settings.batch.0) in
-      let is = reset_local maker c.settings (reset_ranges keep slot.accessible.bytes) (slot_ended keep lease.index slot) f.local core.settings held.queue settled.no_ranges settled.no_slots few still leaves in
+      let ended_slot : Slot = reset_slot slot.region.behaviour keep slot in
+      let still : IsSlotOf maker c.settings.behaviour c.settings.max_memory_size lease.index ended_slot = slot_of_one maker c.settings.behaviour c.settings.max_memory_size lease.index slot ended_slot (one_reset slot.region.behaviour keep slot) of in
+      let ranges : List ByteRange = left_ranges slot.region.behaviour keep slot.accessible.bytes in
+      let few : length ranges ≤ 2 * c.settings.batch = omega (arith, one_range slot.region.behaviour keep slot.accessible.bytes, core.settings.batch.0) in
+      let is = reset_local maker c.settings ranges (slot_ended keep lease.index slot) f.local core.settings held.queue settled.no_ranges settled.no_slots few still told.1 in
       let q : QueueState = reset_into c.settings.keep_resident.bytes lease.index (image_slot_of lease.memory) f.local in
       let has : Frame P = record f { local = q } in
       let freed : length f.freed.items ≡ 0 = ap length settled.none_freed in
@@ -160,8 +170,8 @@ module _ {P : Type 0} where
   puts_kept : (maker : MakerTold) (decls : List MemoryDecl) (after : AfterFlush) (memories : List QueuedMemory) (c : PoolCore P) (f : Frame P) → f.local.memories ≡ memories → IsCore maker c → Held maker c.settings f → IsShapedAfter c.settings (length c.queues) after f → f.local.ranges ≡ [] → 0 < length memories → IsSoundAfter maker decls (puts after memories c f)
   puts_kept maker decls after [] c f e core held goes_to none some = absurd (omega arith)
   puts_kept maker decls after (m ∷ rest) c f e core held goes_to none some =
-      let Q : QueuedMemory → Type 0 = IsQueuedOf maker c.settings.max_memory_size in
-      let of : IsQueuedOf maker c.settings.max_memory_size m = All-head Q m rest (All-same Q (m ∷ rest) f.local.memories (sym e) held.queue.regions) in
+      let Q : QueuedMemory → Type 0 = IsQueuedOf maker c.settings.behaviour c.settings.max_memory_size in
+      let of : IsQueuedOf maker c.settings.behaviour c.settings.max_memory_size m = All-head Q m rest (All-same Q (m ∷ rest) f.local.memories (sym e) held.queue.regions) in
       let leaves : LeavesClean [] m = first_leaves m rest f.local none e held.queue.queue in
       let x : FreedSlot = record { slot = m.index; bytes = m.bytes } in
       let new : PoolCore P = with_cell m.index (cell_returned m) c in
@@ -169,7 +179,7 @@ module _ {P : Type 0} where
       let long : length f.local.memories ≡ length (m ∷ rest) = ap length e in
       let more : length (f.freed.items ++ x ∷ []) ≡ length f.freed.items + 1 = length-append f.freed.items (x ∷ []) in
       goes_either maker decls new has (length rest == 0) (Free after) (PutRegion after)
-      (core_with_cell maker m.index (cell_returned m) c core (returned_if maker c.settings.max_memory_size m.index m.known m.slot of.slot leaves.clean))
+      (core_with_cell maker m.index (cell_returned m) c core (returned_if maker c.settings.behaviour c.settings.max_memory_size m.index m.known m.slot of.slot leaves.clean))
       (record {
         stripe = held.stripe;
         queue = rest_local maker c.settings m rest f.local none e held.queue;

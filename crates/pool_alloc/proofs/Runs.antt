@@ -10,7 +10,7 @@ use Rattle.pool_slots.specs.declared.queued_range.QueuedRange.{QueuedRange}
 use Rattle.pool_slots.specs.Queues.{QueueState, QueuedMemory, same_kind, is_held, is_of, first_slot, behind, joined}
 use Rattle.pool_slots.proofs.QueueLists.{AreOwned}
 use Rattle.pool_slots.proofs.QueueRuns.{of_slot, of_kind}
-use Rattle.pool_images.specs.Slots.{Slot, reset_ranges}
+use Rattle.pool_images.specs.Slots.{Slot, left_ranges}
 use Rattle.pool_alloc.specs.Answers.{Decommits}
 use Rattle.pool_alloc.specs.Own.{reset_into, slot_ended}
 use Rattle.pool_alloc.proofs.SlotIdentity.{length_after_run}
@@ -89,7 +89,7 @@ grouped_decommitted false old new run grouped =
 -- and in an empty one after a reset.
 pub grouped_reset : (keep index : ℕ) (slot : Slot) (q : QueueState) → q.ranges ≡ [] → q.memories ≡ [] → IsGrouped (reset_into keep index slot q)
 grouped_reset keep index slot q none no_slots =
-    let ranges : List ByteRange = reset_ranges keep slot.accessible.bytes in
+    let ranges : List ByteRange = left_ranges slot.region.behaviour keep slot.accessible.bytes in
     let listed : List QueuedRange = map (λ r. record { kind = Memory; slot = record { 0 = index }; range = r }) ranges in
     let first : q.ranges ++ listed ≡ listed = ap (λ (rs : List QueuedRange). rs ++ listed) none in
     omega (arith, ap runs first, one_run index ranges, length_push q.memories (slot_ended keep index slot))

@@ -1,5 +1,5 @@
 -- A slot stays that of its region, whatever calls were made on it.
-use Rattle.std.proofs.Common.{◌≡◌, ℕ, ◌+◌, ◌-◌, ◌^◌, ◌≤◌, Bool, true, false, List, [], ◌∷◌, length, refl, ap, ◌∙◌, sym, subst, arith, Option, Some, None, All, replicate, slice_range}
+use Rattle.std.proofs.Common.{◌≡◌, ℕ, ◌+◌, ◌-◌, ◌^◌, ◌≤◌, Bool, true, false, List, [], ◌∷◌, length, refl, ap, ◌∙◌, sym, subst, arith, Option, Some, None, All, replicate, slice_range, min}
 use Rattle.std.specs.Prelude.{IfSome, is_some, option_map, map, if◌then◌else◌}
 use Rattle.std.specs.List.{AllZip}
 use Rattle.std.proofs.lemmas.List.{length-map, length-replicate}
@@ -8,8 +8,10 @@ use Rattle.pool_pages.specs.Count.{count, rounded_up}
 use Rattle.pool_pages.specs.Contents.{Contents, CanReach}
 use Rattle.pool_pages.specs.Told.{Told, PageCall, decommitting}
 use Rattle.pool_pages.specs.MakerTold.{MakerTold, fresh}
+use Rattle.pool_pages.specs.declared.pages.DecommitBehavior.{DecommitBehavior}
+use Rattle.pool_pages.specs.declared.pages.DecommitBehavior.TheVariants.{Zero, RestoreOriginalMapping}
 use Rattle.pool_images.specs.declared.ranges.ByteRange.{ByteRange}
-use Rattle.pool_images.specs.Slots.{Slot, IsFresh, IsClean, IsReady, IsLeft, IsSized, Holds, size_of, called, cleared, emptied, decommitted_all}
+use Rattle.pool_images.specs.Slots.{Slot, IsFresh, IsClean, IsReady, IsLeft, IsSized, Holds, size_of, called, cleared, emptied, reset_slot, decommitted_all}
 use Rattle.pool_images.proofs.Marks.{range-zeros}
 use Rattle.pool_slots.specs.Cells.{IsSlotOf, region_made}
 use Rattle.pool_slots.specs.Queues.{QueueState, QueuedMemory, IsLeftBy, IsSlotLeft, is_of, front, first_slot, change_at, after_run}
@@ -25,11 +27,12 @@ pub record IsOneSlot (old new : Slot) : Type 0 where
   pub name : new.region.name ≡ old.region.name
   pub page : new.region.page ≡ old.region.page
   pub len : new.region.len ≡ old.region.len
+  pub behaviour : new.region.behaviour ≡ old.region.behaviour
   pub plan : new.region.plan ≡ old.region.plan
   pub tells : is_some new.region.contents ≡ is_some old.region.contents
 
 pub one_slot : (s : Slot) → IsOneSlot s s
-one_slot s = record { base = refl; static_size = refl; colour = refl; name = refl; page = refl; len = refl; plan = refl; tells = refl }
+one_slot s = record { base = refl; static_size = refl; colour = refl; name = refl; page = refl; len = refl; behaviour = refl; plan = refl; tells = refl }
 
 tells_still : (f : Contents → Contents) (o : Option Contents) → is_some (option_map f o) ≡ is_some o
 tells_still f None = refl
@@ -44,6 +47,7 @@ one_called s t call one =
       name = one.name;
       page = one.page;
       len = one.len;
+      behaviour = one.behaviour;
       plan = one.plan;
       tells = tells_still call.change t.region.contents ∙ one.tells;
     }
@@ -57,6 +61,7 @@ one_left old new left =
       name = left.name;
       page = left.page;
       len = left.len;
+      behaviour = left.behaviour;
       plan = left.plan;
       tells = left.tells;
     }
@@ -70,6 +75,7 @@ one_sized initial hide old new sized =
       name = sized.name;
       page = sized.page;
       len = sized.len;
+      behaviour = sized.behaviour;
       plan = sized.plan;
       tells = sized.tells;
     }
@@ -83,6 +89,7 @@ one_emptied s =
       name = refl;
       page = refl;
       len = refl;
+      behaviour = refl;
       plan = refl;
       tells = tells_still _ s.region.contents;
     }
@@ -91,7 +98,7 @@ pub one_decommitted : (s t : Slot) (ranges : List ByteRange) → IsOneSlot s t �
 one_decommitted s t [] one = one
 one_decommitted s t (r ∷ rs) one = one_decommitted s (called (decommitting (t.base.bytes + r.start) r.len) t) rs (one_called s t (decommitting (t.base.bytes + r.start) r.len) one)
 
-pub one_cleared : (kept : ℕ) (s : Slot) → IsOneSlot s (cleared kept s)
+one_cleared : (kept : ℕ) (s : Slot) → IsOneSlot s (cleared kept s)
 one_cleared kept s =
     record {
       base = refl;
@@ -100,18 +107,24 @@ one_cleared kept s =
       name = refl;
       page = refl;
       len = refl;
+      behaviour = refl;
       plan = refl;
       tells = tells_still _ s.region.contents;
     }
 
+pub one_reset : (b : DecommitBehavior) (keep : ℕ) (s : Slot) → IsOneSlot s (reset_slot b keep s)
+one_reset RestoreOriginalMapping keep s = one_cleared (min keep s.accessible.bytes) s
+one_reset Zero keep s = one_emptied s
+
 -- the slot of one region stays that
-pub slot_of_one : (maker : MakerTold) (static_size i : ℕ) (old new : Slot) → IsOneSlot old new → IsSlotOf maker static_size i old → IsSlotOf maker static_size i new
-slot_of_one maker static_size i old new one of =
+pub slot_of_one : (maker : MakerTold) (behaviour : DecommitBehavior) (static_size i : ℕ) (old new : Slot) → IsOneSlot old new → IsSlotOf maker behaviour static_size i old → IsSlotOf maker behaviour static_size i new
+slot_of_one maker behaviour static_size i old new one of =
     record {
       region = record {
         name = one.name ∙ of.region.name;
         page = one.page ∙ of.region.page;
         len = one.len ∙ of.region.len;
+        behaves = one.behaviour ∙ of.region.behaves;
         plan = one.plan ∙ of.region.plan;
         tells = one.tells ∙ of.region.tells;
       };
@@ -125,12 +138,12 @@ tells_as : (page len : ℕ) (tells : Bool) → is_some (if tells then Some (fres
 tells_as page len true = refl
 tells_as page len false = refl
 
-pub slot_made : (maker : MakerTold) (page static_size i : ℕ) (region : Told) → page ≡ maker.page → region ≡ region_made maker static_size i → IsSlotOf maker static_size i (image_made page static_size region)
-slot_made maker page static_size i region paged is =
-    let P : ℕ → Told → Type 0 = λ n t. IsSlotOf maker static_size i (image_made n static_size t) in
-    let made : P maker.page (region_made maker static_size i) =
+pub slot_made : (maker : MakerTold) (behaviour : DecommitBehavior) (page static_size i : ℕ) (region : Told) → page ≡ maker.page → region ≡ region_made maker behaviour static_size i → IsSlotOf maker behaviour static_size i (image_made page static_size region)
+slot_made maker behaviour page static_size i region paged is =
+    let P : ℕ → Told → Type 0 = λ n t. IsSlotOf maker behaviour static_size i (image_made n static_size t) in
+    let made : P maker.page (region_made maker behaviour static_size i) =
     record {
-      region = record { name = refl; page = refl; len = refl; plan = refl; tells = tells_as maker.page (rounded_up maker.page static_size) maker.tells };
+      region = record { name = refl; page = refl; len = refl; behaves = refl; plan = refl; tells = tells_as maker.page (rounded_up maker.page static_size) maker.tells };
       base = refl;
       same_size = refl;
       colour = refl;
@@ -153,13 +166,13 @@ parts_told : (P Q : Contents → Type 0) (o : Option Contents) → IfSome o (λ 
 parts_told P Q None h = (h, h)
 parts_told P Q (Some c) h = (h.0, h.1)
 
-pub clean_made : (maker : MakerTold) (page static_size i : ℕ) (region : Told) → page ≡ maker.page → region ≡ region_made maker static_size i → IsClean (image_made page static_size region)
-clean_made maker page static_size i region paged is =
+pub clean_made : (maker : MakerTold) (behaviour : DecommitBehavior) (page static_size i : ℕ) (region : Told) → page ≡ maker.page → region ≡ region_made maker behaviour static_size i → IsClean (image_made page static_size region)
+clean_made maker behaviour page static_size i region paged is =
     let P : ℕ → Told → Type 0 = λ n t. IsClean (image_made n static_size t) in
-    let fresh_region : Told = region_made maker static_size i in
+    let fresh_region : Told = region_made maker behaviour static_size i in
     let s : Slot = image_made maker.page static_size fresh_region in
     let told = parts_told (IsReady s) (Holds s 0 (size_of s)) fresh_region.contents (made_told maker.page static_size (rounded_up maker.page static_size) maker.tells fresh_region) in
-    let made : P maker.page (region_made maker static_size i) = record { not_dirty = refl; ready = told.0; holds = told.1 } in
+    let made : P maker.page (region_made maker behaviour static_size i) = record { not_dirty = refl; image = refl; ready = told.0; holds = told.1 } in
     subst (λ (n : ℕ). P n region) (sym paged) (subst (P maker.page) (sym is) made)
 
 -- and the image slot can be made of it
@@ -173,11 +186,11 @@ weaker : (P Q : Contents → Type 0) (o : Option Contents) → ((c : Contents) �
 weaker P Q None step h = h
 weaker P Q (Some c) step h = step c h
 
-pub fresh_made : (maker : MakerTold) (page static_size i : ℕ) (region : Told) → page ≡ maker.page → static_size + page ≤ 2 ^ 64 → region ≡ region_made maker static_size i → IsFresh (count page 0) (count page 0) static_size region
-fresh_made maker page static_size i region paged bounded is =
+pub fresh_made : (maker : MakerTold) (behaviour : DecommitBehavior) (page static_size i : ℕ) (region : Told) → page ≡ maker.page → static_size + page ≤ 2 ^ 64 → region ≡ region_made maker behaviour static_size i → IsFresh (count page 0) (count page 0) static_size region
+fresh_made maker behaviour page static_size i region paged bounded is =
     let P : ℕ → Told → Type 0 = λ n t. IsFresh (count n 0) (count n 0) static_size t in
     let B : ℕ → Type 0 = λ n. static_size + n ≤ 2 ^ 64 in
-    let t : Told = region_made maker static_size i in
+    let t : Told = region_made maker behaviour static_size i in
     let len : ℕ = rounded_up maker.page static_size in
     let T : Contents → Type 0 = λ c. (c.origin ≡ replicate len 0) × (slice_range c.bytes 0 (0 + len) ≡ replicate len 0) × CanReach 0 0 c in
     let told : IfSome t.contents T = fresh_told maker.page len maker.tells in
@@ -188,7 +201,6 @@ fresh_made maker page static_size i region paged bounded is =
       inside = omega arith;
       bounded = subst B paged bounded;
       within = omega arith;
-      behaviour = refl;
       origin = weaker T (λ c. c.origin ≡ replicate len 0) t.contents (λ c h. h.0) told;
       zeros = weaker T (λ c. slice_range c.bytes 0 (0 + len) ≡ replicate len 0) t.contents (λ c h. h.1) told;
       reach = weaker T (CanReach 0 0) t.contents (λ c h. h.2) told;
@@ -196,20 +208,20 @@ fresh_made maker page static_size i region paged bounded is =
     subst (λ (n : ℕ). P n region) (sym paged) (subst (P maker.page) (sym is) made)
 
 -- Queued slots stay those of their regions as ranges of one are decommitted.
-changed_if : (maker : MakerTold) (static_size : ℕ) (change : Slot → Slot) (m : QueuedMemory) (b : Bool) → ((s : Slot) → IsOneSlot s (change s)) → IsQueuedOf maker static_size m → IsQueuedOf maker static_size (if b then record m { slot = change m.slot } else m)
-changed_if maker static_size change m true one of = record { slot = slot_of_one maker static_size m.index m.slot (change m.slot) (one m.slot) of.slot }
-changed_if maker static_size change m false one of = of
+changed_if : (maker : MakerTold) (behaviour : DecommitBehavior) (static_size : ℕ) (change : Slot → Slot) (m : QueuedMemory) (b : Bool) → ((s : Slot) → IsOneSlot s (change s)) → IsQueuedOf maker behaviour static_size m → IsQueuedOf maker behaviour static_size (if b then record m { slot = change m.slot } else m)
+changed_if maker behaviour static_size change m true one of = record { slot = slot_of_one maker behaviour static_size m.index m.slot (change m.slot) (one m.slot) of.slot }
+changed_if maker behaviour static_size change m false one of = of
 
-queued_changed : (maker : MakerTold) (static_size slot : ℕ) (ranges : List ByteRange) (ms : List QueuedMemory) → All (IsQueuedOf maker static_size) ms → All (IsQueuedOf maker static_size) (map (change_at slot (decommitted_all ranges)) ms)
-queued_changed maker static_size slot ranges [] of = All-nil (IsQueuedOf maker static_size)
-queued_changed maker static_size slot ranges (m ∷ ms) of =
-    let P : QueuedMemory → Type 0 = IsQueuedOf maker static_size in
+queued_changed : (maker : MakerTold) (behaviour : DecommitBehavior) (static_size slot : ℕ) (ranges : List ByteRange) (ms : List QueuedMemory) → All (IsQueuedOf maker behaviour static_size) ms → All (IsQueuedOf maker behaviour static_size) (map (change_at slot (decommitted_all ranges)) ms)
+queued_changed maker behaviour static_size slot ranges [] of = All-nil (IsQueuedOf maker behaviour static_size)
+queued_changed maker behaviour static_size slot ranges (m ∷ ms) of =
+    let P : QueuedMemory → Type 0 = IsQueuedOf maker behaviour static_size in
     All-cons P (change_at slot (decommitted_all ranges) m) (map (change_at slot (decommitted_all ranges)) ms)
-    (changed_if maker static_size (decommitted_all ranges) m _ (λ s. one_decommitted s s ranges (one_slot s)) (All-head P m ms of))
-    (queued_changed maker static_size slot ranges ms (All-tail P m ms of))
+    (changed_if maker behaviour static_size (decommitted_all ranges) m _ (λ s. one_decommitted s s ranges (one_slot s)) (All-head P m ms of))
+    (queued_changed maker behaviour static_size slot ranges ms (All-tail P m ms of))
 
-pub queued_after_run : (maker : MakerTold) (static_size : ℕ) (q : QueueState) → All (IsQueuedOf maker static_size) q.memories → All (IsQueuedOf maker static_size) (after_run q).memories
-queued_after_run maker static_size q of = queued_changed maker static_size (first_slot q.ranges) (map (λ r. r.range) (front (is_of Memory (first_slot q.ranges)) q.ranges)) q.memories of
+pub queued_after_run : (maker : MakerTold) (behaviour : DecommitBehavior) (static_size : ℕ) (q : QueueState) → All (IsQueuedOf maker behaviour static_size) q.memories → All (IsQueuedOf maker behaviour static_size) (after_run q).memories
+queued_after_run maker behaviour static_size q of = queued_changed maker behaviour static_size (first_slot q.ranges) (map (λ r. r.range) (front (is_of Memory (first_slot q.ranges)) q.ranges)) q.memories of
 
 pub length_after_run : (q : QueueState) → length (after_run q).memories ≡ length q.memories
 length_after_run q = length-map q.memories (change_at (first_slot q.ranges) (decommitted_all (map (λ r. r.range) (front (is_of Memory (first_slot q.ranges)) q.ranges))))
@@ -219,15 +231,15 @@ left_if : (b : Bool) (old new : Slot) → IsSlotLeft b old new → IsOneSlot old
 left_if true old new left = one_left old new left
 left_if false old new same = rw same (one_slot old)
 
-queued_left : (maker : MakerTold) (static_size faulted : ℕ) (old new : QueuedMemory) → IsLeftBy faulted old new → IsQueuedOf maker static_size old → IsQueuedOf maker static_size new
-queued_left maker static_size faulted old new left of =
-    let I : ℕ → Type 0 = λ i. IsSlotOf maker static_size i new.slot in
-    record { slot = subst I (sym left.index) (slot_of_one maker static_size old.index old.slot new.slot (left_if _ old.slot new.slot left.slot) of.slot) }
+queued_left : (maker : MakerTold) (behaviour : DecommitBehavior) (static_size faulted : ℕ) (old new : QueuedMemory) → IsLeftBy faulted old new → IsQueuedOf maker behaviour static_size old → IsQueuedOf maker behaviour static_size new
+queued_left maker behaviour static_size faulted old new left of =
+    let I : ℕ → Type 0 = λ i. IsSlotOf maker behaviour static_size i new.slot in
+    record { slot = subst I (sym left.index) (slot_of_one maker behaviour static_size old.index old.slot new.slot (left_if _ old.slot new.slot left.slot) of.slot) }
 
-pub queued_faulted : (maker : MakerTold) (static_size faulted : ℕ) (olds news : List QueuedMemory) → AllZip (IsLeftBy faulted) olds news → All (IsQueuedOf maker static_size) olds → All (IsQueuedOf maker static_size) news
-queued_faulted maker static_size faulted [] [] left of = of
-queued_faulted maker static_size faulted [] (n ∷ ns) left of = absurd left
-queued_faulted maker static_size faulted (m ∷ ms) [] left of = absurd left
-queued_faulted maker static_size faulted (m ∷ ms) (n ∷ ns) left of =
-    let P : QueuedMemory → Type 0 = IsQueuedOf maker static_size in
-    All-cons P n ns (queued_left maker static_size faulted m n left.0 (All-head P m ms of)) (queued_faulted maker static_size faulted ms ns left.1 (All-tail P m ms of))
+pub queued_faulted : (maker : MakerTold) (behaviour : DecommitBehavior) (static_size faulted : ℕ) (olds news : List QueuedMemory) → AllZip (IsLeftBy faulted) olds news → All (IsQueuedOf maker behaviour static_size) olds → All (IsQueuedOf maker behaviour static_size) news
+queued_faulted maker behaviour static_size faulted [] [] left of = of
+queued_faulted maker behaviour static_size faulted [] (n ∷ ns) left of = absurd left
+queued_faulted maker behaviour static_size faulted (m ∷ ms) [] left of = absurd left
+queued_faulted maker behaviour static_size faulted (m ∷ ms) (n ∷ ns) left of =
+    let P : QueuedMemory → Type 0 = IsQueuedOf maker behaviour static_size in
+    All-cons P n ns (queued_left maker behaviour static_size faulted m n left.0 (All-head P m ms of)) (queued_faulted maker behaviour static_size faulted ms ns left.1 (All-tail P m ms of))

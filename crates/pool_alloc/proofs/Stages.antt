@@ -7,7 +7,6 @@ use Rattle.pool_images.specs.Slots.{Slot}
 use Rattle.pool_index.specs.Shard.{is_used}
 use Rattle.pool_slots.specs.Cells.{is_taken}
 use Rattle.pool_slots.specs.Queues.{QueueState, QueuedMemory, empty_queue, holds, AreDistinct, AreApart, joined, emptied, IsSpareOf}
-use Rattle.pool_slots.specs.declared.request.AllocError.{AllocError}
 use Rattle.pool_alloc.specs.Freeing.{AreUsedInTurn}
 use Rattle.pool_alloc.specs.Leases.{Lease}
 use Rattle.pool_alloc.specs.Places.{Thing, slot_of, region_of, slot_count, both_count, queued_count, freed_count, frame_count}
@@ -16,10 +15,11 @@ use Rattle.pool_alloc.specs.Steps.{shard_at, queue_at, cell_at, shard_of, local_
 use Rattle.pool_alloc.specs.Stepping.{CanStep}
 use Rattle.pool_alloc.specs.declared.pool_core.PoolCore.{PoolCore}
 use Rattle.pool_alloc.specs.declared.frame.AfterFlush.{AfterFlush}
+use Rattle.pool_alloc.specs.declared.frame.AfterFree.{AfterFree}
 use Rattle.pool_alloc.specs.declared.frame.Frame.{Frame}
 use Rattle.pool_alloc.specs.declared.frame.FreedSlot.{FreedSlot}
 use Rattle.pool_alloc.specs.declared.frame.Phase.{Phase}
-use Rattle.pool_alloc.specs.declared.frame.Phase.TheVariants.{Idle, TakeRegion, PutRefused, FreeRefused, Reset, Merge, PutRegion, Free}
+use Rattle.pool_alloc.specs.declared.frame.Phase.TheVariants.{Idle, TakeRegion, PutUnknown, FreeUnknown, Reset, Merge, PutRegion, Free}
 use Rattle.pool_alloc.proofs.Balances.{in_phase}
 use Rattle.pool_alloc.proofs.FreedSlots.{first_is_shard, freed_in_turn}
 use Rattle.pool_alloc.proofs.Held.{made_once, not_kept, held_is_inside, held_is_used, region_is_home, region_is_away}
@@ -86,13 +86,13 @@ module _ {P : Type 0} where
       region_is_home slot c (in_phase (TakeRegion slot) f) fits some
       (omega (arith, slot_once slot, (not_kept (slot_of slot) c (in_phase (TakeRegion slot) f) fits some).0, frame_regions slot (in_phase Idle f)))
 
-  -- The region of a refused memory isn't.
-  pub refused_is_away : (slot : ℕ) (held : Slot) (e : AllocError) (c : PoolCore P) (f : Frame P) → Fits c (in_phase (PutRefused slot held e) f) → is_taken (cell_at slot c.cells) ≡ true
-  refused_is_away slot held e c f fits = region_is_away slot c (in_phase (PutRefused slot held e) f) fits (omega (arith, region_once slot))
+  -- The region of a slot of which nothing is known isn't.
+  pub unknown_is_away : (slot : ℕ) (held : Slot) (after : AfterFree) (c : PoolCore P) (f : Frame P) → Fits c (in_phase (PutUnknown slot held after) f) → is_taken (cell_at slot c.cells) ≡ true
+  unknown_is_away slot held after c f fits = region_is_away slot c (in_phase (PutUnknown slot held after) f) fits (omega (arith, region_once slot))
 
-  -- The slot of a refused memory is used.
-  pub refused_is_used : (maker : MakerTold) (slot : ℕ) (e : AllocError) (c : PoolCore P) (f : Frame P) → CanStep maker c (in_phase (FreeRefused slot e) f) → is_used (shard_at (shard_of c.settings slot) c.shards) (local_of c.settings slot).0 ≡ true
-  refused_is_used maker slot e c f can = held_is_used maker slot c (in_phase (FreeRefused slot e) f) can.core can.fits (omega (arith, slot_once slot))
+  -- The slot is used.
+  pub unknown_is_used : (maker : MakerTold) (slot : ℕ) (after : AfterFree) (c : PoolCore P) (f : Frame P) → CanStep maker c (in_phase (FreeUnknown slot after) f) → is_used (shard_at (shard_of c.settings slot) c.shards) (local_of c.settings slot).0 ≡ true
+  unknown_is_used maker slot after c f can = held_is_used maker slot c (in_phase (FreeUnknown slot after) f) can.core can.fits (omega (arith, slot_once slot))
 
   -- A memory that is reset isn't in the local queue, and no range of that is one of its slot.
   pub reset_is_not_queued : (maker : MakerTold) (lease : Lease) (c : PoolCore P) (f : Frame P) → CanStep maker c (in_phase (Reset lease) f) → (f.local.ranges ≡ []) × (holds lease.index f.local.memories ≡ false)

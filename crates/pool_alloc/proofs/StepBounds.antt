@@ -9,7 +9,7 @@ use Rattle.std.proofs.lemmas.List.Sums.{get_or-le-sum_by}
 use Rattle.pool_pages.specs.MakerTold.{MakerTold}
 use Rattle.pool_pages.specs.declared.unsupported.Unsupported.{Unsupported}
 use Rattle.pool_images.specs.Slots.{Slot}
-use Rattle.pool_index.specs.Shard.{ShardState, pick_answer, after_pick}
+use Rattle.pool_index.specs.Shard.{ShardState, pick_answer, after_pick, after_free}
 use Rattle.pool_index.specs.declared.ids.SlotId.{SlotId}
 use Rattle.pool_limits.specs.LimiterTold.{LimiterTold}
 use Rattle.pool_memory.specs.Memories.{MemoryState, slot_of as image_slot_of}
@@ -18,14 +18,14 @@ use Rattle.pool_slots.specs.Queues.{QueueState, QueuedMemory, empty_queue, joine
 use Rattle.pool_slots.specs.declared.queued_range.QueuedRange.{QueuedRange}
 use Rattle.pool_slots.specs.declared.request.AllocError.{AllocError}
 use Rattle.pool_alloc.specs.Answers.{MayBeTold, Decommits}
-use Rattle.pool_alloc.specs.Bounds.{PoolSizes, flush_bound, allocation_bound, give_back_bound, return_bound, runs, IsGrouped, AreGrouped, HasGroups, pool_sizes, bound_of, flush_left, returns_left, memories_left, queues_left, picks_left, left_after_flush, steps_at, steps_left}
+use Rattle.pool_alloc.specs.Bounds.{PoolSizes, flush_bound, allocation_bound, give_back_bound, return_bound, runs, IsGrouped, AreGrouped, HasGroups, pool_sizes, bound_of, flush_left, returns_left, memories_left, queues_left, picks_left, left_after_flush, left_after_free, steps_at, steps_left}
 use Rattle.pool_alloc.specs.Calls.{IsIdle, begun_call}
 use Rattle.pool_alloc.specs.Leases.{Lease}
 use Rattle.pool_alloc.specs.Own.{memory_made, slot_ended, reset_into}
 use Rattle.pool_alloc.specs.Places.{slot_of, queued_count}
 use Rattle.pool_alloc.specs.Refusals.{memories_refused}
 use Rattle.pool_alloc.specs.Reserved.{Reserved, with_item, no_room}
-use Rattle.pool_alloc.specs.Steps.{Given, After, memories_asked, shard_at, cell_at, queue_at, shard_of, freed_of, freed_elsewhere, first_shard, after_frees, with_shard, with_cell, with_queue, counting_instances, counting_memories, goes, give_back_next, refuses, allocate_next, flushes, after_flush, no_slot, were_freed, validated, shard_tried, queue_tried, picked, wanted, holds_region, made, returns, cell_returned, puts, row_of, row}
+use Rattle.pool_alloc.specs.Steps.{Given, After, memories_asked, shard_at, cell_at, queue_at, shard_of, local_of, freed_of, freed_elsewhere, first_shard, after_frees, with_shard, with_cell, with_queue, counting_instances, counting_memories, goes, give_back_next, refuses, allocate_next, was_freed, flushes, after_flush, no_slot, were_freed, validated, shard_tried, queue_tried, picked, wanted, holds_region, made, returns, cell_returned, puts, row_of, row}
 use Rattle.pool_alloc.specs.Stepping.{CanStep, StepsTo, IsSameSize, is_idle}
 use Rattle.pool_alloc.specs.declared.pool_core.PoolCore.{PoolCore}
 use Rattle.pool_alloc.specs.declared.pool_core.Settings.{Settings}
@@ -37,7 +37,9 @@ use Rattle.pool_alloc.specs.declared.frame.FreedSlot.{FreedSlot}
 use Rattle.pool_alloc.specs.declared.frame.Grant.TheVariants.{Instance}
 use Rattle.pool_alloc.specs.declared.frame.ModuleCall.{ModuleCall}
 use Rattle.pool_alloc.specs.declared.frame.Phase.{Phase}
-use Rattle.pool_alloc.specs.declared.frame.Phase.TheVariants.{Idle, Key, Validate, CountInstance, Pick, TakeQueue, TakeRegion, Empty, Instantiate, MakeMemory, CountMemory, PutRefused, FreeRefused, UncountMemory, Reset, Merge, Decommit, PutRegion, Free, UncountInstance}
+use Rattle.pool_alloc.specs.declared.frame.Phase.TheVariants.{Idle, Key, Validate, CountInstance, Pick, TakeQueue, TakeRegion, Empty, Instantiate, MakeMemory, CountMemory, PutUnknown, FreeUnknown, UncountMemory, Reset, Merge, Decommit, PutRegion, Free, UncountInstance}
+use Rattle.pool_alloc.specs.declared.frame.AfterFree.{AfterFree}
+use Rattle.pool_alloc.specs.declared.frame.AfterFree.TheVariants.{Refuse, ReturnNext}
 use Rattle.pool_alloc.specs.declared.frame.AfterFlush.{AfterFlush}
 use Rattle.pool_alloc.specs.declared.frame.AfterFlush.TheVariants.{PickAgain, GiveBackNext}
 use Rattle.pool_alloc.proofs.Balances.{in_phase}
@@ -198,6 +200,10 @@ module _ {P : Type 0} where
     flushed (PickAgain queues) f = record { most = omega arith }
     flushed GiveBackNext f = gives_back f
 
+    freed_unknown : (after : AfterFree) (f : Frame P) → Leaves z (left_after_free z after f.asked f.granted f.returning) (was_freed after d f)
+    freed_unknown (Refuse e) f = weaker z (return_bound z (length f.granted.items)) (memories_left z f.asked f.granted) _ (omega arith) (refused f e)
+    freed_unknown ReturnNext f = gives_back f
+
     begins_flush : (after : AfterFlush) (f : Frame P) → Leaves z (flush_left f.local f.freed + left_after_flush z after f.asked f.granted f.returning) (flushes after d f)
     begins_flush after f = one_phase z d f (length f.local.ranges == 0) (PutRegion after) (Decommit after) _ (omega arith) (omega arith)
 
@@ -297,10 +303,10 @@ module _ {P : Type 0} where
       fewer z (5 + memories_left z f.asked f.granted) _ _ (takes z (with_cell slot taken c) slot (cell_at slot c.cells) (in_phase (TakeRegion slot) f)) (omega arith)
   fewer_at maker g (Empty slot had) c f on can told queues local =
       let z : PoolSizes = pool_sizes c in
-      fewer z (4 + memories_left z f.asked f.granted) _ _ (one_phase z c (in_phase (Empty slot had) f) g.fault (PutRefused slot g.slot _) (Instantiate slot g.slot) _ (omega arith) (omega arith)) (omega arith)
+      fewer z (4 + memories_left z f.asked f.granted) _ _ (one_phase z c (in_phase (Empty slot had) f) g.fault (PutUnknown slot g.slot _) (Instantiate slot g.slot) _ (omega arith) (omega arith)) (omega arith)
   fewer_at maker g (Instantiate slot had) c f on can told queues local =
       let z : PoolSizes = pool_sizes c in
-      fewer z (3 + memories_left z f.asked f.granted) _ _ (one_phase z c (in_phase (Instantiate slot had) f) g.fault (PutRefused slot g.slot _) (MakeMemory slot g.slot) _ (omega arith) (omega arith)) (omega arith)
+      fewer z (3 + memories_left z f.asked f.granted) _ _ (one_phase z c (in_phase (Instantiate slot had) f) g.fault (PutUnknown slot g.slot _) (MakeMemory slot g.slot) _ (omega arith) (omega arith)) (omega arith)
   fewer_at maker g (MakeMemory slot had) c f on can told queues local =
       let z : PoolSizes = pool_sizes c in
       fewer z (2 + memories_left z f.asked f.granted) _ _ (makes z c slot had (memory_made c.settings (memories_asked f.asked) (length f.granted.items) g.limiter had) (in_phase (MakeMemory slot had) f)) (omega arith)
@@ -309,10 +315,10 @@ module _ {P : Type 0} where
       fewer z (memories_left z f.asked f.granted) _ _
       (allocates z (counting_memories (c.counters.memories + 1) c) (record f { granted = with_item lease f.granted; phase = CountMemory lease }) (memories_left z f.asked f.granted) (λ more. next_memory z f.asked lease f.granted more))
       (omega arith)
-  fewer_at maker g (PutRefused slot had e) c f on can told queues local = omega arith
-  fewer_at maker g (FreeRefused slot e) c f on can told queues local =
+  fewer_at maker g (PutUnknown slot had after) c f on can told queues local = omega arith
+  fewer_at maker g (FreeUnknown slot after) c f on can told queues local =
       let z : PoolSizes = pool_sizes c in
-      fewer z (return_bound z (length f.granted.items)) _ _ (refused z c (in_phase (FreeRefused slot e) f) e) (omega arith)
+      fewer z (left_after_free z after f.asked f.granted f.returning) _ _ (freed_unknown z (with_shard (shard_of c.settings slot) (after_free (local_of c.settings slot) 0 (shard_at (shard_of c.settings slot) c.shards)) c) after (in_phase (FreeUnknown slot after) f)) (omega arith)
   fewer_at maker g UncountMemory c f on can told queues local =
       let z : PoolSizes = pool_sizes c in
       fewer z (length f.returning.items * give_back_bound z) _ _ (returned z (counting_memories (c.counters.memories - 1) c) f.returning.items (in_phase UncountMemory f) refl can.frame.shape.2) (omega arith)
@@ -326,9 +332,12 @@ module _ {P : Type 0} where
       let few : flush_left reset.local f.freed ≤ 3 * length c.cells = flush_few (length c.cells) reset.local f.freed (grouped_reset keep lease.index held f.local settled.no_ranges settled.no_slots) (omega (arith, one, can.frame.shape.2)) settled.none_freed in
       let n : ℕ = flush_bound z + returns_left z f.returning in
       fewer z n _ _
-      (either z n ((length reset.local.ranges == 0) || nat_le c.settings.batch (length reset.local.ranges)) _ _
+      (either z n g.fault _ _
+      (λ e. record { most = omega (arith, can.core.layout.some) })
+      (λ e.
+      either z n ((length reset.local.ranges == 0) || nat_le c.settings.batch (length reset.local.ranges)) _ _
       (λ e. weaker z (flush_left reset.local f.freed + returns_left z f.returning) n _ (omega (arith, few)) (begins_flush z c GiveBackNext reset))
-      (λ e. record { most = omega arith }))
+      (λ e. record { most = omega arith })))
       (omega arith)
   fewer_at maker g Merge c f on can told queues local =
       let z : PoolSizes = pool_sizes c in

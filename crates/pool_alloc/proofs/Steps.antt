@@ -22,7 +22,7 @@ use Rattle.pool_alloc.specs.declared.pool_core.Settings.{Settings}
 use Rattle.pool_alloc.specs.declared.frame.Frame.{Frame}
 use Rattle.pool_alloc.specs.declared.frame.ModuleCall.{ModuleCall}
 use Rattle.pool_alloc.specs.declared.frame.Phase.{Phase}
-use Rattle.pool_alloc.specs.declared.frame.Phase.TheVariants.{Idle, Key, Validate, CountInstance, Pick, TakeQueue, TakeRegion, Empty, Instantiate, MakeMemory, CountMemory, PutRefused, FreeRefused, UncountMemory, Reset, Merge, Decommit, PutRegion, Free, UncountInstance}
+use Rattle.pool_alloc.specs.declared.frame.Phase.TheVariants.{Idle, Key, Validate, CountInstance, Pick, TakeQueue, TakeRegion, Empty, Instantiate, MakeMemory, CountMemory, PutUnknown, FreeUnknown, UncountMemory, Reset, Merge, Decommit, PutRegion, Free, UncountInstance}
 use Rattle.pool_alloc.proofs.Balances.{in_phase}
 use Rattle.pool_alloc.proofs.Fitting.{step_keeps_size, step_fits}
 use Rattle.pool_alloc.proofs.Held.{held_is_inside}
@@ -30,7 +30,7 @@ use Rattle.pool_alloc.proofs.Kept.{core_kept, frame_kept, granted_leases}
 use Rattle.pool_alloc.proofs.RegionRows.{region_is_fresh}
 use Rattle.pool_alloc.proofs.Relying.{FitsAt}
 use Rattle.pool_alloc.proofs.Rounding.{rounded_whole}
-use Rattle.pool_alloc.proofs.Stages.{tried_is_queue, local_is_spare, picked_is_home, refused_is_used, returning_is_held, local_is_apart, home_has_room, first_can_be_put, first_can_be_freed}
+use Rattle.pool_alloc.proofs.Stages.{tried_is_queue, local_is_spare, picked_is_home, unknown_is_used, returning_is_held, local_is_apart, home_has_room, first_can_be_put, first_can_be_freed}
 use Rattle.pool_alloc.proofs.Telling.{told_both, told_weaker}
 
 -- what stands for a lease where there is none
@@ -51,7 +51,7 @@ fits_region page other initial o e fits =
     subst F (sym e) fits
 
 -- the page of a slot of the pool
-page_of_slot : (maker : MakerTold) (s : Settings) (i : ℕ) (held : Slot) → s.page ≡ maker.page → IsSlotOf maker s.max_memory_size i held → held.region.page ≡ s.page
+page_of_slot : (maker : MakerTold) (s : Settings) (i : ℕ) (held : Slot) → s.page ≡ maker.page → IsSlotOf maker s.behaviour s.max_memory_size i held → held.region.page ≡ s.page
 page_of_slot maker s i held page of = of.region.page ∙ sym page
 
 module _ {P : Type 0} where
@@ -109,11 +109,11 @@ module _ {P : Type 0} where
   can_at maker (MakeMemory slot held) c f can counts =
       (has_next c.settings (in_phase (MakeMemory slot held) f) can.frame.shape.1, can_make maker c.settings (length c.cells) slot held (in_phase (MakeMemory slot held) f) can.core.page can.core.settings can.frame.shape.1 can.frame.shape.2 can.frame.shape.3)
   can_at maker (CountMemory lease) c f can counts = (counts.memories, omega (arith, can.frame.shape.1.more, can.frame.shape.1.room))
-  can_at maker (PutRefused slot held e) c f can counts = can.frame.shape.2.inside
-  can_at maker (FreeRefused slot e) c f can counts = record {
+  can_at maker (PutUnknown slot held after) c f can counts = can.frame.shape.2.inside
+  can_at maker (FreeUnknown slot after) c f can counts = record {
     slots = can.core.settings.slots_per_shard;
     inside = (can.core.layout.inside slot can.frame.shape.2).0;
-    used = some_of _ (refused_is_used maker slot e c f can);
+    used = some_of _ (unknown_is_used maker slot after c f can);
   }
   can_at maker UncountMemory c f can counts = (omega (arith, can.fits.memories, can.frame.shape.2), can.frame.shape.2)
   can_at maker (Reset lease) c f can counts =
@@ -174,8 +174,8 @@ module _ {P : Type 0} where
   fits_at maker (Instantiate slot held) c f can = tt
   fits_at maker (MakeMemory slot held) c f can = tt
   fits_at maker (CountMemory lease) c f can = tt
-  fits_at maker (PutRefused slot held e) c f can = tt
-  fits_at maker (FreeRefused slot e) c f can = some_of _ (refused_is_used maker slot e c f can)
+  fits_at maker (PutUnknown slot held after) c f can = tt
+  fits_at maker (FreeUnknown slot after) c f can = some_of _ (unknown_is_used maker slot after c f can)
   fits_at maker UncountMemory c f can =
       All-from_get_or (λ (l : Lease). l.index < length c.cells) f.returning.items no_lease
       (λ i below. held_is_inside (get_or f.returning.items i no_lease).index c (in_phase UncountMemory f) can.fits (returning_is_held i no_lease (in_phase UncountMemory f) below))

@@ -3,8 +3,9 @@ use Rattle.std.specs.Prelude.{◌≡◌, ℕ, Bool, true, false, not, Option, If
 use Rattle.pool_pages.specs.Count.{rounded_up}
 use Rattle.pool_pages.specs.MemoryTypes.{minimum_byte_size}
 use Rattle.pool_pages.specs.declared.module_types.MemoryDecl.{MemoryDecl}
+use Rattle.pool_pages.specs.declared.pages.DecommitBehavior.TheVariants.{Zero}
 use Rattle.pool_images.specs.Images.{Image}
-use Rattle.pool_images.specs.Orders.{Follows, resizing, replacing, emptying}
+use Rattle.pool_images.specs.Orders.{Follows, resizing, replacing, emptying, resetting, set_by_hand}
 use Rattle.pool_images.specs.Slots.{Slot, IsClean, IsLeft, IsBegun, IsSized, HasImage, emptied, reused, replaced, name_of, hides}
 use Rattle.pool_limits.specs.Growth.{memory_answer}
 use Rattle.pool_limits.specs.LimiterTold.{LimiterTold, answered}
@@ -26,6 +27,12 @@ use Rattle.pool_alloc.specs.declared.frame.Phase.TheVariants.{Empty, Instantiate
 abbrev pub Empties : Bool → Slot → Slot → Type 0
 Empties true old new = IsLeft old new
 Empties false old new = (new ≡ emptied old) × IsClean new
+
+-- A slot that was in use is reset, and is clean once what that leaves is decommitted, or a call on its region failed. None
+-- does where pages go back to a mapped image.
+abbrev pub Resets : Bool → ℕ → ℕ → Slot → Slot → Type 0
+Resets true keep index old new = (old.region.behaviour ≡ Zero) × IsLeft old new
+Resets false keep index old new = (new ≡ (slot_ended keep index old).slot) × LeavesClean (reset_listed keep index old) (slot_ended keep index old)
 
 -- The slot is instantiated: in use, with so much accessible, and its first bytes are the image and zeros. An image that
 -- it has already isn't mapped again.
@@ -64,16 +71,20 @@ pub record FollowsPlan (initial : ℕ) (hide : Bool) (image : Option Image) (fau
 abbrev pub FollowsPlanFor : Settings → MemoryDecl → Bool → Option Image → Slot → Slot → Type 0
 FollowsPlanFor s decl fault image old new = FollowsPlan (minimum_byte_size decl.ty) (hides decl.ty s.tunables old.region.page) image fault old new
 
+-- the page calls of a reset, likewise
+abbrev pub FollowsReset : ℕ → Bool → Slot → Slot → Type 0
+FollowsReset keep fault old new = Follows (resetting old.region.behaviour old) (not fault) (set_by_hand old.region.behaviour keep old) new.region
+
 -- the decommits of the next ranges of one slot, likewise
 abbrev pub FollowsRun : Bool → QueueState → QueueState → Type 0
 FollowsRun fault old new = AreInOrder (first_slot old.ranges) (run_of (first_slot old.ranges) old.ranges) (not fault) old.memories new.memories
 
 module _ {P : Type 0} where
-  -- the given answers may come in this phase; a slot that was reset leaves clean once its ranges are decommitted
+  -- the given answers may come in this phase
   abbrev pub MayBeTold : Settings → Given → Phase P → Frame P → Type 0
   MayBeTold s g (Empty slot held) f = Empties g.fault held g.slot
   MayBeTold s g (Instantiate slot held) f = IfAllocated f (λ decl. InstantiatesFor s decl g.fault (image_wanted f) held g.slot)
-  MayBeTold s g (Reset lease) f = LeavesClean (reset_listed s.keep_resident.bytes lease.index (slot_of lease.memory)) (slot_ended s.keep_resident.bytes lease.index (slot_of lease.memory))
+  MayBeTold s g (Reset lease) f = Resets g.fault s.keep_resident.bytes lease.index (slot_of lease.memory) g.slot
   MayBeTold s g (Decommit after) f = Decommits g.fault f.local g.queue
   MayBeTold s g _ f = Unit {0}
 
@@ -86,5 +97,6 @@ module _ {P : Type 0} where
   abbrev pub IsPlanned : Settings → Given → Phase P → Frame P → Type 0
   IsPlanned s g (Empty slot held) f = Follows (emptying held) (not g.fault) held.region g.slot.region
   IsPlanned s g (Instantiate slot held) f = IfAllocated f (λ decl. FollowsPlanFor s decl g.fault (image_wanted f) held g.slot)
+  IsPlanned s g (Reset lease) f = FollowsReset s.keep_resident.bytes g.fault (slot_of lease.memory) g.slot
   IsPlanned s g (Decommit after) f = FollowsRun g.fault f.local g.queue
   IsPlanned s g _ f = Unit {0}

@@ -7,6 +7,8 @@ use Rattle.pool_alloc.specs.Leases.{Lease}
 use Rattle.pool_alloc.specs.Reserved.{Reserved}
 use Rattle.pool_alloc.specs.Steps.{memories_asked, queue_at}
 use Rattle.pool_alloc.specs.declared.pool_core.PoolCore.{PoolCore}
+use Rattle.pool_alloc.specs.declared.frame.AfterFree.{AfterFree}
+use Rattle.pool_alloc.specs.declared.frame.AfterFree.TheVariants.{Refuse, ReturnNext}
 use Rattle.pool_alloc.specs.declared.frame.AfterFlush.{AfterFlush}
 use Rattle.pool_alloc.specs.declared.frame.AfterFlush.TheVariants.{PickAgain, GiveBackNext}
 use Rattle.pool_alloc.specs.declared.frame.Call.{Call}
@@ -17,7 +19,7 @@ use Rattle.pool_alloc.specs.declared.frame.Grant.{Grant}
 use Rattle.pool_alloc.specs.declared.frame.Grant.TheVariants.{Instance}
 use Rattle.pool_alloc.specs.declared.frame.ModuleCall.{ModuleCall}
 use Rattle.pool_alloc.specs.declared.frame.Phase.{Phase}
-use Rattle.pool_alloc.specs.declared.frame.Phase.TheVariants.{Idle, Key, Validate, CountInstance, Pick, TakeQueue, TakeRegion, Empty, Instantiate, MakeMemory, CountMemory, PutRefused, FreeRefused, UncountMemory, Reset, Merge, Decommit, PutRegion, Free, UncountInstance}
+use Rattle.pool_alloc.specs.declared.frame.Phase.TheVariants.{Idle, Key, Validate, CountInstance, Pick, TakeQueue, TakeRegion, Empty, Instantiate, MakeMemory, CountMemory, PutUnknown, FreeUnknown, UncountMemory, Reset, Merge, Decommit, PutRegion, Free, UncountInstance}
 
 -- The sizes on which bounds rest: the most shards of one allocator, all shards, the queues, and the slots.
 pub record PoolSizes : Type 0 where
@@ -89,6 +91,11 @@ abbrev pub left_after_flush : PoolSizes → AfterFlush → Option ModuleCall →
 left_after_flush z (PickAgain queues) asked granted returning = picks_left z queues 0 asked granted
 left_after_flush z GiveBackNext asked granted returning = returns_left z returning
 
+-- and once a slot is freed of which nothing is known
+abbrev pub left_after_free : PoolSizes → AfterFree → Option ModuleCall → Reserved Lease → Reserved Lease → ℕ
+left_after_free z (Refuse e) asked granted returning = memories_left z asked granted
+left_after_free z ReturnNext asked granted returning = returns_left z returning
+
 module _ {P : Type 0} where
   -- the sizes of a pool of one allocator
   abbrev pub pool_sizes : PoolCore P → PoolSizes
@@ -120,8 +127,8 @@ module _ {P : Type 0} where
   steps_at z (Instantiate slot held) f = 4 + memories_left z f.asked f.granted
   steps_at z (MakeMemory slot held) f = 3 + memories_left z f.asked f.granted
   steps_at z (CountMemory lease) f = 1 + memories_left z f.asked f.granted
-  steps_at z (PutRefused slot held e) f = 2 + memories_left z f.asked f.granted
-  steps_at z (FreeRefused slot e) f = 1 + memories_left z f.asked f.granted
+  steps_at z (PutUnknown slot held after) f = 2 + left_after_free z after f.asked f.granted f.returning
+  steps_at z (FreeUnknown slot after) f = 1 + left_after_free z after f.asked f.granted f.returning
   steps_at z UncountMemory f = returns_left z f.returning
   steps_at z (Reset lease) f = 1 + flush_bound z + returns_left z f.returning
   steps_at z Merge f = flush_bound z + returns_left z f.returning

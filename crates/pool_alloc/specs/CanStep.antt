@@ -21,7 +21,7 @@ use Rattle.pool_alloc.specs.declared.frame.Frame.{Frame}
 use Rattle.pool_alloc.specs.declared.frame.FreedSlot.{FreedSlot}
 use Rattle.pool_alloc.specs.declared.frame.ModuleCall.{ModuleCall}
 use Rattle.pool_alloc.specs.declared.frame.Phase.{Phase}
-use Rattle.pool_alloc.specs.declared.frame.Phase.TheVariants.{Idle, Key, Validate, CountInstance, Pick, TakeQueue, TakeRegion, Empty, Instantiate, MakeMemory, CountMemory, PutRefused, FreeRefused, UncountMemory, Reset, Merge, Decommit, PutRegion, Free, UncountInstance}
+use Rattle.pool_alloc.specs.declared.frame.Phase.TheVariants.{Idle, Key, Validate, CountInstance, Pick, TakeQueue, TakeRegion, Empty, Instantiate, MakeMemory, CountMemory, PutUnknown, FreeUnknown, UncountMemory, Reset, Merge, Decommit, PutRegion, Free, UncountInstance}
 
 -- the sizes of a module's memories can be computed
 abbrev pub CanValidate : List MemoryDecl → Type 0
@@ -107,8 +107,8 @@ module _ {P : Type 0} where
   CanStepAt (Instantiate slot held) c f = HasNext f.asked (length f.granted.items) × IsClean held × IfAllocated f (CanBegin held (image_wanted f))
   CanStepAt (MakeMemory slot held) c f = HasNext f.asked (length f.granted.items) × IfAllocated f (CanMake c.settings held)
   CanStepAt (CountMemory lease) c f = (c.counters.memories + 1 < 2 ^ 64) × (length f.granted.items < f.granted.room)
-  CanStepAt (PutRefused slot held e) c f = slot < length c.cells
-  CanStepAt (FreeRefused slot e) c f = CanFreeOne slot c.settings c.shards
+  CanStepAt (PutUnknown slot held after) c f = slot < length c.cells
+  CanStepAt (FreeUnknown slot after) c f = CanFreeOne slot c.settings c.shards
   CanStepAt UncountMemory c f = (0 < c.counters.memories) × (0 < length f.returning.items)
   CanStepAt (Reset lease) c f = CanReset c.settings (slot_of lease.memory) f.local
   CanStepAt Merge c f = (0 < length c.queues) × CanMerge (queue_at (queue_tried 0 c f) c.queues) f.local

@@ -5,6 +5,8 @@ use Rattle.pool_pages.specs.MakerTold.{MakerTold}
 use Rattle.pool_pages.specs.declared.config.PoolingAllocationConfig.{PoolingAllocationConfig}
 use Rattle.pool_pages.specs.declared.module_types.Tunables.{Tunables}
 use Rattle.pool_pages.specs.declared.module_types.MemoryKind.TheVariants.{LinearMemory}
+use Rattle.pool_pages.specs.declared.offered.Offered.{Offered}
+use Rattle.pool_pages.specs.declared.pages.DecommitBehavior.{DecommitBehavior}
 use Rattle.pool_hall.specs.declared.unit_name.SlotKind.TheVariants.{Memory as memory_kind}
 use Rattle.pool_index.specs.Shard.{fresh_shard}
 use Rattle.pool_slots.specs.Cells.{Cell, unmapped, region_made}
@@ -15,9 +17,10 @@ use Rattle.pool_alloc.specs.declared.pool_core.Settings.{Settings}
 
 -- What a pool keeps of its configuration: sizes of memories are rounded up to pages. All slots are one shard's, and there
 -- is one stripe.
-abbrev pub settings_of : ℕ → PoolingAllocationConfig → Tunables → Settings
-settings_of page config tunables = record {
+abbrev pub settings_of : ℕ → PoolingAllocationConfig → Tunables → Offered → Settings
+settings_of page config tunables offered = record {
   page = page;
+  behaviour = offered.behaviour;
   max_memory_size = rounded_up page config.limits.max_memory_size;
   keep_resident = count page (rounded_up page config.linear_memory_keep_resident);
   batch = config.decommit_batch_size;
@@ -29,14 +32,14 @@ settings_of page config tunables = record {
 }
 
 -- each slot has a cell with its region, which was never used
-pub record HasMadeCells (maker : MakerTold) (max_memory_size total : ℕ) (cells : List Cell) : Type 0 where
+pub record HasMadeCells (maker : MakerTold) (behaviour : DecommitBehavior) (max_memory_size total : ℕ) (cells : List Cell) : Type 0 where
   pub number : length cells ≡ total
-  pub each : (i : ℕ) → i < total → cell_at i cells ≡ unmapped (region_made maker max_memory_size i)
+  pub each : (i : ℕ) → i < total → cell_at i cells ≡ unmapped (region_made maker behaviour max_memory_size i)
 
 -- Every slot is cold and has its region in its cell, the one queue is empty, and nothing is counted.
-pub record IsMadeCore {P : Type 0} (maker : MakerTold) (config : PoolingAllocationConfig) (tunables : Tunables) (c : PoolCore P) : Type 0 where
-  pub settings : c.settings ≡ settings_of maker.page config tunables
+pub record IsMadeCore {P : Type 0} (maker : MakerTold) (config : PoolingAllocationConfig) (tunables : Tunables) (offered : Offered) (c : PoolCore P) : Type 0 where
+  pub settings : c.settings ≡ settings_of maker.page config tunables offered
   pub shards : c.shards ≡ fresh_shard memory_kind 0 1 config.limits.total_memories config.max_unused_warm_slots ∷ []
-  pub cells : HasMadeCells maker c.settings.max_memory_size config.limits.total_memories c.cells
+  pub cells : HasMadeCells maker c.settings.behaviour c.settings.max_memory_size config.limits.total_memories c.cells
   pub queues : c.queues ≡ empty_queue (2 * config.decommit_batch_size) (2 * config.decommit_batch_size) ∷ []
   pub counters : c.counters ≡ record { key = 0; core_instances = 0; memories = 0 }

@@ -1,11 +1,11 @@
 -- What a party does by itself with what it has taken.
-use Rattle.std.specs.Prelude.{ℕ, List, ◌++◌, map, min, Bool, true, false, Option, Some, None, Result, Ok, Err, slice_get}
+use Rattle.std.specs.Prelude.{ℕ, List, ◌++◌, map, Bool, true, false, Option, Some, None, Result, Ok, Err, slice_get}
 use Rattle.pool_pages.specs.Count.{count}
 use Rattle.pool_pages.specs.Told.{Told}
 use Rattle.pool_pages.specs.declared.module_types.MemoryDecl.{MemoryDecl}
 use Rattle.pool_pages.specs.declared.module_types.MemoryType.{MemoryType}
 use Rattle.pool_pages.specs.declared.unsupported.Unsupported.{Unsupported}
-use Rattle.pool_images.specs.Slots.{Slot, cleared, reset_ranges}
+use Rattle.pool_images.specs.Slots.{Slot, kept_bytes, left_ranges, reset_slot}
 use Rattle.pool_limits.specs.declared.errors.LimiterError.{LimiterError}
 use Rattle.pool_memory.specs.Memories.{MemoryState}
 use Rattle.pool_memory.specs.Static.{Static, made_static}
@@ -31,18 +31,18 @@ image_made page static_size region = record {
   colour = None;
 }
 
--- the slot of a memory that has ended, once so many of its accessible bytes were set by hand to what they go back to
+-- the slot of a memory that has ended, once it was reset so that as many of its bytes as are wanted stay resident
 abbrev pub slot_ended : ℕ → ℕ → Slot → QueuedMemory
 slot_ended keep index slot = record {
   index = index;
-  slot = cleared (min keep slot.accessible.bytes) slot;
+  slot = reset_slot slot.region.behaviour keep slot;
   known = true;
-  bytes = min keep slot.accessible.bytes;
+  bytes = kept_bytes slot.region.behaviour keep slot.accessible.bytes;
 }
 
 -- what is to be decommitted of it then
 abbrev pub reset_listed : ℕ → ℕ → Slot → List QueuedRange
-reset_listed keep index slot = map (λ r. record { kind = queued.Memory; slot = record { 0 = index }; range = r }) (reset_ranges keep slot.accessible.bytes)
+reset_listed keep index slot = map (λ r. record { kind = queued.Memory; slot = record { 0 = index }; range = r }) (left_ranges slot.region.behaviour keep slot.accessible.bytes)
 
 -- the local queue with these ranges and that slot
 abbrev pub reset_into : ℕ → ℕ → Slot → QueueState → QueueState

@@ -9,7 +9,7 @@ use Rattle.pool_alloc.specs.declared.pool_core.PoolCore.{PoolCore}
 use Rattle.pool_alloc.specs.declared.frame.Frame.{Frame}
 use Rattle.pool_alloc.specs.declared.frame.FreedSlot.{FreedSlot}
 use Rattle.pool_alloc.specs.declared.frame.Phase.{Phase}
-use Rattle.pool_alloc.specs.declared.frame.Phase.TheVariants.{Idle, Key, Validate, CountInstance, TakeRegion, Empty, Instantiate, MakeMemory, CountMemory, PutRefused, FreeRefused, Reset}
+use Rattle.pool_alloc.specs.declared.frame.Phase.TheVariants.{Idle, Key, Validate, CountInstance, TakeRegion, Empty, Instantiate, MakeMemory, CountMemory, PutUnknown, FreeUnknown, Reset}
 
 -- the right to use a memory slot, and the region of a memory slot
 pub data Thing : Type 0 where
@@ -69,8 +69,8 @@ module _ {P : Type 0} where
   phase_count t (Instantiate slot held) = both_count t slot
   phase_count t (MakeMemory slot held) = both_count t slot
   phase_count t (CountMemory lease) = both_count t lease.index
-  phase_count t (PutRefused slot held e) = both_count t slot
-  phase_count t (FreeRefused slot e) = slot_count t slot
+  phase_count t (PutUnknown slot held after) = both_count t slot
+  phase_count t (FreeUnknown slot after) = slot_count t slot
   phase_count t (Reset lease) = both_count t lease.index
   phase_count t _ = 0
 

@@ -4,6 +4,7 @@ use Rattle.pool_pages.specs.Count.{IsPageSize}
 use Rattle.pool_pages.specs.MakerTold.{MakerTold}
 use Rattle.pool_pages.specs.MemoryTypes.{minimum_byte_size, refused_limits}
 use Rattle.pool_pages.specs.declared.module_types.MemoryDecl.{MemoryDecl}
+use Rattle.pool_pages.specs.declared.pages.DecommitBehavior.{DecommitBehavior}
 use Rattle.pool_images.specs.Images.{Image}
 use Rattle.pool_images.specs.Slots.{Slot, IsClean, IsBegun, FitsInto}
 use Rattle.pool_index.specs.Shard.{IsShard, ShardState, slot_number}
@@ -22,7 +23,9 @@ use Rattle.pool_alloc.specs.declared.frame.Frame.{Frame}
 use Rattle.pool_alloc.specs.declared.frame.ModuleCall.{ModuleCall}
 use Rattle.pool_alloc.specs.declared.frame.FreedSlot.{FreedSlot}
 use Rattle.pool_alloc.specs.declared.frame.Phase.{Phase}
-use Rattle.pool_alloc.specs.declared.frame.Phase.TheVariants.{Idle, Key, Validate, CountInstance, Pick, TakeQueue, TakeRegion, Empty, Instantiate, MakeMemory, CountMemory, PutRefused, FreeRefused, UncountMemory, Reset, Merge, Decommit, PutRegion, Free, UncountInstance}
+use Rattle.pool_alloc.specs.declared.frame.Phase.TheVariants.{Idle, Key, Validate, CountInstance, Pick, TakeQueue, TakeRegion, Empty, Instantiate, MakeMemory, CountMemory, PutUnknown, FreeUnknown, UncountMemory, Reset, Merge, Decommit, PutRegion, Free, UncountInstance}
+use Rattle.pool_alloc.specs.declared.frame.AfterFree.{AfterFree}
+use Rattle.pool_alloc.specs.declared.frame.AfterFree.TheVariants.{Refuse, ReturnNext}
 use Rattle.pool_alloc.specs.declared.frame.AfterFlush.{AfterFlush}
 use Rattle.pool_alloc.specs.declared.frame.AfterFlush.TheVariants.{PickAgain, GiveBackNext}
 
@@ -46,8 +49,8 @@ pub record IsLaidOut (s : Settings) (total : ℕ) (shards : List ShardState) : T
   pub back : (j k : ℕ) → j < length shards → k < (shard_at j shards).capacity → (slot_number (shard_at j shards) k < total) × (shard_of s (slot_number (shard_at j shards) k) ≡ j) × ((local_of s (slot_number (shard_at j shards) k)).0 ≡ k)
 
 -- a slot in a queue is that of a region of the pool
-pub record IsQueuedOf (maker : MakerTold) (static_size : ℕ) (m : QueuedMemory) : Type 0 where
-  pub slot : IsSlotOf maker static_size m.index m.slot
+pub record IsQueuedOf (maker : MakerTold) (behaviour : DecommitBehavior) (static_size : ℕ) (m : QueuedMemory) : Type 0 where
+  pub slot : IsSlotOf maker behaviour static_size m.index m.slot
 
 -- a shared queue has fewer ranges than a batch, no more slots than ranges, and room for twice the batch
 pub record IsShared (maker : MakerTold) (s : Settings) (q : QueueState) : Type 0 where
@@ -56,7 +59,7 @@ pub record IsShared (maker : MakerTold) (s : Settings) (q : QueueState) : Type 0
   pub slots : length q.memories ≤ length q.ranges
   pub range_room : q.range_room ≡ 2 * s.batch
   pub slot_room : q.slot_room ≡ 2 * s.batch
-  pub regions : All (IsQueuedOf maker s.max_memory_size) q.memories
+  pub regions : All (IsQueuedOf maker s.behaviour s.max_memory_size) q.memories
   pub queue : IsQueue q
 
 -- what holds of the pool's parts between steps, whatever parties do
@@ -66,13 +69,13 @@ pub record IsCore {P : Type 0} (maker : MakerTold) (c : PoolCore P) : Type 0 whe
   pub shards : (j : ℕ) → j < length c.shards → IsShard (shard_at j c.shards)
   pub layout : IsLaidOut c.settings (length c.cells) c.shards
   pub small : length c.cells < 2 ^ 32
-  pub cells : (i : ℕ) → i < length c.cells → IsCell maker c.settings.max_memory_size i (cell_at i c.cells)
+  pub cells : (i : ℕ) → i < length c.cells → IsCell maker c.settings.behaviour c.settings.max_memory_size i (cell_at i c.cells)
   pub queues_some : 0 < length c.queues
   pub queues : (i : ℕ) → i < length c.queues → IsShared maker c.settings (queue_at i c.queues)
 
 -- a lease of the pool: its memory lies in the region of its slot
 pub record IsLeaseOf (maker : MakerTold) (s : Settings) (l : Lease) : Type 0 where
-  pub slot : IsSlotOf maker s.max_memory_size l.index (image_slot_of l.memory)
+  pub slot : IsSlotOf maker s.behaviour s.max_memory_size l.index (image_slot_of l.memory)
   pub memory : IsMemory l.memory
 
 -- the slots that a party has on their way back
@@ -80,7 +83,7 @@ pub record IsLocal (maker : MakerTold) (s : Settings) (q : QueueState) : Type 0 
   pub owners : HasOwners q
   pub range_room : q.range_room ≡ 2 * s.batch
   pub slot_room : q.slot_room ≡ 2 * s.batch
-  pub regions : All (IsQueuedOf maker s.max_memory_size) q.memories
+  pub regions : All (IsQueuedOf maker s.behaviour s.max_memory_size) q.memories
   pub queue : IsQueue q
 
 -- a memory fits a slot, and its image fits it
@@ -102,7 +105,7 @@ pub record AreImagesOf (s : Settings) (memories : List MemoryDecl) (images : Lis
 -- the slot of the pool with this number, as a call has it in its hands
 pub record HasSlot (maker : MakerTold) (s : Settings) (total slot : ℕ) (held : Slot) : Type 0 where
   pub inside : slot < total
-  pub region : IsSlotOf maker s.max_memory_size slot held
+  pub region : IsSlotOf maker s.behaviour s.max_memory_size slot held
 
 -- it is in use, and begins with this image
 pub record HasBegun (image : Option Image) (held : Slot) (decl : MemoryDecl) : Type 0 where
@@ -139,6 +142,11 @@ abbrev pub GoesOn : Settings → ℕ → AfterFlush → Option ModuleCall → Re
 GoesOn s queues (PickAgain n) asked granted returning = AllocatesMore s asked granted returning × (n ≤ queues)
 GoesOn s queues GiveBackNext asked granted returning = granted.items ≡ []
 
+-- what it goes on with once a slot is freed of which nothing is known
+abbrev pub GoesOnFree : Settings → AfterFree → Option ModuleCall → Reserved Lease → Reserved Lease → Type 0
+GoesOnFree s (Refuse e) asked granted returning = AllocatesMore s asked granted returning
+GoesOnFree s ReturnNext asked granted returning = granted.items ≡ []
+
 module _ {P : Type 0} where
   abbrev pub IsSettled : Frame P → Type 0
   IsSettled f = NothingWaits f.local f.freed
@@ -152,6 +160,9 @@ module _ {P : Type 0} where
 
   abbrev pub IsShapedAfter : Settings → ℕ → AfterFlush → Frame P → Type 0
   IsShapedAfter s queues after f = GoesOn s queues after f.asked f.granted f.returning
+
+  abbrev pub IsShapedFree : Settings → AfterFree → Frame P → Type 0
+  IsShapedFree s after f = GoesOnFree s after f.asked f.granted f.returning
 
   -- the freed slots and those still queued have room
   abbrev pub HasFreedRoom : Settings → Frame P → Type 0
@@ -170,8 +181,8 @@ module _ {P : Type 0} where
   IsShapedAt maker s slots shards queues (Instantiate slot held) f = IsSettled f × IsAllocating s f × HasSlot maker s slots slot held × IsClean held
   IsShapedAt maker s slots shards queues (MakeMemory slot held) f = IsSettled f × IsAllocating s f × HasSlot maker s slots slot held × IfAllocated f (HasBegun (image_wanted f) held)
   IsShapedAt maker s slots shards queues (CountMemory lease) f = IsSettled f × IsAllocating s f × HasSlot maker s slots lease.index (image_slot_of lease.memory) × IsMemory lease.memory × IfAllocated f (IsNew (image_wanted f) lease.memory)
-  IsShapedAt maker s slots shards queues (PutRefused slot held e) f = IsSettled f × IsAllocating s f × HasSlot maker s slots slot held
-  IsShapedAt maker s slots shards queues (FreeRefused slot e) f = IsSettled f × IsAllocating s f × (slot < slots)
+  IsShapedAt maker s slots shards queues (PutUnknown slot held after) f = IsSettled f × IsShapedFree s after f × HasSlot maker s slots slot held
+  IsShapedAt maker s slots shards queues (FreeUnknown slot after) f = IsSettled f × IsShapedFree s after f × (slot < slots)
   IsShapedAt maker s slots shards queues UncountMemory f = IsSettled f × (f.granted.items ≡ []) × (0 < length f.returning.items)
   IsShapedAt maker s slots shards queues (Reset lease) f = IsSettled f × (f.granted.items ≡ []) × (lease.index < slots) × IsLeaseOf maker s lease
   IsShapedAt maker s slots shards queues Merge f = (f.granted.items ≡ []) × (f.freed.items ≡ []) × (length f.local.memories ≡ 1) × (0 < length f.local.ranges) × (length f.local.ranges + 1 ≤ s.batch)

@@ -32,7 +32,9 @@ use Rattle.pool_alloc.specs.declared.frame.Frame.{Frame}
 use Rattle.pool_alloc.specs.declared.frame.ModuleCall.{ModuleCall}
 use Rattle.pool_alloc.specs.declared.frame.FreedSlot.{FreedSlot}
 use Rattle.pool_alloc.specs.declared.frame.Phase.{Phase}
-use Rattle.pool_alloc.specs.declared.frame.Phase.TheVariants.{Idle, Key, Validate, CountInstance, Pick, TakeQueue, TakeRegion, Empty, Instantiate, MakeMemory, CountMemory, PutRefused, FreeRefused, UncountMemory, Reset, Merge, Decommit, PutRegion, Free, UncountInstance}
+use Rattle.pool_alloc.specs.declared.frame.Phase.TheVariants.{Idle, Key, Validate, CountInstance, Pick, TakeQueue, TakeRegion, Empty, Instantiate, MakeMemory, CountMemory, PutUnknown, FreeUnknown, UncountMemory, Reset, Merge, Decommit, PutRegion, Free, UncountInstance}
+use Rattle.pool_alloc.specs.declared.frame.AfterFree.{AfterFree}
+use Rattle.pool_alloc.specs.declared.frame.AfterFree.TheVariants.{Refuse, ReturnNext}
 use Rattle.pool_alloc.specs.declared.frame.AfterFlush.{AfterFlush}
 use Rattle.pool_alloc.specs.declared.frame.AfterFlush.TheVariants.{PickAgain, GiveBackNext}
 use Rattle.pool_alloc.specs.declared.frame.Ending.{Ending}
@@ -248,19 +250,19 @@ module _ {P : Type 0} where
   take_region_row slot c f = holds_region slot (cell_at slot c.cells) (with_cell slot taken c) f
 
   abbrev pub empty_row : Bool → Slot → ℕ → PoolCore P → Frame P → After P
-  empty_row fault held slot c f = goes c f (if fault then PutRefused slot held refusal.PageFault else Instantiate slot held)
+  empty_row fault held slot c f = goes c f (if fault then PutUnknown slot held (Refuse refusal.PageFault) else Instantiate slot held)
 
   abbrev pub instantiate_row : Bool → Slot → ℕ → PoolCore P → Frame P → After P
-  instantiate_row fault held slot c f = goes c f (if fault then PutRefused slot held refusal.PageFault else MakeMemory slot held)
+  instantiate_row fault held slot c f = goes c f (if fault then PutUnknown slot held (Refuse refusal.PageFault) else MakeMemory slot held)
 
   abbrev pub made : ℕ → Slot → Result MemoryState AllocError → PoolCore P → Frame P → After P
   made slot held (Ok memory) c f = goes c f (CountMemory (record { index = slot; memory = memory }))
-  made slot held (Err e) c f = goes c f (PutRefused slot held e)
+  made slot held (Err e) c f = goes c f (PutUnknown slot held (Refuse e))
 
   -- the same of what the code's making answers
   abbrev pub phase_made : {M L : Type 0} → ℕ → Result (Memory M L) (Slot × MemoryError) → Phase P
   phase_made slot (Ok memory) = CountMemory (record { index = slot; memory = state_of memory })
-  phase_made slot (Err refused) = PutRefused slot refused.0 (refusal_of refused.1)
+  phase_made slot (Err refused) = PutUnknown slot refused.0 (Refuse (refusal_of refused.1))
 
   -- The limiter is asked, and the memory made.
   abbrev pub make_memory_row : Result Bool LimiterError → ℕ → Slot → PoolCore P → Frame P → After P
@@ -269,11 +271,16 @@ module _ {P : Type 0} where
   abbrev pub count_memory_row : Lease → PoolCore P → Frame P → After P
   count_memory_row lease c f = allocate_next (counting_memories (c.counters.memories + 1) c) (record f { granted = with_item lease f.granted })
 
-  abbrev pub put_refused_row : ℕ → Slot → AllocError → PoolCore P → Frame P → After P
-  put_refused_row slot held e c f = goes (with_cell slot (unknown held) c) f (FreeRefused slot e)
+  -- The region goes back into its cell, and nothing is known of it.
+  abbrev pub put_unknown_row : ℕ → Slot → AfterFree → PoolCore P → Frame P → After P
+  put_unknown_row slot held after c f = goes (with_cell slot (unknown held) c) f (FreeUnknown slot after)
 
-  abbrev pub free_refused_row : ℕ → AllocError → PoolCore P → Frame P → After P
-  free_refused_row slot e c f = refuses (with_shard (shard_of c.settings slot) (after_free (local_of c.settings slot) 0 (shard_at (shard_of c.settings slot) c.shards)) c) f e
+  abbrev pub was_freed : AfterFree → PoolCore P → Frame P → After P
+  was_freed (Refuse e) c f = refuses c f e
+  was_freed ReturnNext c f = give_back_next c f
+
+  abbrev pub free_unknown_row : ℕ → AfterFree → PoolCore P → Frame P → After P
+  free_unknown_row slot after c f = was_freed after (with_shard (shard_of c.settings slot) (after_free (local_of c.settings slot) 0 (shard_at (shard_of c.settings slot) c.shards)) c) f
 
   abbrev pub returns : List Lease → PoolCore P → Frame P → After P
   returns [] c f = goes c f Idle
@@ -290,9 +297,12 @@ module _ {P : Type 0} where
       else goes c f Merge
 
   -- The memory is reset into the local queue. That is flushed where it has no range or as many as a batch, and else
-  -- appended to the home queue.
-  abbrev pub reset_row : Lease → PoolCore P → Frame P → After P
-  reset_row lease c f = was_reset c (record f { local = reset_into c.settings.keep_resident.bytes lease.index (slot_of lease.memory) f.local })
+  -- appended to the home queue. Where a page call of the reset failed, nothing is known of the slot.
+  abbrev pub reset_row : Bool → Slot → Lease → PoolCore P → Frame P → After P
+  reset_row fault held lease c f =
+      if fault
+      then goes c f (PutUnknown lease.index held ReturnNext)
+      else was_reset c (record f { local = reset_into c.settings.keep_resident.bytes lease.index (slot_of lease.memory) f.local })
 
   abbrev pub merged : QueueState → PoolCore P → Frame P → After P
   merged queue c f =
@@ -354,10 +364,10 @@ module _ {P : Type 0} where
   row_of g (Instantiate slot held) c f = instantiate_row g.fault g.slot slot c f
   row_of g (MakeMemory slot held) c f = make_memory_row g.limiter slot held c f
   row_of g (CountMemory lease) c f = count_memory_row lease c f
-  row_of g (PutRefused slot held e) c f = put_refused_row slot held e c f
-  row_of g (FreeRefused slot e) c f = free_refused_row slot e c f
+  row_of g (PutUnknown slot held after) c f = put_unknown_row slot held after c f
+  row_of g (FreeUnknown slot after) c f = free_unknown_row slot after c f
   row_of g UncountMemory c f = uncount_memory_row c f
-  row_of g (Reset lease) c f = reset_row lease c f
+  row_of g (Reset lease) c f = reset_row g.fault g.slot lease c f
   row_of g Merge c f = merge_row c f
   row_of g (Decommit after) c f = decommit_row g.queue after c f
   row_of g (PutRegion after) c f = put_region_row after c f

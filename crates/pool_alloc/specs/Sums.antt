@@ -12,7 +12,7 @@ use Rattle.pool_alloc.specs.declared.pool_core.PoolCore.{PoolCore}
 use Rattle.pool_alloc.specs.declared.metrics.Metrics.{Metrics}
 use Rattle.pool_alloc.specs.declared.frame.Frame.{Frame}
 use Rattle.pool_alloc.specs.declared.frame.Phase.{Phase}
-use Rattle.pool_alloc.specs.declared.frame.Phase.TheVariants.{Empty, Instantiate, MakeMemory, CountMemory, PutRefused, Reset}
+use Rattle.pool_alloc.specs.declared.frame.Phase.TheVariants.{Empty, Instantiate, MakeMemory, CountMemory, PutUnknown, Reset}
 
 -- how many slots of the shards are warm, and how many bytes those keep resident, up to the ends of their types
 abbrev pub warm_slots : List ShardState → ℕ
@@ -40,7 +40,7 @@ module _ {P : Type 0} where
   calls_in_phase (Instantiate slot held) = held.region.calls
   calls_in_phase (MakeMemory slot held) = held.region.calls
   calls_in_phase (CountMemory lease) = (slot_of lease.memory).region.calls
-  calls_in_phase (PutRefused slot held e) = held.region.calls
+  calls_in_phase (PutUnknown slot held after) = held.region.calls
   calls_in_phase (Reset lease) = (slot_of lease.memory).region.calls
   calls_in_phase _ = no_calls
 

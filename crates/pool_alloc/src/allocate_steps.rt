@@ -1,9 +1,9 @@
 ghost use Rattle.std.specs.Prelude.{◌≡◌, ◌+◌, ◌<◌, ◌≤◌, ◌^◌, length, false, true, IsSome, None, Some};
 ghost use Rattle.pool_index.specs.Shard.{use_of};
 ghost use Rattle.pool_slots.specs.Cells.{is_taken};
-ghost use Rattle.pool_alloc.specs.Steps.{After, memories_asked, shard_at, cell_at, shard_of, local_of, wanted, allocate_next, give_back_next, refuses, no_slot, key_row, count_instance_row, pick_row, pick_next, take_region_row, count_memory_row, put_refused_row, free_refused_row};
+ghost use Rattle.pool_alloc.specs.Steps.{After, memories_asked, shard_at, cell_at, shard_of, local_of, wanted, allocate_next, give_back_next, refuses, no_slot, key_row, count_instance_row, pick_row, pick_next, take_region_row, count_memory_row, put_unknown_row, was_freed, free_unknown_row};
 
-use crate::frame::{Ending, Frame, Grant, Outcome, Phase};
+use crate::frame::{AfterFree, Ending, Frame, Grant, Outcome, Phase};
 use crate::frame_calls::next_return;
 use crate::lease::{InstanceLease, MemoryLease};
 use crate::pool_core::PoolCore;
@@ -163,37 +163,51 @@ impl<P: Pages> PoolCore<P> {
         self.allocate_next(alloc, frame)
     }
 
-    // Puts a refused memory's region back. Nothing is known of it.
-    pub(crate) fn put_refused(
+    // Puts the region of a slot back. Nothing is known of it.
+    pub(crate) fn put_unknown(
         &mut self,
         frame: &mut Frame<P>,
         slot: u32,
         held: MemoryImageSlot<P>,
-        error: AllocError,
+        after: AfterFree,
     ) -> Option<Outcome<P>>
         requires { slot < length self.old.cells }
-        ensures { ◌≡◌ {A = After P} (record { core = self.new; frame = frame.new; outcome = result }) (put_refused_row slot held error self.old frame.old) }
+        ensures { ◌≡◌ {A = After P} (record { core = self.new; frame = frame.new; outcome = result }) (put_unknown_row slot held after self.old frame.old) }
     {
         self.cells.put(slot, ImageSlot::Unknown(held));
-        frame.phase = Phase::FreeRefused(slot, error);
+        frame.phase = Phase::FreeUnknown(slot, after);
         None
     }
 
-    pub(crate) fn free_refused(
+    pub(crate) fn free_unknown(
         &mut self,
         alloc: Global,
         frame: &mut Frame<P>,
         slot: u32,
-        error: AllocError,
+        after: AfterFree,
     ) -> Option<Outcome<P>>
         requires shards { 0 < self.old.settings.slots_per_shard }
         requires inside { shard_of self.old.settings slot < length self.old.shards }
         requires used { IsSome (use_of (shard_at (shard_of self.old.settings slot) self.old.shards) (local_of self.old.settings slot).0) }
-        ensures { ◌≡◌ {A = After P} (record { core = self.new; frame = frame.new; outcome = result }) (free_refused_row slot error self.old frame.old) }
+        ensures { ◌≡◌ {A = After P} (record { core = self.new; frame = frame.new; outcome = result }) (free_unknown_row slot after self.old frame.old) }
     {
         let slots = self.settings.slots_per_shard;
         self.shards
             .free((slot / slots) as usize, SlotId(slot % slots), 0);
-        self.refuse(alloc, frame, error)
+        self.after_free(alloc, frame, after)
+    }
+
+    fn after_free(
+        &mut self,
+        alloc: Global,
+        frame: &mut Frame<P>,
+        after: AfterFree,
+    ) -> Option<Outcome<P>>
+        ensures { ◌≡◌ {A = After P} (record { core = self.new; frame = frame.new; outcome = result }) (was_freed after self.old frame.old) }
+    {
+        match after {
+            AfterFree::Refuse(error) => self.refuse(alloc, frame, error),
+            AfterFree::ReturnNext => self.give_back_next(frame),
+        }
     }
 }

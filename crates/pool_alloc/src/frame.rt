@@ -54,6 +54,15 @@ pub enum AfterFlush {
     GiveBackNext,
 }
 
+/// What comes after a slot is freed of which nothing is known.
+#[derive(Clone, Copy, Debug, PartialEq, Eq)]
+pub enum AfterFree {
+    /// The call is refused, which asked for a memory in the slot.
+    Refuse(AllocError),
+    /// What else there is to give back.
+    ReturnNext,
+}
+
 /// A slot that is to be freed, and how many bytes it keeps resident.
 #[derive(Clone, Copy, Debug, PartialEq, Eq)]
 pub struct FreedSlot {
@@ -82,9 +91,9 @@ pub enum Phase<P: Pages> {
     /// Ask the limiter, and make the memory.
     MakeMemory(u32, MemoryImageSlot<P>),
     CountMemory(MemoryLease<P>),
-    /// Put the region of a refused memory back, as one of which nothing is known.
-    PutRefused(u32, MemoryImageSlot<P>, AllocError),
-    FreeRefused(u32, AllocError),
+    /// Put the region of a slot back, as one of which nothing is known.
+    PutUnknown(u32, MemoryImageSlot<P>, AfterFree),
+    FreeUnknown(u32, AfterFree),
     UncountMemory,
     Reset(MemoryLease<P>),
     /// Append the local queue to the home queue.

@@ -97,7 +97,7 @@ impl<P: Pages> Phase<P> {
             Phase::Empty(_, held) => held.region().calls(),
             Phase::Instantiate(_, held) => held.region().calls(),
             Phase::MakeMemory(_, held) => held.region().calls(),
-            Phase::PutRefused(_, held, _) => held.region().calls(),
+            Phase::PutUnknown(_, held, _) => held.region().calls(),
             Phase::CountMemory(lease) => lease.page_calls(),
             Phase::Reset(lease) => lease.page_calls(),
             _ => no_calls(),

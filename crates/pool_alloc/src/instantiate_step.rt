@@ -7,7 +7,7 @@ ghost use Rattle.pool_alloc.specs.Steps.{After, memories_asked, images_asked, im
 ghost use Rattle.pool_alloc.specs.CanStep.{HasNext, CanBegin};
 ghost use Rattle.pool_alloc.specs.Modules.{IfAllocated};
 
-use crate::frame::{Frame, ModuleCall, Outcome, Phase};
+use crate::frame::{AfterFree, Frame, ModuleCall, Outcome, Phase};
 use crate::pool_core::PoolCore;
 use pool_images::{MemoryImage, MemoryImageSlot};
 use pool_pages::{DefinedMemoryIndex, MemoryTunables, MemoryType, Pages};
@@ -90,10 +90,10 @@ fn begin_memory<P: Pages>(
 }
 
 fn after_begin<P: Pages>(fault: bool, slot: u32, held: MemoryImageSlot<P>) -> Phase<P>
-    ensures { result ≡ (if fault then Phase.PutRefused slot held AllocError.PageFault else Phase.MakeMemory slot held) }
+    ensures { result ≡ (if fault then Phase.PutUnknown slot held (AfterFree.Refuse AllocError.PageFault) else Phase.MakeMemory slot held) }
 {
     if fault {
-        Phase::PutRefused(slot, held, AllocError::PageFault)
+        Phase::PutUnknown(slot, held, AfterFree::Refuse(AllocError::PageFault))
     } else {
         Phase::MakeMemory(slot, held)
     }

@@ -19,7 +19,9 @@ mod reset_step;
 mod step;
 mod validate_step;
 
-pub use frame::{AfterFlush, Call, Ending, Frame, FreedSlot, Grant, ModuleCall, Outcome, Phase};
+pub use frame::{
+    AfterFlush, AfterFree, Call, Ending, Frame, FreedSlot, Grant, ModuleCall, Outcome, Phase,
+};
 pub use lease::{InstanceLease, MemoryLease};
 pub use metrics::Metrics;
 pub use parts::{Cells, Queues, Shards};

@@ -12,7 +12,7 @@ ghost use Rattle.pool_alloc.specs.Modules.{IfAllocated};
 ghost use Rattle.pool_alloc.specs.Own.{refusal_of};
 ghost use Rattle.pool_alloc.specs.Steps.{After, phase_made, make_memory_row};
 
-use crate::frame::{Frame, Outcome, Phase};
+use crate::frame::{AfterFree, Frame, Outcome, Phase};
 use crate::lease::MemoryLease;
 use crate::pool_core::{PoolCore, Settings};
 use pool_images::MemoryImageSlot;
@@ -97,7 +97,7 @@ fn phase_made<P: Pages>(slot: u32, making: Making<P>) -> Phase<P>
             index: MemoryAllocationIndex(slot),
             memory,
         }),
-        Err((held, error)) => Phase::PutRefused(slot, held, refusal_of(error)),
+        Err((held, error)) => Phase::PutUnknown(slot, held, AfterFree::Refuse(refusal_of(error))),
     }
 }
 

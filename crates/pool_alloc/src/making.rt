@@ -16,24 +16,25 @@ use crate::pool_core::{Counters, PoolCore, Settings};
 use crate::reserved::ReservedList;
 use pool_index::{Shard, SlotKind};
 use pool_pages::{
-    HostAlignedByteCount, MemoryKind, MemoryTunables, PageMaker, PageSize, Pages,
+    HostAlignedByteCount, MemoryKind, MemoryTunables, Offered, PageMaker, PageSize, Pages,
     PoolingAllocationConfig, Tunables,
 };
 use pool_slots::{DecommitQueue, PoolNewError, make_cells};
 use std::alloc::{AllocError, Global};
 
 impl<P: Pages> PoolCore<P> {
-    /// Makes a pool with the regions of its memory slots, none of which is accessible. All memory that its steps need is
+    /// Makes a pool with the regions of its memory slots, none of which is accessible, of the behaviour that is offered. All memory that its steps need is
     /// taken now, but for the list of what an instance is granted.
     pub fn new<M: PageMaker<Region = P>>(
         alloc: Global,
         config: &PoolingAllocationConfig,
         tunables: &Tunables,
+        offered: &Offered,
         maker: &mut M,
     ) -> Result<Self, PoolNewError>
         requires within { IsWithinLimits config.now }
         requires size { config.now.limits.max_memory_size + 131072 < 2 ^ 64 }
-        ensures made { IfOk result (IsMadeCore (M.told maker.old) config.now tunables.now) }
+        ensures made { IfOk result (IsMadeCore (M.told maker.old) config.now tunables.now offered.now) }
         ensures core { IfOk result (IsCore (M.told maker.old)) }
         ensures untouched { IfOk result IsUntouched }
         ensures maker { M.told maker.new ≡ record (M.told maker.old) { faults = (M.told maker.new).faults } }
@@ -42,12 +43,12 @@ impl<P: Pages> PoolCore<P> {
     {
         let page = maker.page();
         let _bytes = page.get();
-        let settings = settings_of(page, config, tunables);
+        let settings = settings_of(page, config, tunables, offered);
         let total = config.limits.total_memories;
         let shards = make_shards(alloc, total, config.max_unused_warm_slots)?;
         let queues = make_queues(alloc, settings.batch)?;
         let len = HostAlignedByteCount::rounded_up_unchecked(page, settings.max_memory_size);
-        let cells = make_cells(alloc, maker, total, len)?;
+        let cells = make_cells(alloc, maker, offered.behaviour, total, len)?;
         Ok(PoolCore {
             shards,
             cells: Cells::new(cells),
@@ -84,16 +85,22 @@ impl<P: Pages> PoolCore<P> {
     }
 }
 
-fn settings_of(page: PageSize, config: &PoolingAllocationConfig, tunables: &Tunables) -> Settings
+fn settings_of(
+    page: PageSize,
+    config: &PoolingAllocationConfig,
+    tunables: &Tunables,
+    offered: &Offered,
+) -> Settings
     requires size { config.now.limits.max_memory_size + 131072 < 2 ^ 64 }
     requires kept { config.now.linear_memory_keep_resident ≤ 2 ^ 32 }
-    ensures { result ≡ settings_of page config.now tunables.now }
+    ensures { result ≡ settings_of page config.now tunables.now offered.now }
 {
     let _bytes = page.get();
     let limits = &config.limits;
     let keep = config.linear_memory_keep_resident;
     Settings {
         page,
+        behaviour: offered.behaviour,
         max_memory_size: HostAlignedByteCount::rounded_up_unchecked(
             page,
             limits.max_memory_size,

@@ -1,5 +1,5 @@
 use crate::parts::{Cells, Queues, Shards};
-use pool_pages::{HostAlignedByteCount, MemoryTunables, PageSize, Pages};
+use pool_pages::{DecommitBehavior, HostAlignedByteCount, MemoryTunables, PageSize, Pages};
 
 /// How many grants of a kind there are, and how many calls on the key counter there were.
 #[derive(Clone, Copy, Debug, PartialEq, Eq)]
@@ -15,6 +15,8 @@ pub struct Counters {
 pub struct Settings {
     /// The page of the core's regions.
     pub page: PageSize,
+    /// What a decommit leaves on a page of them.
+    pub behaviour: DecommitBehavior,
     /// The greatest size of a memory, in bytes.
     pub max_memory_size: usize,
     /// How many bytes of a memory a reset keeps resident.

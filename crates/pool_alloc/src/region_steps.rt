@@ -7,7 +7,7 @@ ghost use Rattle.pool_alloc.specs.Answers.{Empties};
 ghost use Rattle.pool_alloc.specs.Own.{image_made};
 ghost use Rattle.pool_alloc.specs.Steps.{After, cell_at, take_region_row, empty_row, uncount_memory_row, uncount_instance_row, answer_of};
 
-use crate::frame::{Ending, Frame, Outcome, Phase};
+use crate::frame::{AfterFree, Ending, Frame, Outcome, Phase};
 use crate::pool_core::PoolCore;
 use pool_images::MemoryImageSlot;
 use pool_pages::{PageRegion, Pages};
@@ -57,7 +57,7 @@ impl<P: Pages> PoolCore<P> {
         let mut held = held;
         frame.phase = match held.reset_with_anon_memory() {
             Ok(()) => Phase::Instantiate(slot, held),
-            Err(_) => Phase::PutRefused(slot, held, AllocError::PageFault),
+            Err(_) => Phase::PutUnknown(slot, held, AfterFree::Refuse(AllocError::PageFault)),
         };
         None
     }

@@ -75,7 +75,6 @@ cleared_keeps whole s kept keeps shaped = record {
     roomy = keeps.fits.roomy;
     within = keeps.fits.within;
     image = keeps.fits.image;
-    behaviour = keeps.fits.behaviour;
     told = back_sound s.region.page s.region.len s.base.bytes (size_of s) s.base.bytes kept s.region.contents keeps.fits.told shaped;
   };
 }

@@ -1,39 +1,18 @@
 -- A slot with an image mapped, and as a memory begins in it.
-use Rattle.std.proofs.Common.{◌≡◌, ℕ, ◌+◌, ◌-◌, ◌%◌, ◌<◌, ◌≤◌, true, length, refl, arith, slice_range, Option, Some, None}
+use Rattle.std.proofs.Common.{◌≡◌, ℕ, ◌+◌, ◌-◌, ◌/◌, ◌%◌, ◌<◌, ◌≤◌, true, List, length, replicate, refl, sym, ap, ◌∙◌, subst, arith, slice_range, Option, Some, None}
 use Rattle.std.specs.Prelude.{IfSome, option_map}
 use Rattle.std.proofs.Math.Nat.{mod-add-div', mod-lt}
 use Rattle.pool_pages.specs.Count.{rounded_up}
-use Rattle.pool_pages.specs.Contents.{Contents, image_mapped}
+use Rattle.pool_pages.specs.Contents.{Contents, CanReach, put, image_mapped}
 use Rattle.pool_pages.specs.Told.{mapped, mapping}
 use Rattle.pool_pages.specs.declared.pages.DecommitBehavior.{DecommitBehavior}
 use Rattle.pool_pages.specs.declared.pages.DecommitBehavior.TheVariants.{Zero, RestoreOriginalMapping}
 use Rattle.pool_images.specs.Images.{Image, start}
-use Rattle.pool_images.specs.Slots.{Slot, Fits, IsSound, IsReady, IsClean, IsBegun, Holds, HasImage, size_of, name_of, called, with_image}
-use Rattle.pool_images.proofs.Ready.{IsGood, good, lifted, followed, started_with, reads_start}
-
-clean_by : (s : Slot) (i : Image) (b : DecommitBehavior) → b ≡ RestoreOriginalMapping → s.image ≡ None → Fits s → i.offset + length i.bytes ≤ s.accessible.bytes → IsClean s → IsClean (record (called (mapping b (s.base.bytes + i.offset) i.bytes) s) { image = Some (name_of i) })
-clean_by s i Zero is none fits inside clean = absurd cc
-clean_by s i RestoreOriginalMapping is none fits inside clean =
-    let t : Slot = record (called (mapping RestoreOriginalMapping (s.base.bytes + i.offset) i.bytes) s) { image = Some (name_of i) } in
-    let f : Contents → Contents = image_mapped (s.base.bytes + i.offset) i.bytes in
-    record {
-      not_dirty = clean.not_dirty;
-      ready = lifted (IsGood s) (IsReady t) f s.region.contents (λ c g. (started_with RestoreOriginalMapping s i none fits inside c g).0.ready) (good s fits clean);
-      holds = lifted (IsGood s) (Holds t 0 (size_of t)) f s.region.contents (λ c g. (started_with RestoreOriginalMapping s i none fits inside c g).0.holds) (good s fits clean);
-    }
-
-has_by : (s : Slot) (i : Image) (b : DecommitBehavior) → b ≡ RestoreOriginalMapping → s.image ≡ None → Fits s → i.offset + length i.bytes ≤ s.accessible.bytes → IsClean s → IfSome (option_map (mapped b (s.base.bytes + i.offset) i.bytes) s.region.contents) (HasImage (record (called (mapping b (s.base.bytes + i.offset) i.bytes) s) { image = Some (name_of i) }) (Some i))
-has_by s i Zero is none fits inside clean = absurd cc
-has_by s i RestoreOriginalMapping is none fits inside clean =
-    let t : Slot = record (called (mapping RestoreOriginalMapping (s.base.bytes + i.offset) i.bytes) s) { image = Some (name_of i) } in
-    lifted (IsGood s) (HasImage t (Some i)) (image_mapped (s.base.bytes + i.offset) i.bytes) s.region.contents (λ c g. (started_with RestoreOriginalMapping s i none fits inside c g).1) (good s fits clean)
-
--- an image is mapped into a clean slot that has none
-pub mapped_clean : (s : Slot) (i : Image) → s.image ≡ None → Fits s → i.offset + length i.bytes ≤ s.accessible.bytes → IsClean s → IsClean (with_image (Some i) s)
-mapped_clean s i none fits inside clean = clean_by s i s.region.behaviour fits.behaviour none fits inside clean
-
-pub mapped_has : (s : Slot) (i : Image) → s.image ≡ None → Fits s → i.offset + length i.bytes ≤ s.accessible.bytes → IsClean s → IfSome (with_image (Some i) s).region.contents (HasImage (with_image (Some i) s) (Some i))
-mapped_has s i none fits inside clean = has_by s i s.region.behaviour fits.behaviour none fits inside clean
+use Rattle.pool_pages.proofs.Puts.{length-put, range-put, range-put_above, range-put_both}
+use Rattle.pool_images.specs.declared.image_slot.ImageName.{ImageName}
+use Rattle.pool_images.specs.Slots.{Slot, Fits, IsSound, IsReady, IsClean, IsBegun, Holds, HasImage, size_of, name_of, image_bytes, restored_image, origin_image, placed, called, with_image}
+use Rattle.pool_images.proofs.Marks.{reach_marked, range-put_within}
+use Rattle.pool_images.proofs.Ready.{IsGood, good, lifted, followed, page_inside, reads_start}
 
 mod_below : (n page : ℕ) → 0 < page → n % page < page
 mod_below n page some = mod-lt n some
@@ -42,18 +21,100 @@ mod_below n page some = mod-lt n some
 pub rounded_up_above : (page n : ℕ) → 0 < page → n ≤ rounded_up page n
 rounded_up_above page n some = omega (arith, mod-add-div' (n + page - 1) page, mod_below (n + page - 1) page some)
 
-begun_told : (s : Slot) (image : Option Image) (o : Option Contents) → Fits s → IfSome image (λ i. i.offset + length i.bytes ≤ s.static_size) → IfSome o (IsSound s.region.page s.region.len s.base.bytes (size_of s)) → IfSome o (IsReady s) → IfSome o (Holds s 0 (size_of s)) → IfSome o (HasImage s image) → IfSome o (λ c. slice_range c.bytes s.base.bytes (s.base.bytes + s.static_size) ≡ start image s.static_size)
-begun_told s image None fits inside sound ready holds has = sound
-begun_told s image (Some c) fits inside sound ready holds has =
-    reads_start s image s.static_size c fits sound (rounded_up_above s.region.page s.static_size (omega (arith, fits.page_size.at_least))) inside (record { ready = ready; holds = holds }) has
+-- the slot with an image mapped into it by a region of this behaviour, in use
+abbrev mapped_slot : DecommitBehavior → Image → Slot → Slot
+mapped_slot b i s = record (called (mapping b (s.base.bytes + i.offset) i.bytes) s) { image = Some (name_of i); dirty = true }
+
+-- a clean slot without image holds zeros, and goes back to them
+zeros_back : (s : Slot) (c : Contents) → s.image ≡ None → IsGood s c → c.origin ≡ replicate (length c.origin) 0
+zeros_back s c none g =
+    let O : Option ImageName → Type 0 = λ o. c.origin ≡ placed s.base.bytes o c.origin in
+    subst O (sym g.image ∙ none) g.ready.origin
+
+-- the image can be reached
+mapped_reach : (s : Slot) (i : Image) (c : Contents) → Fits s → i.offset + length i.bytes ≤ s.accessible.bytes → IsGood s c → CanReach s.base.bytes s.accessible.bytes (image_mapped (s.base.bytes + i.offset) i.bytes c)
+mapped_reach s i c fits inside g =
+    reach_marked s.base.bytes s.accessible.bytes ((s.base.bytes + i.offset) / c.page) (length i.bytes / c.page) c (page_inside s c i.offset fits g.sound (omega (arith, fits.within))) g.ready.reach
+
+-- the region goes back to the image, or to zeros still
+mapped_ready : (b : DecommitBehavior) (s : Slot) (i : Image) → s.region.behaviour ≡ b → s.image ≡ None → Fits s → i.offset + length i.bytes ≤ s.accessible.bytes → (c : Contents) → IsGood s c → IsReady (mapped_slot b i s) (mapped b (s.base.bytes + i.offset) i.bytes c)
+mapped_ready RestoreOriginalMapping s i is none fits inside c g =
+    let all : length c.origin ≡ s.region.len = g.sound.shaped.origin in
+    let every : length c.bytes ≡ s.region.len = g.sound.shaped.bytes in
+    let zeros : c.origin ≡ replicate (length c.origin) 0 = zeros_back s c none g in
+    let ends : s.base.bytes + i.offset + length i.bytes ≤ length c.origin = omega (arith, fits.inside, fits.within) in
+    let same : length (put (s.base.bytes + i.offset) i.bytes c.origin) ≡ length c.origin = length-put (s.base.bytes + i.offset) i.bytes c.origin ends in
+    let image : image_bytes s.base.bytes (name_of i) (put (s.base.bytes + i.offset) i.bytes c.origin) ≡ i.bytes = range-put (s.base.bytes + i.offset) i.bytes c.origin ends in
+    let P : List ℕ → Type 0 = λ l. put (s.base.bytes + i.offset) i.bytes c.origin ≡ put (s.base.bytes + i.offset) l (replicate (length (put (s.base.bytes + i.offset) i.bytes c.origin)) 0) in
+    let over : put (s.base.bytes + i.offset) i.bytes c.origin ≡ put (s.base.bytes + i.offset) i.bytes (replicate (length (put (s.base.bytes + i.offset) i.bytes c.origin)) 0) =
+    ap (put (s.base.bytes + i.offset) i.bytes) (zeros ∙ ap (λ (n : ℕ). replicate {A = ℕ} n 0) (sym same)) in
+    let B : DecommitBehavior → Type 0 = λ b. put (s.base.bytes + i.offset) i.bytes c.origin ≡ placed s.base.bytes (restored_image (Some (name_of i)) b) (put (s.base.bytes + i.offset) i.bytes c.origin) in
+    record {
+      reach = mapped_reach s i c fits inside g;
+      origin = subst B (sym is) (subst P (sym image) over);
+      beyond = range-put_both (s.base.bytes + i.offset) i.bytes c.bytes c.origin (s.base.bytes + s.accessible.bytes) (s.base.bytes + size_of s) (omega arith) (omega arith) (omega (arith, fits.inside)) g.ready.beyond;
+    }
+mapped_ready Zero s i is none fits inside c g =
+    let every : length c.bytes ≡ s.region.len = g.sound.shaped.bytes in
+    let B : DecommitBehavior → Type 0 = λ b. c.origin ≡ placed s.base.bytes (restored_image (Some (name_of i)) b) c.origin in
+    record {
+      reach = mapped_reach s i c fits inside g;
+      origin = subst B (sym is) (zeros_back s c none g);
+      beyond = range-put_above (s.base.bytes + i.offset) i.bytes c.bytes (s.base.bytes + s.accessible.bytes) (s.base.bytes + size_of s) (omega (arith, fits.inside, fits.within)) (omega (arith, fits.inside)) (omega arith) ∙ g.ready.beyond;
+    }
+
+-- and the slot reads as the image and zeros
+image_read : (s : Slot) (i : Image) (c : Contents) → s.image ≡ None → Fits s → i.offset + length i.bytes ≤ s.static_size → IsGood s c → slice_range (put (s.base.bytes + i.offset) i.bytes c.bytes) s.base.bytes (s.base.bytes + s.static_size) ≡ start (Some i) s.static_size
+image_read s i c none fits within g =
+    let every : length c.bytes ≡ s.region.len = g.sound.shaped.bytes in
+    let above : s.static_size ≤ size_of s = rounded_up_above s.region.page s.static_size (omega (arith, fits.page_size.at_least)) in
+    range-put_within i.offset i.bytes c.bytes s.base.bytes s.static_size (omega (arith, fits.inside)) within
+    ∙ ap (λ (l : List ℕ). put i.offset i.bytes l) (reads_start s None s.static_size c fits g.sound g.image above tt (record { ready = g.ready; holds = g.holds }) none)
+
+mapped_read : (b : DecommitBehavior) (s : Slot) (i : Image) → s.image ≡ None → Fits s → i.offset + length i.bytes ≤ s.static_size → (c : Contents) → IsGood s c → slice_range (mapped b (s.base.bytes + i.offset) i.bytes c).bytes s.base.bytes (s.base.bytes + s.static_size) ≡ start (Some i) s.static_size
+mapped_read RestoreOriginalMapping s i none fits within c g = image_read s i c none fits within g
+mapped_read Zero s i none fits within c g = image_read s i c none fits within g
+
+-- An image is mapped into a clean slot that has none: once that is marked as in use, a memory begins in it. Under either
+-- behaviour.
+pub mapped_begun : (s : Slot) (i : Image) → s.image ≡ None → Fits s → i.offset + length i.bytes ≤ s.accessible.bytes → i.offset + length i.bytes ≤ s.static_size → IsClean s → IsBegun (Some i) (record (with_image (Some i) s) { dirty = true })
+mapped_begun s i none fits inside within clean =
+    let f : Contents → Contents = mapped s.region.behaviour (s.base.bytes + i.offset) i.bytes in
+    let t : Slot = mapped_slot s.region.behaviour i s in
+    record {
+      dirty = refl;
+      ready = lifted (IsGood s) (IsReady t) f s.region.contents (mapped_ready s.region.behaviour s i refl none fits inside) (good s fits clean);
+      reads = lifted (IsGood s) (λ c. slice_range c.bytes s.base.bytes (s.base.bytes + s.static_size) ≡ start (Some i) s.static_size) f s.region.contents (mapped_read s.region.behaviour s i none fits within) (good s fits clean);
+    }
+
+-- where pages go back to zeros, no clean slot has an image: one that is wanted is mapped each time
+pub none_kept : (s : Slot) (i : Image) (c : Contents) → s.region.behaviour ≡ Zero → IsClean s → HasImage s (Some i) c → ⊥
+none_kept s i c zero clean has =
+    let B : DecommitBehavior → Type 0 = λ b. s.image ≡ restored_image s.image b in
+    let O : Option ImageName → Type 0 = λ o. o ≡ restored_image o Zero in
+    let none : Some (name_of i) ≡ None = subst O has.0 (subst B zero clean.image) in
+    absurd cc
+
+begun_told : (s : Slot) (image : Option Image) (o : Option Contents) → s.image ≡ origin_image s → Fits s → IfSome image (λ i. i.offset + length i.bytes ≤ s.static_size) → IfSome o (IsSound s.region.page s.region.len s.base.bytes (size_of s)) → IfSome o (IsReady s) → IfSome o (Holds s 0 (size_of s)) → IfSome o (HasImage s image) → IfSome o (λ c. slice_range c.bytes s.base.bytes (s.base.bytes + s.static_size) ≡ start image s.static_size)
+begun_told s image None is fits inside sound ready holds has = sound
+begun_told s image (Some c) is fits inside sound ready holds has =
+    reads_start s image s.static_size c fits sound is (rounded_up_above s.region.page s.static_size (omega (arith, fits.page_size.at_least))) inside (record { ready = ready; holds = holds }) has
 
 -- a clean slot that has the wanted image is marked as in use
 pub begun : (s : Slot) (image : Option Image) → Fits s → IsClean s → IfSome image (λ i. i.offset + length i.bytes ≤ s.static_size) → IfSome s.region.contents (HasImage s image) → IsBegun image (record s { dirty = true })
 begun s image fits clean inside has = record {
   dirty = refl;
   ready = followed (IsReady s) (IsReady (record s { dirty = true })) s.region.contents (λ c r. record { reach = r.reach; origin = r.origin; beyond = r.beyond }) clean.ready;
-  reads = begun_told s image s.region.contents fits inside fits.told clean.ready clean.holds has;
+  reads = begun_told s image s.region.contents clean.image fits inside fits.told clean.ready clean.holds has;
 }
+
+told_none : (s : Slot) (o : Option Contents) → s.image ≡ None → IfSome o (HasImage s None)
+told_none s None none = tt
+told_none s (Some c) none = none
+
+-- the same without an image
+pub begun_none : (s : Slot) → Fits s → IsClean s → s.image ≡ None → IsBegun None (record s { dirty = true })
+begun_none s fits clean none = begun s None fits clean tt (told_none s s.region.contents none)
 
 pub if_mapped : {A B : Type 0} (f : A → B) (P : B → Type 0) (o : Option A) → IfSome o (λ x. P (f x)) → IfSome (option_map f o) P
 if_mapped f P None h = h

@@ -6,7 +6,7 @@ use Rattle.pool_pages.specs.Contents.{Contents, IsShaped, Page, page_at, page_or
 use Rattle.pool_pages.specs.Told.{Told, PageCall, IsPartly, MayChangePartly, Faulted, TellsShaped, counted, succeeded, decommitting}
 use Rattle.pool_pages.proofs.Multiples.{page_of}
 use Rattle.pool_pages.proofs.Puts.{get_or-range, same_at, same_range, range_within, same_by_pages}
-use Rattle.pool_images.specs.Slots.{Slot, Fits, IsSound, IsReady, IsClean, Holds, placed, size_of, called}
+use Rattle.pool_images.specs.Slots.{Slot, Fits, IsSound, IsReady, IsClean, Holds, origin_image, placed, size_of, called}
 use Rattle.pool_images.proofs.Backs.{back_there}
 use Rattle.pool_images.proofs.Ready.{IsGood, IsStarted, good, lifted, followed}
 
@@ -33,6 +33,7 @@ still_clean s start len fits clean inside =
     let f : Contents → Contents = decommitted (s.base.bytes + start) len in
     record {
       not_dirty = clean.not_dirty;
+      image = clean.image;
       ready = lifted (IsGood s) (IsReady t) f s.region.contents (λ c g. (still_started s start len c fits inside g).ready) (good s fits clean);
       holds = lifted (IsGood s) (Holds t 0 (size_of t)) f s.region.contents (λ c g. (still_started s start len c fits inside g).holds) (good s fits clean);
     }
@@ -115,7 +116,7 @@ module _ (s : Slot) (start len : ℕ) (c d : Contents) (fits : Fits s) (inside :
     ready = record {
       reach = λ k from below. partly_reach k ∙ g.ready.reach k (rw partly_page at from) (rw partly_page at below);
       origin =
-          let P : List ℕ → Type 0 = λ l. l ≡ placed s.base.bytes s.image l in
+          let P : List ℕ → Type 0 = λ l. l ≡ placed s.base.bytes (origin_image s) l in
           subst P (sym partly_origin) g.ready.origin;
       beyond = range_within d.bytes d.origin (s.base.bytes + 0) (s.base.bytes + size_of s) (s.base.bytes + s.accessible.bytes) (s.base.bytes + size_of s)
           (omega (arith, shaped.bytes, fits.inside)) (omega (arith, shaped.origin, fits.inside)) (omega arith) (omega arith) partly_holds;
@@ -142,6 +143,7 @@ faulted_clean s start len new fits clean inside faulted shaped =
     let t : Slot = record s { region = u } in
     subst P (sym faulted.same) (record {
       not_dirty = clean.not_dirty;
+      image = clean.image;
       ready = followed (IsStarted s) (IsReady t) new.contents (λ d st. record { reach = st.ready.reach; origin = st.ready.origin; beyond = st.ready.beyond }) started;
       holds = followed (IsStarted s) (Holds t 0 (size_of t)) new.contents (λ d st. st.holds) started;
     })

@@ -92,6 +92,7 @@ emptied_clean s fits size_whole =
     let P : Contents → Type 0 = IsSound s.region.page s.region.len s.base.bytes (size_of s) in
     record {
       not_dirty = refl;
+      image = refl;
       ready = lifted P (IsReady (emptied s)) f s.region.contents (λ c sound. (started_emptied s c fits size_whole sound).ready) fits.told;
       holds = lifted P (Holds (emptied s) 0 (size_of s)) f s.region.contents (λ c sound. (started_emptied s c fits size_whole sound).holds) fits.told;
     }

@@ -54,7 +54,6 @@ keeps_ok whole call s keeps outside shaped = record {
     roomy = keeps.fits.roomy;
     within = keeps.fits.within;
     image = keeps.fits.image;
-    behaviour = keeps.fits.behaviour;
     told = told_ok call s.region.page s.region.len s.base.bytes (size_of s) s.region.contents outside keeps.fits.told shaped;
   };
 }
@@ -80,7 +79,6 @@ keeps_err whole call s new keeps outside faulted shaped =
         roomy = keeps.fits.roomy;
         within = keeps.fits.within;
         image = keeps.fits.image;
-        behaviour = keeps.fits.behaviour;
         told = told_partly call s.region.page s.region.len s.base.bytes (size_of s) s.region.contents new.contents outside keeps.fits.told faulted.partly shape;
       };
     })

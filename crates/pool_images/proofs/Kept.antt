@@ -1,12 +1,12 @@
 -- What stays of a slot where pages of it are exposed, or where that fails half-way.
-use Rattle.std.proofs.Common.{◌≡◌, ℕ, ◌+◌, ◌-◌, ◌*◌, ◌/◌, ◌%◌, ◌<◌, ◌≤◌, true, false, List, length, refl, sym, ap, ◌∙◌, subst, arith, slice_range, Option, Some, None, Result, Ok, Err}
-use Rattle.std.specs.Prelude.{IfSome, OnOk, OnErr, option_map, slice_index_or}
+use Rattle.std.proofs.Common.{◌≡◌, ℕ, ◌+◌, ◌-◌, ◌*◌, ◌/◌, ◌%◌, ◌<◌, ◌≤◌, true, false, List, length, refl, sym, ap, ◌∙◌, subst, arith, slice_range, Option, Some, None}
+use Rattle.std.specs.Prelude.{IfSome, option_map, slice_index_or}
 use Rattle.pool_pages.specs.Count.{Count, count}
-use Rattle.pool_pages.specs.Contents.{Contents, IsShaped, CanReach, page_at, page_bytes, page_origin, exposed}
-use Rattle.pool_pages.specs.Told.{Told, IsPartly, MayChangePartly, Faulted, TellsShaped, counted, exposing}
+use Rattle.pool_pages.specs.Contents.{Contents, IsShaped, CanReach, page_bytes, page_origin, exposed}
+use Rattle.pool_pages.specs.Told.{Told, IsPartly, MayChangePartly, counted, exposing}
 use Rattle.pool_pages.proofs.Multiples.{sub_whole}
 use Rattle.pool_pages.proofs.Puts.{range_within, same_by_pages}
-use Rattle.pool_images.specs.Slots.{Slot, Fits, IsSound, IsReady, IsClean, IsKept, CallFaulted, Holds, placed, size_of, called, raising, raised}
+use Rattle.pool_images.specs.Slots.{Slot, Fits, IsSound, IsReady, IsKept, CallFaulted, Holds, origin_image, placed, size_of, called, raising, raised}
 use Rattle.pool_images.proofs.Decommits.{by_page}
 use Rattle.pool_images.proofs.Marks.{marked_stays, reach_exposed}
 use Rattle.pool_images.proofs.Ready.{lifted, followed, paired, page_some, page_inside, clean_exposed}
@@ -20,7 +20,7 @@ record IsSameOrShown (c d : Contents) : Type 0 where
 
 ready_same : (s : Slot) (c d : Contents) → IsSameOrShown c d → IsReady s c → IsReady s d
 ready_same s c d same r =
-    let O : List ℕ → Type 0 = λ l. l ≡ placed s.base.bytes s.image l in
+    let O : List ℕ → Type 0 = λ l. l ≡ placed s.base.bytes (origin_image s) l in
     let B : List ℕ → List ℕ → Type 0 = λ bs os. slice_range bs (s.base.bytes + s.accessible.bytes) (s.base.bytes + size_of s) ≡ slice_range os (s.base.bytes + s.accessible.bytes) (s.base.bytes + size_of s) in
     record {
       reach = λ k from below. same.reach k (r.reach k (rw same.page at from) (rw same.page at below));
@@ -94,11 +94,13 @@ kept_faulted s new n fits after faulted =
       name = refl;
       page = refl;
       len = refl;
+      behaviour = refl;
       plan = refl;
       bytes = like.bytes;
       ready = λ old. followed (IsReady s) (IsReady t) r.contents (λ d y. record { reach = y.reach; origin = y.origin; beyond = y.beyond }) (like.ready old);
       clean = λ old. record {
         not_dirty = old.not_dirty;
+        image = old.image;
         ready = followed (IsReady s) (IsReady t) r.contents (λ d y. record { reach = y.reach; origin = y.origin; beyond = y.beyond }) (like.ready old.ready);
         holds = followed (Holds s 0 (size_of s)) (Holds t 0 (size_of t)) r.contents (λ d h. h) (like.holds old.holds);
       };
@@ -136,6 +138,7 @@ kept_raised s n fits more within n_whole =
       name = refl;
       page = refl;
       len = refl;
+      behaviour = refl;
       plan = refl;
       bytes = bytes_shown (s.base.bytes + s.accessible.bytes) (n - s.accessible.bytes) s.region.contents;
       ready = λ old. lifted (λ c. Sound c × IsReady s c) (IsReady (raised n s)) (exposed (s.base.bytes + s.accessible.bytes) (n - s.accessible.bytes)) s.region.contents (λ c both. ready_raised s n fits more within n_whole c both.0 both.1) (paired Sound (IsReady s) s.region.contents fits.told old);
@@ -153,6 +156,7 @@ kept_self s = record {
   name = refl;
   page = refl;
   len = refl;
+  behaviour = refl;
   plan = refl;
   bytes = refl;
   ready = λ r. r;

@@ -8,7 +8,7 @@ use Rattle.pool_pages.specs.Told.{Told, TellsShaped}
 use Rattle.pool_pages.proofs.Multiples.{page_below, whole}
 use Rattle.pool_pages.proofs.Puts.{range-put_above, range_within}
 use Rattle.pool_images.specs.declared.image_slot.ImageName.{ImageName}
-use Rattle.pool_images.specs.Slots.{Slot, Fits, Keeps, IsSound, IsReady, IsClean, IsFresh, Holds, size_of, placed, written_at}
+use Rattle.pool_images.specs.Slots.{Slot, Fits, Keeps, IsSound, IsReady, IsClean, IsFresh, Holds, size_of, restored_image, placed, written_at}
 use Rattle.pool_images.proofs.Marks.{page_lt, range-zeros}
 use Rattle.pool_images.proofs.Fitting.{mul_under}
 use Rattle.pool_images.proofs.Ready.{page_some}
@@ -46,7 +46,6 @@ fresh_keeps t base accessible static_size colour fresh page_size base_whole acce
     roomy = fresh.bounded;
     within = fresh.within;
     image = tt;
-    behaviour = fresh.behaviour;
     told = fresh_sound t.page t.len base.bytes (rounded_up t.page static_size) t.contents (omega (arith, page_size.at_least)) shaped fresh.origin;
   };
 }
@@ -74,6 +73,7 @@ fresh_ready t base accessible static_size colour (Some c) reach origin beyond = 
 pub fresh_clean : (t : Told) (base accessible : Count) (static_size : ℕ) (colour : Option ℕ) → IsFresh base accessible static_size t → TellsShaped t → IsClean (fresh_slot t base accessible static_size colour)
 fresh_clean t base accessible static_size colour fresh shaped = record {
   not_dirty = refl;
+  image = refl;
   ready = fresh_ready t base accessible static_size colour t.contents fresh.reach (fresh_origin t.page t.len base.bytes t.contents shaped fresh.origin) (fresh_holds t base accessible static_size colour accessible.bytes t.contents fresh.within fresh.inside shaped fresh.origin fresh.zeros);
   holds = fresh_holds t base accessible static_size colour 0 t.contents (omega arith) fresh.inside shaped fresh.origin fresh.zeros;
 }
@@ -111,7 +111,6 @@ written_keeps whole s at new keeps shaped = record {
     roomy = keeps.fits.roomy;
     within = keeps.fits.within;
     image = keeps.fits.image;
-    behaviour = keeps.fits.behaviour;
     told = written_sound s.region.page s.region.len s.base.bytes (size_of s) (s.base.bytes + at) new s.region.contents keeps.fits.told shaped;
   };
 }
@@ -142,7 +141,7 @@ no_image page len start image c some shaped zeros fits =
 no_image_told : (s : Slot) (start : ℕ) (image : List ℕ) (o : Option Contents) → Fits s → s.image ≡ None → start + length image ≤ s.region.len → IfSome o (IsSound s.region.page s.region.len s.base.bytes (size_of s)) → IfSome o (IsReady s) → IfSome o (HasNoOtherImage start image)
 no_image_told s start image None fits none within sound ready = sound
 no_image_told s start image (Some c) fits none within sound ready =
-    let O : Option ImageName → Type 0 = λ o. c.origin ≡ placed s.base.bytes o c.origin in
+    let O : Option ImageName → Type 0 = λ o. c.origin ≡ placed s.base.bytes (restored_image o s.region.behaviour) c.origin in
     no_image s.region.page s.region.len start image c (omega (arith, fits.page_size.at_least)) sound.shaped (subst O none ready.origin) within
 
 -- no page of a slot without image goes back to one

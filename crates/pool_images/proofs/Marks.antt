@@ -94,33 +94,37 @@ put-zeros i n m ys long fits =
     ])
 
 -- a range that begins before what was put, and ends behind it
-pub range-put_around : (i : ℕ) (ys : List ℕ) (m base n : ℕ) → base + i + length ys ≤ m → i + length ys ≤ n → base + n ≤ m → slice_range (put (base + i) ys (replicate m 0)) base (base + n) ≡ put i ys (replicate n 0)
-range-put_around i ys m base n fits within inside =
-    let all : length (replicate {A = ℕ} m 0) ≡ m = length-replicate m 0 in
-    let some : length (replicate {A = ℕ} n 0) ≡ n = length-replicate n 0 in
-    let wide : length (put (base + i) ys (replicate m 0)) ≡ m = length-put (base + i) ys (replicate m 0) (omega arith) ∙ all in
-    let left : length (slice_range (put (base + i) ys (replicate m 0)) base (base + n)) ≡ base + n - base = length-range (put (base + i) ys (replicate m 0)) base (base + n) (omega arith) in
-    let right : length (put i ys (replicate n 0)) ≡ n = length-put i ys (replicate n 0) (omega arith) ∙ some in
-    same_lists (slice_range (put (base + i) ys (replicate m 0)) base (base + n)) (put i ys (replicate n 0)) (omega arith)
+pub range-put_within : (i : ℕ) (ys xs : List ℕ) (base n : ℕ) → base + n ≤ length xs → i + length ys ≤ n → slice_range (put (base + i) ys xs) base (base + n) ≡ put i ys (slice_range xs base (base + n))
+range-put_within i ys xs base n inside fits =
+    let part : length (slice_range xs base (base + n)) ≡ base + n - base = length-range xs base (base + n) inside in
+    let wide : length (put (base + i) ys xs) ≡ length xs = length-put (base + i) ys xs (omega arith) in
+    let left : length (slice_range (put (base + i) ys xs) base (base + n)) ≡ base + n - base = length-range (put (base + i) ys xs) base (base + n) (omega arith) in
+    let right : length (put i ys (slice_range xs base (base + n))) ≡ length (slice_range xs base (base + n)) = length-put i ys (slice_range xs base (base + n)) (omega arith) in
+    same_lists (slice_range (put (base + i) ys xs) base (base + n)) (put i ys (slice_range xs base (base + n))) (omega arith)
     (λ k d below.
     let under : k < base + n - base = omega arith in
-    get_or-range (put (base + i) ys (replicate m 0)) base (base + n) k d under
+    get_or-range (put (base + i) ys xs) base (base + n) k d under
     ∙ elim (cases_lt k i) [
       | inl first ↦
-          get_or-put_below (base + i) ys (replicate m 0) (base + k) d (omega arith) (omega arith)
-          ∙ get_or-replicate m (base + k) 0 d (omega arith)
-          ∙ sym (get_or-replicate n k 0 d (omega arith))
-          ∙ sym (get_or-put_below i ys (replicate n 0) k d (omega arith) first)
+          get_or-put_below (base + i) ys xs (base + k) d (omega arith) (omega arith)
+          ∙ sym (get_or-range xs base (base + n) k d under)
+          ∙ sym (get_or-put_below i ys (slice_range xs base (base + n)) k d (omega arith) first)
       | inr from ↦ elim (cases_lt k (i + length ys)) [
         | inl mid ↦
             let place : base + k - (base + i) ≡ k - i = omega arith in
-            get_or-put_in (base + i) ys (replicate m 0) (base + k) d (omega arith) (omega arith) (omega arith)
+            get_or-put_in (base + i) ys xs (base + k) d (omega arith) (omega arith) (omega arith)
             ∙ ap (λ j. get_or ys j d) place
-            ∙ sym (get_or-put_in i ys (replicate n 0) k d (omega arith) from mid)
+            ∙ sym (get_or-put_in i ys (slice_range xs base (base + n)) k d (omega arith) from mid)
         | inr above ↦
-            get_or-put_above (base + i) ys (replicate m 0) (base + k) d (omega arith) (omega arith)
-            ∙ get_or-replicate m (base + k) 0 d (omega arith)
-            ∙ sym (get_or-replicate n k 0 d (omega arith))
-            ∙ sym (get_or-put_above i ys (replicate n 0) k d (omega arith) above)
+            get_or-put_above (base + i) ys xs (base + k) d (omega arith) (omega arith)
+            ∙ sym (get_or-range xs base (base + n) k d under)
+            ∙ sym (get_or-put_above i ys (slice_range xs base (base + n)) k d (omega arith) above)
       ]
     ])
+
+pub range-put_around : (i : ℕ) (ys : List ℕ) (m base n : ℕ) → base + i + length ys ≤ m → i + length ys ≤ n → base + n ≤ m → slice_range (put (base + i) ys (replicate m 0)) base (base + n) ≡ put i ys (replicate n 0)
+range-put_around i ys m base n fits within inside =
+    let all : length (replicate {A = ℕ} m 0) ≡ m = length-replicate m 0 in
+    let size : base + n - base ≡ n = omega arith in
+    range-put_within i ys (replicate m 0) base n (omega arith) within
+    ∙ ap (λ (l : List ℕ). put i ys l) (range-zeros m base (base + n) inside ∙ ap (λ (k : ℕ). replicate {A = ℕ} k 0) size)

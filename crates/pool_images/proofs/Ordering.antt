@@ -1,13 +1,13 @@
 -- Page calls in order: those of several calls on a slot, one after the other.
-use Rattle.std.proofs.Common.{◌≡◌, ℕ, ◌+◌, ◌-◌, ◌&&◌, List, [], ◌∷◌, ◌++◌, Bool, true, false, nat_lt, Option, Some, None, Result, Ok, Err, refl, sym, ap, subst, ◌∙◌}
+use Rattle.std.proofs.Common.{◌≡◌, ℕ, List, [], ◌∷◌, ◌++◌, Bool, true, false, Option, Some, None, Result, Ok, Err, refl, sym, ap, subst, ◌∙◌}
 use Rattle.std.proofs.lemmas.Bool.{true≢false}
 use Rattle.std.specs.Prelude.{if◌then◌else◌, IfSome, is_ok, IsErr}
-use Rattle.pool_pages.specs.Count.{Count, count}
-use Rattle.pool_pages.specs.Told.{Told, PageCall, succeeded, passes, exposing, hiding}
+use Rattle.pool_pages.specs.Count.{Count}
+use Rattle.pool_pages.specs.Told.{Told, PageCall, succeeded, passes}
 use Rattle.pool_pages.specs.declared.pages.DecommitBehavior.{DecommitBehavior}
 use Rattle.pool_images.specs.Images.{Image}
 use Rattle.pool_images.specs.Orders.{Follows, failed, outcome, removing, resizing, image_mapping, replacing}
-use Rattle.pool_images.specs.Slots.{Slot, called, resized, without, without_image}
+use Rattle.pool_images.specs.Slots.{Slot, resized, without, without_image}
 use Rattle.pool_images.specs.declared.image_slot.ImageName.{ImageName}
 use Rattle.pool_images.proofs.Sizes.{IsLike, like_resized, like_without}
 

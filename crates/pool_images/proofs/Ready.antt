@@ -3,29 +3,29 @@ use Rattle.std.proofs.Common.{◌≡◌, ℕ, ◌+◌, ◌-◌, ◌/◌, ◌%◌
 use Rattle.std.specs.Prelude.{IfSome, option_map}
 use Rattle.std.proofs.lemmas.List.{length-replicate}
 use Rattle.pool_pages.specs.Count.{Count, count}
-use Rattle.pool_pages.specs.Contents.{Contents, CanReach, put, put_all, exposed, hidden, image_mapped, remapped}
-use Rattle.pool_pages.specs.Told.{exposing, hiding, mapping, remapping}
+use Rattle.pool_pages.specs.Contents.{Contents, CanReach, put, put_all, exposed, hidden, remapped}
+use Rattle.pool_pages.specs.Told.{exposing, hiding, remapping}
 use Rattle.std.proofs.Math.Nat.{div-mul-le_self, le-div_iff_mul-le}
 use Rattle.pool_pages.proofs.Multiples.{sub_whole}
-use Rattle.pool_pages.proofs.Puts.{length-put, length-range, range-put, range-put_both, range_within}
-use Rattle.pool_pages.specs.declared.pages.DecommitBehavior.{DecommitBehavior}
+use Rattle.pool_pages.proofs.Puts.{length-put, length-range, range-put_both, range_within}
 use Rattle.pool_images.specs.Images.{Image, start}
 use Rattle.pool_images.specs.declared.image_slot.ImageName.{ImageName}
-use Rattle.pool_images.specs.Slots.{Slot, Fits, IsSound, IsPlaced, IsReady, IsClean, Holds, HasImage, size_of, name_of, image_bytes, placed, called, without}
+use Rattle.pool_images.specs.Slots.{Slot, Fits, IsSound, IsPlaced, IsReady, IsClean, Holds, HasImage, size_of, name_of, image_bytes, origin_image, placed, called, without}
 use Rattle.pool_images.proofs.Marks.{reach_marked, reach_exposed, reach_hidden, range-zeros, put-zeros, range-put_around}
 
 -- what holds of a told region that a clean slot is in
 pub record IsGood (s : Slot) (c : Contents) : Type 0 where
+  pub image : s.image ≡ origin_image s
   pub sound : IsSound s.region.page s.region.len s.base.bytes (size_of s) c
   pub ready : IsReady s c
   pub holds : Holds s 0 (size_of s) c
 
-good_of : (s : Slot) (o : Option Contents) → IfSome o (IsSound s.region.page s.region.len s.base.bytes (size_of s)) → IfSome o (IsReady s) → IfSome o (Holds s 0 (size_of s)) → IfSome o (IsGood s)
-good_of s None sound ready holds = sound
-good_of s (Some c) sound ready holds = record { sound = sound; ready = ready; holds = holds }
+good_of : (s : Slot) (o : Option Contents) → s.image ≡ origin_image s → IfSome o (IsSound s.region.page s.region.len s.base.bytes (size_of s)) → IfSome o (IsReady s) → IfSome o (Holds s 0 (size_of s)) → IfSome o (IsGood s)
+good_of s None image sound ready holds = sound
+good_of s (Some c) image sound ready holds = record { image = image; sound = sound; ready = ready; holds = holds }
 
 pub good : (s : Slot) → Fits s → IsClean s → IfSome s.region.contents (IsGood s)
-good s fits clean = good_of s s.region.contents fits.told clean.ready clean.holds
+good s fits clean = good_of s s.region.contents clean.image fits.told clean.ready clean.holds
 
 -- what holds of told pages that are what they go back to
 pub record IsStarted (s : Slot) (c : Contents) : Type 0 where
@@ -88,6 +88,7 @@ clean_exposed s size fits clean more within size_whole =
     let t : Slot = record (called (exposing (s.base.bytes + s.accessible.bytes) (size - s.accessible.bytes)) s) { accessible = count s.region.page size } in
     record {
       not_dirty = clean.not_dirty;
+      image = clean.image;
       ready = lifted (IsGood s) (IsReady t) f s.region.contents (ready_exposed s size fits more within size_whole) (good s fits clean);
       holds = lifted (Holds s 0 (size_of s)) (Holds t 0 (size_of t)) f s.region.contents (λ c h. h) clean.holds;
     }
@@ -110,6 +111,7 @@ clean_hidden s size fits clean less size_whole =
     let t : Slot = record (called (hiding (s.base.bytes + size) (s.accessible.bytes - size)) s) { accessible = count s.region.page size } in
     record {
       not_dirty = clean.not_dirty;
+      image = clean.image;
       ready = lifted (IsGood s) (IsReady t) f s.region.contents (ready_hidden s size fits less size_whole) (good s fits clean);
       holds = lifted (Holds s 0 (size_of s)) (Holds t 0 (size_of t)) f s.region.contents (λ c h. h) clean.holds;
     }
@@ -120,7 +122,7 @@ started_without s name is fits at c g =
     let all : length c.origin ≡ s.region.len = g.sound.shaped.origin in
     let every : length c.bytes ≡ s.region.len = g.sound.shaped.bytes in
     let O : Option ImageName → Type 0 = λ o. c.origin ≡ placed s.base.bytes o c.origin in
-    let mapped : c.origin ≡ placed s.base.bytes (Some name) c.origin = subst O is g.ready.origin in
+    let mapped : c.origin ≡ placed s.base.bytes (Some name) c.origin = subst O (sym g.image ∙ is) g.ready.origin in
     let image : List ℕ = image_bytes s.base.bytes name c.origin in
     let ends : s.base.bytes + name.offset + name.len ≤ length c.origin = omega (arith, fits.inside, fits.within, at.inside) in
     let len : length (image_bytes s.base.bytes name c.origin) ≡ name.len = length-range c.origin (s.base.bytes + name.offset) (s.base.bytes + name.offset + name.len) ends ∙ omega arith in
@@ -140,51 +142,21 @@ started_without s name is fits at c g =
       holds = both 0 (size_of s) (omega arith) g.holds;
     }
 
--- the slot with an image mapped, as it is under any behaviour
-abbrev pub mapped_slot : DecommitBehavior → Image → Slot → Slot
-mapped_slot b i s = record (called (mapping b (s.base.bytes + i.offset) i.bytes) s) { image = Some (name_of i) }
-
--- an image is mapped into a clean slot that has none
-pub started_with : (b : DecommitBehavior) (s : Slot) (i : Image) → s.image ≡ None → Fits s → i.offset + length i.bytes ≤ s.accessible.bytes → (c : Contents) → IsGood s c → IsStarted (mapped_slot b i s) (image_mapped (s.base.bytes + i.offset) i.bytes c) × HasImage (mapped_slot b i s) (Some i) (image_mapped (s.base.bytes + i.offset) i.bytes c)
-started_with b s i none fits inside c g =
-    let all : length c.origin ≡ s.region.len = g.sound.shaped.origin in
-    let every : length c.bytes ≡ s.region.len = g.sound.shaped.bytes in
-    let O : Option ImageName → Type 0 = λ o. c.origin ≡ placed s.base.bytes o c.origin in
-    let zeros : c.origin ≡ replicate (length c.origin) 0 = subst O none g.ready.origin in
-    let ends : s.base.bytes + i.offset + length i.bytes ≤ length c.origin = omega (arith, fits.inside, fits.within) in
-    let same : length (put (s.base.bytes + i.offset) i.bytes c.origin) ≡ length c.origin = length-put (s.base.bytes + i.offset) i.bytes c.origin ends in
-    let image : image_bytes s.base.bytes (name_of i) (put (s.base.bytes + i.offset) i.bytes c.origin) ≡ i.bytes = range-put (s.base.bytes + i.offset) i.bytes c.origin ends in
-    let P : List ℕ → Type 0 = λ l. put (s.base.bytes + i.offset) i.bytes c.origin ≡ put (s.base.bytes + i.offset) l (replicate (length (put (s.base.bytes + i.offset) i.bytes c.origin)) 0) in
-    let over : put (s.base.bytes + i.offset) i.bytes c.origin ≡ put (s.base.bytes + i.offset) i.bytes (replicate (length (put (s.base.bytes + i.offset) i.bytes c.origin)) 0) =
-    ap (put (s.base.bytes + i.offset) i.bytes) (zeros ∙ ap (λ (n : ℕ). replicate {A = ℕ} n 0) (sym same)) in
-    let both : (from to : ℕ) → to ≤ size_of s → Holds s from to c → Holds (mapped_slot b i s) from to (image_mapped (s.base.bytes + i.offset) i.bytes c) =
-    λ from to within h. range-put_both (s.base.bytes + i.offset) i.bytes c.bytes c.origin (s.base.bytes + from) (s.base.bytes + to) (omega arith) (omega arith) (omega (arith, fits.inside)) h in (
-      record {
-        ready = record {
-          reach = reach_marked s.base.bytes s.accessible.bytes ((s.base.bytes + i.offset) / c.page) (length i.bytes / c.page) c (page_inside s c i.offset fits g.sound (omega (arith, fits.within))) g.ready.reach;
-          origin = subst P (sym image) over;
-          beyond = both s.accessible.bytes (size_of s) (omega arith) g.ready.beyond;
-        };
-        holds = both 0 (size_of s) (omega arith) g.holds;
-      },
-      (refl, image),
-    )
-
 -- what a slot that holds what it goes back to reads as
-pub reads_start : (s : Slot) (image : Option Image) (n : ℕ) (c : Contents) → Fits s → IsSound s.region.page s.region.len s.base.bytes (size_of s) c → n ≤ size_of s → IfSome image (λ i. i.offset + length i.bytes ≤ n) → IsStarted s c → HasImage s image c → slice_range c.bytes s.base.bytes (s.base.bytes + n) ≡ start image n
-reads_start s None n c fits sound within inside st has =
+pub reads_start : (s : Slot) (image : Option Image) (n : ℕ) (c : Contents) → Fits s → IsSound s.region.page s.region.len s.base.bytes (size_of s) c → s.image ≡ origin_image s → n ≤ size_of s → IfSome image (λ i. i.offset + length i.bytes ≤ n) → IsStarted s c → HasImage s image c → slice_range c.bytes s.base.bytes (s.base.bytes + n) ≡ start image n
+reads_start s None n c fits sound is within inside st has =
     let all : length c.origin ≡ s.region.len = sound.shaped.origin in
     let O : Option ImageName → Type 0 = λ o. c.origin ≡ placed s.base.bytes o c.origin in
-    let zeros : c.origin ≡ replicate (length c.origin) 0 = subst O has st.ready.origin in
+    let zeros : c.origin ≡ replicate (length c.origin) 0 = subst O (sym is ∙ has) st.ready.origin in
     let size : s.base.bytes + n - s.base.bytes ≡ n = omega arith in
     held s n c fits sound within st.holds
     ∙ ap (λ (l : List ℕ). slice_range l s.base.bytes (s.base.bytes + n)) zeros
     ∙ range-zeros (length c.origin) s.base.bytes (s.base.bytes + n) (omega (arith, fits.inside))
     ∙ ap (λ (k : ℕ). replicate {A = ℕ} k 0) size
-reads_start s (Some i) n c fits sound within inside st has =
+reads_start s (Some i) n c fits sound is within inside st has =
     let all : length c.origin ≡ s.region.len = sound.shaped.origin in
     let O : Option ImageName → Type 0 = λ o. c.origin ≡ placed s.base.bytes o c.origin in
-    let mapped : c.origin ≡ put (s.base.bytes + i.offset) (image_bytes s.base.bytes (name_of i) c.origin) (replicate (length c.origin) 0) = subst O has.0 st.ready.origin in
+    let mapped : c.origin ≡ put (s.base.bytes + i.offset) (image_bytes s.base.bytes (name_of i) c.origin) (replicate (length c.origin) 0) = subst O (sym is ∙ has.0) st.ready.origin in
     let exact : c.origin ≡ put (s.base.bytes + i.offset) i.bytes (replicate (length c.origin) 0) = mapped ∙ ap (λ (l : List ℕ). put (s.base.bytes + i.offset) l (replicate (length c.origin) 0)) has.1 in
     held s n c fits sound within st.holds
     ∙ ap (λ (l : List ℕ). slice_range l s.base.bytes (s.base.bytes + n)) exact
@@ -196,6 +168,7 @@ clean_of s name is fits at clean =
     let t : Slot = without (Some name) s in
     record {
       not_dirty = clean.not_dirty;
+      image = refl;
       ready = lifted (IsGood s) (IsReady t) f s.region.contents (λ c g. (started_without s name is fits at c g).ready) (good s fits clean);
       holds = lifted (IsGood s) (Holds t 0 (size_of t)) f s.region.contents (λ c g. (started_without s name is fits at c g).holds) (good s fits clean);
     }

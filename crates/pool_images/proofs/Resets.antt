@@ -1,15 +1,25 @@
 -- A slot that was in use is clean once what a reset leaves is decommitted.
-use Rattle.std.proofs.Common.{◌≡◌, ℕ, ◌+◌, ◌-◌, ◌%◌, ◌<◌, ◌≤◌, Bool, true, false, List, [], ◌∷◌, length, min, refl, sym, ◌∙◌, subst, arith, slice_range, Option}
+use Rattle.std.proofs.Common.{◌≡◌, ℕ, ◌+◌, ◌-◌, ◌%◌, ◌<◌, ◌≤◌, Bool, true, false, List, [], ◌∷◌, length, min, refl, sym, ◌∙◌, subst, arith, slice_range, Option, Some, None}
 use Rattle.std.specs.Prelude.{IfSome, All, nat_lt, option_map, if◌then◌else◌}
 use Rattle.std.proofs.lemmas.List.Elements.{All-nil, All-cons}
 use Rattle.std.proofs.lemmas.Bool.{ltb-true, ltb-false, le-ltb}
 use Rattle.pool_pages.specs.Contents.{Contents, put_back, decommitted}
 use Rattle.pool_pages.specs.Told.{decommitting}
+use Rattle.pool_pages.specs.declared.pages.DecommitBehavior.{DecommitBehavior}
+use Rattle.pool_pages.specs.declared.pages.DecommitBehavior.TheVariants.{Zero, RestoreOriginalMapping}
 use Rattle.pool_pages.proofs.Multiples.{sub_whole}
 use Rattle.pool_pages.proofs.Puts.{range_joined, range_within}
-use Rattle.pool_images.specs.Slots.{Slot, Fits, IsSound, IsReady, IsClean, IsPart, Holds, size_of, called, cleared, reset_ranges, decommitted_all}
+use Rattle.pool_images.specs.declared.image_slot.ImageName.{ImageName}
+use Rattle.pool_images.specs.Slots.{Slot, Fits, IsSound, IsReady, IsClean, IsPart, Holds, size_of, restored_image, called, cleared, reset_ranges, kept_bytes, decommitted_all}
 use Rattle.pool_images.proofs.Backs.{back_here, back_there, length-back}
 use Rattle.pool_images.proofs.Ready.{IsStarted, lifted, followed, paired}
+
+-- where pages go back to a mapped image, the image of a slot is what it goes back to
+image_restored : (image : Option ImageName) (b : DecommitBehavior) → b ≡ RestoreOriginalMapping → image ≡ restored_image image b
+image_restored None b is = refl
+image_restored (Some name) b is =
+    let P : DecommitBehavior → Type 0 = λ x. Some name ≡ restored_image (Some name) x in
+    subst P (sym is) refl
 
 -- what holds of told pages whose first bytes are what they go back to
 record IsHalf (s : Slot) (kept : ℕ) (c : Contents) : Type 0 where
@@ -50,13 +60,14 @@ whole_started s c fits h = record {
   holds = range_joined c.bytes c.origin (s.base.bytes + 0) (s.base.bytes + s.accessible.bytes) (s.base.bytes + size_of s) (omega (arith, h.bytes, fits.inside)) (omega (arith, h.origin, fits.inside)) h.first h.ready.beyond;
 }
 
-whole_clean : (s : Slot) → Fits s → IfSome s.region.contents (IsReady s) → IsClean (cleared s.accessible.bytes s)
-whole_clean s fits ready =
+whole_clean : (s : Slot) → s.region.behaviour ≡ RestoreOriginalMapping → Fits s → IfSome s.region.contents (IsReady s) → IsClean (cleared s.accessible.bytes s)
+whole_clean s is fits ready =
     let t : Slot = cleared s.accessible.bytes s in
     let told = half s s.accessible.bytes fits ready (omega arith) in
     let o : Option Contents = option_map (put_back s.base.bytes s.accessible.bytes) s.region.contents in
     record {
       not_dirty = refl;
+      image = image_restored s.image s.region.behaviour is;
       ready = followed (IsHalf s s.accessible.bytes) (IsReady t) o (λ c h. (whole_started s c fits h).ready) told;
       holds = followed (IsHalf s s.accessible.bytes) (Holds t 0 (size_of t)) o (λ c h. (whole_started s c fits h).holds) told;
     }
@@ -88,33 +99,34 @@ rest_started s kept c fits within h =
           (range_joined (decommitted (s.base.bytes + kept) (s.accessible.bytes - kept) c).bytes c.origin (s.base.bytes + kept) (s.base.bytes + s.accessible.bytes) (s.base.bytes + size_of s) (omega arith) size second third);
     }
 
-rest_clean : (s : Slot) (kept : ℕ) → Fits s → IfSome s.region.contents (IsReady s) → kept ≤ s.accessible.bytes → IsClean (finished kept s)
-rest_clean s kept fits ready within =
+rest_clean : (s : Slot) (kept : ℕ) → s.region.behaviour ≡ RestoreOriginalMapping → Fits s → IfSome s.region.contents (IsReady s) → kept ≤ s.accessible.bytes → IsClean (finished kept s)
+rest_clean s kept is fits ready within =
     let t : Slot = finished kept s in
     let f : Contents → Contents = decommitted (s.base.bytes + kept) (s.accessible.bytes - kept) in
     let told = half s kept fits ready within in
     let o : Option Contents = option_map (put_back s.base.bytes kept) s.region.contents in
     record {
       not_dirty = refl;
+      image = image_restored s.image s.region.behaviour is;
       ready = lifted (IsHalf s kept) (IsReady t) f o (λ c h. (rest_started s kept c fits within h).ready) told;
       holds = lifted (IsHalf s kept) (Holds t 0 (size_of t)) f o (λ c h. (rest_started s kept c fits within h).holds) told;
     }
 
-reset_by : (s : Slot) (keep : ℕ) (less : Bool) → nat_lt keep s.accessible.bytes ≡ less → Fits s → IfSome s.region.contents (IsReady s) → IsClean (decommitted_all (if less then record { start = keep; len = s.accessible.bytes - keep } ∷ [] else []) (cleared (min keep s.accessible.bytes) s))
-reset_by s keep true is fits ready =
+reset_by : (s : Slot) (keep : ℕ) (less : Bool) → nat_lt keep s.accessible.bytes ≡ less → s.region.behaviour ≡ RestoreOriginalMapping → Fits s → IfSome s.region.contents (IsReady s) → IsClean (decommitted_all (if less then record { start = keep; len = s.accessible.bytes - keep } ∷ [] else []) (cleared (min keep s.accessible.bytes) s))
+reset_by s keep true is restores fits ready =
     let below : keep < s.accessible.bytes = ltb-true keep s.accessible.bytes is in
     let kept : keep ≡ min keep s.accessible.bytes = omega arith in
     let P : ℕ → Type 0 = λ n. IsClean (called (decommitting (s.base.bytes + keep) (s.accessible.bytes - keep)) (cleared n s)) in
-    subst P kept (rest_clean s keep fits ready (omega arith))
-reset_by s keep false is fits ready =
+    subst P kept (rest_clean s keep restores fits ready (omega arith))
+reset_by s keep false is restores fits ready =
     let from : s.accessible.bytes ≤ keep = ltb-false keep s.accessible.bytes is in
     let kept : s.accessible.bytes ≡ min keep s.accessible.bytes = omega arith in
     let P : ℕ → Type 0 = λ n. IsClean (cleared n s) in
-    subst P kept (whole_clean s fits ready)
+    subst P kept (whole_clean s restores fits ready)
 
 -- once that is done the slot is clean
-pub reset_clean : (s : Slot) (keep : ℕ) → Fits s → IfSome s.region.contents (IsReady s) → IsClean (decommitted_all (reset_ranges keep s.accessible.bytes) (cleared (min keep s.accessible.bytes) s))
-reset_clean s keep fits ready = reset_by s keep (nat_lt keep s.accessible.bytes) refl fits ready
+pub reset_clean : (s : Slot) (keep : ℕ) → s.region.behaviour ≡ RestoreOriginalMapping → Fits s → IfSome s.region.contents (IsReady s) → IsClean (decommitted_all (reset_ranges keep s.accessible.bytes) (cleared (min keep s.accessible.bytes) s))
+reset_clean s keep restores fits ready = reset_by s keep (nat_lt keep s.accessible.bytes) refl restores fits ready
 
 -- nothing is left where all that could be reached was kept
 pub kept_clean : (s : Slot) (keep : ℕ) → s.accessible.bytes ≤ keep → IsClean (decommitted_all (reset_ranges keep s.accessible.bytes) (cleared (min keep s.accessible.bytes) s)) → IsClean (cleared (min keep s.accessible.bytes) s)
@@ -134,3 +146,8 @@ parts_by page size keep accessible false is keep_whole accessible_whole within =
 -- what a reset leaves is whole pages of the slot
 pub reset_parts : (page size keep accessible : ℕ) → keep % page ≡ 0 → accessible % page ≡ 0 → accessible ≤ size → All (IsPart page size) (reset_ranges keep accessible)
 reset_parts page size keep accessible keep_whole accessible_whole within = parts_by page size keep accessible (nat_lt keep accessible) refl keep_whole accessible_whole within
+
+-- no more is kept than was asked for
+pub kept_at_most : (b : DecommitBehavior) (keep accessible : ℕ) → kept_bytes b keep accessible ≤ keep
+kept_at_most RestoreOriginalMapping keep accessible = omega arith
+kept_at_most Zero keep accessible = omega arith

@@ -112,6 +112,7 @@ sized_replaced initial hide image s =
       name = like.name;
       page = like.page;
       len = like.len;
+      behaviour = like.behaviour;
       plan = like.plan;
       tells = like.tells;
       faults = like.faults;

@@ -1,6 +1,8 @@
 -- The page calls of each call on a slot, in their order, and how they end under a plan.
-use Rattle.std.specs.Prelude.{◌≡◌, ℕ, ◌+◌, ◌-◌, ◌&&◌, List, [], ◌∷◌, ◌++◌, Bool, true, false, nat_lt, if◌then◌else◌, Option, None, Some, IfSome}
-use Rattle.pool_pages.specs.Told.{Told, PageCall, counted, succeeded, passes, risen, exposing, hiding, mapping, remapping, erasing}
+use Rattle.std.specs.Prelude.{◌≡◌, ℕ, ◌+◌, ◌-◌, ◌&&◌, List, [], ◌∷◌, ◌++◌, min, Bool, true, false, nat_lt, if◌then◌else◌, Option, None, Some, IfSome}
+use Rattle.pool_pages.specs.Told.{Told, PageCall, counted, succeeded, passes, risen, restored, exposing, hiding, mapping, remapping, erasing}
+use Rattle.pool_pages.specs.declared.pages.DecommitBehavior.{DecommitBehavior}
+use Rattle.pool_pages.specs.declared.pages.DecommitBehavior.TheVariants.{Zero, RestoreOriginalMapping}
 use Rattle.pool_images.specs.Images.{Image}
 use Rattle.pool_images.specs.Slots.{Slot, size_of}
 use Rattle.pool_images.specs.declared.image_slot.ImageName.{ImageName}
@@ -45,3 +47,13 @@ replacing size hides image s = removing s ++ resizing size hides s ++ image_mapp
 -- all pages of the slot are erased
 abbrev pub emptying : Slot → List PageCall
 emptying s = erasing s.base.bytes (size_of s) ∷ []
+
+-- A reset sets by hand what it keeps, and makes no page call. Where pages go back to zeros it keeps nothing, and erases
+-- all pages of the slot.
+abbrev pub set_by_hand : DecommitBehavior → ℕ → Slot → Told
+set_by_hand RestoreOriginalMapping keep s = restored s.base.bytes (min keep s.accessible.bytes) s.region
+set_by_hand Zero keep s = s.region
+
+abbrev pub resetting : DecommitBehavior → Slot → List PageCall
+resetting RestoreOriginalMapping s = []
+resetting Zero s = emptying s

@@ -1,9 +1,10 @@
 -- A slot for a memory: a region with at most one image mapped, what it reads as, and what each call makes of it.
-use Rattle.std.specs.Prelude.{◌≡◌, ℕ, ◌+◌, ◌-◌, ◌*◌, ◌/◌, ◌%◌, ◌^◌, ◌<◌, ◌≤◌, ◌&&◌, ◌||◌, List, [], ◌∷◌, length, replicate, slice_range, slice_index_or, Bool, true, false, nat_lt, if◌then◌else◌, Option, Some, None, IfSome, is_some, option_map}
+use Rattle.std.specs.Prelude.{◌≡◌, ℕ, ◌+◌, ◌-◌, ◌*◌, ◌/◌, ◌%◌, ◌^◌, ◌<◌, ◌≤◌, ◌&&◌, ◌||◌, List, [], ◌∷◌, length, min, replicate, slice_range, slice_index_or, Bool, true, false, nat_lt, if◌then◌else◌, Option, Some, None, IfSome, is_some, option_map}
 use Rattle.pool_pages.specs.Count.{Count, count, IsPageSize, rounded_up}
 use Rattle.pool_pages.specs.Contents.{Contents, IsShaped, CanReach, IsIn, page_origin, put}
 use Rattle.pool_pages.specs.Told.{Told, PageCall, Faulted, Rose, succeeded, overwritten, restored, exposing, hiding, mapping, remapping, erasing, decommitting}
-use Rattle.pool_pages.specs.declared.pages.DecommitBehavior.TheVariants.{RestoreOriginalMapping}
+use Rattle.pool_pages.specs.declared.pages.DecommitBehavior.{DecommitBehavior}
+use Rattle.pool_pages.specs.declared.pages.DecommitBehavior.TheVariants.{Zero, RestoreOriginalMapping}
 use Rattle.pool_pages.specs.MemoryTypes.{guard_size, can_use_virtual_memory}
 use Rattle.pool_pages.specs.declared.module_types.MemoryType.{MemoryType}
 use Rattle.pool_pages.specs.declared.module_types.MemoryTunables.{MemoryTunables}
@@ -39,6 +40,15 @@ abbrev pub placed : ℕ → Option ImageName → List ℕ → List ℕ
 placed base None origin = replicate (length origin) 0
 placed base (Some name) origin = put (base + name.offset) (image_bytes base name origin) (replicate (length origin) 0)
 
+-- the image that pages go back to where one is mapped: that one, unless they go back to zeros
+abbrev pub restored_image : Option ImageName → DecommitBehavior → Option ImageName
+restored_image None behaviour = None
+restored_image (Some name) RestoreOriginalMapping = Some name
+restored_image (Some name) Zero = None
+
+abbrev pub origin_image : Slot → Option ImageName
+origin_image s = restored_image s.image s.region.behaviour
+
 -- the region has its shape, and its pages outside the slot go back to zeros
 pub record IsSound (page len base size : ℕ) (c : Contents) : Type 0 where
   pub shaped : IsShaped page len c
@@ -62,7 +72,6 @@ pub record Fits (s : Slot) : Type 0 where
   pub roomy : s.static_size + s.region.page ≤ 2 ^ 64
   pub within : s.accessible.bytes ≤ size_of s
   pub image : IfSome s.image (IsPlaced s.region.page s.accessible.bytes)
-  pub behaviour : s.region.behaviour ≡ RestoreOriginalMapping
   pub told : IfSome s.region.contents (IsSound s.region.page s.region.len s.base.bytes (size_of s))
 
 -- what a slot keeps beside its value: its size in whole pages
@@ -74,16 +83,18 @@ pub record Keeps (whole : Count) (s : Slot) : Type 0 where
 abbrev pub Holds : Slot → ℕ → ℕ → Contents → Type 0
 Holds s from to c = slice_range c.bytes (s.base.bytes + from) (s.base.bytes + to) ≡ slice_range c.origin (s.base.bytes + from) (s.base.bytes + to)
 
--- The slot can be used: its accessible pages can be reached, the region goes back to the mapped image, and what can't
--- be reached is what it goes back to.
+-- The slot can be used: its accessible pages can be reached, the region goes back to the mapped image, or to zeros
+-- where that is its behaviour, and what can't be reached is what it goes back to.
 pub record IsReady (s : Slot) (c : Contents) : Type 0 where
   pub reach : CanReach s.base.bytes s.accessible.bytes c
-  pub origin : c.origin ≡ placed s.base.bytes s.image c.origin
+  pub origin : c.origin ≡ placed s.base.bytes (origin_image s) c.origin
   pub beyond : Holds s s.accessible.bytes (size_of s) c
 
--- the slot is clean: it can be used, wasn't written, and holds what it goes back to
+-- The slot is clean: it can be used, wasn't written, and holds what it goes back to. Its image is what it goes back to,
+-- so that it has none where pages go back to zeros.
 pub record IsClean (s : Slot) : Type 0 where
   pub not_dirty : s.dirty ≡ false
+  pub image : s.image ≡ origin_image s
   pub ready : IfSome s.region.contents (IsReady s)
   pub holds : IfSome s.region.contents (Holds s 0 (size_of s))
 
@@ -133,6 +144,7 @@ pub record IsKept (old new : Slot) : Type 0 where
   pub name : new.region.name ≡ old.region.name
   pub page : new.region.page ≡ old.region.page
   pub len : new.region.len ≡ old.region.len
+  pub behaviour : new.region.behaviour ≡ old.region.behaviour
   pub plan : new.region.plan ≡ old.region.plan
   pub bytes : option_map (λ c. c.bytes) new.region.contents ≡ option_map (λ c. c.bytes) old.region.contents
   pub ready : IfSome old.region.contents (IsReady old) → IfSome new.region.contents (IsReady new)
@@ -207,6 +219,7 @@ pub record IsLeft (old new : Slot) : Type 0 where
   pub name : new.region.name ≡ old.region.name
   pub page : new.region.page ≡ old.region.page
   pub len : new.region.len ≡ old.region.len
+  pub behaviour : new.region.behaviour ≡ old.region.behaviour
   pub plan : new.region.plan ≡ old.region.plan
   pub tells : is_some new.region.contents ≡ is_some old.region.contents
   pub rose : Rose old.region.faults new.region.faults
@@ -220,7 +233,6 @@ pub record IsFresh (base accessible : Count) (static_size : ℕ) (t : Told) : Ty
   pub inside : base.bytes + rounded_up t.page static_size ≤ t.len
   pub bounded : static_size + t.page ≤ 2 ^ 64
   pub within : accessible.bytes ≤ rounded_up t.page static_size
-  pub behaviour : t.behaviour ≡ RestoreOriginalMapping
   pub origin : IfSome t.contents (λ c. c.origin ≡ replicate t.len 0)
   pub zeros : IfSome t.contents (λ c. slice_range c.bytes base.bytes (base.bytes + rounded_up t.page static_size) ≡ replicate (rounded_up t.page static_size) 0)
   pub reach : IfSome t.contents (CanReach base.bytes accessible.bytes)
@@ -243,6 +255,22 @@ cleared kept s = record s { region = restored s.base.bytes kept s.region; dirty 
 abbrev pub reset_ranges : ℕ → ℕ → List ByteRange
 reset_ranges kept accessible = if nat_lt kept accessible then record { start = kept; len = accessible - kept } ∷ [] else []
 
+-- What a reset makes of a slot depends on the region's behaviour: where pages go back to zeros, the slot is emptied
+-- whatever is to be kept. How many bytes stay resident:
+abbrev pub kept_bytes : DecommitBehavior → ℕ → ℕ → ℕ
+kept_bytes RestoreOriginalMapping keep accessible = min keep accessible
+kept_bytes Zero keep accessible = 0
+
+-- the ranges that are left to be decommitted
+abbrev pub left_ranges : DecommitBehavior → ℕ → ℕ → List ByteRange
+left_ranges RestoreOriginalMapping keep accessible = reset_ranges keep accessible
+left_ranges Zero keep accessible = []
+
+-- the slot
+abbrev pub reset_slot : DecommitBehavior → ℕ → Slot → Slot
+reset_slot RestoreOriginalMapping keep s = cleared (min keep s.accessible.bytes) s
+reset_slot Zero keep s = emptied s
+
 -- what is accessible and not wanted is hidden: the memory has a guard, or its bounds rest on hidden pages
 abbrev pub hides : MemoryType → MemoryTunables → ℕ → Bool
 hides ty tunables page = nat_lt 0 (guard_size tunables) || can_use_virtual_memory ty tunables.tunables page
@@ -256,6 +284,7 @@ pub record IsSized (initial : ℕ) (hide : Bool) (old new : Slot) : Type 0 where
   pub name : new.region.name ≡ old.region.name
   pub page : new.region.page ≡ old.region.page
   pub len : new.region.len ≡ old.region.len
+  pub behaviour : new.region.behaviour ≡ old.region.behaviour
   pub plan : new.region.plan ≡ old.region.plan
   pub tells : is_some new.region.contents ≡ is_some old.region.contents
   pub faults : new.region.faults ≡ old.region.faults

@@ -24,11 +24,14 @@ pub struct ImageName {
     pub len: usize,
 }
 
-/// A slot for a linear memory. It owns the region that the memory lies in.
+/// A slot for a linear memory. It owns the region that the memory lies in, which may be of either behaviour.
 ///
-/// A clean slot holds the bytes of the image mapped in it, and zeros elsewhere. No call takes memory. After a
-/// `PageFault` of a call other than `decommit` nothing is known of what the slot holds, and only
-/// `reset_with_anon_memory` makes it clean again.
+/// A clean slot holds the bytes of the image mapped in it, and zeros elsewhere. Where the region's pages go back to
+/// zeros, a mapped image is a copy that is lost with what was written: a clean slot has no image there, each reset takes
+/// it out, and each instantiation maps it again.
+///
+/// No call takes memory. After a `PageFault` of a call other than `decommit` nothing is known of what the slot holds,
+/// and only `reset_with_anon_memory` makes it clean again.
 #[derive(Drop)]
 pub struct MemoryImageSlot<P: Pages> {
     region: PageRegion<P>,

@@ -1,5 +1,6 @@
-ghost use Rattle.std.specs.Prelude.{◌≡◌, ◌≤◌, [], ◌∷◌, length, replicate, Some, IfOk, IfSome, OnOk};
-ghost use Rattle.pool_images.specs.Slots.{IsReady, IsInUse, IsClean};
+ghost use Rattle.std.specs.Prelude.{◌≡◌, ◌<◌, ◌≤◌, [], ◌∷◌, length, replicate, true, false, Some, IfOk, IfSome, OnOk};
+ghost use Rattle.std.specs.Arc.{arc_value};
+ghost use Rattle.pool_images.specs.Slots.{IsReady, IsClean, FitsInto};
 
 use crate::image_slot::MemoryImageSlot;
 use crate::memory_image::{ImageError, MemoryImage, ModuleMemoryImages};
@@ -35,77 +36,91 @@ fn module(alloc: Global, ty: MemoryType, offset: u64) -> Result<ModuleInfo, Fail
     Ok(ModuleInfo { memories })
 }
 
-// The images of a module with one memory, whose image begins at 16.
-fn images(alloc: Global) -> Result<ModuleMemoryImages, Fail>
-    ensures { IfOk result (λ images. length images ≡ 1) }
+// The images of such a module.
+fn images(alloc: Global, page: PageSize, offset: u64) -> Result<ModuleMemoryImages, Fail>
+    ensures { IfOk result (λ images. 0 < length images) }
 {
-    let page = PageSize::new(16)?;
+    let module = module(alloc, memory_type(), offset)?;
     let mut maker = MemoryPages::new(page);
-    let module = module(alloc, memory_type(), 16)?;
-    match ModuleMemoryImages::new(alloc, &mut maker, page, CompiledModuleId(1), &module)? {
+    match ModuleMemoryImages::new(alloc, &mut maker, page, CompiledModuleId(offset), &module)? {
         Some(images) => Ok(images),
         None => Err(Fail::new("the image ends past the memory")),
     }
 }
 
-// A slot of 64 bytes, of which none is accessible.
-fn empty_slot(alloc: Global) -> Result<MemoryImageSlot<MadeRegion>, Fail>
-    ensures clean { IfOk result IsClean }
-    ensures size { IfOk result (λ slot. slot.static_size ≡ 64) }
+// The first image, which must be one page and end within 48 bytes.
+fn first(images: &ModuleMemoryImages, page: PageSize) -> Result<&Arc<MemoryImage>, Fail>
+    requires { 0 < length images.now }
+    ensures { IfOk result (λ image. FitsInto page 48 (arc_value image.now)) }
+{
+    let Some(image) = images.get_memory_image(DefinedMemoryIndex(0)) else {
+        return Err(Fail::new("the memory has no image"));
+    };
+    let data = image.data();
+    if data.page() != page || data.as_slice().len() != 16 || image.offset() > 32 {
+        return Err(Fail::new("the image is no page of 16 bytes"));
+    }
+    Ok(image)
+}
+
+// A slot of 64 bytes over a region of this behaviour, whose pages are of 16 bytes.
+fn slot_of(alloc: Global, behaviour: DecommitBehavior) -> Result<MemoryImageSlot<MadeRegion>, Fail>
+    ensures clean { IfOk result (λ s. IsClean s) }
+    ensures size { IfOk result (λ s. s.static_size ≡ 64) }
+    ensures behaviour { IfOk result (λ s. s.region.behaviour ≡ behaviour) }
 {
     let page = PageSize::new(16)?;
     let mut maker = MemoryPages::new(page);
     let len = HostAlignedByteCount::new(page, 64)?;
-    let restoring = DecommitBehavior::RestoreOriginalMapping;
-    let region = maker.make(alloc, RegionName::Memory(0), restoring, page.zero(), len)?;
+    let region = maker.make(alloc, RegionName::Memory(0), behaviour, page.zero(), len)?;
     Ok(MemoryImageSlot::create(region, page.zero(), page.zero(), 64, None))
 }
 
-// Reads bytes from 14 on, where those are accessible.
-fn read_some<P: Pages>(slot: &MemoryImageSlot<P>) -> Result<[u8; 20], Fail>
-    requires { IfSome slot.now.region.contents (IsReady slot.now) }
+// A memory of 48 bytes begins in the slot, with an image of five sevens at this offset. Answers 20 bytes of it, from
+// place 14 on.
+fn begin<P: Pages>(
+    alloc: Global,
+    slot: &mut MemoryImageSlot<P>,
+    offset: u64,
+) -> Result<[u8; 20], Fail>
+    requires clean { IsClean slot.old }
+    requires size { slot.old.static_size ≡ 64 }
+    ensures dirty { OnOk result (slot.new.dirty ≡ true) }
+    ensures ready { OnOk result (IfSome slot.new.region.contents (IsReady slot.new)) }
+    ensures accessible { OnOk result (48 ≤ slot.new.accessible.bytes) }
+    ensures size { OnOk result (slot.new.static_size ≡ 64) }
+    ensures behaviour { OnOk result (slot.new.region.behaviour ≡ slot.old.region.behaviour) }
 {
-    if slot.accessible().byte_count() < 34 {
-        return Err(Fail::new("less is accessible"));
+    let page = slot.region().page();
+    let images = images(alloc, page, offset)?;
+    let image = first(&images, page)?;
+    let tunables = MemoryTunables::new(&Tunables::default(), MemoryKind::LinearMemory);
+    slot.instantiate(48, Some(image), &memory_type(), &tunables)?;
+    if slot.accessible().byte_count() < 48 {
+        return Err(Fail::new("fewer bytes are accessible"));
     }
     let mut bytes = [9; 20];
     slot.read(14, &mut bytes);
     Ok(bytes)
 }
 
-// Begins a memory with this image in the slot, and answers what it reads. The image is a page of 16 bytes.
-fn begin<P: Pages>(
-    slot: &mut MemoryImageSlot<P>,
-    image: &Arc<MemoryImage>,
-) -> Result<[u8; 20], Fail>
-    requires clean { IsClean slot.old }
-    requires size { 48 ≤ slot.old.static_size }
-    ensures used { OnOk result (IsInUse slot.new) }
-    ensures size { OnOk result (slot.new.static_size ≡ slot.old.static_size) }
-{
-    let data = image.data();
-    let page = slot.region().page().get();
-    if data.page().get() != page || image.offset() != 16 || data.as_slice().len() != 16 {
-        return Err(Fail::new("the image is no page of 16 bytes"));
-    }
-    let tunables = MemoryTunables::new(&Tunables::default(), MemoryKind::LinearMemory);
-    slot.instantiate(48, Some(image), &memory_type(), &tunables)?;
-    read_some(slot)
-}
-
-// Writes to the slot, resets it and decommits what that leaves, which must be some. Answers what was set by hand.
+// Resets a slot whose pages go back to its image, and decommits what that leaves, which must be some. Answers what was
+// set by hand.
 fn reset<P: Pages>(slot: &mut MemoryImageSlot<P>, keep: usize) -> Result<usize, Fail>
-    requires used { IsInUse slot.old }
+    requires restores { slot.old.region.behaviour ≡ DecommitBehavior.RestoreOriginalMapping }
+    requires dirty { slot.old.dirty ≡ true }
+    requires ready { IfSome slot.old.region.contents (IsReady slot.old) }
+    ensures kept { IfOk result (λ n. n ≡ keep) }
     ensures clean { OnOk result (IsClean slot.new) }
     ensures size { OnOk result (slot.new.static_size ≡ slot.old.static_size) }
+    ensures behaviour { OnOk result (slot.new.region.behaviour ≡ slot.old.region.behaviour) }
+    ensures accessible { OnOk result (slot.new.accessible.bytes ≡ slot.old.accessible.bytes) }
 {
     let page = slot.region().page();
     let keep = HostAlignedByteCount::new(page, keep)?;
-    let accessible = slot.accessible().byte_count();
-    if accessible < 46 || accessible <= keep.byte_count() {
-        return Err(Fail::new("less is accessible"));
+    if slot.accessible().byte_count() <= keep.byte_count() {
+        return Err(Fail::new("all is kept"));
     }
-    slot.write(14, &[1; 32]);
     let mut ranges = Ranges::new();
     let kept = slot.clear_and_remain_ready(keep, &mut ranges)?;
     let range = ranges.as_slice()[0];
@@ -115,25 +130,56 @@ fn reset<P: Pages>(slot: &mut MemoryImageSlot<P>, keep: usize) -> Result<usize, 
     Ok(kept)
 }
 
+// Resets a slot whose pages go back to zeros, after which nothing is left to be done.
+fn reset_whole<P: Pages>(slot: &mut MemoryImageSlot<P>, keep: usize) -> Result<usize, Fail>
+    requires zeros { slot.old.region.behaviour ≡ DecommitBehavior.Zero }
+    requires dirty { slot.old.dirty ≡ true }
+    requires ready { IfSome slot.old.region.contents (IsReady slot.old) }
+    ensures kept { IfOk result (λ n. n ≡ 0) }
+    ensures clean { OnOk result (IsClean slot.new) }
+    ensures size { OnOk result (slot.new.static_size ≡ slot.old.static_size) }
+{
+    let keep = HostAlignedByteCount::new(slot.region().page(), keep)?;
+    let mut ranges = Ranges::new();
+    let kept = slot.clear_and_remain_ready(keep, &mut ranges)?;
+    Ok(kept)
+}
+
 #[test]
 fn a_reset_slot_reads_its_image_again(rt: HostRuntime) -> Result<(), Fail> {
     let alloc = rt.alloc();
-    let images = images(alloc)?;
-    let Some(image) = images.get_memory_image(DefinedMemoryIndex(0)) else {
-        return Err(Fail::new("the memory has no image"));
-    };
-    let mut slot = empty_slot(alloc)?;
-    let image_read = [0, 0, 7, 7, 7, 7, 7, 0, 0, 0, 0, 0, 0, 0, 0, 0, 0, 0, 0, 0];
-    assert_eq!(rt; begin(&mut slot, image)?, image_read);
+    let mut slot = slot_of(alloc, DecommitBehavior::RestoreOriginalMapping)?;
+    let begun = [0, 0, 7, 7, 7, 7, 7, 0, 0, 0, 0, 0, 0, 0, 0, 0, 0, 0, 0, 0];
+    assert_eq!(rt; begin(alloc, &mut slot, 16)?, begun);
+    slot.write(14, &[1; 32]);
     assert_eq!(rt; reset(&mut slot, 32)?, 32);
 
     let calls = slot.region().calls();
-    assert_eq!(rt; begin(&mut slot, image)?, image_read);
+    assert_eq!(rt; begin(alloc, &mut slot, 16)?, begun);
     assert_eq!(rt; slot.region().calls(), calls);
     assert_eq!(rt; reset(&mut slot, 0)?, 0);
 
     slot.remove_image()?;
-    assert_eq!(rt; read_some(&slot)?, [0; 20]);
+    let mut bytes = [9; 20];
+    slot.read(14, &mut bytes);
+    assert_eq!(rt; bytes, [0; 20]);
+    Ok(())
+}
+
+#[test]
+fn a_slot_of_zeros_is_reset_whole(rt: HostRuntime) -> Result<(), Fail> {
+    let alloc = rt.alloc();
+    let mut slot = slot_of(alloc, DecommitBehavior::Zero)?;
+    let begun = [0, 0, 7, 7, 7, 7, 7, 0, 0, 0, 0, 0, 0, 0, 0, 0, 0, 0, 0, 0];
+    assert_eq!(rt; begin(alloc, &mut slot, 16)?, begun);
+    slot.write(14, &[1; 8]);
+    assert_eq!(rt; reset_whole(&mut slot, 32)?, 0);
+    assert_eq!(rt; slot.has_image(), false);
+    assert_eq!(rt; slot.region().calls().erase, 1);
+
+    let begun = [0, 0, 0, 0, 0, 0, 0, 0, 0, 0, 0, 0, 0, 0, 0, 0, 0, 0, 7, 7];
+    assert_eq!(rt; begin(alloc, &mut slot, 32)?, begun);
+    assert_eq!(rt; slot.region().calls().map_image, 2);
     Ok(())
 }
 

@@ -21,7 +21,7 @@ use Rattle.pool_alloc.specs.declared.frame.Grant.{Grant}
 use Rattle.pool_alloc.specs.declared.lease.InstanceLease.{InstanceLease}
 use Rattle.pool_alloc.specs.declared.frame.Grant.TheVariants.{Instance as instance}
 use Rattle.pool_alloc.specs.declared.frame.Phase.{Phase}
-use Rattle.pool_alloc.specs.declared.frame.Phase.TheVariants.{Idle, Key, Validate, CountInstance, Pick, TakeQueue, TakeRegion, Empty, Instantiate, MakeMemory, CountMemory, PutRefused, FreeRefused, UncountMemory, Reset, Merge, Decommit, PutRegion, Free, UncountInstance}
+use Rattle.pool_alloc.specs.declared.frame.Phase.TheVariants.{Idle, Key, Validate, CountInstance, Pick, TakeQueue, TakeRegion, Empty, Instantiate, MakeMemory, CountMemory, PutUnknown, FreeUnknown, UncountMemory, Reset, Merge, Decommit, PutRegion, Free, UncountInstance}
 use Rattle.pool_alloc.proofs.BegunCalls.{at_rest}
 use Rattle.pool_run.specs.Searches.{IsAlone}
 use Rattle.pool_run.specs.Private.{World, PrivateMemory, PrivateInstance, Grants, grant_at, PrivateStep, ReadsMemory, ReadsFrom, WritesMemory, WritesTo, Drops, memory_written, with_memory}
@@ -63,8 +63,8 @@ module _ {P : Type 0} where
   idle_is (Instantiate slot held) e = absurd cc
   idle_is (MakeMemory slot held) e = absurd cc
   idle_is (CountMemory lease) e = absurd cc
-  idle_is (PutRefused slot held error) e = absurd cc
-  idle_is (FreeRefused slot error) e = absurd cc
+  idle_is (PutUnknown slot held after) e = absurd cc
+  idle_is (FreeUnknown slot after) e = absurd cc
   idle_is UncountMemory e = absurd cc
   idle_is (Reset lease) e = absurd cc
   idle_is Merge e = absurd cc

@@ -1,6 +1,6 @@
 -- What an input that can be run so far has: memories that the pool takes.
-use Rattle.std.proofs.Common.{◌≡◌, ℕ, ◌*◌, ◌^◌, ◌<◌, ◌≤◌, zero, suc, List, [], ◌∷◌, length, get_or, refl, sym, ap, ◌∙◌, subst, arith, Option, Some, None, Result, Ok, Err, Bool, true, false, not}
-use Rattle.std.specs.Prelude.{◌%◌, ◌&&◌, ◌||◌, ◌==◌, IfSome, IsOk, is_ok, slice_get, nat_le, nat_lt, if◌then◌else◌}
+use Rattle.std.proofs.Common.{◌≡◌, ℕ, ◌*◌, ◌^◌, ◌≤◌, List, [], ◌∷◌, length, refl, sym, ap, ◌∙◌, subst, arith, Option, Some, None, Result, Ok, Err, Bool, true, false, not}
+use Rattle.std.specs.Prelude.{◌%◌, ◌||◌, ◌==◌, IsOk, is_ok, slice_get, nat_le, nat_lt, if◌then◌else◌}
 use Rattle.std.specs.List.{list_all}
 use Rattle.std.specs.Option.{option_map_or}
 use Rattle.std.proofs.lemmas.Bool.{eqb-true, leb-true, le-leb, le-ltb, lt-ltb, lt-leb}
@@ -9,13 +9,9 @@ use Rattle.pool_pages.specs.MemoryTypes.{minimum_byte_size, refused_limits, abov
 use Rattle.pool_pages.specs.declared.module_types.ImageDecl.{ImageDecl}
 use Rattle.pool_pages.specs.declared.module_types.MemoryDecl.{MemoryDecl}
 use Rattle.pool_pages.specs.declared.module_types.MemoryType.{MemoryType}
-use Rattle.pool_pages.specs.declared.module_types.ModuleInfo.{ModuleInfo}
 use Rattle.pool_pages.specs.declared.unsupported.Unsupported.{Unsupported}
 use Rattle.pool_pages.specs.declared.unsupported.Unsupported.TheVariants.{ImageOffset, MinimumExceedsMaximum, MemoriesPerModule, MemoryUnrepresentable, MemoryExceedsSlot, MemoryShared, AddressSpace, InitialSize, MemoryMinimum}
 use Rattle.pool_images.specs.Slots.{Slot}
-use Rattle.pool_slots.specs.declared.request.AllocError.{AllocError}
-use Rattle.pool_slots.specs.declared.request.AllocError.TheVariants as refusal
-use Rattle.pool_memory.specs.Memories.{MemoryState}
 use Rattle.pool_memory.specs.Making.{limits_answer, maximum_asked}
 use Rattle.pool_memory.specs.declared.memory_error.MemoryError.{MemoryError}
 use Rattle.pool_memory.specs.declared.memory_error.MemoryError.TheVariants as unmade
@@ -23,7 +19,7 @@ use Rattle.pool_memory.specs.Static.{Static, capacity_of, made_static}
 use Rattle.pool_alloc.specs.Own.{made_with, made_for, memory_made, made_of}
 use Rattle.pool_alloc.specs.Refusals.{or_else, first_refused, offset_refused, number_refused, memory_refused, memories_refused}
 use Rattle.pool_alloc.specs.declared.pool_core.Settings.{Settings}
-use Rattle.pool_run.specs.Built.{is_built_image, are_built_limits, is_built_memory, is_built_module}
+use Rattle.pool_run.specs.Built.{is_built_image, are_built_limits, is_built_memory}
 use Rattle.pool_run.proofs.Tests.{first, second}
 
 -- a memory that can be run so far

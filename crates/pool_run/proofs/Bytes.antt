@@ -6,6 +6,7 @@ use Rattle.pool_pages.specs.Count.{Count}
 use Rattle.pool_pages.specs.Contents.{Contents, put, written}
 use Rattle.pool_pages.specs.MemoryTypes.{minimum_byte_size}
 use Rattle.pool_pages.specs.declared.module_types.MemoryDecl.{MemoryDecl}
+use Rattle.pool_pages.specs.declared.pages.DecommitBehavior.{DecommitBehavior}
 use Rattle.pool_images.specs.Images.{Image, start}
 use Rattle.pool_images.specs.Slots.{FitsInto}
 use Rattle.pool_slots.specs.Cells.{IsSlotOf}
@@ -69,16 +70,16 @@ fits_of page m None fits = fits
 fits_of page m (Some i) fits = fits.inside
 
 -- the bytes of one that began in a slot of the pool
-storage_begun : (w : World) (static_size i least : ℕ) (image : Option Image) (s : Storage) → IsSlotOf w.maker static_size i (slot_in s) → IsBegun image (slot_in s) → least ≤ static_size → IfSome image (λ m. m.offset + length m.bytes ≤ least) → first_bytes least s ≡ (if w.maker.tells then Some (start image least) else None)
-storage_begun w static_size i least image (stored len bytes) of begun le fits = absurd cc
-storage_begun w static_size i least image (in_slot s) of begun le fits =
+storage_begun : (w : World) (behaviour : DecommitBehavior) (static_size i least : ℕ) (image : Option Image) (s : Storage) → IsSlotOf w.maker behaviour static_size i (slot_in s) → IsBegun image (slot_in s) → least ≤ static_size → IfSome image (λ m. m.offset + length m.bytes ≤ least) → first_bytes least s ≡ (if w.maker.tells then Some (start image least) else None)
+storage_begun w behaviour static_size i least image (stored len bytes) of begun le fits = absurd cc
+storage_begun w behaviour static_size i least image (in_slot s) of begun le fits =
     begun_bytes s.region.contents image least s.static_size s.base.bytes w.maker.tells of.region.tells (ap (λ (c : Count). c.bytes) of.base) (omega (arith, le, of.same_size)) fits begun.reads
 
 -- a memory that is new is to the party as private ones begin
-pub begun_seen : (w : World) (s : Settings) (number k : ℕ) (decl : MemoryDecl) (l : Lease) → IsSlotOf w.maker s.max_memory_size l.index (image_slot_of l.memory) → IsNew (image_at w number k decl) l.memory decl → IsSupported s decl (image_at w number k decl) → private_memory l ≡ begun_memory w number k decl l.index
+pub begun_seen : (w : World) (s : Settings) (number k : ℕ) (decl : MemoryDecl) (l : Lease) → IsSlotOf w.maker s.behaviour s.max_memory_size l.index (image_slot_of l.memory) → IsNew (image_at w number k decl) l.memory decl → IsSupported s decl (image_at w number k decl) → private_memory l ≡ begun_memory w number k decl l.index
 begun_seen w s number k decl l of new supported =
     let image : Option Image = image_at w number k decl in
     let least : ℕ = minimum_byte_size decl.ty in
-    let bytes = storage_begun w s.max_memory_size l.index least image l.memory.linear.storage of new.slot.begun supported.minimum (fits_of s.page least image supported.image_fits) in
+    let bytes = storage_begun w s.behaviour s.max_memory_size l.index least image l.memory.linear.storage of new.slot.begun supported.minimum (fits_of s.page least image supported.image_fits) in
     let Q : ℕ → Type 0 = λ n. ◌≡◌ {A = PrivateMemory} (record { slot = l.index; size = n; bytes = first_bytes n l.memory.linear.storage }) (begun_memory w number k decl l.index) in
     subst Q (sym new.size) (ap (λ (b : Option (List ℕ)). record { slot = l.index; size = least; bytes = b }) bytes)

@@ -1,6 +1,7 @@
 -- A request is refused only for a cause.
 use Rattle.std.proofs.Common.{true, ◌+◌, ◌≤◌, ◌≡◌, ℕ, ◌<◌, List, length, Option, sym, ap, ◌∙◌, subst, inl, inr, arith}
 use Rattle.std.specs.Prelude.{IfSome}
+use Rattle.pool_pages.specs.declared.pages.DecommitBehavior.{DecommitBehavior}
 use Rattle.pool_images.specs.Slots.{Slot, IsLeft}
 use Rattle.pool_slots.specs.Cells.{IsSlotOf}
 use Rattle.pool_slots.specs.declared.request.ConcurrencyKind.TheVariants.{MemoryStripe, CoreInstances}
@@ -21,7 +22,7 @@ limit_of_instances w number told most is full =
     inr (ap E (sym is), full)
 
 -- a call on the region of a slot of the pool failed
-pub fault_of_slot : (w : World) (static_size total slot : ℕ) (held new : Slot) → w.total ≡ total → slot < total → IsSlotOf w.maker static_size slot held → IsLeft held new → SomeMayFault w
-fault_of_slot w static_size total slot held new is inside of left =
+pub fault_of_slot : (w : World) (behaviour : DecommitBehavior) (static_size total slot : ℕ) (held new : Slot) → w.total ≡ total → slot < total → IsSlotOf w.maker behaviour static_size slot held → IsLeft held new → SomeMayFault w
+fault_of_slot w behaviour static_size total slot held new is inside of left =
     let Q : Option (List ℕ) → Type 0 = λ t. IfSome t (λ p. 0 < length p) in
     (slot, omega (arith, is, inside), subst Q of.region.plan left.listed)

@@ -12,7 +12,7 @@ use Rattle.pool_alloc.specs.declared.pool_core.PoolCore.{PoolCore}
 use Rattle.pool_alloc.specs.declared.frame.Grant.{Grant}
 use Rattle.pool_alloc.specs.declared.frame.Grant.TheVariants.{Instance as instance}
 use Rattle.pool_alloc.specs.declared.frame.Phase.{Phase}
-use Rattle.pool_alloc.specs.declared.frame.Phase.TheVariants.{Idle, Key, Validate, CountInstance, Pick, TakeQueue, TakeRegion, Empty, Instantiate, MakeMemory, CountMemory, PutRefused, FreeRefused, UncountMemory, Reset, Merge, Decommit, PutRegion, Free, UncountInstance}
+use Rattle.pool_alloc.specs.declared.frame.Phase.TheVariants.{Idle, Key, Validate, CountInstance, Pick, TakeQueue, TakeRegion, Empty, Instantiate, MakeMemory, CountMemory, PutUnknown, FreeUnknown, UncountMemory, Reset, Merge, Decommit, PutRegion, Free, UncountInstance}
 use Rattle.pool_alloc.proofs.Held.{made_once}
 use Rattle.pool_alloc.proofs.SlotCounts.{slot_once}
 use Rattle.pool_run.specs.Ties.{granted_to, held_by_party, IsRunning}
@@ -112,8 +112,8 @@ module _ {P : Type 0} where
   phase_counts_one (Instantiate slot held) = omega arith
   phase_counts_one (MakeMemory slot held) = omega arith
   phase_counts_one (CountMemory lease) = omega arith
-  phase_counts_one (PutRefused slot held e) = omega arith
-  phase_counts_one (FreeRefused slot e) = omega arith
+  phase_counts_one (PutUnknown slot held after) = omega arith
+  phase_counts_one (FreeUnknown slot after) = omega arith
   phase_counts_one UncountMemory = omega arith
   phase_counts_one (Reset lease) = omega arith
   phase_counts_one Merge = omega arith

@@ -5,7 +5,7 @@ use Rattle.std.proofs.lemmas.Bool.{eqb-true, ltb-true}
 use Rattle.std.proofs.lemmas.List.{length-map, length-replicate}
 use Rattle.std.proofs.lemmas.List.Sums.{sum_by-cons}
 use Rattle.std.proofs.lemmas.Option.{slice_get-get_or}
-use Rattle.pool_pages.specs.Config.{default_tunables}
+use Rattle.pool_pages.specs.Config.{default_offered, default_tunables}
 use Rattle.pool_pages.specs.MakerTold.{MakerTold}
 use Rattle.pool_pages.specs.declared.module_types.ModuleInfo.{ModuleInfo}
 use Rattle.pool_alloc.specs.Made.{IsMadeCore}
@@ -105,7 +105,7 @@ module _ {P : Type 0} where
   calls_there : (input : Input) (maker : MakerTold) (c : PoolCore P) (modules : List ModuleCall) → is_built input ≡ true → IsCore maker c → AreMadeCalls maker.page input.modules modules → AreCallsFor (world_of input maker) c.settings modules
   calls_there input maker c modules built core calls = are_calls_for (world_of input maker) c.settings modules (built_input input built).modules core.page (omega (arith, core.settings.page.at_least)) calls
 
-  made_under_way : (input : Input) (maker : MakerTold) (c : PoolCore P) (modules : List ModuleCall) → is_built input ≡ true → IsMadeCore maker input.config default_tunables c → IsCore maker c → IsUntouched c → AreMadeCalls maker.page input.modules modules → IsUnderWay (world_of input maker) modules (commands_in input.parties) (run_made c modules input.parties)
+  made_under_way : (input : Input) (maker : MakerTold) (c : PoolCore P) (modules : List ModuleCall) → is_built input ≡ true → IsMadeCore maker input.config default_tunables default_offered c → IsCore maker c → IsUntouched c → AreMadeCalls maker.page input.modules modules → IsUnderWay (world_of input maker) modules (commands_in input.parties) (run_made c modules input.parties)
   made_under_way input maker c modules built made core untouched calls =
       under_way input maker c modules core untouched (is_world input maker c built core made) (calls_there input maker c modules built core calls)
 

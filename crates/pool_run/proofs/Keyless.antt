@@ -18,6 +18,7 @@ use Rattle.pool_alloc.specs.Refusals.{memories_refused}
 use Rattle.pool_alloc.specs.Steps.{Given, After, memories_asked, wanted, shard_at, cell_at, queue_at, shard_of, local_of, freed_elsewhere, first_shard, with_shard, with_cell, with_queue, counting_instances, counting_memories, goes, ends, give_back_next, refuses, allocate_next, flushes, after_flush, no_slot, answer_of, shard_tried, queue_tried, validated, picked, holds_region, made, returns, merged, puts, were_freed, row_of}
 use Rattle.pool_alloc.specs.Stepping.{StepsTo}
 use Rattle.pool_alloc.specs.declared.pool_core.PoolCore.{PoolCore}
+use Rattle.pool_alloc.specs.declared.frame.AfterFree.TheVariants.{Refuse, ReturnNext}
 use Rattle.pool_alloc.specs.declared.frame.AfterFlush.{AfterFlush}
 use Rattle.pool_alloc.specs.declared.frame.AfterFlush.TheVariants.{PickAgain, GiveBackNext}
 use Rattle.pool_alloc.specs.declared.frame.Ending.{Ending}
@@ -26,7 +27,7 @@ use Rattle.pool_alloc.specs.declared.frame.Frame.{Frame}
 use Rattle.pool_alloc.specs.declared.frame.Outcome.{Outcome}
 use Rattle.pool_alloc.specs.declared.frame.Outcome.TheVariants as answer
 use Rattle.pool_alloc.specs.declared.frame.Phase.{Phase}
-use Rattle.pool_alloc.specs.declared.frame.Phase.TheVariants.{Idle, Key, Validate, CountInstance, Pick, TakeQueue, TakeRegion, Empty, Instantiate, MakeMemory, CountMemory, PutRefused, FreeRefused, UncountMemory, Reset, Merge, Decommit, PutRegion, Free, UncountInstance}
+use Rattle.pool_alloc.specs.declared.frame.Phase.TheVariants.{Idle, Key, Validate, CountInstance, Pick, TakeQueue, TakeRegion, Empty, Instantiate, MakeMemory, CountMemory, PutUnknown, FreeUnknown, UncountMemory, Reset, Merge, Decommit, PutRegion, Free, UncountInstance}
 use Rattle.pool_alloc.proofs.Balances.{in_phase}
 use Rattle.pool_run.specs.RunsMade.{draws_stripe}
 
@@ -90,7 +91,7 @@ module _ {P : Type 0} where
 
   makes : (slot : ℕ) (held : Slot) (r : Result MemoryState AllocError) (c : PoolCore P) (f : Frame P) → IsKeyless (made slot held r c f)
   makes slot held (Ok memory) c f = going c f (CountMemory _) refl
-  makes slot held (Err e) c f = going c f (PutRefused slot held e) refl
+  makes slot held (Err e) c f = going c f (PutUnknown slot held (Refuse e)) refl
 
   takes_back : (leases : List Lease) (c : PoolCore P) (f : Frame P) → IsKeyless (returns leases c f)
   takes_back [] c f = going c f Idle refl
@@ -127,16 +128,18 @@ module _ {P : Type 0} where
       let took_it : Frame P = record has { local = taken_into f.local queue } in
       either (length queue.memories == 0) _ _ (finds_none (queues + 1) left took_it) (flushed (PickAgain (queues + 1)) left took_it)
   keyless_at g (TakeRegion slot) c f still = takes slot (cell_at slot c.cells) (with_cell slot taken c) (in_phase (TakeRegion slot) f)
-  keyless_at g (Empty slot had) c f still = goes_either c (in_phase (Empty slot had) f) g.fault (PutRefused slot g.slot refusal.PageFault) (Instantiate slot g.slot) refl refl
-  keyless_at g (Instantiate slot had) c f still = goes_either c (in_phase (Instantiate slot had) f) g.fault (PutRefused slot g.slot refusal.PageFault) (MakeMemory slot g.slot) refl refl
+  keyless_at g (Empty slot had) c f still = goes_either c (in_phase (Empty slot had) f) g.fault (PutUnknown slot g.slot (Refuse refusal.PageFault)) (Instantiate slot g.slot) refl refl
+  keyless_at g (Instantiate slot had) c f still = goes_either c (in_phase (Instantiate slot had) f) g.fault (PutUnknown slot g.slot (Refuse refusal.PageFault)) (MakeMemory slot g.slot) refl refl
   keyless_at g (MakeMemory slot had) c f still = makes slot had (memory_made c.settings (memories_asked f.asked) (length f.granted.items) g.limiter had) c (in_phase (MakeMemory slot had) f)
   keyless_at g (CountMemory lease) c f still = allocates (counting_memories (c.counters.memories + 1) c) (record (in_phase (CountMemory lease) f) { granted = with_item lease f.granted })
-  keyless_at g (PutRefused slot had e) c f still = going _ (in_phase (PutRefused slot had e) f) (FreeRefused slot e) refl
-  keyless_at g (FreeRefused slot e) c f still = refused (with_shard (shard_of c.settings slot) (after_free (local_of c.settings slot) 0 (shard_at (shard_of c.settings slot) c.shards)) c) (in_phase (FreeRefused slot e) f) e
+  keyless_at g (PutUnknown slot had after) c f still = going _ (in_phase (PutUnknown slot had after) f) (FreeUnknown slot after) refl
+  keyless_at g (FreeUnknown slot (Refuse e)) c f still = refused (with_shard (shard_of c.settings slot) (after_free (local_of c.settings slot) 0 (shard_at (shard_of c.settings slot) c.shards)) c) (in_phase (FreeUnknown slot (Refuse e)) f) e
+  keyless_at g (FreeUnknown slot ReturnNext) c f still = gives_back (with_shard (shard_of c.settings slot) (after_free (local_of c.settings slot) 0 (shard_at (shard_of c.settings slot) c.shards)) c) (in_phase (FreeUnknown slot ReturnNext) f)
   keyless_at g UncountMemory c f still = takes_back f.returning.items (counting_memories (c.counters.memories - 1) c) (in_phase UncountMemory f)
   keyless_at g (Reset lease) c f still =
       let reset : Frame P = record (in_phase (Reset lease) f) { local = reset_into c.settings.keep_resident.bytes lease.index (image_slot_of lease.memory) f.local } in
-      either ((length reset.local.ranges == 0) || nat_le c.settings.batch (length reset.local.ranges)) _ _ (flushed GiveBackNext c reset) (going c reset Merge refl)
+      either g.fault _ _ (going c (in_phase (Reset lease) f) (PutUnknown lease.index g.slot ReturnNext) refl)
+      (either ((length reset.local.ranges == 0) || nat_le c.settings.batch (length reset.local.ranges)) _ _ (flushed GiveBackNext c reset) (going c reset Merge refl))
   keyless_at g Merge c f still = merges (joined (queue_at (queue_tried 0 c (in_phase Merge f)) c.queues) f.local) c (record (in_phase Merge f) { local = emptied f.local })
   keyless_at g (Decommit after) c f still = flushed after c (record (in_phase (Decommit after) f) { local = g.queue })
   keyless_at g (PutRegion after) c f still = puts_back after f.local.memories c (in_phase (PutRegion after) f)

@@ -16,8 +16,9 @@ use Rattle.pool_alloc.specs.Reserved.{no_room, with_item}
 use Rattle.pool_alloc.specs.Leases.{Lease}
 use Rattle.pool_alloc.specs.Own.{memory_made, reset_into}
 use Rattle.pool_alloc.specs.Refusals.{memories_refused}
-use Rattle.pool_alloc.specs.Steps.{Given, After, memories_asked, wanted, shard_at, cell_at, queue_at, shard_of, local_of, freed_elsewhere, first_shard, cell_returned, with_shard, with_cell, with_queue, counting_instances, counting_memories, goes, ends, give_back_next, refuses, allocate_next, flushes, after_flush, no_slot, answer_of, shard_tried, queue_tried, validated, picked, holds_region, made, returns, merged, puts, were_freed, row_of}
+use Rattle.pool_alloc.specs.Steps.{Given, After, memories_asked, wanted, shard_at, cell_at, queue_at, shard_of, local_of, freed_elsewhere, first_shard, cell_returned, with_shard, with_cell, with_queue, counting_instances, counting_memories, goes, ends, give_back_next, refuses, allocate_next, flushes, after_flush, no_slot, answer_of, shard_tried, queue_tried, validated, picked, holds_region, made, returns, was_reset, merged, puts, were_freed, row_of}
 use Rattle.pool_alloc.specs.declared.pool_core.PoolCore.{PoolCore}
+use Rattle.pool_alloc.specs.declared.frame.AfterFree.TheVariants.{Refuse, ReturnNext}
 use Rattle.pool_alloc.specs.declared.frame.AfterFlush.{AfterFlush}
 use Rattle.pool_alloc.specs.declared.frame.AfterFlush.TheVariants.{PickAgain, GiveBackNext}
 use Rattle.pool_alloc.specs.declared.frame.Ending.{Ending}
@@ -28,7 +29,7 @@ use Rattle.pool_alloc.specs.declared.frame.Grant.TheVariants.{Instance as instan
 use Rattle.pool_alloc.specs.declared.frame.Outcome.{Outcome}
 use Rattle.pool_alloc.specs.declared.frame.Outcome.TheVariants as answer
 use Rattle.pool_alloc.specs.declared.frame.Phase.{Phase}
-use Rattle.pool_alloc.specs.declared.frame.Phase.TheVariants.{Idle, Key, Validate, CountInstance, Pick, TakeQueue, TakeRegion, Empty, Instantiate, MakeMemory, CountMemory, PutRefused, FreeRefused, UncountMemory, Reset, Merge, Decommit, PutRegion, Free, UncountInstance}
+use Rattle.pool_alloc.specs.declared.frame.Phase.TheVariants.{Idle, Key, Validate, CountInstance, Pick, TakeQueue, TakeRegion, Empty, Instantiate, MakeMemory, CountMemory, PutUnknown, FreeUnknown, UncountMemory, Reset, Merge, Decommit, PutRegion, Free, UncountInstance}
 use Rattle.pool_alloc.specs.Stepping.{StepsTo}
 use Rattle.pool_alloc.proofs.Balances.{in_phase}
 use Rattle.pool_run.specs.Ties.{Stage, no_call, asks, ends_as, stage_of}
@@ -157,16 +158,19 @@ module _ {P : Type 0} (Q : Option ModuleCall → Type 0) where
       let took_it : Frame P = record has { local = taken_into f.local queue } in
       either (length queue.memories == 0) (no_slot (queues + 1) left took_it) (flushes (PickAgain (queues + 1)) left took_it) (no_slot_left (queues + 1) left took_it q) (flush_of_request (queues + 1) left took_it q)
   placed_at g (TakeRegion slot) c f q = holds_placed slot (cell_at slot c.cells) (with_cell slot taken c) (in_phase (TakeRegion slot) f) q
-  placed_at g (Empty slot had) c f q = goes_either c (in_phase (Empty slot had) f) g.fault (PutRefused slot g.slot refusal.PageFault) (Instantiate slot g.slot) (record { placed = q }) (record { placed = q })
-  placed_at g (Instantiate slot had) c f q = goes_either c (in_phase (Instantiate slot had) f) g.fault (PutRefused slot g.slot refusal.PageFault) (MakeMemory slot g.slot) (record { placed = q }) (record { placed = q })
+  placed_at g (Empty slot had) c f q = goes_either c (in_phase (Empty slot had) f) g.fault (PutUnknown slot g.slot (Refuse refusal.PageFault)) (Instantiate slot g.slot) (record { placed = q }) (record { placed = q })
+  placed_at g (Instantiate slot had) c f q = goes_either c (in_phase (Instantiate slot had) f) g.fault (PutUnknown slot g.slot (Refuse refusal.PageFault)) (MakeMemory slot g.slot) (record { placed = q }) (record { placed = q })
   placed_at g (MakeMemory slot had) c f q = made_placed slot had (memory_made c.settings (memories_asked f.asked) (length f.granted.items) g.limiter had) c (in_phase (MakeMemory slot had) f) q
   placed_at g (CountMemory lease) c f q = allocates (counting_memories (c.counters.memories + 1) c) (record (in_phase (CountMemory lease) f) { granted = with_item lease f.granted }) q
-  placed_at g (PutRefused slot had e) c f q = record { placed = q }
-  placed_at g (FreeRefused slot e) c f q = refused (with_shard (shard_of c.settings slot) (after_free (local_of c.settings slot) 0 (shard_at (shard_of c.settings slot) c.shards)) c) (in_phase (FreeRefused slot e) f) e
+  placed_at g (PutUnknown slot had (Refuse e)) c f q = record { placed = q }
+  placed_at g (PutUnknown slot had ReturnNext) c f q = record { placed = tt }
+  placed_at g (FreeUnknown slot (Refuse e)) c f q = refused (with_shard (shard_of c.settings slot) (after_free (local_of c.settings slot) 0 (shard_at (shard_of c.settings slot) c.shards)) c) (in_phase (FreeUnknown slot (Refuse e)) f) e
+  placed_at g (FreeUnknown slot ReturnNext) c f q = gives_back (with_shard (shard_of c.settings slot) (after_free (local_of c.settings slot) 0 (shard_at (shard_of c.settings slot) c.shards)) c) (in_phase (FreeUnknown slot ReturnNext) f)
   placed_at g UncountMemory c f q = returns_placed f.returning.items (counting_memories (c.counters.memories - 1) c) (in_phase UncountMemory f)
   placed_at g (Reset lease) c f q =
       let reset : Frame P = record (in_phase (Reset lease) f) { local = reset_into c.settings.keep_resident.bytes lease.index (image_slot_of lease.memory) f.local } in
-      either ((length reset.local.ranges == 0) || nat_le c.settings.batch (length reset.local.ranges)) (flushes GiveBackNext c reset) (goes c reset Merge) (flush_of_give_back c reset) (record { placed = tt })
+      either g.fault (goes c (in_phase (Reset lease) f) (PutUnknown lease.index g.slot ReturnNext)) (was_reset c reset) (record { placed = tt })
+      (either ((length reset.local.ranges == 0) || nat_le c.settings.batch (length reset.local.ranges)) (flushes GiveBackNext c reset) (goes c reset Merge) (flush_of_give_back c reset) (record { placed = tt }))
   placed_at g Merge c f q = merged_placed (joined (queue_at (queue_tried 0 c (in_phase Merge f)) c.queues) f.local) c (record (in_phase Merge f) { local = emptied f.local })
   placed_at g (Decommit (PickAgain queues)) c f q = flush_of_request queues c (record (in_phase (Decommit (PickAgain queues)) f) { local = g.queue }) q
   placed_at g (Decommit GiveBackNext) c f q = flush_of_give_back c (record (in_phase (Decommit GiveBackNext) f) { local = g.queue })

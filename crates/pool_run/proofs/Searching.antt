@@ -20,8 +20,9 @@ use Rattle.pool_alloc.specs.Leases.{Lease}
 use Rattle.pool_alloc.specs.Own.{memory_made, reset_into}
 use Rattle.pool_alloc.specs.Refusals.{memories_refused}
 use Rattle.pool_alloc.specs.Sound.{IsCore}
-use Rattle.pool_alloc.specs.Steps.{Given, After, memories_asked, wanted, shard_at, cell_at, queue_at, shard_of, local_of, freed_elsewhere, first_shard, cell_returned, with_shard, with_cell, with_queue, counting_instances, counting_memories, goes, ends, give_back_next, refuses, allocate_next, flushes, after_flush, no_slot, answer_of, shard_tried, queue_tried, validated, picked, holds_region, made, returns, merged, puts, were_freed, row_of}
+use Rattle.pool_alloc.specs.Steps.{Given, After, memories_asked, wanted, shard_at, cell_at, queue_at, shard_of, local_of, freed_elsewhere, first_shard, cell_returned, with_shard, with_cell, with_queue, counting_instances, counting_memories, goes, ends, give_back_next, refuses, allocate_next, flushes, after_flush, no_slot, answer_of, shard_tried, queue_tried, validated, picked, holds_region, made, returns, was_reset, merged, puts, were_freed, row_of}
 use Rattle.pool_alloc.specs.declared.pool_core.PoolCore.{PoolCore}
+use Rattle.pool_alloc.specs.declared.frame.AfterFree.TheVariants.{Refuse, ReturnNext}
 use Rattle.pool_alloc.specs.declared.frame.AfterFlush.{AfterFlush}
 use Rattle.pool_alloc.specs.declared.frame.AfterFlush.TheVariants.{PickAgain, GiveBackNext}
 use Rattle.pool_alloc.specs.declared.frame.Ending.{Ending}
@@ -30,7 +31,7 @@ use Rattle.pool_alloc.specs.declared.frame.Frame.{Frame}
 use Rattle.pool_alloc.specs.declared.frame.Grant.TheVariants.{Instance as instance}
 use Rattle.pool_alloc.specs.declared.frame.Outcome.TheVariants as answer
 use Rattle.pool_alloc.specs.declared.frame.Phase.{Phase}
-use Rattle.pool_alloc.specs.declared.frame.Phase.TheVariants.{Idle, Key, Validate, CountInstance, Pick, TakeQueue, TakeRegion, Empty, Instantiate, MakeMemory, CountMemory, PutRefused, FreeRefused, UncountMemory, Reset, Merge, Decommit, PutRegion, Free, UncountInstance}
+use Rattle.pool_alloc.specs.declared.frame.Phase.TheVariants.{Idle, Key, Validate, CountInstance, Pick, TakeQueue, TakeRegion, Empty, Instantiate, MakeMemory, CountMemory, PutUnknown, FreeUnknown, UncountMemory, Reset, Merge, Decommit, PutRegion, Free, UncountInstance}
 use Rattle.pool_alloc.proofs.Balances.{in_phase}
 use Rattle.pool_alloc.proofs.SlotCounts.{pick_none}
 use Rattle.pool_alloc.proofs.Stages.{tried_is_shard, tried_is_queue}
@@ -193,16 +194,18 @@ module _ {P : Type 0} where
       either (length queue.memories == 0) (no_slot (queues + 1) left took_it) (flushes (PickAgain (queues + 1)) left took_it)
       (λ e. no_slot_left (queues + 1) left took_it empty s.1) (λ e. flush_of_request (queues + 1) left took_it empty)
   searched_at maker g (TakeRegion slot) c f core s = holds_searched slot (cell_at slot c.cells) (with_cell slot taken c) (in_phase (TakeRegion slot) f)
-  searched_at maker g (Empty slot had) c f core s = goes_either c (in_phase (Empty slot had) f) g.fault (PutRefused slot g.slot refusal.PageFault) (Instantiate slot g.slot) (record { searched = tt }) (record { searched = tt })
-  searched_at maker g (Instantiate slot had) c f core s = goes_either c (in_phase (Instantiate slot had) f) g.fault (PutRefused slot g.slot refusal.PageFault) (MakeMemory slot g.slot) (record { searched = tt }) (record { searched = tt })
+  searched_at maker g (Empty slot had) c f core s = goes_either c (in_phase (Empty slot had) f) g.fault (PutUnknown slot g.slot (Refuse refusal.PageFault)) (Instantiate slot g.slot) (record { searched = tt }) (record { searched = tt })
+  searched_at maker g (Instantiate slot had) c f core s = goes_either c (in_phase (Instantiate slot had) f) g.fault (PutUnknown slot g.slot (Refuse refusal.PageFault)) (MakeMemory slot g.slot) (record { searched = tt }) (record { searched = tt })
   searched_at maker g (MakeMemory slot had) c f core s = made_searched slot had (memory_made c.settings (memories_asked f.asked) (length f.granted.items) g.limiter had) c (in_phase (MakeMemory slot had) f)
   searched_at maker g (CountMemory lease) c f core s = allocates (counting_memories (c.counters.memories + 1) c) (record (in_phase (CountMemory lease) f) { granted = with_item lease f.granted })
-  searched_at maker g (PutRefused slot had e) c f core s = record { searched = tt }
-  searched_at maker g (FreeRefused slot e) c f core s = refused (with_shard (shard_of c.settings slot) (after_free (local_of c.settings slot) 0 (shard_at (shard_of c.settings slot) c.shards)) c) (in_phase (FreeRefused slot e) f) e
+  searched_at maker g (PutUnknown slot had after) c f core s = record { searched = tt }
+  searched_at maker g (FreeUnknown slot (Refuse e)) c f core s = refused (with_shard (shard_of c.settings slot) (after_free (local_of c.settings slot) 0 (shard_at (shard_of c.settings slot) c.shards)) c) (in_phase (FreeUnknown slot (Refuse e)) f) e
+  searched_at maker g (FreeUnknown slot ReturnNext) c f core s = gives_back (with_shard (shard_of c.settings slot) (after_free (local_of c.settings slot) 0 (shard_at (shard_of c.settings slot) c.shards)) c) (in_phase (FreeUnknown slot ReturnNext) f)
   searched_at maker g UncountMemory c f core s = returns_searched f.returning.items (counting_memories (c.counters.memories - 1) c) (in_phase UncountMemory f)
   searched_at maker g (Reset lease) c f core s =
       let reset : Frame P = record (in_phase (Reset lease) f) { local = reset_into c.settings.keep_resident.bytes lease.index (image_slot_of lease.memory) f.local } in
-      either ((length reset.local.ranges == 0) || nat_le c.settings.batch (length reset.local.ranges)) (flushes GiveBackNext c reset) (goes c reset Merge) (λ e. flush_of_give_back c reset) (λ e. record { searched = tt })
+      either g.fault (goes c (in_phase (Reset lease) f) (PutUnknown lease.index g.slot ReturnNext)) (was_reset c reset) (λ e. record { searched = tt })
+      (λ e. either ((length reset.local.ranges == 0) || nat_le c.settings.batch (length reset.local.ranges)) (flushes GiveBackNext c reset) (goes c reset Merge) (λ e. flush_of_give_back c reset) (λ e. record { searched = tt }))
   searched_at maker g Merge c f core s = merged_searched (joined (queue_at (queue_tried 0 c (in_phase Merge f)) c.queues) f.local) c (record (in_phase Merge f) { local = emptied f.local })
   searched_at maker g (Decommit (PickAgain queues)) c f core s = flush_of_request queues c (record (in_phase (Decommit (PickAgain queues)) f) { local = g.queue }) s
   searched_at maker g (Decommit GiveBackNext) c f core s = flush_of_give_back c (record (in_phase (Decommit GiveBackNext) f) { local = g.queue })

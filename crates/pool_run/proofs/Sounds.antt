@@ -6,6 +6,7 @@ use Rattle.std.proofs.lemmas.Option.{slice_get_within, get_or_from_slice_get}
 use Rattle.pool_pages.specs.Contents.{Contents, written}
 use Rattle.pool_pages.specs.MakerTold.{MakerTold}
 use Rattle.pool_pages.specs.declared.module_types.MemoryDecl.{MemoryDecl}
+use Rattle.pool_pages.specs.declared.pages.DecommitBehavior.{DecommitBehavior}
 use Rattle.pool_alloc.specs.Calls.{IsGrant, IsGrantOf, IfGranted}
 use Rattle.pool_alloc.specs.Leases.{Lease, IsMemory}
 use Rattle.pool_alloc.specs.Sound.{IsCore, IsFrame, IsLeaseOf}
@@ -30,13 +31,14 @@ tells_still : (i : ℕ) (new : List ℕ) (o : Option Contents) → is_some (opti
 tells_still i new None = refl
 tells_still i new (Some c) = refl
 
-slot_still : (maker : MakerTold) (static_size k i : ℕ) (new : List ℕ) (s : Storage) → IsSlotOf maker static_size k (slot_in s) → IsSlotOf maker static_size k (slot_in (storage_written i new s))
-slot_still maker static_size k i new (stored len bytes) is = is
-slot_still maker static_size k i new (in_slot s) is = record {
+slot_still : (maker : MakerTold) (behaviour : DecommitBehavior) (static_size k i : ℕ) (new : List ℕ) (s : Storage) → IsSlotOf maker behaviour static_size k (slot_in s) → IsSlotOf maker behaviour static_size k (slot_in (storage_written i new s))
+slot_still maker behaviour static_size k i new (stored len bytes) is = is
+slot_still maker behaviour static_size k i new (in_slot s) is = record {
   region = record {
     name = is.region.name;
     page = is.region.page;
     len = is.region.len;
+    behaves = is.region.behaves;
     plan = is.region.plan;
     tells = tells_still (s.base.bytes + i) new s.region.contents ∙ is.region.tells;
   };
@@ -47,7 +49,7 @@ slot_still maker static_size k i new (in_slot s) is = record {
 
 -- A lease that is written stays one of the pool.
 pub lease_still : (maker : MakerTold) (s : Settings) (i : ℕ) (new : List ℕ) (l : Lease) → IsLeaseOf maker s l → IsMemory (lease_written i new l).memory → IsLeaseOf maker s (lease_written i new l)
-lease_still maker s i new l is memory = record { slot = slot_still maker s.max_memory_size l.index i new l.memory.linear.storage is.slot; memory = memory }
+lease_still maker s i new l is memory = record { slot = slot_still maker s.behaviour s.max_memory_size l.index i new l.memory.linear.storage is.slot; memory = memory }
 
 module _ {P : Type 0} where
   -- A grant of as many memories as were asked for is one of the pool.

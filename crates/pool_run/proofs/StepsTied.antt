@@ -23,16 +23,17 @@ use Rattle.pool_alloc.specs.Own.{memory_made, reset_into}
 use Rattle.pool_alloc.specs.Refusals.{memories_refused}
 use Rattle.pool_alloc.specs.Places.{leased_count, Thing, slot_of, frame_count, made_count, slot_count, queued_count, freed_count, kept_count, phase_count}
 use Rattle.pool_alloc.specs.Sound.{IsAllocating, IsSupported, HasSlot, HasBegun, IsNew, IsSettled}
-use Rattle.pool_alloc.specs.Steps.{Given, memories_asked, images_asked, image_wanted, wanted, shard_at, cell_at, queue_at, shard_of, local_of, freed_elsewhere, first_shard, cell_returned, with_shard, with_cell, with_queue, counting_instances, counting_memories, goes, ends, give_back_next, refuses, allocate_next, flushes, after_flush, no_slot, shard_tried, queue_tried, validated, picked, holds_region, made, returns, merged, puts, were_freed, row_of}
+use Rattle.pool_alloc.specs.Steps.{Given, memories_asked, images_asked, image_wanted, wanted, shard_at, cell_at, queue_at, shard_of, local_of, freed_elsewhere, first_shard, cell_returned, with_shard, with_cell, with_queue, counting_instances, counting_memories, goes, ends, give_back_next, refuses, allocate_next, flushes, after_flush, no_slot, shard_tried, queue_tried, validated, picked, holds_region, made, returns, was_reset, merged, puts, were_freed, row_of}
 use Rattle.pool_alloc.specs.Stepping.{CanStep, grant_count}
 use Rattle.pool_alloc.specs.declared.pool_core.PoolCore.{PoolCore}
 use Rattle.pool_alloc.specs.declared.pool_core.Settings.{Settings}
+use Rattle.pool_alloc.specs.declared.frame.AfterFree.TheVariants.{Refuse, ReturnNext}
 use Rattle.pool_alloc.specs.declared.frame.AfterFlush.TheVariants.{PickAgain, GiveBackNext}
 use Rattle.pool_alloc.specs.declared.frame.Frame.{Frame}
 use Rattle.pool_alloc.specs.declared.frame.Grant.{Grant}
 use Rattle.pool_alloc.specs.declared.frame.Outcome.TheVariants as answer
 use Rattle.pool_alloc.specs.declared.frame.Phase.{Phase}
-use Rattle.pool_alloc.specs.declared.frame.Phase.TheVariants.{Idle, Key, Validate, CountInstance, Pick, TakeQueue, TakeRegion, Empty, Instantiate, MakeMemory, CountMemory, PutRefused, FreeRefused, UncountMemory, Reset, Merge, Decommit, PutRegion, Free, UncountInstance}
+use Rattle.pool_alloc.specs.declared.frame.Phase.TheVariants.{Idle, Key, Validate, CountInstance, Pick, TakeQueue, TakeRegion, Empty, Instantiate, MakeMemory, CountMemory, PutUnknown, FreeUnknown, UncountMemory, Reset, Merge, Decommit, PutRegion, Free, UncountInstance}
 use Rattle.pool_alloc.proofs.Balances.{in_phase}
 use Rattle.pool_alloc.proofs.QueueCounts.{leased_last}
 use Rattle.pool_alloc.proofs.Telling.{told_both, told_weaker, told_there}
@@ -250,13 +251,13 @@ module _ {P : Type 0} (w : World) (commands : List Command) (live : List (Option
   tied_at g (Empty slot had) c f world can held alone free may tied =
       let E : Bool → Type 0 = λ b. Empties b had g.slot in
       let has = can.frame.shape.2 in
-      goes_either w commands live done told c (in_phase (Empty slot had) f) g.fault (PutRefused slot g.slot refusal.PageFault) (Instantiate slot g.slot)
-      (λ e. record { tied = (tied.0, tied.1, (fault_of_slot w c.settings.max_memory_size (length c.cells) slot had g.slot world.total has.inside has.region (subst E e may), a_slot_more c slot world tied.0 has.inside (λ k. omega (arith, held (slot_of k))))) })
+      goes_either w commands live done told c (in_phase (Empty slot had) f) g.fault (PutUnknown slot g.slot (Refuse refusal.PageFault)) (Instantiate slot g.slot)
+      (λ e. record { tied = (tied.0, tied.1, (fault_of_slot w c.settings.behaviour c.settings.max_memory_size (length c.cells) slot had g.slot world.total has.inside has.region (subst E e may), a_slot_more c slot world tied.0 has.inside (λ k. omega (arith, held (slot_of k))))) })
       (λ e. record { tied = (tied.0, tied.1, tt) })
   tied_at g (Instantiate slot had) c f world can held alone free may tied =
       let has = can.frame.shape.2 in
-      goes_either w commands live done told c (in_phase (Instantiate slot had) f) g.fault (PutRefused slot g.slot refusal.PageFault) (MakeMemory slot g.slot)
-      (λ e. record { tied = (tied.0, tied.1, (fault_of_slot w c.settings.max_memory_size (length c.cells) slot had g.slot world.total has.inside has.region (left_by c.settings g had (in_phase (Instantiate slot had) f) can.frame.shape.1 e may), a_slot_more c slot world tied.0 has.inside (λ k. omega (arith, held (slot_of k))))) })
+      goes_either w commands live done told c (in_phase (Instantiate slot had) f) g.fault (PutUnknown slot g.slot (Refuse refusal.PageFault)) (MakeMemory slot g.slot)
+      (λ e. record { tied = (tied.0, tied.1, (fault_of_slot w c.settings.behaviour c.settings.max_memory_size (length c.cells) slot had g.slot world.total has.inside has.region (left_by c.settings g had (in_phase (Instantiate slot had) f) can.frame.shape.1 e may), a_slot_more c slot world tied.0 has.inside (λ k. omega (arith, held (slot_of k))))) })
       (λ e. record { tied = (tied.0, tied.1, tt) })
   tied_at g (MakeMemory slot had) c f world can held alone free may tied =
       let has : Frame P = in_phase (MakeMemory slot had) f in
@@ -276,15 +277,21 @@ module _ {P : Type 0} (w : World) (commands : List Command) (live : List (Option
         new = new_lease w commands done lease c has asking can.frame.shape.1 can.frame.shape.2 can.frame.shape.4;
       })
       (λ k. omega (arith, held (slot_of k), leased_last (slot_of k) f.granted.items lease))
-  tied_at g (PutRefused slot had e) c f world can held alone free may tied = record { tied = tied }
-  tied_at g (FreeRefused slot e) c f world can held alone free may tied =
+  tied_at g (PutUnknown slot had (Refuse e)) c f world can held alone free may tied = record { tied = tied }
+  tied_at g (PutUnknown slot had ReturnNext) c f world can held alone free may tied = record { tied = tied }
+  tied_at g (FreeUnknown slot (Refuse e)) c f world can held alone free may tied =
       let j : ℕ = shard_of c.settings slot in
-      refused w commands live done told (with_shard j (after_free (local_of c.settings slot) 0 (shard_at j c.shards)) c) (in_phase (FreeRefused slot e) f) e tied.0 tied.1 tied.2
+      refused w commands live done told (with_shard j (after_free (local_of c.settings slot) 0 (shard_at j c.shards)) c) (in_phase (FreeUnknown slot (Refuse e)) f) e tied.0 tied.1 tied.2
+  tied_at g (FreeUnknown slot ReturnNext) c f world can held alone free may tied =
+      let j : ℕ = shard_of c.settings slot in
+      gives_back w commands live done told (with_shard j (after_free (local_of c.settings slot) 0 (shard_at j c.shards)) c) (in_phase (FreeUnknown slot ReturnNext) f) tied
   tied_at g UncountMemory c f world can held alone free may tied = returns_tied f.returning.items (counting_memories (c.counters.memories - 1) c) (in_phase UncountMemory f) can.frame.shape.2 tied
   tied_at g (Reset lease) c f world can held alone free may tied =
       let reset : Frame P = record (in_phase (Reset lease) f) { local = reset_into c.settings.keep_resident.bytes lease.index (image_slot_of lease.memory) f.local } in
+      either w commands live done told g.fault (goes c (in_phase (Reset lease) f) (PutUnknown lease.index g.slot ReturnNext)) (was_reset c reset) (λ faulted. record { tied = tied })
+      (λ kept.
       either w commands live done told ((length reset.local.ranges == 0) || nat_le c.settings.batch (length reset.local.ranges)) (flushes GiveBackNext c reset) (goes c reset Merge)
-      (λ full. flush_of_give_back w commands live done told c reset tied) (λ fits. record { tied = tied })
+      (λ full. flush_of_give_back w commands live done told c reset tied) (λ fits. record { tied = tied }))
   tied_at g Merge c f world can held alone free may tied = merged_tied (joined (queue_at (queue_tried 0 c (in_phase Merge f)) c.queues) f.local) c (record (in_phase Merge f) { local = emptied f.local }) tied
   tied_at g (Decommit (PickAgain queues)) c f world can held alone free may tied = flush_of_request w commands live done told queues c (record (in_phase (Decommit (PickAgain queues)) f) { local = g.queue }) tied.0 tied.1
   tied_at g (Decommit GiveBackNext) c f world can held alone free may tied = flush_of_give_back w commands live done told c (record (in_phase (Decommit GiveBackNext) f) { local = g.queue }) tied

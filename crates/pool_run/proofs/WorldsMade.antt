@@ -1,6 +1,6 @@
 -- The pool and the calls that are made for an input are those of its world.
-use Rattle.std.proofs.Common.{◌≡◌, ℕ, ◌+◌, ◌<◌, ◌≤◌, zero, suc, List, [], ◌∷◌, length, get_or, replicate, refl, sym, ap, ◌∙◌, subst, arith, Option, Some, None, Ok, Bool, true, false}
-use Rattle.std.specs.Prelude.{◌&&◌, ◌==◌, ◌-◌, IfSome, IsOk, slice_get, slice_index_or, nat_le, if◌then◌else◌, option_map, unwrap_or}
+use Rattle.std.proofs.Common.{◌≡◌, ℕ, ◌+◌, ◌<◌, ◌≤◌, zero, suc, List, [], ◌∷◌, length, get_or, replicate, refl, sym, ap, ◌∙◌, subst, arith, Option, Some, None, Bool, true, false}
+use Rattle.std.specs.Prelude.{◌&&◌, ◌==◌, ◌-◌, IfSome, slice_get, slice_index_or, nat_le, if◌then◌else◌, option_map, unwrap_or}
 use Rattle.std.specs.Arc.{arc_value}
 use Rattle.std.specs.List.{list_all}
 use Rattle.std.specs.Option.{option_map_or}
@@ -9,7 +9,7 @@ use Rattle.std.specs.declared.sync.Arc.{Arc}
 use Rattle.std.proofs.lemmas.Bool.{eqb-true, leb-true}
 use Rattle.std.proofs.lemmas.List.{length-append, length-replicate}
 use Rattle.std.proofs.lemmas.Option.{same_Some, slice_get-get_or, slice_get_within}
-use Rattle.pool_pages.specs.Config.{default_tunables}
+use Rattle.pool_pages.specs.Config.{default_offered, default_tunables}
 use Rattle.pool_pages.specs.Count.{rounded_up}
 use Rattle.pool_pages.specs.MakerTold.{MakerTold}
 use Rattle.pool_pages.specs.MemoryTypes.{minimum_byte_size}
@@ -20,19 +20,16 @@ use Rattle.pool_pages.specs.declared.module_types.ModuleInfo.{ModuleInfo}
 use Rattle.pool_images.specs.Images.{Image, image_of, images_from, padded, ends_in_minimum}
 use Rattle.pool_images.specs.Slots.{FitsInto}
 use Rattle.pool_images.proofs.Begun.{rounded_up_above}
-use Rattle.pool_alloc.specs.Made.{IsMadeCore, settings_of}
-use Rattle.pool_alloc.specs.Modules.{HasImages}
+use Rattle.pool_alloc.specs.Made.{IsMadeCore}
 use Rattle.pool_alloc.specs.Sound.{IsCore, AreImagesOf}
-use Rattle.pool_alloc.specs.Steps.{images_made, images_asked, memories_asked}
-use Rattle.pool_alloc.specs.Refusals.{memories_refused}
+use Rattle.pool_alloc.specs.Steps.{images_made}
 use Rattle.pool_alloc.specs.declared.pool_core.PoolCore.{PoolCore}
 use Rattle.pool_alloc.specs.declared.pool_core.Settings.{Settings}
 use Rattle.pool_alloc.specs.declared.frame.ModuleCall.{ModuleCall}
 use Rattle.pool_run.specs.Built.{is_built, is_built_memory, is_built_module}
 use Rattle.pool_run.specs.Made.{images_of_module, IsMadeCall, AreMadeCalls}
-use Rattle.pool_run.specs.Private.{World, memories_of, image_at}
+use Rattle.pool_run.specs.Private.{World, memories_of}
 use Rattle.pool_run.specs.Runs.{world_of}
-use Rattle.pool_run.specs.Ties.{IsAskedFor}
 use Rattle.pool_run.specs.Worlds.{IsMadeReady, IsWorldOf, IsCallFor, AreCallsFor}
 use Rattle.pool_run.specs.declared.input.Input.{Input}
 use Rattle.pool_run.proofs.BuiltInputs.{IsBuiltMemory, built_memory, takes, memory_is_made}
@@ -75,7 +72,7 @@ of_number modules number (Some m) at built = of_module m (of_all is_built_module
 
 module _ {P : Type 0} where
   -- The pool as it is made has the sizes of the world, and takes its modules.
-  pub is_world : (input : Input) (maker : MakerTold) (c : PoolCore P) → is_built input ≡ true → IsCore maker c → IsMadeCore maker input.config default_tunables c → IsWorldOf (world_of input maker) c
+  pub is_world : (input : Input) (maker : MakerTold) (c : PoolCore P) → is_built input ≡ true → IsCore maker c → IsMadeCore maker input.config default_tunables default_offered c → IsWorldOf (world_of input maker) c
   is_world input maker c built core made =
       let w : World = world_of input maker in
       let is : IsBuilt input = built_input input built in

@@ -1,6 +1,7 @@
 -- What a run of an input is: the turns of its schedule over a pool as it is made, and then of each party until it has
 -- nothing left; and the output, which tells each party a private run.
 use Rattle.std.specs.Prelude.{◌≡◌, ℕ, ◌<◌, ◌||◌, ◌==◌, List, [], ◌∷◌, ◌+◌, length, Bool, true, false, IfSome}
+use Rattle.pool_pages.specs.Config.{default_offered}
 use Rattle.pool_pages.specs.MakerTold.{MakerTold, Planned}
 use Rattle.pool_pages.specs.Told.{Rose}
 use Rattle.pool_pages.specs.declared.module_types.ModuleInfo.{ModuleInfo}
@@ -49,7 +50,7 @@ IsToldBy false w commands replies = IsPrivateRun w commands replies
 
 -- The run is as it is made of the input: its pool is, with a call for each module, and no party has done anything.
 pub record IsMadeRun {P : Type 0} (tunables : Tunables) (input : Input) (maker : MakerTold) (run : RunParts P) : Type 0 where
-  pub made : IsMadeCore maker input.config tunables run.core
+  pub made : IsMadeCore maker input.config tunables default_offered run.core
   pub core : IsCore maker run.core
   pub untouched : IsUntouched run.core
   pub calls : AreMadeCalls maker.page input.modules run.modules
@@ -59,7 +60,7 @@ pub record IsMadeRun {P : Type 0} (tunables : Tunables) (input : Input) (maker :
 -- lead from there to an end, of which the output gives the replies and the numbers.
 pub record IsRun (P : Type 0) (tunables : Tunables) (input : Input) (maker : MakerTold) (output : RunOutput) : Type 0 where
   pub core : PoolCore P
-  pub made : IsMadeCore maker input.config tunables core
+  pub made : IsMadeCore maker input.config tunables default_offered core
   pub modules : List ModuleCall
   pub calls : AreCallsFor (world_of input maker) core.settings modules
   pub end : RunState P

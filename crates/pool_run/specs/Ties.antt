@@ -15,9 +15,10 @@ use Rattle.pool_alloc.specs.declared.frame.ModuleCall.{ModuleCall}
 use Rattle.pool_alloc.specs.declared.frame.Grant.{Grant}
 use Rattle.pool_alloc.specs.declared.frame.Ending.{Ending}
 use Rattle.pool_alloc.specs.declared.frame.Ending.TheVariants as ending
+use Rattle.pool_alloc.specs.declared.frame.AfterFree.TheVariants.{Refuse, ReturnNext}
 use Rattle.pool_alloc.specs.declared.frame.AfterFlush.TheVariants.{PickAgain, GiveBackNext}
 use Rattle.pool_alloc.specs.declared.frame.Phase.{Phase}
-use Rattle.pool_alloc.specs.declared.frame.Phase.TheVariants.{Idle, Key, Validate, CountInstance, Pick, TakeQueue, TakeRegion, Empty, Instantiate, MakeMemory, CountMemory, PutRefused, FreeRefused, UncountMemory, Reset, Merge, Decommit, PutRegion, Free, UncountInstance}
+use Rattle.pool_alloc.specs.declared.frame.Phase.TheVariants.{Idle, Key, Validate, CountInstance, Pick, TakeQueue, TakeRegion, Empty, Instantiate, MakeMemory, CountMemory, PutUnknown, FreeUnknown, UncountMemory, Reset, Merge, Decommit, PutRegion, Free, UncountInstance}
 use Rattle.pool_run.specs.Private.{Grants, World, grant_at, memories_of, image_at, begun_memories, IsCause, PrivateRun}
 use Rattle.pool_run.specs.Turns.{Turned, grants_of, private_memory}
 use Rattle.pool_run.specs.declared.command.Command.{Command}
@@ -64,8 +65,10 @@ module _ {P : Type 0} where
   stage_of (Instantiate slot held) e = asks
   stage_of (MakeMemory slot held) e = asks
   stage_of (CountMemory lease) e = asks
-  stage_of (PutRefused slot held error) e = asks
-  stage_of (FreeRefused slot error) e = asks
+  stage_of (PutUnknown slot held (Refuse error)) e = asks
+  stage_of (PutUnknown slot held ReturnNext) e = ends_as e
+  stage_of (FreeUnknown slot (Refuse error)) e = asks
+  stage_of (FreeUnknown slot ReturnNext) e = ends_as e
   stage_of UncountMemory e = ends_as e
   stage_of (Reset lease) e = ends_as e
   stage_of Merge e = ends_as e
@@ -79,8 +82,8 @@ module _ {P : Type 0} where
 
   -- the refusal with which a step ends, or which the call is to end with, has a cause
   abbrev pub IsRefusable : World → ℕ → Grants → Phase P → Type 0
-  IsRefusable w number told (PutRefused slot held e) = IsCause w number told (Alloc e)
-  IsRefusable w number told (FreeRefused slot e) = IsCause w number told (Alloc e)
+  IsRefusable w number told (PutUnknown slot held (Refuse e)) = IsCause w number told (Alloc e)
+  IsRefusable w number told (FreeUnknown slot (Refuse e)) = IsCause w number told (Alloc e)
   IsRefusable w number told _ = Unit {0}
 
   -- A call is on its way to its end: a request that is refused, or a give-back. A grant ends where its give-back begins,

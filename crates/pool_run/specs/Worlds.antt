@@ -21,7 +21,7 @@ use Rattle.pool_run.specs.declared.command.Command.TheVariants.{Instantiate, Rea
 -- limiter refuses it.
 abbrev pub IsMadeReady : World → Settings → ℕ → ℕ → MemoryDecl → Type 0
 IsMadeReady w s number k decl =
-    (slot : ℕ) (held : Slot) → IsSlotOf w.maker s.max_memory_size slot held → HasBegun (image_at w number k decl) held decl → IsOk (memory_made s (memories_of w number) k (Ok true) held)
+    (slot : ℕ) (held : Slot) → IsSlotOf w.maker s.behaviour s.max_memory_size slot held → HasBegun (image_at w number k decl) held decl → IsOk (memory_made s (memories_of w number) k (Ok true) held)
 
 -- the pool breaks no rule of the modules, and has one stripe, and as many slots and instances as the world says
 pub record IsWorldOf {P : Type 0} (w : World) (c : PoolCore P) : Type 0 where

@@ -1,5 +1,5 @@
 ghost use Rattle.std.specs.Prelude.{◌≡◌, Err, true, false, IfOk, IfErr, OnOk};
-ghost use Rattle.pool_pages.specs.Config.{default_tunables};
+ghost use Rattle.pool_pages.specs.Config.{default_offered, default_tunables};
 ghost use Rattle.pool_pages.specs.ConfigLimits.{IsWithinLimits};
 ghost use Rattle.pool_alloc.specs.Made.{IsMadeCore};
 ghost use Rattle.pool_alloc.specs.Sound.{IsCore};
@@ -10,7 +10,7 @@ ghost use Rattle.pool_run.specs.Runs.{FaultsInMaking, is_bad_config};
 use crate::input::Input;
 use crate::output::RunFault;
 use pool_alloc::PoolCore;
-use pool_pages::{PageMaker, Pages, Tunables};
+use pool_pages::{Offered, PageMaker, Pages, Tunables};
 use pool_slots::PoolNewError;
 use std::alloc::Global;
 
@@ -22,14 +22,15 @@ pub(crate) fn make_pool<P: Pages, M: PageMaker<Region = P>>(
 ) -> Result<PoolCore<P>, RunFault>
     requires built { is_built input.now ≡ true }
     requires within { IsWithinLimits input.now.config }
-    ensures made { IfOk result (IsMadeCore (M.told pages.old) input.now.config default_tunables) }
+    ensures made { IfOk result (IsMadeCore (M.told pages.old) input.now.config default_tunables default_offered) }
     ensures core { IfOk result (IsCore (M.told pages.old)) }
     ensures untouched { IfOk result IsUntouched }
     ensures same { OnOk result (M.told pages.new ≡ M.told pages.old) }
     ensures fault { result ≡ Err RunFault.PageFault → FaultsInMaking input.now (M.told pages.old) (M.told pages.new) }
     ensures settings { IfErr result (λ fault. is_bad_config fault ≡ false) }
 {
-    match PoolCore::new(alloc, &input.config, &Tunables::default(), pages) {
+    let offered = Offered::default();
+    match PoolCore::new(alloc, &input.config, &Tunables::default(), &offered, pages) {
         Ok(core) => Ok(core),
         Err(PoolNewError::PageFault) => Err(RunFault::PageFault),
         Err(PoolNewError::Memory) => Err(RunFault::Memory),

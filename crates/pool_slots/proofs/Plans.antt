@@ -9,7 +9,7 @@ use Rattle.std.proofs.lemmas.List.FromFn.{length-range_with_len, get_or-range_wi
 use Rattle.pool_pages.specs.Count.{Count, count}
 use Rattle.pool_pages.specs.MakerTold.{MakerTold, Planned, fails_making, made_region}
 use Rattle.pool_pages.specs.declared.pages.RegionName.TheVariants.{Memory}
-use Rattle.pool_pages.specs.declared.pages.DecommitBehavior.TheVariants.{RestoreOriginalMapping}
+use Rattle.pool_pages.specs.declared.pages.DecommitBehavior.{DecommitBehavior}
 use Rattle.pool_slots.specs.Cells.{Cell, unmapped, taken}
 use Rattle.pool_slots.specs.Makings.{AreMade, makes_listed, IsListed}
 use Rattle.pool_slots.specs.declared.request.PoolNewError.{PoolNewError}
@@ -52,8 +52,8 @@ any_told P None step = tt
 any_told P (Some x) step = step x
 
 -- one cell more is made
-pub made_more : (maker : MakerTold) (n : ℕ) (len : Count) (cells : List Cell) (cell : Cell) → AreMade maker n len cells → cell ≡ unmapped (made_region (Memory n) RestoreOriginalMapping (count len.page 0) len maker) → AreMade maker (n + 1) len (cells ++ cell ∷ [])
-made_more maker n len cells cell made now =
+pub made_more : (maker : MakerTold) (behaviour : DecommitBehavior) (n : ℕ) (len : Count) (cells : List Cell) (cell : Cell) → AreMade maker behaviour n len cells → cell ≡ unmapped (made_region (Memory n) behaviour (count len.page 0) len maker) → AreMade maker behaviour (n + 1) len (cells ++ cell ∷ [])
+made_more maker behaviour n len cells cell made now =
     record {
       count = length-append cells (cell ∷ []) ∙ ap (λ (k : ℕ). k + 1) made.count;
       each = λ i below.

@@ -1,6 +1,6 @@
 -- A queue stays one where ranges and slots are pushed, and where two queues are joined.
-use Rattle.std.proofs.Common.{◌≡◌, ℕ, ◌+◌, ◌^◌, ◌<◌, ◌≤◌, true, false, List, [], ◌∷◌, ◌++◌, length, refl, sym, ap, ◌∙◌, subst, arith, Ok, Err}
-use Rattle.std.specs.Prelude.{map, ◌==◌, ◌&&◌, All, Result}
+use Rattle.std.proofs.Common.{◌≡◌, ℕ, ◌+◌, ◌^◌, ◌<◌, ◌≤◌, true, false, List, [], ◌∷◌, ◌++◌, length, refl, sym, ap, ◌∙◌, subst, arith}
+use Rattle.std.specs.Prelude.{map, ◌==◌, ◌&&◌, All}
 use Rattle.std.proofs.lemmas.Bool.{eq-eqb, or_left, or_right}
 use Rattle.std.proofs.lemmas.List.Folds.{list_any-append}
 use Rattle.std.specs.List.{AllByRecursion}
@@ -107,10 +107,3 @@ pub owned_pushed : (m : QueuedMemory) (rs : List ByteRange) (q : QueueState) →
 owned_pushed m rs q owned =
     each_append (λ r. is_held r.kind r.slot.0 (q.memories ++ m ∷ []) ≡ true) q.ranges (map (range_of m.index) rs)
     (owned_more q.ranges q.memories (m ∷ []) owned) (own_owned m rs q.memories)
-
-abbrev value_of : {E : Type 0} → Result ℕ E → ℕ
-value_of (Ok x) = x
-value_of (Err e) = 0
-
-pub same_answer : {E : Type 0} (a b : ℕ) (r : Result ℕ E) → r ≡ Ok a → r ≡ Ok b → a ≡ b
-same_answer a b r left right = ap value_of (sym left ∙ right)

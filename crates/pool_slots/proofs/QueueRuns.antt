@@ -176,10 +176,10 @@ left_by k m n p kept left =
     }
 
 same_kept : (s t : Slot) → IsKept s t → IsSameSlot s t
-same_kept s t k = record { base = k.base; static_size = k.static_size; colour = k.colour; name = k.name; page = k.page; len = k.len; plan = k.plan; tells = k.tells; faults = inl k.faults }
+same_kept s t k = record { base = k.base; static_size = k.static_size; colour = k.colour; name = k.name; page = k.page; len = k.len; behaviour = k.behaviour; plan = k.plan; tells = k.tells; faults = inl k.faults }
 
 same_left : (s t : Slot) → IsLeft s t → IsSameSlot s t
-same_left s t l = record { base = l.base; static_size = l.static_size; colour = l.colour; name = l.name; page = l.page; len = l.len; plan = l.plan; tells = l.tells; faults = inr l.rose }
+same_left s t l = record { base = l.base; static_size = l.static_size; colour = l.colour; name = l.name; page = l.page; len = l.len; behaviour = l.behaviour; plan = l.plan; tells = l.tells; faults = inr l.rose }
 
 same_if : (b : Bool) (s t u : Slot) → IsKept s t → IsSlotLeft b t u → IsSameSlot s u
 same_if true s t u kept left = same_left s u (left_after s t u kept left)

@@ -13,19 +13,20 @@ pub record IsKept (old new : Slot) : Type 0 where
   pub name : new.region.name ≡ old.region.name
   pub page : new.region.page ≡ old.region.page
   pub len : new.region.len ≡ old.region.len
+  pub behaviour : new.region.behaviour ≡ old.region.behaviour
   pub plan : new.region.plan ≡ old.region.plan
   pub tells : is_some new.region.contents ≡ is_some old.region.contents
   pub faults : new.region.faults ≡ old.region.faults
 
 pub kept_self : (s : Slot) → IsKept s s
-kept_self s = record { base = refl; static_size = refl; colour = refl; name = refl; page = refl; len = refl; plan = refl; tells = refl; faults = refl }
+kept_self s = record { base = refl; static_size = refl; colour = refl; name = refl; page = refl; len = refl; behaviour = refl; plan = refl; tells = refl; faults = refl }
 
 pub told_same : (f : Contents → Contents) (o : Option Contents) → is_some (option_map f o) ≡ is_some o
 told_same f None = refl
 told_same f (Some c) = refl
 
 pub kept_called : (s t : Slot) (call : PageCall) → IsKept s t → IsKept s (called call t)
-kept_called s t call k = record { base = k.base; static_size = k.static_size; colour = k.colour; name = k.name; page = k.page; len = k.len; plan = k.plan; tells = told_same call.change t.region.contents ∙ k.tells; faults = k.faults }
+kept_called s t call k = record { base = k.base; static_size = k.static_size; colour = k.colour; name = k.name; page = k.page; len = k.len; behaviour = k.behaviour; plan = k.plan; tells = told_same call.change t.region.contents ∙ k.tells; faults = k.faults }
 
 pub left_after : (s t u : Slot) → IsKept s t → IsLeft t u → IsLeft s u
 left_after s t u k l =
@@ -38,6 +39,7 @@ left_after s t u k l =
       name = l.name ∙ k.name;
       page = l.page ∙ k.page;
       len = l.len ∙ k.len;
+      behaviour = l.behaviour ∙ k.behaviour;
       plan = l.plan ∙ k.plan;
       tells = l.tells ∙ k.tells;
       rose = subst R k.faults l.rose;

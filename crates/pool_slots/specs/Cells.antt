@@ -5,7 +5,7 @@ use Rattle.pool_pages.specs.Told.{Told}
 use Rattle.pool_pages.specs.MakerTold.{MakerTold, made_region, plan_for, no_calls}
 use Rattle.pool_pages.specs.declared.pages.PageCalls.{PageCalls}
 use Rattle.pool_pages.specs.declared.pages.RegionName.TheVariants.{Memory}
-use Rattle.pool_pages.specs.declared.pages.DecommitBehavior.TheVariants.{RestoreOriginalMapping}
+use Rattle.pool_pages.specs.declared.pages.DecommitBehavior.{DecommitBehavior}
 use Rattle.pool_images.specs.Slots.{Slot, IsClean}
 
 -- the region as it was made, a slot of which nothing is known, a slot that was used and is clean, or nothing
@@ -60,27 +60,28 @@ added a b = record {
 }
 
 -- the region that the maker made for memory slot i
-pub record IsRegionOf (maker : MakerTold) (static_size i : ℕ) (t : Told) : Type 0 where
+pub record IsRegionOf (maker : MakerTold) (behaviour : DecommitBehavior) (static_size i : ℕ) (t : Told) : Type 0 where
   pub name : t.name ≡ Memory i
   pub page : t.page ≡ maker.page
   pub len : t.len ≡ rounded_up maker.page static_size
+  pub behaves : t.behaviour ≡ behaviour
   pub plan : t.plan ≡ plan_for (Memory i) maker
   pub tells : is_some t.contents ≡ maker.tells
 
 -- the image slot of memory slot i: it has the whole region
-pub record IsSlotOf (maker : MakerTold) (static_size i : ℕ) (s : Slot) : Type 0 where
-  pub region : IsRegionOf maker static_size i s.region
+pub record IsSlotOf (maker : MakerTold) (behaviour : DecommitBehavior) (static_size i : ℕ) (s : Slot) : Type 0 where
+  pub region : IsRegionOf maker behaviour static_size i s.region
   pub base : s.base ≡ count maker.page 0
   pub same_size : s.static_size ≡ static_size
   pub colour : s.colour ≡ None
 
 -- the region of memory slot i as it is made
-abbrev pub region_made : MakerTold → ℕ → ℕ → Told
-region_made maker static_size i = made_region (Memory i) RestoreOriginalMapping (count maker.page 0) (count maker.page (rounded_up maker.page static_size)) maker
+abbrev pub region_made : MakerTold → DecommitBehavior → ℕ → ℕ → Told
+region_made maker behaviour static_size i = made_region (Memory i) behaviour (count maker.page 0) (count maker.page (rounded_up maker.page static_size)) maker
 
 -- what the cell of memory slot i may hold: a slot that was used before is clean
-abbrev pub IsCell : MakerTold → ℕ → ℕ → Cell → Type 0
-IsCell maker static_size i (unmapped region) = region ≡ region_made maker static_size i
-IsCell maker static_size i (unknown slot) = IsSlotOf maker static_size i slot
-IsCell maker static_size i (previously_used slot) = IsSlotOf maker static_size i slot × IsClean slot
-IsCell maker static_size i taken = Unit {0}
+abbrev pub IsCell : MakerTold → DecommitBehavior → ℕ → ℕ → Cell → Type 0
+IsCell maker behaviour static_size i (unmapped region) = region ≡ region_made maker behaviour static_size i
+IsCell maker behaviour static_size i (unknown slot) = IsSlotOf maker behaviour static_size i slot
+IsCell maker behaviour static_size i (previously_used slot) = IsSlotOf maker behaviour static_size i slot × IsClean slot
+IsCell maker behaviour static_size i taken = Unit {0}

@@ -5,15 +5,15 @@ use Rattle.pool_pages.specs.Count.{Count, count as count_of}
 use Rattle.pool_pages.specs.Told.{Rose}
 use Rattle.pool_pages.specs.MakerTold.{MakerTold, Planned, fails_making, made_region}
 use Rattle.pool_pages.specs.declared.pages.RegionName.TheVariants.{Memory}
-use Rattle.pool_pages.specs.declared.pages.DecommitBehavior.TheVariants.{RestoreOriginalMapping}
+use Rattle.pool_pages.specs.declared.pages.DecommitBehavior.{DecommitBehavior}
 use Rattle.pool_slots.specs.Cells.{Cell, unmapped, taken}
 use Rattle.pool_slots.specs.declared.request.PoolNewError.{PoolNewError}
 use Rattle.pool_slots.specs.declared.request.PoolNewError.TheVariants as refused
 
 -- the cells of so many slots as they are made
-pub record AreMade (maker : MakerTold) (total : ℕ) (len : Count) (cells : List Cell) : Type 0 where
+pub record AreMade (maker : MakerTold) (behaviour : DecommitBehavior) (total : ℕ) (len : Count) (cells : List Cell) : Type 0 where
   pub count : length cells ≡ total
-  pub each : (i : ℕ) → i < total → slice_index_or cells i taken ≡ unmapped (made_region (Memory i) RestoreOriginalMapping (count_of len.page 0) len maker)
+  pub each : (i : ℕ) → i < total → slice_index_or cells i taken ≡ unmapped (made_region (Memory i) behaviour (count_of len.page 0) len maker)
 
 -- the making of the region of some memory slot is listed as one that fails
 abbrev pub makes_listed : List Planned → ℕ → Bool

@@ -204,6 +204,7 @@ pub record IsSameSlot (old new : Slot) : Type 0 where
   pub name : new.region.name ≡ old.region.name
   pub page : new.region.page ≡ old.region.page
   pub len : new.region.len ≡ old.region.len
+  pub behaviour : new.region.behaviour ≡ old.region.behaviour
   pub plan : new.region.plan ≡ old.region.plan
   pub tells : is_some new.region.contents ≡ is_some old.region.contents
   pub faults : (new.region.faults ≡ old.region.faults) ⊎ Rose old.region.faults new.region.faults

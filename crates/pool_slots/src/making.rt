@@ -9,14 +9,15 @@ use crate::request::PoolNewError;
 use pool_pages::{DecommitBehavior, HostAlignedByteCount, MakeFault, PageMaker, Pages, RegionName};
 use std::alloc::Global;
 
-/// The cells of so many memory slots, each with a region of this length of which nothing can be reached.
+/// The cells of so many memory slots, each with a region of this behaviour and length of which nothing can be reached.
 pub fn make_cells<P: Pages, M: PageMaker<Region = P>>(
     alloc: Global,
     maker: &mut M,
+    behaviour: DecommitBehavior,
     total: u32,
     len: HostAlignedByteCount,
 ) -> Result<Vec<MemoryCell<P>>, PoolNewError>
-    ensures cells { IfOk result (λ v. AreMade (M.told maker.old) total len v.items) }
+    ensures cells { IfOk result (λ v. AreMade (M.told maker.old) behaviour total len v.items) }
     ensures maker { M.told maker.new ≡ record (M.told maker.old) { faults = (M.told maker.new).faults } }
     ensures faults { MatchResult result (λ _. (M.told maker.new).faults ≡ (M.told maker.old).faults) (RaisesFaults (M.told maker.old).faults (M.told maker.new).faults) }
     ensures planned { MatchResult result (λ _. IfSome (M.told maker.old).plan (λ plan. makes_listed plan total ≡ false)) (λ e. IfSome (M.told maker.old).plan (λ plan. IsListed (makes_listed plan total) e)) }
@@ -25,7 +26,7 @@ pub fn make_cells<P: Pages, M: PageMaker<Region = P>>(
         return Err(PoolNewError::Memory);
     };
     for slot in 0..total {
-        let cell = match make_cell(alloc, maker, slot, len) {
+        let cell = match make_cell(alloc, maker, behaviour, slot, len) {
             Ok(cell) => cell,
             Err(refusal) => return Err(refusal),
         };
@@ -39,19 +40,19 @@ pub fn make_cells<P: Pages, M: PageMaker<Region = P>>(
 fn make_cell<P: Pages, M: PageMaker<Region = P>>(
     alloc: Global,
     maker: &mut M,
+    behaviour: DecommitBehavior,
     slot: u32,
     len: HostAlignedByteCount,
 ) -> Result<MemoryCell<P>, PoolNewError>
-    ensures cell { IfOk result (λ cell. cell ≡ unmapped (made_region (RegionName.Memory slot) DecommitBehavior.RestoreOriginalMapping (count len.page 0) len (M.told maker.old))) }
+    ensures cell { IfOk result (λ cell. cell ≡ unmapped (made_region (RegionName.Memory slot) behaviour (count len.page 0) len (M.told maker.old))) }
     ensures maker { M.told maker.new ≡ record (M.told maker.old) { faults = (M.told maker.new).faults } }
     ensures faults { MatchResult result (λ _. (M.told maker.new).faults ≡ (M.told maker.old).faults) (RaisesFaults (M.told maker.old).faults (M.told maker.new).faults) }
     ensures planned { MatchResult result (λ _. IfSome (M.told maker.old).plan (λ plan. fails_making (RegionName.Memory slot) plan ≡ false)) (λ e. IfSome (M.told maker.old).plan (λ plan. IsListed (fails_making (RegionName.Memory slot) plan) e)) }
 {
-    let restoring = DecommitBehavior::RestoreOriginalMapping;
     let made = maker.make(
         alloc,
         RegionName::Memory(slot),
-        restoring,
+        behaviour,
         len.page().zero(),
         len,
     );

@@ -13,8 +13,9 @@ use std::sync::Arc;
 impl<P: Pages> MemoryImageSlot<P> {
     /// Makes a clean slot what a memory of this type begins in: `initial` bytes of it accessible, the image mapped. It
     /// is in use then. An image that is mapped already isn't mapped again: it is told by its name, offset and length,
-    /// and by its bytes, which are read from the slot. What is accessible above `initial` is hidden only where the
-    /// memory's bounds may rest on it.
+    /// and by its bytes, which are read from the slot. Where pages go back to zeros no clean slot has an image, so that
+    /// it is mapped each time. What is accessible above `initial` is hidden only where the memory's bounds may rest on
+    /// it.
     pub fn instantiate(
         &mut self,
         initial: usize,
@@ -131,7 +132,7 @@ impl<P: Pages> MemoryImageSlot<P> {
         self.remove_image()?;
         self.resize(size, hides)?;
         self.map(image)?;
-        self.begin(image);
+        self.mark();
         Ok(())
     }
 
@@ -184,6 +185,12 @@ impl<P: Pages> MemoryImageSlot<P> {
         ensures begun { IsBegun (option_map (λ i. i.now) _image.entry) self.new }
     {
         self.fits();
+        self.mark();
+    }
+
+    fn mark(&mut self)
+        ensures { self.new ≡ record self.old { dirty = true } }
+    {
         self.dirty = true;
     }
 }

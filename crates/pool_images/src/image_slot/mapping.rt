@@ -1,6 +1,6 @@
 ghost use Rattle.std.specs.Prelude.{◌≡◌, ◌↔◌, ◌+◌, ◌%◌, ◌≤◌, length, slice_range, true, None, Some, Ok, IsTrue, IfSome, is_ok, OnOk, OnErr, option_map};
 ghost use Rattle.pool_images.specs.Orders.{Follows, unmapping, removing, image_mapping};
-ghost use Rattle.pool_images.specs.Slots.{IsReady, IsClean, IsLeft, Fits, FitsInto, HasImage, name_of, without, without_image, with_image};
+ghost use Rattle.pool_images.specs.Slots.{IsReady, IsClean, IsLeft, IsBegun, Fits, FitsInto, HasImage, name_of, without, without_image, with_image};
 
 use crate::image_slot::{ImageName, MemoryImageSlot};
 use crate::memory_image::MemoryImage;
@@ -39,14 +39,15 @@ impl<P: Pages> MemoryImageSlot<P> {
         Ok(())
     }
 
-    // Maps an image into a clean slot that has none.
+    // Maps an image into a clean slot that has none. Once the slot is marked as in use, a memory begins in it. Where
+    // pages go back to zeros the slot isn't clean after it.
     pub(super) fn map(&mut self, image: Option<&MemoryImage>) -> Result<(), PageFault>
         requires clean { IsClean self.old }
         requires none { self.old.image ≡ None }
         requires fits { IfSome image (λ i. FitsInto self.old.region.page self.old.accessible.bytes i.now) }
+        requires inside_static { IfSome image (λ i. i.now.offset + length i.now.bytes ≤ self.old.static_size) }
         ensures ok { OnOk result (self.new ≡ with_image (option_map (λ i. i.now) image.entry) self.old) }
-        ensures clean { OnOk result (IsClean self.new) }
-        ensures has { OnOk result (IfSome self.new.region.contents (HasImage self.new (option_map (λ i. i.now) image.entry))) }
+        ensures begins { OnOk result (IsBegun (option_map (λ i. i.now) image.entry) (record self.new { dirty = true })) }
         ensures fault { OnErr result (IsLeft self.old self.new) }
         ensures order { Follows (image_mapping (option_map (λ i. i.now) image.entry) self.old) (is_ok result) self.old.region self.new.region }
     {
@@ -61,8 +62,9 @@ impl<P: Pages> MemoryImageSlot<P> {
         requires none { self.old.image ≡ None }
         ensures value { result ≡ Ok tt }
         ensures same { self.new ≡ self.old }
-        ensures has { IfSome self.new.region.contents (HasImage self.new None) }
+        ensures begins { IsBegun None (record self.new { dirty = true }) }
     {
+        self.fits();
         Ok(())
     }
 
@@ -70,9 +72,9 @@ impl<P: Pages> MemoryImageSlot<P> {
         requires clean { IsClean self.old }
         requires none { self.old.image ≡ None }
         requires fits { FitsInto self.old.region.page self.old.accessible.bytes image.now }
+        requires inside_static { image.now.offset + length image.now.bytes ≤ self.old.static_size }
         ensures ok { OnOk result (self.new ≡ with_image (Some image.now) self.old) }
-        ensures clean { OnOk result (IsClean self.new) }
-        ensures has { OnOk result (IfSome self.new.region.contents (HasImage self.new (Some image.now))) }
+        ensures begins { OnOk result (IsBegun (Some image.now) (record self.new { dirty = true })) }
         ensures fault { OnErr result (IsLeft self.old self.new) }
         ensures order { Follows (image_mapping (Some image.now) self.old) (is_ok result) self.old.region self.new.region }
     {

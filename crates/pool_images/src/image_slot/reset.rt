@@ -1,17 +1,22 @@
-ghost use Rattle.std.specs.Prelude.{◌≡◌, ◌+◌, ◌≤◌, [], min, false, true, Ok, All, IfSome, is_ok, OnOk, OnErr};
+ghost use Rattle.std.specs.Prelude.{◌≡◌, ◌+◌, ◌≤◌, [], min, false, true, All, IfOk, IfSome, is_ok, OnOk, OnErr};
 ghost use Rattle.pool_pages.specs.Contents.{CanReach};
 ghost use Rattle.pool_pages.specs.Told.{TellsShaped, restored};
-ghost use Rattle.pool_images.specs.Orders.{Follows, emptying};
-ghost use Rattle.pool_images.specs.Slots.{size_of, Fits, IsReady, IsClean, IsLeft, IsShut, IsPart, emptied, cleared, reset_ranges, decommitted_all};
+ghost use Rattle.pool_images.specs.Orders.{Follows, emptying, resetting, set_by_hand};
+ghost use Rattle.pool_images.specs.Slots.{size_of, Fits, IsReady, IsClean, IsLeft, IsShut, IsPart, emptied, cleared, reset_ranges, kept_bytes, left_ranges, reset_slot, decommitted_all};
 
 use crate::image_slot::MemoryImageSlot;
 use crate::ranges::{ByteRange, Ranges};
-use pool_pages::{HostAlignedByteCount, PageFault, PageRegion, Pages};
+use pool_pages::{DecommitBehavior, HostAlignedByteCount, PageFault, PageRegion, Pages};
 
 impl<P: Pages> MemoryImageSlot<P> {
-    /// Resets a slot that was in use. As much of what is accessible as `keep_resident` says is set by hand to the image
-    /// and zeros, and stays resident. What has to be decommitted is left in `ranges`, which must be empty; once that is
-    /// done the slot is clean. Answers how many bytes were set by hand.
+    /// Resets a slot that was in use, and answers how many of its bytes stay resident. `ranges` must be empty.
+    ///
+    /// Where the region's pages go back to a mapped image, as much of what is accessible as `keep_resident` says is set
+    /// by hand to the image and zeros, and stays resident. What has to be decommitted is left in `ranges`; once that is
+    /// done the slot is clean. No page call is made, and none fails.
+    ///
+    /// Where pages go back to zeros, the slot is reset as by `reset_with_anon_memory`, which takes the image out too and
+    /// may answer `PageFault`. Whatever `keep_resident` says, nothing stays resident and nothing is left in `ranges`.
     pub fn clear_and_remain_ready(
         &mut self,
         keep_resident: HostAlignedByteCount,
@@ -21,7 +26,33 @@ impl<P: Pages> MemoryImageSlot<P> {
         requires ready { IfSome self.old.region.contents (IsReady self.old) }
         requires page { keep_resident.page ≡ self.old.region.page }
         requires empty { ranges.old ≡ [] }
-        ensures resident { result ≡ Ok (min keep_resident.bytes self.old.accessible.bytes) }
+        ensures resident { IfOk result (λ n. n ≡ kept_bytes self.old.region.behaviour keep_resident.bytes self.old.accessible.bytes) }
+        ensures ranges { ranges.new ≡ left_ranges self.old.region.behaviour keep_resident.bytes self.old.accessible.bytes }
+        ensures value { OnOk result (self.new ≡ reset_slot self.old.region.behaviour keep_resident.bytes self.old) }
+        ensures parts { All (IsPart self.new.region.page (size_of self.new)) ranges.new }
+        ensures clean_after { OnOk result (IsClean (decommitted_all ranges.new self.new)) }
+        ensures clean { self.old.accessible.bytes ≤ keep_resident.bytes → OnOk result (IsClean self.new) }
+        ensures fits { Fits self.new }
+        ensures restores { self.old.region.behaviour ≡ DecommitBehavior.RestoreOriginalMapping → is_ok result ≡ true }
+        ensures mark { OnErr result (self.new.dirty ≡ self.old.dirty) }
+        ensures fault { OnErr result (IsLeft self.old self.new) }
+        ensures order { Follows (resetting self.old.region.behaviour self.old) (is_ok result) (set_by_hand self.old.region.behaviour keep_resident.bytes self.old) self.new.region }
+    {
+        match self.region.behaviour() {
+            DecommitBehavior::RestoreOriginalMapping => {
+                Ok(self.reset_by_hand(keep_resident, ranges))
+            }
+            DecommitBehavior::Zero => self.reset_to_zeros(),
+        }
+    }
+
+    // The reset where pages go back to a mapped image.
+    fn reset_by_hand(&mut self, keep_resident: HostAlignedByteCount, ranges: &mut Ranges) -> usize
+        requires restores { self.old.region.behaviour ≡ DecommitBehavior.RestoreOriginalMapping }
+        requires ready { IfSome self.old.region.contents (IsReady self.old) }
+        requires page { keep_resident.page ≡ self.old.region.page }
+        requires empty { ranges.old ≡ [] }
+        ensures resident { result ≡ min keep_resident.bytes self.old.accessible.bytes }
         ensures ranges { ranges.new ≡ reset_ranges keep_resident.bytes self.old.accessible.bytes }
         ensures value { self.new ≡ cleared (min keep_resident.bytes self.old.accessible.bytes) self.old }
         ensures parts { All (IsPart self.new.region.page (size_of self.new)) ranges.new }
@@ -35,7 +66,23 @@ impl<P: Pages> MemoryImageSlot<P> {
         let kept = keep.min(accessible);
         push_range(ranges, keep, accessible);
         self.clear(kept);
-        Ok(kept)
+        kept
+    }
+
+    // The reset where pages go back to zeros.
+    fn reset_to_zeros(&mut self) -> Result<usize, PageFault>
+        ensures resident { IfOk result (λ n. n ≡ 0) }
+        ensures value { OnOk result (self.new ≡ emptied self.old) }
+        ensures clean { OnOk result (IsClean self.new) }
+        ensures fits { Fits self.new }
+        ensures mark { OnErr result (self.new.dirty ≡ self.old.dirty) }
+        ensures fault { OnErr result (IsLeft self.old self.new) }
+        ensures order { Follows (emptying self.old) (is_ok result) self.old.region self.new.region }
+    {
+        let reset = self.reset_with_anon_memory();
+        self.fits();
+        reset?;
+        Ok(0)
     }
 
     // Sets the first `kept` bytes by hand to what they go back to. The slot isn't in use any more then.

@@ -3,7 +3,6 @@ use Rattle.std.specs.Prelude.{IfSome}
 use Rattle.pool_pages.specs.Count.{count}
 use Rattle.pool_pages.specs.MakerTold.{MakerTold, Planned, fails_making, made_region}
 use Rattle.pool_pages.specs.declared.pages.RegionName.TheVariants.{Memory}
-use Rattle.pool_pages.specs.declared.pages.DecommitBehavior.TheVariants.{RestoreOriginalMapping}
 use Rattle.pool_slots.specs.Cells.{Cell, unmapped}
 use Rattle.pool_slots.specs.Makings.{AreMade, IsListed, makes_listed}
 use Rattle.pool_slots.proofs.Plans.{NoneListed, none_listed, none_more, mapped_told, both_told, any_told, made_more, listed_of, same_maker}
@@ -21,11 +20,11 @@ returns-in_default-push-clause-planned g c = any_told _ (g.M.PageMaker.told c.ar
 
 pub loop-slot-preserved : goal.loop-slot-preserved
 loop-slot-preserved g c =
-    let C : MakerTold → Type 0 = λ m. c.in-Ok-make_cell.cell ≡ unmapped (made_region (Memory c.loop-slot.slot) RestoreOriginalMapping (count c.args.len.page 0) c.args.len m) in
+    let C : MakerTold → Type 0 = λ m. c.in-Ok-make_cell.cell ≡ unmapped (made_region (Memory c.loop-slot.slot) c.args.behaviour (count c.args.len.page 0) c.args.len m) in
     let F : MakerTold → Type 0 = λ m. IfSome m.plan (λ plan. fails_making (Memory c.loop-slot.slot) plan ≡ false) in
-    let L : List Cell → Type 0 = λ l. AreMade (g.M.PageMaker.told c.args.maker.now) (c.loop-slot.slot + 1) c.args.len l in
+    let L : List Cell → Type 0 = λ l. AreMade (g.M.PageMaker.told c.args.maker.now) c.args.behaviour (c.loop-slot.slot + 1) c.args.len l in
     record {
-      cells = subst L (sym c.in-Ok-push.ensures.items) (made_more (g.M.PageMaker.told c.args.maker.now) c.loop-slot.slot c.args.len c.loop-slot.cells.items c.in-Ok-make_cell.cell c.loop-slot.invariant.cells (subst C c.loop-slot.invariant.maker c.in-Ok-make_cell.ensures.cell));
+      cells = subst L (sym c.in-Ok-push.ensures.items) (made_more (g.M.PageMaker.told c.args.maker.now) c.args.behaviour c.loop-slot.slot c.args.len c.loop-slot.cells.items c.in-Ok-make_cell.cell c.loop-slot.invariant.cells (subst C c.loop-slot.invariant.maker c.in-Ok-make_cell.ensures.cell));
       maker = same_maker (g.M.PageMaker.told c.loop-slot.maker) (g.M.PageMaker.told c.make_cell.new.maker) c.in-Ok-make_cell.ensures.maker c.in-Ok-make_cell.ensures.faults ∙ c.loop-slot.invariant.maker;
       planned = both_told (λ plan. NoneListed plan c.loop-slot.slot) (λ plan. fails_making (Memory c.loop-slot.slot) plan ≡ false) (λ plan. NoneListed plan (c.loop-slot.slot + 1)) (g.M.PageMaker.told c.args.maker.now).plan (λ plan none now. none_more plan c.loop-slot.slot none now) c.loop-slot.invariant.planned (subst F c.loop-slot.invariant.maker c.in-Ok-make_cell.ensures.planned);
     }

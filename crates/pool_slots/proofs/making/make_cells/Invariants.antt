@@ -7,7 +7,7 @@ use Rattle.pool_slots.proofs.making.make_cells.Given as goal
 -- the cells so far are made, by a maker that tells what it told
 abbrev pub invariant-loop-slot : goal.invariant-loop-slot
 invariant-loop-slot g l = record {
-  cells : AreMade (g.M.PageMaker.told l.fn.maker) l.slot l.len l.cells.items;
+  cells : AreMade (g.M.PageMaker.told l.fn.maker) l.behaviour l.slot l.len l.cells.items;
   maker : g.M.PageMaker.told l.maker ≡ g.M.PageMaker.told l.fn.maker;
   planned : IfSome (g.M.PageMaker.told l.fn.maker).plan (λ plan. NoneListed plan l.slot);
 }

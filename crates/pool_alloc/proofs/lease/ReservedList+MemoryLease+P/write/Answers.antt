@@ -1,11 +1,9 @@
-use Rattle.std.proofs.Common.{◌≡◌, ◌<◌, ℕ, List, length, refl, sym, ap, ◌∙◌, subst, arith}
+use Rattle.std.proofs.Common.{◌≡◌, ◌<◌, List, length, ap, ◌∙◌, subst}
 use Rattle.std.specs.Prelude.{slice_index_or, slice_set}
-use Rattle.std.specs.List.{HoldsAt}
 use Rattle.std.proofs.lemmas.List.{get_or_read, set-get_or}
 use Rattle.std.proofs.lemmas.Result.{on_ok_weaker, on_err_weaker}
 use Rattle.pool_memory.specs.Memories.{MemoryState, memory_written}
 use Rattle.pool_alloc.specs.Leases.{Lease, IsMemory}
-use Rattle.pool_alloc.specs.Reserved.{Reserved}
 use Rattle.pool_alloc.proofs.lease.ReservedList+MemoryLease+P.write.Goals as goal
 
 pub returns-clause-written : goal.returns-clause-written

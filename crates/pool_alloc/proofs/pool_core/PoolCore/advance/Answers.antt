@@ -1,7 +1,7 @@
 use Rattle.std.proofs.Common.{refl, sym, ◌∙◌}
 use Rattle.pool_alloc.specs.Steps.{nothing_told}
-use Rattle.pool_alloc.specs.declared.frame.Phase.TheVariants.{Idle, Key, Validate, CountInstance, Pick, TakeQueue, TakeRegion, Empty, Instantiate, MakeMemory, CountMemory, PutRefused, FreeRefused, UncountMemory, Reset, Merge, Decommit, PutRegion, Free, UncountInstance}
-use Rattle.pool_alloc.proofs.Advancing.{by_row, idle_row, validate_reads, pick_reads, take_region_reads, make_memory_reads, uncount_memory_reads, put_region_reads, free_reads}
+use Rattle.pool_alloc.specs.declared.frame.Phase.TheVariants.{Idle, Key, Validate, CountInstance, Pick, TakeQueue, TakeRegion, Empty, Instantiate, MakeMemory, CountMemory, PutUnknown, FreeUnknown, UncountMemory, Reset, Merge, Decommit, PutRegion, Free, UncountInstance}
+use Rattle.pool_alloc.proofs.Advancing.{by_row, idle_row, validate_reads, pick_reads, take_region_reads, make_memory_reads, free_unknown_reads, uncount_memory_reads, put_region_reads, free_reads}
 use Rattle.pool_alloc.proofs.pool_core.PoolCore.advance.Goals as goal
 
 pub returns-in-Idle : goal.returns-in-Idle
@@ -22,7 +22,7 @@ pub returns-in-MakeMemory : goal.returns-in-MakeMemory
 returns-in-MakeMemory g c = by_row _ _ (record nothing_told { limiter = c.make_memory.ensures.0 }) (MakeMemory c.in-MakeMemory.slot c.in-MakeMemory.held) c.args.self.now c.args.frame.now _ (sym c.replace.ensures.value ∙ c.in-MakeMemory.is) tt tt c.make_memory.ensures.1 (c.make_memory.ensures.2 ∙ make_memory_reads c.replace.new.dest c.make_memory.ensures.0 c.in-MakeMemory.slot c.in-MakeMemory.held c.args.self.now c.args.frame.now)
 
 pub returns-in-Reset : goal.returns-in-Reset
-returns-in-Reset g c = by_row _ _ nothing_told (Reset c.in-Reset.lease) c.args.self.now c.args.frame.now _ (sym c.replace.ensures.value ∙ c.in-Reset.is) c.reset.ensures.leaves tt refl c.reset.ensures.row
+returns-in-Reset g c = by_row _ _ (record nothing_told { fault = c.reset.ensures.0; slot = c.reset.ensures.1 }) (Reset c.in-Reset.lease) c.args.self.now c.args.frame.now _ (sym c.replace.ensures.value ∙ c.in-Reset.is) c.reset.ensures.2 c.reset.ensures.3 refl c.reset.ensures.4
 
 pub returns-in-Decommit : goal.returns-in-Decommit
 returns-in-Decommit g c = by_row _ _ (record nothing_told { fault = c.decommit.ensures.0; queue = c.decommit.ensures.1 }) (Decommit c.in-Decommit.after) c.args.self.now c.args.frame.now _ (sym c.replace.ensures.value ∙ c.in-Decommit.is) c.decommit.ensures.2 c.decommit.ensures.3 refl c.decommit.ensures.4
@@ -45,11 +45,11 @@ returns-in-TakeRegion g c = by_row _ _ nothing_told (TakeRegion c.in-TakeRegion.
 pub returns-in-CountMemory : goal.returns-in-CountMemory
 returns-in-CountMemory g c = by_row _ _ nothing_told (CountMemory c.in-CountMemory.lease) c.args.self.now c.args.frame.now _ (sym c.replace.ensures.value ∙ c.in-CountMemory.is) tt tt refl c.count_memory.ensures
 
-pub returns-in-PutRefused : goal.returns-in-PutRefused
-returns-in-PutRefused g c = by_row _ _ nothing_told (PutRefused c.in-PutRefused.slot c.in-PutRefused.held c.in-PutRefused.error) c.args.self.now c.args.frame.now _ (sym c.replace.ensures.value ∙ c.in-PutRefused.is) tt tt refl c.put_refused.ensures
+pub returns-in-PutUnknown : goal.returns-in-PutUnknown
+returns-in-PutUnknown g c = by_row _ _ nothing_told (PutUnknown c.in-PutUnknown.slot c.in-PutUnknown.held c.in-PutUnknown.after) c.args.self.now c.args.frame.now _ (sym c.replace.ensures.value ∙ c.in-PutUnknown.is) tt tt refl c.put_unknown.ensures
 
-pub returns-in-FreeRefused : goal.returns-in-FreeRefused
-returns-in-FreeRefused g c = by_row _ _ nothing_told (FreeRefused c.in-FreeRefused.slot c.in-FreeRefused.error) c.args.self.now c.args.frame.now _ (sym c.replace.ensures.value ∙ c.in-FreeRefused.is) tt tt refl c.free_refused.ensures
+pub returns-in-FreeUnknown : goal.returns-in-FreeUnknown
+returns-in-FreeUnknown g c = by_row _ _ nothing_told (FreeUnknown c.in-FreeUnknown.slot c.in-FreeUnknown.after) c.args.self.now c.args.frame.now _ (sym c.replace.ensures.value ∙ c.in-FreeUnknown.is) tt tt refl (c.free_unknown.ensures ∙ free_unknown_reads c.replace.new.dest c.in-FreeUnknown.slot c.in-FreeUnknown.after c.args.self.now c.args.frame.now)
 
 pub returns-in-UncountMemory : goal.returns-in-UncountMemory
 returns-in-UncountMemory g c = by_row _ _ nothing_told UncountMemory c.args.self.now c.args.frame.now _ (sym c.replace.ensures.value ∙ c.in-UncountMemory.is) tt tt refl (c.uncount_memory.ensures ∙ uncount_memory_reads c.replace.new.dest c.args.self.now c.args.frame.now)

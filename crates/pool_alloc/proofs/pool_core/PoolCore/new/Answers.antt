@@ -1,5 +1,6 @@
 use Rattle.std.proofs.Common.{◌≡◌, ℕ, ◌*◌, List, [], ◌∷◌, length, refl, sym, ap, subst, ◌∙◌}
 use Rattle.pool_pages.specs.Count.{IsPageSize}
+use Rattle.pool_pages.specs.declared.pages.DecommitBehavior.{DecommitBehavior}
 use Rattle.pool_slots.specs.Cells.{Cell, unmapped, region_made}
 use Rattle.pool_slots.specs.Queues.{empty_queue}
 use Rattle.pool_slots.proofs.Fresh.{cells_made}
@@ -17,13 +18,14 @@ returns-clause-made g c =
     let total : ℕ = config.limits.total_memories in
     let made = c.in_ok-cells.ensures.cells in
     record {
-      settings = c.settings_of-settings.ensures ∙ ap (λ (n : ℕ). settings_of n config c.args.tunables.now) c.page-page.ensures;
+      settings = c.settings_of-settings.ensures ∙ ap (λ (n : ℕ). settings_of n config c.args.tunables.now c.args.offered.now) c.page-page.ensures;
       shards = c.in_ok-shards.ensures.made;
       cells = record {
         number = ap length c.new.ensures ∙ made.count;
         each = λ i below.
-            let C : List Cell → Type 0 = λ xs. cell_at i xs ≡ unmapped (region_made (g.M.PageMaker.told c.args.maker.now) settings.max_memory_size i) in
-            subst C (sym c.new.ensures) (cells_made (g.M.PageMaker.told c.args.maker.now) c.page-page.result settings.max_memory_size total c.rounded_up_unchecked-len.result c.in_ok-cells.cells.items c.page-page.ensures c.rounded_up_unchecked-len.ensures made i below);
+            let C : DecommitBehavior → List Cell → Type 0 = λ b xs. cell_at i xs ≡ unmapped (region_made (g.M.PageMaker.told c.args.maker.now) b settings.max_memory_size i) in
+            let behaves : settings.behaviour ≡ c.args.offered.now.behaviour = ap (λ (s : Settings). s.behaviour) c.settings_of-settings.ensures in
+            subst (C settings.behaviour) (sym c.new.ensures) (subst (λ (b : DecommitBehavior). C b c.in_ok-cells.cells.items) (sym behaves) (cells_made (g.M.PageMaker.told c.args.maker.now) c.args.offered.now.behaviour c.page-page.result settings.max_memory_size total c.rounded_up_unchecked-len.result c.in_ok-cells.cells.items c.page-page.ensures c.rounded_up_unchecked-len.ensures made i below));
       };
       queues = c.in_ok-queues.ensures.made ∙ ap (λ (n : ℕ). empty_queue (2 * n) (2 * n) ∷ []) batch;
       counters = refl;
@@ -32,7 +34,7 @@ returns-clause-made g c =
 pub returns-clause-core : goal.returns-clause-core
 returns-clause-core g c =
     let paged : IsPageSize (g.M.PageMaker.told c.args.maker.now).page = rw c.page-page.ensures at c.get-bytes.ensures.valid in
-    made_core (g.M.PageMaker.told c.args.maker.now) c.args.config.now c.args.tunables.now _ paged c.requires.within c.requires.size c.in_ok-shards.ensures.sound (returns-clause-made g c)
+    made_core (g.M.PageMaker.told c.args.maker.now) c.args.config.now c.args.tunables.now c.args.offered.now _ paged c.requires.within c.requires.size c.in_ok-shards.ensures.sound (returns-clause-made g c)
 
 pub returns-clause-untouched : goal.returns-clause-untouched
-returns-clause-untouched g c = made_untouched (g.M.PageMaker.told c.args.maker.now) c.args.config.now c.args.tunables.now _ (returns-clause-made g c)
+returns-clause-untouched g c = made_untouched (g.M.PageMaker.told c.args.maker.now) c.args.config.now c.args.tunables.now c.args.offered.now _ (returns-clause-made g c)

@@ -1,4 +1,4 @@
-use Rattle.std.proofs.Common.{◌+◌, ◌≤◌, Option, Bor, length, true, sym, ap, subst}
+use Rattle.std.proofs.Common.{◌+◌, ◌≤◌, Option, Bor, length, true, sym, subst}
 use Rattle.std.specs.Prelude.{option_map}
 use Rattle.pool_images.specs.Images.{Image}
 use Rattle.pool_images.specs.Slots.{Slot, IsBegun}
@@ -11,6 +11,5 @@ returns-clause-begun g c =
     let value : Bor Image → Image = λ i. i.now in
     let image : Option Image = option_map value c.args._image in
     let P : Slot → Type 0 = λ t. IsBegun image t in
-    let new = ap (λ (t : Slot). record t { dirty = true }) c.self.view_is in
     let inside = if_mapped value (λ i. i.offset + length i.bytes ≤ s.static_size) c.args._image c.requires.inside in
-    subst P (sym new) (begun s image c.fits.ensures c.requires.clean inside c.requires.has)
+    subst P (sym {b = record s { dirty = true }} c.mark.ensures) (begun s image c.fits.ensures c.requires.clean inside c.requires.has)

@@ -19,5 +19,5 @@ returns-clause-order g c =
     let s : Slot = c.args.self.now in
     let value : Bor Image → Image = λ i. i.now in
     let F : Told → Type 0 = λ t. Follows (replacing c.args.size.bytes c.args.hides (option_map value c.args.image) s) true s.region t in
-    subst F (sym (ap (λ (t : Slot). t.region) c.begin.ensures.value))
+    subst F (sym (ap (λ (t : Slot). t.region) c.mark.ensures))
     (replaced_in_order c.args.size.bytes c.args.hides (option_map value c.args.image) true s c.remove_image.new.self c.resize.new.self c.map.new.self.region c.in_ok-remove_image.ensures.ok c.in_ok-resize.ensures.ok c.in_ok-remove_image.ensures.order c.in_ok-resize.ensures.order c.in_ok-map.ensures.order)

@@ -3,7 +3,7 @@ use Rattle.std.specs.Prelude.{All}
 use Rattle.pool_images.specs.declared.ranges.ByteRange.{ByteRange}
 use Rattle.pool_images.specs.Slots.{Slot, IsClean, IsPart, size_of, cleared, reset_ranges, decommitted_all}
 use Rattle.pool_images.proofs.Resets.{reset_clean, kept_clean, reset_parts}
-use Rattle.pool_images.proofs.image_slot.MemoryImageSlot.clear_and_remain_ready.Goals as goal
+use Rattle.pool_images.proofs.image_slot.MemoryImageSlot.reset_by_hand.Goals as goal
 
 pub returns-clause-parts : goal.returns-clause-parts
 returns-clause-parts g c =
@@ -29,7 +29,7 @@ returns-clause-clean_after g c =
     let kept : c.min-kept.result ≡ min n v.accessible.bytes = c.min-kept.ensures ∙ ap (λ k. min k c.byte_count-accessible.result) keep ∙ ap (λ k. min n k) all in
     let new : c.clear.new.self ≡ cleared (min n v.accessible.bytes) v = c.clear.ensures.value ∙ ap (λ k. cleared k v) kept in
     let P : List ByteRange → Slot → Type 0 = λ l t. IsClean (decommitted_all l t) in
-    let clean : P (reset_ranges n v.accessible.bytes) (cleared (min n v.accessible.bytes) v) = reset_clean v n c.fits.ensures c.requires.ready in
+    let clean : P (reset_ranges n v.accessible.bytes) (cleared (min n v.accessible.bytes) v) = reset_clean v n c.requires.restores c.fits.ensures c.requires.ready in
     subst (λ l. P l c.clear.new.self) (sym made) (subst (λ t. P (reset_ranges n v.accessible.bytes) t) (sym new) clean)
 
 pub returns-clause-clean : goal.returns-clause-clean
@@ -42,4 +42,4 @@ returns-clause-clean g c from =
     let kept : c.min-kept.result ≡ min n v.accessible.bytes = c.min-kept.ensures ∙ ap (λ k. min k c.byte_count-accessible.result) keep ∙ ap (λ k. min n k) all in
     let new : c.clear.new.self ≡ cleared (min n v.accessible.bytes) v = c.clear.ensures.value ∙ ap (λ k. cleared k v) kept in
     let P : Slot → Type 0 = λ t. IsClean t in
-    subst P (sym new) (kept_clean v n from (reset_clean v n c.fits.ensures c.requires.ready))
+    subst P (sym new) (kept_clean v n from (reset_clean v n c.requires.restores c.fits.ensures c.requires.ready))
