@@ -3,7 +3,6 @@ use Rattle.std.proofs.Common.{◌≡◌, ℕ, ◌+◌, ◌<◌, ◌≤◌, Bool,
 use Rattle.std.specs.Prelude.{◌==◌, if◌then◌else◌, IfSome, IsSome, option_map, replicate, slice_get, slice_set, slice_index_or}
 use Rattle.std.proofs.lemmas.List.{map-set}
 use Rattle.std.proofs.lemmas.Option.{slice_get-map, slice_get_within}
-use Rattle.pool_limits.specs.Growth.{always}
 use Rattle.pool_memory.specs.Memories.{MemoryState}
 use Rattle.pool_slots.specs.declared.request.AllocError.TheVariants as alloc
 use Rattle.pool_alloc.specs.Leases.{Lease}
@@ -20,7 +19,6 @@ use Rattle.pool_alloc.specs.declared.lease.InstanceLease.{InstanceLease}
 use Rattle.pool_alloc.specs.declared.frame.Grant.TheVariants.{Instance as instance}
 use Rattle.pool_alloc.specs.declared.frame.Phase.{Phase}
 use Rattle.pool_alloc.specs.declared.frame.Phase.TheVariants.{Idle, Key, Validate, CountInstance, Pick, TakeQueue, TakeRegion, Empty, Instantiate, MakeMemory, CountMemory, PutRefused, FreeRefused, UncountMemory, Reset, Merge, Decommit, PutRegion, Free, UncountInstance}
-use Rattle.pool_alloc.proofs.BegunCalls.{at_rest}
 use Rattle.pool_run.specs.Searches.{IsAlone}
 use Rattle.pool_run.specs.Private.{World, PrivateMemory, PrivateInstance, Grants, grant_at, PrivateStep, IsRead, IsSize, Writes, Grows, LooksAtMemory, LooksAt as SeesLook, MovesMemory, MovesIn as SeesMove, Drops, with_memory}
 use Rattle.pool_run.specs.Turns.{Turned, with_reply, seen_as, private_memory, MemoryWrites, MemoryGrows, private_grant, grants_of, replies, Returns, LooksAtLease, LooksAt, with_lease, MovesLease, MovesIn, Asks, Begins, BeginsKeyed, TurnsAt, Turns}
@@ -33,7 +31,7 @@ use Rattle.pool_run.specs.declared.reply.Reply.TheVariants.{Refused}
 use Rattle.pool_run.specs.declared.reply.Refusal.TheVariants.{NoSuchGrant, Alloc}
 use Rattle.pool_run.specs.declared.running_party.RunningParty.{RunningParty}
 use Rattle.pool_run.proofs.Grants.{grants_set, told_at}
-use Rattle.pool_run.proofs.NewMemories.{begun_none}
+use Rattle.pool_run.proofs.Causes.{memory_cause}
 use Rattle.pool_run.proofs.Moves.{IsSeen, writes_seen, grows_seen}
 use Rattle.pool_run.proofs.Sounds.{lease_there}
 use Rattle.pool_run.proofs.Parties.{live_grant, called_key, called_module, called_back, called_alone, returned_searched, brings_key, brings_module, brings_grant}
@@ -160,7 +158,7 @@ module _ {P : Type 0} (w : World) (start : Grants) (commands : List Command) (be
   asks_seen number None t for asks next room = absurd asks
   asks_seen number (Some kept) t for asks next room =
       elim asks [
-        | inl is ↦ replies_at_once (command.Instantiate number) (Refused (Alloc alloc.Memory)) t next (tt, told_now) is
+        | inl is ↦ replies_at_once (command.Instantiate number) (Refused (Alloc alloc.Memory)) t next (memory_cause w number private.grants, told_now) is
         | inr steps ↦
             let m : ModuleCall = steps.0 in
             let call_for : IsCallFor w c.settings number m = share_for w c.settings number kept m steps.1 for in
@@ -169,7 +167,7 @@ module _ {P : Type 0} (w : World) (start : Grants) (commands : List Command) (be
               grants = private.grants;
               run = private.run;
               count = private.count;
-              tied = (told_now, record { number = number; command = next; asked_for = call_for.asked; new = begun_none w number p.frame.granted.items (at_rest w.maker c p.frame can.party.sound.frame idle).none_granted }, tt);
+              tied = (told_now, record { number = number; command = next; asked_for = call_for.asked });
             })
             world (called_module w.maker m c p can idle call_for.images call_for.places room) (λ e. called_alone w.maker (call.Module m) p.live c p can.party.sound.frame (idle, call_for.images, call_for.places) (brings_module m p.live) tt (alone e)) steps.2
       ]
@@ -179,7 +177,7 @@ module _ {P : Type 0} (w : World) (start : Grants) (commands : List Command) (be
   begins_seen modules (command.Read of k i len) t calls begins next room = looks_seen (command.Read of k i len) (λ m. IsRead m i len) of k (slice_index_or p.live of None) t refl begins (λ reply step. step) next
   begins_seen modules (command.Write of k i bytes) t calls begins next room = moves_seen (command.Write of k i bytes) (MemoryWrites i bytes) (Writes i bytes) of k (slice_index_or p.live of None) t (writes_seen w c.settings i bytes) refl begins (λ reply new step. step) next
   begins_seen modules (command.Fill of k i len byte) t calls begins next room = moves_seen (command.Fill of k i len byte) (MemoryWrites i (replicate len byte)) (Writes i (replicate len byte)) of k (slice_index_or p.live of None) t (writes_seen w c.settings i (replicate len byte)) refl begins (λ reply new step. step) next
-  begins_seen modules (command.Grow of k pages) t calls begins next room = moves_seen (command.Grow of k pages) (MemoryGrows pages) (Grows w always pages) of k (slice_index_or p.live of None) t (grows_seen w c.settings pages) refl begins (λ reply new step. step) next
+  begins_seen modules (command.Grow of k pages) t calls begins next room = moves_seen (command.Grow of k pages) (MemoryGrows pages) (Grows w pages) of k (slice_index_or p.live of None) t (grows_seen w c.settings pages world.rule) refl begins (λ reply new step. step) next
   begins_seen modules (command.Size of k) t calls begins next room = looks_seen (command.Size of k) IsSize of k (slice_index_or p.live of None) t refl begins (λ reply step. step) next
   begins_seen modules (command.Drop of) t calls begins next room = returns_seen of (slice_index_or p.live of None) t refl begins next
 

@@ -110,7 +110,7 @@ module _ {P : Type 0} where
 
   pub made_under_way : (input : Input) (maker : MakerTold) (c : PoolCore P) (modules : List ModuleCall) → is_built input ≡ true → IsMadeCore maker input.config default_tunables c → IsCore maker c → IsUntouched c → AreMadeCalls maker.page input.modules modules → IsUnderWay (world_of input maker) modules (commands_in input.parties) (run_made c input.parties)
   made_under_way input maker c modules built made core untouched calls =
-      under_way input maker c modules core untouched (is_world input maker c built core made) (calls_there input maker c modules built core calls)
+      under_way input maker c modules core untouched (is_world input maker c made) (calls_there input maker c modules built core calls)
 
   pub made_count : (c : PoolCore P) (parties : List Party) → length (run_made c parties).parties ≡ length parties
   made_count c parties = length-map parties (party_made_for {P = P} c.settings)

@@ -228,10 +228,10 @@ grown_as maker room pages rule l new asked left answer of fixed told growth =
 pub grows_stay : (maker : MakerTold) (s : Settings) (pages : ℕ) → KeepsSlot maker s (MemoryGrows pages)
 grows_stay maker s pages l new reply of is = (grown_as maker s.max_memory_size pages always l new unlimited unlimited is.0 of.slot of.memory.fixed refl is.1).still
 
-pub grows_seen : (w : World) (s : Settings) (pages : ℕ) → IsSeen w s (MemoryGrows pages) (Grows w always pages)
-grows_seen w s pages l new reply of is =
-    let grown = grown_as w.maker s.max_memory_size pages always l new unlimited unlimited is.0 of.slot of.memory.fixed refl is.1 in
-    let M : Reply → Type 0 = λ r. Grows w always pages (private_memory l) (seen_as l.index new) r in
+pub grows_seen : (w : World) (s : Settings) (pages : ℕ) → w.rule ≡ always → IsSeen w s (MemoryGrows pages) (Grows w pages)
+grows_seen w s pages free l new reply of is =
+    let grown = grown_as w.maker s.max_memory_size pages w.rule l new unlimited unlimited is.0 of.slot of.memory.fixed (ap (λ (r : GrowthRule). Some r) (sym free)) is.1 in
+    let M : Reply → Type 0 = λ r. Grows w pages (private_memory l) (seen_as l.index new) r in
     subst M (sym is.2) (grown.fault, grown.may, grown.is)
 
 -- what a turn leaves that begins with such a command

@@ -20,11 +20,10 @@ use Rattle.pool_pages.specs.declared.module_types.ModuleInfo.{ModuleInfo}
 use Rattle.pool_images.specs.Images.{Image, image_of, images_from, padded, ends_in_minimum}
 use Rattle.pool_images.specs.Slots.{FitsInto}
 use Rattle.pool_images.proofs.Begun.{rounded_up_above}
-use Rattle.pool_alloc.specs.Made.{IsMadeCore, settings_of}
+use Rattle.pool_alloc.specs.Made.{IsMadeCore}
 use Rattle.pool_alloc.specs.Modules.{HasImages}
-use Rattle.pool_alloc.specs.Sound.{IsCore, AreImagesOf}
+use Rattle.pool_alloc.specs.Sound.{AreImagesOf}
 use Rattle.pool_alloc.specs.Steps.{images_made, images_asked, memories_asked}
-use Rattle.pool_alloc.specs.Refusals.{memories_refused}
 use Rattle.pool_alloc.specs.declared.pool_core.PoolCore.{PoolCore}
 use Rattle.pool_alloc.specs.declared.pool_core.Settings.{Settings}
 use Rattle.pool_alloc.specs.declared.frame.ModuleCall.{ModuleCall}
@@ -33,9 +32,9 @@ use Rattle.pool_run.specs.Made.{images_of_module, IsMadeCall, AreMadeCalls}
 use Rattle.pool_run.specs.Private.{World, memories_of, image_at}
 use Rattle.pool_run.specs.Runs.{world_of}
 use Rattle.pool_run.specs.Ties.{IsAskedFor}
-use Rattle.pool_run.specs.Worlds.{IsMadeReady, IsWorldOf, IsCallFor, AreCallsFor}
+use Rattle.pool_run.specs.Worlds.{IsWorldOf, IsCallFor, AreCallsFor}
 use Rattle.pool_run.specs.declared.input.Input.{Input}
-use Rattle.pool_run.proofs.BuiltInputs.{IsBuiltMemory, built_memory, takes, memory_is_made}
+use Rattle.pool_run.proofs.BuiltInputs.{IsBuiltMemory, built_memory}
 use Rattle.pool_run.proofs.Tests.{first, second, of_all}
 
 -- what holds of the element at a place, whichever that is, holds if there is one
@@ -69,33 +68,10 @@ pub record AreBuilt (decls : List MemoryDecl) : Type 0 where
 of_module : (m : ModuleInfo) → is_built_module m ≡ true → AreBuilt m.memories
 of_module m built = record { few = omega (arith, eqb-true _ _ (first (length m.memories == 1) _ built)); all = second (length m.memories == 1) _ built }
 
-of_number : (modules : List ModuleInfo) (number : ℕ) (o : Option ModuleInfo) → slice_get modules number ≡ o → list_all is_built_module modules ≡ true → AreBuilt (option_map_or (λ m. m.memories) o [])
-of_number modules number None at built = record { few = omega arith; all = refl }
-of_number modules number (Some m) at built = of_module m (of_all is_built_module modules number m built at)
-
 module _ {P : Type 0} where
-  -- The pool as it is made has the sizes of the world, and takes its modules.
-  pub is_world : (input : Input) (maker : MakerTold) (c : PoolCore P) → is_built input ≡ true → IsCore maker c → IsMadeCore maker input.config default_tunables c → IsWorldOf (world_of input maker) c
-  is_world input maker c built core made =
-      let w : World = world_of input maker in
-      let is : IsBuilt input = built_input input built in
-      let same : ℕ → ℕ = λ n. n in
-      let size : c.settings.max_memory_size ≡ rounded_up maker.page input.config.limits.max_memory_size = ap (λ (s : Settings). s.max_memory_size) made.settings in
-      let page : c.settings.page ≡ maker.page = ap (λ (s : Settings). s.page) made.settings in
-      let above : input.config.limits.max_memory_size ≤ rounded_up maker.page input.config.limits.max_memory_size = rounded_up_above maker.page input.config.limits.max_memory_size (omega (arith, page, core.settings.page.at_least)) in
-      let room : 65536 ≤ c.settings.max_memory_size = omega (arith, size, above, is.size) in
-      let most : c.settings.max_memories_per_module ≡ input.config.limits.max_memories_per_module = ap (λ (s : Settings). s.max_memories_per_module) made.settings in
-      let decls : (number : ℕ) → AreBuilt (memories_of w number) = λ number. of_number input.modules number (slice_get input.modules number) refl is.modules in
-      record {
-        settings = sym made.settings;
-        total = sym made.cells.number;
-        most_instances = sym (ap (λ (s : Settings). s.max_core_instances) made.settings);
-        stripes = ap (λ (s : Settings). s.stripes) made.settings;
-        supported = λ number. takes c.settings (memories_of w number) room (omega (arith, (decls number).few, most, is.memories)) (decls number).all;
-        makes = λ number k.
-            if_some (slice_get (memories_of w number) k) (IsMadeReady w c.settings number k)
-            (λ d there slot held of begun. memory_is_made c.settings (memories_of w number) k d held room there (built_memory d (of_all is_built_memory (memories_of w number) k d (decls number).all there)));
-      }
+  -- The pool as it is made has the sizes of the world.
+  pub is_world : (input : Input) (maker : MakerTold) (c : PoolCore P) → IsMadeCore maker input.config default_tunables c → IsWorldOf (world_of input maker) c
+  is_world input maker c made = record { settings = sym made.settings; total = sym made.cells.number; most_instances = refl; stripes = refl; rule = refl }
 
 -- the image of a module's memory, among those of the module
 image_from : (id : CompiledModuleId) (page n : ℕ) (decls : List MemoryDecl) (k : ℕ) (d : MemoryDecl) → slice_get decls k ≡ Some d → slice_index_or (images_from id page n decls) k None ≡ option_map (image_of id page (n + k)) d.image

@@ -1,5 +1,5 @@
 -- What a party may see: its grants as private lists of bytes, which its commands read and write, and no pool.
-use Rattle.std.specs.Prelude.{◌≡◌, ◌≢◌, ℕ, ◌+◌, ◌-◌, ◌*◌, ◌^◌, ◌<◌, ◌≤◌, ◌==◌, ◌||◌, List, [], ◌∷◌, ◌++◌, length, sum_by, slice_get, slice_index_or, slice_range, slice_set, All, replicate, min, ◌⊎◌, Bool, true, false, not, nat_lt, if◌then◌else◌, Option, Some, None, IfSome, option_map, Result, Ok, Err}
+use Rattle.std.specs.Prelude.{◌≡◌, ◌≢◌, ℕ, ◌+◌, ◌-◌, ◌*◌, ◌^◌, ◌<◌, ◌≤◌, ◌==◌, ◌||◌, List, [], ◌∷◌, ◌++◌, length, sum_by, slice_get, slice_index_or, slice_range, slice_set, All, replicate, min, ◌⊎◌, Bool, true, false, not, nat_lt, if◌then◌else◌, Option, Some, None, IfSome, is_some, option_map, Result, Ok, Err}
 use Rattle.std.specs.Option.{option_map_or}
 use Rattle.std.specs.List.{list_all}
 use Rattle.pool_pages.specs.Contents.{put}
@@ -9,16 +9,21 @@ use Rattle.pool_pages.specs.declared.pages.RegionName.TheVariants.{Memory as mem
 use Rattle.pool_pages.specs.declared.module_types.MemoryDecl.{MemoryDecl}
 use Rattle.pool_pages.specs.declared.module_types.ModuleInfo.{ModuleInfo}
 use Rattle.pool_pages.specs.declared.module_types.MemoryType.{MemoryType}
-use Rattle.pool_limits.specs.Growth.{GrowthRule, always, memory_answer, memory_failure}
+use Rattle.pool_pages.specs.declared.unsupported.Unsupported.{Unsupported}
+use Rattle.pool_limits.specs.Growth.{GrowthRule, memory_answer, memory_failure}
 use Rattle.pool_limits.specs.declared.errors.LimiterError.{LimiterError}
 use Rattle.pool_limits.specs.declared.errors.Trap.TheVariants.{MemoryOutOfBounds}
 use Rattle.pool_images.specs.Images.{Image, image_of, start, ends_in_minimum}
 use Rattle.pool_memory.specs.Growing.{exceeds}
-use Rattle.pool_memory.specs.Making.{maximum_asked}
+use Rattle.pool_memory.specs.Making.{minimum_asked, maximum_asked, limits_answer}
 use Rattle.pool_memory.specs.Static.{capacity_of}
+use Rattle.pool_memory.specs.declared.memory_error.MemoryError.{MemoryError}
+use Rattle.pool_slots.specs.declared.request.AllocError.{AllocError}
 use Rattle.pool_slots.specs.declared.request.AllocError.TheVariants as alloc
 use Rattle.pool_slots.specs.declared.request.ConcurrencyKind.TheVariants.{MemoryStripe, CoreInstances}
 use Rattle.pool_slots.specs.declared.request.PoolConcurrencyLimitError.{PoolConcurrencyLimitError}
+use Rattle.pool_alloc.specs.Own.{refusal_of}
+use Rattle.pool_alloc.specs.Refusals.{memories_refused}
 use Rattle.pool_alloc.specs.declared.pool_core.Settings.{Settings}
 use Rattle.pool_run.specs.declared.command.Command.{Command}
 use Rattle.pool_run.specs.declared.command.Command.TheVariants.{Instantiate, Read, Write, Fill, Grow, Size as ask_size, Drop}
@@ -65,13 +70,15 @@ abbrev pub instance_count : Grants → ℕ
 instance_count grants = sum_by instances_in grants
 
 -- what is the same for the whole run: whether pages are told, the page of their maker and its plan, the modules, the
--- pool's settings, how many slots and how many instances there may be, and whether there is one party alone
+-- pool's settings, how many slots and how many instances there may be, how the party's limiter decides growth, and
+-- whether there is one party alone
 pub record World : Type 0 where
   pub maker : MakerTold
   pub modules : List ModuleInfo
   pub settings : Settings
   pub total : ℕ
   pub most_instances : ℕ
+  pub rule : GrowthRule
   pub alone : Bool
 
 -- the memories that the module of this number defines
@@ -112,28 +119,64 @@ MayFault w slot = IfSome (plan_for (memory_region slot) w.maker) (λ plan. 0 < l
 abbrev pub SomeMayFault : World → Type 0
 SomeMayFault w = (i : ℕ) × (i < w.total) × MayFault w i
 
+-- the refusal in an answer, if it is one
+abbrev pub refused_by : {X : Type 0} → Result X MemoryError → Option AllocError
+refused_by (Ok x) = None
+refused_by (Err e) = Some (refusal_of e)
+
+-- A memory's own refusal, whatever slot it gets: the limiter is asked for its minimum first, then a minimum is refused
+-- that no size can be.
+abbrev pub own_refusal : GrowthRule → MemoryType → Option AllocError
+own_refusal rule ty = refused_by (limits_answer (memory_answer (Some rule) (Ok true) (minimum_asked ty) (maximum_asked ty)) ty)
+
+-- that of the first memory which has one
+abbrev pub first_refusal : GrowthRule → List MemoryDecl → Option AllocError
+first_refusal rule [] = None
+first_refusal rule (decl ∷ decls) = if is_some (own_refusal rule decl.ty) then own_refusal rule decl.ty else first_refusal rule decls
+
+-- for how many memories a slot is taken: up to that one
+abbrev pub slots_asked : GrowthRule → List MemoryDecl → ℕ
+slots_asked rule [] = 0
+slots_asked rule (decl ∷ decls) = 1 + (if is_some (own_refusal rule decl.ty) then 0 else slots_asked rule decls)
+
 -- A refusal for room of a request for the module of this number: no slot is free for one of its memories, or as many
 -- instances are granted as there may be. A party that is alone has all these itself.
 abbrev pub IsLimit : World → ℕ → Grants → PoolConcurrencyLimitError → Type 0
 IsLimit w number grants e =
-    ((e ≡ record { limit = w.total; kind = MemoryStripe 0 }) × (w.alone ≡ true → w.total < live_count grants + length (memories_of w number)))
+    ((e ≡ record { limit = w.total; kind = MemoryStripe 0 }) × (w.alone ≡ true → w.total < live_count grants + slots_asked w.rule (memories_of w number)))
     ⊎ ((e ≡ record { limit = w.most_instances; kind = CoreInstances }) × (w.alone ≡ true → w.most_instances ≤ instance_count grants))
 
--- why such a request is refused; a call on pages fails only on those of a slot that is free
+-- a refusal that comes from elsewhere: for want of memory, for room, or by a call on pages, which fails only on those of
+-- a slot that is free
+abbrev pub IsGiven : World → ℕ → Grants → AllocError → Type 0
+IsGiven w number grants (alloc.Memory) = Unit {0}
+IsGiven w number grants (alloc.Limit e) = IsLimit w number grants e
+IsGiven w number grants (alloc.PageFault) = SomeMayFault w × (live_count grants < w.total)
+IsGiven w number grants _ = ⊥
+
+-- Why such a request is refused: where the module breaks a rule of the pool, for that, or for want of memory; otherwise
+-- with the first own refusal of its memories, or with one that is given.
+abbrev pub IsRefused : Option Unsupported → World → ℕ → Grants → AllocError → Type 0
+IsRefused (Some rule) w number grants e = (e ≡ alloc.Unsupported rule) ⊎ (e ≡ alloc.Memory)
+IsRefused None w number grants e = (first_refusal w.rule (memories_of w number) ≡ Some e) ⊎ IsGiven w number grants e
+
+-- the first rule of the pool that the module of this number breaks
+abbrev pub rule_broken : World → ℕ → Option Unsupported
+rule_broken w number = memories_refused w.settings (memories_of w number)
+
 abbrev pub IsCause : World → ℕ → Grants → Refusal → Type 0
 IsCause w number grants NoSuchGrant = ⊥
-IsCause w number grants (Alloc (alloc.Memory)) = Unit {0}
-IsCause w number grants (Alloc (alloc.Limit e)) = IsLimit w number grants e
-IsCause w number grants (Alloc (alloc.PageFault)) = SomeMayFault w × (live_count grants < w.total)
-IsCause w number grants (Alloc _) = ⊥
+IsCause w number grants (Alloc e) = IsRefused (rule_broken w number) w number grants e
 
 -- no slot is named twice
 abbrev pub AllDiffer : List ℕ → Type 0
 AllDiffer slots = (i j : ℕ) → i < length slots → j < length slots → slice_index_or slots i 0 ≡ slice_index_or slots j 0 → i ≡ j
 
--- the memories of an instance that is granted: one for each of the module's, in slots of the pool that are free and
--- differ
+-- the memories of an instance that is granted: none is refused, and there is one for each of the module's, in slots of
+-- the pool that are free and differ
 pub record AreGranted (w : World) (number : ℕ) (grants : Grants) (slots : List ℕ) : Type 0 where
+  pub supported : rule_broken w number ≡ None
+  pub allowed : first_refusal w.rule (memories_of w number) ≡ None
   pub count : length slots ≡ length (memories_of w number)
   pub inside : All (λ slot. slot < w.total) slots
   pub free : All (λ slot. IsFree slot grants) slots
@@ -207,8 +250,8 @@ grown_by rule fault pages m =
     )
 
 -- a call on the pages fails only where their plan, if it is told, lists one
-abbrev pub Grows : World → GrowthRule → ℕ → PrivateMemory → PrivateMemory → Reply → Type 0
-Grows w rule pages m new reply = (fault : Bool) × (fault ≡ true → MayFault w m.slot) × ((new, reply) ≡ grown_by rule fault pages m)
+abbrev pub Grows : World → ℕ → PrivateMemory → PrivateMemory → Reply → Type 0
+Grows w pages m new reply = (fault : Bool) × (fault ≡ true → MayFault w m.slot) × ((new, reply) ≡ grown_by w.rule fault pages m)
 
 -- the grants with a memory of one of them changed
 abbrev pub with_memory : Grants → ℕ → PrivateInstance → ℕ → PrivateMemory → Grants
@@ -247,7 +290,7 @@ PrivateStep w n grants (Instantiate number) reply new = Instantiates w n number 
 PrivateStep w n grants (Read of memory at len) reply new = LooksAt (λ m. IsRead m at len) (grant_at grants of) grants memory reply new
 PrivateStep w n grants (Write of memory at bytes) reply new = MovesIn (Writes at bytes) (grant_at grants of) grants of memory reply new
 PrivateStep w n grants (Fill of memory at len byte) reply new = MovesIn (Writes at (replicate len byte)) (grant_at grants of) grants of memory reply new
-PrivateStep w n grants (Grow of memory pages) reply new = MovesIn (Grows w always pages) (grant_at grants of) grants of memory reply new
+PrivateStep w n grants (Grow of memory pages) reply new = MovesIn (Grows w pages) (grant_at grants of) grants of memory reply new
 PrivateStep w n grants (ask_size of memory) reply new = LooksAt IsSize (grant_at grants of) grants memory reply new
 PrivateStep w n grants (Drop of) reply new = Drops (grant_at grants of) grants of reply new
 

@@ -6,6 +6,7 @@ use Rattle.pool_pages.specs.MakerTold.{MakerTold, Planned}
 use Rattle.pool_pages.specs.Told.{Rose}
 use Rattle.pool_pages.specs.declared.module_types.ModuleInfo.{ModuleInfo}
 use Rattle.pool_pages.specs.declared.module_types.Tunables.{Tunables}
+use Rattle.pool_limits.specs.Growth.{always}
 use Rattle.pool_images.specs.Images.{makes_listed as makes_listed_images}
 use Rattle.pool_slots.specs.Makings.{makes_listed}
 use Rattle.pool_alloc.specs.Made.{IsMadeCore, settings_of}
@@ -33,6 +34,7 @@ world_of input maker = record {
   settings = settings_of maker.page input.config default_tunables;
   total = input.config.limits.total_memories;
   most_instances = input.config.limits.total_core_instances;
+  rule = always;
   alone = length input.parties == 1;
 }
 
