@@ -1,8 +1,7 @@
 -- A run of an input: the program's conditions follow from those of the input, and its end from its turns.
-use Rattle.std.proofs.Common.{◌≡◌, ℕ, ◌+◌, ◌*◌, ◌^◌, ◌<◌, ◌≤◌, zero, suc, List, [], ◌∷◌, ◌++◌, length, map, get_or, replicate, refl, sym, ap, ◌∙◌, subst, arith, Option, Some, None, Bool, true, false}
-use Rattle.std.specs.Prelude.{◌&&◌, ◌==◌, IfSome, slice_get, slice_index_or, sum_by, nat_lt, nat_le}
-use Rattle.std.specs.List.{list_all}
-use Rattle.std.proofs.lemmas.Bool.{eqb-true, leb-true, ltb-true}
+use Rattle.std.proofs.Common.{◌≡◌, ℕ, ◌+◌, ◌*◌, ◌^◌, ◌<◌, ◌≤◌, zero, suc, List, [], ◌∷◌, ◌++◌, length, map, get_or, replicate, sym, ap, ◌∙◌, subst, arith, Option, None, Bool, true, false}
+use Rattle.std.specs.Prelude.{slice_index_or}
+use Rattle.std.proofs.lemmas.Bool.{eqb-true, ltb-true}
 use Rattle.std.proofs.lemmas.List.{length-map, length-replicate}
 use Rattle.std.proofs.lemmas.List.Sums.{sum_by-cons}
 use Rattle.std.proofs.lemmas.Option.{slice_get-get_or}
@@ -18,14 +17,14 @@ use Rattle.pool_alloc.specs.declared.frame.ModuleCall.{ModuleCall}
 use Rattle.pool_alloc.specs.declared.pool_core.PoolCore.{PoolCore}
 use Rattle.pool_alloc.specs.declared.pool_core.Settings.{Settings}
 use Rattle.pool_run.specs.Built.{is_built}
-use Rattle.pool_run.specs.Folds.{RunState, Folds, Runs, IsUnderWay, commands_of, replies_to}
+use Rattle.pool_run.specs.Folds.{RunState, IsUnderWay, commands_of, replies_to}
 use Rattle.pool_run.specs.Made.{AreMadeCalls}
 use Rattle.pool_run.specs.Numbers.{calls_of_run}
 use Rattle.pool_run.specs.Private.{World}
 use Rattle.pool_run.specs.Runs.{Performs, IsToldBy, IsRun, world_of}
 use Rattle.pool_run.specs.RunsMade.{IsKept, commands_in, party_made, party_made_for, run_made, places_in}
 use Rattle.pool_run.specs.Schedules.{turns_of}
-use Rattle.pool_run.specs.Validity.{is_valid, is_valid_after, are_valid_after, is_valid_party, is_valid_schedule, most_commands}
+use Rattle.pool_run.specs.Validity.{is_valid, is_valid_after, are_valid_after, most_commands}
 use Rattle.pool_run.specs.Worlds.{IsWorldOf, AreCallsFor, NamesModule, NameModules}
 use Rattle.pool_run.specs.declared.command.Command.{Command}
 use Rattle.pool_run.specs.declared.command.Command.TheVariants.{Instantiate, Read, Write, Fill, Grow, Size, Drop}
@@ -41,7 +40,8 @@ use Rattle.pool_run.proofs.RunMade.{are_made}
 use Rattle.pool_run.proofs.Started.{run_started}
 use Rattle.pool_run.proofs.Tests.{first, second}
 use Rattle.pool_run.proofs.Valid.{valid_parties, valid_home, few_commands, valid_commands, valid_entry}
-use Rattle.pool_run.proofs.WorldsMade.{built_input, is_world, are_calls_for}
+use Rattle.pool_run.proofs.BuiltInputs.{built_modules}
+use Rattle.pool_run.proofs.WorldsMade.{is_world, are_calls_for}
 
 -- Each command names a module that there is.
 names : (modules : List ModuleInfo) (earlier : List Command) (command : Command) → is_valid_after modules earlier command ≡ true → NamesModule (length modules) command
@@ -106,7 +106,7 @@ module _ {P : Type 0} where
       subst Way count (run_started w modules (commands_in input.parties) c parties core untouched world calls (are_made c.settings input.parties) (λ alone. count ∙ eqb-true (length input.parties) 1 alone))
 
   calls_there : (input : Input) (maker : MakerTold) (c : PoolCore P) (modules : List ModuleCall) → is_built input ≡ true → IsCore maker c → AreMadeCalls maker.page input.modules modules → AreCallsFor (world_of input maker) c.settings modules
-  calls_there input maker c modules built core calls = are_calls_for (world_of input maker) c.settings modules (built_input input built).modules core.page (omega (arith, core.settings.page.at_least)) calls
+  calls_there input maker c modules built core calls = are_calls_for (world_of input maker) c.settings modules (built_modules input built) core.page (omega (arith, core.settings.page.at_least)) calls
 
   pub made_under_way : (input : Input) (maker : MakerTold) (c : PoolCore P) (modules : List ModuleCall) → is_built input ≡ true → IsMadeCore maker input.config default_tunables c → IsCore maker c → IsUntouched c → AreMadeCalls maker.page input.modules modules → IsUnderWay (world_of input maker) modules (commands_in input.parties) (run_made c input.parties)
   made_under_way input maker c modules built made core untouched calls =

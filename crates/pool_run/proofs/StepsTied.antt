@@ -24,7 +24,7 @@ use Rattle.pool_alloc.specs.Leases.{Lease}
 use Rattle.pool_alloc.specs.Own.{made_for, memory_made, reset_into}
 use Rattle.pool_alloc.specs.Refusals.{memories_refused}
 use Rattle.pool_alloc.specs.Places.{leased_count, Thing, slot_of, frame_count, made_count, slot_count, queued_count, freed_count, kept_count, phase_count}
-use Rattle.pool_alloc.specs.Sound.{IsAllocating, IsSupported, HasSlot, HasBegun, IsNew, IsSettled}
+use Rattle.pool_alloc.specs.Sound.{IsAllocating, IsSupported, HasSlot, IsNew, IsSettled}
 use Rattle.pool_alloc.specs.Steps.{Given, memories_asked, images_asked, image_wanted, wanted, shard_at, cell_at, queue_at, shard_of, local_of, freed_elsewhere, first_shard, cell_returned, with_shard, with_cell, with_queue, counting_instances, counting_memories, goes, ends, give_back_next, refuses, allocate_next, flushes, after_flush, no_slot, shard_tried, queue_tried, validated, picked, holds_region, made, returns, merged, puts, were_freed, row_of}
 use Rattle.pool_alloc.specs.Stepping.{CanStep, grant_count}
 use Rattle.pool_alloc.specs.declared.pool_core.PoolCore.{PoolCore}

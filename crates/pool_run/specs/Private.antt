@@ -1,5 +1,5 @@
 -- What a party may see: its grants as private lists of bytes, which its commands read and write, and no pool.
-use Rattle.std.specs.Prelude.{◌≡◌, ◌≢◌, ℕ, ◌+◌, ◌-◌, ◌*◌, ◌^◌, ◌<◌, ◌≤◌, ◌==◌, ◌||◌, List, [], ◌∷◌, ◌++◌, length, sum_by, slice_get, slice_index_or, slice_range, slice_set, All, replicate, min, ◌⊎◌, Bool, true, false, not, nat_lt, if◌then◌else◌, Option, Some, None, IfSome, is_some, option_map, Result, Ok, Err}
+use Rattle.std.specs.Prelude.{◌≡◌, ◌≢◌, ℕ, ◌+◌, ◌-◌, ◌*◌, ◌^◌, ◌<◌, ◌≤◌, ◌==◌, ◌||◌, ◌&&◌, List, [], ◌∷◌, ◌++◌, length, sum_by, slice_get, slice_index_or, slice_range, slice_set, All, replicate, min, ◌⊎◌, Bool, true, false, not, nat_lt, if◌then◌else◌, Option, Some, None, IfSome, is_some, option_map, Result, Ok, Err}
 use Rattle.std.specs.Option.{option_map_or}
 use Rattle.std.specs.List.{list_all}
 use Rattle.pool_pages.specs.Contents.{put}
@@ -13,7 +13,7 @@ use Rattle.pool_pages.specs.declared.unsupported.Unsupported.{Unsupported}
 use Rattle.pool_limits.specs.Growth.{GrowthRule, memory_answer, memory_failure}
 use Rattle.pool_limits.specs.declared.errors.LimiterError.{LimiterError}
 use Rattle.pool_limits.specs.declared.errors.Trap.TheVariants.{MemoryOutOfBounds}
-use Rattle.pool_images.specs.Images.{Image, image_of, start, ends_in_minimum}
+use Rattle.pool_images.specs.Images.{Image, image_of, start, first_misplaced, ends_in_minimum}
 use Rattle.pool_memory.specs.Growing.{exceeds}
 use Rattle.pool_memory.specs.Making.{minimum_asked, maximum_asked, limits_answer}
 use Rattle.pool_memory.specs.Static.{capacity_of}
@@ -85,10 +85,13 @@ pub record World : Type 0 where
 abbrev pub memories_of : World → ℕ → List MemoryDecl
 memories_of w number = option_map_or (λ m. m.memories) (slice_get w.modules number) []
 
--- The image that memory k of a module begins with, padded to whole pages: none where some image of the module, padded,
--- ends past the minimum of its memory.
+-- images can be made for these memories: each begins with a page and, padded, ends within its memory's minimum
+abbrev pub has_images : ℕ → List MemoryDecl → Bool
+has_images page decls = not (is_some (first_misplaced page decls)) && list_all (ends_in_minimum page) decls
+
+-- The image that memory k of a module begins with, padded to whole pages: none where the module has no images.
 abbrev pub image_at : World → ℕ → ℕ → MemoryDecl → Option Image
-image_at w number k decl = if list_all (ends_in_minimum w.maker.page) (memories_of w number) then option_map (image_of (record { 0 = number }) w.maker.page k) decl.image else None
+image_at w number k decl = if has_images w.maker.page (memories_of w number) then option_map (image_of (record { 0 = number }) w.maker.page k) decl.image else None
 
 -- A memory as it begins: its minimum of bytes, which are its image at its offset and zeros elsewhere. It can become as
 -- large as a slot of the pool, or as its type allows if that is less.

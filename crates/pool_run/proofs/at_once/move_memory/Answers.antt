@@ -1,4 +1,4 @@
-use Rattle.std.proofs.Common.{List, ℕ, replicate, sym, subst}
+use Rattle.std.proofs.Common.{replicate, sym, subst}
 use Rattle.pool_limits.specs.LimiterTold.{unlimited}
 use Rattle.pool_alloc.specs.Leases.{IsWritten, IsGrown, IsChanged}
 use Rattle.pool_run.specs.AtOnce.{moved_by}

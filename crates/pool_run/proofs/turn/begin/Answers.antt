@@ -1,13 +1,12 @@
 use Rattle.std.proofs.Common.{ℕ, List, replicate, sym, subst}
 use Rattle.pool_alloc.specs.declared.pool_core.PoolCore.{PoolCore}
 use Rattle.pool_run.specs.AtOnce.{Makes}
-use Rattle.pool_run.specs.Private.{IsRead, IsSize}
 use Rattle.pool_run.specs.Turns.{Begins, MemoryWrites, MemoryGrows}
 use Rattle.pool_run.specs.declared.command.Command.{Command}
 use Rattle.pool_run.specs.declared.command.Command.TheVariants.{Write}
 use Rattle.pool_run.specs.declared.running_party.RunningParty.{RunningParty}
 use Rattle.pool_run.proofs.Moves.{writes_stay, grows_stay}
-use Rattle.pool_run.proofs.TurnsMade.{look_made, move_made, after_move}
+use Rattle.pool_run.proofs.TurnsMade.{move_made, after_move}
 use Rattle.pool_run.proofs.turn.begin.Goals as goal
 
 pub returns-in-Fill : goal.returns-in-Fill
