@@ -19,6 +19,8 @@ mod streams;
 #[cfg(test)]
 mod tests;
 mod transfers;
+#[cfg(test)]
+mod untold_pages;
 mod words;
 
 use pool_pages::{MemoryPages, PageSize};

@@ -2,9 +2,10 @@ use crate::memory_streams::{MemorySink, MemorySource};
 use crate::pool_main::pool_main;
 use crate::print::output_text;
 use crate::status::Status;
+use crate::untold_pages::UntoldPages;
 use pool_alloc::Metrics;
 use pool_limits::Trap;
-use pool_pages::{ByteList, MemoryPages, PageCalls, PageSize, PlainList};
+use pool_pages::{ByteList, MemoryPages, PageCalls, PageMaker, PageSize, PlainList};
 use pool_run::{Refusal, Reply, ReplyList, RunOutput};
 use pool_slots::{AllocError as Refused, ConcurrencyKind, PoolConcurrencyLimitError};
 use std::alloc::{AllocError, Global};
@@ -27,16 +28,32 @@ fn ended(
     read: u64,
     write: u64,
 ) -> Result<(Status, MemorySink), AllocError> {
+    ended_over(alloc, words, input, read, write, MemoryPages::new(page()?))
+}
+
+fn page() -> Result<PageSize, AllocError> {
+    match PageSize::new(4096) {
+        Ok(page) => Ok(page),
+        Err(_) => Err(AllocError),
+    }
+}
+
+/// The same over regions of this maker.
+fn ended_over<M: PageMaker + Drop>(
+    alloc: Global,
+    words: &str,
+    input: &str,
+    read: u64,
+    write: u64,
+    pages: M,
+) -> Result<(Status, MemorySink), AllocError> {
+    let mut pages = pages;
     let mut all = Vec::new(alloc);
     for word in words.split_whitespace() {
         all.push(String::from_str(alloc, word)?)?;
     }
     let mut source = MemorySource::new(bytes(alloc, input)?, 7, one(alloc, read)?);
     let mut sink = MemorySink::new(alloc, 10, one(alloc, write)?);
-    let Ok(page) = PageSize::new(4096) else {
-        return Err(AllocError);
-    };
-    let mut pages = MemoryPages::new(page);
     let status = pool_main(alloc, all.as_slice(), &mut source, &mut sink, &mut pages);
     Ok((status, sink))
 }
@@ -300,5 +317,23 @@ fn runs_by_a_schedule(rt: HostRuntime) -> Result<(), Fail> {
         assert_eq!(rt; ends, Status::Ok, "at {input}");
         assert_eq!(rt; sink.taken(), written.as_bytes(), "at {input}");
     }
+    Ok(())
+}
+
+const UNTOLD_OUTPUT: &str = "0.0: granted memories 0 tables -\n\
+0.1: done\n\
+0.2: returned\n\
+0.3: granted memories 0 tables -\n\
+0.4: bytes 5a5a5a5a5a5a5a5a\n\
+metrics core=1 component=0 memories=1 tables=0 stacks=0 heaps=0 warm_memories=0 memory_resident=0 warm_tables=0 table_resident=0 warm_stacks=0 stack_resident=none\n\
+pages expose=1 hide=0 map_image=2 remap_zeros=1 erase=0 recolour=0 decommit=1\n";
+
+/// What is read comes from the regions: over pages that tell nothing it is what they answer. They don't read as the image
+/// that was mapped, so it is mapped again.
+#[test]
+fn reads_what_the_pages_hold(rt: HostRuntime) -> Result<(), Fail> {
+    let (ends, sink) = ended_over(rt.alloc(), "run", FIRST, 0, 0, UntoldPages::new(page()?))?;
+    assert_eq!(rt; ends, Status::Ok);
+    assert_eq!(rt; sink.taken(), UNTOLD_OUTPUT.as_bytes());
     Ok(())
 }

@@ -1,22 +1,15 @@
--- A whole run, from the pool as it is made to where nobody has anything left: each command has its reply, and the replies
--- to each party are a private run.
-use Rattle.std.proofs.Common.{◌≡◌, ℕ, ◌+◌, ◌<◌, ◌≤◌, List, [], ◌∷◌, length, replicate, Option, Some, None, ap, ◌∙◌, subst, arith, true}
+-- No party comes or goes, and where nobody has anything left each command has its reply.
+use Rattle.std.proofs.Common.{◌≡◌, ℕ, ◌+◌, ◌<◌, ◌≤◌, List, [], ◌∷◌, length, Option, Some, None, ap, ◌∙◌, subst, arith}
 use Rattle.std.specs.Prelude.{IfSome, slice_get, slice_index_or}
 use Rattle.std.proofs.lemmas.List.{length-set}
 use Rattle.std.proofs.lemmas.Option.{slice_get-get_or}
 use Rattle.pool_pages.specs.MakerTold.{MakerTold}
-use Rattle.pool_alloc.specs.Sound.{IsCore}
-use Rattle.pool_alloc.specs.Whole.{IsUntouched}
-use Rattle.pool_alloc.specs.declared.pool_core.PoolCore.{PoolCore}
 use Rattle.pool_alloc.specs.declared.frame.ModuleCall.{ModuleCall}
-use Rattle.pool_run.specs.Private.{World, Grants, PrivateRun, IsWholeRun, no_grants}
-use Rattle.pool_run.specs.Worlds.{IsWorldOf, AreCallsFor}
-use Rattle.pool_run.specs.Folds.{RunState, commands_of, replies_to, party_by_party, TurnsIf, Folds, HasNothingLeft, IsFinished, Runs, IsUnderWay}
+use Rattle.pool_run.specs.Private.{World, Grants, PrivateRun, no_grants}
+use Rattle.pool_run.specs.Folds.{RunState, commands_of, replies_to, party_by_party, TurnsIf, Folds, HasNothingLeft, IsFinished, Runs, IsRunTo, IsUnderWay}
 use Rattle.pool_run.specs.declared.command.Command.{Command}
 use Rattle.pool_run.specs.declared.reply.Reply.{Reply}
 use Rattle.pool_run.specs.declared.running_party.RunningParty.{RunningParty}
-use Rattle.pool_run.proofs.Folding.{run_under_way, replies_private}
-use Rattle.pool_run.proofs.Started.{AreMade, run_started}
 
 -- there are no more replies than commands
 pub no_more_replies : (w : World) (n : ℕ) (commands : List Command) (replies : List Reply) (start end : Grants) → PrivateRun w n commands replies start end → length replies ≤ length commands
@@ -25,6 +18,10 @@ no_more_replies w n [] (r ∷ replies) start end run = absurd run
 no_more_replies w n (c ∷ commands) (r ∷ replies) start end run = omega (arith, no_more_replies w (n + 1) commands replies run.0 end run.2)
 
 module _ {P : Type 0} where
+  -- so that they have places
+  pub few_told : (w : World) (commands : List Command) (replies : List Reply) (p : RunningParty P) → IsRunTo w commands replies p → length replies ≤ length p.live
+  few_told w commands replies p to = omega (arith, no_more_replies w 0 commands replies (no_grants commands) to.private.grants to.private.run, to.room)
+
   turned_count : (maker : MakerTold) (modules : List ModuleCall) (commands : List Command) (i : ℕ) (o : Option (RunningParty P)) (s new : RunState P) → TurnsIf maker modules commands i o s new → length new.parties ≡ length s.parties
   turned_count maker modules commands i None s new turns = ap (λ (x : RunState P). length x.parties) turns
   turned_count maker modules commands i (Some p) s new turns = ap (λ (x : RunState P). length x.parties) turns.3 ∙ length-set s.parties i turns.0.party
@@ -45,17 +42,3 @@ module _ {P : Type 0} where
       let Left : Option (RunningParty P) → Type 0 = λ o. IfSome o (HasNothingLeft (commands_of inputs i)) in
       let none : HasNothingLeft (commands_of inputs i) (slice_index_or s.parties i d) = subst Left (slice_get-get_or s.parties i d below) (finished i) in
       omega (arith, none.all, to.private.count, no_more_replies w 0 (commands_of inputs i) (replies_to i s.replies) (no_grants (commands_of inputs i)) to.private.grants to.private.run)
-
-  -- the run over these parts, before its first turn
-  abbrev pub at_start : PoolCore P → List (RunningParty P) → RunState P
-  at_start c parties = record { core = c; parties = parties; replies = replicate (length parties) [] }
-
-  -- So a whole run tells each party a private run, to its end.
-  pub run_private : (w : World) (modules : List ModuleCall) (inputs : List (List Command)) (schedule : List ℕ) (c : PoolCore P) (parties : List (RunningParty P)) (end : RunState P) (i : ℕ) (d : RunningParty P) → IsCore w.maker c → IsUntouched c → IsWorldOf w c → AreCallsFor w c.settings modules → AreMade c.settings inputs parties → (w.alone ≡ true → length parties ≡ 1) → Runs w.maker modules inputs schedule (at_start c parties) end → i < length parties → IsWholeRun w (commands_of inputs i) (replies_to i end.replies)
-  run_private w modules inputs schedule c parties end i d core untouched world calls made alone runs below =
-      let way : IsUnderWay w modules inputs end = run_under_way w modules inputs schedule (at_start c parties) end (run_started w modules inputs c parties core untouched world calls made alone) runs in
-      let inside : i < length end.parties = omega (arith, below, run_count w.maker modules inputs schedule (at_start c parties) end runs) in
-      record {
-        private = replies_private w modules inputs end i d way inside;
-        all = all_replied w modules inputs end i d way runs.finishes.finished inside;
-      }

@@ -9,14 +9,11 @@ use Rattle.pool_index.specs.Shard.{one_if}
 use Rattle.pool_alloc.specs.Stepping.{is_idle}
 use Rattle.pool_alloc.specs.declared.frame.ModuleCall.{ModuleCall}
 use Rattle.pool_run.specs.Folds.{RunState, commands_of, party_by_party, TurnsIf, TurnsOf, Folds, HasNothingLeft, Finishes}
-use Rattle.pool_run.specs.Progress.{is_busy, commands_done, calls_begun, begins_call, TurnsSome, IsRunOf}
-use Rattle.pool_run.specs.RunsMade.{Background}
+use Rattle.pool_run.specs.Progress.{is_busy, commands_done, calls_begun, begins_call, TurnsSome}
 use Rattle.pool_run.specs.declared.command.Command.{Command}
-use Rattle.pool_run.specs.declared.input.Party.{Party}
 use Rattle.pool_run.specs.declared.running_party.RunningParty.{RunningParty}
 use Rattle.pool_run.proofs.Between.{set_other}
-use Rattle.pool_run.proofs.Ended.{folds_count}
-use Rattle.pool_run.proofs.Folding.{run_turned, folds_on}
+use Rattle.pool_run.proofs.Folding.{folds_on}
 use Rattle.pool_run.proofs.RunMade.{repeated}
 
 is_there : {X : Type 0} (xs : List X) (i : ℕ) → i < length xs → IsSome (slice_get xs i)
@@ -38,15 +35,6 @@ party_by_party-push i n (m ∷ counts) =
     ∙ ap (λ (k : ℕ). replicate m i ++ party_by_party (i + 1) counts ++ replicate n k) next
 
 module _ {P : Type 0} where
-  -- A run goes on with a turn, over the same parties.
-  pub run_goes_on : (of : Background) (modules : List ModuleCall) (given : List Party) (i : ℕ) (s new : RunState P) → IsRunOf of modules given s → TurnsOf of.world.maker modules of.inputs i s new → IsRunOf of modules given new
-  run_goes_on of modules given i s new run turns = record {
-    way = run_turned of.world modules of.inputs i s new run.way turns;
-    inputs = run.inputs;
-    parties = folds_count of.world.maker modules of.inputs (i ∷ []) s new (new, turns, refl) ∙ run.parties;
-    named = run.named;
-  }
-
   -- no turns, one more, and more after others
   pub some_none : (maker : MakerTold) (modules : List ModuleCall) (inputs : List (List Command)) (i : ℕ) (s : RunState P) → TurnsSome maker modules inputs i s s
   some_none maker modules inputs i s = record { times = 0; folds = refl }

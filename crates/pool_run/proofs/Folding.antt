@@ -69,6 +69,7 @@ module _ {P : Type 0} where
       let replies : List Reply = with_reply t.reply (replies_to i s.replies) in
       record {
         running = turned_running w.maker s.core s.parties i p t way.running below (subst Has (sym here) turned) sound;
+        given = way.given;
         world = world_over w s.core t.core turned.size way.world;
         calls = calls_over w modules s.core t.core turned.size way.calls;
         alone = λ e.
@@ -147,5 +148,5 @@ module _ {P : Type 0} where
       let same : turns.0 ≡ record { core = s.core; party = p; reply = None } = nothing_turns modules commands s.core p turns.0 (is_idle p.frame.phase) none.idle none.all turns.1 in
       let parties : slice_set s.parties i p ≡ s.parties = ap (λ (q : RunningParty P). slice_set s.parties i q) (sym (get_or_from_slice_get s.parties i p p there)) ∙ set-get_or s.parties i p in
       turns.3 ∙ ap (λ (t : Turned P). with_turn i t s) same
-      ∙ ap (λ (ps : List (RunningParty P)). record { core = s.core; parties = ps; replies = slice_set s.replies i (replies_to i s.replies) }) parties
-      ∙ ap (λ (rs : List (List Reply)). record { core = s.core; parties = s.parties; replies = rs }) (set-get_or s.replies i [])
+      ∙ ap (λ (ps : List (RunningParty P)). record { core = s.core; modules = s.modules; parties = ps; replies = slice_set s.replies i (replies_to i s.replies) }) parties
+      ∙ ap (λ (rs : List (List Reply)). record { core = s.core; modules = s.modules; parties = s.parties; replies = rs }) (set-get_or s.replies i [])

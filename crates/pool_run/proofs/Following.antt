@@ -12,6 +12,9 @@ use Rattle.pool_run.specs.declared.input.ScheduleEntry.{ScheduleEntry}
 pub commands_there : (inputs : List (List Command)) (parties : List Party) (i : ℕ) (d : Party) → inputs ≡ commands_in parties → i < length parties → (get_or parties i d).commands ≡ commands_of inputs i
 commands_there inputs parties i d same below = sym (ap (λ (all : List (List Command)). commands_of all i) same ∙ get_or-map (λ (p : Party). p.commands) parties i d [] below)
 
+pub commands_read : (inputs : List (List Command)) (given parties : List Party) (i : ℕ) (d : Party) → inputs ≡ commands_in given → parties ≡ given → i < length given → (get_or parties i d).commands ≡ commands_of inputs i
+commands_read inputs given parties i d all same below = ap (λ (ps : List Party). (get_or ps i d).commands) same ∙ commands_there inputs given i d all below
+
 turns_of-append : (first second : List ScheduleEntry) → turns_of (first ++ second) ≡ turns_of first ++ turns_of second
 turns_of-append [] second = refl
 turns_of-append (entry ∷ first) second =

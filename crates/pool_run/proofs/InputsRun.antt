@@ -1,5 +1,5 @@
 -- A run of an input: the program's conditions follow from those of the input, and its end from its turns.
-use Rattle.std.proofs.Common.{◌≡◌, ℕ, ◌+◌, ◌*◌, ◌^◌, ◌<◌, ◌≤◌, zero, suc, List, [], ◌∷◌, ◌++◌, length, map, get_or, replicate, sym, ap, ◌∙◌, subst, arith, Option, None, Bool, true, false}
+use Rattle.std.proofs.Common.{◌≡◌, ℕ, ◌+◌, ◌*◌, ◌^◌, ◌<◌, ◌≤◌, zero, suc, List, [], ◌∷◌, ◌++◌, length, map, get_or, replicate, refl, sym, ap, ◌∙◌, subst, arith, Option, None, Bool, true, false}
 use Rattle.std.specs.Prelude.{slice_index_or}
 use Rattle.std.proofs.lemmas.Bool.{eqb-true, ltb-true}
 use Rattle.std.proofs.lemmas.List.{length-map, length-replicate}
@@ -17,12 +17,13 @@ use Rattle.pool_alloc.specs.declared.frame.ModuleCall.{ModuleCall}
 use Rattle.pool_alloc.specs.declared.pool_core.PoolCore.{PoolCore}
 use Rattle.pool_alloc.specs.declared.pool_core.Settings.{Settings}
 use Rattle.pool_run.specs.Built.{is_built}
-use Rattle.pool_run.specs.Folds.{RunState, IsUnderWay, commands_of, replies_to}
+use Rattle.pool_run.specs.Folds.{RunParts, RunState, IsUnderWay, commands_of, replies_to, state_of}
 use Rattle.pool_run.specs.Made.{AreMadeCalls}
 use Rattle.pool_run.specs.Numbers.{calls_of_run}
 use Rattle.pool_run.specs.Private.{World}
-use Rattle.pool_run.specs.Runs.{Performs, IsToldBy, IsRun, world_of}
-use Rattle.pool_run.specs.RunsMade.{IsKept, commands_in, party_made, party_made_for, run_made, places_in}
+use Rattle.pool_run.specs.Progress.{IsRunOf}
+use Rattle.pool_run.specs.Runs.{Performs, IsToldBy, IsMadeRun, IsRun, world_of}
+use Rattle.pool_run.specs.RunsMade.{Background, IsKept, commands_in, party_made, party_made_for, parties_made, run_made, places_in}
 use Rattle.pool_run.specs.Schedules.{turns_of}
 use Rattle.pool_run.specs.Validity.{is_valid, is_valid_after, are_valid_after, most_commands}
 use Rattle.pool_run.specs.Worlds.{IsWorldOf, AreCallsFor, NamesModule, NameModules}
@@ -82,7 +83,7 @@ places_of : (P : Type 0) (s : Settings) (party : Party) → length (party_made_f
 places_of P s party = length-replicate {A = Option (Grant P)} (length party.commands) None
 
 -- There are not too many places.
-places_below : (P : Type 0) (s : Settings) (parties : List Party) → ((k : ℕ) (d : Party) → k < length parties → length (get_or parties k d).commands ≤ most_commands) → places_in (map (party_made_for {P = P} s) parties) ≤ length parties * 100001
+places_below : (P : Type 0) (s : Settings) (parties : List Party) → ((k : ℕ) (d : Party) → k < length parties → length (get_or parties k d).commands ≤ most_commands) → places_in (parties_made {P = P} s parties) ≤ length parties * 100001
 places_below P s [] few = omega arith
 places_below P s (p ∷ ps) few =
     let places : RunningParty P → ℕ = λ q. 1 + length q.live in
@@ -90,30 +91,50 @@ places_below P s (p ∷ ps) few =
     omega (arith, sum_by-cons places (party_made_for s p) (map (party_made_for {P = P} s) ps), places_of P s p, one, places_below P s ps (λ k d below. few (suc k) d (omega (arith, below))))
 
 module _ {P : Type 0} where
-  pub few_places : (input : Input) (c : PoolCore P) (parties : List Party) → parties ≡ input.parties → is_valid input ≡ true → places_in (run_made c parties).parties + 1 < 2 ^ 64
+  pub few_places : (input : Input) (c : PoolCore P) (parties : List Party) → parties ≡ input.parties → is_valid input ≡ true → places_in (parties_made {P = P} c.settings parties) + 1 < 2 ^ 64
   few_places input c parties same valid =
-      let Few : List Party → Type 0 = λ ps. places_in (run_made c ps).parties + 1 < 2 ^ 64 in
+      let Few : List Party → Type 0 = λ ps. places_in (parties_made {P = P} c.settings ps) + 1 < 2 ^ 64 in
       subst Few (sym same)
       (omega (arith, valid_parties input valid, places_below P c.settings input.parties (λ k d below. few_commands input k (get_or input.parties k d) valid (slice_get-get_or input.parties k d below))))
 
   -- The run as it is made is under way.
-  under_way : (input : Input) (maker : MakerTold) (c : PoolCore P) (modules : List ModuleCall) → IsCore maker c → IsUntouched c → IsWorldOf (world_of input maker) c → AreCallsFor (world_of input maker) c.settings modules → IsUnderWay (world_of input maker) modules (commands_in input.parties) (run_made c input.parties)
+  under_way : (input : Input) (maker : MakerTold) (c : PoolCore P) (modules : List ModuleCall) → IsCore maker c → IsUntouched c → IsWorldOf (world_of input maker) c → AreCallsFor (world_of input maker) c.settings modules → IsUnderWay (world_of input maker) modules (commands_in input.parties) (run_made c modules input.parties)
   under_way input maker c modules core untouched world calls =
       let w : World = world_of input maker in
       let parties : List (RunningParty P) = map (party_made_for {P = P} c.settings) input.parties in
       let count : length parties ≡ length input.parties = length-map input.parties (party_made_for {P = P} c.settings) in
-      let Way : ℕ → Type 0 = λ n. IsUnderWay w modules (commands_in input.parties) (record { core = c; parties = parties; replies = replicate n [] }) in
+      let Way : ℕ → Type 0 = λ n. IsUnderWay w modules (commands_in input.parties) (record { core = c; modules = modules; parties = parties; replies = replicate n [] }) in
       subst Way count (run_started w modules (commands_in input.parties) c parties core untouched world calls (are_made c.settings input.parties) (λ alone. count ∙ eqb-true (length input.parties) 1 alone))
 
   calls_there : (input : Input) (maker : MakerTold) (c : PoolCore P) (modules : List ModuleCall) → is_built input ≡ true → IsCore maker c → AreMadeCalls maker.page input.modules modules → AreCallsFor (world_of input maker) c.settings modules
   calls_there input maker c modules built core calls = are_calls_for (world_of input maker) c.settings modules (built_modules input built) core.page (omega (arith, core.settings.page.at_least)) calls
 
-  pub made_under_way : (input : Input) (maker : MakerTold) (c : PoolCore P) (modules : List ModuleCall) → is_built input ≡ true → IsMadeCore maker input.config default_tunables c → IsCore maker c → IsUntouched c → AreMadeCalls maker.page input.modules modules → IsUnderWay (world_of input maker) modules (commands_in input.parties) (run_made c input.parties)
+  made_under_way : (input : Input) (maker : MakerTold) (c : PoolCore P) (modules : List ModuleCall) → is_built input ≡ true → IsMadeCore maker input.config default_tunables c → IsCore maker c → IsUntouched c → AreMadeCalls maker.page input.modules modules → IsUnderWay (world_of input maker) modules (commands_in input.parties) (run_made c modules input.parties)
   made_under_way input maker c modules built made core untouched calls =
       under_way input maker c modules core untouched (is_world input maker c made) (calls_there input maker c modules built core calls)
 
-  pub made_count : (c : PoolCore P) (parties : List Party) → length (run_made c parties).parties ≡ length parties
+  made_count : (c : PoolCore P) (parties : List Party) → length (parties_made {P = P} c.settings parties) ≡ length parties
   made_count c parties = length-map parties (party_made_for {P = P} c.settings)
+
+  -- The run as it is made, once the lists of its replies are there.
+  pub made_run : (input : Input) (maker : MakerTold) (run : RunParts P) (parties : List Party) (s : RunState P) → IsMadeRun default_tunables input maker run → parties ≡ input.parties → s ≡ state_of run (replicate (length parties) []) → s ≡ run_made run.core run.modules input.parties
+  made_run input maker run parties s made same is =
+      is ∙ ap (λ (ps : List Party). state_of run (replicate (length ps) [])) same ∙ ap (λ (ps : List (RunningParty P)). record { core = run.core; modules = run.modules; parties = ps; replies = replicate (length input.parties) [] }) made.parties
+
+  -- what the run is of
+  abbrev pub background : Input → MakerTold → RunState P → Background
+  background input maker s = record { world = world_of input maker; modules = s.modules; inputs = commands_in input.parties }
+
+  pub is_run_of : (input : Input) (maker : MakerTold) (run : RunParts P) (s : RunState P) → is_built input ≡ true → is_valid input ≡ true → IsMadeRun default_tunables input maker run → s ≡ run_made run.core run.modules input.parties → IsRunOf (background input maker s) input.parties s
+  is_run_of input maker run s built valid made is =
+      let Of : RunState P → Type 0 = λ x. IsRunOf (background input maker x) input.parties x in
+      subst Of (sym is)
+      (record {
+        way = made_under_way input maker run.core run.modules built made.made made.core made.untouched made.calls;
+        inputs = refl;
+        parties = made_count run.core input.parties;
+        named = parties_name input input.parties (length run.modules) refl made.calls.number valid;
+      })
 
   -- What the parties were told at the end of a run.
   told_by : (finish : Bool) (w : World) (modules : List ModuleCall) (inputs : List (List Command)) (schedule : List ℕ) (s end : RunState P) (i : ℕ) (d : RunningParty P) → IsUnderWay w modules inputs s → Performs finish w.maker modules inputs schedule s end → i < length s.parties → IsToldBy finish w (commands_of inputs i) (replies_to i end.replies)
@@ -126,24 +147,27 @@ module _ {P : Type 0} where
       replies_private w modules inputs end i d ended (omega (arith, below, folds_count w.maker modules inputs schedule s end folds))
 
   -- So the output of its end is that of a run of the input.
-  pub is_run : (input : Input) (maker : MakerTold) (c : PoolCore P) (modules : List ModuleCall) (end : RunState P) (output : RunOutput) → is_built input ≡ true → IsMadeCore maker input.config default_tunables c → IsCore maker c → IsUntouched c → AreMadeCalls maker.page input.modules modules
-      → Performs input.finish maker modules (commands_in input.parties) (turns_of input.schedule) (run_made c input.parties) end → IsKept end
+  pub is_run : (input : Input) (maker : MakerTold) (run : RunParts P) (s end : RunState P) (output : RunOutput) → is_built input ≡ true → IsMadeRun default_tunables input maker run → s ≡ run_made run.core run.modules input.parties
+      → Performs input.finish maker s.modules (commands_in input.parties) (turns_of input.schedule) s end → IsKept end.core end.parties
       → output.replies ≡ end.replies → output.metrics ≡ metrics_of end.core → output.calls ≡ calls_of_run end.core end.parties → IsRun P default_tunables input maker output
-  is_run input maker c modules end output built made core untouched calls performed kept replies metrics numbers =
+  is_run input maker run s end output built made is performs kept replies metrics numbers =
+      let c : PoolCore P = run.core in
       let w : World = world_of input maker in
-      let way = made_under_way input maker c modules built made core untouched calls in
+      let way = made_under_way input maker c run.modules built made.made made.core made.untouched made.calls in
+      let From : RunState P → Type 0 = λ x. Performs input.finish maker x.modules (commands_in input.parties) (turns_of input.schedule) x end in
+      let performed : From (run_made c run.modules input.parties) = subst From is performs in
       record {
         core = c;
-        made = made;
-        modules = modules;
-        calls = calls_there input maker c modules built core calls;
+        made = made.made;
+        modules = run.modules;
+        calls = calls_there input maker c run.modules built made.core made.calls;
         end = end;
         performed = performed;
         kept = kept;
         replies = replies;
         told = λ i below.
             let Told : List (List Reply) → Type 0 = λ rs. IsToldBy input.finish w (commands_of (commands_in input.parties) i) (replies_to i rs) in
-            subst Told (sym replies) (told_by input.finish w modules (commands_in input.parties) (turns_of input.schedule) (run_made c input.parties) end i (party_made 0 c.settings 0) way performed (omega (arith, below, made_count c input.parties)));
+            subst Told (sym replies) (told_by input.finish w run.modules (commands_in input.parties) (turns_of input.schedule) (run_made c run.modules input.parties) end i (party_made 0 c.settings 0) way performed (omega (arith, below, made_count c input.parties)));
         metrics = metrics;
         calls_made = numbers;
       }

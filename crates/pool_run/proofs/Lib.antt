@@ -24,6 +24,7 @@ pub mod Moves
 pub mod NewMemories
 pub mod Parties
 pub mod Placed
+pub mod Reserving
 pub mod RunMade
 pub mod Running
 pub mod Searching
@@ -31,6 +32,7 @@ pub mod Shares
 pub mod Sounds
 pub mod Started
 pub mod StepsTied
+pub mod Telling
 pub mod Tests
 pub mod Tied
 pub mod Turned

@@ -99,10 +99,10 @@ module _ {P : Type 0} (others most : ℕ) where
   either false x y one other = other refl
 
   -- so where a step has gone as it may from there
-  by_placing : (o : Option (Outcome P)) (f : Frame P) → others ≤ most → PlacedBy (others + 1 ≤ most) o f → others + (admitted_by f.phase f.ending + granted grant_instances o) ≤ most
+  by_placing : (o : Option (Outcome P)) (f : Frame P) → others ≤ most → PlacedBy (λ asked. others + 1 ≤ most) o f → others + (admitted_by f.phase f.ending + granted grant_instances o) ≤ most
   by_placing None f few placed = omega (arith, one_asked (stage_of f.phase f.ending) others (phase_instances f.phase) most (counts_once f.phase) few placed)
   by_placing (Some answer.Key) f few placed = settles (stage_of f.phase f.ending) others (phase_instances f.phase) 0 most placed (omega (arith, few))
-  by_placing (Some (answer.Granted (instance lease))) f few placed = settles (stage_of f.phase f.ending) others (phase_instances f.phase) 1 most placed.0 placed.1
+  by_placing (Some (answer.Granted (instance lease))) f few placed = settles (stage_of f.phase f.ending) others (phase_instances f.phase) 1 most placed.0 placed.2
   by_placing (Some answer.Returned) f few placed = settles (stage_of f.phase f.ending) others (phase_instances f.phase) 0 most placed (omega (arith, few))
   by_placing (Some (answer.Refused e)) f few placed = settles (stage_of f.phase f.ending) others (phase_instances f.phase) 0 most placed (omega (arith, few))
 
@@ -111,7 +111,7 @@ module _ {P : Type 0} (others most : ℕ) where
   goes_on g phase c f one within =
       let a : After P = row_of g phase c (in_phase phase f) in
       let place : PlacedAs (others + 1 ≤ most) (stage_of phase f.ending) = placed_as (others + 1 ≤ most) (stage_of phase f.ending) (asked_for_one (stage_of phase f.ending) others (phase_instances phase) most one within) in
-      record { within = by_placing a.outcome a.frame (omega (arith, within)) (placed_at (others + 1 ≤ most) g phase c f place).placed }
+      record { within = by_placing a.outcome a.frame (omega (arith, within)) (placed_at (λ asked. others + 1 ≤ most) g phase c f place).placed }
 
   -- It has counted none yet.
   validates : (g : Given) (o : Option Unsupported) (c : PoolCore P) (f : Frame P) → others ≤ most → Admits (validated o g.wants c f)

@@ -136,7 +136,7 @@ module _ {P : Type 0} where
   pub called_module : (maker : MakerTold) (m : ModuleCall) (c : PoolCore P) (p : RunningParty P) → CanTurn maker c p → IsIdle p.frame → AreImagesOf c.settings (memories_asked (Some m)) (images_asked (Some m)) → HasImages (Some m) → p.done < length p.live → CanTurn maker c (record p { frame = begun_call (call.Module m) p.frame })
   called_module maker m c p can idle images each room = called maker (call.Module m) p.live c p can (idle, images, each) (brings_module m p.live) can.party.sound.grants can.party.to_come (λ is. room)
 
-  returned_asks : (grant : Grant P) (f : Frame P) → stage_of (begun_call (call.GiveBack grant) f).phase (begun_call (call.GiveBack grant) f).ending ≡ asks → ⊥
+  pub returned_asks : (grant : Grant P) (f : Frame P) → stage_of (begun_call (call.GiveBack grant) f).phase (begun_call (call.GiveBack grant) f).ending ≡ asks → ⊥
   returned_asks (instance lease) f is = no_asks P (length lease.memories.items == 0) returned is
 
   pub called_back : (maker : MakerTold) (i : ℕ) (grant : Grant P) (c : PoolCore P) (p : RunningParty P) → CanTurn maker c p → IsIdle p.frame → slice_index_or p.live i None ≡ Some grant → CanTurn maker c (record p { live = slice_set p.live i None; frame = begun_call (call.GiveBack grant) p.frame })

@@ -1,7 +1,8 @@
 -- A call that asks for an instance went on asking, so that there is still a place for what it is granted.
-use Rattle.std.proofs.Common.{◌≡◌, ℕ, ◌+◌, ◌-◌, Bool, true, false, List, [], ◌∷◌, length, Option, Some, None, Result, Ok, Err, refl, subst}
+use Rattle.std.proofs.Common.{◌≡◌, ℕ, ◌+◌, ◌-◌, Bool, true, false, List, [], ◌∷◌, length, Option, Some, None, Result, Ok, Err, refl, sym, subst}
 use Rattle.std.specs.Prelude.{◌==◌, ◌||◌, nat_lt, nat_le, if◌then◌else◌}
 use Rattle.pool_pages.specs.declared.unsupported.Unsupported.{Unsupported}
+use Rattle.pool_limits.specs.LimiterTold.{LimiterTold}
 use Rattle.pool_images.specs.Slots.{Slot}
 use Rattle.pool_index.specs.Shard.{ShardState, after_pick, pick_answer, after_free}
 use Rattle.pool_index.specs.declared.ids.SlotId.{SlotId}
@@ -22,11 +23,13 @@ use Rattle.pool_alloc.specs.declared.frame.AfterFlush.TheVariants.{PickAgain, Gi
 use Rattle.pool_alloc.specs.declared.frame.Ending.{Ending}
 use Rattle.pool_alloc.specs.declared.frame.Ending.TheVariants as ending
 use Rattle.pool_alloc.specs.declared.frame.Frame.{Frame}
+use Rattle.pool_alloc.specs.declared.frame.ModuleCall.{ModuleCall}
 use Rattle.pool_alloc.specs.declared.frame.Grant.TheVariants.{Instance as instance}
 use Rattle.pool_alloc.specs.declared.frame.Outcome.{Outcome}
 use Rattle.pool_alloc.specs.declared.frame.Outcome.TheVariants as answer
 use Rattle.pool_alloc.specs.declared.frame.Phase.{Phase}
 use Rattle.pool_alloc.specs.declared.frame.Phase.TheVariants.{Idle, Key, Validate, CountInstance, Pick, TakeQueue, TakeRegion, Empty, Instantiate, MakeMemory, CountMemory, PutRefused, FreeRefused, UncountMemory, Reset, Merge, Decommit, PutRegion, Free, UncountInstance}
+use Rattle.pool_alloc.specs.Stepping.{StepsTo}
 use Rattle.pool_alloc.proofs.Balances.{in_phase}
 use Rattle.pool_run.specs.Ties.{Stage, no_call, asks, ends_as, stage_of}
 
@@ -45,12 +48,12 @@ module _ (Q : Type 0) where
   pub has_place : (s : Stage) → PlacedAs s → s ≡ asks → Q
   has_place s placed is = subst PlacedAs is placed
 
-module _ {P : Type 0} (Q : Type 0) where
-  -- so it does after a step, and where that grants an instance
+module _ {P : Type 0} (Q : Option ModuleCall → Type 0) where
+  -- so it does after a step, of the module that is still asked for, and of one where that grants an instance
   abbrev pub PlacedBy : Option (Outcome P) → Frame P → Type 0
-  PlacedBy None f = PlacedAs Q (stage_of f.phase f.ending)
+  PlacedBy None f = PlacedAs (Q f.asked) (stage_of f.phase f.ending)
   PlacedBy (Some answer.Key) f = stage_of f.phase f.ending ≡ no_call
-  PlacedBy (Some (answer.Granted grant)) f = (stage_of f.phase f.ending ≡ no_call) × Q
+  PlacedBy (Some (answer.Granted grant)) f = (stage_of f.phase f.ending ≡ no_call) × (asked : Option ModuleCall) × Q asked
   PlacedBy (Some answer.Returned) f = stage_of f.phase f.ending ≡ no_call
   PlacedBy (Some (answer.Refused e)) f = stage_of f.phase f.ending ≡ no_call
 
@@ -71,12 +74,12 @@ module _ {P : Type 0} (Q : Type 0) where
   refused : (c : PoolCore P) (f : Frame P) (e : AllocError) → IsPlaced (refuses c f e)
   refused c f e = gives_back c (record f { granted = no_room; returning = f.granted; ending = ending.Refused e })
 
-  no_slot_left : (queues : ℕ) (c : PoolCore P) (f : Frame P) → Q → IsPlaced (no_slot queues c f)
+  no_slot_left : (queues : ℕ) (c : PoolCore P) (f : Frame P) → Q f.asked → IsPlaced (no_slot queues c f)
   no_slot_left queues c f q =
       let e : AllocError = refusal.Limit (record { limit = length c.cells; kind = MemoryStripe f.stripe }) in
       either (nat_lt queues (length c.queues)) (goes c f (TakeQueue queues)) (refuses c f e) (record { placed = q }) (refused c f e)
 
-  flush_of_request : (queues : ℕ) (c : PoolCore P) (f : Frame P) → Q → IsPlaced (flushes (PickAgain queues) c f)
+  flush_of_request : (queues : ℕ) (c : PoolCore P) (f : Frame P) → Q f.asked → IsPlaced (flushes (PickAgain queues) c f)
   flush_of_request queues c f q = goes_either c f (length f.local.ranges == 0) (PutRegion (PickAgain queues)) (Decommit (PickAgain queues)) (record { placed = q }) (record { placed = q })
 
   flush_of_give_back : (c : PoolCore P) (f : Frame P) → IsPlaced (flushes GiveBackNext c f)
@@ -86,28 +89,28 @@ module _ {P : Type 0} (Q : Type 0) where
   ends_with (ending.Refused e) c f = record { placed = refl }
   ends_with ending.Returned c f = record { placed = refl }
 
-  allocates : (c : PoolCore P) (f : Frame P) → Q → IsPlaced (allocate_next c f)
+  allocates : (c : PoolCore P) (f : Frame P) → Q f.asked → IsPlaced (allocate_next c f)
   allocates c f q =
       either (nat_lt (length f.granted.items) (length (memories_asked f.asked))) (goes c f (Pick 0 0)) (ends c (record f { granted = no_room }) (answer.Granted (instance (record { memories = f.granted }))))
-      (record { placed = q }) (record { placed = (refl, q) })
+      (record { placed = q }) (record { placed = (refl, f.asked, q) })
 
-  validated_placed : (g : Given) (o : Option Unsupported) (c : PoolCore P) (f : Frame P) → Q → IsPlaced (validated o g.wants c f)
+  validated_placed : (g : Given) (o : Option Unsupported) (c : PoolCore P) (f : Frame P) → Q f.asked → IsPlaced (validated o g.wants c f)
   validated_placed g (Some rule) c f q = record { placed = refl }
   validated_placed g None c f q =
       either g.wants (ends c f (answer.Refused refusal.Memory)) (goes c (record f { granted = record { items = []; room = length (memories_asked f.asked) } }) CountInstance)
       (record { placed = refl }) (record { placed = q })
 
-  picked_placed : (o : Option (SlotId × ℕ)) (shard : ShardState) (queues tried : ℕ) (c : PoolCore P) (f : Frame P) → Q → IsPlaced (picked o shard queues tried c f)
+  picked_placed : (o : Option (SlotId × ℕ)) (shard : ShardState) (queues tried : ℕ) (c : PoolCore P) (f : Frame P) → Q f.asked → IsPlaced (picked o shard queues tried c f)
   picked_placed (Some p) shard queues tried c f q = record { placed = q }
   picked_placed None shard queues tried c f q = either (nat_lt (tried + 1) (length c.shards)) (goes c f (Pick queues (tried + 1))) (no_slot queues c f) (record { placed = q }) (no_slot_left queues c f q)
 
-  holds_placed : (slot : ℕ) (cell : Cell) (c : PoolCore P) (f : Frame P) → Q → IsPlaced (holds_region slot cell c f)
+  holds_placed : (slot : ℕ) (cell : Cell) (c : PoolCore P) (f : Frame P) → Q f.asked → IsPlaced (holds_region slot cell c f)
   holds_placed slot (unmapped region) c f q = record { placed = q }
   holds_placed slot (unknown held) c f q = record { placed = q }
   holds_placed slot (previously_used held) c f q = record { placed = q }
   holds_placed slot taken c f q = record { placed = tt }
 
-  made_placed : (slot : ℕ) (held : Slot) (r : Result MemoryState AllocError) (c : PoolCore P) (f : Frame P) → Q → IsPlaced (made slot held r c f)
+  made_placed : (slot : ℕ) (held : Slot) (r : Result MemoryState AllocError) (c : PoolCore P) (f : Frame P) → Q f.asked → IsPlaced (made slot held r c f)
   made_placed slot held (Ok memory) c f q = record { placed = q }
   made_placed slot held (Err e) c f q = record { placed = q }
 
@@ -115,7 +118,7 @@ module _ {P : Type 0} (Q : Type 0) where
   returns_placed [] c f = record { placed = tt }
   returns_placed (lease ∷ rest) c f = record { placed = tt }
 
-  put_placed : (after : AfterFlush) (memories : List QueuedMemory) (c : PoolCore P) (f : Frame P) → PlacedAs Q (stage_of {P = P} (PutRegion after) f.ending) → IsPlaced (puts after memories c f)
+  put_placed : (after : AfterFlush) (memories : List QueuedMemory) (c : PoolCore P) (f : Frame P) → PlacedAs (Q f.asked) (stage_of {P = P} (PutRegion after) f.ending) → IsPlaced (puts after memories c f)
   put_placed after [] c f q = record { placed = tt }
   put_placed (PickAgain queues) (m ∷ rest) c f q =
       goes_either (with_cell m.index (cell_returned m) c) (record f { local = record f.local { memories = rest }; freed = with_item (record { slot = m.index; bytes = m.bytes }) f.freed }) (length rest == 0) (Free (PickAgain queues)) (PutRegion (PickAgain queues))
@@ -124,7 +127,7 @@ module _ {P : Type 0} (Q : Type 0) where
       goes_either (with_cell m.index (cell_returned m) c) (record f { local = record f.local { memories = rest }; freed = with_item (record { slot = m.index; bytes = m.bytes }) f.freed }) (length rest == 0) (Free GiveBackNext) (PutRegion GiveBackNext)
       (record { placed = tt }) (record { placed = tt })
 
-  freed_placed : (after : AfterFlush) (c : PoolCore P) (f : Frame P) → PlacedAs Q (stage_of {P = P} (Free after) f.ending) → IsPlaced (were_freed after c f)
+  freed_placed : (after : AfterFlush) (c : PoolCore P) (f : Frame P) → PlacedAs (Q f.asked) (stage_of {P = P} (Free after) f.ending) → IsPlaced (were_freed after c f)
   freed_placed (PickAgain queues) c f q = either (length f.freed.items == 0) (after_flush (PickAgain queues) c f) (goes c f (Free (PickAgain queues))) (record { placed = q }) (record { placed = q })
   freed_placed GiveBackNext c f q = either (length f.freed.items == 0) (after_flush GiveBackNext c f) (goes c f (Free GiveBackNext)) (gives_back c f) (record { placed = tt })
 
@@ -134,7 +137,7 @@ module _ {P : Type 0} (Q : Type 0) where
       (flush_of_give_back (with_queue (queue_tried 0 c f) (after_take queue) c) (record f { local = taken_into f.local queue }))
       (gives_back (with_queue (queue_tried 0 c f) queue c) f)
 
-  pub placed_at : (g : Given) (phase : Phase P) (c : PoolCore P) (f : Frame P) → PlacedAs Q (stage_of phase f.ending) → IsPlaced (row_of g phase c (in_phase phase f))
+  pub placed_at : (g : Given) (phase : Phase P) (c : PoolCore P) (f : Frame P) → PlacedAs (Q f.asked) (stage_of phase f.ending) → IsPlaced (row_of g phase c (in_phase phase f))
   placed_at g Idle c f q = record { placed = tt }
   placed_at g Key c f q = record { placed = refl }
   placed_at g Validate c f q = validated_placed g (memories_refused c.settings (memories_asked f.asked)) c (in_phase Validate f) q
@@ -170,3 +173,9 @@ module _ {P : Type 0} (Q : Type 0) where
   placed_at g (PutRegion after) c f q = put_placed after f.local.memories c (in_phase (PutRegion after) f) q
   placed_at g (Free after) c f q = freed_placed after _ (record (in_phase (Free after) f) { freed = record f.freed { items = freed_elsewhere c.settings (first_shard c.settings f.freed.items) f.freed.items } }) q
   placed_at g UncountInstance c f q = ends_with f.ending (counting_instances (c.counters.core_instances - 1) c) (in_phase UncountInstance f)
+
+  -- What holds where a call asks, for what it asks, holds so after a step.
+  pub placed_by : {old new : LimiterTold} (c : PoolCore P) (f : Frame P) (a : After P) → StepsTo old new c f a → (stage_of f.phase f.ending ≡ asks → Q f.asked) → PlacedBy a.outcome a.frame
+  placed_by c f a by has =
+      let Placed : After P → Type 0 = λ x. IsPlaced x in
+      (subst Placed (sym by.1.is) (placed_at by.0 f.phase c f (placed_as (Q f.asked) (stage_of f.phase f.ending) has))).placed

@@ -10,16 +10,16 @@ use Rattle.pool_index.specs.Shard.{one_if}
 use Rattle.pool_alloc.specs.declared.frame.ModuleCall.{ModuleCall}
 use Rattle.pool_alloc.specs.Stepping.{CanCount}
 use Rattle.pool_alloc.specs.declared.pool_core.PoolCore.{PoolCore}
-use Rattle.pool_run.specs.Folds.{RunState, TurnsOf, TurnsIf, IsUnderWay, with_turn, commands_of, replies_to}
+use Rattle.pool_run.specs.Folds.{RunState, TurnsOf, TurnsIf, with_turn, commands_of, replies_to}
 use Rattle.pool_alloc.specs.Sound.{IsCore}
 use Rattle.pool_alloc.specs.Whole.{IsUntouched, IsWhole}
 use Rattle.pool_run.specs.Folds.{Folds, IsMadeParty}
-use Rattle.pool_run.specs.Progress.{begins_by, bound_by, Advances}
-use Rattle.pool_run.specs.RunsMade.{IsBetweenTurns, IsKept, places_in, commands_in, party_made_for, run_made}
+use Rattle.pool_run.specs.Progress.{begins_by, bound_by, Advances, IsRunOf}
+use Rattle.pool_run.specs.RunsMade.{Background, IsBetweenTurns, IsKept, places_in, commands_in, party_made_for, parties_made}
 use Rattle.pool_run.specs.declared.input.Party.{Party}
 use Rattle.pool_run.specs.Ties.{CanTurn, IsSoundTurn, held_by_party}
 use Rattle.pool_run.specs.Turns.{Turned, Turns}
-use Rattle.pool_run.specs.Worlds.{IsFit, AreFit, AreCallsFor, IsCallFor}
+use Rattle.pool_run.specs.Worlds.{IsFit, AreFit, AreCallsFor, IsCallFor, NameModules}
 use Rattle.pool_run.specs.Private.{World}
 use Rattle.pool_run.specs.declared.command.Command.{Command}
 use Rattle.pool_run.specs.declared.running_party.RunningParty.{RunningParty}
@@ -27,13 +27,13 @@ use Rattle.pool_alloc.specs.declared.pool_core.Settings.{Settings}
 use Rattle.pool_run.proofs.Advanced.{HasAdvanced, has_advanced}
 use Rattle.pool_run.proofs.Between.{untouched_grouped, made_between, ready_there, still_between, advances}
 use Rattle.pool_run.proofs.Counters.{can_count}
-use Rattle.pool_run.proofs.Ended.{no_more_replies}
+use Rattle.pool_run.proofs.Ended.{few_told, folds_count}
 use Rattle.pool_run.proofs.Folding.{run_turned, folds_more}
+use Rattle.pool_run.proofs.Following.{commands_there}
 use Rattle.pool_run.proofs.Started.{AreMade, started_running}
 use Rattle.pool_run.proofs.LimitsOfRuns.{made_within, turns_of_within}
 use Rattle.pool_run.proofs.Running.{can_turn}
 use Rattle.pool_run.proofs.Turned.{has_turned}
-use Rattle.pool_run.specs.Private.{no_grants}
 
 one_fits : (w : World) (s : Settings) (number : ℕ) (o : Option ModuleCall) → IfSome o (IsCallFor w s number) → IfSome o (IsFit s)
 one_fits w s number None call = tt
@@ -64,65 +64,84 @@ module _ {P : Type 0} where
       let T : List Command → Type 0 = λ cs. Turns modules cs s.core p t in
       subst If (sym there) (t, subst T same turns, sound, refl)
 
+  -- A run goes on with a turn, over the same parties.
+  run_goes_on : (of : Background) (given : List Party) (i : ℕ) (s new : RunState P) → IsRunOf of given s → TurnsOf of.world.maker of.modules of.inputs i s new → IsRunOf of given new
+  run_goes_on of given i s new run turns = record {
+    way = run_turned of.world of.modules of.inputs i s new run.way turns;
+    inputs = run.inputs;
+    parties = folds_count of.world.maker of.modules of.inputs (i ∷ []) s new (new, turns, refl) ∙ run.parties;
+    named = run.named;
+  }
+
   -- what a turn of the party wants
   pub record CanTake (maker : MakerTold) (modules : List ModuleCall) (commands : List Command) (c : PoolCore P) (p : RunningParty P) : Type 0 where
     pub can : CanTurn maker c p
     pub counts : CanCount c
     pub calls : AreFit c.settings modules
+    pub named : NameModules (length modules) commands
     pub places : length commands ≤ length p.live
     pub small : p.done + 1 < 2 ^ 64
 
-  pub can_take : (w : World) (modules : List ModuleCall) (inputs : List (List Command)) (commands : List Command) (i : ℕ) (p : RunningParty P) (s : RunState P) → IsUnderWay w modules inputs s → IsKept s → slice_get s.parties i ≡ Some p → commands ≡ commands_of inputs i → CanTake w.maker modules commands s.core p
-  can_take w modules inputs commands i p s way kept there same =
+  pub can_take : (of : Background) (given : List Party) (commands : List Command) (i : ℕ) (p : RunningParty P) (s : RunState P) → IsRunOf of given s → IsKept s.core s.parties → slice_get s.parties i ≡ Some p → commands ≡ commands_of of.inputs i → CanTake of.world.maker s.modules commands s.core p
+  can_take of given commands i p s run kept there same =
+      let w : World = of.world in
+      let way = run.way in
       let below : i < length s.parties = slice_get_within s.parties i p there in
       let here : slice_index_or s.parties i p ≡ p = get_or_from_slice_get s.parties i p p there in
       let Can : RunningParty P → Type 0 = λ q. CanTurn w.maker s.core q in
       let to = way.each i p below in
       let places : RunningParty P → ℕ = λ q. 1 + length q.live in
-      let long : length commands ≡ length (commands_of inputs i) = ap (length {A = Command}) same in
+      let long : length commands ≡ length (commands_of of.inputs i) = ap (length {A = Command}) same in
       let live : length (slice_index_or s.parties i p).live ≡ length p.live = ap (λ (q : RunningParty P). length q.live) here in
       let done : (slice_index_or s.parties i p).done ≡ p.done = ap (λ (q : RunningParty P). q.done) here in
-      let told = no_more_replies w 0 (commands_of inputs i) (replies_to i s.replies) (no_grants (commands_of inputs i)) to.private.grants to.private.run in
       let few : 1 + length (slice_index_or s.parties i p).live ≤ places_in s.parties = get_or-le-sum_by places s.parties i p below in
+      let inside : i < length given = omega (arith, below, run.parties) in
+      let N : List ModuleCall → List Command → Type 0 = λ modules cs. NameModules (length modules) cs in
+      let named : N of.modules commands = subst (N of.modules) (commands_there of.inputs given i nobody run.inputs inside ∙ sym same) (run.named i nobody inside) in
       record {
         can = subst Can here (can_turn w.maker s.core s.parties i p way.running below);
         counts = can_count w.maker s.core s.parties way.running kept.few;
-        calls = are_fit w s.core.settings modules way.calls;
+        calls = subst (AreFit s.core.settings) (sym way.given) (are_fit w s.core.settings of.modules way.calls);
+        named = subst (λ modules. N modules commands) (sym way.given) named;
         places = omega (arith, to.room, long, live);
-        small = omega (arith, kept.few, few, told, to.private.count, to.room, live, done);
+        small = omega (arith, kept.few, few, few_told of.world (commands_of of.inputs i) (replies_to i s.replies) (slice_index_or s.parties i p) to, to.private.count, live, done);
       }
 
   -- a turn is one of the run, which goes on, and keeps what it promises
-  pub record IsAfter (w : World) (modules : List ModuleCall) (inputs : List (List Command)) (i : ℕ) (s new : RunState P) : Type 0 where
-    pub turn : TurnsOf w.maker modules inputs i s new
-    pub way : IsUnderWay w modules inputs new
-    pub kept : IsKept new
-    pub advances : Advances modules (commands_of inputs i) i s new
+  pub record IsAfter (of : Background) (given : List Party) (i : ℕ) (s new : RunState P) : Type 0 where
+    pub turn : TurnsOf of.world.maker of.modules of.inputs i s new
+    pub run : IsRunOf of given new
+    pub kept : IsKept new.core new.parties
+    pub advances : Advances of.modules (commands_of of.inputs i) i s new
 
-  pub turn_after : (w : World) (modules : List ModuleCall) (inputs : List (List Command)) (commands : List Command) (i : ℕ) (p : RunningParty P) (s : RunState P) (t : Turned P) → IsUnderWay w modules inputs s → IsKept s → slice_get s.parties i ≡ Some p → commands ≡ commands_of inputs i → Turns modules commands s.core p t → IsSoundTurn w.maker t → IsAfter w modules inputs i s (with_turn i t s)
-  turn_after w modules inputs commands i p s t way kept there same turns sound =
-      let turn : TurnsOf w.maker modules inputs i s (with_turn i t s) = turn_taken w.maker modules inputs commands i p s t there same turns sound in
-      let on : IsUnderWay w modules inputs (with_turn i t s) = run_turned w modules inputs i s (with_turn i t s) way turn in
+  pub turn_after : (of : Background) (given : List Party) (commands : List Command) (i : ℕ) (p : RunningParty P) (s : RunState P) (t : Turned P) → IsRunOf of given s → IsKept s.core s.parties → slice_get s.parties i ≡ Some p → commands ≡ commands_of of.inputs i → Turns s.modules commands s.core p t → IsSoundTurn of.world.maker t → IsAfter of given i s (with_turn i t s)
+  turn_after of given commands i p s t run kept there same turns sound =
+      let w : World = of.world in
+      let way = run.way in
+      let T : List ModuleCall → List Command → Type 0 = λ modules cs. Turns modules cs s.core p t in
+      let turned_so : T of.modules (commands_of of.inputs i) = subst (T of.modules) same (subst (λ modules. T modules commands) way.given turns) in
+      let turn : TurnsOf w.maker of.modules of.inputs i s (with_turn i t s) = turn_taken w.maker of.modules of.inputs (commands_of of.inputs i) i p s t there refl turned_so sound in
+      let on : IsRunOf of given (with_turn i t s) = run_goes_on of given i s (with_turn i t s) run turn in
       let below : i < length s.parties = slice_get_within s.parties i p there in
       let inside : i < length (slice_set s.parties i t.party) = omega (arith, below, length-set s.parties i t.party) in
       let places : RunningParty P → ℕ = λ q. 1 + length q.live in
       let live : length (slice_index_or (slice_set s.parties i t.party) i p).live ≡ length t.party.live = ap (λ (q : RunningParty P). length q.live) (get_or-set_same s.parties i t.party p below) in
-      let take : CanTake w.maker modules commands s.core p = can_take w modules inputs commands i p s way kept there same in
-      let T : List Command → Type 0 = λ cs. Turns modules cs s.core p t in
+      let take : CanTake w.maker s.modules commands s.core p = can_take of given commands i p s run kept there same in
       let L : List Command → Type 0 = λ cs. length cs ≤ length p.live in
-      let count : ℕ = length (commands_of inputs i) in
-      let turned : HasAdvanced (one_if (begins_by count p)) (bound_by modules (commands_of inputs i) s.core p) s.core p t =
-      has_advanced w modules (commands_of inputs i) s.core p t way.calls take.can (ready_there s i p kept.queues kept.between there) (subst L same take.places) (subst T same turns) in
+      let room : L (commands_of of.inputs i) = subst L same take.places in
+      let count : ℕ = length (commands_of of.inputs i) in
+      let turned : HasAdvanced (one_if (begins_by count p)) (bound_by of.modules (commands_of of.inputs i) s.core p) s.core p t =
+      has_advanced w of.modules (commands_of of.inputs i) s.core p t way.calls take.can (ready_there s i p kept.queues kept.between there) room turned_so in
       record {
         turn = turn;
-        way = on;
-        advances = advances modules (commands_of inputs i) s i p t there (has_turned w modules (commands_of inputs i) s.core p t way.calls take.can (subst L same take.places) (subst T same turns)).size turned;
+        run = on;
+        advances = advances of.modules (commands_of of.inputs i) s i p t there (has_turned w of.modules (commands_of of.inputs i) s.core p t way.calls take.can room turned_so).size turned;
         kept = record {
-          whole = on.running.whole;
-          within = turns_of_within w modules inputs i s (with_turn i t s) way turn kept.within;
-          few = omega (arith, kept.few, sum_by-set places s.parties i t.party p below, (way.each i p below).room, (on.each i p inside).room, live);
+          whole = on.way.running.whole;
+          within = turns_of_within w of.modules of.inputs i s (with_turn i t s) way turn kept.within;
+          few = omega (arith, kept.few, sum_by-set places s.parties i t.party p below, (way.each i p below).room, (on.way.each i p inside).room, live);
           queues = turned.ready.groups.queues;
-          between = still_between s i (one_if (begins_by count p)) (bound_by modules (commands_of inputs i) s.core p) p t kept.between turned;
+          between = still_between s i (one_if (begins_by count p)) (bound_by of.modules (commands_of of.inputs i) s.core p) p t kept.between turned;
         };
       }
 
@@ -146,12 +165,12 @@ module _ {P : Type 0} where
       subst (λ (cs : List Command). At cs (get_or (map (party_made_for {P = P} s) parties) i d)) (sym commands) (subst (At q.commands) (sym party) (one_made s q))
 
   -- A run keeps what it promises from its start on.
-  pub kept_at_start : (maker : MakerTold) (c : PoolCore P) (parties : List Party) → IsCore maker c → IsUntouched c → places_in (run_made c parties).parties + 1 < 2 ^ 64 → IsKept (run_made c parties)
+  pub kept_at_start : (maker : MakerTold) (c : PoolCore P) (parties : List Party) → IsCore maker c → IsUntouched c → places_in (parties_made {P = P} c.settings parties) + 1 < 2 ^ 64 → IsKept c (parties_made c.settings parties)
   kept_at_start maker c parties core untouched few =
-      let whole : IsWhole held_by_party c (run_made c parties).parties = (started_running maker c (commands_in parties) (run_made c parties).parties core untouched (are_made c.settings parties)).whole in
+      let whole : IsWhole held_by_party c (parties_made c.settings parties) = (started_running maker c (commands_in parties) (parties_made c.settings parties) core untouched (are_made c.settings parties)).whole in
       record {
         whole = whole;
-        within = made_within c (run_made c parties).parties untouched whole;
+        within = made_within c (parties_made c.settings parties) untouched whole;
         few = few;
         queues = untouched_grouped maker c core untouched;
         between = All-map IsBetweenTurns (party_made_for c.settings) parties (λ k d below. made_between (slice_index_or parties k d).home (length (slice_index_or parties k d).commands) c.settings);

@@ -108,9 +108,10 @@ module _ {P : Type 0} where
       let first : To (party_made made.home s (length commands)) = record { room = length-replicate {A = Option (Grant P)} (length commands) None; private = party_is_private P w commands made.home s } in
       subst To (sym (is_party_made s (length commands) p made)) first
 
-  pub run_started : (w : World) (modules : List ModuleCall) (inputs : List (List Command)) (c : PoolCore P) (parties : List (RunningParty P)) → IsCore w.maker c → IsUntouched c → IsWorldOf w c → AreCallsFor w c.settings modules → AreMade c.settings inputs parties → (w.alone ≡ true → length parties ≡ 1) → IsUnderWay w modules inputs (record { core = c; parties = parties; replies = replicate (length parties) [] })
+  pub run_started : (w : World) (modules : List ModuleCall) (inputs : List (List Command)) (c : PoolCore P) (parties : List (RunningParty P)) → IsCore w.maker c → IsUntouched c → IsWorldOf w c → AreCallsFor w c.settings modules → AreMade c.settings inputs parties → (w.alone ≡ true → length parties ≡ 1) → IsUnderWay w modules inputs (record { core = c; modules = modules; parties = parties; replies = replicate (length parties) [] })
   run_started w modules inputs c parties core untouched world calls made alone = record {
     running = started_running w.maker c inputs parties core untouched made;
+    given = refl;
     world = world;
     calls = calls;
     alone = λ e. record {

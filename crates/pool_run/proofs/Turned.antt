@@ -42,10 +42,10 @@ use Rattle.pool_alloc.proofs.Fitting.{step_conserves, step_keeps_size}
 use Rattle.pool_run.specs.Ties.{asks, granted_to, held_by_party}
 use Rattle.pool_run.proofs.Beginning.{idle_is}
 use Rattle.pool_run.proofs.Parties.{HaveSame, grant_inside, has_call, brings_key, brings_module, brings_grant}
-use Rattle.pool_run.proofs.Placed.{placed_as, has_place, PlacedBy, IsPlaced, placed_at}
+use Rattle.pool_run.proofs.Placed.{has_place, PlacedBy, placed_by}
 
 -- a stage is one
-no_call_no_place : {X : Type 0} (s : Stage) → s ≡ no_call → s ≡ asks → X
+pub no_call_no_place : {X : Type 0} (s : Stage) → s ≡ no_call → s ≡ asks → X
 no_call_no_place no_call is other = absurd cc
 no_call_no_place asks is other = absurd cc
 no_call_no_place (ends_as e) is other = absurd cc
@@ -89,7 +89,7 @@ module _ {P : Type 0} where
       let here : granted_to of (slice_index_or live i None) ≡ 0 = ap (granted_to of) none in
       omega (arith, sum_by-set (granted_to of) live i (Some grant) None inside)
 
-  answered_turned : (c : PoolCore P) (p : RunningParty P) (d : PoolCore P) (f : Frame P) (o : Option (Outcome P)) → ((k : ℕ) → p.done ≤ k → slice_index_or p.live k None ≡ None) → Conserves c p.frame (record { core = d; frame = f; outcome = o }) → IsSameSize c d → PlacedBy (p.done < length p.live) o f → (IsSearchedAt p.frame.phase c p.frame → IsSearchedAt f.phase d f) → HasTurned c p (answered o d (record p { frame = f }))
+  answered_turned : (c : PoolCore P) (p : RunningParty P) (d : PoolCore P) (f : Frame P) (o : Option (Outcome P)) → ((k : ℕ) → p.done ≤ k → slice_index_or p.live k None ≡ None) → Conserves c p.frame (record { core = d; frame = f; outcome = o }) → IsSameSize c d → PlacedBy (λ asked. p.done < length p.live) o f → (IsSearchedAt p.frame.phase c p.frame → IsSearchedAt f.phase d f) → HasTurned c p (answered o d (record p { frame = f }))
   answered_turned c p d f None to_come b size placed after = record {
     places = λ x. omega (arith, b.places x);
     instances = omega (arith, b.instances);
@@ -113,9 +113,9 @@ module _ {P : Type 0} where
   answered_turned c p d f (Some (answer.Granted grant)) to_come b size placed after =
       let none : slice_index_or p.live p.done None ≡ None = to_come p.done (omega arith) in
       record {
-        places = λ x. omega (arith, b.places x, more (grant_count x) p.live p.done grant placed.1 none);
-        instances = omega (arith, b.instances, more grant_instances p.live p.done grant placed.1 none);
-        memories = omega (arith, b.memories, more grant_memories p.live p.done grant placed.1 none);
+        places = λ x. omega (arith, b.places x, more (grant_count x) p.live p.done grant placed.2 none);
+        instances = omega (arith, b.instances, more grant_instances p.live p.done grant placed.2 none);
+        memories = omega (arith, b.memories, more grant_memories p.live p.done grant placed.2 none);
         size = size;
         room = length-set p.live p.done (Some grant);
         to_come = λ k behind. get_or-set_other p.live p.done k (Some grant) None (λ is. omega (arith, is, behind)) ∙ to_come k (omega (arith, behind));
@@ -148,11 +148,9 @@ module _ {P : Type 0} where
   step_turned maker c p t can steps =
       let a : After P = steps.0 in
       let by = steps.1 in
-      let Placed : After P → Type 0 = λ x. IsPlaced (p.done < length p.live) x in
-      let placed : IsPlaced (p.done < length p.live) a =
-      subst Placed (sym by.1.is) (placed_at (p.done < length p.live) by.0 p.frame.phase c p.frame (placed_as (p.done < length p.live) (stage_of p.frame.phase p.frame.ending) can.party.place)) in
       subst (HasTurned c p) (sym steps.2)
-      (answered_turned c p a.core a.frame a.outcome can.party.to_come (step_conserves maker unlimited unlimited c p.frame a (can_step maker c p can) by) (step_keeps_size maker unlimited unlimited c p.frame a (can_step maker c p can) by) placed.placed
+      (answered_turned c p a.core a.frame a.outcome can.party.to_come (step_conserves maker unlimited unlimited c p.frame a (can_step maker c p can) by) (step_keeps_size maker unlimited unlimited c p.frame a (can_step maker c p can) by)
+      (placed_by (λ asked. p.done < length p.live) c p.frame a by can.party.place)
       (λ searching. let Searched : After P → Type 0 = λ x. IsSearched x in (subst Searched (sym by.1.is) (searched_at maker by.0 p.frame.phase c p.frame can.core searching)).searched))
 
   -- The same from a party with as much of the pool.

@@ -21,14 +21,14 @@ use Rattle.pool_alloc.specs.declared.frame.Outcome.TheVariants as answer
 use Rattle.pool_alloc.specs.declared.lease.InstanceLease.{InstanceLease}
 use Rattle.pool_run.specs.AtOnce.{AnswersMemory, AnswersGrant, LeaseMoved, LiveMoved, Makes}
 use Rattle.pool_run.specs.Private.{PrivateMemory}
-use Rattle.pool_run.specs.Ties.{CanTurn, IsSoundTurn, stage_of}
+use Rattle.pool_run.specs.Ties.{CanTurn, IsSoundTurn}
 use Rattle.pool_run.specs.Turns.{Turned, leases_of, replies, answered, Steps, LooksAtLease, LooksAt, MovesLease, MovesIn}
 use Rattle.pool_run.specs.declared.reply.Reply.{Reply}
 use Rattle.pool_run.specs.declared.reply.Reply.TheVariants.{Refused}
 use Rattle.pool_run.specs.declared.reply.Refusal.TheVariants.{NoSuchGrant}
 use Rattle.pool_run.specs.declared.running_party.RunningParty.{RunningParty}
 use Rattle.pool_run.proofs.Moves.{KeepsSlot, lease_still}
-use Rattle.pool_run.proofs.Placed.{placed_as, PlacedBy, IsPlaced, placed_at}
+use Rattle.pool_run.proofs.Placed.{PlacedBy, placed_by}
 use Rattle.pool_run.proofs.Sounds.{granted_any, step_sound, reply_sound, lease_there, move_sound}
 
 module _ {P : Type 0} where
@@ -44,19 +44,16 @@ module _ {P : Type 0} where
   answered_core (Some (answer.Refused e)) c p = refl
 
   -- There is a place for what is granted.
-  granted_place : (Q : Type 0) (o : Option (Outcome P)) (f : Frame P) → PlacedBy Q o f → IfGranted (λ g. Q) o
+  pub granted_place : (Q : Type 0) (o : Option (Outcome P)) (f : Frame P) → PlacedBy (λ asked. Q) o f → IfGranted (λ g. Q) o
   granted_place Q None f placed = tt
   granted_place Q (Some answer.Key) f placed = tt
-  granted_place Q (Some (answer.Granted grant)) f placed = placed.1
+  granted_place Q (Some (answer.Granted grant)) f placed = placed.2
   granted_place Q (Some answer.Returned) f placed = tt
   granted_place Q (Some (answer.Refused e)) f placed = tt
 
   pub place_for : (maker : MakerTold) (c : PoolCore P) (p : RunningParty P) (a : After P) → CanTurn maker c p → StepsTo unlimited unlimited c p.frame a → IfGranted (λ g. p.done < length p.live) a.outcome
   place_for maker c p a can by =
-      let Q : Type 0 = p.done < length p.live in
-      let Placed : After P → Type 0 = λ x. IsPlaced Q x in
-      let placed : IsPlaced Q a = subst Placed (sym by.1.is) (placed_at Q by.0 p.frame.phase c p.frame (placed_as Q (stage_of p.frame.phase p.frame.ending) can.party.place)) in
-      granted_place Q a.outcome a.frame placed.placed
+      granted_place (p.done < length p.live) a.outcome a.frame (placed_by (λ asked. p.done < length p.live) c p.frame a by can.party.place)
 
   -- A step of the call under way.
   pub step_made : (maker : MakerTold) (decls : List MemoryDecl) (c : PoolCore P) (p : RunningParty P) (a : After P) (t : Turned P) → CanTurn maker c p → StepsTo unlimited unlimited c p.frame a → CanStep maker a.core a.frame → IfGranted (IsGrantOf maker c.settings decls) a.outcome → IsSameSize c a.core → t ≡ answered a.outcome a.core (record p { frame = a.frame }) → Makes maker (Steps c p) c t

@@ -16,9 +16,16 @@ use Rattle.pool_run.specs.declared.command.Command.{Command}
 use Rattle.pool_run.specs.declared.reply.Reply.{Reply}
 use Rattle.pool_run.specs.declared.running_party.RunningParty.{RunningParty}
 
--- the pool, the parties, and the replies to each of them so far
+-- what a run has: the pool, the calls for its modules, and the parties
+pub record RunParts (P : Type 0) : Type 0 where
+  pub core : PoolCore P
+  pub modules : List ModuleCall
+  pub parties : List (RunningParty P)
+
+-- the same, and the replies to each of the parties so far
 pub record RunState (P : Type 0) : Type 0 where
   pub core : PoolCore P
+  pub modules : List ModuleCall
   pub parties : List (RunningParty P)
   pub replies : List (List Reply)
 
@@ -29,18 +36,26 @@ commands_of inputs i = slice_index_or inputs i []
 abbrev pub replies_to : ℕ → List (List Reply) → List Reply
 replies_to i replies = slice_index_or replies i []
 
+-- the replies after a turn of party i, with one more if a command ended with it
+abbrev pub told_after : ℕ → Option Reply → List (List Reply) → List (List Reply)
+told_after i reply told = slice_set told i (with_reply reply (replies_to i told))
+
 -- so many turns of each party, party by party
 abbrev pub party_by_party : ℕ → List ℕ → List ℕ
 party_by_party i [] = []
 party_by_party i (n ∷ counts) = replicate n i ++ party_by_party (i + 1) counts
 
 module _ {P : Type 0} where
+  abbrev pub state_of : RunParts P → List (List Reply) → RunState P
+  state_of run told = record { core = run.core; modules = run.modules; parties = run.parties; replies = told }
+
   -- after a turn of party i
   abbrev pub with_turn : ℕ → Turned P → RunState P → RunState P
   with_turn i t s = record {
     core = t.core;
+    modules = s.modules;
     parties = slice_set s.parties i t.party;
-    replies = slice_set s.replies i (with_reply t.reply (replies_to i s.replies));
+    replies = told_after i t.reply s.replies;
   }
 
   abbrev pub TurnsIf : MakerTold → List ModuleCall → List Command → ℕ → Option (RunningParty P) → RunState P → RunState P → Type 0
@@ -98,6 +113,7 @@ module _ {P : Type 0} where
   -- What holds at each moment of a run.
   pub record IsUnderWay (w : World) (modules : List ModuleCall) (inputs : List (List Command)) (s : RunState P) : Type 0 where
     pub running : IsRunning w.maker s.core s.parties
+    pub given : s.modules ≡ modules
     pub world : IsWorldOf w s.core
     pub calls : AreCallsFor w s.core.settings modules
     pub alone : w.alone ≡ true → IsOfOne s

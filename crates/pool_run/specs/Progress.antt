@@ -95,8 +95,8 @@ module _ {P : Type 0} where
     pub folds : Folds maker modules inputs (replicate times i) s end
 
   -- The run is under way, and is one of these parties, whose commands name modules that are there.
-  pub record IsRunOf (of : Background) (modules : List ModuleCall) (given : List Party) (s : RunState P) : Type 0 where
-    pub way : IsUnderWay of.world modules of.inputs s
+  pub record IsRunOf (of : Background) (given : List Party) (s : RunState P) : Type 0 where
+    pub way : IsUnderWay of.world of.modules of.inputs s
     pub inputs : of.inputs ≡ commands_in given
     pub parties : length s.parties ≡ length given
-    pub named : (i : ℕ) (d : Party) → i < length given → NameModules (length modules) (slice_index_or given i d).commands
+    pub named : (i : ℕ) (d : Party) → i < length given → NameModules (length of.modules) (slice_index_or given i d).commands

@@ -10,13 +10,16 @@ use Rattle.pool_limits.specs.Growth.{always}
 use Rattle.pool_images.specs.Images.{makes_listed as makes_listed_images}
 use Rattle.pool_slots.specs.Makings.{makes_listed}
 use Rattle.pool_alloc.specs.Made.{IsMadeCore, settings_of}
+use Rattle.pool_alloc.specs.Sound.{IsCore}
 use Rattle.pool_alloc.specs.Sums.{metrics_of}
+use Rattle.pool_alloc.specs.Whole.{IsUntouched}
 use Rattle.pool_alloc.specs.declared.frame.ModuleCall.{ModuleCall}
 use Rattle.pool_alloc.specs.declared.pool_core.PoolCore.{PoolCore}
-use Rattle.pool_run.specs.Folds.{RunState, Folds, Runs, commands_of, replies_to}
+use Rattle.pool_run.specs.Folds.{RunParts, RunState, Folds, Runs, commands_of, replies_to}
+use Rattle.pool_run.specs.Made.{AreMadeCalls}
 use Rattle.pool_run.specs.Numbers.{calls_of_run}
 use Rattle.pool_run.specs.Private.{World, IsPrivateRun, IsWholeRun}
-use Rattle.pool_run.specs.RunsMade.{IsKept, commands_in, run_made}
+use Rattle.pool_run.specs.RunsMade.{IsKept, commands_in, parties_made, run_made}
 use Rattle.pool_run.specs.Schedules.{turns_of}
 use Rattle.pool_run.specs.Worlds.{AreCallsFor}
 use Rattle.pool_run.specs.declared.command.Command.{Command}
@@ -48,6 +51,14 @@ abbrev pub IsToldBy : Bool → World → List Command → List Reply → Type 0
 IsToldBy true w commands replies = IsWholeRun w commands replies
 IsToldBy false w commands replies = IsPrivateRun w commands replies
 
+-- The run is as it is made of the input: its pool is, with a call for each module, and no party has done anything.
+pub record IsMadeRun {P : Type 0} (tunables : Tunables) (input : Input) (maker : MakerTold) (run : RunParts P) : Type 0 where
+  pub made : IsMadeCore maker input.config tunables run.core
+  pub core : IsCore maker run.core
+  pub untouched : IsUntouched run.core
+  pub calls : AreMadeCalls maker.page input.modules run.modules
+  pub parties : run.parties ≡ parties_made run.core.settings input.parties
+
 -- The output is that of a run of the input: there is a pool as it is made, with a call for each module, and the turns
 -- lead from there to an end, of which the output gives the replies and the numbers.
 pub record IsRun (P : Type 0) (tunables : Tunables) (input : Input) (maker : MakerTold) (output : RunOutput) : Type 0 where
@@ -56,8 +67,8 @@ pub record IsRun (P : Type 0) (tunables : Tunables) (input : Input) (maker : Mak
   pub modules : List ModuleCall
   pub calls : AreCallsFor (world_of input maker) core.settings modules
   pub end : RunState P
-  pub performed : Performs input.finish maker modules (commands_in input.parties) (turns_of input.schedule) (run_made core input.parties) end
-  pub kept : IsKept end
+  pub performed : Performs input.finish maker modules (commands_in input.parties) (turns_of input.schedule) (run_made core modules input.parties) end
+  pub kept : IsKept end.core end.parties
   pub replies : output.replies ≡ end.replies
   pub told : (i : ℕ) → i < length input.parties → IsToldBy input.finish (world_of input maker) (commands_of (commands_in input.parties) i) (replies_to i output.replies)
   pub metrics : output.metrics ≡ metrics_of end.core

@@ -1,28 +1,45 @@
 -- A run as it is made, and what the type that keeps it promises at each moment.
-use Rattle.std.specs.Prelude.{◌≡◌, ℕ, ◌+◌, ◌^◌, ◌<◌, List, [], length, map, replicate, sum_by, All, Bool, true, false, None}
+use Rattle.std.specs.Prelude.{◌≡◌, ℕ, ◌+◌, ◌^◌, ◌<◌, ◌≤◌, List, [], length, map, slice_index_or, replicate, sum_by, All, Bool, true, false, Option, Some, None}
 use Rattle.pool_alloc.specs.Bounds.{IsGrouped, AreGrouped}
 use Rattle.pool_alloc.specs.Calls.{frame_made}
+use Rattle.pool_alloc.specs.Reserved.{Reserved, with_item}
 use Rattle.pool_alloc.specs.Whole.{IsWhole}
 use Rattle.pool_alloc.specs.declared.pool_core.PoolCore.{PoolCore}
 use Rattle.pool_alloc.specs.declared.pool_core.Settings.{Settings}
+use Rattle.pool_alloc.specs.declared.frame.ModuleCall.{ModuleCall}
 use Rattle.pool_alloc.specs.declared.frame.Phase.{Phase}
 use Rattle.pool_alloc.specs.declared.frame.Phase.TheVariants.{Key}
 use Rattle.pool_run.specs.Folds.{RunState}
 use Rattle.pool_run.specs.Private.{World}
 use Rattle.pool_run.specs.Limits.{IsWithinCounts}
-use Rattle.pool_run.specs.Ties.{held_by_party}
+use Rattle.pool_run.specs.Ties.{held_by_party, IsReserved}
 use Rattle.pool_run.specs.declared.command.Command.{Command}
 use Rattle.pool_run.specs.declared.input.Party.{Party}
+use Rattle.pool_run.specs.declared.reply.Reply.{Reply}
 use Rattle.pool_run.specs.declared.running_party.RunningParty.{RunningParty}
 
 -- the commands of each party
 abbrev pub commands_in : List Party → List (List Command)
 commands_in parties = map (λ p. p.commands) parties
 
--- what a run is of: what stays the same for all of it, and the commands of each party
+-- what a run is of: what stays the same for all of it, the calls for its modules, and the commands of each party
 pub record Background : Type 0 where
   pub world : World
+  pub modules : List ModuleCall
   pub inputs : List (List Command)
+
+-- and what each party was told so far
+pub record SoFar : Type 0 where
+  pub of : Background
+  pub told : List (List Reply)
+
+-- an empty list with room for a reply to each command of a party, and such a list with one reply more, if there is one
+abbrev pub room_for : Party → Reserved Reply
+room_for p = record { items = []; room = length p.commands }
+
+abbrev pub with_told : Option Reply → Reserved Reply → Reserved Reply
+with_told None told = told
+with_told (Some reply) told = with_item reply told
 
 module _ {P : Type 0} where
   -- a party as it is made, with places for so many commands
@@ -32,9 +49,12 @@ module _ {P : Type 0} where
   abbrev pub party_made_for : Settings → Party → RunningParty P
   party_made_for s p = party_made p.home s (length p.commands)
 
+  abbrev pub parties_made : Settings → List Party → List (RunningParty P)
+  parties_made s parties = map (party_made_for s) parties
+
   -- no party has done anything, nor was told anything
-  abbrev pub run_made : PoolCore P → List Party → RunState P
-  run_made c parties = record { core = c; parties = map (party_made_for c.settings) parties; replies = replicate (length parties) [] }
+  abbrev pub run_made : PoolCore P → List ModuleCall → List Party → RunState P
+  run_made c modules parties = record { core = c; modules = modules; parties = parties_made c.settings parties; replies = replicate (length parties) [] }
 
   -- how many instances parties may have counted at once
   abbrev pub places_in : List (RunningParty P) → ℕ
@@ -53,9 +73,19 @@ module _ {P : Type 0} where
 
   -- Each slot and each region is in one place, the counters count what is granted or under way, and can count on, and no
   -- more instances are granted than there may be. The ranges of each queued slot lie together.
-  pub record IsKept (s : RunState P) : Type 0 where
-    pub whole : IsWhole held_by_party s.core s.parties
-    pub within : IsWithinCounts s.core s.parties
-    pub few : places_in s.parties + 1 < 2 ^ 64
-    pub queues : AreGrouped s.core.queues
-    pub between : All IsBetweenTurns s.parties
+  pub record IsKept (c : PoolCore P) (parties : List (RunningParty P)) : Type 0 where
+    pub whole : IsWhole held_by_party c parties
+    pub within : IsWithinCounts c parties
+    pub few : places_in parties + 1 < 2 ^ 64
+    pub queues : AreGrouped c.queues
+    pub between : All IsBetweenTurns parties
+
+  -- Each party has a list for the slots of what it asks for.
+  pub record AreReserved (parties : List (RunningParty P)) (slots : List (Reserved ℕ)) : Type 0 where
+    pub count : length slots ≡ length parties
+    pub each : (i : ℕ) (d : RunningParty P) (x : Reserved ℕ) → i < length parties → IsReserved (slice_index_or parties i d).frame (slice_index_or slots i x)
+
+  -- For each party there is a list with room for a reply to each of its commands.
+  pub record HaveRoom (parties : List (RunningParty P)) (told : List (Reserved Reply)) : Type 0 where
+    pub count : length told ≡ length parties
+    pub each : (i : ℕ) (d : RunningParty P) (x : Reserved Reply) → i < length parties → length (slice_index_or parties i d).live ≤ (slice_index_or told i x).room

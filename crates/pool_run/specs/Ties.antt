@@ -1,7 +1,8 @@
 -- What a party was told, and what it has: between two turns they fit each other.
-use Rattle.std.specs.Prelude.{◌≡◌, ℕ, ◌+◌, ◌<◌, ◌≤◌, List, length, slice_get, slice_index_or, slice_set, map, sum_by, All, Option, Some, None, IsSome, IfSome}
+use Rattle.std.specs.Prelude.{◌≡◌, ℕ, ◌+◌, ◌<◌, ◌≤◌, List, [], length, slice_get, slice_index_or, slice_set, map, sum_by, All, Option, Some, None, IsSome, IfSome}
 use Rattle.pool_pages.specs.MakerTold.{MakerTold}
 use Rattle.pool_alloc.specs.Leases.{Lease}
+use Rattle.pool_alloc.specs.Reserved.{Reserved}
 use Rattle.pool_alloc.specs.Steps.{memories_asked, images_asked}
 use Rattle.pool_alloc.specs.Places.{Thing, slot_of, region_of, kept_count, frame_count, made_count, phase_instances, frame_memories}
 use Rattle.pool_alloc.specs.Stepping.{grant_count, grant_instances, grant_memories}
@@ -145,6 +146,11 @@ module _ {P : Type 0} where
     pub sound : IsSoundParty maker c p
     pub to_come : (k : ℕ) → p.done ≤ k → slice_index_or p.live k None ≡ None
     pub place : stage_of p.frame.phase p.frame.ending ≡ asks → p.done < length p.live
+
+  -- the list for the slots of what is asked for is empty, and has room for them
+  pub record IsReserved (f : Frame P) (slots : Reserved ℕ) : Type 0 where
+    pub empty : slots.items ≡ []
+    pub room : stage_of f.phase f.ending ≡ asks → length (memories_asked f.asked) ≤ slots.room
 
   -- What a turn relies on: what the party has fits what the pool has. Nothing is in both, the region of each slot that
   -- the pool or the party has is with one of them too, and what the party has counted is counted.

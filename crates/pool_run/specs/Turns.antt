@@ -8,6 +8,7 @@ use Rattle.pool_memory.specs.Growing.{IsGrowth}
 use Rattle.pool_memory.specs.Memories.{MemoryState, bytes_of, memory_written}
 use Rattle.pool_slots.specs.declared.request.AllocError.TheVariants as alloc
 use Rattle.pool_alloc.specs.Leases.{Lease, IsMemory}
+use Rattle.pool_alloc.specs.Reserved.{Reserved, no_room}
 use Rattle.pool_alloc.specs.Calls.{begun_call}
 use Rattle.pool_alloc.specs.Steps.{After}
 use Rattle.pool_alloc.specs.Stepping.{StepsTo, is_idle}
@@ -102,6 +103,11 @@ module _ {P : Type 0} where
   answered (Some (answer.Granted grant)) c p = replies (granted_reply grant) c (record p { live = slice_set p.live p.done (Some grant) })
   answered (Some answer.Returned) c p = replies Returned c p
   answered (Some (answer.Refused e)) c p = replies (Refused (Alloc e)) c p
+
+  -- the list for the slots of what is asked for: its grant's reply takes it
+  abbrev pub slots_after : Option (Outcome P) → Reserved ℕ → Reserved ℕ
+  slots_after (Some (answer.Granted grant)) slots = no_room
+  slots_after _ slots = slots
 
   abbrev pub after_step : After P → RunningParty P → Turned P
   after_step a p = answered a.outcome a.core (record p { frame = a.frame })

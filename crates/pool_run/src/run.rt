@@ -1,97 +1,146 @@
-ghost use Rattle.std.specs.Prelude.{◌≡◌, ℕ, ◌+◌, ◌^◌, ◌<◌, ◌≤◌, [], length, map, replicate, slice_get, slice_index_or, slice_set, fold, IfOk, Option, None, Some};
+ghost use Rattle.std.specs.Prelude.{◌≡◌, ◌↔◌, ℕ, ◌+◌, ◌^◌, ◌<◌, ◌≤◌, Err, Some, length, map, replicate, slice_get, slice_index_or, true, false, fold, IfOk, IfErr};
+ghost use Rattle.pool_pages.specs.Config.{default_tunables};
+ghost use Rattle.pool_pages.specs.ConfigLimits.{IsWithinLimits, first_broken_limit};
 ghost use Rattle.pool_pages.specs.MakerTold.{MakerTold};
+ghost use Rattle.pool_pages.specs.declared.bad_config.BadConfig.{BadConfig};
+ghost use Rattle.pool_alloc.specs.Reserved.{no_room};
 ghost use Rattle.pool_alloc.specs.Sound.{IsCore};
 ghost use Rattle.pool_alloc.specs.Sums.{metrics_of};
 ghost use Rattle.pool_alloc.specs.Whole.{IsUntouched};
-ghost use Rattle.pool_run.specs.Folds.{RunState, TurnsOf, IsUnderWay, commands_of, replies_to};
+ghost use Rattle.pool_run.specs.Built.{is_built};
+ghost use Rattle.pool_run.specs.Folds.{TurnsOf, commands_of, state_of, told_after};
 ghost use Rattle.pool_run.specs.Numbers.{with_party, calls_of_run};
-ghost use Rattle.pool_run.specs.Progress.{is_busy, commands_done, Advances};
-ghost use Rattle.pool_run.specs.RunsMade.{Background, IsKept, party_made_for, run_made, places_in};
-ghost use Rattle.pool_run.specs.Turns.{with_reply};
-ghost use Rattle.pool_run.specs.Worlds.{NameModules};
-ghost use Rattle.pool_run.specs.declared.reply.Reply.{Reply as reply_type};
+ghost use Rattle.pool_run.specs.Progress.{is_busy, commands_done, Advances, IsRunOf};
+ghost use Rattle.pool_run.specs.Runs.{IsMadeRun, FaultsInMaking, is_bad_config};
+ghost use Rattle.pool_run.specs.RunsMade.{SoFar, IsKept, party_made_for, parties_made, places_in};
+ghost use Rattle.pool_run.specs.Validity.{is_valid};
 
-use crate::command::Command;
-use crate::input::Party;
+use crate::calls::make_calls;
+use crate::input::{Input, Party};
 use crate::leases::Leases;
-use crate::reply::{Reply, ReplyList};
+use crate::output::RunFault;
+use crate::pools::make_pool;
+use crate::reply::Reply;
+use crate::reserved_vec::ReservedVec;
 use crate::running_party::RunningParty;
 use crate::turn::{is_idle, turn_of};
 use pool_alloc::{Metrics, ModuleCall, PoolCore};
-use pool_pages::{PageCalls, Pages, PlainList};
+use pool_pages::{PageCalls, PageMaker, Pages};
 use pool_slots::add_calls;
 use std::alloc::{AllocError, Global};
 use std::marker::Model;
 
-/// A pool with its parties, each with what its call and its live grants have of the pool, and the replies so far.
+/// A pool, the calls for the modules, and the parties, each with what its call and its live grants have of the pool,
+/// and with a list for the slots of what it asks for.
 #[derive(Drop)]
 pub struct Run<P: Pages> {
     core: PoolCore<P>,
+    modules: Vec<ModuleCall>,
     parties: Vec<RunningParty<P>>,
-    replies: Vec<ReplyList>,
+    slots: Vec<ReservedVec<u32>>,
 }
 
 impl<P: Pages> Model for Run<P> {
-    ghost use Rattle.pool_run.specs.Folds.{RunState};
-    ghost use Rattle.pool_run.specs.RunsMade.{IsKept};
+    ghost use Rattle.pool_run.specs.Folds.{RunParts};
+    ghost use Rattle.pool_run.specs.RunsMade.{IsKept, AreReserved};
 
-    ghost Value = { RunState P };
+    ghost Value = { RunParts P };
 
-    ghost view = { λ r. record { core = r.core; parties = r.parties.items; replies = r.replies.items } };
+    ghost view = { λ r. record { core = r.core; modules = r.modules.items; parties = r.parties.items } };
 
-    ghost invariant = { λ r. IsKept (record { core = r.core; parties = r.parties.items; replies = r.replies.items }) };
+    ghost invariant = { λ r. IsKept r.core r.parties.items × AreReserved r.parties.items r.slots.items };
 }
 
 impl<P: Pages> Run<P> {
-    /// No party has done anything yet. Each has a place for each of its commands.
-    pub fn new(alloc: Global, core: PoolCore<P>, parties: &[Party]) -> Result<Self, AllocError>
+    /// Makes a pool of the input's settings, the calls for its modules with their images, and the parties, each with a
+    /// place for each of its commands. A broken limit of the settings is found first.
+    pub fn new<M: PageMaker<Region = P>>(
+        alloc: Global,
+        input: &Input,
+        pages: &mut M,
+    ) -> Result<Self, RunFault>
+        requires built { is_built input.now ≡ true }
+        requires valid { is_valid input.now ≡ true }
+        ensures made { IfOk result (IsMadeRun default_tunables input.now (M.told pages.old)) }
+        ensures bad_config { (e : BadConfig) → (result ≡ Err (RunFault.BadConfig e)) ↔ (first_broken_limit input.now.config ≡ Some e) }
+        ensures fault { result ≡ Err RunFault.PageFault → FaultsInMaking input.now (M.told pages.old) (M.told pages.new) }
+    {
+        match input.config.check_limits() {
+            Ok(()) => Run::within(alloc, input, pages),
+            Err(error) => Err(RunFault::BadConfig(error)),
+        }
+    }
+
+    // The same by a maker that is as told. No limit of the settings is broken.
+    fn within<M: PageMaker<Region = P>>(
+        alloc: Global,
+        input: &Input,
+        pages: &mut M,
+    ) -> Result<Self, RunFault>
+        ghost maker: { MakerTold }
+        requires told { M.told pages.old ≡ maker }
+        requires built { is_built input.now ≡ true }
+        requires valid { is_valid input.now ≡ true }
+        requires within { IsWithinLimits input.now.config }
+        ensures made { IfOk result (IsMadeRun default_tunables input.now maker) }
+        ensures fault { result ≡ Err RunFault.PageFault → FaultsInMaking input.now maker (M.told pages.new) }
+        ensures settings { IfErr result (λ fault. is_bad_config fault ≡ false) }
+    {
+        let core = match make_pool(alloc, input, pages) {
+            Ok(core) => core,
+            Err(fault) => return Err(fault),
+        };
+        let calls = match make_calls(alloc, pages, input.modules.as_slice()) {
+            Ok(calls) => calls,
+            Err(fault) => return Err(fault),
+        };
+        let parties = input.parties.as_slice();
+        match Run::over(alloc, core, calls, parties) {
+            Ok(run) => Ok(run),
+            Err(_) => Err(RunFault::Memory),
+        }
+    }
+
+    // The run of these parties over a pool as it is made.
+    fn over(
+        alloc: Global,
+        core: PoolCore<P>,
+        modules: Vec<ModuleCall>,
+        parties: &[Party],
+    ) -> Result<Self, AllocError>
         ghost maker: { MakerTold }
         requires core { IsCore maker core }
         requires untouched { IsUntouched core }
         requires homes { (k : ℕ) (d : Party) → k < length parties.now → (slice_index_or parties.now k d).home < 2 ^ 32 }
-        requires few { places_in (run_made core parties.now).parties + 1 < 2 ^ 64 }
-        ensures { IfOk result (λ run. run ≡ run_made core parties.now) }
+        requires few { places_in (parties_made {P = P} core.settings parties.now) + 1 < 2 ^ 64 }
+        ensures { IfOk result (λ run. run ≡ record { core = core; modules = modules.items; parties = parties_made core.settings parties.now }) }
     {
         let made = make_parties(alloc, &core, parties)?;
-        let replies = no_replies(alloc, parties.len())?;
+        let slots = no_slots(alloc, parties.len())?;
         Ok(Run {
             core,
+            modules,
             parties: made,
-            replies,
+            slots,
         })
     }
 
-    /// Makes a turn of party `i`, which has these commands. Want of memory for its reply ends the run.
-    pub fn turn(
-        self,
-        alloc: Global,
-        modules: &[ModuleCall],
-        commands: &[Command],
-        i: usize,
-    ) -> Result<Self, AllocError>
-        ghost of: { Background }
-        requires way { IsUnderWay of.world modules.now of.inputs self }
-        requires commands { commands.now ≡ commands_of of.inputs i }
-        requires inside { i < length self.parties }
-        requires named { NameModules (length modules.now) commands.now }
-        ensures turn { IfOk result (TurnsOf of.world.maker modules.now of.inputs i self) }
-        ensures way { IfOk result (IsUnderWay of.world modules.now of.inputs) }
-        ensures advances { IfOk result (Advances modules.now commands.now i self) }
+    /// Makes a turn of a party. Answers the reply to the command that ended with it, if one did. Before a request begins
+    /// the list of its reply is reserved; where there is no memory for that the command ends at once.
+    pub fn turn(&mut self, alloc: Global, input: &Input, party: usize) -> Option<Reply>
+        ghost before: { SoFar }
+        requires run { IsRunOf before.of input.now.parties (state_of self.old before.told) }
+        requires inside { party < length input.now.parties }
+        ensures turn { TurnsOf before.of.world.maker before.of.modules before.of.inputs party (state_of self.old before.told) (state_of self.new (told_after party result before.told)) }
+        ensures run { IsRunOf before.of input.now.parties (state_of self.new (told_after party result before.told)) }
+        ensures advances { Advances before.of.modules (commands_of before.of.inputs party) party (state_of self.old before.told) (state_of self.new (told_after party result before.told)) }
     {
-        let Run {
-            mut core,
-            mut parties,
-            replies,
-        } = self;
-        let _count = commands.len();
-        let party = &mut parties[i];
-        let reply = turn_of(alloc, &mut core, modules, commands, party)?;
-        let replies = add_reply(replies, i, reply)?;
-        Ok(Run {
-            core,
-            parties,
-            replies,
-        })
+        let parties = input.parties.as_slice();
+        let commands = parties[party].commands.as_slice();
+        let modules = self.modules.as_slice();
+        let running = &mut self.parties[party];
+        let slots = &mut self.slots[party];
+        turn_of(alloc, &mut self.core, modules, commands, running, slots)
     }
 
     /// Whether a call of party `i` is under way.
@@ -124,12 +173,11 @@ impl<P: Pages> Run<P> {
         add_parties(self.core.page_calls(), self.parties.as_slice())
     }
 
-    /// The replies to each party.
-    pub fn into_replies(self) -> PlainList<ReplyList>
-        ensures replies { result ≡ self.replies }
-        ensures kept { IsKept self }
+    /// Drops the pool and what the parties have of it. Takes no memory, and makes no call on a region.
+    pub fn end(self)
+        ensures kept { IsKept self.core self.parties }
     {
-        PlainList::from_vec(self.replies)
+        let _core = self.core;
     }
 }
 
@@ -152,33 +200,6 @@ fn add_party<P: Pages>(calls: PageCalls, party: &RunningParty<P>) -> PageCalls
         .page_calls(add_calls(calls, party.frame.page_calls()))
 }
 
-// The replies with one more to party `i`, if there is one.
-fn add_reply(
-    replies: Vec<ReplyList>,
-    i: usize,
-    reply: Option<Reply>,
-) -> Result<Vec<ReplyList>, AllocError>
-    requires { i < length replies.items }
-    ensures { IfOk result (λ r. r.items ≡ slice_set replies.items i (with_reply reply (replies_to i replies.items))) }
-{
-    match reply {
-        None => Ok(replies),
-        Some(reply) => push_reply(replies, i, reply),
-    }
-}
-
-fn push_reply(replies: Vec<ReplyList>, i: usize, reply: Reply) -> Result<Vec<ReplyList>, AllocError>
-    requires { i < length replies.items }
-    ensures { IfOk result (λ r. r.items ≡ slice_set replies.items i (with_reply (Some reply) (replies_to i replies.items))) }
-{
-    let mut replies = replies;
-    let list = &mut replies[i];
-    let Ok(()) = list.push(reply) else {
-        return Err(AllocError);
-    };
-    Ok(replies)
-}
-
 fn make_parties<P: Pages>(
     alloc: Global,
     core: &PoolCore<P>,
@@ -186,7 +207,7 @@ fn make_parties<P: Pages>(
 ) -> Result<Vec<RunningParty<P>>, AllocError>
     requires batch { core.now.settings.batch ≤ 4096 }
     requires homes { (k : ℕ) (d : Party) → k < length parties.now → (slice_index_or parties.now k d).home < 2 ^ 32 }
-    ensures { IfOk result (λ v. v.items ≡ map (party_made_for core.now.settings) parties.now) }
+    ensures { IfOk result (λ v. v.items ≡ parties_made core.now.settings parties.now) }
 {
     let count = parties.len();
     let mut made = Vec::with_capacity(alloc, count)?;
@@ -214,12 +235,12 @@ fn make_party<P: Pages>(
     })
 }
 
-fn no_replies(alloc: Global, count: usize) -> Result<Vec<ReplyList>, AllocError>
-    ensures { IfOk result (λ v. v.items ≡ replicate count []) }
+fn no_slots(alloc: Global, count: usize) -> Result<Vec<ReservedVec<u32>>, AllocError>
+    ensures { IfOk result (λ v. v.items ≡ replicate count no_room) }
 {
-    let mut replies = Vec::with_capacity(alloc, count)?;
+    let mut slots = Vec::with_capacity(alloc, count)?;
     for at in 0..count {
-        replies.push(ReplyList::new(alloc))?;
+        slots.push(ReservedVec::none(alloc))?;
     }
-    Ok(replies)
+    Ok(slots)
 }

@@ -1,118 +1,90 @@
-ghost use Rattle.std.specs.Prelude.{◌≡◌, ◌↔◌, Err, Some, length, true, false, IfOk, IfErr, OnOk};
+ghost use Rattle.std.specs.Prelude.{◌≡◌, ◌↔◌, ◌≤◌, [], Err, Some, length, true, vec_capacity, IfOk, IfErr};
 ghost use Rattle.pool_pages.specs.Config.{default_tunables};
-ghost use Rattle.pool_pages.specs.ConfigLimits.{IsWithinLimits, first_broken_limit};
+ghost use Rattle.pool_pages.specs.ConfigLimits.{first_broken_limit};
 ghost use Rattle.pool_pages.specs.MakerTold.{MakerTold};
 ghost use Rattle.pool_pages.specs.declared.bad_config.BadConfig.{BadConfig};
-ghost use Rattle.pool_alloc.specs.Made.{IsMadeCore};
-ghost use Rattle.pool_alloc.specs.Sound.{IsCore};
 ghost use Rattle.pool_alloc.specs.Sums.{metrics_of};
-ghost use Rattle.pool_alloc.specs.Whole.{IsUntouched};
 ghost use Rattle.pool_run.specs.Built.{is_built};
-ghost use Rattle.pool_run.specs.Folds.{IsUnderWay};
-ghost use Rattle.pool_run.specs.Made.{AreMadeCalls};
 ghost use Rattle.pool_run.specs.Numbers.{calls_of_run};
-ghost use Rattle.pool_run.specs.Runs.{IsRun, Performs, FaultsInMaking, is_bad_config};
-ghost use Rattle.pool_run.specs.RunsMade.{Background, IsKept, commands_in};
+ghost use Rattle.pool_run.specs.Progress.{IsRunOf};
+ghost use Rattle.pool_run.specs.Runs.{IsMadeRun, IsRun, Performs, FaultsInMaking};
+ghost use Rattle.pool_run.specs.RunsMade.{Background, IsKept};
 ghost use Rattle.pool_run.specs.Schedules.{turns_of};
 ghost use Rattle.pool_run.specs.Validity.{is_valid};
 
-use crate::calls::make_calls;
 use crate::input::Input;
 use crate::output::{RunFault, RunOutput};
+use crate::reply::ReplyList;
 use crate::run::Run;
 use crate::schedule::{finish, follow};
-use pool_alloc::{ModuleCall, PoolCore};
-use pool_pages::{PageMaker, Pages, Tunables};
-use pool_slots::PoolNewError;
+use crate::told_run::ToldRun;
+use pool_pages::{PageMaker, Pages};
 use std::alloc::{AllocError, Global};
 
 // Makes the turns of the schedule, and where the input says so those of each party until it has nothing left.
-fn perform<P: Pages>(
-    run: Run<P>,
-    alloc: Global,
-    modules: &[ModuleCall],
-    input: &Input,
-) -> Result<Run<P>, AllocError>
+fn perform<P: Pages>(run: &mut ToldRun<P>, alloc: Global, input: &Input)
     ghost of: { Background }
-    requires way { IsUnderWay of.world modules.now of.inputs run }
-    requires inputs { of.inputs ≡ commands_in input.now.parties }
-    requires parties { length run.parties ≡ length input.now.parties }
-    requires modules { length modules.now ≡ length input.now.modules }
+    requires run { IsRunOf of input.now.parties run.old }
     requires valid { is_valid input.now ≡ true }
-    ensures { IfOk result (Performs input.now.finish of.world.maker modules.now of.inputs (turns_of input.now.schedule) run) }
+    ensures performs { Performs input.now.finish of.world.maker of.modules of.inputs (turns_of input.now.schedule) run.old run.new }
+    ensures run { IsRunOf of input.now.parties run.new }
 {
-    let parties = input.parties.as_slice();
-    let run = follow(run, alloc, modules, parties, input.schedule.as_slice())?;
+    follow(run, alloc, input, input.schedule.as_slice());
     if input.finish {
-        finish(run, alloc, modules, parties)
-    } else {
-        Ok(run)
+        finish(run, alloc, input);
     }
 }
 
-// What a run gives.
-fn output_of<P: Pages>(run: Run<P>) -> RunOutput
+// What a run gives. The list has room for the replies to each party.
+fn output_of<P: Pages>(run: ToldRun<P>, lists: Vec<ReplyList>) -> RunOutput
+    requires empty { lists.items ≡ [] }
+    requires room { length run.replies ≤ vec_capacity lists }
     ensures replies { result.replies ≡ run.replies }
     ensures metrics { result.metrics ≡ metrics_of run.core }
     ensures calls { result.calls ≡ calls_of_run run.core run.parties }
-    ensures kept { IsKept run }
+    ensures kept { IsKept run.core run.parties }
 {
     let metrics = run.metrics();
     let calls = run.page_calls();
     RunOutput {
-        replies: run.into_replies(),
+        replies: run.end(lists),
         metrics,
         calls,
     }
 }
 
-// Runs the input over a pool as it is made.
-fn run_over<P: Pages>(
-    alloc: Global,
-    input: &Input,
-    core: PoolCore<P>,
-    modules: &[ModuleCall],
-) -> Result<RunOutput, AllocError>
+// Reserves the replies to a run as it is made, makes its turns, and ends it.
+fn run_over<P: Pages>(alloc: Global, input: &Input, run: Run<P>) -> Result<RunOutput, AllocError>
     ghost maker: { MakerTold }
-    requires made { IsMadeCore maker input.now.config default_tunables core }
-    requires core { IsCore maker core }
-    requires untouched { IsUntouched core }
-    requires calls { AreMadeCalls maker.page input.now.modules modules.now }
+    requires made { IsMadeRun default_tunables input.now maker run }
     requires built { is_built input.now ≡ true }
     requires valid { is_valid input.now ≡ true }
     ensures { IfOk result (IsRun P default_tunables input.now maker) }
 {
-    let run = Run::new(alloc, core, input.parties.as_slice())?;
-    let end = perform(run, alloc, modules, input)?;
-    Ok(output_of(end))
+    let parties = input.parties.as_slice();
+    let lists = Vec::with_capacity(alloc, parties.len())?;
+    let mut told = ToldRun::new(alloc, run, parties)?;
+    perform(&mut told, alloc, input);
+    Ok(output_of(told, lists))
 }
 
-// Makes a pool of the input's settings.
-fn make_pool<P: Pages, M: PageMaker<Region = P>>(
-    alloc: Global,
-    input: &Input,
-    pages: &mut M,
-) -> Result<PoolCore<P>, RunFault>
+// The same, as the answer of a run.
+fn run_to_end<P: Pages>(alloc: Global, input: &Input, run: Run<P>) -> Result<RunOutput, RunFault>
+    ghost maker: { MakerTold }
+    requires made { IsMadeRun default_tunables input.now maker run }
     requires built { is_built input.now ≡ true }
-    requires within { IsWithinLimits input.now.config }
-    ensures made { IfOk result (IsMadeCore (M.told pages.old) input.now.config default_tunables) }
-    ensures core { IfOk result (IsCore (M.told pages.old)) }
-    ensures untouched { IfOk result IsUntouched }
-    ensures same { OnOk result (M.told pages.new ≡ M.told pages.old) }
-    ensures fault { result ≡ Err RunFault.PageFault → FaultsInMaking input.now (M.told pages.old) (M.told pages.new) }
-    ensures settings { IfErr result (λ fault. is_bad_config fault ≡ false) }
+    requires valid { is_valid input.now ≡ true }
+    ensures ok { IfOk result (IsRun P default_tunables input.now maker) }
+    ensures memory { IfErr result (λ fault. fault ≡ RunFault.Memory) }
 {
-    match PoolCore::new(alloc, &input.config, &Tunables::default(), pages) {
-        Ok(core) => Ok(core),
-        Err(PoolNewError::PageFault) => Err(RunFault::PageFault),
-        Err(PoolNewError::Memory) => Err(RunFault::Memory),
-        Err(PoolNewError::BadConfig(_)) => unreachable!(),
+    match run_over(alloc, input, run) {
+        Ok(output) => Ok(output),
+        Err(_) => Err(RunFault::Memory),
     }
 }
 
-// Makes a pool and the calls for the modules, by a maker that is as told, and runs the input over them. No limit of the
-// settings is broken.
-fn run_within<P: Pages, M: PageMaker<Region = P>>(
+// Makes a run of the input by a maker that is as told, and makes its turns.
+fn run_by<P: Pages, M: PageMaker<Region = P>>(
     alloc: Global,
     input: &Input,
     pages: &mut M,
@@ -121,29 +93,21 @@ fn run_within<P: Pages, M: PageMaker<Region = P>>(
     requires told { M.told pages.old ≡ maker }
     requires built { is_built input.now ≡ true }
     requires valid { is_valid input.now ≡ true }
-    requires within { IsWithinLimits input.now.config }
-    ensures ok { IfOk result (IsRun P default_tunables input.now maker) }
+    ensures ok { IfOk result (λ output. IsRun P default_tunables input.now maker output) }
+    ensures bad_config { (e : BadConfig) → (result ≡ Err (RunFault.BadConfig e)) ↔ (first_broken_limit input.now.config ≡ Some e) }
     ensures fault { result ≡ Err RunFault.PageFault → FaultsInMaking input.now maker (M.told pages.new) }
-    ensures settings { IfErr result (λ fault. is_bad_config fault ≡ false) }
 {
-    let core = match make_pool(alloc, input, pages) {
-        Ok(core) => core,
-        Err(fault) => return Err(fault),
-    };
-    let calls = match make_calls(alloc, pages, input.modules.as_slice()) {
-        Ok(calls) => calls,
-        Err(fault) => return Err(fault),
-    };
-    match run_over(alloc, input, core, calls.as_slice()) {
-        Ok(output) => Ok(output),
-        Err(_) => Err(RunFault::Memory),
+    match Run::new(alloc, input, pages) {
+        Ok(run) => run_to_end(alloc, input, run),
+        Err(fault) => Err(fault),
     }
 }
 
 /// Makes a pool of the input's settings and the images of its modules, and has the parties make their turns over them:
 /// those of the schedule first, and then, where the input says so, those of each party until each of its commands has
 /// its reply. The replies are in the order of the parties and of their commands. Nothing is run where a limit of the
-/// settings is broken, which is tested first, or where a region or an image can't be made.
+/// settings is broken, which is tested first, where a region or an image can't be made, or where there is no memory for
+/// the run and the lists of its replies.
 pub fn run_schedule<P: Pages, M: PageMaker<Region = P>>(
     alloc: Global,
     input: &Input,
@@ -155,8 +119,5 @@ pub fn run_schedule<P: Pages, M: PageMaker<Region = P>>(
     ensures bad_config { (e : BadConfig) → (result ≡ Err (RunFault.BadConfig e)) ↔ (first_broken_limit input.now.config ≡ Some e) }
     ensures fault { result ≡ Err RunFault.PageFault → FaultsInMaking input.now (M.told pages.old) (M.told pages.new) }
 {
-    match input.config.check_limits() {
-        Ok(()) => run_within(alloc, input, pages),
-        Err(error) => Err(RunFault::BadConfig(error)),
-    }
+    run_by(alloc, input, pages)
 }

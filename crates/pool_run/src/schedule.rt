@@ -1,168 +1,101 @@
-ghost use Rattle.std.specs.Prelude.{◌≡◌, ℕ, ◌+◌, ◌<◌, length, replicate, slice_get, slice_index_or, false, IfOk, IfSome};
+ghost use Rattle.std.specs.Prelude.{◌≡◌, ℕ, ◌+◌, ◌<◌, length, replicate, slice_get, slice_index_or, false, IfSome};
 ghost use Rattle.pool_index.specs.Shard.{one_if};
-ghost use Rattle.pool_run.specs.Folds.{TurnsOf, Folds, IsUnderWay, HasNothingLeft, Finishes, commands_of};
-ghost use Rattle.pool_run.specs.Progress.{is_busy, calls_begun, begins_call, Advances, TurnsSome, IsRunOf};
-ghost use Rattle.pool_run.specs.RunsMade.{Background, commands_in};
+ghost use Rattle.pool_run.specs.Folds.{Folds, HasNothingLeft, Finishes, commands_of};
+ghost use Rattle.pool_run.specs.Progress.{is_busy, calls_begun, begins_call, TurnsSome, IsRunOf};
+ghost use Rattle.pool_run.specs.RunsMade.{Background};
 ghost use Rattle.pool_run.specs.Schedules.{turns_of};
-ghost use Rattle.pool_run.specs.Worlds.{NameModules};
 
-use crate::input::{Party, ScheduleEntry};
-use crate::run::Run;
-use pool_alloc::ModuleCall;
+use crate::input::{Input, ScheduleEntry};
+use crate::told_run::ToldRun;
 use pool_pages::Pages;
-use std::alloc::{AllocError, Global};
-
-// Makes a turn of party `i`.
-fn turn_party<P: Pages>(
-    run: Run<P>,
-    alloc: Global,
-    modules: &[ModuleCall],
-    parties: &[Party],
-    i: usize,
-) -> Result<Run<P>, AllocError>
-    ghost of: { Background }
-    requires run { IsRunOf of modules.now parties.now run }
-    requires inside { i < length parties.now }
-    ensures turn { IfOk result (TurnsOf of.world.maker modules.now of.inputs i run) }
-    ensures advances { IfOk result (Advances modules.now (commands_of of.inputs i) i run) }
-    ensures run { IfOk result (IsRunOf of modules.now parties.now) }
-{
-    run.turn(alloc, modules, parties[i].commands.as_slice(), i)
-}
+use std::alloc::Global;
 
 // Makes so many turns of party `i`.
-fn repeat<P: Pages>(
-    run: Run<P>,
-    alloc: Global,
-    modules: &[ModuleCall],
-    parties: &[Party],
-    i: usize,
-    times: u64,
-) -> Result<Run<P>, AllocError>
+fn repeat<P: Pages>(run: &mut ToldRun<P>, alloc: Global, input: &Input, i: usize, times: u64)
     ghost of: { Background }
-    requires run { IsRunOf of modules.now parties.now run }
-    requires inside { i < length parties.now }
-    ensures folds { IfOk result (Folds of.world.maker modules.now of.inputs (replicate times i) run) }
-    ensures run { IfOk result (IsRunOf of modules.now parties.now) }
+    requires run { IsRunOf of input.now.parties run.old }
+    requires inside { i < length input.now.parties }
+    ensures folds { Folds of.world.maker of.modules of.inputs (replicate times i) run.old run.new }
+    ensures run { IsRunOf of input.now.parties run.new }
 {
-    let mut run = run;
     for turn in 0..times {
-        run = turn_party(run, alloc, modules, parties, i)?;
+        run.turn(alloc, input, i);
     }
-    Ok(run)
 }
 
 // Makes the turns of a schedule.
 pub(crate) fn follow<P: Pages>(
-    run: Run<P>,
+    run: &mut ToldRun<P>,
     alloc: Global,
-    modules: &[ModuleCall],
-    parties: &[Party],
+    input: &Input,
     schedule: &[ScheduleEntry],
-) -> Result<Run<P>, AllocError>
+)
     ghost of: { Background }
-    requires way { IsUnderWay of.world modules.now of.inputs run }
-    requires inputs { of.inputs ≡ commands_in parties.now }
-    requires parties { length run.parties ≡ length parties.now }
-    requires named { (i : ℕ) (d : Party) → i < length parties.now → NameModules (length modules.now) (slice_index_or parties.now i d).commands }
-    requires entries { (k : ℕ) (d : ScheduleEntry) → k < length schedule.now → (slice_index_or schedule.now k d).party < length parties.now }
-    ensures folds { IfOk result (Folds of.world.maker modules.now of.inputs (turns_of schedule.now) run) }
-    ensures way { IfOk result (IsUnderWay of.world modules.now of.inputs) }
-    ensures parties { IfOk result (λ end. length end.parties ≡ length run.parties) }
+    requires run { IsRunOf of input.now.parties run.old }
+    requires entries { (k : ℕ) (d : ScheduleEntry) → k < length schedule.now → (slice_index_or schedule.now k d).party < length input.now.parties }
+    ensures folds { Folds of.world.maker of.modules of.inputs (turns_of schedule.now) run.old run.new }
+    ensures run { IsRunOf of input.now.parties run.new }
 {
-    let mut run = run;
     for at in 0..schedule.len() {
         let entry = schedule[at];
-        run = repeat(run, alloc, modules, parties, entry.party, entry.times)?;
+        repeat(run, alloc, input, entry.party, entry.times);
     }
-    Ok(run)
 }
 
 // Makes turns of party `i` until its call has ended, if one is under way.
-fn end_call<P: Pages>(
-    run: Run<P>,
-    alloc: Global,
-    modules: &[ModuleCall],
-    parties: &[Party],
-    i: usize,
-) -> Result<Run<P>, AllocError>
+fn end_call<P: Pages>(run: &mut ToldRun<P>, alloc: Global, input: &Input, i: usize)
     ghost of: { Background }
-    requires run { IsRunOf of modules.now parties.now run }
-    requires inside { i < length parties.now }
-    ensures turns { IfOk result (TurnsSome of.world.maker modules.now of.inputs i run) }
-    ensures run { IfOk result (IsRunOf of modules.now parties.now) }
-    ensures idle { IfOk result (λ end. is_busy (slice_get end.parties i) ≡ false) }
-    ensures begun { IfOk result (λ end. calls_begun (slice_get end.parties i) ≡ calls_begun (slice_get run.parties i)) }
+    requires run { IsRunOf of input.now.parties run.old }
+    requires inside { i < length input.now.parties }
+    ensures turns { TurnsSome of.world.maker of.modules of.inputs i run.old run.new }
+    ensures run { IsRunOf of input.now.parties run.new }
+    ensures idle { is_busy (slice_get run.new.parties i) ≡ false }
+    ensures begun { calls_begun (slice_get run.new.parties i) ≡ calls_begun (slice_get run.old.parties i) }
 {
-    let mut run = run;
     while run.is_busy(i) {
-        run = turn_party(run, alloc, modules, parties, i)?;
+        run.turn(alloc, input, i);
     }
-    Ok(run)
 }
 
 // Makes the turns of party `i`'s next call, to its end.
-fn next_call<P: Pages>(
-    run: Run<P>,
-    alloc: Global,
-    modules: &[ModuleCall],
-    parties: &[Party],
-    i: usize,
-) -> Result<Run<P>, AllocError>
+fn next_call<P: Pages>(run: &mut ToldRun<P>, alloc: Global, input: &Input, i: usize)
     ghost of: { Background }
-    requires run { IsRunOf of modules.now parties.now run }
-    requires inside { i < length parties.now }
-    ensures turns { IfOk result (TurnsSome of.world.maker modules.now of.inputs i run) }
-    ensures run { IfOk result (IsRunOf of modules.now parties.now) }
-    ensures idle { IfOk result (λ end. is_busy (slice_get end.parties i) ≡ false) }
-    ensures begun { IfOk result (λ end. calls_begun (slice_get end.parties i) ≡ calls_begun (slice_get run.parties i) + one_if (begins_call (length (commands_of of.inputs i)) (slice_get run.parties i))) }
+    requires run { IsRunOf of input.now.parties run.old }
+    requires inside { i < length input.now.parties }
+    ensures turns { TurnsSome of.world.maker of.modules of.inputs i run.old run.new }
+    ensures run { IsRunOf of input.now.parties run.new }
+    ensures idle { is_busy (slice_get run.new.parties i) ≡ false }
+    ensures begun { calls_begun (slice_get run.new.parties i) ≡ calls_begun (slice_get run.old.parties i) + one_if (begins_call (length (commands_of of.inputs i)) (slice_get run.old.parties i)) }
 {
-    let begun = turn_party(run, alloc, modules, parties, i)?;
-    end_call(begun, alloc, modules, parties, i)
+    run.turn(alloc, input, i);
+    end_call(run, alloc, input, i);
 }
 
 // Makes turns of party `i` until it has nothing left.
-fn finish_party<P: Pages>(
-    run: Run<P>,
-    alloc: Global,
-    modules: &[ModuleCall],
-    parties: &[Party],
-    i: usize,
-) -> Result<Run<P>, AllocError>
+fn finish_party<P: Pages>(run: &mut ToldRun<P>, alloc: Global, input: &Input, i: usize)
     ghost of: { Background }
-    requires run { IsRunOf of modules.now parties.now run }
-    requires inside { i < length parties.now }
-    ensures turns { IfOk result (TurnsSome of.world.maker modules.now of.inputs i run) }
-    ensures run { IfOk result (IsRunOf of modules.now parties.now) }
-    ensures finished { IfOk result (λ end. IfSome (slice_get end.parties i) (HasNothingLeft (commands_of of.inputs i))) }
+    requires run { IsRunOf of input.now.parties run.old }
+    requires inside { i < length input.now.parties }
+    ensures turns { TurnsSome of.world.maker of.modules of.inputs i run.old run.new }
+    ensures run { IsRunOf of input.now.parties run.new }
+    ensures finished { IfSome (slice_get run.new.parties i) (HasNothingLeft (commands_of of.inputs i)) }
 {
+    let parties = input.parties.as_slice();
     let count = parties[i].commands.len();
-    let mut run = end_call(run, alloc, modules, parties, i)?;
+    end_call(run, alloc, input, i);
     while run.done(i) < count {
-        run = next_call(run, alloc, modules, parties, i)?;
+        next_call(run, alloc, input, i);
     }
-    Ok(run)
 }
 
 // Makes turns of each party until it has nothing left, party by party.
-pub(crate) fn finish<P: Pages>(
-    run: Run<P>,
-    alloc: Global,
-    modules: &[ModuleCall],
-    parties: &[Party],
-) -> Result<Run<P>, AllocError>
+pub(crate) fn finish<P: Pages>(run: &mut ToldRun<P>, alloc: Global, input: &Input)
     ghost of: { Background }
-    requires way { IsUnderWay of.world modules.now of.inputs run }
-    requires inputs { of.inputs ≡ commands_in parties.now }
-    requires parties { length run.parties ≡ length parties.now }
-    requires named { (i : ℕ) (d : Party) → i < length parties.now → NameModules (length modules.now) (slice_index_or parties.now i d).commands }
-    ensures finishes { IfOk result (Finishes of.world.maker modules.now of.inputs run) }
-    ensures way { IfOk result (IsUnderWay of.world modules.now of.inputs) }
-    ensures parties { IfOk result (λ end. length end.parties ≡ length run.parties) }
+    requires run { IsRunOf of input.now.parties run.old }
+    ensures finishes { Finishes of.world.maker of.modules of.inputs run.old run.new }
+    ensures run { IsRunOf of input.now.parties run.new }
 {
-    let mut run = run;
-    for i in 0..parties.len() {
-        run = finish_party(run, alloc, modules, parties, i)?;
+    for i in 0..input.parties.len() {
+        finish_party(run, alloc, input, i);
     }
-    Ok(run)
 }

@@ -1,31 +1,36 @@
-ghost use Rattle.std.specs.Prelude.{◌≡◌, ◌+◌, ◌^◌, ◌<◌, ◌≤◌, length, map, slice_get, slice_index_or, IfOk, None, Some};
+ghost use Rattle.std.specs.Prelude.{◌≡◌, ◌+◌, ◌^◌, ◌<◌, ◌≤◌, [], length, map, slice_get, slice_index_or, IfOk, None, Some};
 ghost use Rattle.pool_pages.specs.MakerTold.{MakerTold};
 ghost use Rattle.pool_alloc.specs.Calls.{IsIdle, IfGranted, begun_call};
+ghost use Rattle.pool_alloc.specs.Steps.{memories_asked};
 ghost use Rattle.pool_alloc.specs.Stepping.{CanCount, IsSameSize, is_idle};
 ghost use Rattle.pool_run.specs.AtOnce.{Makes};
-ghost use Rattle.pool_run.specs.Ties.{CanTurn, IsSoundTurn};
-ghost use Rattle.pool_run.specs.Turns.{IsShareOf, granted_reply, answered, Steps, Returns, Asks, Begins, BeginsKeyed, Turns};
+ghost use Rattle.pool_run.specs.Ties.{CanTurn, IsSoundTurn, IsReserved};
+ghost use Rattle.pool_run.specs.Turns.{IsShareOf, leases_of, granted_reply, answered, slots_after, Steps, Returns, Asks, Begins, BeginsKeyed, Turns};
 ghost use Rattle.pool_run.specs.Worlds.{IsFit, AreFit, NamesModule, NameModules};
 
 use crate::at_once::{Move, make_move, read, size};
 use crate::command::Command;
 use crate::reply::{Refusal, Reply, SlotList};
+use crate::reserved_vec::ReservedVec;
 use crate::running_party::RunningParty;
 use pool_alloc::{Call, Frame, Grant, InstanceLease, ModuleCall, Outcome, Phase, PoolCore};
 use pool_limits::Unlimited;
 use pool_pages::Pages;
 use pool_slots::AllocError as Cause;
 use std::alloc::{AllocError, Global};
+use std::mem;
 
 /// Makes a party's turn: the next step of its call, or the first step of its next command, where there is one. Answers
-/// the reply to the command that ends with it. Want of memory for a reply ends the run.
+/// the reply to the command that ends with it. The slots of what the party asks for are listed in `slots`: its room is
+/// reserved before the request begins, so that want of memory for it is the request's refusal.
 pub fn turn_of<P: Pages>(
     alloc: Global,
     core: &mut PoolCore<P>,
     modules: &[ModuleCall],
     commands: &[Command],
     party: &mut RunningParty<P>,
-) -> Result<Option<Reply>, AllocError>
+    slots: &mut ReservedVec<u32>,
+) -> Option<Reply>
     ghost maker: { MakerTold }
     requires can { CanTurn maker core.old party.old }
     requires counts { CanCount core.old }
@@ -33,14 +38,16 @@ pub fn turn_of<P: Pages>(
     requires named { NameModules (length modules.now) commands.now }
     requires places { length commands.now ≤ length party.old.live }
     requires small { party.old.done + 1 < 2 ^ 64 }
-    ensures turn { IfOk result (λ reply. Turns modules.now commands.now core.old party.old (record { core = core.new; party = party.new; reply = reply })) }
-    ensures sound { IfOk result (λ reply. IsSoundTurn maker (record { core = core.new; party = party.new; reply = reply })) }
-    ensures size { IfOk result (λ reply. IsSameSize core.old core.new) }
+    requires reserved { IsReserved party.old.frame slots.old }
+    ensures turn { Turns modules.now commands.now core.old party.old (record { core = core.new; party = party.new; reply = result }) }
+    ensures sound { IsSoundTurn maker (record { core = core.new; party = party.new; reply = result }) }
+    ensures size { IsSameSize core.old core.new }
+    ensures reserved { IsReserved party.new.frame slots.new }
 {
     if is_idle(&party.frame) {
-        begin_next(alloc, core, modules, commands, party)
+        begin_next(alloc, core, modules, commands, party, slots)
     } else {
-        step_call(alloc, core, party)
+        step_call(alloc, core, party, slots)
     }
 }
 
@@ -56,71 +63,83 @@ fn step_call<P: Pages>(
     alloc: Global,
     core: &mut PoolCore<P>,
     party: &mut RunningParty<P>,
-) -> Result<Option<Reply>, AllocError>
+    slots: &mut ReservedVec<u32>,
+) -> Option<Reply>
     ghost maker: { MakerTold }
     requires can { CanTurn maker core.old party.old }
     requires counts { CanCount core.old }
     requires small { party.old.done + 1 < 2 ^ 64 }
-    ensures { IfOk result (λ reply. Makes maker (Steps core.old party.old) core.old (record { core = core.new; party = party.new; reply = reply })) }
+    requires reserved { IsReserved party.old.frame slots.old }
+    ensures makes { Makes maker (Steps core.old party.old) core.old (record { core = core.new; party = party.new; reply = result }) }
+    ensures reserved { IsReserved party.new.frame slots.new }
 {
     let nobody: Option<&mut Unlimited> = None;
     let outcome = core.step(alloc, &mut party.frame, nobody);
-    answer(alloc, party, outcome)
+    answer(alloc, party, slots, outcome)
 }
 
 // Takes the answer to the party's call.
 fn answer<P: Pages>(
     alloc: Global,
     party: &mut RunningParty<P>,
+    slots: &mut ReservedVec<u32>,
     outcome: Option<Outcome<P>>,
-) -> Result<Option<Reply>, AllocError>
+) -> Option<Reply>
     requires place { IfGranted (λ g. party.old.done < length party.old.live) outcome }
     requires small { party.old.done + 1 < 2 ^ 64 }
-    ensures { IfOk result (λ reply. (c : PoolCore P) → record { core = c; party = party.new; reply = reply } ≡ answered outcome c party.old) }
+    requires empty { slots.old.items ≡ [] }
+    requires room { IfGranted (λ g. length (leases_of g) ≤ slots.old.room) outcome }
+    ensures answered { (c : PoolCore P) → record { core = c; party = party.new; reply = result } ≡ answered outcome c party.old }
+    ensures slots { slots.new ≡ slots_after outcome slots.old }
 {
     match outcome {
-        None => Ok(None),
+        None => None,
         Some(Outcome::Key) => {
             party.keyed = true;
-            Ok(None)
+            None
         }
         Some(Outcome::Granted(grant)) => {
-            let reply = granted_reply(alloc, &grant)?;
+            let reserved = mem::replace(slots, ReservedVec::none(alloc));
+            let reply = granted_reply(alloc, reserved, &grant);
             party.live.put(party.done, grant);
             party.done += 1;
-            Ok(Some(reply))
+            Some(reply)
         }
         Some(Outcome::Returned) => {
             party.done += 1;
-            Ok(Some(Reply::Returned))
+            Some(Reply::Returned)
         }
         Some(Outcome::Refused(error)) => {
             party.done += 1;
-            Ok(Some(Reply::Refused(Refusal::Alloc(error))))
+            Some(Reply::Refused(Refusal::Alloc(error)))
         }
     }
 }
 
-// The reply to a request that was granted: the slots of its memories.
-fn granted_reply<P: Pages>(alloc: Global, grant: &Grant<P>) -> Result<Reply, AllocError>
-    ensures { IfOk result (λ reply. reply ≡ granted_reply grant.now) }
+// The reply to a request that was granted: the slots of its memories, in the list that was reserved for them.
+fn granted_reply<P: Pages>(alloc: Global, slots: ReservedVec<u32>, grant: &Grant<P>) -> Reply
+    requires empty { slots.items ≡ [] }
+    requires room { length (leases_of grant.now) ≤ slots.room }
+    ensures { result ≡ granted_reply grant.now }
 {
     let Grant::Instance(lease) = grant;
-    Ok(Reply::Instance {
-        memories: slots_of(alloc, lease)?,
+    Reply::Instance {
+        memories: slots_of(slots, lease),
         tables: SlotList::new(alloc),
-    })
+    }
 }
 
-fn slots_of<P: Pages>(alloc: Global, lease: &InstanceLease<P>) -> Result<SlotList, AllocError>
-    ensures { IfOk result (λ slots. slots ≡ map (λ l. l.index) lease.now.memories.items) }
+fn slots_of<P: Pages>(slots: ReservedVec<u32>, lease: &InstanceLease<P>) -> SlotList
+    requires empty { slots.items ≡ [] }
+    requires room { length lease.now.memories.items ≤ slots.room }
+    ensures { result ≡ map (λ l. l.index) lease.now.memories.items }
 {
+    let mut slots = slots;
     let count = lease.memories.len();
-    let mut slots = Vec::with_capacity(alloc, count)?;
     for at in 0..count {
-        slots.push(lease.memories.get(at).index.0)?;
+        slots.push(lease.memories.get(at).index.0);
     }
-    Ok(SlotList::from_vec(slots))
+    slots.into_list()
 }
 
 // Makes the first step of the next command, or of the call that gives the party its stripe.
@@ -130,7 +149,8 @@ fn begin_next<P: Pages>(
     modules: &[ModuleCall],
     commands: &[Command],
     party: &mut RunningParty<P>,
-) -> Result<Option<Reply>, AllocError>
+    slots: &mut ReservedVec<u32>,
+) -> Option<Reply>
     ghost maker: { MakerTold }
     requires can { CanTurn maker core.old party.old }
     requires counts { CanCount core.old }
@@ -139,15 +159,17 @@ fn begin_next<P: Pages>(
     requires places { length commands.now ≤ length party.old.live }
     requires small { party.old.done + 1 < 2 ^ 64 }
     requires idle { IsIdle party.old.frame }
-    ensures { IfOk result (λ reply. Makes maker (BeginsKeyed party.old.keyed modules.now (slice_get commands.now party.old.done) core.old party.old) core.old (record { core = core.new; party = party.new; reply = reply })) }
+    requires reserved { IsReserved party.old.frame slots.old }
+    ensures makes { Makes maker (BeginsKeyed party.old.keyed modules.now (slice_get commands.now party.old.done) core.old party.old) core.old (record { core = core.new; party = party.new; reply = result }) }
+    ensures reserved { IsReserved party.new.frame slots.new }
 {
     match commands.get(party.done) {
-        None => Ok(None),
+        None => None,
         Some(command) => {
             if party.keyed {
-                begin(alloc, core, modules, command, party)
+                begin(alloc, core, modules, command, party, slots)
             } else {
-                draw_key(alloc, core, party)
+                draw_key(alloc, core, party, slots)
             }
         }
     }
@@ -158,16 +180,19 @@ fn draw_key<P: Pages>(
     alloc: Global,
     core: &mut PoolCore<P>,
     party: &mut RunningParty<P>,
-) -> Result<Option<Reply>, AllocError>
+    slots: &mut ReservedVec<u32>,
+) -> Option<Reply>
     ghost maker: { MakerTold }
     requires can { CanTurn maker core.old party.old }
     requires counts { CanCount core.old }
     requires small { party.old.done + 1 < 2 ^ 64 }
     requires idle { IsIdle party.old.frame }
-    ensures { IfOk result (λ reply. Makes maker (Steps core.old (record party.old { frame = begun_call Call.Key party.old.frame })) core.old (record { core = core.new; party = party.new; reply = reply })) }
+    requires reserved { IsReserved party.old.frame slots.old }
+    ensures makes { Makes maker (Steps core.old (record party.old { frame = begun_call Call.Key party.old.frame })) core.old (record { core = core.new; party = party.new; reply = result }) }
+    ensures reserved { IsReserved party.new.frame slots.new }
 {
     party.frame.begin(Call::Key);
-    step_call(alloc, core, party)
+    step_call(alloc, core, party, slots)
 }
 
 // Makes the first step of a command.
@@ -177,7 +202,8 @@ fn begin<P: Pages>(
     modules: &[ModuleCall],
     command: &Command,
     party: &mut RunningParty<P>,
-) -> Result<Option<Reply>, AllocError>
+    slots: &mut ReservedVec<u32>,
+) -> Option<Reply>
     ghost maker: { MakerTold }
     requires can { CanTurn maker core.old party.old }
     requires counts { CanCount core.old }
@@ -186,10 +212,12 @@ fn begin<P: Pages>(
     requires place { party.old.done < length party.old.live }
     requires small { party.old.done + 1 < 2 ^ 64 }
     requires idle { IsIdle party.old.frame }
-    ensures { IfOk result (λ reply. Makes maker (Begins modules.now command.now core.old party.old) core.old (record { core = core.new; party = party.new; reply = reply })) }
+    requires reserved { IsReserved party.old.frame slots.old }
+    ensures makes { Makes maker (Begins modules.now command.now core.old party.old) core.old (record { core = core.new; party = party.new; reply = result }) }
+    ensures reserved { IsReserved party.new.frame slots.new }
 {
     match command {
-        Command::Instantiate { module } => ask(alloc, core, &modules[*module], party),
+        Command::Instantiate { module } => ask(alloc, core, &modules[*module], party, slots),
         Command::Read {
             of,
             memory,
@@ -198,7 +226,7 @@ fn begin<P: Pages>(
         } => {
             let reply = read(alloc, &party.live, *of, *memory, *at, *len);
             party.done += 1;
-            Ok(Some(reply))
+            Some(reply)
         }
         Command::Write {
             of,
@@ -214,7 +242,7 @@ fn begin<P: Pages>(
                 &Move::Write { at: *at, bytes },
             );
             party.done += 1;
-            Ok(Some(reply))
+            Some(reply)
         }
         Command::Fill {
             of,
@@ -230,19 +258,19 @@ fn begin<P: Pages>(
             };
             let reply = make_move(&mut party.live, *of, *memory, &by);
             party.done += 1;
-            Ok(Some(reply))
+            Some(reply)
         }
         Command::Grow { of, memory, pages } => {
             let reply = make_move(&mut party.live, *of, *memory, &Move::Grow { pages: *pages });
             party.done += 1;
-            Ok(Some(reply))
+            Some(reply)
         }
         Command::Size { of, memory } => {
             let reply = size(&party.live, *of, *memory);
             party.done += 1;
-            Ok(Some(reply))
+            Some(reply)
         }
-        Command::Drop { of } => give_back(alloc, core, party, *of),
+        Command::Drop { of } => give_back(alloc, core, party, slots, *of),
     }
 }
 
@@ -252,7 +280,8 @@ fn ask<P: Pages>(
     core: &mut PoolCore<P>,
     kept: &ModuleCall,
     party: &mut RunningParty<P>,
-) -> Result<Option<Reply>, AllocError>
+    slots: &mut ReservedVec<u32>,
+) -> Option<Reply>
     ghost maker: { MakerTold }
     requires can { CanTurn maker core.old party.old }
     requires counts { CanCount core.old }
@@ -260,14 +289,27 @@ fn ask<P: Pages>(
     requires place { party.old.done < length party.old.live }
     requires small { party.old.done + 1 < 2 ^ 64 }
     requires idle { IsIdle party.old.frame }
-    ensures { IfOk result (λ reply. Makes maker (Asks (Some kept.now) core.old party.old) core.old (record { core = core.new; party = party.new; reply = reply })) }
+    requires reserved { IsReserved party.old.frame slots.old }
+    ensures makes { Makes maker (Asks (Some kept.now) core.old party.old) core.old (record { core = core.new; party = party.new; reply = result }) }
+    ensures reserved { IsReserved party.new.frame slots.new }
 {
-    let Ok(call) = share(kept) else {
+    let Ok((call, reserved)) = prepare(alloc, kept) else {
         party.done += 1;
-        return Ok(Some(Reply::Refused(Refusal::Alloc(Cause::Memory))));
+        return Some(Reply::Refused(Refusal::Alloc(Cause::Memory)));
     };
+    *slots = reserved;
     party.frame.begin(Call::Module(call));
-    step_call(alloc, core, party)
+    step_call(alloc, core, party, slots)
+}
+
+// The same call, and the list for the slots of its grant.
+fn prepare(alloc: Global, kept: &ModuleCall) -> Result<(ModuleCall, ReservedVec<u32>), AllocError>
+    ensures share { IfOk result (λ r. IsShareOf kept.now r.0) }
+    ensures room { IfOk result (λ r. r.1 ≡ record { items = []; room = length (memories_asked (Some kept.now)) }) }
+{
+    let call = share(kept)?;
+    let slots = ReservedVec::with_room(alloc, kept.info.memories.len())?;
+    Ok((call, slots))
 }
 
 // The same call, sharing the module and its images.
@@ -291,23 +333,26 @@ fn give_back<P: Pages>(
     alloc: Global,
     core: &mut PoolCore<P>,
     party: &mut RunningParty<P>,
+    slots: &mut ReservedVec<u32>,
     of: usize,
-) -> Result<Option<Reply>, AllocError>
+) -> Option<Reply>
     ghost maker: { MakerTold }
     requires can { CanTurn maker core.old party.old }
     requires counts { CanCount core.old }
     requires small { party.old.done + 1 < 2 ^ 64 }
     requires idle { IsIdle party.old.frame }
-    ensures { IfOk result (λ reply. Makes maker (Returns (slice_index_or party.old.live of None) of core.old party.old) core.old (record { core = core.new; party = party.new; reply = reply })) }
+    requires reserved { IsReserved party.old.frame slots.old }
+    ensures makes { Makes maker (Returns (slice_index_or party.old.live of None) of core.old party.old) core.old (record { core = core.new; party = party.new; reply = result }) }
+    ensures reserved { IsReserved party.new.frame slots.new }
 {
     match party.live.take(of) {
         None => {
             party.done += 1;
-            Ok(Some(Reply::Refused(Refusal::NoSuchGrant)))
+            Some(Reply::Refused(Refusal::NoSuchGrant))
         }
         Some(grant) => {
             party.frame.begin(Call::GiveBack(grant));
-            step_call(alloc, core, party)
+            step_call(alloc, core, party, slots)
         }
     }
 }

@@ -3,14 +3,14 @@ use Rattle.std.specs.Prelude.{slice_get}
 use Rattle.pool_run.specs.Progress.{calls_begun, turns_left, TurnsSome, IsRunOf}
 use Rattle.pool_run.proofs.schedule.end_call.Given as goal
 
-abbrev pub ghost-turn_party : goal.ghost-turn_party
-ghost-turn_party g a = g.of
+abbrev pub ghost-turn : goal.ghost-turn
+ghost-turn g a = record { of = g.of; told = a.self.now.replies }
 
 -- some turns so far, and no call more
 abbrev pub invariant-loop-alloc : goal.invariant-loop-alloc
 invariant-loop-alloc g l = record {
-  turns : TurnsSome g.of.world.maker l.modules g.of.inputs l.i l.fn.run l.run;
-  run : IsRunOf g.of l.modules l.parties l.run;
+  turns : TurnsSome g.of.world.maker g.of.modules g.of.inputs l.i l.fn.run l.run;
+  run : IsRunOf g.of l.input.parties l.run;
   begun : calls_begun (slice_get l.run.parties l.i) ≡ calls_begun (slice_get l.fn.run.parties l.i);
 }
 

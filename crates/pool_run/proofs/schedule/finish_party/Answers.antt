@@ -4,17 +4,20 @@ use Rattle.pool_index.specs.Shard.{one_if}
 use Rattle.pool_run.specs.Folds.{commands_of}
 use Rattle.pool_run.specs.Progress.{commands_done, begins_call}
 use Rattle.pool_run.specs.declared.command.Command.{Command}
+use Rattle.pool_run.specs.declared.input.Party.{Party}
 use Rattle.pool_run.proofs.Finishing.{BeginsNext, begins_there, nothing_is_left, some_on}
-use Rattle.pool_run.proofs.Following.{commands_there}
+use Rattle.pool_run.proofs.Following.{commands_read}
 use Rattle.pool_run.proofs.schedule.finish_party.Goals as goal
 
 pub loop-alloc-init : goal.loop-alloc-init
-loop-alloc-init g c = record {
-  turns = c.in_ok-run.ensures.turns;
-  run = c.in_ok-run.ensures.run;
-  idle = c.in_ok-run.ensures.idle;
-  count = c.len-count.ensures ∙ ap (length {A = Command}) (commands_there g.of.inputs c.args.parties.now c.args.i c.index-parties-i.result c.requires.1.0.inputs c.requires.1.1);
-}
+loop-alloc-init g c =
+    let q : Party = c.index-parties-i.result in
+    record {
+      turns = c.end_call.ensures.turns;
+      run = c.end_call.ensures.run;
+      idle = c.end_call.ensures.idle;
+      count = c.len-count.ensures ∙ ap (length {A = Command}) (commands_read g.of.inputs c.args.input.now.parties c.as_slice-parties.result.now c.args.i q c.requires.1.0.inputs c.as_slice-parties.ensures c.requires.1.1);
+    }
 
 pub loop-alloc-smaller : goal.loop-alloc-smaller
 loop-alloc-smaller g c =
@@ -24,13 +27,13 @@ loop-alloc-smaller g c =
     let more : commands_done (slice_get c.loop-alloc.run.parties i) < count = omega (arith, c.done.ensures, c.loop-alloc-test.true, c.loop-alloc.invariant.count) in
     let next : BeginsNext count (slice_get c.loop-alloc.run.parties i) = begins_there count i c.loop-alloc.run below c.loop-alloc.invariant.idle more in
     let one : one_if (begins_call count (slice_get c.loop-alloc.run.parties i)) ≡ 1 = ap one_if next.next in
-    omega (arith, c.in_ok-run-2.ensures.begun, one, next.few, c.loop-alloc.invariant.count)
+    omega (arith, c.next_call.ensures.begun, one, next.few, c.loop-alloc.invariant.count)
 
 pub loop-alloc-preserved : goal.loop-alloc-preserved
 loop-alloc-preserved g c = record {
-  turns = some_on g.of.world.maker c.args.modules.now g.of.inputs c.args.i c.args.run c.loop-alloc.run c.in_ok-run-2.run' c.loop-alloc.invariant.turns c.in_ok-run-2.ensures.turns;
-  run = c.in_ok-run-2.ensures.run;
-  idle = c.in_ok-run-2.ensures.idle;
+  turns = some_on g.of.world.maker g.of.modules g.of.inputs c.args.i c.args.run.now c.loop-alloc.run c.next_call.new.run c.loop-alloc.invariant.turns c.next_call.ensures.turns;
+  run = c.next_call.ensures.run;
+  idle = c.next_call.ensures.idle;
   count = c.loop-alloc.invariant.count;
 }
 

@@ -3,12 +3,12 @@ use Rattle.pool_run.specs.Folds.{Folds}
 use Rattle.pool_run.specs.Progress.{IsRunOf}
 use Rattle.pool_run.proofs.schedule.repeat.Given as goal
 
-abbrev pub ghost-turn_party : goal.ghost-turn_party
-ghost-turn_party g a = g.of
+abbrev pub ghost-turn : goal.ghost-turn
+ghost-turn g a = record { of = g.of; told = a.self.now.replies }
 
 -- the turns so far
 abbrev pub invariant-loop-turn : goal.invariant-loop-turn
 invariant-loop-turn g l = record {
-  folds : Folds g.of.world.maker l.modules g.of.inputs (replicate l.turn l.i) l.fn.run l.run;
-  run : IsRunOf g.of l.modules l.parties l.run;
+  folds : Folds g.of.world.maker g.of.modules g.of.inputs (replicate l.turn l.i) l.fn.run l.run;
+  run : IsRunOf g.of l.input.parties l.run;
 }

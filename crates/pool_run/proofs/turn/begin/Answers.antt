@@ -9,24 +9,24 @@ use Rattle.pool_run.proofs.Moves.{writes_stay, grows_stay}
 use Rattle.pool_run.proofs.TurnsMade.{move_made, after_move}
 use Rattle.pool_run.proofs.turn.begin.Goals as goal
 
-pub returns-in-Fill : goal.returns-in-Fill
-returns-in-Fill g c =
+pub returns-in-Fill-clause-makes : goal.returns-in-Fill-clause-makes
+returns-in-Fill-clause-makes g c =
     let P : Type 0 = g.row.P.Denot in
     let core : PoolCore P = c.args.core.now in
     let p : RunningParty P = c.args.party.now in
     let M : Command → Type 0 = λ command. Makes g.maker (Begins c.args.modules.now command core p) core (after_move core p c.make_move-reply-in-Fill.new.live c.make_move-reply-in-Fill.result) in
     subst M (sym c.in-Fill.is) (move_made g.maker (MemoryWrites c.in-Fill.at (replicate c.in-Fill.len c.in-Fill.byte)) c.in-Fill.of c.in-Fill.memory core p c.make_move-reply-in-Fill.new.live c.make_move-reply-in-Fill.result (writes_stay g.maker core.settings c.in-Fill.at (replicate c.in-Fill.len c.in-Fill.byte)) c.requires.1.0 c.make_move-reply-in-Fill.ensures)
 
-pub returns-in-Grow : goal.returns-in-Grow
-returns-in-Grow g c =
+pub returns-in-Grow-clause-makes : goal.returns-in-Grow-clause-makes
+returns-in-Grow-clause-makes g c =
     let P : Type 0 = g.row.P.Denot in
     let core : PoolCore P = c.args.core.now in
     let p : RunningParty P = c.args.party.now in
     let M : Command → Type 0 = λ command. Makes g.maker (Begins c.args.modules.now command core p) core (after_move core p c.make_move-reply-in-Grow.new.live c.make_move-reply-in-Grow.result) in
     subst M (sym c.in-Grow.is) (move_made g.maker (MemoryGrows c.in-Grow.pages) c.in-Grow.of c.in-Grow.memory core p c.make_move-reply-in-Grow.new.live c.make_move-reply-in-Grow.result (grows_stay g.maker core.settings c.in-Grow.pages) c.requires.1.0 c.make_move-reply-in-Grow.ensures)
 
-pub returns-in-Write : goal.returns-in-Write
-returns-in-Write g c =
+pub returns-in-Write-clause-makes : goal.returns-in-Write-clause-makes
+returns-in-Write-clause-makes g c =
     let P : Type 0 = g.row.P.Denot in
     let core : PoolCore P = c.args.core.now in
     let p : RunningParty P = c.args.party.now in

@@ -4,9 +4,10 @@ use Rattle.pool_alloc.specs.Calls.{begun_call}
 use Rattle.pool_alloc.specs.declared.frame.Call.TheVariants as call
 use Rattle.pool_alloc.specs.declared.frame.Frame.{Frame}
 use Rattle.pool_alloc.specs.declared.frame.Grant.{Grant}
-use Rattle.pool_run.specs.Ties.{CanTurn}
+use Rattle.pool_run.specs.Ties.{CanTurn, IsReserved}
 use Rattle.pool_run.specs.declared.running_party.RunningParty.{RunningParty}
 use Rattle.pool_run.proofs.Parties.{called_back}
+use Rattle.pool_run.proofs.Reserving.{back_reserved}
 use Rattle.pool_run.proofs.turn.give_back.Goals as goal
 
 pub step_call-requires : goal.step_call-requires
@@ -15,7 +16,9 @@ step_call-requires g c κs within =
     let p : RunningParty P = c.args.party.now in
     let grant : Grant P = c.in-Some.grant in
     let has : slice_index_or p.live c.args.of None ≡ Some grant = sym c.take.ensures.value ∙ c.in-Some.is in
-    let begun = called_back g.maker c.args.of grant c.args.core.now p c.requires.1.0 c.requires.1.1.1.1 has in
+    let begun = called_back g.maker c.args.of grant c.args.core.now p c.requires.1.0 c.requires.1.1.1.1.0 has in
     let Live : List (Option (Grant P)) → Frame P → Type 0 = λ live f. CanTurn g.maker c.args.core.now (record p { live = live; frame = f }) in
+    let R : Frame P → Type 0 = λ f. IsReserved f c.args.slots.now in
+    let reserved : R c.begin.new.self = subst R (sym c.begin.ensures.value) (back_reserved grant p.frame c.args.slots.now c.requires.1.1.1.1.1) in
     let can : Live c.take.new.self c.begin.new.self = subst (Live c.take.new.self) (sym c.begin.ensures.value) (subst (λ (live : List (Option (Grant P))). Live live (begun_call (call.GiveBack grant) p.frame)) (sym c.take.ensures.rest) begun) in
     search rules

@@ -1,12 +1,9 @@
-use Rattle.std.proofs.Common.{rules, ◌≡◌, Option}
-use Rattle.std.proofs.lemmas.Result.{IfOk-weaker}
+use Rattle.std.proofs.Common.{rules}
 use Rattle.pool_alloc.specs.Steps.{After, memories_asked}
 use Rattle.pool_alloc.specs.Stepping.{CanStep}
-use Rattle.pool_alloc.specs.declared.pool_core.PoolCore.{PoolCore}
-use Rattle.pool_run.specs.AtOnce.{Makes}
-use Rattle.pool_run.specs.Turns.{Turned, answered, Steps}
-use Rattle.pool_run.specs.declared.reply.Reply.{Reply}
+use Rattle.pool_run.specs.Turns.{Turned}
 use Rattle.pool_run.proofs.Parties.{can_step}
+use Rattle.pool_run.proofs.Reserving.{room_granted, step_reserved, reserved_there}
 use Rattle.pool_run.proofs.TurnsMade.{place_for, step_made}
 use Rattle.pool_run.proofs.turn.step_call.Goals as goal
 
@@ -20,13 +17,21 @@ answer-requires-clause-place g c =
     let a : After g.row.P.Denot = record { core = c.step-outcome.new.self; frame = c.step-outcome.new.frame; outcome = c.step-outcome.result } in
     place_for g.maker c.args.core.now c.args.party.now a c.requires.1.0 c.step-outcome.ensures.row
 
-pub returns : goal.returns
-returns g c =
+pub answer-requires-clause-room : goal.answer-requires-clause-room
+answer-requires-clause-room g c =
+    let a : After g.row.P.Denot = record { core = c.step-outcome.new.self; frame = c.step-outcome.new.frame; outcome = c.step-outcome.result } in
+    room_granted g.maker c.args.core.now.settings c.args.core.now c.args.party.now.frame a c.args.slots.now c.requires.1.1.1.1 c.step-outcome.ensures.row c.step-outcome.ensures.granted
+
+pub returns-clause-makes : goal.returns-clause-makes
+returns-clause-makes g c =
     let P : Type 0 = g.row.P.Denot in
     let a : After P = record { core = c.step-outcome.new.self; frame = c.step-outcome.new.frame; outcome = c.step-outcome.result } in
-    let t : Option Reply → Turned P = λ reply. record { core = c.step-outcome.new.self; party = c.answer.new.party; reply = reply } in
-    IfOk-weaker c.answer.result
-    (λ reply. (d : PoolCore P) → ◌≡◌ {A = Turned P} (record { core = d; party = c.answer.new.party; reply = reply }) (answered a.outcome d (record c.args.party.now { frame = a.frame })))
-    (λ reply. Makes g.maker (Steps c.args.core.now c.args.party.now) c.args.core.now (t reply))
-    (λ reply is. step_made g.maker (memories_asked c.args.party.now.frame.asked) c.args.core.now c.args.party.now a (t reply) c.requires.1.0 c.step-outcome.ensures.row c.step-outcome.ensures.can c.step-outcome.ensures.granted c.step-outcome.ensures.size (is a.core))
-    c.answer.ensures
+    let t : Turned P = record { core = c.step-outcome.new.self; party = c.answer.new.party; reply = c.answer.result } in
+    step_made g.maker (memories_asked c.args.party.now.frame.asked) c.args.core.now c.args.party.now a t c.requires.1.0 c.step-outcome.ensures.row c.step-outcome.ensures.can c.step-outcome.ensures.granted c.step-outcome.ensures.size (c.answer.ensures.answered a.core)
+
+pub returns-clause-reserved : goal.returns-clause-reserved
+returns-clause-reserved g c =
+    let P : Type 0 = g.row.P.Denot in
+    let a : After P = record { core = c.step-outcome.new.self; frame = c.step-outcome.new.frame; outcome = c.step-outcome.result } in
+    reserved_there a.outcome a.core (record c.args.party.now { frame = a.frame }) c.answer.new.party c.answer.result c.answer.new.slots (c.answer.ensures.answered a.core)
+    (step_reserved c.args.core.now c.args.party.now.frame a c.args.slots.now c.answer.new.slots c.requires.1.1.1.1 c.step-outcome.ensures.row c.answer.ensures.slots)

@@ -1,0 +1,56 @@
+use Rattle.std.proofs.Common.{rules, ◌≡◌, List, Err, true, sym, ap, ◌∙◌, subst}
+use Rattle.std.specs.List.{list_all}
+use Rattle.pool_pages.specs.Config.{default_tunables}
+use Rattle.pool_pages.specs.MakerTold.{MakerTold}
+use Rattle.pool_pages.specs.declared.module_types.ModuleInfo.{ModuleInfo}
+use Rattle.pool_alloc.specs.Sound.{IsCore}
+use Rattle.pool_run.specs.Built.{is_built_module}
+use Rattle.pool_run.specs.Folds.{RunParts}
+use Rattle.pool_run.specs.Made.{AreMadeCalls}
+use Rattle.pool_run.specs.Runs.{IsMadeRun, FaultsInMaking}
+use Rattle.pool_run.specs.RunsMade.{parties_made}
+use Rattle.pool_run.specs.declared.input.Input.{Input}
+use Rattle.pool_run.specs.declared.output.RunFault.TheVariants.{PageFault}
+use Rattle.pool_run.proofs.ImagesMade.{images_fault}
+use Rattle.pool_run.proofs.InputsRun.{homes_below, few_places}
+use Rattle.pool_run.proofs.BuiltInputs.{built_modules}
+use Rattle.pool_run.proofs.run.Run.within.Goals as goal
+
+pub make_calls-requires : goal.make_calls-requires
+make_calls-requires g c =
+    let Built : List ModuleInfo → Type 0 = λ modules. list_all is_built_module modules ≡ true in
+    subst Built (sym c.as_slice.ensures) (built_modules c.args.input.now c.requires.1.1.1.0)
+
+pub returns-in-Err-make_calls-clause-fault : goal.returns-in-Err-make_calls-clause-fault
+returns-in-Err-make_calls-clause-fault g c is =
+    let fault : c.in-Err-make_calls.fault ≡ PageFault = cc in
+    let told : g.M.PageMaker.told c.make_pool.new.pages ≡ g.maker = c.in-Ok.ensures.same ∙ c.requires.1.1.0 in
+    let Faults : MakerTold → Type 0 = λ old. FaultsInMaking c.args.input.now old (g.M.PageMaker.told c.make_calls.new.maker) in
+    subst Faults told
+    (images_fault c.args.input.now c.as_slice.result.now (g.M.PageMaker.told c.make_pool.new.pages) (g.M.PageMaker.told c.make_calls.new.maker) c.as_slice.ensures (c.in-Err-make_calls.ensures.fault (ap (λ e. Err e) fault)))
+
+pub over-requires : goal.over-requires
+over-requires g c κs within =
+    let P : Type 0 = g.row.P.Denot in
+    let Core : MakerTold → Type 0 = λ maker. IsCore maker c.in-Ok.core in
+    let core : Core g.maker = subst Core c.requires.1.1.0 c.in-Ok.ensures.core in
+    let valid = c.requires.1.1.1.1.0 in
+    (search rules, (core, (c.in-Ok.ensures.untouched, (homes_below c.args.input.now c.as_slice-parties.result.now c.as_slice-parties.ensures valid, few_places {P = P} c.args.input.now c.in-Ok.core c.as_slice-parties.result.now c.as_slice-parties.ensures valid))))
+
+pub returns-in-Ok-over-clause-made : goal.returns-in-Ok-over-clause-made
+returns-in-Ok-over-clause-made g c =
+    let P : Type 0 = g.row.P.Denot in
+    let input : Input = c.args.input.now in
+    let old : MakerTold = g.M.PageMaker.told c.args.pages.now in
+    let Calls : MakerTold → List ModuleInfo → Type 0 = λ maker modules. AreMadeCalls maker.page modules c.in-Ok-make_calls.calls.items in
+    let Made : RunParts P → Type 0 = λ run. IsMadeRun default_tunables input old run in
+    let made : Made (record { core = c.in-Ok.core; modules = c.in-Ok-make_calls.calls.items; parties = parties_made c.in-Ok.core.settings c.as_slice-parties.result.now }) =
+    record {
+      made = c.in-Ok.ensures.made;
+      core = c.in-Ok.ensures.core;
+      untouched = c.in-Ok.ensures.untouched;
+      calls = subst (λ maker. Calls maker input.modules) c.in-Ok.ensures.same (subst (Calls (g.M.PageMaker.told c.make_pool.new.pages)) c.as_slice.ensures c.in-Ok-make_calls.ensures.calls);
+      parties = ap (parties_made {P = P} c.in-Ok.core.settings) c.as_slice-parties.ensures;
+    } in
+    let Run : MakerTold → RunParts P → Type 0 = λ maker run. IsMadeRun default_tunables input maker run in
+    subst (λ maker. Run maker c.in-Ok-over.run') c.requires.1.1.0 (subst (Run old) (sym c.in-Ok-over.ensures) made)

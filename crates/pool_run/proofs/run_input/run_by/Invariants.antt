@@ -1,0 +1,4 @@
+use Rattle.pool_run.proofs.run_input.run_by.Given as goal
+
+abbrev pub ghost-run_to_end : goal.ghost-run_to_end
+ghost-run_to_end g a = g.maker
