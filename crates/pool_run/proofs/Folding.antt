@@ -1,11 +1,10 @@
 -- A run of several parties stays what it is through all its turns, so the replies to each party are a private run.
 use Rattle.std.proofs.Common.{◌≡◌, ℕ, ◌<◌, ◌≤◌, Bool, true, false, List, [], ◌∷◌, ◌++◌, length, Option, Some, None, refl, sym, ap, ◌∙◌, subst, inl, inr, arith}
-use Rattle.std.specs.Prelude.{IfSome, slice_get, slice_set, slice_index_or}
+use Rattle.std.specs.Prelude.{slice_get, slice_set, slice_index_or}
 use Rattle.std.proofs.lemmas.Bool.{cases_eq}
 use Rattle.std.proofs.lemmas.List.{length-set, set-get_or, get_or-set_same, get_or-set_other}
 use Rattle.std.proofs.lemmas.Option.{slice_get_past, slice_get_within, get_or_from_slice_get}
 use Rattle.pool_pages.specs.MakerTold.{MakerTold}
-use Rattle.pool_alloc.specs.Refusals.{memories_refused}
 use Rattle.pool_alloc.specs.Stepping.{is_idle}
 use Rattle.pool_alloc.specs.Stepping.{IsSameSize}
 use Rattle.pool_alloc.specs.declared.pool_core.PoolCore.{PoolCore}
@@ -13,10 +12,10 @@ use Rattle.pool_alloc.specs.declared.pool_core.Settings.{Settings}
 use Rattle.pool_alloc.specs.declared.frame.ModuleCall.{ModuleCall}
 use Rattle.pool_alloc.specs.Places.{made_count}
 use Rattle.pool_run.specs.Searches.{IsAlone}
-use Rattle.pool_run.specs.Private.{World, memories_of, IsPrivateRun, no_grants}
+use Rattle.pool_run.specs.Private.{World, IsPrivateRun, no_grants}
 use Rattle.pool_run.specs.Turns.{Turned, Turns, TurnsAt, BeginsKeyed, with_reply}
 use Rattle.pool_run.specs.Ties.{CanTurn, IsSoundTurn}
-use Rattle.pool_run.specs.Worlds.{IsMadeReady, IsWorldOf, AreCallsFor}
+use Rattle.pool_run.specs.Worlds.{IsWorldOf, AreCallsFor}
 use Rattle.pool_run.specs.Folds.{RunState, commands_of, replies_to, party_by_party, with_turn, TurnsIf, TurnsOf, Folds, HasNothingLeft, Runs, IsRunTo, IsUnderWay}
 use Rattle.pool_run.specs.declared.command.Command.{Command}
 use Rattle.pool_run.specs.declared.reply.Reply.{Reply}
@@ -28,18 +27,7 @@ use Rattle.pool_run.proofs.Turned.{HasTurned, has_turned}
 module _ {P : Type 0} where
   -- The world stays that of the pool.
   world_over : (w : World) (c d : PoolCore P) → IsSameSize c d → IsWorldOf w c → IsWorldOf w d
-  world_over w c d size world =
-      let One : Settings → Type 0 = λ s. s.stripes ≡ 1 in
-      let Most : Settings → Type 0 = λ s. w.most_instances ≡ s.max_core_instances in
-      let Supported : Settings → Type 0 = λ s. (number : ℕ) → memories_refused s (memories_of w number) ≡ None in
-      let Makes : Settings → Type 0 = λ s. (number k : ℕ) → IfSome (slice_get (memories_of w number) k) (IsMadeReady w s number k) in
-      record {
-        total = world.total ∙ sym size.cells;
-        most_instances = subst Most (sym size.settings) world.most_instances;
-        stripes = subst One (sym size.settings) world.stripes;
-        supported = subst Supported (sym size.settings) world.supported;
-        makes = subst Makes (sym size.settings) world.makes;
-      }
+  world_over w c d size world = record { settings = world.settings ∙ sym size.settings; total = world.total ∙ sym size.cells; most_instances = world.most_instances; stripes = world.stripes; rule = world.rule }
 
   calls_over : (w : World) (modules : List ModuleCall) (c d : PoolCore P) → IsSameSize c d → AreCallsFor w c.settings modules → AreCallsFor w d.settings modules
   calls_over w modules c d size calls =

@@ -28,7 +28,7 @@ use Rattle.pool_run.specs.Schedules.{turns_of}
 use Rattle.pool_run.specs.Validity.{is_valid, is_valid_after, are_valid_after, most_commands}
 use Rattle.pool_run.specs.Worlds.{IsWorldOf, AreCallsFor, NamesModule, NameModules}
 use Rattle.pool_run.specs.declared.command.Command.{Command}
-use Rattle.pool_run.specs.declared.command.Command.TheVariants.{Instantiate, Read, Write, Drop}
+use Rattle.pool_run.specs.declared.command.Command.TheVariants.{Instantiate, Read, Write, Fill, Grow, Size, Drop}
 use Rattle.pool_run.specs.declared.input.Input.{Input}
 use Rattle.pool_run.specs.declared.input.Party.{Party}
 use Rattle.pool_run.specs.declared.input.ScheduleEntry.{ScheduleEntry}
@@ -41,13 +41,17 @@ use Rattle.pool_run.proofs.RunMade.{are_made}
 use Rattle.pool_run.proofs.Started.{run_started}
 use Rattle.pool_run.proofs.Tests.{first, second}
 use Rattle.pool_run.proofs.Valid.{valid_parties, valid_home, few_commands, valid_commands, valid_entry}
-use Rattle.pool_run.proofs.WorldsMade.{built_input, is_world, are_calls_for}
+use Rattle.pool_run.proofs.BuiltInputs.{built_modules}
+use Rattle.pool_run.proofs.WorldsMade.{is_world, are_calls_for}
 
 -- Each command names a module that there is.
 names : (modules : List ModuleInfo) (earlier : List Command) (command : Command) → is_valid_after modules earlier command ≡ true → NamesModule (length modules) command
 names modules earlier (Instantiate number) valid = ltb-true number (length modules) valid
 names modules earlier (Read of memory at len) valid = tt
 names modules earlier (Write of memory at bytes) valid = tt
+names modules earlier (Fill of memory at len byte) valid = tt
+names modules earlier (Grow of memory pages) valid = tt
+names modules earlier (Size of memory) valid = tt
 names modules earlier (Drop of) valid = tt
 
 pub all_name : (modules : List ModuleInfo) (earlier commands : List Command) → are_valid_after modules earlier commands ≡ true → NameModules (length modules) commands
@@ -103,11 +107,11 @@ module _ {P : Type 0} where
       subst Way count (run_started w modules (commands_in input.parties) c parties core untouched world calls (are_made c.settings input.parties) (λ alone. count ∙ eqb-true (length input.parties) 1 alone))
 
   calls_there : (input : Input) (maker : MakerTold) (c : PoolCore P) (modules : List ModuleCall) → is_built input ≡ true → IsCore maker c → AreMadeCalls maker.page input.modules modules → AreCallsFor (world_of input maker) c.settings modules
-  calls_there input maker c modules built core calls = are_calls_for (world_of input maker) c.settings modules (built_input input built).modules core.page (omega (arith, core.settings.page.at_least)) calls
+  calls_there input maker c modules built core calls = are_calls_for (world_of input maker) c.settings modules (built_modules input built) core.page (omega (arith, core.settings.page.at_least)) calls
 
   made_under_way : (input : Input) (maker : MakerTold) (c : PoolCore P) (modules : List ModuleCall) → is_built input ≡ true → IsMadeCore maker input.config default_tunables default_offered c → IsCore maker c → IsUntouched c → AreMadeCalls maker.page input.modules modules → IsUnderWay (world_of input maker) modules (commands_in input.parties) (run_made c modules input.parties)
   made_under_way input maker c modules built made core untouched calls =
-      under_way input maker c modules core untouched (is_world input maker c built core made) (calls_there input maker c modules built core calls)
+      under_way input maker c modules core untouched (is_world input maker c made) (calls_there input maker c modules built core calls)
 
   made_count : (c : PoolCore P) (parties : List Party) → length (parties_made {P = P} c.settings parties) ≡ length parties
   made_count c parties = length-map parties (party_made_for {P = P} c.settings)

@@ -1,12 +1,13 @@
 -- The memories of an instance that were granted so far are as they begin, and so they are with one more.
-use Rattle.std.proofs.Common.{◌≡◌, ℕ, ◌+◌, ◌<◌, List, [], ◌∷◌, ◌++◌, length, map, Some, refl, sym, ap, ◌∙◌, subst, arith}
+use Rattle.std.proofs.Common.{◌≡◌, ℕ, ◌+◌, ◌<◌, List, [], ◌∷◌, ◌++◌, length, map, Some, refl, sym, ap, ◌∙◌, subst, inl, inr, arith}
 use Rattle.std.specs.Prelude.{slice_get}
+use Rattle.std.proofs.lemmas.Bool.{cases_eq}
 use Rattle.std.proofs.lemmas.List.{map-append, length-map, length_push}
 use Rattle.pool_pages.specs.declared.module_types.MemoryDecl.{MemoryDecl}
 use Rattle.pool_alloc.specs.Leases.{Lease}
 use Rattle.pool_run.specs.Private.{World, PrivateMemory, memories_of, begun_memory, begun_memories}
 use Rattle.pool_run.specs.Turns.{private_memory}
-use Rattle.pool_run.specs.Ties.{AreNew}
+use Rattle.pool_run.specs.Ties.{IsAllowed, AreNew}
 
 -- the slots of leases
 abbrev pub slots_of : List Lease → List ℕ
@@ -30,11 +31,11 @@ begun_last w number k (d ∷ ds) (s ∷ ss) slot decl is =
 
 pub begun_none : (w : World) (number : ℕ) (leases : List Lease) → leases ≡ [] → AreNew w number leases
 begun_none w number leases none =
-    let made : AreNew w number [] = record { few = omega arith; begun = sym (none_begun w number 0 (memories_of w number)) } in
+    let made : AreNew w number [] = record { few = omega arith; allowed = λ k below. absurd (omega (arith, below)); begun = sym (none_begun w number 0 (memories_of w number)) } in
     subst (λ (ls : List Lease). AreNew w number ls) (sym none) made
 
-pub begun_more : (w : World) (number : ℕ) (leases : List Lease) (l : Lease) (decl : MemoryDecl) → AreNew w number leases → length leases < length (memories_of w number) → slice_get (memories_of w number) (length leases) ≡ Some decl → private_memory l ≡ begun_memory w number (length leases) decl l.index → AreNew w number (leases ++ l ∷ [])
-begun_more w number leases l decl are more is new =
+pub begun_more : (w : World) (number : ℕ) (leases : List Lease) (l : Lease) (decl : MemoryDecl) → AreNew w number leases → length leases < length (memories_of w number) → slice_get (memories_of w number) (length leases) ≡ Some decl → IsAllowed w number (length leases) → private_memory l ≡ begun_memory w number (length leases) decl l.index → AreNew w number (leases ++ l ∷ [])
+begun_more w number leases l decl are more is allowed new =
     let decls : List MemoryDecl = memories_of w number in
     let long : length (slots_of leases) ≡ length leases = length-map leases (λ (x : Lease). x.index) in
     let there : slice_get decls (length (slots_of leases)) ≡ Some decl = ap (slice_get decls) long ∙ is in
@@ -48,5 +49,10 @@ begun_more w number leases l decl are more is new =
     ap (λ (ms : List PrivateMemory). ms ++ private_memory l ∷ []) are.begun ∙ ap (λ (m : PrivateMemory). begun_memories w number 0 decls (slots_of leases) ++ m ∷ []) new in
     record {
       few = omega (arith, length_push leases l);
+      allowed = λ k below.
+          elim (cases_eq k (length leases)) [
+            | inl last ↦ subst (λ (n : ℕ). IsAllowed w number n) (sym last) allowed
+            | inr other ↦ are.allowed k (omega (arith, below, length_push leases l, other))
+          ];
       begun = memories ∙ seen ∙ sym begun_slots;
     }

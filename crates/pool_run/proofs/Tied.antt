@@ -29,6 +29,7 @@ use Rattle.pool_run.specs.declared.command.Command.TheVariants as command
 use Rattle.pool_run.specs.declared.reply.Reply.{Reply}
 use Rattle.pool_run.specs.declared.reply.Reply.TheVariants.{Returned, Refused}
 use Rattle.pool_run.specs.declared.reply.Refusal.TheVariants.{Alloc}
+use Rattle.pool_run.proofs.Causes.{given_cause, none_first}
 use Rattle.pool_run.proofs.Exhausted.{live_told, room_for}
 use Rattle.pool_run.proofs.FreeSlots.{AreApart, slots_inside, slots_apart, slots_free}
 use Rattle.pool_run.proofs.Grants.{grants_set}
@@ -76,10 +77,10 @@ module _ {P : Type 0} (w : World) (commands : List Command) (live : List (Option
   pub no_slot_left : (queues : ℕ) (c : PoolCore P) (f : Frame P) → grants_of live ≡ told → (asking : IsAsking w commands done f.asked f.granted.items) → (length c.queues ≤ queues → IsLimit w asking.number told (record { limit = length c.cells; kind = MemoryStripe f.stripe })) → IsTied (no_slot queues c f)
   no_slot_left queues c f is asking limit =
       let e : AllocError = refusal.Limit (record { limit = length c.cells; kind = MemoryStripe f.stripe }) in
-      either (nat_lt queues (length c.queues)) (goes c f (TakeQueue queues)) (refuses c f e) (λ more. record { tied = (is, asking, tt) }) (λ last. refused c f e is asking (limit (ltb-false queues (length c.queues) last)))
+      either (nat_lt queues (length c.queues)) (goes c f (TakeQueue queues)) (refuses c f e) (λ more. record { tied = (is, (asking, tt)) }) (λ last. refused c f e is asking (given_cause w asking.number told e asking.supported (limit (ltb-false queues (length c.queues) last))))
 
   pub flush_of_request : (queues : ℕ) (c : PoolCore P) (f : Frame P) → grants_of live ≡ told → IsAsking w commands done f.asked f.granted.items → IsTied (flushes (PickAgain queues) c f)
-  flush_of_request queues c f is asking = goes_either c f (length f.local.ranges == 0) (PutRegion (PickAgain queues)) (Decommit (PickAgain queues)) (λ e. record { tied = (is, asking, tt) }) (λ e. record { tied = (is, asking, tt) })
+  flush_of_request queues c f is asking = goes_either c f (length f.local.ranges == 0) (PutRegion (PickAgain queues)) (Decommit (PickAgain queues)) (λ e. record { tied = (is, (asking, tt)) }) (λ e. record { tied = (is, (asking, tt)) })
 
   pub flush_of_give_back : (c : PoolCore P) (f : Frame P) → EndsAs w f.ending commands done live told → IsTied (flushes GiveBackNext c f)
   flush_of_give_back c f end = goes_either c f (length f.local.ranges == 0) (PutRegion GiveBackNext) (Decommit GiveBackNext) (λ e. record { tied = end }) (λ e. record { tied = end })
@@ -107,6 +108,8 @@ module _ {P : Type 0} (w : World) (commands : List Command) (live : List (Option
           next = asking.command;
           step = (
             record {
+              supported = asking.supported;
+              allowed = none_first w.rule (memories_of w asking.number) (λ k below. asking.new.allowed k (omega (arith, below, all, asking.new.few, ap (length {A = MemoryDecl}) asking.asked_for.memories)));
               count = count;
               inside = subst Inside (sym whole) (slots_inside items live total apart);
               free = slots_free items live told total is apart;
@@ -124,5 +127,5 @@ module _ {P : Type 0} (w : World) (commands : List Command) (live : List (Option
       let some : ℕ = length f.granted.items in
       let all : ℕ = length (memories_asked f.asked) in
       either (nat_lt some all) (goes c f (Pick 0 0)) (ends c (record f { granted = no_room }) (answer.Granted (instance (record { memories = f.granted }))))
-      (λ more. record { tied = (is, asking, tt) })
+      (λ more. record { tied = (is, (asking, tt)) })
       (λ last. grants_it c f total whole is asking (ltb-false some all last) apart)

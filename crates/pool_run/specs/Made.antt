@@ -1,14 +1,14 @@
 -- The images of an input's modules, and the calls for them.
 use Rattle.std.specs.Prelude.{◌≡◌, ℕ, List, length, slice_get, if◌then◌else◌, Option, Some, None, IfSome, option_map}
 use Rattle.std.specs.Arc.{arc_value}
-use Rattle.std.specs.List.{list_all}
 use Rattle.pool_pages.specs.declared.module_types.ModuleInfo.{ModuleInfo}
-use Rattle.pool_images.specs.Images.{Image, images_from, ends_in_minimum}
+use Rattle.pool_images.specs.Images.{Image, images_from}
 use Rattle.pool_alloc.specs.declared.frame.ModuleCall.{ModuleCall}
+use Rattle.pool_run.specs.Private.{has_images}
 
--- the images of the module of this number: none where some image, padded, ends past the minimum of its memory
+-- the images of the module of this number, where it has some
 abbrev pub images_of_module : ℕ → ℕ → ModuleInfo → Option (List (Option Image))
-images_of_module page n m = if list_all (ends_in_minimum page) m.memories then Some (images_from (record { 0 = n }) page 0 m.memories) else None
+images_of_module page n m = if has_images page m.memories then Some (images_from (record { 0 = n }) page 0 m.memories) else None
 
 -- the call is one for the module of this number, with its images
 pub record IsMadeCall (page number : ℕ) (m : ModuleInfo) (call : ModuleCall) : Type 0 where

@@ -19,7 +19,7 @@ use Rattle.pool_alloc.specs.declared.frame.AfterFree.TheVariants.{Refuse, Return
 use Rattle.pool_alloc.specs.declared.frame.AfterFlush.TheVariants.{PickAgain, GiveBackNext}
 use Rattle.pool_alloc.specs.declared.frame.Phase.{Phase}
 use Rattle.pool_alloc.specs.declared.frame.Phase.TheVariants.{Idle, Key, Validate, CountInstance, Pick, TakeQueue, TakeRegion, Empty, Instantiate, MakeMemory, CountMemory, PutUnknown, FreeUnknown, UncountMemory, Reset, Merge, Decommit, PutRegion, Free, UncountInstance}
-use Rattle.pool_run.specs.Private.{Grants, World, grant_at, memories_of, image_at, begun_memories, IsCause, PrivateRun}
+use Rattle.pool_run.specs.Private.{Grants, World, grant_at, memories_of, image_at, own_refusal, begun_memories, rule_broken, IsCause, PrivateRun}
 use Rattle.pool_run.specs.Turns.{Turned, grants_of, private_memory}
 use Rattle.pool_run.specs.declared.command.Command.{Command}
 use Rattle.pool_run.specs.declared.command.Command.TheVariants as command
@@ -40,16 +40,28 @@ pub record IsAskedFor (w : World) (number : ℕ) (asked : Option ModuleCall) : T
   pub memories : memories_asked asked ≡ memories_of w number
   pub images : (k : ℕ) → IfSome (slice_get (memories_of w number) k) (λ decl. slice_index_or (images_asked asked) k None ≡ image_at w number k decl)
 
+-- memory k of a module has no refusal of its own
+abbrev pub IsAllowed : World → ℕ → ℕ → Type 0
+IsAllowed w number k = IfSome (slice_get (memories_of w number) k) (λ decl. own_refusal w.rule decl.ty ≡ None)
+
 -- the memories that were granted so far are as those of the module begin
 pub record AreNew (w : World) (number : ℕ) (leases : List Lease) : Type 0 where
   pub few : length leases ≤ length (memories_of w number)
+  pub allowed : (k : ℕ) → k < length leases → IsAllowed w number k
   pub begun : map private_memory leases ≡ begun_memories w number 0 (memories_of w number) (map (λ l. l.index) leases)
 
--- a request for an instance is under way, for which these memories were granted so far
+-- a request for an instance begins
+pub record IsRequest (w : World) (commands : List Command) (done : ℕ) (asked : Option ModuleCall) : Type 0 where
+  pub number : ℕ
+  pub command : slice_get commands done ≡ Some (command.Instantiate number)
+  pub asked_for : IsAskedFor w number asked
+
+-- it is under way, for a module that breaks no rule, and these memories were granted so far
 pub record IsAsking (w : World) (commands : List Command) (done : ℕ) (asked : Option ModuleCall) (leases : List Lease) : Type 0 where
   pub number : ℕ
   pub command : slice_get commands done ≡ Some (command.Instantiate number)
   pub asked_for : IsAskedFor w number asked
+  pub supported : rule_broken w number ≡ None
   pub new : AreNew w number leases
 
 module _ {P : Type 0} where
@@ -80,11 +92,18 @@ module _ {P : Type 0} where
   stage_of (Free GiveBackNext) e = ends_as e
   stage_of UncountInstance e = ends_as e
 
-  -- the refusal with which a step ends, or which the call is to end with, has a cause
-  abbrev pub IsRefusable : World → ℕ → Grants → Phase P → Type 0
-  IsRefusable w number told (PutUnknown slot held (Refuse e)) = IsCause w number told (Alloc e)
-  IsRefusable w number told (FreeUnknown slot (Refuse e)) = IsCause w number told (Alloc e)
-  IsRefusable w number told _ = Unit {0}
+  -- the refusal with which a step ends, or which the call is to end with, has a cause, and a memory that is made, which is
+  -- memory k, has no refusal of its own
+  abbrev pub IsOnItsWay : World → ℕ → ℕ → Grants → Phase P → Type 0
+  IsOnItsWay w number k told (PutUnknown slot held (Refuse e)) = IsCause w number told (Alloc e)
+  IsOnItsWay w number k told (FreeUnknown slot (Refuse e)) = IsCause w number told (Alloc e)
+  IsOnItsWay w number k told (CountMemory lease) = IsAllowed w number k
+  IsOnItsWay w number k told _ = Unit {0}
+
+  -- a request before its module was tested, and after
+  abbrev pub AsksAs : World → List Command → ℕ → Frame P → Grants → Phase P → Type 0
+  AsksAs w commands done f told Validate = IsRequest w commands done f.asked
+  AsksAs w commands done f told phase = (asking : IsAsking w commands done f.asked f.granted.items) × IsOnItsWay w asking.number (length f.granted.items) told phase
 
   -- A call is on its way to its end: a request that is refused, or a give-back. A grant ends where its give-back begins,
   -- though its reply comes later.
@@ -97,7 +116,7 @@ module _ {P : Type 0} where
   -- how what the party has at each stage fits what it was told
   abbrev pub TiedAs : World → Stage → List Command → ℕ → List (Option (Grant P)) → Frame P → Grants → Type 0
   TiedAs w no_call commands done live f told = grants_of live ≡ told
-  TiedAs w asks commands done live f told = (grants_of live ≡ told) × (asking : IsAsking w commands done f.asked f.granted.items) × IsRefusable w asking.number told f.phase
+  TiedAs w asks commands done live f told = (grants_of live ≡ told) × AsksAs w commands done f told f.phase
   TiedAs w (ends_as e) commands done live f told = EndsAs w e commands done live told
 
   -- What a party was told so far is a private run, whose grants fit what the party has.

@@ -1,35 +1,25 @@
--- What a run relies on from its input: the pool has the sizes that replies speak of, each module is supported, and each
--- call for a module is a call for its memories and their images.
-use Rattle.std.specs.Prelude.{◌≡◌, ℕ, ◌<◌, List, length, slice_get, true, Some, None, IfSome, Ok, IsOk}
-use Rattle.pool_pages.specs.declared.module_types.MemoryDecl.{MemoryDecl}
-use Rattle.pool_images.specs.Slots.{Slot}
-use Rattle.pool_slots.specs.Cells.{IsSlotOf}
-use Rattle.pool_alloc.specs.Own.{memory_made}
-use Rattle.pool_alloc.specs.Refusals.{memories_refused}
+-- What a run relies on from its input: the pool has the sizes that replies speak of, and each call for a module is a call
+-- for its memories and their images.
+use Rattle.std.specs.Prelude.{◌≡◌, ℕ, ◌<◌, List, length, slice_get, Some, IfSome}
+use Rattle.pool_limits.specs.Growth.{always}
 use Rattle.pool_alloc.specs.Modules.{HasImages}
 use Rattle.pool_alloc.specs.Steps.{memories_asked, images_asked}
-use Rattle.pool_alloc.specs.Sound.{AreImagesOf, HasBegun}
+use Rattle.pool_alloc.specs.Sound.{AreImagesOf}
 use Rattle.pool_alloc.specs.declared.pool_core.PoolCore.{PoolCore}
 use Rattle.pool_alloc.specs.declared.pool_core.Settings.{Settings}
 use Rattle.pool_alloc.specs.declared.frame.ModuleCall.{ModuleCall}
-use Rattle.pool_run.specs.Private.{World, memories_of, image_at}
+use Rattle.pool_run.specs.Private.{World}
 use Rattle.pool_run.specs.Ties.{IsAskedFor}
 use Rattle.pool_run.specs.declared.command.Command.{Command}
-use Rattle.pool_run.specs.declared.command.Command.TheVariants.{Instantiate, Read, Write, Drop}
+use Rattle.pool_run.specs.declared.command.Command.TheVariants.{Instantiate, Read, Write, Fill, Grow, Size, Drop}
 
--- A memory of the module of this number, which is memory k of it, is made in each slot that is ready for it, where no
--- limiter refuses it.
-abbrev pub IsMadeReady : World → Settings → ℕ → ℕ → MemoryDecl → Type 0
-IsMadeReady w s number k decl =
-    (slot : ℕ) (held : Slot) → IsSlotOf w.maker s.behaviour s.max_memory_size slot held → HasBegun (image_at w number k decl) held decl → IsOk (memory_made s (memories_of w number) k (Ok true) held)
-
--- the pool breaks no rule of the modules, and has one stripe, and as many slots and instances as the world says
+-- the pool has the settings and as many slots as the world says, and one stripe; there is no limiter
 pub record IsWorldOf {P : Type 0} (w : World) (c : PoolCore P) : Type 0 where
+  pub settings : w.settings ≡ c.settings
   pub total : w.total ≡ length c.cells
-  pub most_instances : w.most_instances ≡ c.settings.max_core_instances
-  pub stripes : c.settings.stripes ≡ 1
-  pub supported : (number : ℕ) → memories_refused c.settings (memories_of w number) ≡ None
-  pub makes : (number k : ℕ) → IfSome (slice_get (memories_of w number) k) (IsMadeReady w c.settings number k)
+  pub most_instances : w.most_instances ≡ w.settings.max_core_instances
+  pub stripes : w.settings.stripes ≡ 1
+  pub rule : w.rule ≡ always
 
 -- the call is one for the module of this number
 pub record IsCallFor (w : World) (s : Settings) (number : ℕ) (m : ModuleCall) : Type 0 where
@@ -54,6 +44,9 @@ abbrev pub NamesModule : ℕ → Command → Type 0
 NamesModule count (Instantiate number) = number < count
 NamesModule count (Read of memory at len) = Unit {0}
 NamesModule count (Write of memory at bytes) = Unit {0}
+NamesModule count (Fill of memory at len byte) = Unit {0}
+NamesModule count (Grow of memory pages) = Unit {0}
+NamesModule count (Size of memory) = Unit {0}
 NamesModule count (Drop of) = Unit {0}
 
 abbrev pub NameModules : ℕ → List Command → Type 0

@@ -10,8 +10,8 @@ use pool_images::{ImageError, ModuleMemoryImages};
 use pool_pages::{CompiledModuleId, ModuleInfo, PageMaker};
 use std::alloc::Global;
 
-/// Makes the images of the module with this number. None where some image of it, padded, ends past its memory's
-/// minimum.
+/// Makes the images of the module with this number. None where some image of it doesn't begin with a page or, padded,
+/// ends past its memory's minimum.
 pub(crate) fn make_images<M: PageMaker>(
     alloc: Global,
     maker: &mut M,
@@ -30,6 +30,6 @@ pub(crate) fn make_images<M: PageMaker>(
         Ok(images) => Ok(images),
         Err(ImageError::Memory) => Err(RunFault::Memory),
         Err(ImageError::PageFault) => Err(RunFault::PageFault),
-        Err(ImageError::Unsupported(_)) => unreachable!(),
+        Err(ImageError::Unsupported(_)) => Ok(None),
     }
 }

@@ -13,13 +13,13 @@ use Rattle.pool_run.specs.declared.input.Input.{Input}
 use Rattle.pool_run.specs.declared.output.RunFault.TheVariants.{PageFault}
 use Rattle.pool_run.proofs.ImagesMade.{images_fault}
 use Rattle.pool_run.proofs.InputsRun.{homes_below, few_places}
-use Rattle.pool_run.proofs.WorldsMade.{built_input}
+use Rattle.pool_run.proofs.BuiltInputs.{built_modules}
 use Rattle.pool_run.proofs.run.Run.within.Goals as goal
 
 pub make_calls-requires : goal.make_calls-requires
 make_calls-requires g c =
     let Built : List ModuleInfo → Type 0 = λ modules. list_all is_built_module modules ≡ true in
-    subst Built (sym c.as_slice.ensures) (built_input c.args.input.now c.requires.1.1.1.0).modules
+    subst Built (sym c.as_slice.ensures) (built_modules c.args.input.now c.requires.1.1.1.0)
 
 pub returns-in-Err-make_calls-clause-fault : goal.returns-in-Err-make_calls-clause-fault
 returns-in-Err-make_calls-clause-fault g c is =
