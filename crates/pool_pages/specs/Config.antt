@@ -4,6 +4,8 @@ use Rattle.pool_pages.specs.declared.config.Enabled.TheVariants.{No}
 use Rattle.pool_pages.specs.declared.config.InstanceLimits.{InstanceLimits}
 use Rattle.pool_pages.specs.declared.config.PoolingAllocationConfig.{PoolingAllocationConfig}
 use Rattle.pool_pages.specs.declared.module_types.Tunables.{Tunables}
+use Rattle.pool_pages.specs.declared.offered.Offered.{Offered}
+use Rattle.pool_pages.specs.declared.pages.DecommitBehavior.TheVariants.{RestoreOriginalMapping}
 
 abbrev pub default_limits : InstanceLimits
 default_limits = record {
@@ -64,3 +66,10 @@ default_tunables = record {
 
 abbrev pub IsDefaultTunables : Tunables → Type 0
 IsDefaultTunables tunables = tunables ≡ default_tunables
+
+-- a system that offers neither keys nor dirty pages
+abbrev pub default_offered : Offered
+default_offered = record { keys = 0; dirty_pages = false; behaviour = RestoreOriginalMapping }
+
+abbrev pub IsDefaultOffered : Offered → Type 0
+IsDefaultOffered offered = offered ≡ default_offered

@@ -26,10 +26,12 @@ mod memory_region;
 mod memory_tests;
 mod module_types;
 mod numerals;
+mod offered;
 mod page_laws;
 mod pages;
 mod plain_list;
 mod region;
+mod settings_rules;
 #[cfg(test)]
 mod settings_tests;
 mod text;
@@ -53,6 +55,7 @@ pub use module_types::{
     CompiledModuleId, DefinedMemoryIndex, ImageDecl, IndexType, Limits, MemoryDecl, MemoryKind,
     MemoryTunables, MemoryType, ModuleInfo, Tunables,
 };
+pub use offered::Offered;
 pub use page_laws::calls_change_their_pages;
 pub use pages::{DecommitBehavior, PageCalls, PageFault, Pages, RegionName};
 pub use plain_list::{ByteList, PlainList};
