@@ -75,6 +75,12 @@ const DROPS_NOTHING: &str = "{\"parties\":[{\"commands\":[{\"do\":\"drop\",\"of\
 
 const NO_HOME: &str = "{\"parties\":[{\"home\":65536}]}";
 
+const FAULT_OF_A_TABLE: &str = "{\"faults\":[{\"kind\":\"table\",\"slot\":0,\"call\":0}]}";
+
+const SHORT_ADDRESSES: &str = "{\"modules\":[{\"memories\":[{\"index\":\"i16\"}]}]}";
+
+const MANY_MEMORIES: &str = "{\"config\":{\"total_memories\":4294967296}}";
+
 const MINUS_NOUGHT: &str = "{\"parties\":[{\"commands\":[{\"do\":\"drop\",\"of\":-0}]}]}";
 
 #[test]
@@ -84,7 +90,9 @@ fn statuses_of_inputs(rt: HostRuntime) -> Result<(), Fail> {
         (CUT_OFF, 1, 0, Status::ReadFault, ""),
         (CUT_OFF, 0, 2, Status::WriteFault, "error BadI"),
         ("{\"finish\":1}", 0, 0, Status::NotBuilt, NOT_BUILT),
-        ("{\"faults\":[]}", 0, 0, Status::NotBuilt, NOT_BUILT),
+        (FAULT_OF_A_TABLE, 0, 0, Status::NotBuilt, NOT_BUILT),
+        (SHORT_ADDRESSES, 0, 0, Status::NotBuilt, NOT_BUILT),
+        (MANY_MEMORIES, 0, 0, Status::BadInput, BAD_INPUT),
         (
             "{\"schedule\":[[0,1,2]]}",
             0,
@@ -231,6 +239,21 @@ const TOO_RESIDENT: &str = "{\"config\":{\"linear_memory_keep_resident\":4294967
 const TOO_RESIDENT_LINE: &str =
     "error BadConfig: linear_memory_keep_resident of 4294967297 exceeds 4294967296\n";
 
+const TOO_MANY: &str = "{\"config\":{\"total_memories\":4294967295}}";
+
+const TOO_MANY_LINE: &str = "error BadConfig: total_memories of 4294967295 exceeds 100000\n";
+
+const NO_PAGE: &str =
+    "{\"page\":17,\"config\":{\"decommit_batch_size\":0},\"offered\":{\"behaviour\":\"zero\"}}";
+
+const NO_PAGE_LINE: &str = "error BadConfig: page size 17 is not a power of two from 16 to 65536\n";
+
+const NOT_RESERVED: &str =
+    "{\"config\":{\"max_memory_size\":4295032832},\"tunables\":{\"memory_reservation\":65536}}";
+
+const NOT_RESERVED_LINE: &str =
+    "error BadConfig: maximum memory size of 0x100010000 bytes exceeds the configured memory reservation of 0x10000 bytes\n";
+
 const NO_RUN_OUTPUT: &str =
     "metrics core=0 component=0 memories=0 tables=0 stacks=0 heaps=0 warm_memories=0 memory_resident=0 warm_tables=0 table_resident=0 warm_stacks=0 stack_resident=none\n\
 pages expose=0 hide=0 map_image=0 remap_zeros=0 erase=0 recolour=0 decommit=0\n";
@@ -248,6 +271,9 @@ fn runs(rt: HostRuntime) -> Result<(), Fail> {
         (NO_BATCH, 0, Status::BadConfig, NO_BATCH_LINE),
         (NO_BATCH, 2, Status::WriteFault, "error BadC"),
         (TOO_RESIDENT, 0, Status::BadConfig, TOO_RESIDENT_LINE),
+        (TOO_MANY, 0, Status::BadConfig, TOO_MANY_LINE),
+        (NO_PAGE, 0, Status::BadConfig, NO_PAGE_LINE),
+        (NOT_RESERVED, 0, Status::BadConfig, NOT_RESERVED_LINE),
     ] {
         let (ends, sink) = ended(rt.alloc(), "run", input, 0, write)?;
         assert_eq!(rt; ends, status, "at {input}");

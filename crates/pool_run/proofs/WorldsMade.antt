@@ -28,7 +28,7 @@ use Rattle.pool_alloc.specs.Refusals.{memories_refused}
 use Rattle.pool_alloc.specs.declared.pool_core.PoolCore.{PoolCore}
 use Rattle.pool_alloc.specs.declared.pool_core.Settings.{Settings}
 use Rattle.pool_alloc.specs.declared.frame.ModuleCall.{ModuleCall}
-use Rattle.pool_run.specs.Built.{is_built, is_built_memory, is_built_module}
+use Rattle.pool_run.specs.Built.{are_built_sizes, is_built, is_built_memory, is_built_module}
 use Rattle.pool_run.specs.Made.{images_of_module, IsMadeCall, AreMadeCalls}
 use Rattle.pool_run.specs.Private.{World, memories_of, image_at}
 use Rattle.pool_run.specs.Runs.{world_of}
@@ -52,13 +52,13 @@ pub record IsBuilt (input : Input) : Type 0 where
 
 pub built_input : (input : Input) → is_built input ≡ true → IsBuilt input
 built_input input built =
-    let rest = second (input.config.limits.max_memory_size == 65536) (nat_le input.config.limits.total_memories 100 && (nat_le 1 input.config.limits.max_memories_per_module && list_all is_built_module input.modules)) built in
-    let more = second (nat_le input.config.limits.total_memories 100) (nat_le 1 input.config.limits.max_memories_per_module && list_all is_built_module input.modules) rest in
+    let sizes : are_built_sizes input.config.limits ≡ true = first _ _ built in
+    let rest = second (input.config.limits.max_memory_size == 65536) (nat_le input.config.limits.total_memories 100 && nat_le 1 input.config.limits.max_memories_per_module) sizes in
     record {
-      size = eqb-true _ _ (first _ _ built);
+      size = eqb-true _ _ (first _ _ sizes);
       total = leb-true _ _ (first _ _ rest);
-      memories = leb-true _ _ (first _ _ more);
-      modules = second (nat_le 1 input.config.limits.max_memories_per_module) _ more;
+      memories = leb-true _ _ (second (nat_le input.config.limits.total_memories 100) _ rest);
+      modules = first (list_all is_built_module input.modules) _ (second (are_built_sizes input.config.limits) _ built);
     }
 
 -- the memories of a module

@@ -1,13 +1,13 @@
 ghost use Rattle.std.specs.Prelude.{◌≡◌, ◌↔◌, Err, Some, length, true, false, IfOk, IfErr, OnOk};
 ghost use Rattle.pool_pages.specs.Config.{default_tunables};
-ghost use Rattle.pool_pages.specs.ConfigLimits.{IsWithinLimits, first_broken_limit};
+ghost use Rattle.pool_pages.specs.ConfigLimits.{IsWithinLimits};
 ghost use Rattle.pool_pages.specs.MakerTold.{MakerTold};
 ghost use Rattle.pool_pages.specs.declared.bad_config.BadConfig.{BadConfig};
 ghost use Rattle.pool_alloc.specs.Made.{IsMadeCore};
 ghost use Rattle.pool_alloc.specs.Sound.{IsCore};
 ghost use Rattle.pool_alloc.specs.Sums.{metrics_of};
 ghost use Rattle.pool_alloc.specs.Whole.{IsUntouched};
-ghost use Rattle.pool_run.specs.Built.{is_built};
+ghost use Rattle.pool_run.specs.Built.{broken_rule, is_built, is_ready};
 ghost use Rattle.pool_run.specs.Folds.{IsUnderWay};
 ghost use Rattle.pool_run.specs.Made.{AreMadeCalls};
 ghost use Rattle.pool_run.specs.Numbers.{calls_of_run};
@@ -142,21 +142,21 @@ fn run_within<P: Pages, M: PageMaker<Region = P>>(
 
 /// Makes a pool of the input's settings and the images of its modules, and has the parties make their turns over them:
 /// those of the schedule first, and then, where the input says so, those of each party until each of its commands has
-/// its reply. The replies are in the order of the parties and of their commands. Nothing is run where a limit of the
+/// its reply. The replies are in the order of the parties and of their commands. Nothing is run where a rule of the
 /// settings is broken, which is tested first, or where a region or an image can't be made.
 pub fn run_schedule<P: Pages, M: PageMaker<Region = P>>(
     alloc: Global,
     input: &Input,
     pages: &mut M,
 ) -> Result<RunOutput, RunFault>
-    requires built { is_built input.now ≡ true }
+    requires ready { is_ready input.now ≡ true }
     requires valid { is_valid input.now ≡ true }
     ensures ok { IfOk result (λ output. IsRun P default_tunables input.now (M.told pages.old) output) }
-    ensures bad_config { (e : BadConfig) → (result ≡ Err (RunFault.BadConfig e)) ↔ (first_broken_limit input.now.config ≡ Some e) }
+    ensures bad_config { (e : BadConfig) → (result ≡ Err (RunFault.BadConfig e)) ↔ (broken_rule input.now ≡ Some e) }
     ensures fault { result ≡ Err RunFault.PageFault → FaultsInMaking input.now (M.told pages.old) (M.told pages.new) }
 {
-    match input.config.check_limits() {
-        Ok(()) => run_within(alloc, input, pages),
+    match input.config.check_rules(&input.tunables, input.page) {
+        Ok(_) => run_within(alloc, input, pages),
         Err(error) => Err(RunFault::BadConfig(error)),
     }
 }
