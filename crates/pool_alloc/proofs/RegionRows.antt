@@ -26,7 +26,7 @@ use Rattle.pool_alloc.specs.Leases.{Lease, IsMemory}
 use Rattle.pool_alloc.specs.Own.{image_made, made_of, made_with, made_for, memory_made}
 use Rattle.pool_alloc.specs.Steps.{memories_asked, image_wanted, shard_at, cell_at, shard_of, local_of, with_shard, with_cell, counting_memories, holds_region, take_region_row, empty_row, instantiate_row, made, make_memory_row, count_memory_row, put_refused_row, free_refused_row}
 use Rattle.pool_alloc.specs.Answers.{Empties, InstantiatesAs, InstantiatesFor}
-use Rattle.pool_alloc.specs.Sound.{IsCore, IsLeaseOf, IsSettled, IsAllocating, HasSlot, HasBegun, IsNew}
+use Rattle.pool_alloc.specs.Sound.{IsCore, IsLeaseOf, IsSettled, IsAllocating, HasSlot, HasBegun, IsMadeOf, IsNew}
 use Rattle.pool_alloc.specs.Modules.{IfAllocated}
 use Rattle.pool_alloc.specs.declared.pool_core.PoolCore.{PoolCore}
 use Rattle.pool_alloc.specs.declared.pool_core.Settings.{Settings}
@@ -46,36 +46,36 @@ begun_as : (s : Settings) (decl : MemoryDecl) (fault : Bool) (image : Option Ima
 begun_as s decl true image had new e tells = absurd cc
 begun_as s decl false image had new e tells = record { begun = tells.begun; holds = tells.holds }
 
--- the memory lies in the slot that it was made in, and is as large as it begins
-pub record IsMadeIn (decls : List MemoryDecl) (k : ℕ) (held : Slot) (memory : MemoryState) : Type 0 where
+-- the memory lies in the slot that it was made in, and is as it begins
+pub record IsMadeIn (room : ℕ) (decls : List MemoryDecl) (k : ℕ) (held : Slot) (memory : MemoryState) : Type 0 where
   pub slot : slot_of memory ≡ held
-  pub size : IfSome (slice_get decls k) (λ decl. memory.linear.size ≡ minimum_byte_size decl.ty)
+  pub made : IfSome (slice_get decls k) (IsMadeOf room memory)
 
-record IsMadeFor (o : Option MemoryDecl) (held : Slot) (memory : MemoryState) : Type 0 where
+record IsMadeFor (room : ℕ) (o : Option MemoryDecl) (held : Slot) (memory : MemoryState) : Type 0 where
   slot : slot_of memory ≡ held
-  size : IfSome o (λ decl. memory.linear.size ≡ minimum_byte_size decl.ty)
+  made : IfSome o (IsMadeOf room memory)
 
-made_static_for : (b : Bool) (decl : MemoryDecl) (m : Static) (held : Slot) → m.slot ≡ held → m.size ≡ minimum_byte_size decl.ty → IfOk (made_of decl.ty (if b then Ok m else Err (held, InitialSize))) (IsMadeFor (Some decl) held)
-made_static_for true decl m held slot size = record { slot = slot; size = size }
-made_static_for false decl m held slot size = tt
+made_static_for : (b : Bool) (decl : MemoryDecl) (room : ℕ) (held : Slot) → IfOk (made_of decl.ty (if b then Ok (record { slot = held; size = minimum_byte_size decl.ty; capacity = capacity_of room (maximum_asked decl.ty) }) else Err (held, InitialSize))) (IsMadeFor room (Some decl) held)
+made_static_for true decl room held = record { slot = refl; made = record { size = refl; capacity = refl; ty = refl; fixed = refl } }
+made_static_for false decl room held = tt
 
-made_limits_for : (b allowed : Bool) (decl : MemoryDecl) (room : ℕ) (held : Slot) → IfOk (made_with (if b then (if allowed then Ok (minimum_byte_size decl.ty, maximum_asked decl.ty) else Err (unmade.Unsupported AddressSpace)) else Err (unmade.Unsupported (MemoryMinimum decl.ty.limits.min))) decl.ty room held) (IsMadeFor (Some decl) held)
-made_limits_for true true decl room held = made_static_for (nat_le (minimum_byte_size decl.ty) room) decl (record { slot = held; size = minimum_byte_size decl.ty; capacity = capacity_of room (maximum_asked decl.ty) }) held refl refl
+made_limits_for : (b allowed : Bool) (decl : MemoryDecl) (room : ℕ) (held : Slot) → IfOk (made_with (if b then (if allowed then Ok (minimum_byte_size decl.ty, maximum_asked decl.ty) else Err (unmade.Unsupported AddressSpace)) else Err (unmade.Unsupported (MemoryMinimum decl.ty.limits.min))) decl.ty room held) (IsMadeFor room (Some decl) held)
+made_limits_for true true decl room held = made_static_for (nat_le (minimum_byte_size decl.ty) room) decl room held
 made_limits_for true false decl room held = tt
 made_limits_for false allowed decl room held = tt
 
-made_for_ok : (answer : Result Bool LimiterError) (room : ℕ) (o : Option MemoryDecl) (held : Slot) → IfOk (made_for room answer held o) (IsMadeFor o held)
+made_for_ok : (answer : Result Bool LimiterError) (room : ℕ) (o : Option MemoryDecl) (held : Slot) → IfOk (made_for room answer held o) (IsMadeFor room o held)
 made_for_ok answer room None held = tt
 made_for_ok (Err e) room (Some decl) held = tt
 made_for_ok (Ok false) room (Some decl) held = tt
 made_for_ok (Ok true) room (Some decl) held = made_limits_for (nat_lt (minimum_byte_size decl.ty) (2 ^ 64)) (allow_growth_to decl.ty (minimum_byte_size decl.ty)) decl room held
 
-made_in_of : (r : Result MemoryState AllocError) (decls : List MemoryDecl) (k : ℕ) (held : Slot) → IfOk r (IsMadeFor (slice_get decls k) held) → IfOk r (IsMadeIn decls k held)
-made_in_of (Ok m) decls k held is = record { slot = is.slot; size = is.size }
-made_in_of (Err e) decls k held is = tt
+made_in_of : (r : Result MemoryState AllocError) (room : ℕ) (decls : List MemoryDecl) (k : ℕ) (held : Slot) → IfOk r (IsMadeFor room (slice_get decls k) held) → IfOk r (IsMadeIn room decls k held)
+made_in_of (Ok m) room decls k held is = record { slot = is.slot; made = is.made }
+made_in_of (Err e) room decls k held is = tt
 
-made_in : (s : Settings) (decls : List MemoryDecl) (k : ℕ) (answer : Result Bool LimiterError) (held : Slot) → IfOk (memory_made s decls k answer held) (IsMadeIn decls k held)
-made_in s decls k answer held = made_in_of (memory_made s decls k answer held) decls k held (made_for_ok answer s.max_memory_size (slice_get decls k) held)
+made_in : (s : Settings) (decls : List MemoryDecl) (k : ℕ) (answer : Result Bool LimiterError) (held : Slot) → IfOk (memory_made s decls k answer held) (IsMadeIn s.max_memory_size decls k held)
+made_in s decls k answer held = made_in_of (memory_made s decls k answer held) s.max_memory_size decls k held (made_for_ok answer s.max_memory_size (slice_get decls k) held)
 
 has_of_one : (maker : MakerTold) (s : Settings) (total slot : ℕ) (old new : Slot) → IsOneSlot old new → HasSlot maker s total slot old → HasSlot maker s total slot new
 has_of_one maker s total slot old new one has = record { inside = has.inside; region = slot_of_one maker s.max_memory_size slot old new one has.region }
@@ -141,23 +141,23 @@ module _ {P : Type 0} where
       ))
 
   -- The memory is made.
-  memory_new : (f : Frame P) (had : Slot) (memory : MemoryState) → IsMadeIn (memories_asked f.asked) (length f.granted.items) had memory → IfAllocated f (HasBegun (image_wanted f) had) → IfAllocated f (IsNew (image_wanted f) memory)
-  memory_new f had memory in_slot begun =
+  memory_new : (room : ℕ) (f : Frame P) (had : Slot) (memory : MemoryState) → IsMadeIn room (memories_asked f.asked) (length f.granted.items) had memory → IfAllocated f (HasBegun (image_wanted f) had) → IfAllocated f (IsNew room (image_wanted f) memory)
+  memory_new room f had memory in_slot begun =
       let B : Slot → Type 0 = λ s. IfAllocated f (HasBegun (image_wanted f) s) in
-      told_both (HasBegun (image_wanted f) (slot_of memory)) (λ decl. memory.linear.size ≡ minimum_byte_size decl.ty) (IsNew (image_wanted f) memory) (slice_get (memories_asked f.asked) (length f.granted.items))
-      (λ decl has size. record { slot = has; size = size })
-      (subst B (sym in_slot.slot) begun) in_slot.size
+      told_both (HasBegun (image_wanted f) (slot_of memory)) (IsMadeOf room memory) (IsNew room (image_wanted f) memory) (slice_get (memories_asked f.asked) (length f.granted.items))
+      (λ decl has made. record { slot = has; made = made })
+      (subst B (sym in_slot.slot) begun) in_slot.made
 
-  memory_of : (s : Settings) (f : Frame P) (memory : MemoryState) → IsAllocating s f → IfAllocated f (IsNew (image_wanted f) memory) → IsMemory memory
+  memory_of : (s : Settings) (f : Frame P) (memory : MemoryState) → IsAllocating s f → IfAllocated f (IsNew s.max_memory_size (image_wanted f) memory) → IsMemory memory
   memory_of s f memory allocating new =
       told_there (IsMemory memory) (memories_asked f.asked) (length f.granted.items) allocating.more
-      (told_weaker (IsNew (image_wanted f) memory) (λ decl. IsMemory memory) (slice_get (memories_asked f.asked) (length f.granted.items))
-      (λ decl is. record { in_use = record { dirty = is.slot.begun.dirty; ready = is.slot.begun.ready }; inside = rw is.size is.slot.holds.reached }) new)
+      (told_weaker (IsNew s.max_memory_size (image_wanted f) memory) (λ decl. IsMemory memory) (slice_get (memories_asked f.asked) (length f.granted.items))
+      (λ decl is. record { in_use = record { dirty = is.slot.begun.dirty; ready = is.slot.begun.ready }; inside = rw is.made.size is.slot.holds.reached; fixed = is.made.fixed }) new)
 
-  made_kept : (maker : MakerTold) (decls : List MemoryDecl) (slot : ℕ) (had : Slot) (r : Result MemoryState AllocError) (c : PoolCore P) (f : Frame P) → IsCore maker c → Held maker c.settings f → IsSettled f → IsAllocating c.settings f → HasSlot maker c.settings (length c.cells) slot had → IfAllocated f (HasBegun (image_wanted f) had) → IfOk r (IsMadeIn (memories_asked f.asked) (length f.granted.items) had) → IsSoundAfter maker decls (made slot had r c f)
+  made_kept : (maker : MakerTold) (decls : List MemoryDecl) (slot : ℕ) (had : Slot) (r : Result MemoryState AllocError) (c : PoolCore P) (f : Frame P) → IsCore maker c → Held maker c.settings f → IsSettled f → IsAllocating c.settings f → HasSlot maker c.settings (length c.cells) slot had → IfAllocated f (HasBegun (image_wanted f) had) → IfOk r (IsMadeIn c.settings.max_memory_size (memories_asked f.asked) (length f.granted.items) had) → IsSoundAfter maker decls (made slot had r c f)
   made_kept maker decls slot had (Ok memory) c f core held settled allocating has begun in_slot =
       let H : Slot → Type 0 = λ s. HasSlot maker c.settings (length c.cells) slot s in
-      let new : IfAllocated f (IsNew (image_wanted f) memory) = memory_new f had memory in_slot begun in
+      let new : IfAllocated f (IsNew c.settings.max_memory_size (image_wanted f) memory) = memory_new c.settings.max_memory_size f had memory in_slot begun in
       goes_on maker decls c f (CountMemory (record { index = slot; memory = memory })) core held (settled, allocating, subst H (sym in_slot.slot) has, memory_of c.settings f memory allocating new, new)
   made_kept maker decls slot had (Err e) c f core held settled allocating has begun in_slot = goes_on maker decls c f (PutRefused slot had e) core held (settled, allocating, has)
 

@@ -1,14 +1,40 @@
--- What is granted.
-use Rattle.std.specs.Prelude.{ℕ, ◌≤◌}
+-- What is granted, and how a lease is changed.
+use Rattle.std.specs.Prelude.{◌≡◌, ℕ, ◌+◌, ◌≤◌, List, length, slice_index_or, slice_set, false, Option, Result, OnOk, OnErr}
 use Rattle.pool_images.specs.Slots.{IsInUse}
-use Rattle.pool_memory.specs.Memories.{MemoryState, slot_of}
+use Rattle.pool_limits.specs.LimiterTold.{LimiterTold}
+use Rattle.pool_limits.specs.declared.errors.GrowFault.{GrowFault}
+use Rattle.pool_limits.specs.declared.errors.Trap.{Trap}
+use Rattle.pool_memory.specs.Growing.{IsGrowth}
+use Rattle.pool_memory.specs.Memories.{MemoryState, slot_of, memory_written, access_answer}
+use Rattle.pool_alloc.specs.Reserved.{Reserved}
 
 -- a memory that was granted, and the number of its slot
 pub record Lease : Type 0 where
   pub index : ℕ
   pub memory : MemoryState
 
--- the memory can be read and written
+-- the memory can be read and written, and stays where it is
 pub record IsMemory (m : MemoryState) : Type 0 where
   pub in_use : IsInUse (slot_of m)
   pub inside : m.linear.size ≤ (slot_of m).accessible.bytes
+  pub fixed : m.may_move ≡ false
+
+-- bytes of the memory were written, or it is as before where they pass its size
+pub record IsWritten (at : ℕ) (bytes : List ℕ) (old new : Lease) (result : Result (Unit {0}) Trap) : Type 0 where
+  pub index : new.index ≡ old.index
+  pub answer : result ≡ access_answer (at + length bytes) old.memory.linear.size
+  pub written : OnOk result (new.memory ≡ memory_written at bytes old.memory)
+  pub same : OnErr result (new.memory ≡ old.memory)
+  pub memory : IsMemory new.memory
+
+-- The memory was asked to grow by so many of its pages, and this was the answer. The limiter was as told, and is left so.
+pub record IsGrown (pages : ℕ) (old new : Lease) (asked left : LimiterTold) (answer : Result (Option ℕ) GrowFault) : Type 0 where
+  pub index : new.index ≡ old.index
+  pub growth : IsGrowth pages old.memory.linear.size old.memory new.memory asked left answer
+  pub memory : IsMemory new.memory
+
+-- the lease at this place was so changed, and the others stay
+pub record IsChanged (Change : Lease → Lease → Type 0) (place : ℕ) (old new : Reserved Lease) : Type 0 where
+  pub lease : Lease
+  pub change : (d : Lease) → Change (slice_index_or old.items place d) lease
+  pub is : new ≡ record old { items = slice_set old.items place lease }

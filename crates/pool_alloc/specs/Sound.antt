@@ -1,5 +1,5 @@
 -- What holds of the pool's parts, and of a party's frame, between steps.
-use Rattle.std.specs.Prelude.{◌≡◌, ℕ, ◌+◌, ◌*◌, ◌%◌, ◌^◌, ◌<◌, ◌≤◌, List, [], length, slice_get, slice_index_or, All, Option, None, IsSome, IfSome}
+use Rattle.std.specs.Prelude.{◌≡◌, ℕ, ◌+◌, ◌*◌, ◌%◌, ◌^◌, ◌<◌, ◌≤◌, List, [], length, slice_get, slice_index_or, All, false, Option, None, IsSome, IfSome}
 use Rattle.pool_pages.specs.Count.{IsPageSize}
 use Rattle.pool_pages.specs.MakerTold.{MakerTold}
 use Rattle.pool_pages.specs.MemoryTypes.{minimum_byte_size, refused_limits}
@@ -8,7 +8,8 @@ use Rattle.pool_images.specs.Images.{Image}
 use Rattle.pool_images.specs.Slots.{Slot, IsClean, IsBegun, FitsInto}
 use Rattle.pool_index.specs.Shard.{IsShard, ShardState, slot_number}
 use Rattle.pool_memory.specs.Memories.{MemoryState, slot_of as image_slot_of}
-use Rattle.pool_memory.specs.Static.{CanHold}
+use Rattle.pool_memory.specs.Making.{maximum_asked}
+use Rattle.pool_memory.specs.Static.{CanHold, capacity_of}
 use Rattle.pool_slots.specs.Cells.{IsCell, IsSlotOf}
 use Rattle.pool_slots.specs.Queues.{QueueState, QueuedMemory, HasOwners, IsQueue}
 use Rattle.pool_alloc.specs.Reserved.{Reserved}
@@ -109,10 +110,17 @@ pub record HasBegun (image : Option Image) (held : Slot) (decl : MemoryDecl) : T
   pub begun : IsBegun image held
   pub holds : CanHold (minimum_byte_size decl.ty) held
 
--- the memory is as it begins, with this image
-pub record IsNew (image : Option Image) (m : MemoryState) (decl : MemoryDecl) : Type 0 where
-  pub slot : HasBegun image (image_slot_of m) decl
+-- the memory is as one of its type begins, and may have as much as its slot offers and the type allows
+pub record IsMadeOf (room : ℕ) (m : MemoryState) (decl : MemoryDecl) : Type 0 where
   pub size : m.linear.size ≡ minimum_byte_size decl.ty
+  pub capacity : m.linear.capacity ≡ capacity_of room (maximum_asked decl.ty)
+  pub ty : m.ty ≡ decl.ty
+  pub fixed : m.may_move ≡ false
+
+-- and begins with this image
+pub record IsNew (room : ℕ) (image : Option Image) (m : MemoryState) (decl : MemoryDecl) : Type 0 where
+  pub slot : HasBegun image (image_slot_of m) decl
+  pub made : IsMadeOf room m decl
 
 -- nothing is queued or waits to be freed
 pub record NothingWaits (local : QueueState) (freed : Reserved FreedSlot) : Type 0 where
@@ -169,7 +177,7 @@ module _ {P : Type 0} where
   IsShapedAt maker s slots shards queues (Empty slot held) f = IsSettled f × IsAllocating s f × HasSlot maker s slots slot held
   IsShapedAt maker s slots shards queues (Instantiate slot held) f = IsSettled f × IsAllocating s f × HasSlot maker s slots slot held × IsClean held
   IsShapedAt maker s slots shards queues (MakeMemory slot held) f = IsSettled f × IsAllocating s f × HasSlot maker s slots slot held × IfAllocated f (HasBegun (image_wanted f) held)
-  IsShapedAt maker s slots shards queues (CountMemory lease) f = IsSettled f × IsAllocating s f × HasSlot maker s slots lease.index (image_slot_of lease.memory) × IsMemory lease.memory × IfAllocated f (IsNew (image_wanted f) lease.memory)
+  IsShapedAt maker s slots shards queues (CountMemory lease) f = IsSettled f × IsAllocating s f × HasSlot maker s slots lease.index (image_slot_of lease.memory) × IsMemory lease.memory × IfAllocated f (IsNew s.max_memory_size (image_wanted f) lease.memory)
   IsShapedAt maker s slots shards queues (PutRefused slot held e) f = IsSettled f × IsAllocating s f × HasSlot maker s slots slot held
   IsShapedAt maker s slots shards queues (FreeRefused slot e) f = IsSettled f × IsAllocating s f × (slot < slots)
   IsShapedAt maker s slots shards queues UncountMemory f = IsSettled f × (f.granted.items ≡ []) × (0 < length f.returning.items)

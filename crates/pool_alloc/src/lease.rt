@@ -1,11 +1,10 @@
-ghost use Rattle.std.specs.Prelude.{◌≡◌, ◌+◌, ◌<◌, length, slice_set, OnOk, OnErr};
-ghost use Rattle.std.specs.List.{HoldsAt};
-ghost use Rattle.pool_memory.specs.Memories.{slot_of, memory_written, access_answer};
-ghost use Rattle.pool_alloc.specs.Leases.{IsMemory};
+ghost use Rattle.std.specs.Prelude.{◌≡◌, ◌<◌, length, replicate};
+ghost use Rattle.pool_memory.specs.Memories.{slot_of};
+ghost use Rattle.pool_alloc.specs.Leases.{IsWritten, IsGrown, IsChanged};
 ghost use Rattle.pool_alloc.specs.Sums.{calls_of_leases};
 
 use crate::reserved::ReservedList;
-use pool_limits::Trap;
+use pool_limits::{GrowFault, ResourceLimiter, Trap};
 use pool_memory::{Memory, StaticMemory};
 use pool_pages::{PageCalls, Pages};
 use pool_slots::{MemoryAllocationIndex, add_calls, no_calls};
@@ -37,12 +36,31 @@ impl<P: Pages> MemoryLease<P> {
 
     /// Writes the bytes from `at` on, or nothing where they pass the memory's size.
     pub fn write(&mut self, at: u64, bytes: &[u8]) -> Result<(), Trap>
-        ensures answer { result ≡ access_answer (at + length bytes.now) self.old.memory.linear.size }
-        ensures written { OnOk result (self.new ≡ record self.old { memory = memory_written at bytes.now self.old.memory }) }
-        ensures same { OnErr result (self.new ≡ self.old) }
-        ensures memory { IsMemory self.new.memory }
+        ensures { IsWritten at bytes.now self.old self.new result }
     {
         let result = self.memory.write(at, bytes);
+        let _slot = self.memory.slot();
+        result
+    }
+
+    /// Sets `len` bytes from `at` on to one value, or nothing where they pass the memory's size. Takes no memory.
+    pub fn fill(&mut self, at: u64, len: u64, byte: u8) -> Result<(), Trap>
+        ensures { IsWritten at (replicate len byte) self.old self.new result }
+    {
+        let result = self.memory.fill(at, len, byte);
+        let _slot = self.memory.slot();
+        result
+    }
+
+    /// Grows the memory by so many of its own pages, as `Memory::grow` does. Takes no memory.
+    pub fn grow<R: ResourceLimiter>(
+        &mut self,
+        delta_pages: u64,
+        limiter: &mut R,
+    ) -> Result<Option<usize>, GrowFault>
+        ensures { IsGrown delta_pages self.old self.new (R.told limiter.old) (R.told limiter.new) result }
+    {
+        let result = self.memory.grow(&mut (), delta_pages, Some(limiter));
         let _slot = self.memory.slot();
         result
     }
@@ -51,14 +69,34 @@ impl<P: Pages> MemoryLease<P> {
 impl<P: Pages> ReservedList<MemoryLease<P>> {
     /// Writes to the memory at this place.
     pub fn write(&mut self, place: usize, at: u64, bytes: &[u8]) -> Result<(), Trap>
-        requires inside { place < length self.old.items }
-        ensures answer { HoldsAt (λ l. result ≡ access_answer (at + length bytes.now) l.memory.linear.size) self.old.items place }
-        ensures written { OnOk result (HoldsAt (λ l. self.new ≡ record self.old { items = slice_set self.old.items place (record l { memory = memory_written at bytes.now l.memory }) }) self.old.items place) }
-        ensures same { OnErr result (self.new ≡ self.old) }
-        ensures memory { OnOk result (HoldsAt (λ l. IsMemory (memory_written at bytes.now l.memory)) self.old.items place) }
+        requires { place < length self.old.items }
+        ensures { IsChanged (λ l new. IsWritten at bytes.now l new result) place self.old self.new }
     {
         let lease = &mut self.items[place];
         lease.write(at, bytes)
+    }
+
+    /// Fills bytes of the memory at this place.
+    pub fn fill(&mut self, place: usize, at: u64, len: u64, byte: u8) -> Result<(), Trap>
+        requires { place < length self.old.items }
+        ensures { IsChanged (λ l new. IsWritten at (replicate len byte) l new result) place self.old self.new }
+    {
+        let lease = &mut self.items[place];
+        lease.fill(at, len, byte)
+    }
+
+    /// Grows the memory at this place.
+    pub fn grow<R: ResourceLimiter>(
+        &mut self,
+        place: usize,
+        delta_pages: u64,
+        limiter: &mut R,
+    ) -> Result<Option<usize>, GrowFault>
+        requires { place < length self.old.items }
+        ensures { IsChanged (λ l new. IsGrown delta_pages l new (R.told limiter.old) (R.told limiter.new) result) place self.old self.new }
+    {
+        let lease = &mut self.items[place];
+        lease.grow(delta_pages, limiter)
     }
 }
 

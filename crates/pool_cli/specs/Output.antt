@@ -15,7 +15,7 @@ use Rattle.pool_run.specs.declared.output.RunOutput.{RunOutput}
 use Rattle.pool_run.specs.declared.reply.Refusal.{Refusal}
 use Rattle.pool_run.specs.declared.reply.Refusal.TheVariants.{NoSuchGrant, Alloc}
 use Rattle.pool_run.specs.declared.reply.Reply.{Reply}
-use Rattle.pool_run.specs.declared.reply.Reply.TheVariants.{Instance, Bytes, Done, Returned, Refused, Trap as Trapped}
+use Rattle.pool_run.specs.declared.reply.Reply.TheVariants.{Instance, Bytes, Done, Size, Grown, Returned, Refused, Trap as Trapped}
 
 -- the end of a line
 abbrev pub line_feed : List ℕ
@@ -59,10 +59,17 @@ trap_text TableOutOfBounds = codes "TableOutOfBounds"
 trap_text HeapMisaligned = codes "HeapMisaligned"
 trap_text AtomicWaitNonSharedMemory = codes "AtomicWaitNonSharedMemory"
 
+-- the size before a growth, if there was one
+abbrev pub grown_text : Option ℕ → List ℕ
+grown_text None = codes "grown none"
+grown_text (Some old) = codes "grown " ++ decimal old
+
 abbrev pub reply_text : Reply → List ℕ
 reply_text (Instance memories tables) = codes "granted memories " ++ numbers_text memories ++ codes " tables " ++ numbers_text tables
 reply_text (Bytes bytes) = codes "bytes " ++ bytes_text bytes
 reply_text Done = codes "done"
+reply_text (Size size) = codes "size " ++ decimal size
+reply_text (Grown old) = grown_text old
 reply_text Returned = codes "returned"
 reply_text (Refused refusal) = codes "refused " ++ refusal_text refusal
 reply_text (Trapped trap) = codes "trap " ++ trap_text trap

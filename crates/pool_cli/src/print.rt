@@ -1,5 +1,5 @@
 ghost use Rattle.std.specs.Prelude.{◌≡◌, ◌++◌, Some, IfOk, OnOk, string_bytes};
-ghost use Rattle.pool_cli.specs.Output.{numbers_text, bytes_text, refusal_text, alloc_error_text, denied_text, trap_text, reply_text, reply_line, reply_lines, party_lines, named, named_or_none, live_text, warm_text, metrics_line, pages_line, output_text};
+ghost use Rattle.pool_cli.specs.Output.{numbers_text, bytes_text, refusal_text, alloc_error_text, denied_text, trap_text, grown_text, reply_text, reply_line, reply_lines, party_lines, named, named_or_none, live_text, warm_text, metrics_line, pages_line, output_text};
 
 use pool_alloc::Metrics;
 use pool_limits::Trap;
@@ -86,6 +86,15 @@ fn push_trap(out: &mut String, trap: Trap) -> Result<(), AllocError>
     }
 }
 
+fn push_grown(out: &mut String, old: Option<u64>) -> Result<(), AllocError>
+    ensures { OnOk result (string_bytes out.new ≡ string_bytes out.old ++ grown_text old) }
+{
+    match old {
+        None => out.push_str("grown none"),
+        Some(old) => write!(out, "grown {old}"),
+    }
+}
+
 fn push_reply(alloc: Global, out: &mut String, reply: &Reply) -> Result<(), AllocError>
     ensures { OnOk result (string_bytes out.new ≡ string_bytes out.old ++ reply_text reply.now) }
 {
@@ -101,6 +110,8 @@ fn push_reply(alloc: Global, out: &mut String, reply: &Reply) -> Result<(), Allo
             push_bytes(alloc, out, bytes.as_slice())
         }
         Reply::Done => out.push_str("done"),
+        Reply::Size(size) => write!(out, "size {size}"),
+        Reply::Grown(old) => push_grown(out, *old),
         Reply::Returned => out.push_str("returned"),
         Reply::Refused(refusal) => {
             out.push_str("refused ")?;

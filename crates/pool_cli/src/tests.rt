@@ -122,6 +122,9 @@ fn replies(alloc: Global) -> Result<ReplyList, AllocError> {
     all.push(Reply::Bytes(bytes(alloc, "init")?))?;
     all.push(Reply::Bytes(ByteList::new(alloc)))?;
     all.push(Reply::Done)?;
+    all.push(Reply::Size(65_536))?;
+    all.push(Reply::Grown(Some(0)))?;
+    all.push(Reply::Grown(None))?;
     all.push(Reply::Returned)?;
     let limit = PoolConcurrencyLimitError {
         limit: 1,
@@ -139,12 +142,15 @@ const OUTPUT: &str = "0.0: granted memories 0,12 tables -\n\
 0.1: bytes 696e6974\n\
 0.2: bytes -\n\
 0.3: done\n\
-0.4: returned\n\
-0.5: refused PoolConcurrencyLimitError: maximum concurrent limit of 1 for memory stripe 0 reached\n\
-0.6: refused PageFault\n\
-0.7: refused NoMemory\n\
-0.8: refused NoSuchGrant\n\
-0.9: trap MemoryOutOfBounds\n\
+0.4: size 65536\n\
+0.5: grown 0\n\
+0.6: grown none\n\
+0.7: returned\n\
+0.8: refused PoolConcurrencyLimitError: maximum concurrent limit of 1 for memory stripe 0 reached\n\
+0.9: refused PageFault\n\
+0.10: refused NoMemory\n\
+0.11: refused NoSuchGrant\n\
+0.12: trap MemoryOutOfBounds\n\
 2.0: done\n\
 metrics core=1 component=0 memories=1 tables=0 stacks=0 heaps=0 warm_memories=0 memory_resident=0 warm_tables=0 table_resident=0 warm_stacks=0 stack_resident=none\n\
 pages expose=1 hide=0 map_image=1 remap_zeros=0 erase=0 recolour=0 decommit=1\n";

@@ -1,4 +1,4 @@
-ghost use Rattle.std.specs.Prelude.{◌≡◌, ◌+◌, ◌≤◌, [], ◌∷◌, length, slice_range, false, None, is_ok, is_some, IfSome, OnOk, OnErr};
+ghost use Rattle.std.specs.Prelude.{◌≡◌, ◌+◌, ◌≤◌, [], ◌∷◌, length, replicate, slice_range, false, None, is_ok, is_some, IfSome, OnOk, OnErr};
 ghost use Rattle.pool_pages.specs.Told.{exposing, hiding, mapping, remapping, erasing, decommitting, passes};
 ghost use Rattle.pool_images.specs.Orders.{Follows};
 ghost use Rattle.pool_images.specs.Slots.{size_of, IsRangeOf, CallFaulted, IsFresh, IsReady, IsClean, Fits, FitsInto, called, written_at};
@@ -154,6 +154,18 @@ impl<P: Pages> MemoryImageSlot<P> {
         let from = self.base.byte_count() + at;
         self.region.write(from, bytes);
         self.dirty = true;
+    }
+
+    /// Sets `len` bytes from `at` on to one value, as a write of them all does.
+    pub fn fill(&mut self, at: usize, len: usize, byte: u8)
+        requires inside { at + len ≤ self.old.accessible.bytes }
+        requires ready { IfSome self.old.region.contents (IsReady self.old) }
+        ensures written { self.new ≡ written_at at (replicate len byte) self.old }
+        ensures ready { IfSome self.new.region.contents (IsReady self.new) }
+    {
+        let from = self.base.byte_count() + at;
+        self.region.fill(from, len, byte);
+        self.dirty = true
     }
 
     fn expose(

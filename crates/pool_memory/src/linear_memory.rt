@@ -1,4 +1,4 @@
-ghost use Rattle.std.specs.Prelude.{◌≡◌, ◌+◌, ◌≤◌, length, slice_range, false, IfSome, IfErr, OnOk};
+ghost use Rattle.std.specs.Prelude.{◌≡◌, ◌+◌, ◌≤◌, length, replicate, slice_range, false, IfSome, IfErr, OnOk};
 ghost use Rattle.pool_memory.specs.Linear.{Linear, IsLinear, is_mapped, linear_bytes, linear_written, ready, resized};
 ghost use Rattle.pool_memory.specs.Growing.{GrowsTo, IsUngrown};
 
@@ -33,6 +33,11 @@ pub trait RuntimeLinearMemory<M>: Drop {
     fn write(&mut self, at: usize, bytes: &[u8])
         requires { at + length bytes.now ≤ (linear self.old).size }
         ensures { linear self.new ≡ linear_written at bytes.now (linear self.old) };
+
+    /// Sets `len` bytes from `at` on to one value; all other bytes stay.
+    fn fill(&mut self, at: usize, len: usize, byte: u8)
+        requires { at + len ≤ (linear self.old).size }
+        ensures { linear self.new ≡ linear_written at (replicate len byte) (linear self.old) };
 
     /// Makes the memory `size` bytes large, which is no less than it is. What is new is zeros. Beyond its capacity it
     /// moves to a region of `maker`. Answers `PageFault`, `Overflow` or `Memory` alone.

@@ -1,4 +1,4 @@
-ghost use Rattle.std.specs.Prelude.{◌≡◌, ◌↔◌, ◌+◌, ◌^◌, ◌<◌, ◌≤◌, ◌&&◌, length, slice_range, not, false, IsTrue, IfSome, OnOk, OnErr};
+ghost use Rattle.std.specs.Prelude.{◌≡◌, ◌↔◌, ◌+◌, ◌^◌, ◌<◌, ◌≤◌, ◌&&◌, length, replicate, slice_range, not, false, IsTrue, IfSome, OnOk, OnErr};
 ghost use Rattle.pool_pages.specs.MemoryTypes.{page_size, memory_may_move};
 ghost use Rattle.pool_memory.specs.Linear.{IsLinear, in_slot, is_mapped};
 ghost use Rattle.pool_memory.specs.Growing.{AskedPages, grown_size, past_room, exceeds};
@@ -104,6 +104,19 @@ impl<M, L: RuntimeLinearMemory<M>> LocalMemory<M, L> {
         Ok(())
     }
 
+    /// Sets `len` bytes from `at` on to one value, or nothing where they pass the size. Takes no memory.
+    pub fn fill(&mut self, at: u64, len: u64, byte: u8) -> Result<(), Trap>
+        ensures answer { result ≡ access_answer (at + len) self.old.linear.size }
+        ensures written { OnOk result (self.new ≡ memory_written at (replicate len byte) self.old) }
+        ensures same { OnErr result (self.new ≡ self.old) }
+    {
+        if !self.has(at, len as usize) {
+            return Err(Trap::MemoryOutOfBounds);
+        }
+        self.memory.fill(at as usize, len as usize, byte);
+        Ok(())
+    }
+
     // The size after a growth by so many pages.
     pub(crate) fn grown_size(&self, delta_pages: u64) -> usize
         ensures value { result ≡ grown_size delta_pages self.now }
@@ -171,10 +184,11 @@ impl<P: Pages> LocalMemory<(), StaticMemory<P>> {
         self.memory.into_slot()
     }
 
-    /// The slot that the memory lies in. It is in use.
+    /// The slot that the memory lies in, and stays in. It is in use.
     pub fn slot(&self) -> &MemoryImageSlot<P>
         ensures value { result.now ≡ slot_of self.now }
         ensures holds { CanHold self.now.linear.size (slot_of self.now) }
+        ensures fixed { self.now.may_move ≡ false }
     {
         self.memory.slot()
     }

@@ -1,4 +1,4 @@
-ghost use Rattle.std.specs.Prelude.{◌≡◌, ◌+◌, ◌^◌, ◌<◌, ◌≤◌, length, slice_range, not, false, Option, None, IfOk, IfSome, OnOk, OnErr};
+ghost use Rattle.std.specs.Prelude.{◌≡◌, ◌+◌, ◌^◌, ◌<◌, ◌≤◌, length, replicate, slice_range, not, false, Option, None, IfOk, IfSome, OnOk, OnErr};
 ghost use Rattle.std.specs.Option.{option_copied_mut};
 ghost use Rattle.pool_pages.specs.Count.{rounded_up};
 ghost use Rattle.pool_pages.specs.MemoryTypes.{page_size, minimum_byte_size, refused_limits};
@@ -89,6 +89,16 @@ impl<M, L: RuntimeLinearMemory<M>> Memory<M, L> {
         memory.write(at, bytes)
     }
 
+    /// Sets `len` bytes from `at` on to one value, or nothing where they pass the size. Takes no memory.
+    pub fn fill(&mut self, at: u64, len: u64, byte: u8) -> Result<(), Trap>
+        ensures answer { result ≡ access_answer (at + len) (state_of self.old).linear.size }
+        ensures written { OnOk result (state_of self.new ≡ memory_written at (replicate len byte) (state_of self.old)) }
+        ensures same { OnErr result (state_of self.new ≡ state_of self.old) }
+    {
+        let Memory::Local(memory) = self;
+        memory.fill(at, len, byte)
+    }
+
     /// Grows the memory by so many of its own pages. Answers the old size in bytes, or None, where the memory's size and
     /// bytes are as before. By 0 pages nobody is asked. A size that the type forbids is only reported to the limiter;
     /// then the limiter is asked; then a size past the maximum, or past the capacity of a memory that isn't moved, and a
@@ -157,10 +167,11 @@ impl<P: Pages> Memory<(), StaticMemory<P>> {
         memory.unwrap_static_image()
     }
 
-    /// The slot that the memory lies in. It is in use.
+    /// The slot that the memory lies in, and stays in. It is in use.
     pub fn slot(&self) -> &MemoryImageSlot<P>
         ensures value { result.now ≡ slot_of (state_of self.now) }
         ensures holds { CanHold (state_of self.now).linear.size (slot_of (state_of self.now)) }
+        ensures fixed { (state_of self.now).may_move ≡ false }
     {
         let Memory::Local(memory) = self;
         memory.slot()

@@ -140,6 +140,11 @@ impl<M, P: Pages> RuntimeLinearMemory<M> for StaticMemory<P> {
         self.slot.write(at, bytes)
     }
 
+    fn fill(&mut self, at: usize, len: usize, byte: u8) {
+        self.fits();
+        self.slot.fill(at, len, byte)
+    }
+
     fn grow_to(&mut self, _maker: &mut M, size: usize) -> Result<(), GrowError> {
         self.raise_to(size)
     }

@@ -1,17 +1,15 @@
 -- How far a turn takes a party: its call goes on, and has fewer steps left, or it ends, or the next one begins.
 use Rattle.std.proofs.Common.{◌≡◌, ℕ, ◌+◌, ◌<◌, ◌≤◌, Bool, true, false, List, length, get_or, Option, Some, None, refl, sym, ap, ◌∙◌, subst, inl, inr, arith}
-use Rattle.std.specs.Prelude.{◌==◌, ◌&&◌, not, nat_le, nat_lt, if◌then◌else◌, is_some, IfSome, slice_get, slice_set, slice_index_or}
+use Rattle.std.specs.Prelude.{◌==◌, ◌&&◌, not, nat_lt, if◌then◌else◌, is_some, IfSome, replicate, slice_get, slice_set, slice_index_or}
 use Rattle.std.proofs.lemmas.Bool.{lt-ltb, le-ltb, cases_lt}
 use Rattle.std.proofs.lemmas.Option.{slice_get_within, slice_get-get_or}
 use Rattle.pool_pages.specs.MakerTold.{MakerTold}
 use Rattle.pool_pages.specs.declared.module_types.ModuleInfo.{ModuleInfo}
 use Rattle.pool_index.specs.Shard.{one_if}
 use Rattle.pool_limits.specs.LimiterTold.{unlimited}
-use Rattle.pool_limits.specs.declared.errors.Trap.TheVariants.{MemoryOutOfBounds}
 use Rattle.pool_slots.specs.declared.request.AllocError.TheVariants as alloc
 use Rattle.pool_alloc.specs.Bounds.{HasGroups, instance_bound, pool_sizes, bound_of, steps_left}
 use Rattle.pool_alloc.specs.Calls.{IsIdle, begun_call}
-use Rattle.pool_alloc.specs.Leases.{Lease}
 use Rattle.pool_alloc.specs.Steps.{After}
 use Rattle.pool_alloc.specs.Stepping.{CanStep, is_idle}
 use Rattle.pool_alloc.specs.declared.pool_core.PoolCore.{PoolCore}
@@ -27,19 +25,21 @@ use Rattle.pool_alloc.specs.declared.frame.Phase.TheVariants.{UncountMemory, Unc
 use Rattle.pool_alloc.proofs.Endings.{step_ends}
 use Rattle.pool_alloc.proofs.Grouping.{step_grouped, begun_grouped}
 use Rattle.pool_alloc.proofs.StepBounds.{step_fewer, idle_left, begun_bounded}
-use Rattle.pool_run.specs.Private.{World}
+use Rattle.pool_memory.specs.Memories.{MemoryState}
+use Rattle.pool_run.specs.Private.{World, PrivateMemory, IsRead, IsSize}
 use Rattle.pool_run.specs.Progress.{begun_by, begins_by, bound_asked, bound_returned, bound_begun, bound_keyed, bound_by}
 use Rattle.pool_run.specs.RunsMade.{draws_stripe}
 use Rattle.pool_run.specs.Ties.{CanTurn}
-use Rattle.pool_run.specs.Turns.{Turned, lease_written, leases_of, replies, answered, StepsFreely, Steps, Returns, ReadsLease, Reads, grant_written, WritesLease, Writes, Asks, Begins, BeginsKeyed, TurnsAt, Turns}
+use Rattle.pool_run.specs.Turns.{Turned, MemoryWrites, MemoryGrows, replies, answered, StepsFreely, Steps, Returns, LooksAt, with_lease, MovesIn, Asks, Begins, BeginsKeyed, TurnsAt, Turns}
 use Rattle.pool_run.specs.Worlds.{IsCallFor, AreCallsFor}
 use Rattle.pool_run.specs.declared.command.Command.{Command}
 use Rattle.pool_run.specs.declared.command.Command.TheVariants as command
 use Rattle.pool_run.specs.declared.reply.Reply.{Reply}
-use Rattle.pool_run.specs.declared.reply.Reply.TheVariants.{Done, Refused, Trap}
+use Rattle.pool_run.specs.declared.reply.Reply.TheVariants.{Refused}
 use Rattle.pool_run.specs.declared.reply.Refusal.TheVariants.{NoSuchGrant, Alloc}
 use Rattle.pool_run.specs.declared.running_party.RunningParty.{RunningParty}
 use Rattle.pool_run.proofs.Beginning.{idle_is}
+use Rattle.pool_run.proofs.Moves.{looked, moved}
 use Rattle.pool_run.proofs.Keyless.{is_key, IsKeyless, step_keyless}
 use Rattle.pool_run.proofs.Parties.{can_step, called_key, called_module, called_back}
 use Rattle.pool_run.proofs.Shares.{share_for}
@@ -165,27 +165,16 @@ module _ {P : Type 0} (maker : MakerTold) (c : PoolCore P) (p : RunningParty P) 
       let drawn : one_if q.keyed ≡ one_if p.keyed = ap one_if keyed in
       record { ready = on.ready; fewer = λ busy. never busy; bounded = λ idles. omega (arith, on.fewer busy, most); begun = omega (arith, on.begun, one, not_busy, drawn, done) }
 
-  -- a read
-  lease_read : (i len : ℕ) (y : Option Lease) (t : Turned P) → ReadsLease y i len c p t → HasAdvanced 1 1 c p t
-  lease_read i len None t reads = at_once (Refused NoSuchGrant) t reads
-  lease_read i len (Some l) t reads = at_once reads.0 t reads.2
+  -- a command that looks at a memory, and one that moves it
+  looks_on : (Looks : PrivateMemory → Reply → Type 0) (k : ℕ) (x : Option (Grant P)) (t : Turned P) → LooksAt Looks x k c p t → HasAdvanced 1 1 c p t
+  looks_on Looks k x t looks = let seen = looked c p Looks k x t looks in at_once seen.0 t seen.1
 
-  reads_on : (k i len : ℕ) (x : Option (Grant P)) (t : Turned P) → Reads x k i len c p t → HasAdvanced 1 1 c p t
-  reads_on k i len None t reads = at_once (Refused NoSuchGrant) t reads
-  reads_on k i len (Some grant) t reads = lease_read i len (slice_get (leases_of grant) k) t reads
-
-  -- a write
-  writes_within : (of k i : ℕ) (bytes : List ℕ) (grant : Grant P) (l : Lease) (b : Bool) (t : Turned P) → t ≡ (if b then replies Done c (record p { live = slice_set p.live of (Some (grant_written k (lease_written i bytes l) grant)) }) else replies (Trap MemoryOutOfBounds) c p) → HasAdvanced 1 1 c p t
-  writes_within of k i bytes grant l true t same = replies_advanced (record p { live = slice_set p.live of (Some (grant_written k (lease_written i bytes l) grant)) }) Done t refl refl refl same
-  writes_within of k i bytes grant l false t same = at_once (Trap MemoryOutOfBounds) t same
-
-  lease_write : (of k i : ℕ) (bytes : List ℕ) (grant : Grant P) (y : Option Lease) (t : Turned P) → WritesLease y of grant k i bytes c p t → HasAdvanced 1 1 c p t
-  lease_write of k i bytes grant None t writes = at_once (Refused NoSuchGrant) t writes
-  lease_write of k i bytes grant (Some l) t writes = writes_within of k i bytes grant l (nat_le (i + length bytes) l.memory.linear.size) t writes
-
-  writes_on : (of k i : ℕ) (bytes : List ℕ) (x : Option (Grant P)) (t : Turned P) → Writes x of k i bytes c p t → HasAdvanced 1 1 c p t
-  writes_on of k i bytes None t writes = at_once (Refused NoSuchGrant) t writes
-  writes_on of k i bytes (Some grant) t writes = lease_write of k i bytes grant (slice_get (leases_of grant) k) t writes
+  moves_on : (Moves : MemoryState → MemoryState → Reply → Type 0) (of k : ℕ) (x : Option (Grant P)) (t : Turned P) → MovesIn Moves x of k c p t → HasAdvanced 1 1 c p t
+  moves_on Moves of k x t moves =
+      elim (moved c p Moves of k x t moves) [
+        | inl same ↦ at_once same.0 t same.1
+        | inr m ↦ replies_advanced (record p { live = slice_set p.live of (Some (with_lease k m.new (instance m.lease))) }) m.reply t refl refl refl m.is
+      ]
 
   -- a give-back
   returns_on : (of : ℕ) (x : Option (Grant P)) (t : Turned P) → slice_index_or p.live of None ≡ x → Returns x of c p t → HasAdvanced 1 (bound_returned c x) c p t
@@ -214,8 +203,11 @@ module _ {P : Type 0} (maker : MakerTold) (c : PoolCore P) (p : RunningParty P) 
 
   begins_on : (w : World) (modules : List ModuleCall) (command : Command) (t : Turned P) → AreCallsFor w c.settings modules → Begins modules command c p t → p.done < length p.live → HasAdvanced 1 (bound_begun modules command c p) c p t
   begins_on w modules (command.Instantiate number) t calls begins room = asks_on w number (slice_get modules number) t (calls number) begins room
-  begins_on w modules (command.Read of k i len) t calls begins room = reads_on k i len (slice_index_or p.live of None) t begins
-  begins_on w modules (command.Write of k i bytes) t calls begins room = writes_on of k i bytes (slice_index_or p.live of None) t begins
+  begins_on w modules (command.Read of k i len) t calls begins room = looks_on (λ m. IsRead m i len) k (slice_index_or p.live of None) t begins
+  begins_on w modules (command.Write of k i bytes) t calls begins room = moves_on (MemoryWrites i bytes) of k (slice_index_or p.live of None) t begins
+  begins_on w modules (command.Fill of k i len byte) t calls begins room = moves_on (MemoryWrites i (replicate len byte)) of k (slice_index_or p.live of None) t begins
+  begins_on w modules (command.Grow of k pages) t calls begins room = moves_on (MemoryGrows pages) of k (slice_index_or p.live of None) t begins
+  begins_on w modules (command.Size of k) t calls begins room = looks_on IsSize k (slice_index_or p.live of None) t begins
   begins_on w modules (command.Drop of) t calls begins room = returns_on of (slice_index_or p.live of None) t refl begins
 
   -- The stripe is drawn in one turn.

@@ -1,12 +1,10 @@
 -- The first step of a command, and each turn, as the party sees it.
 use Rattle.std.proofs.Common.{◌≡◌, ℕ, ◌+◌, ◌<◌, ◌≤◌, Bool, true, false, List, length, map, Option, Some, None, refl, sym, ap, ◌∙◌, subst, inl, inr, arith, All}
-use Rattle.std.specs.Prelude.{◌==◌, nat_le, if◌then◌else◌, IfSome, IsSome, option_map, slice_get, slice_set, slice_index_or}
-use Rattle.std.proofs.lemmas.Bool.{leb-true, leb-false}
+use Rattle.std.specs.Prelude.{◌==◌, if◌then◌else◌, IfSome, IsSome, option_map, replicate, slice_get, slice_set, slice_index_or}
 use Rattle.std.proofs.lemmas.List.{map-set}
-use Rattle.std.proofs.lemmas.List.Elements.{All-get_or}
-use Rattle.std.proofs.lemmas.Option.{slice_get-map, slice_get_within, get_or_from_slice_get}
-use Rattle.pool_pages.specs.Count.{Count}
-use Rattle.pool_memory.specs.Memories.{slot_of as image_slot_of}
+use Rattle.std.proofs.lemmas.Option.{slice_get-map, slice_get_within}
+use Rattle.pool_limits.specs.Growth.{always}
+use Rattle.pool_memory.specs.Memories.{MemoryState}
 use Rattle.pool_slots.specs.declared.request.AllocError.TheVariants as alloc
 use Rattle.pool_alloc.specs.Leases.{Lease}
 use Rattle.pool_alloc.specs.Calls.{IsIdle, begun_call}
@@ -24,20 +22,20 @@ use Rattle.pool_alloc.specs.declared.frame.Phase.{Phase}
 use Rattle.pool_alloc.specs.declared.frame.Phase.TheVariants.{Idle, Key, Validate, CountInstance, Pick, TakeQueue, TakeRegion, Empty, Instantiate, MakeMemory, CountMemory, PutRefused, FreeRefused, UncountMemory, Reset, Merge, Decommit, PutRegion, Free, UncountInstance}
 use Rattle.pool_alloc.proofs.BegunCalls.{at_rest}
 use Rattle.pool_run.specs.Searches.{IsAlone}
-use Rattle.pool_run.specs.Private.{World, PrivateMemory, PrivateInstance, Grants, grant_at, PrivateStep, ReadsMemory, ReadsFrom, WritesMemory, WritesTo, Drops, memory_written, with_memory}
-use Rattle.pool_run.specs.Turns.{Turned, with_reply, private_memory, lease_written, private_grant, grants_of, replies, Returns, ReadsLease, Reads, grant_written, WritesLease, Writes, Asks, Begins, BeginsKeyed, TurnsAt, Turns}
+use Rattle.pool_run.specs.Private.{World, PrivateMemory, PrivateInstance, Grants, grant_at, PrivateStep, IsRead, IsSize, Writes, Grows, LooksAtMemory, LooksAt as SeesLook, MovesMemory, MovesIn as SeesMove, Drops, with_memory}
+use Rattle.pool_run.specs.Turns.{Turned, with_reply, seen_as, private_memory, MemoryWrites, MemoryGrows, private_grant, grants_of, replies, Returns, LooksAtLease, LooksAt, with_lease, MovesLease, MovesIn, Asks, Begins, BeginsKeyed, TurnsAt, Turns}
 use Rattle.pool_run.specs.Ties.{Stage, no_call, ends_as, stage_of, EndsAs, TiedAs, IsPrivate, CanTurn}
 use Rattle.pool_run.specs.Worlds.{IsWorldOf, IsCallFor, AreCallsFor}
 use Rattle.pool_run.specs.declared.command.Command.{Command}
 use Rattle.pool_run.specs.declared.command.Command.TheVariants as command
 use Rattle.pool_run.specs.declared.reply.Reply.{Reply}
-use Rattle.pool_run.specs.declared.reply.Reply.TheVariants.{Done, Refused, Trap}
-use Rattle.pool_limits.specs.declared.errors.Trap.TheVariants.{MemoryOutOfBounds}
+use Rattle.pool_run.specs.declared.reply.Reply.TheVariants.{Refused}
 use Rattle.pool_run.specs.declared.reply.Refusal.TheVariants.{NoSuchGrant, Alloc}
 use Rattle.pool_run.specs.declared.running_party.RunningParty.{RunningParty}
-use Rattle.pool_run.proofs.Bytes.{written_seen}
 use Rattle.pool_run.proofs.Grants.{grants_set, told_at}
 use Rattle.pool_run.proofs.NewMemories.{begun_none}
+use Rattle.pool_run.proofs.Moves.{IsSeen, writes_seen, grows_seen}
+use Rattle.pool_run.proofs.Sounds.{lease_there}
 use Rattle.pool_run.proofs.Parties.{live_grant, called_key, called_module, called_back, called_alone, returned_searched, brings_key, brings_module, brings_grant}
 use Rattle.pool_run.proofs.Shares.{share_for}
 use Rattle.pool_run.proofs.Turning.{SeesTurn, replied, step_private}
@@ -93,70 +91,54 @@ module _ {P : Type 0} (w : World) (start : Grants) (commands : List Command) (be
   replies_at_once : (command : Command) (reply : Reply) (t : Turned P) → slice_get commands p.done ≡ Some command → PrivateStep w p.done private.grants command reply (grants_of p.live) → t ≡ replies reply c p → SeesTurn w start commands before t
   replies_at_once command reply t next step is = subst (SeesTurn w start commands before) (sym is) (replied w start commands before p (record p { done = p.done + 1 }) command reply private refl settled_now next step)
 
-  -- a read
-  lease_read : (of k i len : ℕ) (y : Option Lease) (t : Turned P) → ReadsLease y i len c p t → (step : (reply : Reply) → ReadsMemory (option_map private_memory y) private.grants i len reply (grants_of p.live) → PrivateStep w p.done private.grants (command.Read of k i len) reply (grants_of p.live)) → slice_get commands p.done ≡ Some (command.Read of k i len) → SeesTurn w start commands before t
-  lease_read of k i len None t is step next = replies_at_once (command.Read of k i len) (Refused NoSuchGrant) t next (step (Refused NoSuchGrant) (refl, told_now)) is
-  lease_read of k i len (Some l) t is step next = replies_at_once (command.Read of k i len) is.0 t next (step is.0 (is.1, told_now)) is.2
+  -- a command that looks at a memory
+  lease_looked : (command : Command) (Looks : PrivateMemory → Reply → Type 0) (y : Option Lease) (t : Turned P) → LooksAtLease Looks y c p t → (step : (reply : Reply) → LooksAtMemory Looks (option_map private_memory y) private.grants reply (grants_of p.live) → PrivateStep w p.done private.grants command reply (grants_of p.live)) → slice_get commands p.done ≡ Some command → SeesTurn w start commands before t
+  lease_looked command Looks None t is step next = replies_at_once command (Refused NoSuchGrant) t next (step (Refused NoSuchGrant) (refl, told_now)) is
+  lease_looked command Looks (Some l) t is step next = replies_at_once command is.0 t next (step is.0 (is.1, told_now)) is.2
 
-  reads_seen : (of k i len : ℕ) (x : Option (Grant P)) (t : Turned P) → slice_index_or p.live of None ≡ x → Reads x k i len c p t → slice_get commands p.done ≡ Some (command.Read of k i len) → SeesTurn w start commands before t
-  reads_seen of k i len None t has is next =
-      let Step : Option PrivateInstance → Type 0 = λ o. ReadsFrom o private.grants k i len (Refused NoSuchGrant) (grants_of p.live) in
-      replies_at_once (command.Read of k i len) (Refused NoSuchGrant) t next (subst Step (sym (told_at p.live private.grants of None told_now has)) (refl, told_now)) is
-  reads_seen of k i len (Some (instance lease)) t has is next =
-      lease_read of k i len (slice_get lease.memories.items k) t is
-      (λ reply step.
-      let From : Option PrivateInstance → Type 0 = λ o. ReadsFrom o private.grants k i len reply (grants_of p.live) in
-      let Memory : Option PrivateMemory → Type 0 = λ o. ReadsMemory o private.grants i len reply (grants_of p.live) in
-      subst From (sym (told_at p.live private.grants of (Some (instance lease)) told_now has)) (subst Memory (sym (slice_get-map private_memory lease.memories.items k)) step))
+  looks_seen : (command : Command) (Looks : PrivateMemory → Reply → Type 0) (of k : ℕ) (x : Option (Grant P)) (t : Turned P) → slice_index_or p.live of None ≡ x → LooksAt Looks x k c p t → (step : (reply : Reply) → SeesLook Looks (grant_at private.grants of) private.grants k reply (grants_of p.live) → PrivateStep w p.done private.grants command reply (grants_of p.live)) → slice_get commands p.done ≡ Some command → SeesTurn w start commands before t
+  looks_seen command Looks of k None t has is step next =
+      let From : Option PrivateInstance → Type 0 = λ o. SeesLook Looks o private.grants k (Refused NoSuchGrant) (grants_of p.live) in
+      replies_at_once command (Refused NoSuchGrant) t next (step (Refused NoSuchGrant) (subst From (sym (told_at p.live private.grants of None told_now has)) (refl, told_now))) is
+  looks_seen command Looks of k (Some (instance lease)) t has is step next =
+      lease_looked command Looks (slice_get lease.memories.items k) t is
+      (λ reply looks.
+      let From : Option PrivateInstance → Type 0 = λ o. SeesLook Looks o private.grants k reply (grants_of p.live) in
+      let Memory : Option PrivateMemory → Type 0 = λ o. LooksAtMemory Looks o private.grants reply (grants_of p.live) in
+      step reply (subst From (sym (told_at p.live private.grants of (Some (instance lease)) told_now has)) (subst Memory (sym (slice_get-map private_memory lease.memories.items k)) looks)))
       next
 
-  -- a write
-  written_now : (of k i : ℕ) (bytes : List ℕ) (lease : InstanceLease P) (l : Lease) → slice_index_or p.live of None ≡ Some (instance lease) → slice_get lease.memories.items k ≡ Some l → i + length bytes ≤ l.memory.linear.size → grants_of (slice_set p.live of (Some (grant_written k (lease_written i bytes l) (instance lease)))) ≡ with_memory private.grants of (private_grant (instance lease)) k (memory_written i bytes (private_memory l))
-  written_now of k i bytes lease l has there within =
-      let items : List Lease = lease.memories.items in
-      let inside : k < length items = slice_get_within items k l there in
-      let leases : All (IsLeaseOf w.maker c.settings) items = live_grant w.maker c.settings p.live of (instance lease) can.party.sound.grants has in
-      let L : Lease → Type 0 = IsLeaseOf w.maker c.settings in
-      let one : IsLeaseOf w.maker c.settings l = subst L (get_or_from_slice_get items k l l there) (All-get_or L items k l inside leases) in
-      let base : (image_slot_of l.memory).base.bytes ≡ 0 = ap (λ (n : Count). n.bytes) one.slot.base in
-      let memories : map private_memory (slice_set items k (lease_written i bytes l)) ≡ slice_set (map private_memory items) k (memory_written i bytes (private_memory l)) =
-      map-set private_memory items k (lease_written i bytes l) ∙ ap (λ (m : PrivateMemory). slice_set (map private_memory items) k m) (written_seen i bytes l base within) in
-      let new : Grant P = grant_written k (lease_written i bytes l) (instance lease) in
-      grants_set p.live of (Some new) ∙ ap (λ (g : Grants). slice_set g of (Some (private_grant new))) told_now ∙ ap (λ (ms : List PrivateMemory). slice_set private.grants of (Some (record { memories = ms }))) memories
+  -- one that moves it
+  moved_now : (of k : ℕ) (lease : InstanceLease P) (new : Lease) → grants_of (slice_set p.live of (Some (with_lease k new (instance lease)))) ≡ with_memory private.grants of (private_grant (instance lease)) k (private_memory new)
+  moved_now of k lease new =
+      let moved : Grant P = with_lease k new (instance lease) in
+      grants_set p.live of (Some moved) ∙ ap (λ (g : Grants). slice_set g of (Some (private_grant moved))) told_now
+      ∙ ap (λ (ms : List PrivateMemory). slice_set private.grants of (Some (record { memories = ms }))) (map-set private_memory lease.memories.items k new)
 
-  writes_within : (of k i : ℕ) (bytes : List ℕ) (lease : InstanceLease P) (l : Lease) (b : Bool) (t : Turned P) → slice_index_or p.live of None ≡ Some (instance lease) → slice_get lease.memories.items k ≡ Some l → nat_le (i + length bytes) l.memory.linear.size ≡ b → t ≡ (if b then replies Done c (record p { live = slice_set p.live of (Some (grant_written k (lease_written i bytes l) (instance lease))) }) else replies (Trap MemoryOutOfBounds) c p) → slice_get commands p.done ≡ Some (command.Write of k i bytes) → SeesTurn w start commands before t
-  writes_within of k i bytes lease l true t has there fits is next =
-      let new : List (Option (Grant P)) = slice_set p.live of (Some (grant_written k (lease_written i bytes l) (instance lease))) in
-      let within : i + length bytes ≤ l.memory.linear.size = leb-true (i + length bytes) l.memory.linear.size fits in
-      let To : Option PrivateInstance → Type 0 = λ o. WritesTo o private.grants of k i bytes Done (grants_of new) in
-      let Memory : Option PrivateMemory → Type 0 = λ o. WritesMemory o private.grants of (private_grant (instance lease)) k i bytes Done (grants_of new) in
-      let memory : slice_get (map private_memory lease.memories.items) k ≡ Some (private_memory l) = slice_get-map private_memory lease.memories.items k ∙ ap (option_map private_memory) there in
-      subst (SeesTurn w start commands before) (sym is)
-      (replied w start commands before p (record p { live = new; done = p.done + 1 }) (command.Write of k i bytes) Done private refl settled_now next
-      (subst To (sym (told_at p.live private.grants of (Some (instance lease)) told_now has)) (subst Memory (sym memory) (within, written_now of k i bytes lease l has there within))))
-  writes_within of k i bytes lease l false t has there fits is next =
-      let To : Option PrivateInstance → Type 0 = λ o. WritesTo o private.grants of k i bytes (Trap MemoryOutOfBounds) (grants_of p.live) in
-      let Memory : Option PrivateMemory → Type 0 = λ o. WritesMemory o private.grants of (private_grant (instance lease)) k i bytes (Trap MemoryOutOfBounds) (grants_of p.live) in
-      let memory : slice_get (map private_memory lease.memories.items) k ≡ Some (private_memory l) = slice_get-map private_memory lease.memories.items k ∙ ap (option_map private_memory) there in
-      replies_at_once (command.Write of k i bytes) (Trap MemoryOutOfBounds) t next
-      (subst To (sym (told_at p.live private.grants of (Some (instance lease)) told_now has)) (subst Memory (sym memory) (refl, leb-false (i + length bytes) l.memory.linear.size fits, told_now)))
-      is
+  lease_moved : (command : Command) (Moves : MemoryState → MemoryState → Reply → Type 0) (Sees : PrivateMemory → PrivateMemory → Reply → Type 0) (of k : ℕ) (lease : InstanceLease P) (y : Option Lease) (t : Turned P) → IsSeen w c.settings Moves Sees → slice_index_or p.live of None ≡ Some (instance lease) → slice_get lease.memories.items k ≡ y → MovesLease Moves y of (instance lease) k c p t
+      → (step : (reply : Reply) (new : Grants) → MovesMemory Sees (option_map private_memory y) private.grants of (private_grant (instance lease)) k reply new → PrivateStep w p.done private.grants command reply new) → slice_get commands p.done ≡ Some command → SeesTurn w start commands before t
+  lease_moved command Moves Sees of k lease None t seen has there is step next = replies_at_once command (Refused NoSuchGrant) t next (step (Refused NoSuchGrant) (grants_of p.live) (refl, told_now)) is
+  lease_moved command Moves Sees of k lease (Some l) t seen has there is step next =
+      let new : Lease = is.0 in
+      let live : List (Option (Grant P)) = slice_set p.live of (Some (with_lease k new (instance lease))) in
+      let one : IsLeaseOf w.maker c.settings l = lease_there w.maker c p of k lease l can.party.sound has there in
+      let Sees_at : ℕ → Type 0 = λ i. Sees (private_memory l) (seen_as i new.memory) is.1 in
+      let sees : Sees (private_memory l) (private_memory new) is.1 = subst Sees_at (sym is.2.index) (seen l new.memory is.1 one is.2.move) in
+      subst (SeesTurn w start commands before) (sym is.3)
+      (replied w start commands before p (record p { live = live; done = p.done + 1 }) command is.1 private refl settled_now next (step is.1 (grants_of live) (private_memory new, sees, moved_now of k lease new)))
 
-  writes_lease : (of k i : ℕ) (bytes : List ℕ) (lease : InstanceLease P) (y : Option Lease) (t : Turned P) → slice_index_or p.live of None ≡ Some (instance lease) → slice_get lease.memories.items k ≡ y → WritesLease y of (instance lease) k i bytes c p t → slice_get commands p.done ≡ Some (command.Write of k i bytes) → SeesTurn w start commands before t
-  writes_lease of k i bytes lease None t has there is next =
-      let To : Option PrivateInstance → Type 0 = λ o. WritesTo o private.grants of k i bytes (Refused NoSuchGrant) (grants_of p.live) in
-      let Memory : Option PrivateMemory → Type 0 = λ o. WritesMemory o private.grants of (private_grant (instance lease)) k i bytes (Refused NoSuchGrant) (grants_of p.live) in
-      let memory : slice_get (map private_memory lease.memories.items) k ≡ None = slice_get-map private_memory lease.memories.items k ∙ ap (option_map private_memory) there in
-      replies_at_once (command.Write of k i bytes) (Refused NoSuchGrant) t next
-      (subst To (sym (told_at p.live private.grants of (Some (instance lease)) told_now has)) (subst Memory (sym memory) (refl, told_now)))
-      is
-  writes_lease of k i bytes lease (Some l) t has there is next = writes_within of k i bytes lease l (nat_le (i + length bytes) l.memory.linear.size) t has there refl is next
-
-  writes_seen : (of k i : ℕ) (bytes : List ℕ) (x : Option (Grant P)) (t : Turned P) → slice_index_or p.live of None ≡ x → Writes x of k i bytes c p t → slice_get commands p.done ≡ Some (command.Write of k i bytes) → SeesTurn w start commands before t
-  writes_seen of k i bytes None t has is next =
-      let To : Option PrivateInstance → Type 0 = λ o. WritesTo o private.grants of k i bytes (Refused NoSuchGrant) (grants_of p.live) in
-      replies_at_once (command.Write of k i bytes) (Refused NoSuchGrant) t next (subst To (sym (told_at p.live private.grants of None told_now has)) (refl, told_now)) is
-  writes_seen of k i bytes (Some (instance lease)) t has is next = writes_lease of k i bytes lease (slice_get lease.memories.items k) t has refl is next
+  moves_seen : (command : Command) (Moves : MemoryState → MemoryState → Reply → Type 0) (Sees : PrivateMemory → PrivateMemory → Reply → Type 0) (of k : ℕ) (x : Option (Grant P)) (t : Turned P) → IsSeen w c.settings Moves Sees → slice_index_or p.live of None ≡ x → MovesIn Moves x of k c p t
+      → (step : (reply : Reply) (new : Grants) → SeesMove Sees (grant_at private.grants of) private.grants of k reply new → PrivateStep w p.done private.grants command reply new) → slice_get commands p.done ≡ Some command → SeesTurn w start commands before t
+  moves_seen command Moves Sees of k None t seen has is step next =
+      let In : Option PrivateInstance → Type 0 = λ o. SeesMove Sees o private.grants of k (Refused NoSuchGrant) (grants_of p.live) in
+      replies_at_once command (Refused NoSuchGrant) t next (step (Refused NoSuchGrant) (grants_of p.live) (subst In (sym (told_at p.live private.grants of None told_now has)) (refl, told_now))) is
+  moves_seen command Moves Sees of k (Some (instance lease)) t seen has is step next =
+      lease_moved command Moves Sees of k lease (slice_get lease.memories.items k) t seen has refl is
+      (λ reply new moves.
+      let In : Option PrivateInstance → Type 0 = λ o. SeesMove Sees o private.grants of k reply new in
+      let Memory : Option PrivateMemory → Type 0 = λ o. MovesMemory Sees o private.grants of (private_grant (instance lease)) k reply new in
+      step reply new (subst In (sym (told_at p.live private.grants of (Some (instance lease)) told_now has)) (subst Memory (sym (slice_get-map private_memory lease.memories.items k)) moves)))
+      next
 
   -- a give-back
   returns_seen : (of : ℕ) (x : Option (Grant P)) (t : Turned P) → slice_index_or p.live of None ≡ x → Returns x of c p t → slice_get commands p.done ≡ Some (command.Drop of) → SeesTurn w start commands before t
@@ -194,8 +176,11 @@ module _ {P : Type 0} (w : World) (start : Grants) (commands : List Command) (be
 
   begins_seen : (modules : List ModuleCall) (command : Command) (t : Turned P) → AreCallsFor w c.settings modules → Begins modules command c p t → slice_get commands p.done ≡ Some command → p.done < length p.live → SeesTurn w start commands before t
   begins_seen modules (command.Instantiate number) t calls begins next room = asks_seen number (slice_get modules number) t (calls number) begins next room
-  begins_seen modules (command.Read of k i len) t calls begins next room = reads_seen of k i len (slice_index_or p.live of None) t refl begins next
-  begins_seen modules (command.Write of k i bytes) t calls begins next room = writes_seen of k i bytes (slice_index_or p.live of None) t refl begins next
+  begins_seen modules (command.Read of k i len) t calls begins next room = looks_seen (command.Read of k i len) (λ m. IsRead m i len) of k (slice_index_or p.live of None) t refl begins (λ reply step. step) next
+  begins_seen modules (command.Write of k i bytes) t calls begins next room = moves_seen (command.Write of k i bytes) (MemoryWrites i bytes) (Writes i bytes) of k (slice_index_or p.live of None) t (writes_seen w c.settings i bytes) refl begins (λ reply new step. step) next
+  begins_seen modules (command.Fill of k i len byte) t calls begins next room = moves_seen (command.Fill of k i len byte) (MemoryWrites i (replicate len byte)) (Writes i (replicate len byte)) of k (slice_index_or p.live of None) t (writes_seen w c.settings i (replicate len byte)) refl begins (λ reply new step. step) next
+  begins_seen modules (command.Grow of k pages) t calls begins next room = moves_seen (command.Grow of k pages) (MemoryGrows pages) (Grows w always pages) of k (slice_index_or p.live of None) t (grows_seen w c.settings pages) refl begins (λ reply new step. step) next
+  begins_seen modules (command.Size of k) t calls begins next room = looks_seen (command.Size of k) IsSize of k (slice_index_or p.live of None) t refl begins (λ reply step. step) next
   begins_seen modules (command.Drop of) t calls begins next room = returns_seen of (slice_index_or p.live of None) t refl begins next
 
   keyed_seen : (keyed : Bool) (modules : List ModuleCall) (next : Option Command) (t : Turned P) → AreCallsFor w c.settings modules → slice_get commands p.done ≡ next → length commands ≤ length p.live → BeginsKeyed keyed modules next c p t → SeesTurn w start commands before t

@@ -6,17 +6,20 @@ use Rattle.pool_pages.specs.Count.{Count}
 use Rattle.pool_pages.specs.Contents.{Contents, put, written}
 use Rattle.pool_pages.specs.MemoryTypes.{minimum_byte_size}
 use Rattle.pool_pages.specs.declared.module_types.MemoryDecl.{MemoryDecl}
+use Rattle.pool_pages.specs.declared.module_types.MemoryType.{MemoryType}
 use Rattle.pool_images.specs.Images.{Image, start}
 use Rattle.pool_images.specs.Slots.{FitsInto}
 use Rattle.pool_slots.specs.Cells.{IsSlotOf}
 use Rattle.pool_images.specs.Slots.{IsBegun}
 use Rattle.pool_memory.specs.Linear.{Storage, in_slot, stored, slot_in, first_bytes, storage_written}
-use Rattle.pool_memory.specs.Memories.{slot_of as image_slot_of}
+use Rattle.pool_memory.specs.Making.{maximum_asked}
+use Rattle.pool_memory.specs.Memories.{slot_of as image_slot_of, memory_written as state_written}
+use Rattle.pool_memory.specs.Static.{capacity_of}
 use Rattle.pool_alloc.specs.Leases.{Lease}
 use Rattle.pool_alloc.specs.Sound.{IsNew, IsSupported}
 use Rattle.pool_alloc.specs.declared.pool_core.Settings.{Settings}
 use Rattle.pool_run.specs.Private.{World, PrivateMemory, image_at, begun_memory, memory_written}
-use Rattle.pool_run.specs.Turns.{private_memory, lease_written}
+use Rattle.pool_run.specs.Turns.{seen_as, private_memory}
 
 -- what is written into the first n elements is written into a list's first n
 take_put : (i n : ℕ) (new xs : List ℕ) → i + length new ≤ n → take n (put i new xs) ≡ put i new (take n xs)
@@ -39,9 +42,9 @@ storage_seen i size new (stored len None) base within = refl
 storage_seen i size new (stored len (Some bytes)) base within = ap Some (take_put i size new bytes within)
 
 -- a memory that is written is to the party what its private bytes are once they are written
-pub written_seen : (i : ℕ) (new : List ℕ) (l : Lease) → (image_slot_of l.memory).base.bytes ≡ 0 → i + length new ≤ l.memory.linear.size → private_memory (lease_written i new l) ≡ memory_written i new (private_memory l)
+pub written_seen : (i : ℕ) (new : List ℕ) (l : Lease) → (image_slot_of l.memory).base.bytes ≡ 0 → i + length new ≤ l.memory.linear.size → seen_as l.index (state_written i new l.memory) ≡ memory_written i new (private_memory l)
 written_seen i new l base within =
-    ap (λ (b : Option (List ℕ)). record { slot = l.index; size = l.memory.linear.size; bytes = b }) (storage_seen i l.memory.linear.size new l.memory.linear.storage base within)
+    ap (λ (b : Option (List ℕ)). record (private_memory l) { bytes = b }) (storage_seen i l.memory.linear.size new l.memory.linear.storage base within)
 
 -- the first bytes of a list that begins as a memory does
 start_shorter : (image : Option Image) (m n : ℕ) → m ≤ n → IfSome image (λ i. i.offset + length i.bytes ≤ m) → take m (start image n) ≡ start image m
@@ -75,10 +78,14 @@ storage_begun w static_size i least image (in_slot s) of begun le fits =
     begun_bytes s.region.contents image least s.static_size s.base.bytes w.maker.tells of.region.tells (ap (λ (c : Count). c.bytes) of.base) (omega (arith, le, of.same_size)) fits begun.reads
 
 -- a memory that is new is to the party as private ones begin
-pub begun_seen : (w : World) (s : Settings) (number k : ℕ) (decl : MemoryDecl) (l : Lease) → IsSlotOf w.maker s.max_memory_size l.index (image_slot_of l.memory) → IsNew (image_at w number k decl) l.memory decl → IsSupported s decl (image_at w number k decl) → private_memory l ≡ begun_memory w number k decl l.index
-begun_seen w s number k decl l of new supported =
+pub begun_seen : (w : World) (s : Settings) (number k : ℕ) (decl : MemoryDecl) (l : Lease) → w.settings ≡ s → IsSlotOf w.maker s.max_memory_size l.index (image_slot_of l.memory) → IsNew s.max_memory_size (image_at w number k decl) l.memory decl → IsSupported s decl (image_at w number k decl) → private_memory l ≡ begun_memory w number k decl l.index
+begun_seen w s number k decl l same of new supported =
     let image : Option Image = image_at w number k decl in
     let least : ℕ = minimum_byte_size decl.ty in
     let bytes = storage_begun w s.max_memory_size l.index least image l.memory.linear.storage of new.slot.begun supported.minimum (fits_of s.page least image supported.image_fits) in
-    let Q : ℕ → Type 0 = λ n. ◌≡◌ {A = PrivateMemory} (record { slot = l.index; size = n; bytes = first_bytes n l.memory.linear.storage }) (begun_memory w number k decl l.index) in
-    subst Q (sym new.size) (ap (λ (b : Option (List ℕ)). record { slot = l.index; size = least; bytes = b }) bytes)
+    let started : Option (List ℕ) = if w.maker.tells then Some (start image least) else None in
+    let roomy : ℕ = capacity_of w.settings.max_memory_size (maximum_asked decl.ty) in
+    let Parts : MemoryType → ℕ → Option (List ℕ) → PrivateMemory = λ ty n b. record { slot = l.index; ty = ty; size = least; capacity = n; bytes = b } in
+    let room : l.memory.linear.capacity ≡ roomy = new.made.capacity ∙ ap (λ (x : Settings). capacity_of x.max_memory_size (maximum_asked decl.ty)) (sym same) in
+    let Q : ℕ → Type 0 = λ n. ◌≡◌ {A = PrivateMemory} (record { slot = l.index; ty = l.memory.ty; size = n; capacity = l.memory.linear.capacity; bytes = first_bytes n l.memory.linear.storage }) (begun_memory w number k decl l.index) in
+    subst Q (sym new.made.size) (ap (Parts l.memory.ty l.memory.linear.capacity) bytes ∙ ap (λ (n : ℕ). Parts l.memory.ty n started) room ∙ ap (λ (ty : MemoryType). Parts ty roomy started) new.made.ty)

@@ -34,6 +34,7 @@ module _ {P : Type 0} where
       let Supported : Settings → Type 0 = λ s. (number : ℕ) → memories_refused s (memories_of w number) ≡ None in
       let Makes : Settings → Type 0 = λ s. (number k : ℕ) → IfSome (slice_get (memories_of w number) k) (IsMadeReady w s number k) in
       record {
+        settings = world.settings ∙ sym size.settings;
         total = world.total ∙ sym size.cells;
         most_instances = subst Most (sym size.settings) world.most_instances;
         stripes = subst One (sym size.settings) world.stripes;

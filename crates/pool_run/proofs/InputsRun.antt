@@ -28,7 +28,7 @@ use Rattle.pool_run.specs.Schedules.{turns_of}
 use Rattle.pool_run.specs.Validity.{is_valid, is_valid_after, are_valid_after, is_valid_party, is_valid_schedule, most_commands}
 use Rattle.pool_run.specs.Worlds.{IsWorldOf, AreCallsFor, NamesModule, NameModules}
 use Rattle.pool_run.specs.declared.command.Command.{Command}
-use Rattle.pool_run.specs.declared.command.Command.TheVariants.{Instantiate, Read, Write, Drop}
+use Rattle.pool_run.specs.declared.command.Command.TheVariants.{Instantiate, Read, Write, Fill, Grow, Size, Drop}
 use Rattle.pool_run.specs.declared.input.Input.{Input}
 use Rattle.pool_run.specs.declared.input.Party.{Party}
 use Rattle.pool_run.specs.declared.input.ScheduleEntry.{ScheduleEntry}
@@ -48,6 +48,9 @@ names : (modules : List ModuleInfo) (earlier : List Command) (command : Command)
 names modules earlier (Instantiate number) valid = ltb-true number (length modules) valid
 names modules earlier (Read of memory at len) valid = tt
 names modules earlier (Write of memory at bytes) valid = tt
+names modules earlier (Fill of memory at len byte) valid = tt
+names modules earlier (Grow of memory pages) valid = tt
+names modules earlier (Size of memory) valid = tt
 names modules earlier (Drop of) valid = tt
 
 pub all_name : (modules : List ModuleInfo) (earlier commands : List Command) → are_valid_after modules earlier commands ≡ true → NameModules (length modules) commands

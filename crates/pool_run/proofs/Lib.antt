@@ -17,8 +17,10 @@ pub mod Grants
 pub mod ImagesMade
 pub mod InputsRun
 pub mod Keyless
+pub mod LeaseChanges
 pub mod Limits
 pub mod LimitsOfRuns
+pub mod Moves
 pub mod NewMemories
 pub mod Parties
 pub mod Placed

@@ -1,6 +1,6 @@
 -- No turn of a party takes more instances than there may be: a request is admitted only where fewer are counted.
 use Rattle.std.proofs.Common.{◌≡◌, ℕ, ◌+◌, ◌≤◌, Bool, true, false, List, length, Option, Some, None, refl, sym, ap, subst, inl, inr, arith}
-use Rattle.std.specs.Prelude.{◌==◌, nat_lt, nat_le, if◌then◌else◌, sum_by, slice_get, slice_set, slice_index_or}
+use Rattle.std.specs.Prelude.{◌==◌, nat_lt, if◌then◌else◌, replicate, sum_by, slice_get, slice_set, slice_index_or}
 use Rattle.std.proofs.lemmas.Bool.{ltb-true, cases_lt}
 use Rattle.std.proofs.lemmas.List.{set_past, get_or_past}
 use Rattle.std.proofs.lemmas.List.Sums.{sum_by-set}
@@ -9,7 +9,6 @@ use Rattle.pool_slots.specs.declared.request.AllocError.{AllocError}
 use Rattle.pool_slots.specs.declared.request.AllocError.TheVariants as alloc
 use Rattle.pool_slots.specs.declared.request.ConcurrencyKind.TheVariants.{CoreInstances}
 use Rattle.pool_alloc.specs.Calls.{begun_call}
-use Rattle.pool_alloc.specs.Leases.{Lease}
 use Rattle.pool_alloc.specs.Places.{phase_instances}
 use Rattle.pool_alloc.specs.Refusals.{memories_refused}
 use Rattle.pool_alloc.specs.Reserved.{no_room}
@@ -28,16 +27,18 @@ use Rattle.pool_alloc.specs.declared.frame.Outcome.TheVariants as answer
 use Rattle.pool_alloc.specs.declared.frame.Phase.{Phase}
 use Rattle.pool_alloc.specs.declared.frame.Phase.TheVariants.{Idle, Key, Validate, CountInstance, Pick, UncountMemory, UncountInstance}
 use Rattle.pool_alloc.proofs.Balances.{in_phase}
-use Rattle.pool_limits.specs.declared.errors.Trap.TheVariants.{MemoryOutOfBounds}
+use Rattle.pool_memory.specs.Memories.{MemoryState}
 use Rattle.pool_run.specs.Limits.{admitted_as, admitted_by, admitted}
 use Rattle.pool_run.specs.Ties.{Stage, no_call, asks, ends_as, stage_of, granted_to, held_by_party}
-use Rattle.pool_run.specs.Turns.{Turned, lease_written, leases_of, replies, answered, Steps, Returns, ReadsLease, Reads, grant_written, WritesLease, Writes, Asks, Begins, BeginsKeyed, TurnsAt, Turns}
+use Rattle.pool_run.specs.Private.{PrivateMemory, IsRead, IsSize}
+use Rattle.pool_run.specs.Turns.{Turned, MemoryWrites, MemoryGrows, replies, answered, Steps, Returns, LooksAt, with_lease, MovesIn, Asks, Begins, BeginsKeyed, TurnsAt, Turns}
 use Rattle.pool_run.specs.declared.command.Command.{Command}
 use Rattle.pool_run.specs.declared.command.Command.TheVariants as command
 use Rattle.pool_run.specs.declared.reply.Reply.{Reply}
-use Rattle.pool_run.specs.declared.reply.Reply.TheVariants.{Done, Refused, Trap}
+use Rattle.pool_run.specs.declared.reply.Reply.TheVariants.{Refused}
 use Rattle.pool_run.specs.declared.reply.Refusal.TheVariants.{NoSuchGrant, Alloc}
 use Rattle.pool_run.specs.declared.running_party.RunningParty.{RunningParty}
+use Rattle.pool_run.proofs.Moves.{looked, moved}
 use Rattle.pool_run.proofs.Placed.{PlacedAs, placed_as, PlacedBy, placed_at}
 
 -- a call is admitted for no more than it has counted
@@ -177,29 +178,19 @@ module _ {P : Type 0} (others : ℕ) (c : PoolCore P) (p : RunningParty P) (with
   begun : (q : RunningParty P) (t : Turned P) → admitted q ≤ admitted p → Steps c q t → StaysWithin t
   begun q t less steps = step_within others c q t steps (omega (arith, less, within)) (omega (arith, less, counted))
 
-  lease_read : (i len : ℕ) (y : Option Lease) (t : Turned P) → ReadsLease y i len c p t → StaysWithin t
-  lease_read i len None t is = at_once (Refused NoSuchGrant) t is
-  lease_read i len (Some l) t is = at_once is.0 t is.2
+  looks : (Looks : PrivateMemory → Reply → Type 0) (k : ℕ) (x : Option (Grant P)) (t : Turned P) → LooksAt Looks x k c p t → StaysWithin t
+  looks Looks k x t is = let seen = looked c p Looks k x t is in at_once seen.0 t seen.1
 
-  reads : (k i len : ℕ) (x : Option (Grant P)) (t : Turned P) → Reads x k i len c p t → StaysWithin t
-  reads k i len None t is = at_once (Refused NoSuchGrant) t is
-  reads k i len (Some grant) t is = lease_read i len (slice_get (leases_of grant) k) t is
-
-  -- A grant that is written stays one.
-  writes_if : (of k i : ℕ) (bytes : List ℕ) (grant : Grant P) (l : Lease) (b : Bool) (t : Turned P) → slice_index_or p.live of None ≡ Some grant → t ≡ (if b then replies Done c (record p { live = slice_set p.live of (Some (grant_written k (lease_written i bytes l) grant)) }) else replies (Trap MemoryOutOfBounds) c p) → StaysWithin t
-  writes_if of k i bytes grant l false t has is = at_once (Trap MemoryOutOfBounds) t is
-  writes_if of k i bytes (instance lease) l true t has is =
-      let one : granted_to grant_instances (slice_index_or p.live of None) ≡ 1 = ap (granted_to grant_instances) has in
-      let new : Grant P = grant_written k (lease_written i bytes l) (instance lease) in
-      subst StaysWithin (sym is) (omega (arith, within, one, replaced grant_instances p.live of (Some new)))
-
-  writes_lease : (of k i : ℕ) (bytes : List ℕ) (grant : Grant P) (y : Option Lease) (t : Turned P) → slice_index_or p.live of None ≡ Some grant → WritesLease y of grant k i bytes c p t → StaysWithin t
-  writes_lease of k i bytes grant None t has is = at_once (Refused NoSuchGrant) t is
-  writes_lease of k i bytes grant (Some l) t has is = writes_if of k i bytes grant l (nat_le (i + length bytes) l.memory.linear.size) t has is
-
-  writes : (of k i : ℕ) (bytes : List ℕ) (x : Option (Grant P)) (t : Turned P) → slice_index_or p.live of None ≡ x → Writes x of k i bytes c p t → StaysWithin t
-  writes of k i bytes None t has is = at_once (Refused NoSuchGrant) t is
-  writes of k i bytes (Some grant) t has is = writes_lease of k i bytes grant (slice_get (leases_of grant) k) t has is
+  -- A grant of which a memory moved stays one.
+  moves : (Moves : MemoryState → MemoryState → Reply → Type 0) (of k : ℕ) (t : Turned P) → MovesIn Moves (slice_index_or p.live of None) of k c p t → StaysWithin t
+  moves Moves of k t is =
+      elim (moved c p Moves of k (slice_index_or p.live of None) t is) [
+        | inl same ↦ at_once same.0 t same.1
+        | inr m ↦
+            let one : granted_to grant_instances (slice_index_or p.live of None) ≡ 1 = ap (granted_to grant_instances) m.granted in
+            let new : Grant P = with_lease k m.new (instance m.lease) in
+            subst StaysWithin (sym m.is) (omega (arith, within, one, replaced grant_instances p.live of (Some new)))
+      ]
 
   -- A grant that is given back isn't one any more.
   returns : (of : ℕ) (x : Option (Grant P)) (t : Turned P) → Returns x of c p t → StaysWithin t
@@ -219,8 +210,11 @@ module _ {P : Type 0} (others : ℕ) (c : PoolCore P) (p : RunningParty P) (with
 
   begins : (modules : List ModuleCall) (command : Command) (t : Turned P) → Begins modules command c p t → StaysWithin t
   begins modules (command.Instantiate number) t is = asks_for (slice_get modules number) t is
-  begins modules (command.Read of k i len) t is = reads k i len (slice_index_or p.live of None) t is
-  begins modules (command.Write of k i bytes) t is = writes of k i bytes (slice_index_or p.live of None) t refl is
+  begins modules (command.Read of k i len) t is = looks (λ m. IsRead m i len) k (slice_index_or p.live of None) t is
+  begins modules (command.Write of k i bytes) t is = moves (MemoryWrites i bytes) of k t is
+  begins modules (command.Fill of k i len byte) t is = moves (MemoryWrites i (replicate len byte)) of k t is
+  begins modules (command.Grow of k pages) t is = moves (MemoryGrows pages) of k t is
+  begins modules (command.Size of k) t is = looks IsSize k (slice_index_or p.live of None) t is
   begins modules (command.Drop of) t is = returns of (slice_index_or p.live of None) t is
 
   begins_keyed : (keyed : Bool) (modules : List ModuleCall) (next : Option Command) (t : Turned P) → BeginsKeyed keyed modules next c p t → StaysWithin t

@@ -97,18 +97,18 @@ module _ {P : Type 0} where
       (is_next w commands done c.settings f asking allocating) begun (subst Makes same (world.makes n k))))
 
   -- It is new to the party once it is granted.
-  new_lease : (w : World) (commands : List Command) (done : ℕ) (lease : Lease) (c : PoolCore P) (f : Frame P) (asking : IsAsking w commands done f.asked f.granted.items) → IsAllocating c.settings f → HasSlot w.maker c.settings (length c.cells) lease.index (image_slot_of lease.memory) → IfAllocated f (IsNew (image_wanted f) lease.memory) → AreNew w asking.number (f.granted.items ++ lease ∷ [])
-  new_lease w commands done lease c f asking allocating has new =
+  new_lease : (w : World) (commands : List Command) (done : ℕ) (lease : Lease) (c : PoolCore P) (f : Frame P) (asking : IsAsking w commands done f.asked f.granted.items) → w.settings ≡ c.settings → IsAllocating c.settings f → HasSlot w.maker c.settings (length c.cells) lease.index (image_slot_of lease.memory) → IfAllocated f (IsNew c.settings.max_memory_size (image_wanted f) lease.memory) → AreNew w asking.number (f.granted.items ++ lease ∷ [])
+  new_lease w commands done lease c f asking same allocating has new =
       let k : ℕ = length f.granted.items in
       let n : ℕ = asking.number in
       let Then : Type 0 = AreNew w n (f.granted.items ++ lease ∷ []) in
       told_there Then (memories_asked f.asked) k allocating.more
-      (told_both (IsNext w c.settings n f) (IsNew (image_wanted f) lease.memory) (λ decl. Then) (slice_get (memories_asked f.asked) k)
+      (told_both (IsNext w c.settings n f) (IsNew c.settings.max_memory_size (image_wanted f) lease.memory) (λ decl. Then) (slice_get (memories_asked f.asked) k)
       (λ decl next is.
-      let N : Option Image → Type 0 = λ i. IsNew i lease.memory decl in
+      let N : Option Image → Type 0 = λ i. IsNew c.settings.max_memory_size i lease.memory decl in
       let S : Option Image → Type 0 = λ i. IsSupported c.settings decl i in
       begun_more w n f.granted.items lease decl asking.new (omega (arith, allocating.more, ap (length {A = MemoryDecl}) asking.asked_for.memories)) next.there
-      (begun_seen w c.settings n k decl lease has.region (subst N next.image is) (subst S next.image next.supported)))
+      (begun_seen w c.settings n k decl lease same has.region (subst N next.image is) (subst S next.image next.supported)))
       (is_next w commands done c.settings f asking allocating) new)
 
   -- Where there is no limiter each memory is granted.
@@ -273,7 +273,7 @@ module _ {P : Type 0} (w : World) (commands : List Command) (live : List (Option
         number = asking.number;
         command = asking.command;
         asked_for = asking.asked_for;
-        new = new_lease w commands done lease c has asking can.frame.shape.1 can.frame.shape.2 can.frame.shape.4;
+        new = new_lease w commands done lease c has asking world.settings can.frame.shape.1 can.frame.shape.2 can.frame.shape.4;
       })
       (λ k. omega (arith, held (slot_of k), leased_last (slot_of k) f.granted.items lease))
   tied_at g (PutRefused slot had e) c f world can held alone free may tied = record { tied = tied }

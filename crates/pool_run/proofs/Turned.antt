@@ -1,6 +1,6 @@
 -- What a turn leaves of a party and of the pool: what one loses comes to the other, and what is to come is still to come.
 use Rattle.std.proofs.Common.{◌≡◌, ◌≢◌, ℕ, ◌+◌, ◌<◌, ◌≤◌, Bool, true, false, List, length, get_or, Option, Some, None, refl, sym, ap, ◌∙◌, subst, inl, inr, arith}
-use Rattle.std.specs.Prelude.{nat_le, if◌then◌else◌, IfSome, slice_get, slice_set, slice_index_or, sum_by}
+use Rattle.std.specs.Prelude.{IfSome, replicate, slice_get, slice_set, slice_index_or, sum_by}
 use Rattle.std.proofs.lemmas.Option.{slice_get_within, get_or_from_slice_get}
 use Rattle.pool_pages.specs.MakerTold.{MakerTold}
 use Rattle.pool_limits.specs.LimiterTold.{unlimited}
@@ -18,17 +18,18 @@ use Rattle.pool_alloc.specs.declared.frame.Grant.TheVariants.{Instance as instan
 use Rattle.pool_alloc.specs.declared.frame.Outcome.{Outcome}
 use Rattle.pool_alloc.specs.declared.frame.Outcome.TheVariants as answer
 use Rattle.pool_alloc.specs.declared.frame.Phase.{Phase}
+use Rattle.pool_run.proofs.Moves.{looked, moved}
 use Rattle.pool_run.proofs.Searching.{IsSearched, searched_at}
 use Rattle.pool_run.specs.Searches.{IsSearchedAt}
-use Rattle.pool_run.specs.Private.{World}
-use Rattle.pool_run.specs.Turns.{Turned, lease_written, leases_of, replies, answered, Steps, Returns, ReadsLease, Reads, grant_written, WritesLease, Writes, Asks, Begins, BeginsKeyed, TurnsAt, Turns}
+use Rattle.pool_memory.specs.Memories.{MemoryState}
+use Rattle.pool_run.specs.Private.{World, PrivateMemory, IsRead, IsSize}
+use Rattle.pool_run.specs.Turns.{Turned, MemoryWrites, MemoryGrows, replies, answered, Steps, Returns, LooksAt, with_lease, MovesIn, Asks, Begins, BeginsKeyed, TurnsAt, Turns}
 use Rattle.pool_run.specs.Ties.{Stage, no_call, ends_as, stage_of, CanTurn}
 use Rattle.pool_run.specs.Worlds.{IsCallFor, AreCallsFor}
 use Rattle.pool_run.specs.declared.command.Command.{Command}
 use Rattle.pool_run.specs.declared.command.Command.TheVariants as command
 use Rattle.pool_run.specs.declared.reply.Reply.{Reply}
-use Rattle.pool_run.specs.declared.reply.Reply.TheVariants.{Done, Refused, Trap}
-use Rattle.pool_limits.specs.declared.errors.Trap.TheVariants.{MemoryOutOfBounds}
+use Rattle.pool_run.specs.declared.reply.Reply.TheVariants.{Refused}
 use Rattle.pool_run.specs.declared.reply.Refusal.TheVariants.{NoSuchGrant, Alloc}
 use Rattle.pool_run.specs.declared.running_party.RunningParty.{RunningParty}
 use Rattle.pool_run.proofs.Parties.{can_step, live_grant, called_key, called_module, called_back, returned_searched}
@@ -37,7 +38,6 @@ use Rattle.std.proofs.lemmas.List.{length-set, get_or-set_other}
 use Rattle.std.proofs.lemmas.List.Sums.{sum_by-set}
 use Rattle.pool_alloc.specs.Places.{Thing, both_count, leased_count, kept_count}
 use Rattle.pool_alloc.specs.Stepping.{Conserves, IsSameSize, grant_count, grant_instances, grant_memories}
-use Rattle.pool_alloc.specs.declared.lease.InstanceLease.{InstanceLease}
 use Rattle.pool_alloc.proofs.Fitting.{step_conserves, step_keeps_size}
 use Rattle.pool_run.specs.Ties.{asks, granted_to, held_by_party}
 use Rattle.pool_run.proofs.Beginning.{idle_is}
@@ -179,20 +179,15 @@ module _ {P : Type 0} (maker : MakerTold) (c : PoolCore P) (p : RunningParty P) 
   at_once : (reply : Reply) (t : Turned P) → t ≡ replies reply c p → HasTurned c p t
   at_once reply t is = subst (HasTurned c p) (sym is) (ended c p p reply same_now refl refl can.party.to_come settled_now refl)
 
-  -- a read
-  lease_read : (i len : ℕ) (y : Option Lease) (t : Turned P) → ReadsLease y i len c p t → HasTurned c p t
-  lease_read i len None t is = at_once (Refused NoSuchGrant) t is
-  lease_read i len (Some l) t is = at_once is.0 t is.2
+  looks : (Looks : PrivateMemory → Reply → Type 0) (k : ℕ) (x : Option (Grant P)) (t : Turned P) → LooksAt Looks x k c p t → HasTurned c p t
+  looks Looks k x t is = let seen = looked c p Looks k x t is in at_once seen.0 t seen.1
 
-  reads : (k i len : ℕ) (x : Option (Grant P)) (t : Turned P) → Reads x k i len c p t → HasTurned c p t
-  reads k i len None t is = at_once (Refused NoSuchGrant) t is
-  reads k i len (Some grant) t is = lease_read i len (slice_get (leases_of grant) k) t is
-
-  -- a write: the grant has the same slots
-  lease_same : (x : Thing) (k i : ℕ) (bytes : List ℕ) (items : List Lease) (l : Lease) → slice_get items k ≡ Some l → leased_count x (slice_set items k (lease_written i bytes l)) ≡ leased_count x items
-  lease_same x k i bytes items l there =
+  -- a move: the grant has the same slots
+  lease_same : (x : Thing) (k : ℕ) (items : List Lease) (l new : Lease) → slice_get items k ≡ Some l → new.index ≡ l.index → leased_count x (slice_set items k new) ≡ leased_count x items
+  lease_same x k items l new there same =
       let here : both_count x (get_or items k l).index ≡ both_count x l.index = ap (λ (m : Lease). both_count x m.index) (get_or_from_slice_get items k l l there) in
-      omega (arith, sum_by-set (λ (m : Lease). both_count x m.index) items k (lease_written i bytes l) l (slice_get_within items k l there))
+      let moved : both_count x new.index ≡ both_count x l.index = ap (both_count x) same in
+      omega (arith, moved, sum_by-set (λ (m : Lease). both_count x m.index) items k new l (slice_get_within items k l there))
 
   swapped : (of : Grant P → ℕ) (live : List (Option (Grant P))) (j : ℕ) (old new : Grant P) → slice_index_or live j None ≡ Some old → of new ≡ of old → sum_by (granted_to of) (slice_set live j (Some new)) ≡ sum_by (granted_to of) live
   swapped of live j old new is same =
@@ -204,29 +199,23 @@ module _ {P : Type 0} (maker : MakerTold) (c : PoolCore P) (p : RunningParty P) 
       let apart : k ≢ j = λ e. let both : slice_index_or live j None ≡ None = subst (λ (n : ℕ). slice_index_or live n None ≡ None) e none in cc in
       get_or-set_other live j k (Some new) None apart ∙ none
 
-  writes_within : (of k i : ℕ) (bytes : List ℕ) (lease : InstanceLease P) (l : Lease) (b : Bool) (t : Turned P) → slice_index_or p.live of None ≡ Some (instance lease) → slice_get lease.memories.items k ≡ Some l → t ≡ (if b then replies Done c (record p { live = slice_set p.live of (Some (grant_written k (lease_written i bytes l) (instance lease))) }) else replies (Trap MemoryOutOfBounds) c p) → HasTurned c p t
-  writes_within of k i bytes lease l false t has there is = at_once (Trap MemoryOutOfBounds) t is
-  writes_within of k i bytes lease l true t has there is =
-      let items : List Lease = lease.memories.items in
-      let new : Grant P = grant_written k (lease_written i bytes l) (instance lease) in
-      let live : List (Option (Grant P)) = slice_set p.live of (Some new) in
-      let q : RunningParty P = record p { live = live } in
-      let same : HaveSame p q =
-      record {
-        places = λ x. omega (arith, swapped (grant_count x) p.live of (instance lease) new has (lease_same x k i bytes items l there));
-        instances = omega (arith, swapped grant_instances p.live of (instance lease) new has refl);
-        memories = omega (arith, swapped grant_memories p.live of (instance lease) new has (length-set items k (lease_written i bytes l)));
-      } in
-      subst (HasTurned c p) (sym is)
-      (ended c p q Done same (length-set p.live of (Some new)) refl (λ n behind. other_place p.live of n (instance lease) new has (can.party.to_come n behind)) settled_now refl)
-
-  writes_lease : (of k i : ℕ) (bytes : List ℕ) (lease : InstanceLease P) (y : Option Lease) (t : Turned P) → slice_index_or p.live of None ≡ Some (instance lease) → slice_get lease.memories.items k ≡ y → WritesLease y of (instance lease) k i bytes c p t → HasTurned c p t
-  writes_lease of k i bytes lease None t has there is = at_once (Refused NoSuchGrant) t is
-  writes_lease of k i bytes lease (Some l) t has there is = writes_within of k i bytes lease l (nat_le (i + length bytes) l.memory.linear.size) t has there is
-
-  writes_turned : (of k i : ℕ) (bytes : List ℕ) (x : Option (Grant P)) (t : Turned P) → slice_index_or p.live of None ≡ x → Writes x of k i bytes c p t → HasTurned c p t
-  writes_turned of k i bytes None t has is = at_once (Refused NoSuchGrant) t is
-  writes_turned of k i bytes (Some (instance lease)) t has is = writes_lease of k i bytes lease (slice_get lease.memories.items k) t has refl is
+  moves : (Moves : MemoryState → MemoryState → Reply → Type 0) (of k : ℕ) (t : Turned P) → MovesIn Moves (slice_index_or p.live of None) of k c p t → HasTurned c p t
+  moves Moves of k t is =
+      elim (moved c p Moves of k (slice_index_or p.live of None) t is) [
+        | inl same ↦ at_once same.0 t same.1
+        | inr m ↦
+            let new : Grant P = with_lease k m.new (instance m.lease) in
+            let live : List (Option (Grant P)) = slice_set p.live of (Some new) in
+            let q : RunningParty P = record p { live = live } in
+            let same : HaveSame p q =
+            record {
+              places = λ x. omega (arith, swapped (grant_count x) p.live of (instance m.lease) new m.granted (lease_same x k m.lease.memories.items m.old m.new m.there m.index));
+              instances = omega (arith, swapped grant_instances p.live of (instance m.lease) new m.granted refl);
+              memories = omega (arith, swapped grant_memories p.live of (instance m.lease) new m.granted (length-set m.lease.memories.items k m.new));
+            } in
+            subst (HasTurned c p) (sym m.is)
+            (ended c p q m.reply same (length-set p.live of (Some new)) refl (λ n behind. other_place p.live of n (instance m.lease) new m.granted (can.party.to_come n behind)) settled_now refl)
+      ]
 
   -- a give-back
   returns : (of : ℕ) (x : Option (Grant P)) (t : Turned P) → slice_index_or p.live of None ≡ x → Returns x of c p t → HasTurned c p t
@@ -254,8 +243,11 @@ module _ {P : Type 0} (maker : MakerTold) (c : PoolCore P) (p : RunningParty P) 
 
   begins : (w : World) (modules : List ModuleCall) (command : Command) (t : Turned P) → AreCallsFor w c.settings modules → Begins modules command c p t → p.done < length p.live → HasTurned c p t
   begins w modules (command.Instantiate number) t calls is room = asks_for w number (slice_get modules number) t (calls number) is room
-  begins w modules (command.Read of k i len) t calls is room = reads k i len (slice_index_or p.live of None) t is
-  begins w modules (command.Write of k i bytes) t calls is room = writes_turned of k i bytes (slice_index_or p.live of None) t refl is
+  begins w modules (command.Read of k i len) t calls is room = looks (λ m. IsRead m i len) k (slice_index_or p.live of None) t is
+  begins w modules (command.Write of k i bytes) t calls is room = moves (MemoryWrites i bytes) of k t is
+  begins w modules (command.Fill of k i len byte) t calls is room = moves (MemoryWrites i (replicate len byte)) of k t is
+  begins w modules (command.Grow of k pages) t calls is room = moves (MemoryGrows pages) of k t is
+  begins w modules (command.Size of k) t calls is room = looks IsSize k (slice_index_or p.live of None) t is
   begins w modules (command.Drop of) t calls is room = returns of (slice_index_or p.live of None) t refl is
 
   begins_keyed : (w : World) (commands : List Command) (keyed : Bool) (modules : List ModuleCall) (next : Option Command) (t : Turned P) → AreCallsFor w c.settings modules → slice_get commands p.done ≡ next → length commands ≤ length p.live → BeginsKeyed keyed modules next c p t → HasTurned c p t

@@ -1,13 +1,14 @@
 -- What the steps of a turn leave, as its code makes them.
-use Rattle.std.proofs.Common.{◌≡◌, ℕ, ◌+◌, ◌<◌, Bool, true, false, List, length, Option, Some, None, refl, sym, ap, ◌∙◌, subst}
-use Rattle.std.specs.Prelude.{nat_le, if◌then◌else◌, slice_get, slice_set, slice_index_or}
+use Rattle.std.proofs.Common.{◌≡◌, ℕ, ◌+◌, ◌<◌, List, length, Option, Some, None, refl, sym, ap, ◌∙◌, subst}
+use Rattle.std.specs.Prelude.{slice_get, slice_set, slice_index_or}
 use Rattle.std.proofs.lemmas.List.{set-get_or}
 use Rattle.pool_pages.specs.MakerTold.{MakerTold}
 use Rattle.pool_pages.specs.declared.module_types.MemoryDecl.{MemoryDecl}
 use Rattle.pool_limits.specs.LimiterTold.{unlimited}
-use Rattle.pool_limits.specs.declared.errors.Trap.TheVariants.{MemoryOutOfBounds}
+use Rattle.pool_memory.specs.Memories.{MemoryState}
 use Rattle.pool_alloc.specs.Calls.{IsGrant, IsGrantOf, IfGranted}
-use Rattle.pool_alloc.specs.Leases.{Lease, IsMemory}
+use Rattle.pool_alloc.specs.Leases.{Lease}
+use Rattle.pool_alloc.specs.Sound.{IsLeaseOf}
 use Rattle.pool_alloc.specs.Steps.{After}
 use Rattle.pool_alloc.specs.Stepping.{CanStep, StepsTo, IsSameSize}
 use Rattle.pool_alloc.specs.declared.pool_core.PoolCore.{PoolCore}
@@ -18,15 +19,17 @@ use Rattle.pool_alloc.specs.declared.frame.Grant.TheVariants.{Instance as instan
 use Rattle.pool_alloc.specs.declared.frame.Outcome.{Outcome}
 use Rattle.pool_alloc.specs.declared.frame.Outcome.TheVariants as answer
 use Rattle.pool_alloc.specs.declared.lease.InstanceLease.{InstanceLease}
-use Rattle.pool_run.specs.AtOnce.{AnswersMemory, AnswersGrant, CanBeUsed, GrantCanBeUsed, live_outcome, memory_outcome, Makes}
+use Rattle.pool_run.specs.AtOnce.{AnswersMemory, AnswersGrant, LeaseMoved, LiveMoved, Makes}
+use Rattle.pool_run.specs.Private.{PrivateMemory}
 use Rattle.pool_run.specs.Ties.{CanTurn, IsSoundTurn, stage_of}
-use Rattle.pool_run.specs.Turns.{Turned, lease_written, leases_of, grant_written, replies, answered, Steps, Reads, ReadsLease, Writes, WritesLease}
+use Rattle.pool_run.specs.Turns.{Turned, leases_of, replies, answered, Steps, LooksAtLease, LooksAt, MovesLease, MovesIn}
 use Rattle.pool_run.specs.declared.reply.Reply.{Reply}
-use Rattle.pool_run.specs.declared.reply.Reply.TheVariants.{Done, Refused, Trap}
+use Rattle.pool_run.specs.declared.reply.Reply.TheVariants.{Refused}
 use Rattle.pool_run.specs.declared.reply.Refusal.TheVariants.{NoSuchGrant}
 use Rattle.pool_run.specs.declared.running_party.RunningParty.{RunningParty}
+use Rattle.pool_run.proofs.Moves.{KeepsSlot, lease_still}
 use Rattle.pool_run.proofs.Placed.{placed_as, PlacedBy, IsPlaced, placed_at}
-use Rattle.pool_run.proofs.Sounds.{granted_any, step_sound, reply_sound, write_sound}
+use Rattle.pool_run.proofs.Sounds.{granted_any, step_sound, reply_sound, lease_there, move_sound}
 
 module _ {P : Type 0} where
   same_size : (c : PoolCore P) → IsSameSize c c
@@ -75,77 +78,52 @@ module _ {P : Type 0} where
   pub nothing_made : (maker : MakerTold) (IsTurn : Turned P → Type 0) (c : PoolCore P) (p : RunningParty P) → CanTurn maker c p → IsTurn (record { core = c; party = p; reply = None }) → Makes maker IsTurn c (record { core = c; party = p; reply = None })
   nothing_made maker IsTurn c p can turn = record { turn = turn; sound = record { core = can.core; party = can.party.sound }; size = same_size c }
 
-  -- A read.
-  read_lease : (y : Option Lease) (i len : ℕ) (c : PoolCore P) (p : RunningParty P) (reply : Reply) → AnswersMemory y i len reply → ReadsLease y i len c p (replies reply c p)
-  read_lease None i len c p reply is = ap (λ (r : Reply). replies r c p) is
-  read_lease (Some l) i len c p reply is = (reply, is, refl)
+  -- A command that looks at a memory.
+  looked_lease : (Looks : PrivateMemory → Reply → Type 0) (y : Option Lease) (c : PoolCore P) (p : RunningParty P) (reply : Reply) → AnswersMemory Looks y reply → LooksAtLease Looks y c p (replies reply c p)
+  looked_lease Looks None c p reply is = ap (λ (r : Reply). replies r c p) is
+  looked_lease Looks (Some l) c p reply is = (reply, is, refl)
 
-  read_turn : (x : Option (Grant P)) (k i len : ℕ) (c : PoolCore P) (p : RunningParty P) (reply : Reply) → AnswersGrant x k i len reply → Reads x k i len c p (replies reply c p)
-  read_turn None k i len c p reply is = ap (λ (r : Reply). replies r c p) is
-  read_turn (Some grant) k i len c p reply is = read_lease (slice_get (leases_of grant) k) i len c p reply is
+  looked_turn : (Looks : PrivateMemory → Reply → Type 0) (x : Option (Grant P)) (k : ℕ) (c : PoolCore P) (p : RunningParty P) (reply : Reply) → AnswersGrant Looks x k reply → LooksAt Looks x k c p (replies reply c p)
+  looked_turn Looks None k c p reply is = ap (λ (r : Reply). replies r c p) is
+  looked_turn Looks (Some grant) k c p reply is = looked_lease Looks (slice_get (leases_of grant) k) c p reply is
 
-  pub read_made : (maker : MakerTold) (x : Option (Grant P)) (k i len : ℕ) (c : PoolCore P) (p : RunningParty P) (reply : Reply) → CanTurn maker c p → AnswersGrant x k i len reply → Makes maker (Reads x k i len c p) c (replies reply c p)
-  read_made maker x k i len c p reply can is = reply_made maker (Reads x k i len c p) c p reply can (read_turn x k i len c p reply is)
+  pub look_made : (maker : MakerTold) (Looks : PrivateMemory → Reply → Type 0) (x : Option (Grant P)) (k : ℕ) (c : PoolCore P) (p : RunningParty P) (reply : Reply) → CanTurn maker c p → AnswersGrant Looks x k reply → Makes maker (LooksAt Looks x k c p) c (replies reply c p)
+  look_made maker Looks x k c p reply can is = reply_made maker (LooksAt Looks x k c p) c p reply can (looked_turn Looks x k c p reply is)
 
-  -- A write: what its turn is, and that it leaves what is sound.
-  abbrev pub after_write : PoolCore P → RunningParty P → List (Option (Grant P)) → Reply → Turned P
-  after_write c p live reply = replies reply c (record p { live = live })
+  -- the turn after a move of a memory, which leaves these grants
+  abbrev pub after_move : PoolCore P → RunningParty P → List (Option (Grant P)) → Reply → Turned P
+  after_move c p live reply = replies reply c (record p { live = live })
 
-  abbrev pub after_outcome : PoolCore P → RunningParty P → List (Option (Grant P)) × Reply → Turned P
-  after_outcome c p o = after_write c p o.0 o.1
+  -- grants that stay as they were
+  kept_live : (c : PoolCore P) (p : RunningParty P) (of : ℕ) (grant moved : Grant P) → slice_index_or p.live of None ≡ Some grant → moved ≡ grant → slice_set p.live of (Some moved) ≡ p.live
+  kept_live c p of grant moved has same = ap (λ (g : Grant P). slice_set p.live of (Some g)) same ∙ ap (slice_set p.live of) (sym has) ∙ set-get_or p.live of None
 
-  -- the turn after a write to a memory of a grant that lies in this place
-  abbrev pub of_outcome : PoolCore P → RunningParty P → ℕ → Grant P × Reply → Turned P
-  of_outcome c p of o = after_write c p (slice_set p.live of (Some o.0)) o.1
-
-  -- a grant that is put back as it was
-  put_back : (c : PoolCore P) (p : RunningParty P) (of : ℕ) (grant : Grant P) (reply : Reply) → slice_index_or p.live of None ≡ Some grant → of_outcome c p of (grant, reply) ≡ replies reply c p
-  put_back c p of grant reply has =
-      let same : slice_set p.live of (Some grant) ≡ p.live = ap (slice_set p.live of) (sym has) ∙ set-get_or p.live of None in
-      ap (λ (live : List (Option (Grant P))). replies reply c (record p { live = live })) same
-
-  write_within : (maker : MakerTold) (of k i : ℕ) (bytes : List ℕ) (lease : InstanceLease P) (l : Lease) (b : Bool) (c : PoolCore P) (p : RunningParty P) → nat_le (i + length bytes) l.memory.linear.size ≡ b → CanTurn maker c p → slice_index_or p.live of None ≡ Some (instance lease) → slice_get lease.memories.items k ≡ Some l
-      → CanBeUsed (Some l) i bytes (memory_outcome (Some l) k i bytes (instance lease)).1
-      → Makes maker (WritesLease (Some l) of (instance lease) k i bytes c p) c (of_outcome c p of (memory_outcome (Some l) k i bytes (instance lease)))
-  write_within maker of k i bytes lease l true c p fits can has there usable =
-      let new : Grant P = grant_written k (lease_written i bytes l) (instance lease) in
-      let Used : Grant P × Reply → Type 0 = λ o. CanBeUsed (Some l) i bytes o.1 in
-      let T : Turned P → Type 0 = λ t. Makes maker (WritesLease (Some l) of (instance lease) k i bytes c p) c t in
-      let Out : Bool → Grant P × Reply = λ v. if v then (new, Done) else (instance lease, Trap MemoryOutOfBounds) in
-      let Turn : Bool → Turned P = λ v. if v then replies Done c (record p { live = slice_set p.live of (Some new) }) else replies (Trap MemoryOutOfBounds) c p in
-      let is : Out (nat_le (i + length bytes) l.memory.linear.size) ≡ (new, Done) = ap Out fits in
-      let memory : IsMemory (lease_written i bytes l).memory = subst Used is usable refl in
-      subst T (sym (ap (of_outcome c p of) is))
+  -- A move, of memories of the pool by which they stay so.
+  moved_lease : (maker : MakerTold) (Moves : MemoryState → MemoryState → Reply → Type 0) (of k : ℕ) (lease : InstanceLease P) (y : Option Lease) (moved : Grant P) (c : PoolCore P) (p : RunningParty P) (reply : Reply) → KeepsSlot maker c.settings Moves → CanTurn maker c p → slice_index_or p.live of None ≡ Some (instance lease) → slice_get lease.memories.items k ≡ y
+      → LeaseMoved Moves y k (instance lease) moved reply
+      → Makes maker (MovesLease Moves y of (instance lease) k c p) c (after_move c p (slice_set p.live of (Some moved)) reply)
+  moved_lease maker Moves of k lease None moved c p reply keeps can has there is =
+      let T : List (Option (Grant P)) → Reply → Type 0 = λ live r. Makes maker (MovesLease Moves None of (instance lease) k c p) c (after_move c p live r) in
+      subst (λ (live : List (Option (Grant P))). T live reply) (sym (kept_live c p of (instance lease) moved has is.0))
+      (subst (T p.live) (sym is.1) (reply_made maker (MovesLease Moves None of (instance lease) k c p) c p (Refused NoSuchGrant) can refl))
+  moved_lease maker Moves of k lease (Some l) moved c p reply keeps can has there is =
+      let new : Lease = is.0 in
+      let T : Grant P → Type 0 = λ g. Makes maker (MovesLease Moves (Some l) of (instance lease) k c p) c (after_move c p (slice_set p.live of (Some g)) reply) in
+      let still : IsLeaseOf maker c.settings new = lease_still maker c.settings Moves l new reply keeps (lease_there maker c p of k lease l can.party.sound has there) is.1 in
+      subst T (sym is.2)
       (record {
-        turn = sym (ap Turn fits);
-        sound = record { core = can.core; party = record { frame = can.party.sound.frame; grants = (write_sound maker c p of k i bytes lease l can.party.sound has there memory).grants } };
+        turn = (new, reply, is.1, refl);
+        sound = record { core = can.core; party = record { frame = can.party.sound.frame; grants = (move_sound maker c p of k lease new can.party.sound has still).grants } };
         size = same_size c;
       })
-  write_within maker of k i bytes lease l false c p past can has there usable =
-      let new : Grant P = grant_written k (lease_written i bytes l) (instance lease) in
-      let T : Turned P → Type 0 = λ t. Makes maker (WritesLease (Some l) of (instance lease) k i bytes c p) c t in
-      let Out : Bool → Grant P × Reply = λ v. if v then (new, Done) else (instance lease, Trap MemoryOutOfBounds) in
-      let Turn : Bool → Turned P = λ v. if v then replies Done c (record p { live = slice_set p.live of (Some new) }) else replies (Trap MemoryOutOfBounds) c p in
-      let is : Out (nat_le (i + length bytes) l.memory.linear.size) ≡ (instance lease, Trap MemoryOutOfBounds) = ap Out past in
-      subst T (sym (ap (of_outcome c p of) is ∙ put_back c p of (instance lease) (Trap MemoryOutOfBounds) has))
-      (reply_made maker (WritesLease (Some l) of (instance lease) k i bytes c p) c p (Trap MemoryOutOfBounds) can (sym (ap Turn past)))
 
-  write_lease : (maker : MakerTold) (of k i : ℕ) (bytes : List ℕ) (lease : InstanceLease P) (y : Option Lease) (c : PoolCore P) (p : RunningParty P) → CanTurn maker c p → slice_index_or p.live of None ≡ Some (instance lease) → slice_get lease.memories.items k ≡ y
-      → CanBeUsed y i bytes (memory_outcome y k i bytes (instance lease)).1
-      → Makes maker (WritesLease y of (instance lease) k i bytes c p) c (of_outcome c p of (memory_outcome y k i bytes (instance lease)))
-  write_lease maker of k i bytes lease None c p can has there usable =
-      let T : Turned P → Type 0 = λ t. Makes maker (WritesLease None of (instance lease) k i bytes c p) c t in
-      subst T (sym (put_back c p of (instance lease) (Refused NoSuchGrant) has))
-      (reply_made maker (WritesLease None of (instance lease) k i bytes c p) c p (Refused NoSuchGrant) can refl)
-  write_lease maker of k i bytes lease (Some l) c p can has there usable = write_within maker of k i bytes lease l (nat_le (i + length bytes) l.memory.linear.size) c p refl can has there usable
+  moved_grant : (maker : MakerTold) (Moves : MemoryState → MemoryState → Reply → Type 0) (x : Option (Grant P)) (of k : ℕ) (c : PoolCore P) (p : RunningParty P) (live : List (Option (Grant P))) (reply : Reply) → KeepsSlot maker c.settings Moves → CanTurn maker c p → slice_index_or p.live of None ≡ x → LiveMoved Moves x of k p.live live reply → Makes maker (MovesIn Moves x of k c p) c (after_move c p live reply)
+  moved_grant maker Moves None of k c p live reply keeps can has is =
+      let T : List (Option (Grant P)) → Reply → Type 0 = λ new r. Makes maker (MovesIn Moves None of k c p) c (after_move c p new r) in
+      subst (λ (new : List (Option (Grant P))). T new reply) (sym is.0) (subst (T p.live) (sym is.1) (reply_made maker (MovesIn Moves None of k c p) c p (Refused NoSuchGrant) can refl))
+  moved_grant maker Moves (Some (instance lease)) of k c p live reply keeps can has is =
+      let T : List (Option (Grant P)) → Type 0 = λ new. Makes maker (MovesIn Moves (Some (instance lease)) of k c p) c (after_move c p new reply) in
+      subst T (sym is.2) (moved_lease maker Moves of k lease (slice_get lease.memories.items k) is.0 c p reply keeps can has refl is.1)
 
-  write_grant : (maker : MakerTold) (x : Option (Grant P)) (of k i : ℕ) (bytes : List ℕ) (c : PoolCore P) (p : RunningParty P) → CanTurn maker c p → slice_index_or p.live of None ≡ x → GrantCanBeUsed x k i bytes (live_outcome x of k i bytes p.live).1 → Makes maker (Writes x of k i bytes c p) c (after_outcome c p (live_outcome x of k i bytes p.live))
-  write_grant maker None of k i bytes c p can has usable = reply_made maker (Writes None of k i bytes c p) c p (Refused NoSuchGrant) can refl
-  write_grant maker (Some (instance lease)) of k i bytes c p can has usable = write_lease maker of k i bytes lease (slice_get lease.memories.items k) c p can has refl usable
-
-  pub write_made : (maker : MakerTold) (of k i : ℕ) (bytes : List ℕ) (c : PoolCore P) (p : RunningParty P) (live : List (Option (Grant P))) (reply : Reply) → CanTurn maker c p → (live, reply) ≡ live_outcome (slice_index_or p.live of None) of k i bytes p.live → GrantCanBeUsed (slice_index_or p.live of None) k i bytes reply → Makes maker (Writes (slice_index_or p.live of None) of k i bytes c p) c (after_write c p live reply)
-  write_made maker of k i bytes c p live reply can is usable =
-      let x : Option (Grant P) = slice_index_or p.live of None in
-      let T : List (Option (Grant P)) × Reply → Type 0 = λ o. Makes maker (Writes x of k i bytes c p) c (after_outcome c p o) in
-      let U : List (Option (Grant P)) × Reply → Type 0 = λ o. GrantCanBeUsed x k i bytes o.1 in
-      subst T (sym is) (write_grant maker x of k i bytes c p can refl (subst U is usable))
+  pub move_made : (maker : MakerTold) (Moves : MemoryState → MemoryState → Reply → Type 0) (of k : ℕ) (c : PoolCore P) (p : RunningParty P) (live : List (Option (Grant P))) (reply : Reply) → KeepsSlot maker c.settings Moves → CanTurn maker c p → LiveMoved Moves (slice_index_or p.live of None) of k p.live live reply → Makes maker (MovesIn Moves (slice_index_or p.live of None) of k c p) c (after_move c p live reply)
+  move_made maker Moves of k c p live reply keeps can is = moved_grant maker Moves (slice_index_or p.live of None) of k c p live reply keeps can refl is

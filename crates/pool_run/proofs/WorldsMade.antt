@@ -87,6 +87,7 @@ module _ {P : Type 0} where
       let most : c.settings.max_memories_per_module ≡ input.config.limits.max_memories_per_module = ap (λ (s : Settings). s.max_memories_per_module) made.settings in
       let decls : (number : ℕ) → AreBuilt (memories_of w number) = λ number. of_number input.modules number (slice_get input.modules number) refl is.modules in
       record {
+        settings = sym made.settings;
         total = sym made.cells.number;
         most_instances = sym (ap (λ (s : Settings). s.max_core_instances) made.settings);
         stripes = ap (λ (s : Settings). s.stripes) made.settings;

@@ -1,29 +1,39 @@
 -- What a party may see: its grants as private lists of bytes, which its commands read and write, and no pool.
-use Rattle.std.specs.Prelude.{◌≡◌, ◌≢◌, ℕ, ◌+◌, ◌<◌, ◌≤◌, List, [], ◌∷◌, length, sum_by, slice_get, slice_index_or, slice_range, slice_set, All, replicate, ◌⊎◌, Bool, true, if◌then◌else◌, Option, Some, None, IfSome, option_map}
+use Rattle.std.specs.Prelude.{◌≡◌, ◌≢◌, ℕ, ◌+◌, ◌-◌, ◌*◌, ◌^◌, ◌<◌, ◌≤◌, ◌==◌, ◌||◌, List, [], ◌∷◌, ◌++◌, length, sum_by, slice_get, slice_index_or, slice_range, slice_set, All, replicate, min, ◌⊎◌, Bool, true, false, not, nat_lt, if◌then◌else◌, Option, Some, None, IfSome, option_map, Result, Ok, Err}
 use Rattle.std.specs.Option.{option_map_or}
 use Rattle.std.specs.List.{list_all}
 use Rattle.pool_pages.specs.Contents.{put}
-use Rattle.pool_pages.specs.MemoryTypes.{minimum_byte_size}
+use Rattle.pool_pages.specs.MemoryTypes.{minimum_byte_size, page_size, allow_growth_to}
 use Rattle.pool_pages.specs.MakerTold.{MakerTold, plan_for}
 use Rattle.pool_pages.specs.declared.pages.RegionName.TheVariants.{Memory as memory_region}
 use Rattle.pool_pages.specs.declared.module_types.MemoryDecl.{MemoryDecl}
 use Rattle.pool_pages.specs.declared.module_types.ModuleInfo.{ModuleInfo}
+use Rattle.pool_pages.specs.declared.module_types.MemoryType.{MemoryType}
+use Rattle.pool_limits.specs.Growth.{GrowthRule, always, memory_answer, memory_failure}
+use Rattle.pool_limits.specs.declared.errors.LimiterError.{LimiterError}
 use Rattle.pool_limits.specs.declared.errors.Trap.TheVariants.{MemoryOutOfBounds}
 use Rattle.pool_images.specs.Images.{Image, image_of, start, ends_in_minimum}
+use Rattle.pool_memory.specs.Growing.{exceeds}
+use Rattle.pool_memory.specs.Making.{maximum_asked}
+use Rattle.pool_memory.specs.Static.{capacity_of}
 use Rattle.pool_slots.specs.declared.request.AllocError.TheVariants as alloc
 use Rattle.pool_slots.specs.declared.request.ConcurrencyKind.TheVariants.{MemoryStripe, CoreInstances}
 use Rattle.pool_slots.specs.declared.request.PoolConcurrencyLimitError.{PoolConcurrencyLimitError}
+use Rattle.pool_alloc.specs.declared.pool_core.Settings.{Settings}
 use Rattle.pool_run.specs.declared.command.Command.{Command}
-use Rattle.pool_run.specs.declared.command.Command.TheVariants.{Instantiate, Read, Write, Drop}
+use Rattle.pool_run.specs.declared.command.Command.TheVariants.{Instantiate, Read, Write, Fill, Grow, Size as ask_size, Drop}
 use Rattle.pool_run.specs.declared.reply.Reply.{Reply}
-use Rattle.pool_run.specs.declared.reply.Reply.TheVariants.{Instance, Bytes, Done, Returned, Refused, Trap}
+use Rattle.pool_run.specs.declared.reply.Reply.TheVariants.{Instance, Bytes, Done, Size, Grown, Returned, Refused, Trap}
 use Rattle.pool_run.specs.declared.reply.Refusal.{Refusal}
 use Rattle.pool_run.specs.declared.reply.Refusal.TheVariants.{NoSuchGrant, Alloc}
 
--- a live memory: the slot that its reply named, its size, and its bytes, where they are told
+-- a live memory: the slot that its reply named, its type, its size and how large it can become, and its bytes, where
+-- they are told
 pub record PrivateMemory : Type 0 where
   pub slot : ℕ
+  pub ty : MemoryType
   pub size : ℕ
+  pub capacity : ℕ
   pub bytes : Option (List ℕ)
 
 -- a live instance: its memories in order
@@ -54,11 +64,12 @@ instances_in (Some g) = 1
 abbrev pub instance_count : Grants → ℕ
 instance_count grants = sum_by instances_in grants
 
--- what is the same for the whole run: whether pages are told, the page of their maker and its plan, the modules, how
--- many slots and how many instances there may be, and whether there is one party alone
+-- what is the same for the whole run: whether pages are told, the page of their maker and its plan, the modules, the
+-- pool's settings, how many slots and how many instances there may be, and whether there is one party alone
 pub record World : Type 0 where
   pub maker : MakerTold
   pub modules : List ModuleInfo
+  pub settings : Settings
   pub total : ℕ
   pub most_instances : ℕ
   pub alone : Bool
@@ -72,11 +83,14 @@ memories_of w number = option_map_or (λ m. m.memories) (slice_get w.modules num
 abbrev pub image_at : World → ℕ → ℕ → MemoryDecl → Option Image
 image_at w number k decl = if list_all (ends_in_minimum w.maker.page) (memories_of w number) then option_map (image_of (record { 0 = number }) w.maker.page k) decl.image else None
 
--- a memory as it begins: its minimum of bytes, which are its image at its offset and zeros elsewhere
+-- A memory as it begins: its minimum of bytes, which are its image at its offset and zeros elsewhere. It can become as
+-- large as a slot of the pool, or as its type allows if that is less.
 abbrev pub begun_memory : World → ℕ → ℕ → MemoryDecl → ℕ → PrivateMemory
 begun_memory w number k decl slot = record {
   slot = slot;
+  ty = decl.ty;
   size = minimum_byte_size decl.ty;
+  capacity = capacity_of w.settings.max_memory_size (maximum_asked decl.ty);
   bytes = if w.maker.tells then Some (start (image_at w number k decl) (minimum_byte_size decl.ty)) else None;
 }
 
@@ -90,9 +104,13 @@ begun_memories w number k (decl ∷ decls) (slot ∷ slots) = begun_memory w num
 abbrev pub IsFree : ℕ → Grants → Type 0
 IsFree slot grants = (i : ℕ) → IfSome (grant_at grants i) (λ g. All (λ m. m.slot ≢ slot) g.memories)
 
--- the plan that the region of some slot is made with, where it is told, lists a call on it
+-- the plan that the region of this slot is made with, where it is told, lists a call on it
+abbrev pub MayFault : World → ℕ → Type 0
+MayFault w slot = IfSome (plan_for (memory_region slot) w.maker) (λ plan. 0 < length plan)
+
+-- that of some slot does
 abbrev pub SomeMayFault : World → Type 0
-SomeMayFault w = (i : ℕ) × (i < w.total) × IfSome (plan_for (memory_region i) w.maker) (λ plan. 0 < length plan)
+SomeMayFault w = (i : ℕ) × (i < w.total) × MayFault w i
 
 -- A refusal for room of a request for the module of this number: no slot is free for one of its memories, or as many
 -- instances are granted as there may be. A party that is alone has all these itself.
@@ -136,39 +154,87 @@ IsRead m at len (Trap trap) = (trap ≡ MemoryOutOfBounds) × (m.size < at + len
 IsRead m at len (Refused refusal) = refusal ≡ Alloc alloc.Memory
 IsRead m at len _ = ⊥
 
+-- the reply to a question for its size
+abbrev pub IsSize : PrivateMemory → Reply → Type 0
+IsSize m reply = reply ≡ Size m.size
+
 -- the memory with bytes of it written
 abbrev pub memory_written : ℕ → List ℕ → PrivateMemory → PrivateMemory
 memory_written at new m = record m { bytes = option_map (put at new) m.bytes }
+
+-- the memory after a write of these bytes, and the reply
+abbrev pub Writes : ℕ → List ℕ → PrivateMemory → PrivateMemory → Reply → Type 0
+Writes at bytes m new Done = (at + length bytes ≤ m.size) × (new ≡ memory_written at bytes m)
+Writes at bytes m new (Trap trap) = (trap ≡ MemoryOutOfBounds) × (m.size < at + length bytes) × (new ≡ m)
+Writes at bytes m new _ = ⊥
+
+-- the size after a growth by so many pages: at most the greatest whole number of pages that leaves room for one more
+abbrev pub size_wanted : ℕ → PrivateMemory → ℕ
+size_wanted pages m = min (m.size + pages * page_size m.ty) (2 ^ 64 - page_size m.ty)
+
+-- the memory with zeros appended, up to this size
+abbrev pub memory_grown : ℕ → PrivateMemory → PrivateMemory
+memory_grown size m = record m { size = size; bytes = option_map (λ b. b ++ replicate {A = ℕ} (size - m.size) 0) m.bytes }
+
+-- the reply to a growth that failed: none, or the error that the limiter makes of it
+abbrev pub reported : Result (Unit {0}) LimiterError → Reply
+reported (Ok u) = Grown None
+reported (Err e) = Refused (Alloc (alloc.LimiterFault e))
+
+abbrev pub report : GrowthRule → Reply
+report rule = reported (memory_failure (Some rule) (Ok tt))
+
+-- what comes of a growth where the limiter says yes, and else none or its error
+abbrev pub if_allowed : Result Bool LimiterError → PrivateMemory → PrivateMemory × Reply → PrivateMemory × Reply
+if_allowed (Ok true) m grown = grown
+if_allowed (Ok false) m grown = (m, Grown None)
+if_allowed (Err e) m grown = (m, Refused (Alloc (alloc.LimiterFault e)))
+
+-- The memory after a growth by so many pages under this rule, and the reply. By none nobody is asked. A size that the
+-- type forbids is only reported; then the limiter is asked; then a size past the maximum or the capacity, and a failed
+-- call on the pages, are reported.
+abbrev pub grown_by : GrowthRule → Bool → ℕ → PrivateMemory → PrivateMemory × Reply
+grown_by rule fault pages m =
+    if pages == 0
+    then (m, Grown (Some m.size))
+    else (
+    if not (allow_growth_to m.ty (size_wanted pages m))
+    then (m, report rule)
+    else if_allowed (memory_answer (Some rule) (Ok true) (size_wanted pages m) (maximum_asked m.ty)) m
+    (if (exceeds (maximum_asked m.ty) (size_wanted pages m) || nat_lt m.capacity (size_wanted pages m)) || fault
+    then (m, report rule)
+    else (memory_grown (size_wanted pages m) m, Grown (Some m.size)))
+    )
+
+-- a call on the pages fails only where their plan, if it is told, lists one
+abbrev pub Grows : World → GrowthRule → ℕ → PrivateMemory → PrivateMemory → Reply → Type 0
+Grows w rule pages m new reply = (fault : Bool) × (fault ≡ true → MayFault w m.slot) × ((new, reply) ≡ grown_by rule fault pages m)
 
 -- the grants with a memory of one of them changed
 abbrev pub with_memory : Grants → ℕ → PrivateInstance → ℕ → PrivateMemory → Grants
 with_memory grants of g k m = slice_set grants of (Some (record { memories = slice_set g.memories k m }))
 
--- the reply to a write to memory k of a live grant, command `of`'s
-abbrev pub Writes : Grants → ℕ → PrivateInstance → ℕ → PrivateMemory → ℕ → List ℕ → Reply → Grants → Type 0
-Writes grants of g k m at bytes Done new = (at + length bytes ≤ m.size) × (new ≡ with_memory grants of g k (memory_written at bytes m))
-Writes grants of g k m at bytes (Trap trap) new = (trap ≡ MemoryOutOfBounds) × (m.size < at + length bytes) × (new ≡ grants)
-Writes grants of g k m at bytes _ new = ⊥
-
 -- a command on a grant that isn't live, or on a memory that it hasn't, is refused, and changes nothing
 abbrev pub HasNoGrant : Grants → Reply → Grants → Type 0
 HasNoGrant grants reply new = (reply ≡ Refused NoSuchGrant) × (new ≡ grants)
 
-abbrev pub ReadsMemory : Option PrivateMemory → Grants → ℕ → ℕ → Reply → Grants → Type 0
-ReadsMemory None grants at len reply new = HasNoGrant grants reply new
-ReadsMemory (Some m) grants at len reply new = IsRead m at len reply × (new ≡ grants)
+-- a command that looks at memory k of a live grant, and answers so
+abbrev pub LooksAtMemory : (PrivateMemory → Reply → Type 0) → Option PrivateMemory → Grants → Reply → Grants → Type 0
+LooksAtMemory Looks None grants reply new = HasNoGrant grants reply new
+LooksAtMemory Looks (Some m) grants reply new = Looks m reply × (new ≡ grants)
 
-abbrev pub ReadsFrom : Option PrivateInstance → Grants → ℕ → ℕ → ℕ → Reply → Grants → Type 0
-ReadsFrom None grants k at len reply new = HasNoGrant grants reply new
-ReadsFrom (Some g) grants k at len reply new = ReadsMemory (slice_get g.memories k) grants at len reply new
+abbrev pub LooksAt : (PrivateMemory → Reply → Type 0) → Option PrivateInstance → Grants → ℕ → Reply → Grants → Type 0
+LooksAt Looks None grants k reply new = HasNoGrant grants reply new
+LooksAt Looks (Some g) grants k reply new = LooksAtMemory Looks (slice_get g.memories k) grants reply new
 
-abbrev pub WritesMemory : Option PrivateMemory → Grants → ℕ → PrivateInstance → ℕ → ℕ → List ℕ → Reply → Grants → Type 0
-WritesMemory None grants of g k at bytes reply new = HasNoGrant grants reply new
-WritesMemory (Some m) grants of g k at bytes reply new = Writes grants of g k m at bytes reply new
+-- a command that moves memory k of a live grant, command `of`'s, and answers so
+abbrev pub MovesMemory : (PrivateMemory → PrivateMemory → Reply → Type 0) → Option PrivateMemory → Grants → ℕ → PrivateInstance → ℕ → Reply → Grants → Type 0
+MovesMemory Moves None grants of g k reply new = HasNoGrant grants reply new
+MovesMemory Moves (Some m) grants of g k reply new = (moved : PrivateMemory) × Moves m moved reply × (new ≡ with_memory grants of g k moved)
 
-abbrev pub WritesTo : Option PrivateInstance → Grants → ℕ → ℕ → ℕ → List ℕ → Reply → Grants → Type 0
-WritesTo None grants of k at bytes reply new = HasNoGrant grants reply new
-WritesTo (Some g) grants of k at bytes reply new = WritesMemory (slice_get g.memories k) grants of g k at bytes reply new
+abbrev pub MovesIn : (PrivateMemory → PrivateMemory → Reply → Type 0) → Option PrivateInstance → Grants → ℕ → ℕ → Reply → Grants → Type 0
+MovesIn Moves None grants of k reply new = HasNoGrant grants reply new
+MovesIn Moves (Some g) grants of k reply new = MovesMemory Moves (slice_get g.memories k) grants of g k reply new
 
 -- a grant is given back, and ends
 abbrev pub Drops : Option PrivateInstance → Grants → ℕ → Reply → Grants → Type 0
@@ -178,8 +244,11 @@ Drops (Some g) grants of reply new = (reply ≡ Returned) × (new ≡ slice_set 
 -- command n, its reply, and the grants before and after
 abbrev pub PrivateStep : World → ℕ → Grants → Command → Reply → Grants → Type 0
 PrivateStep w n grants (Instantiate number) reply new = Instantiates w n number grants reply new
-PrivateStep w n grants (Read of memory at len) reply new = ReadsFrom (grant_at grants of) grants memory at len reply new
-PrivateStep w n grants (Write of memory at bytes) reply new = WritesTo (grant_at grants of) grants of memory at bytes reply new
+PrivateStep w n grants (Read of memory at len) reply new = LooksAt (λ m. IsRead m at len) (grant_at grants of) grants memory reply new
+PrivateStep w n grants (Write of memory at bytes) reply new = MovesIn (Writes at bytes) (grant_at grants of) grants of memory reply new
+PrivateStep w n grants (Fill of memory at len byte) reply new = MovesIn (Writes at (replicate len byte)) (grant_at grants of) grants of memory reply new
+PrivateStep w n grants (Grow of memory pages) reply new = MovesIn (Grows w always pages) (grant_at grants of) grants of memory reply new
+PrivateStep w n grants (ask_size of memory) reply new = LooksAt IsSize (grant_at grants of) grants memory reply new
 PrivateStep w n grants (Drop of) reply new = Drops (grant_at grants of) grants of reply new
 
 -- A run of commands, the first of which is command n: each of the replies is to the next command, from the grants at the

@@ -12,7 +12,7 @@ use Rattle.pool_run.specs.Folds.{RunState, Folds, IsUnderWay}
 use Rattle.pool_run.specs.RunsMade.{Background, commands_in}
 use Rattle.pool_run.specs.Worlds.{NameModules}
 use Rattle.pool_run.specs.declared.command.Command.{Command}
-use Rattle.pool_run.specs.declared.command.Command.TheVariants.{Instantiate, Read, Write, Drop}
+use Rattle.pool_run.specs.declared.command.Command.TheVariants.{Instantiate, Read, Write, Fill, Grow, Size, Drop}
 use Rattle.pool_run.specs.declared.input.Party.{Party}
 use Rattle.pool_run.specs.declared.running_party.RunningParty.{RunningParty}
 
@@ -63,6 +63,9 @@ module _ {P : Type 0} where
   bound_begun modules (Instantiate number) c p = bound_asked c (slice_get modules number)
   bound_begun modules (Read of memory at len) c p = 1
   bound_begun modules (Write of memory at bytes) c p = 1
+  bound_begun modules (Fill of memory at len byte) c p = 1
+  bound_begun modules (Grow of memory pages) c p = 1
+  bound_begun modules (Size of memory) c p = 1
   bound_begun modules (Drop of) c p = bound_returned c (slice_index_or p.live of None)
 
   -- the same of the party's next call; its stripe is drawn in one turn

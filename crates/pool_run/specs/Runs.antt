@@ -1,13 +1,14 @@
 -- What a run of an input is: the turns of its schedule over a pool as it is made, and then of each party until it has
 -- nothing left; and the output, which tells each party a private run.
 use Rattle.std.specs.Prelude.{◌≡◌, ℕ, ◌<◌, ◌||◌, ◌==◌, List, [], ◌∷◌, ◌+◌, length, Bool, true, false, if◌then◌else◌, IfSome}
+use Rattle.pool_pages.specs.Config.{default_tunables}
 use Rattle.pool_pages.specs.MakerTold.{MakerTold, Planned}
 use Rattle.pool_pages.specs.Told.{Rose}
 use Rattle.pool_pages.specs.declared.module_types.ModuleInfo.{ModuleInfo}
 use Rattle.pool_pages.specs.declared.module_types.Tunables.{Tunables}
 use Rattle.pool_images.specs.Images.{makes_listed as makes_listed_images}
 use Rattle.pool_slots.specs.Makings.{makes_listed}
-use Rattle.pool_alloc.specs.Made.{IsMadeCore}
+use Rattle.pool_alloc.specs.Made.{IsMadeCore, settings_of}
 use Rattle.pool_alloc.specs.Sums.{metrics_of}
 use Rattle.pool_alloc.specs.declared.frame.ModuleCall.{ModuleCall}
 use Rattle.pool_alloc.specs.declared.pool_core.PoolCore.{PoolCore}
@@ -29,6 +30,7 @@ abbrev pub world_of : Input → MakerTold → World
 world_of input maker = record {
   maker = maker;
   modules = input.modules;
+  settings = settings_of maker.page input.config default_tunables;
   total = input.config.limits.total_memories;
   most_instances = input.config.limits.total_core_instances;
   alone = length input.parties == 1;

@@ -1,10 +1,13 @@
 -- A turn of a party in a run: the next step of its call, or the first step of its next command.
-use Rattle.std.specs.Prelude.{◌≡◌, ℕ, ◌+◌, List, [], ◌∷◌, ◌++◌, length, map, nat_le, slice_get, slice_index_or, slice_set, ◌⊎◌, Bool, true, false, if◌then◌else◌, Option, Some, None, option_map}
+use Rattle.std.specs.Prelude.{◌≡◌, ℕ, ◌+◌, List, [], ◌∷◌, ◌++◌, length, map, replicate, nat_le, slice_get, slice_index_or, slice_set, ◌⊎◌, Bool, true, false, if◌then◌else◌, Option, Some, None, option_map, Result, Ok, Err}
 use Rattle.std.specs.Arc.{arc_value}
 use Rattle.pool_limits.specs.LimiterTold.{unlimited}
-use Rattle.pool_memory.specs.Memories.{bytes_of, memory_written}
+use Rattle.pool_limits.specs.declared.errors.GrowFault.{GrowFault}
+use Rattle.pool_limits.specs.declared.errors.GrowFault.TheVariants as fault
+use Rattle.pool_memory.specs.Growing.{IsGrowth}
+use Rattle.pool_memory.specs.Memories.{MemoryState, bytes_of, memory_written}
 use Rattle.pool_slots.specs.declared.request.AllocError.TheVariants as alloc
-use Rattle.pool_alloc.specs.Leases.{Lease}
+use Rattle.pool_alloc.specs.Leases.{Lease, IsMemory}
 use Rattle.pool_alloc.specs.Calls.{begun_call}
 use Rattle.pool_alloc.specs.Steps.{After}
 use Rattle.pool_alloc.specs.Stepping.{StepsTo, is_idle}
@@ -16,22 +19,46 @@ use Rattle.pool_alloc.specs.declared.frame.Grant.{Grant}
 use Rattle.pool_alloc.specs.declared.frame.Grant.TheVariants.{Instance as instance}
 use Rattle.pool_alloc.specs.declared.frame.Outcome.{Outcome}
 use Rattle.pool_alloc.specs.declared.frame.Outcome.TheVariants as answer
-use Rattle.pool_run.specs.Private.{PrivateMemory, PrivateInstance, Grants, IsRead}
+use Rattle.pool_run.specs.Private.{PrivateMemory, PrivateInstance, Grants, IsRead, IsSize}
 use Rattle.pool_run.specs.declared.command.Command.{Command}
-use Rattle.pool_run.specs.declared.command.Command.TheVariants.{Instantiate, Read, Write, Drop}
+use Rattle.pool_run.specs.declared.command.Command.TheVariants.{Instantiate, Read, Write, Fill, Grow, Size as ask_size, Drop}
 use Rattle.pool_run.specs.declared.reply.Reply.{Reply}
-use Rattle.pool_run.specs.declared.reply.Reply.TheVariants.{Instance, Done, Returned, Refused, Trap}
+use Rattle.pool_run.specs.declared.reply.Reply.TheVariants.{Instance, Done, Grown, Returned, Refused, Trap as trapped}
+use Rattle.pool_limits.specs.declared.errors.Trap.{Trap}
 use Rattle.pool_limits.specs.declared.errors.Trap.TheVariants.{MemoryOutOfBounds}
 use Rattle.pool_run.specs.declared.reply.Refusal.TheVariants.{NoSuchGrant, Alloc}
 use Rattle.pool_run.specs.declared.running_party.RunningParty.{RunningParty}
 
--- a memory as the party sees it
-abbrev pub private_memory : Lease → PrivateMemory
-private_memory l = record { slot = l.index; size = l.memory.linear.size; bytes = bytes_of l.memory }
+-- the memory in a slot, as the party sees it
+abbrev pub seen_as : ℕ → MemoryState → PrivateMemory
+seen_as slot m = record { slot = slot; ty = m.ty; size = m.linear.size; capacity = m.linear.capacity; bytes = bytes_of m }
 
--- a lease whose memory was written
-abbrev pub lease_written : ℕ → List ℕ → Lease → Lease
-lease_written at new l = record l { memory = memory_written at new l.memory }
+abbrev pub private_memory : Lease → PrivateMemory
+private_memory l = seen_as l.index l.memory
+
+-- the memory after a write of these bytes, and the reply
+abbrev pub MemoryWrites : ℕ → List ℕ → MemoryState → MemoryState → Reply → Type 0
+MemoryWrites at bytes old new reply = ◌≡◌ {A = MemoryState × Reply} (new, reply) (if nat_le (at + length bytes) old.linear.size then (memory_written at bytes old, Done) else (old, trapped MemoryOutOfBounds))
+
+-- the reply to a write with this answer, and to a growth
+abbrev pub write_reply : Result (Unit {0}) Trap → Reply
+write_reply (Ok u) = Done
+write_reply (Err trap) = trapped trap
+
+abbrev pub growth_reply : Result (Option ℕ) GrowFault → Reply
+growth_reply (Ok size) = Grown size
+growth_reply (Err fault.Memory) = Refused (Alloc alloc.Memory)
+growth_reply (Err (fault.LimiterFault e)) = Refused (Alloc (alloc.LimiterFault e))
+
+-- the memory after a growth by so many pages, where there is no limiter, and the reply
+abbrev pub MemoryGrows : ℕ → MemoryState → MemoryState → Reply → Type 0
+MemoryGrows pages old new reply = (answer : Result (Option ℕ) GrowFault) × IsGrowth pages old.linear.size old new unlimited unlimited answer × (reply ≡ growth_reply answer)
+
+-- a lease whose memory moved, which can still be used
+pub record LeaseMoves (Moves : MemoryState → MemoryState → Reply → Type 0) (l new : Lease) (reply : Reply) : Type 0 where
+  pub index : new.index ≡ l.index
+  pub memory : IsMemory new.memory
+  pub move : Moves l.memory new.memory reply
 
 -- the replies so far, with one more if there is one
 abbrev pub with_reply : Option Reply → List Reply → List Reply
@@ -92,32 +119,26 @@ module _ {P : Type 0} where
   Returns None of c p t = t ≡ replies (Refused NoSuchGrant) c p
   Returns (Some grant) of c p t = Steps c (record p { live = slice_set p.live of None; frame = begun_call (call.GiveBack grant) p.frame }) t
 
-  -- a read of memory k of a grant, which is refused where the grant hasn't so many
-  abbrev pub ReadsLease : Option Lease → ℕ → ℕ → PoolCore P → RunningParty P → Turned P → Type 0
-  ReadsLease None at len c p t = t ≡ replies (Refused NoSuchGrant) c p
-  ReadsLease (Some l) at len c p t = (reply : Reply) × IsRead (private_memory l) at len reply × (t ≡ replies reply c p)
+  -- a command that looks at memory k of a grant, which is refused where the grant hasn't so many
+  abbrev pub LooksAtLease : (PrivateMemory → Reply → Type 0) → Option Lease → PoolCore P → RunningParty P → Turned P → Type 0
+  LooksAtLease Looks None c p t = t ≡ replies (Refused NoSuchGrant) c p
+  LooksAtLease Looks (Some l) c p t = (reply : Reply) × Looks (private_memory l) reply × (t ≡ replies reply c p)
 
-  abbrev pub Reads : Option (Grant P) → ℕ → ℕ → ℕ → PoolCore P → RunningParty P → Turned P → Type 0
-  Reads None k at len c p t = t ≡ replies (Refused NoSuchGrant) c p
-  Reads (Some grant) k at len c p t = ReadsLease (slice_get (leases_of grant) k) at len c p t
+  abbrev pub LooksAt : (PrivateMemory → Reply → Type 0) → Option (Grant P) → ℕ → PoolCore P → RunningParty P → Turned P → Type 0
+  LooksAt Looks None k c p t = t ≡ replies (Refused NoSuchGrant) c p
+  LooksAt Looks (Some grant) k c p t = LooksAtLease Looks (slice_get (leases_of grant) k) c p t
 
-  -- a write to it
-  abbrev pub grant_written : ℕ → Lease → Grant P → Grant P
-  grant_written k l (instance lease) = instance (record lease { memories = record lease.memories { items = slice_set lease.memories.items k l } })
+  -- one that moves it
+  abbrev pub with_lease : ℕ → Lease → Grant P → Grant P
+  with_lease k l (instance lease) = instance (record lease { memories = record lease.memories { items = slice_set lease.memories.items k l } })
 
-  abbrev pub writes : ℕ → Grant P → ℕ → Lease → ℕ → List ℕ → PoolCore P → RunningParty P → Turned P
-  writes of grant k l at bytes c p =
-      if nat_le (at + length bytes) l.memory.linear.size
-      then replies Done c (record p { live = slice_set p.live of (Some (grant_written k (lease_written at bytes l) grant)) })
-      else replies (Trap MemoryOutOfBounds) c p
+  abbrev pub MovesLease : (MemoryState → MemoryState → Reply → Type 0) → Option Lease → ℕ → Grant P → ℕ → PoolCore P → RunningParty P → Turned P → Type 0
+  MovesLease Moves None of grant k c p t = t ≡ replies (Refused NoSuchGrant) c p
+  MovesLease Moves (Some l) of grant k c p t = (new : Lease) × (reply : Reply) × LeaseMoves Moves l new reply × (t ≡ replies reply c (record p { live = slice_set p.live of (Some (with_lease k new grant)) }))
 
-  abbrev pub WritesLease : Option Lease → ℕ → Grant P → ℕ → ℕ → List ℕ → PoolCore P → RunningParty P → Turned P → Type 0
-  WritesLease None of grant k at bytes c p t = t ≡ replies (Refused NoSuchGrant) c p
-  WritesLease (Some l) of grant k at bytes c p t = t ≡ writes of grant k l at bytes c p
-
-  abbrev pub Writes : Option (Grant P) → ℕ → ℕ → ℕ → List ℕ → PoolCore P → RunningParty P → Turned P → Type 0
-  Writes None of k at bytes c p t = t ≡ replies (Refused NoSuchGrant) c p
-  Writes (Some grant) of k at bytes c p t = WritesLease (slice_get (leases_of grant) k) of grant k at bytes c p t
+  abbrev pub MovesIn : (MemoryState → MemoryState → Reply → Type 0) → Option (Grant P) → ℕ → ℕ → PoolCore P → RunningParty P → Turned P → Type 0
+  MovesIn Moves None of k c p t = t ≡ replies (Refused NoSuchGrant) c p
+  MovesIn Moves (Some grant) of k c p t = MovesLease Moves (slice_get (leases_of grant) k) of grant k c p t
 
   -- a request for an instance: the module and its images are shared, and the reply's lists reserved, or the command ends
   -- at once for want of memory
@@ -130,8 +151,11 @@ module _ {P : Type 0} where
   -- the first step of a command, where these are the calls for the modules by number
   abbrev pub Begins : List ModuleCall → Command → PoolCore P → RunningParty P → Turned P → Type 0
   Begins modules (Instantiate number) c p t = Asks (slice_get modules number) c p t
-  Begins modules (Read of memory at len) c p t = Reads (slice_index_or p.live of None) memory at len c p t
-  Begins modules (Write of memory at bytes) c p t = Writes (slice_index_or p.live of None) of memory at bytes c p t
+  Begins modules (Read of memory at len) c p t = LooksAt (λ m. IsRead m at len) (slice_index_or p.live of None) memory c p t
+  Begins modules (Write of memory at bytes) c p t = MovesIn (MemoryWrites at bytes) (slice_index_or p.live of None) of memory c p t
+  Begins modules (Fill of memory at len byte) c p t = MovesIn (MemoryWrites at (replicate len byte)) (slice_index_or p.live of None) of memory c p t
+  Begins modules (Grow of memory pages) c p t = MovesIn (MemoryGrows pages) (slice_index_or p.live of None) of memory c p t
+  Begins modules (ask_size of memory) c p t = LooksAt IsSize (slice_index_or p.live of None) memory c p t
   Begins modules (Drop of) c p t = Returns (slice_index_or p.live of None) of c p t
 
   -- the first step of the next command, if there is one

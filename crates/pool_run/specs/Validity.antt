@@ -6,7 +6,7 @@ use Rattle.pool_pages.specs.declared.module_types.ImageDecl.{ImageDecl}
 use Rattle.pool_pages.specs.declared.module_types.MemoryDecl.{MemoryDecl}
 use Rattle.pool_pages.specs.declared.module_types.ModuleInfo.{ModuleInfo}
 use Rattle.pool_run.specs.declared.command.Command.{Command}
-use Rattle.pool_run.specs.declared.command.Command.TheVariants.{Instantiate, Read, Write, Drop}
+use Rattle.pool_run.specs.declared.command.Command.TheVariants.{Instantiate, Read, Write, Fill, Grow, Size, Drop}
 use Rattle.pool_run.specs.declared.input.Input.{Input}
 use Rattle.pool_run.specs.declared.input.Party.{Party}
 use Rattle.pool_run.specs.declared.input.ScheduleEntry.{ScheduleEntry}
@@ -51,6 +51,9 @@ memories_asked modules None = None
 memories_asked modules (Some (Instantiate number)) = memories_of (slice_get modules number)
 memories_asked modules (Some (Read of memory at len)) = None
 memories_asked modules (Some (Write of memory at hex)) = None
+memories_asked modules (Some (Fill of memory at len byte)) = None
+memories_asked modules (Some (Grow of memory pages)) = None
+memories_asked modules (Some (Size of memory)) = None
 memories_asked modules (Some (Drop of)) = None
 
 -- there is one with this number
@@ -68,6 +71,9 @@ asks_for_grant None = false
 asks_for_grant (Some (Instantiate number)) = true
 asks_for_grant (Some (Read of memory at len)) = false
 asks_for_grant (Some (Write of memory at hex)) = false
+asks_for_grant (Some (Fill of memory at len byte)) = false
+asks_for_grant (Some (Grow of memory pages)) = false
+asks_for_grant (Some (Size of memory)) = false
 asks_for_grant (Some (Drop of)) = false
 
 -- the command can stand after the earlier ones of its party
@@ -75,6 +81,9 @@ abbrev pub is_valid_after : List ModuleInfo → List Command → Command → Boo
 is_valid_after modules earlier (Instantiate number) = nat_lt number (length modules)
 is_valid_after modules earlier (Read of memory at len) = nat_le len most_bytes && names_memory modules earlier of memory
 is_valid_after modules earlier (Write of memory at hex) = nat_le (length hex) most_bytes && names_memory modules earlier of memory
+is_valid_after modules earlier (Fill of memory at len byte) = names_memory modules earlier of memory
+is_valid_after modules earlier (Grow of memory pages) = names_memory modules earlier of memory
+is_valid_after modules earlier (Size of memory) = names_memory modules earlier of memory
 is_valid_after modules earlier (Drop of) = asks_for_grant (slice_get earlier of)
 
 -- so can each of the commands, after the earlier ones and those before it

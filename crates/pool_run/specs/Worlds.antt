@@ -15,7 +15,7 @@ use Rattle.pool_alloc.specs.declared.frame.ModuleCall.{ModuleCall}
 use Rattle.pool_run.specs.Private.{World, memories_of, image_at}
 use Rattle.pool_run.specs.Ties.{IsAskedFor}
 use Rattle.pool_run.specs.declared.command.Command.{Command}
-use Rattle.pool_run.specs.declared.command.Command.TheVariants.{Instantiate, Read, Write, Drop}
+use Rattle.pool_run.specs.declared.command.Command.TheVariants.{Instantiate, Read, Write, Fill, Grow, Size, Drop}
 
 -- A memory of the module of this number, which is memory k of it, is made in each slot that is ready for it, where no
 -- limiter refuses it.
@@ -23,8 +23,10 @@ abbrev pub IsMadeReady : World → Settings → ℕ → ℕ → MemoryDecl → T
 IsMadeReady w s number k decl =
     (slot : ℕ) (held : Slot) → IsSlotOf w.maker s.max_memory_size slot held → HasBegun (image_at w number k decl) held decl → IsOk (memory_made s (memories_of w number) k (Ok true) held)
 
--- the pool breaks no rule of the modules, and has one stripe, and as many slots and instances as the world says
+-- the pool breaks no rule of the modules, and has one stripe, and the settings and as many slots and instances as the
+-- world says
 pub record IsWorldOf {P : Type 0} (w : World) (c : PoolCore P) : Type 0 where
+  pub settings : w.settings ≡ c.settings
   pub total : w.total ≡ length c.cells
   pub most_instances : w.most_instances ≡ c.settings.max_core_instances
   pub stripes : c.settings.stripes ≡ 1
@@ -54,6 +56,9 @@ abbrev pub NamesModule : ℕ → Command → Type 0
 NamesModule count (Instantiate number) = number < count
 NamesModule count (Read of memory at len) = Unit {0}
 NamesModule count (Write of memory at bytes) = Unit {0}
+NamesModule count (Fill of memory at len byte) = Unit {0}
+NamesModule count (Grow of memory pages) = Unit {0}
+NamesModule count (Size of memory) = Unit {0}
 NamesModule count (Drop of) = Unit {0}
 
 abbrev pub NameModules : ℕ → List Command → Type 0

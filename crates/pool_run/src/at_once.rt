@@ -1,13 +1,14 @@
-ghost use Rattle.std.specs.Prelude.{◌≡◌, ◌+◌, ◌^◌, ◌<◌, slice_get, slice_index_or, length, vec_len, None, Some, IfOk};
-ghost use Rattle.pool_alloc.specs.Leases.{IsMemory};
-ghost use Rattle.pool_run.specs.AtOnce.{AnswersMemory, AnswersGrant, CanBeUsed, GrantCanBeUsed, grant_outcome, live_outcome};
-ghost use Rattle.pool_run.specs.Private.{IsRead};
-ghost use Rattle.pool_run.specs.Turns.{private_memory, leases_of};
+ghost use Rattle.std.specs.Prelude.{◌≡◌, ◌<◌, length, slice_get, slice_index_or, vec_len, None, Some, IfOk};
+ghost use Rattle.pool_alloc.specs.Leases.{IsChanged};
 ghost use Rattle.pool_alloc.specs.declared.frame.Grant.TheVariants.{Instance as instance};
+ghost use Rattle.pool_run.specs.AtOnce.{AnswersMemory, AnswersGrant, GrantMoved, LeaseMoved, LiveMoved, moved_by};
+ghost use Rattle.pool_run.specs.Private.{IsRead, IsSize};
+ghost use Rattle.pool_run.specs.Turns.{LeaseMoves, private_memory, growth_reply, write_reply};
 
 use crate::leases::Leases;
 use crate::reply::{Refusal, Reply};
-use pool_alloc::{Grant, InstanceLease, MemoryLease};
+use pool_alloc::{Grant, InstanceLease, MemoryLease, ReservedList};
+use pool_limits::{GrowFault, Trap, Unlimited};
 use pool_pages::{ByteList, Pages};
 use pool_slots::AllocError as Cause;
 use std::alloc::{AllocError, Global};
@@ -21,7 +22,7 @@ pub(crate) fn read<P: Pages>(
     at: u64,
     len: usize,
 ) -> Reply
-    ensures { AnswersGrant (slice_index_or live.now of None) memory at len result }
+    ensures { AnswersGrant (λ m. IsRead m at len) (slice_index_or live.now of None) memory result }
 {
     match live.get(of) {
         None => Reply::Refused(Refusal::NoSuchGrant),
@@ -36,7 +37,7 @@ fn read_instance<P: Pages>(
     at: u64,
     len: usize,
 ) -> Reply
-    ensures { AnswersMemory (slice_get lease.now.memories.items memory) at len result }
+    ensures { AnswersMemory (λ m. IsRead m at len) (slice_get lease.now.memories.items memory) result }
 {
     if memory < lease.memories.len() {
         read_memory(alloc, lease.memories.get(memory), at, len)
@@ -64,65 +65,114 @@ fn zeros(alloc: Global, len: usize) -> Result<Vec<u8>, AllocError>
     vec![in alloc; 0; len]
 }
 
-/// Writes bytes of memory `memory` of the grant of command `of`.
-pub(crate) fn write<P: Pages>(
-    live: &mut Leases<P>,
-    of: usize,
-    memory: usize,
-    at: u64,
-    bytes: &[u8],
-) -> Reply
-    ensures outcome { (live.new, result) ≡ live_outcome (slice_index_or live.old of None) of memory at bytes.now live.old }
-    ensures usable { GrantCanBeUsed (slice_index_or live.old of None) memory at bytes.now result }
+/// The size of memory `memory` of the grant of command `of`.
+pub(crate) fn size<P: Pages>(live: &Leases<P>, of: usize, memory: usize) -> Reply
+    ensures { AnswersGrant IsSize (slice_index_or live.now of None) memory result }
 {
-    match live.take(of) {
+    match live.get(of) {
         None => Reply::Refused(Refusal::NoSuchGrant),
-        Some(grant) => write_taken(live, of, grant, memory, at, bytes),
+        Some(Grant::Instance(lease)) => size_in(lease, memory),
     }
 }
 
-// Writes to a grant that was taken out of its place, and puts it back.
-fn write_taken<P: Pages>(
+fn size_in<P: Pages>(lease: &InstanceLease<P>, memory: usize) -> Reply
+    ensures { AnswersMemory IsSize (slice_get lease.now.memories.items memory) result }
+{
+    if memory < lease.memories.len() {
+        Reply::Size(lease.memories.get(memory).memory.byte_size() as u64)
+    } else {
+        Reply::Refused(Refusal::NoSuchGrant)
+    }
+}
+
+/// How a command moves a memory.
+#[derive(Drop)]
+pub(crate) enum Move<'a> {
+    Write { at: u64, bytes: &'a [u8] },
+    Fill { at: u64, len: u64, byte: u8 },
+    Grow { pages: u64 },
+}
+
+/// Moves memory `memory` of the grant of command `of`.
+pub(crate) fn make_move<P: Pages>(
+    live: &mut Leases<P>,
+    of: usize,
+    memory: usize,
+    by: &Move,
+) -> Reply
+    ensures { LiveMoved (moved_by by.now) (slice_index_or live.old of None) of memory live.old live.new result }
+{
+    match live.take(of) {
+        None => Reply::Refused(Refusal::NoSuchGrant),
+        Some(grant) => move_taken(live, of, grant, memory, by),
+    }
+}
+
+// Moves a memory of a grant that was taken out of its place, and puts it back.
+fn move_taken<P: Pages>(
     live: &mut Leases<P>,
     of: usize,
     grant: Grant<P>,
     memory: usize,
-    at: u64,
-    bytes: &[u8],
+    by: &Move,
 ) -> Reply
     requires { of < length live.old }
-    ensures outcome { (live.new, result) ≡ live_outcome (Some grant) of memory at bytes.now live.old }
-    ensures usable { GrantCanBeUsed (Some grant) memory at bytes.now result }
+    ensures { LiveMoved (moved_by by.now) (Some grant) of memory live.old live.new result }
 {
     let mut grant = grant;
-    let reply = write_grant(&mut grant, memory, at, bytes);
+    let reply = move_grant(&mut grant, memory, by);
     live.put(of, grant);
     reply
 }
 
-fn write_grant<P: Pages>(grant: &mut Grant<P>, memory: usize, at: u64, bytes: &[u8]) -> Reply
-    ensures outcome { (grant.new, result) ≡ grant_outcome memory at bytes.now grant.old }
-    ensures usable { CanBeUsed (slice_get (leases_of grant.old) memory) at bytes.now result }
+fn move_grant<P: Pages>(grant: &mut Grant<P>, memory: usize, by: &Move) -> Reply
+    ensures { GrantMoved (moved_by by.now) memory grant.old grant.new result }
 {
     match grant {
-        Grant::Instance(lease) => write_instance(lease, memory, at, bytes),
+        Grant::Instance(lease) => move_instance(lease, memory, by),
     }
 }
 
-fn write_instance<P: Pages>(
-    lease: &mut InstanceLease<P>,
-    memory: usize,
-    at: u64,
-    bytes: &[u8],
-) -> Reply
-    ensures outcome { (instance lease.new, result) ≡ grant_outcome memory at bytes.now (instance lease.old) }
-    ensures usable { CanBeUsed (slice_get lease.old.memories.items memory) at bytes.now result }
+fn move_instance<P: Pages>(lease: &mut InstanceLease<P>, memory: usize, by: &Move) -> Reply
+    ensures { LeaseMoved (moved_by by.now) (slice_get lease.old.memories.items memory) memory (instance lease.old) (instance lease.new) result }
 {
     if memory >= lease.memories.len() {
         return Reply::Refused(Refusal::NoSuchGrant);
     }
-    match lease.memories.write(memory, at, bytes) {
+    move_memory(&mut lease.memories, memory, by)
+}
+
+fn move_memory<P: Pages>(
+    memories: &mut ReservedList<MemoryLease<P>>,
+    memory: usize,
+    by: &Move,
+) -> Reply
+    requires { memory < length memories.old.items }
+    ensures { IsChanged (λ l new. LeaseMoves (moved_by by.now) l new result) memory memories.old memories.new }
+{
+    match by {
+        Move::Write { at, bytes } => write_reply(memories.write(memory, *at, bytes)),
+        Move::Fill { at, len, byte } => write_reply(memories.fill(memory, *at, *len, *byte)),
+        Move::Grow { pages } => growth_reply(memories.grow(memory, *pages, &mut Unlimited)),
+    }
+}
+
+fn write_reply(answer: Result<(), Trap>) -> Reply
+    ensures { result ≡ write_reply answer }
+{
+    match answer {
         Ok(()) => Reply::Done,
         Err(trap) => Reply::Trap(trap),
+    }
+}
+
+fn growth_reply(answer: Result<Option<usize>, GrowFault>) -> Reply
+    ensures { result ≡ growth_reply answer }
+{
+    match answer {
+        Ok(None) => Reply::Grown(None),
+        Ok(Some(size)) => Reply::Grown(Some(size as u64)),
+        Err(GrowFault::Memory) => Reply::Refused(Refusal::Alloc(Cause::Memory)),
+        Err(GrowFault::LimiterFault(e)) => Reply::Refused(Refusal::Alloc(Cause::LimiterFault(e))),
     }
 }

@@ -22,6 +22,25 @@ pub enum Command {
         at: u64,
         hex: ByteList,
     },
+    /// Sets `len` bytes from `at` on to `byte`.
+    Fill {
+        of: usize,
+        memory: usize,
+        at: u64,
+        len: u64,
+        byte: u8,
+    },
+    /// Grows the memory by so many of its own pages.
+    Grow {
+        of: usize,
+        memory: usize,
+        pages: u64,
+    },
+    /// Asks for the memory's size in bytes.
+    Size {
+        of: usize,
+        memory: usize,
+    },
     /// Gives the grant back.
     Drop {
         of: usize,

@@ -25,6 +25,10 @@ pub enum Reply {
     },
     Bytes(ByteList),
     Done,
+    /// In bytes.
+    Size(u64),
+    /// The size before a growth, in bytes, or None where there was none.
+    Grown(Option<u64>),
     Returned,
     Refused(Refusal),
     Trap(Trap),

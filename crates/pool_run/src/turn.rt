@@ -7,7 +7,7 @@ ghost use Rattle.pool_run.specs.Ties.{CanTurn, IsSoundTurn};
 ghost use Rattle.pool_run.specs.Turns.{IsShareOf, granted_reply, answered, Steps, Returns, Asks, Begins, BeginsKeyed, Turns};
 ghost use Rattle.pool_run.specs.Worlds.{IsFit, AreFit, NamesModule, NameModules};
 
-use crate::at_once::{read, write};
+use crate::at_once::{Move, make_move, read, size};
 use crate::command::Command;
 use crate::reply::{Refusal, Reply, SlotList};
 use crate::running_party::RunningParty;
@@ -206,7 +206,39 @@ fn begin<P: Pages>(
             at,
             hex,
         } => {
-            let reply = write(&mut party.live, *of, *memory, *at, hex.as_slice());
+            let bytes = hex.as_slice();
+            let reply = make_move(
+                &mut party.live,
+                *of,
+                *memory,
+                &Move::Write { at: *at, bytes },
+            );
+            party.done += 1;
+            Ok(Some(reply))
+        }
+        Command::Fill {
+            of,
+            memory,
+            at,
+            len,
+            byte,
+        } => {
+            let by = Move::Fill {
+                at: *at,
+                len: *len,
+                byte: *byte,
+            };
+            let reply = make_move(&mut party.live, *of, *memory, &by);
+            party.done += 1;
+            Ok(Some(reply))
+        }
+        Command::Grow { of, memory, pages } => {
+            let reply = make_move(&mut party.live, *of, *memory, &Move::Grow { pages: *pages });
+            party.done += 1;
+            Ok(Some(reply))
+        }
+        Command::Size { of, memory } => {
+            let reply = size(&party.live, *of, *memory);
             party.done += 1;
             Ok(Some(reply))
         }

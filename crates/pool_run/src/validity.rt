@@ -63,6 +63,9 @@ fn is_valid_after(modules: &[ModuleInfo], earlier: &[Command], command: &Command
             hex,
             ..
         } => { hex.len() <= MOST_BYTES && names_memory(modules, earlier, *of, *memory) }
+        Command::Fill { of, memory, .. }
+        | Command::Grow { of, memory, .. }
+        | Command::Size { of, memory } => names_memory(modules, earlier, *of, *memory),
         Command::Drop { of } => asks_for_grant(earlier, *of),
     }
 }

@@ -1,20 +1,39 @@
-use Rattle.std.proofs.Common.{ℕ, List, sym, subst}
+use Rattle.std.proofs.Common.{ℕ, List, replicate, sym, subst}
 use Rattle.pool_alloc.specs.declared.pool_core.PoolCore.{PoolCore}
 use Rattle.pool_run.specs.AtOnce.{Makes}
-use Rattle.pool_run.specs.Turns.{Begins}
+use Rattle.pool_run.specs.Private.{IsRead, IsSize}
+use Rattle.pool_run.specs.Turns.{Begins, MemoryWrites, MemoryGrows}
 use Rattle.pool_run.specs.declared.command.Command.{Command}
 use Rattle.pool_run.specs.declared.command.Command.TheVariants.{Write}
 use Rattle.pool_run.specs.declared.running_party.RunningParty.{RunningParty}
-use Rattle.pool_run.proofs.TurnsMade.{write_made, after_write}
+use Rattle.pool_run.proofs.Moves.{writes_stay, grows_stay}
+use Rattle.pool_run.proofs.TurnsMade.{look_made, move_made, after_move}
 use Rattle.pool_run.proofs.turn.begin.Goals as goal
+
+pub returns-in-Fill : goal.returns-in-Fill
+returns-in-Fill g c =
+    let P : Type 0 = g.row.P.Denot in
+    let core : PoolCore P = c.args.core.now in
+    let p : RunningParty P = c.args.party.now in
+    let M : Command → Type 0 = λ command. Makes g.maker (Begins c.args.modules.now command core p) core (after_move core p c.make_move-reply-in-Fill.new.live c.make_move-reply-in-Fill.result) in
+    subst M (sym c.in-Fill.is) (move_made g.maker (MemoryWrites c.in-Fill.at (replicate c.in-Fill.len c.in-Fill.byte)) c.in-Fill.of c.in-Fill.memory core p c.make_move-reply-in-Fill.new.live c.make_move-reply-in-Fill.result (writes_stay g.maker core.settings c.in-Fill.at (replicate c.in-Fill.len c.in-Fill.byte)) c.requires.1.0 c.make_move-reply-in-Fill.ensures)
+
+pub returns-in-Grow : goal.returns-in-Grow
+returns-in-Grow g c =
+    let P : Type 0 = g.row.P.Denot in
+    let core : PoolCore P = c.args.core.now in
+    let p : RunningParty P = c.args.party.now in
+    let M : Command → Type 0 = λ command. Makes g.maker (Begins c.args.modules.now command core p) core (after_move core p c.make_move-reply-in-Grow.new.live c.make_move-reply-in-Grow.result) in
+    subst M (sym c.in-Grow.is) (move_made g.maker (MemoryGrows c.in-Grow.pages) c.in-Grow.of c.in-Grow.memory core p c.make_move-reply-in-Grow.new.live c.make_move-reply-in-Grow.result (grows_stay g.maker core.settings c.in-Grow.pages) c.requires.1.0 c.make_move-reply-in-Grow.ensures)
 
 pub returns-in-Write : goal.returns-in-Write
 returns-in-Write g c =
     let P : Type 0 = g.row.P.Denot in
     let core : PoolCore P = c.args.core.now in
     let p : RunningParty P = c.args.party.now in
-    let M : Command → Type 0 = λ command. Makes g.maker (Begins c.args.modules.now command core p) core (after_write core p c.write-reply.new.live c.write-reply.result) in
+    let M : Command → Type 0 = λ command. Makes g.maker (Begins c.args.modules.now command core p) core (after_move core p c.make_move-reply.new.live c.make_move-reply.result) in
     let B : List ℕ → Type 0 = λ bytes. M (Write c.in-Write.of c.in-Write.memory c.in-Write.at bytes) in
+    let bytes : List ℕ = c.as_slice-bytes.result.now in
     subst M (sym c.in-Write.is)
-    (subst B c.as_slice.ensures
-    (write_made g.maker c.in-Write.of c.in-Write.memory c.in-Write.at c.as_slice.result.now core p c.write-reply.new.live c.write-reply.result c.requires.1.0 c.write-reply.ensures.outcome c.write-reply.ensures.usable))
+    (subst B c.as_slice-bytes.ensures
+    (move_made g.maker (MemoryWrites c.in-Write.at bytes) c.in-Write.of c.in-Write.memory core p c.make_move-reply.new.live c.make_move-reply.result (writes_stay g.maker core.settings c.in-Write.at bytes) c.requires.1.0 c.make_move-reply.ensures))

@@ -1,0 +1,37 @@
+-- What a change of a lease is as a move of its memory.
+use Rattle.std.proofs.Common.{◌≡◌, ℕ, ◌+◌, Bool, true, false, List, length, Option, Result, Ok, Err, refl, ap, ◌∙◌, subst}
+use Rattle.std.specs.Prelude.{nat_le, slice_index_or, if◌then◌else◌, OnOk, OnErr}
+use Rattle.pool_limits.specs.LimiterTold.{unlimited}
+use Rattle.pool_limits.specs.declared.errors.GrowFault.{GrowFault}
+use Rattle.pool_limits.specs.declared.errors.Trap.{Trap}
+use Rattle.pool_limits.specs.declared.errors.Trap.TheVariants.{MemoryOutOfBounds}
+use Rattle.pool_memory.specs.Memories.{MemoryState, memory_written}
+use Rattle.pool_alloc.specs.Leases.{Lease, IsWritten, IsGrown, IsChanged}
+use Rattle.pool_alloc.specs.Reserved.{Reserved}
+use Rattle.pool_run.specs.Turns.{MemoryWrites, MemoryGrows, LeaseMoves, write_reply, growth_reply}
+use Rattle.pool_run.specs.declared.reply.Reply.{Reply}
+use Rattle.pool_run.specs.declared.reply.Reply.TheVariants.{Done, Trap as trapped}
+
+pub changed_as : (A B : Lease → Lease → Type 0) (place : ℕ) (old new : Reserved Lease) → ((l n : Lease) → A l n → B l n) → IsChanged A place old new → IsChanged B place old new
+changed_as A B place old new step is = record { lease = is.lease; change = λ d. step (slice_index_or old.items place d) is.lease (is.change d); is = is.is }
+
+-- what a write leaves, with its reply
+abbrev written_as : ℕ → List ℕ → MemoryState → Bool → MemoryState × Reply
+written_as i bytes m b = if b then (memory_written i bytes m, Done) else (m, trapped MemoryOutOfBounds)
+
+abbrev answered_as : Bool → Result (Unit {0}) Trap
+answered_as b = if b then Ok tt else Err MemoryOutOfBounds
+
+written_by : (i : ℕ) (bytes : List ℕ) (l n : Lease) (result : Result (Unit {0}) Trap) (b : Bool) → result ≡ answered_as b → IsWritten i bytes l n result → ◌≡◌ {A = MemoryState × Reply} (n.memory, write_reply result) (written_as i bytes l.memory b)
+written_by i bytes l n result true answer is =
+    let On : Result (Unit {0}) Trap → Type 0 = λ r. OnOk r (n.memory ≡ memory_written i bytes l.memory) in
+    ap (λ (r : Result (Unit {0}) Trap). (n.memory, write_reply r)) answer ∙ ap (λ (m : MemoryState). (m, Done)) (subst On answer is.written)
+written_by i bytes l n result false answer is =
+    let On : Result (Unit {0}) Trap → Type 0 = λ r. OnErr r (n.memory ≡ l.memory) in
+    ap (λ (r : Result (Unit {0}) Trap). (n.memory, write_reply r)) answer ∙ ap (λ (m : MemoryState). (m, trapped MemoryOutOfBounds)) (subst On answer is.same)
+
+pub write_moves : (i : ℕ) (bytes : List ℕ) (l n : Lease) (result : Result (Unit {0}) Trap) → IsWritten i bytes l n result → LeaseMoves (MemoryWrites i bytes) l n (write_reply result)
+write_moves i bytes l n result is = record { index = is.index; memory = is.memory; move = written_by i bytes l n result (nat_le (i + length bytes) l.memory.linear.size) is.answer is }
+
+pub growth_moves : (pages : ℕ) (l n : Lease) (answer : Result (Option ℕ) GrowFault) → IsGrown pages l n unlimited unlimited answer → LeaseMoves (MemoryGrows pages) l n (growth_reply answer)
+growth_moves pages l n answer is = record { index = is.index; memory = is.memory; move = (answer, is.growth, refl) }

@@ -1,0 +1,265 @@
+-- What a move makes of a memory is what it makes of the private one, and the memory stays in its slot.
+use Rattle.std.proofs.Common.{◌≡◌, ℕ, ◌+◌, ◌-◌, ◌<◌, ◌≤◌, Bool, true, false, List, length, ◌++◌, replicate, Option, Some, None, Result, Ok, Err, ◌⊎◌, inl, inr, refl, sym, ap, ◌∙◌, subst}
+use Rattle.std.specs.Prelude.{◌==◌, ◌||◌, ◌&&◌, not, nat_le, nat_lt, if◌then◌else◌, IfSome, is_some, option_map, slice_get, slice_set}
+use Rattle.std.proofs.lemmas.Bool.{leb-true, leb-false, ltb-false}
+use Rattle.pool_pages.specs.Contents.{Contents, written}
+use Rattle.pool_pages.specs.Count.{Count, rounded_up}
+use Rattle.pool_pages.specs.MakerTold.{MakerTold, plan_for}
+use Rattle.pool_pages.specs.MemoryTypes.{allow_growth_to}
+use Rattle.pool_pages.specs.Told.{Told, PageCall, MayChangePartly}
+use Rattle.pool_pages.specs.declared.pages.RegionName.TheVariants.{Memory as memory_region}
+use Rattle.pool_images.specs.Slots.{Slot, called, raising, raised, limited}
+use Rattle.pool_limits.specs.Growth.{GrowthRule, always, limited_by, memory_answer, memory_failure}
+use Rattle.pool_limits.specs.LimiterTold.{LimiterTold, unlimited}
+use Rattle.pool_limits.specs.declared.errors.GrowError.{GrowError}
+use Rattle.pool_limits.specs.declared.errors.GrowError.TheVariants as failed
+use Rattle.pool_limits.specs.declared.errors.GrowFault.{GrowFault}
+use Rattle.pool_limits.specs.declared.errors.LimiterError.{LimiterError}
+use Rattle.pool_limits.specs.declared.errors.Trap.TheVariants.{MemoryOutOfBounds}
+use Rattle.pool_memory.specs.Growing.{InPlace, FailsInPlace, grown_size, exceeds, past_room, Given, IsGrowth, is_memory, report_reply, reply_by, pages_reply, answer_reply, PagesLeave, AnswerLeaves, LeavesBy}
+use Rattle.pool_memory.specs.Linear.{Storage, in_slot, stored, slot_in, no_slot, storage_written, Linear, linear_bytes}
+use Rattle.pool_memory.specs.Making.{maximum_asked}
+use Rattle.pool_memory.specs.Memories.{MemoryState, slot_of, memory_written as state_written}
+use Rattle.pool_slots.specs.Cells.{IsSlotOf}
+use Rattle.pool_alloc.specs.Leases.{Lease}
+use Rattle.pool_alloc.specs.Sound.{IsLeaseOf}
+use Rattle.pool_alloc.specs.declared.pool_core.PoolCore.{PoolCore}
+use Rattle.pool_alloc.specs.declared.pool_core.Settings.{Settings}
+use Rattle.pool_alloc.specs.declared.frame.Grant.{Grant}
+use Rattle.pool_alloc.specs.declared.frame.Grant.TheVariants.{Instance as instance}
+use Rattle.pool_alloc.specs.declared.lease.InstanceLease.{InstanceLease}
+use Rattle.pool_alloc.proofs.SlotIdentity.{IsOneSlot, one_slot, one_called, slot_of_one}
+use Rattle.pool_run.specs.Private.{World, PrivateMemory, Writes, Grows, memory_grown, grown_by, reported, if_allowed}
+use Rattle.pool_run.specs.Turns.{Turned, seen_as, private_memory, MemoryWrites, MemoryGrows, LeaseMoves, growth_reply, leases_of, replies, LooksAtLease, LooksAt, with_lease, MovesLease, MovesIn}
+use Rattle.pool_run.specs.declared.reply.Reply.{Reply}
+use Rattle.pool_run.specs.declared.reply.Reply.TheVariants.{Done, Grown, Refused, Trap}
+use Rattle.pool_run.specs.declared.reply.Refusal.TheVariants.{NoSuchGrant}
+use Rattle.pool_run.specs.declared.running_party.RunningParty.{RunningParty}
+use Rattle.pool_run.proofs.Bytes.{written_seen}
+
+-- a move leaves the memory in its slot
+abbrev pub KeepsSlot : MakerTold → Settings → (MemoryState → MemoryState → Reply → Type 0) → Type 0
+KeepsSlot maker s Moves = (l : Lease) (new : MemoryState) (reply : Reply) → IsLeaseOf maker s l → Moves l.memory new reply → IsSlotOf maker s.max_memory_size l.index (slot_of new)
+
+-- and is one of the private memory
+abbrev pub IsSeen : World → Settings → (MemoryState → MemoryState → Reply → Type 0) → (PrivateMemory → PrivateMemory → Reply → Type 0) → Type 0
+IsSeen w s Moves Sees = (l : Lease) (new : MemoryState) (reply : Reply) → IsLeaseOf w.maker s l → Moves l.memory new reply → Sees (private_memory l) (seen_as l.index new) reply
+
+-- A lease that moved stays one of the pool.
+pub lease_still : (maker : MakerTold) (s : Settings) (Moves : MemoryState → MemoryState → Reply → Type 0) (l new : Lease) (reply : Reply) → KeepsSlot maker s Moves → IsLeaseOf maker s l → LeaseMoves Moves l new reply → IsLeaseOf maker s new
+lease_still maker s Moves l new reply keeps of moves =
+    let S : ℕ → Type 0 = λ k. IsSlotOf maker s.max_memory_size k (slot_of new.memory) in
+    record { slot = subst S (sym moves.index) (keeps l new.memory reply of moves.move); memory = moves.memory }
+
+tells_still : (f : Contents → Contents) (o : Option Contents) → is_some (option_map f o) ≡ is_some o
+tells_still f None = refl
+tells_still f (Some c) = refl
+
+-- a write leaves the slot
+written_still : (i : ℕ) (new : List ℕ) (st : Storage) → IsOneSlot (slot_in st) (slot_in (storage_written i new st))
+written_still i new (stored len bytes) = one_slot no_slot
+written_still i new (in_slot s) = record { base = refl; static_size = refl; colour = refl; name = refl; page = refl; len = refl; plan = refl; tells = tells_still (written (s.base.bytes + i) new) s.region.contents }
+
+writes_by : (maker : MakerTold) (room i : ℕ) (bytes : List ℕ) (l : Lease) (new : MemoryState) (reply : Reply) (b : Bool) → IsSlotOf maker room l.index (slot_of l.memory) → nat_le (i + length bytes) l.memory.linear.size ≡ b → ◌≡◌ {A = MemoryState × Reply} (new, reply) (if b then (state_written i bytes l.memory, Done) else (l.memory, Trap MemoryOutOfBounds))
+    → IsSlotOf maker room l.index (slot_of new) × Writes i bytes (private_memory l) (seen_as l.index new) reply
+writes_by maker room i bytes l new reply true of fits is =
+    let W : MemoryState × Reply → Type 0 = λ p. IsSlotOf maker room l.index (slot_of p.0) × Writes i bytes (private_memory l) (seen_as l.index p.0) p.1 in
+    let within : i + length bytes ≤ l.memory.linear.size = leb-true (i + length bytes) l.memory.linear.size fits in
+    subst W (sym is) (
+      slot_of_one maker room l.index (slot_of l.memory) (slot_of (state_written i bytes l.memory)) (written_still i bytes l.memory.linear.storage) of,
+      (within, written_seen i bytes l (ap (λ (n : Count). n.bytes) of.base) within),
+    )
+writes_by maker room i bytes l new reply false of past is =
+    let W : MemoryState × Reply → Type 0 = λ p. IsSlotOf maker room l.index (slot_of p.0) × Writes i bytes (private_memory l) (seen_as l.index p.0) p.1 in
+    subst W (sym is) (of, (refl, leb-false (i + length bytes) l.memory.linear.size past, refl))
+
+pub writes_stay : (maker : MakerTold) (s : Settings) (i : ℕ) (bytes : List ℕ) → KeepsSlot maker s (MemoryWrites i bytes)
+writes_stay maker s i bytes l new reply of is = (writes_by maker s.max_memory_size i bytes l new reply (nat_le (i + length bytes) l.memory.linear.size) of.slot refl is).0
+
+pub writes_seen : (w : World) (s : Settings) (i : ℕ) (bytes : List ℕ) → IsSeen w s (MemoryWrites i bytes) (Writes i bytes)
+writes_seen w s i bytes l new reply of is = (writes_by w.maker s.max_memory_size i bytes l new reply (nat_le (i + length bytes) l.memory.linear.size) of.slot refl is).1
+
+-- a growth in its place
+one_raised : (size : ℕ) (s : Slot) → IsOneSlot s (raised size s)
+one_raised size s =
+    let one : IsOneSlot s (called (raising size s) s) = one_called s s (raising size s) (one_slot s) in
+    record { base = one.base; static_size = one.static_size; colour = one.colour; name = one.name; page = one.page; len = one.len; plan = one.plan; tells = one.tells }
+
+one_limited : (size : ℕ) (s : Slot) (b : Bool) → IsOneSlot s (if b then raised size s else s)
+one_limited size s true = one_raised size s
+one_limited size s false = one_slot s
+
+partly_tells : (call : PageCall) (old new : Option Contents) → MayChangePartly call old new → is_some new ≡ is_some old
+partly_tells call None None is = refl
+partly_tells call None (Some c) is = absurd is
+partly_tells call (Some c) None is = absurd is
+partly_tells call (Some c) (Some d) is = refl
+
+module _ (maker : MakerTold) (room i : ℕ) where
+  in_place : (size : ℕ) (st : Storage) (old new : Linear) → IsSlotOf maker room i (slot_in st) → InPlace size st old new → IsSlotOf maker room i (slot_in new.storage) × (new.capacity ≡ old.capacity)
+  in_place size (stored len bytes) old new of is = absurd cc
+  in_place size (in_slot s) old new of is =
+      let S : Linear → Type 0 = λ l. IsSlotOf maker room i (slot_in l.storage) × (l.capacity ≡ old.capacity) in
+      subst S (sym is) (slot_of_one maker room i s (limited size s) (one_limited (rounded_up s.region.page size) s (nat_lt s.accessible.bytes (rounded_up s.region.page size))) of, refl)
+
+  -- one that fails does so by a call on the slot's region
+  faulted : (e : GrowError) (size : ℕ) (st left : Storage) → IsSlotOf maker room i (slot_in st) → FailsInPlace e size st left → (e ≡ failed.PageFault) × IsSlotOf maker room i (slot_in left) × IfSome (plan_for (memory_region i) maker) (λ plan. 0 < length plan)
+  faulted e size (stored len bytes) left of is = absurd cc
+  faulted e size (in_slot s) (stored len bytes) of is = absurd is
+  faulted e size (in_slot s) (in_slot t) of is =
+      let slot : t ≡ record s { region = t.region } = is.1.same in
+      let region = is.1.region in
+      let Q : Option (List ℕ) → Type 0 = λ o. IfSome o (λ plan. 0 < length plan) in (
+        is.0,
+        slot_of_one maker room i s t (record {
+          base = ap (λ (x : Slot). x.base) slot;
+          static_size = ap (λ (x : Slot). x.static_size) slot;
+          colour = ap (λ (x : Slot). x.colour) slot;
+          name = ap (λ (x : Told). x.name) region.same;
+          page = ap (λ (x : Told). x.page) region.same;
+          len = ap (λ (x : Told). x.len) region.same;
+          plan = ap (λ (x : Told). x.plan) region.same;
+          tells = partly_tells (raising (rounded_up s.region.page size) s) s.region.contents t.region.contents region.partly;
+        }) of,
+        subst Q of.region.plan region.listed,
+      )
+
+reported_seen : (r : Result (Unit {0}) LimiterError) → growth_reply (report_reply false r) ≡ reported r
+reported_seen (Ok u) = refl
+reported_seen (Err e) = refl
+
+-- a growth of this memory leaves this, if a call on pages failed or not
+record IsGrownAs (maker : MakerTold) (room : ℕ) (l : Lease) (new : MemoryState) (reply : Reply) (outcome : Bool → PrivateMemory × Reply) : Type 0 where
+  still : IsSlotOf maker room l.index (slot_of new)
+  fault : Bool
+  may : fault ≡ true → IfSome (plan_for (memory_region l.index) maker) (λ plan. 0 < length plan)
+  is : (seen_as l.index new, reply) ≡ outcome fault
+
+-- the lease of a memory in its slot, which is left with this
+module _ (maker : MakerTold) (room size : ℕ) (l : Lease) (new : Linear) (of : IsSlotOf maker room l.index (slot_of l.memory)) where
+  abbrev left_as : MemoryState
+  left_as = record l.memory { linear = new }
+
+  abbrev failing : Result (Unit {0}) LimiterError → PrivateMemory × Reply
+  failing r = (private_memory l, reported r)
+
+  abbrev growing : PrivateMemory × Reply
+  growing = (memory_grown size (private_memory l), Grown (Some l.memory.linear.size))
+
+  unchanged : (reply : Reply) (outcome : Bool → PrivateMemory × Reply) → (private_memory l, reply) ≡ outcome false → new ≡ l.memory.linear → IsGrownAs maker room l left_as reply outcome
+  unchanged reply outcome same is =
+      let G : Linear → Type 0 = λ x. IsGrownAs maker room l (record l.memory { linear = x }) reply outcome in
+      subst G (sym is) (record { still = of; fault = false; may = λ yes. absurd cc; is = same })
+
+  abbrev with_parts : ℕ → ℕ → Option (List ℕ) → PrivateMemory
+  with_parts n capacity bytes = record { slot = l.index; ty = l.memory.ty; size = n; capacity = capacity; bytes = bytes }
+
+  pages_seen : (failure : Option GrowError) (report : Result (Unit {0}) LimiterError) → size ≤ l.memory.linear.capacity → PagesLeave failure size l.memory.linear new → IsGrownAs maker room l left_as (growth_reply (pages_reply l.memory.linear.size failure report)) (λ fault. if false || fault then failing report else growing)
+  pages_seen None report within grows =
+      let kept = in_place maker room l.index size l.memory.linear.storage l.memory.linear new of (grows.in_place within) in
+      let bytes : linear_bytes new ≡ option_map (λ b. b ++ replicate {A = ℕ} (size - l.memory.linear.size) 0) (linear_bytes l.memory.linear) = sym grows.bytes in
+      let seen : seen_as l.index left_as ≡ memory_grown size (private_memory l) =
+      ap (λ (n : ℕ). with_parts n new.capacity (linear_bytes new)) grows.same_size ∙ ap (λ (n : ℕ). with_parts size n (linear_bytes new)) kept.1 ∙ ap (λ (b : Option (List ℕ)). with_parts size l.memory.linear.capacity b) bytes in
+      record { still = kept.0; fault = false; may = λ yes. absurd cc; is = ap (λ (m : PrivateMemory). (m, Grown (Some l.memory.linear.size))) seen }
+  pages_seen (Some e) report within fails =
+      let fault = faulted maker room l.index e size l.memory.linear.storage new.storage of (fails.in_place within) in
+      let seen : seen_as l.index left_as ≡ private_memory l =
+      ap (λ (n : ℕ). with_parts n new.capacity (linear_bytes new)) fails.same_size ∙ ap (λ (n : ℕ). with_parts l.memory.linear.size n (linear_bytes new)) fails.capacity ∙ ap (λ (b : Option (List ℕ)). with_parts l.memory.linear.size l.memory.linear.capacity b) fails.bytes in
+      let Answer : Bool → Reply = λ b. growth_reply (report_reply b report) in
+      let reply : growth_reply (report_reply (is_memory e) report) ≡ reported report = ap (λ (x : GrowError). Answer (is_memory x)) fault.0 ∙ reported_seen report in
+      record { still = fault.1; fault = true; may = λ yes. fault.2; is = ap (λ (m : PrivateMemory). (m, growth_reply (report_reply (is_memory e) report))) seen ∙ ap (λ (r : Reply). (private_memory l, r)) reply }
+
+  allowed_seen : (past : Bool) (answer : Result Bool LimiterError) (failure : Option GrowError) (report : Result (Unit {0}) LimiterError) → (past ≡ false → size ≤ l.memory.linear.capacity) → AnswerLeaves past answer failure size l.memory.linear new
+      → IsGrownAs maker room l left_as (growth_reply (answer_reply l.memory.linear.size past answer failure report)) (λ fault. if_allowed answer (private_memory l) (if past || fault then failing report else growing))
+  allowed_seen past (Err e) failure report within same = unchanged _ (λ fault. if_allowed (Err e) (private_memory l) (if past || fault then failing report else growing)) refl same
+  allowed_seen past (Ok false) failure report within same = unchanged _ (λ fault. if_allowed (Ok false) (private_memory l) (if past || fault then failing report else growing)) refl same
+  allowed_seen true (Ok true) failure report within same = unchanged _ (λ fault. failing report) (ap (λ (r : Reply). (private_memory l, r)) (reported_seen report)) same
+  allowed_seen false (Ok true) failure report within leaves = pages_seen failure report (within refl) leaves
+
+  growth_seen : (nothing past_type past : Bool) (g : Given) → (past ≡ false → size ≤ l.memory.linear.capacity) → LeavesBy nothing past_type past g size l.memory.linear new
+      → IsGrownAs maker room l left_as (growth_reply (reply_by l.memory.linear.size nothing past_type past g))
+      (λ fault. if nothing then (private_memory l, Grown (Some l.memory.linear.size)) else (if past_type then failing g.report else if_allowed g.answer (private_memory l) (if past || fault then failing g.report else growing)))
+  growth_seen true past_type past g within same = unchanged _ (λ fault. (private_memory l, Grown (Some l.memory.linear.size))) refl same
+  growth_seen false true past g within same = unchanged _ (λ fault. failing g.report) (ap (λ (r : Reply). (private_memory l, r)) (reported_seen g.report)) same
+  growth_seen false false past g within leaves = allowed_seen past g.answer g.failure g.report within leaves
+
+-- what a limiter answers that tells its rule
+answer_told : (rule : GrowthRule) (o : Option GrowthRule) (given : Result Bool LimiterError) (n : ℕ) (most : Option ℕ) → o ≡ Some rule → given ≡ memory_answer o given n most → given ≡ memory_answer (Some rule) (Ok true) n most
+answer_told always o given n most told is = let M : Option GrowthRule → Type 0 = λ r. given ≡ memory_answer r given n most in subst M told is
+answer_told (limited_by l) o given n most told is = let M : Option GrowthRule → Type 0 = λ r. given ≡ memory_answer r given n most in subst M told is
+
+failure_told : (rule : GrowthRule) (o : Option GrowthRule) (given : Result (Unit {0}) LimiterError) → o ≡ Some rule → given ≡ memory_failure o given → given ≡ memory_failure (Some rule) (Ok tt)
+failure_told always o given told is = let M : Option GrowthRule → Type 0 = λ r. given ≡ memory_failure r given in subst M told is
+failure_told (limited_by l) o given told is = let M : Option GrowthRule → Type 0 = λ r. given ≡ memory_failure r given in subst M told is
+
+right_of : (a b : Bool) → (a || b) ≡ false → b ≡ false
+right_of true b is = absurd cc
+right_of false b is = is
+
+-- A growth over a limiter that tells this rule.
+grown_as : (maker : MakerTold) (room pages : ℕ) (rule : GrowthRule) (l : Lease) (new : MemoryState) (asked left : LimiterTold) (answer : Result (Option ℕ) GrowFault) → IsSlotOf maker room l.index (slot_of l.memory) → l.memory.may_move ≡ false → asked.rule ≡ Some rule → IsGrowth pages l.memory.linear.size l.memory new asked left answer
+    → IsGrownAs maker room l new (growth_reply answer) (λ fault. grown_by rule fault pages (private_memory l))
+grown_as maker room pages rule l new asked left answer of fixed told growth =
+    let m : MemoryState = l.memory in
+    let size : ℕ = grown_size pages m in
+    let most : Option ℕ = maximum_asked m.ty in
+    let past : Bool = exceeds most size || nat_lt m.linear.capacity size in
+    let g : Given = growth.given in
+    let nothing : Bool = pages == 0 in
+    let past_type : Bool = not (allow_growth_to m.ty size) in
+    let here : past_room size m ≡ past = ap (λ (b : Bool). exceeds most size || (not b && nat_lt m.linear.capacity size)) fixed in
+    let Leaves : Bool → Type 0 = λ b. LeavesBy nothing past_type b g size m.linear new.linear in
+    let within : past ≡ false → size ≤ m.linear.capacity = λ no. ltb-false m.linear.capacity size (right_of (exceeds most size) (nat_lt m.linear.capacity size) no) in
+    let seen = growth_seen maker room size l new.linear of nothing past_type past g within (subst Leaves here growth.linear) in
+    let replies : answer ≡ reply_by m.linear.size nothing past_type past g = growth.replies ∙ ap (λ (b : Bool). reply_by m.linear.size nothing past_type b g) here in
+    let Outcome : Result Bool LimiterError → Result (Unit {0}) LimiterError → Bool → PrivateMemory × Reply =
+    λ a r fault. if nothing then (private_memory l, Grown (Some m.linear.size)) else (if past_type then (private_memory l, reported r) else if_allowed a (private_memory l) (if past || fault then (private_memory l, reported r) else (memory_grown size (private_memory l), Grown (Some m.linear.size)))) in
+    let told_answer : g.answer ≡ memory_answer (Some rule) (Ok true) size most = answer_told rule asked.rule g.answer size most told growth.answer in
+    let told_report : g.report ≡ memory_failure (Some rule) (Ok tt) = failure_told rule asked.rule g.report told growth.report in
+    let G : MemoryState → Type 0 = λ x. IsGrownAs maker room l x (growth_reply answer) (λ fault. grown_by rule fault pages (private_memory l)) in
+    let R : Result (Option ℕ) GrowFault → Type 0 = λ r. IsGrownAs maker room l (record m { linear = new.linear }) (growth_reply r) (λ fault. grown_by rule fault pages (private_memory l)) in
+    subst G (sym growth.memory) (subst R (sym replies) (record {
+      still = seen.still;
+      fault = seen.fault;
+      may = seen.may;
+      is = seen.is ∙ ap (λ (a : Result Bool LimiterError). Outcome a g.report seen.fault) told_answer ∙ ap (λ (r : Result (Unit {0}) LimiterError). Outcome (memory_answer (Some rule) (Ok true) size most) r seen.fault) told_report;
+    }))
+
+pub grows_stay : (maker : MakerTold) (s : Settings) (pages : ℕ) → KeepsSlot maker s (MemoryGrows pages)
+grows_stay maker s pages l new reply of is = (grown_as maker s.max_memory_size pages always l new unlimited unlimited is.0 of.slot of.memory.fixed refl is.1).still
+
+pub grows_seen : (w : World) (s : Settings) (pages : ℕ) → IsSeen w s (MemoryGrows pages) (Grows w always pages)
+grows_seen w s pages l new reply of is =
+    let grown = grown_as w.maker s.max_memory_size pages always l new unlimited unlimited is.0 of.slot of.memory.fixed refl is.1 in
+    let M : Reply → Type 0 = λ r. Grows w always pages (private_memory l) (seen_as l.index new) r in
+    subst M (sym is.2) (grown.fault, grown.may, grown.is)
+
+-- what a turn leaves that begins with such a command
+module _ {P : Type 0} (c : PoolCore P) (p : RunningParty P) where
+  lease_looked : (Looks : PrivateMemory → Reply → Type 0) (y : Option Lease) (t : Turned P) → LooksAtLease Looks y c p t → (reply : Reply) × (t ≡ replies reply c p)
+  lease_looked Looks None t is = (Refused NoSuchGrant, is)
+  lease_looked Looks (Some l) t is = (is.0, is.2)
+
+  -- nothing but the reply
+  pub looked : (Looks : PrivateMemory → Reply → Type 0) (k : ℕ) (x : Option (Grant P)) (t : Turned P) → LooksAt Looks x k c p t → (reply : Reply) × (t ≡ replies reply c p)
+  looked Looks k None t is = (Refused NoSuchGrant, is)
+  looked Looks k (Some grant) t is = lease_looked Looks (slice_get (leases_of grant) k) t is
+
+  -- or another lease in the place of one
+  pub record IsMoved (x : Option (Grant P)) (of k : ℕ) (t : Turned P) : Type 0 where
+    pub lease : InstanceLease P
+    pub old : Lease
+    pub new : Lease
+    pub reply : Reply
+    pub granted : x ≡ Some (instance lease)
+    pub there : slice_get lease.memories.items k ≡ Some old
+    pub index : new.index ≡ old.index
+    pub is : t ≡ replies reply c (record p { live = slice_set p.live of (Some (with_lease k new (instance lease))) })
+
+  lease_moved : (Moves : MemoryState → MemoryState → Reply → Type 0) (of k : ℕ) (lease : InstanceLease P) (y : Option Lease) (t : Turned P) → slice_get lease.memories.items k ≡ y → MovesLease Moves y of (instance lease) k c p t → ((reply : Reply) × (t ≡ replies reply c p)) ⊎ IsMoved (Some (instance lease)) of k t
+  lease_moved Moves of k lease None t there is = inl (Refused NoSuchGrant, is)
+  lease_moved Moves of k lease (Some l) t there is = inr (record { lease = lease; old = l; new = is.0; reply = is.1; granted = refl; there = there; index = is.2.index; is = is.3 })
+
+  pub moved : (Moves : MemoryState → MemoryState → Reply → Type 0) (of k : ℕ) (x : Option (Grant P)) (t : Turned P) → MovesIn Moves x of k c p t → ((reply : Reply) × (t ≡ replies reply c p)) ⊎ IsMoved x of k t
+  moved Moves of k None t is = inl (Refused NoSuchGrant, is)
+  moved Moves of k (Some (instance lease)) t is = lease_moved Moves of k lease (slice_get lease.memories.items k) t refl is
