@@ -1,11 +1,11 @@
 -- The input that a JSON value is. `None` says that it has another form than those accepted so far.
-use Rattle.std.specs.Prelude.{ℕ, List, [], ◌∷◌, codes, true, false, if◌then◌else◌, Option, Some, None}
+use Rattle.std.specs.Prelude.{ℕ, List, [], ◌∷◌, codes, min, true, false, if◌then◌else◌, Option, Some, None}
 use Rattle.std.specs.Str.{bytes_eq}
 use Rattle.serde_json.specs.Data.{Data, Items, no_items, item}
 use Rattle.serde_json.specs.Find.{get, as_str, as_array, as_bool}
 use Rattle.pool_pages.specs.Config.{default_config, default_offered, default_tunables}
 use Rattle.pool_run.specs.declared.command.Command.{Command}
-use Rattle.pool_run.specs.declared.command.Command.TheVariants.{Instantiate, Read, Write, Drop}
+use Rattle.pool_run.specs.declared.command.Command.TheVariants.{Instantiate, Read, Write, Fill, Grow, Size, Drop}
 use Rattle.pool_run.specs.declared.input.Input.{Input}
 use Rattle.pool_run.specs.declared.input.Party.{Party}
 use Rattle.pool_run.specs.declared.input.PartyLimits.{PartyLimits}
@@ -38,6 +38,32 @@ write_form value = do
   hex ← required hex_bytes (get (codes "hex") fields)
   Some (Write of memory at hex)
 
+-- a byte that 8 bits can't hold stands as the greatest that they can
+unfoldable pub fill_form : Data → Option Command
+fill_form value = do
+  fields ← only (codes "do" ∷ codes "of" ∷ codes "memory" ∷ codes "at" ∷ codes "len" ∷ codes "byte" ∷ []) value
+  of ← required whole_number (get (codes "of") fields)
+  memory ← optional 0 whole_number (get (codes "memory") fields)
+  at ← required whole_number (get (codes "at") fields)
+  len ← required whole_number (get (codes "len") fields)
+  byte ← required whole_number (get (codes "byte") fields)
+  Some (Fill of memory at len (min byte 255))
+
+unfoldable pub grow_form : Data → Option Command
+grow_form value = do
+  fields ← only (codes "do" ∷ codes "of" ∷ codes "memory" ∷ codes "pages" ∷ []) value
+  of ← required whole_number (get (codes "of") fields)
+  memory ← optional 0 whole_number (get (codes "memory") fields)
+  pages ← required whole_number (get (codes "pages") fields)
+  Some (Grow of memory pages)
+
+unfoldable pub size_form : Data → Option Command
+size_form value = do
+  fields ← only (codes "do" ∷ codes "of" ∷ codes "memory" ∷ []) value
+  of ← required whole_number (get (codes "of") fields)
+  memory ← optional 0 whole_number (get (codes "memory") fields)
+  Some (Size of memory)
+
 unfoldable pub drop_form : Data → Option Command
 drop_form value = do
   fields ← only (codes "do" ∷ codes "of" ∷ []) value
@@ -50,6 +76,9 @@ form_of_name name value =
     if bytes_eq name (codes "instantiate") then instantiate_form value
     else if bytes_eq name (codes "read") then read_form value
     else if bytes_eq name (codes "write") then write_form value
+    else if bytes_eq name (codes "fill") then fill_form value
+    else if bytes_eq name (codes "grow") then grow_form value
+    else if bytes_eq name (codes "size") then size_form value
     else if bytes_eq name (codes "drop") then drop_form value
     else None
 

@@ -4,6 +4,7 @@ pub mod Lines
 pub mod ModuleForms
 pub mod Output
 pub mod Preparing
+pub mod Ranges
 pub mod Reading
 pub mod SettingsForms
 pub mod Statuses

@@ -1,14 +1,13 @@
 -- The input that a text is.
-use Rattle.std.specs.Prelude.{◌≡◌, ℕ, ◌^◌, List, codes, Bool, ◌&&◌, if◌then◌else◌, Option, Some, None, Result, Ok, Err}
+use Rattle.std.specs.Prelude.{◌≡◌, ℕ, List, Bool, ◌&&◌, if◌then◌else◌, Option, Some, None, Result, Ok, Err}
 use Rattle.std.specs.Str.{is_utf8}
 use Rattle.serde_json.specs.Data.{Data}
-use Rattle.serde_json.specs.Find.{get}
 use Rattle.serde_json.specs.Read.{read}
 use Rattle.pool_run.specs.Built.{is_ready}
 use Rattle.pool_run.specs.Validity.{is_valid}
 use Rattle.pool_run.specs.declared.input.Input.{Input}
-use Rattle.pool_cli.specs.Fields.{◌>>=◌, is_below}
 use Rattle.pool_cli.specs.Forms.{input_form}
+use Rattle.pool_cli.specs.Ranges.{numbers_fit}
 use Rattle.pool_cli.specs.declared.json_input.InputFault.{InputFault}
 use Rattle.pool_cli.specs.declared.json_input.InputFault.TheVariants.{NotBuilt, Invalid, Memory}
 
@@ -19,11 +18,7 @@ pub data Reading : Type 0 where
   invalid : Reading
   accepted : Input → Reading
 
--- 32 bits can hold the number of memories
-abbrev pub counts_fit : Data → Bool
-counts_fit value = is_below (2 ^ 32) (get (codes "config") value >>= get (codes "total_memories"))
-
--- of an input whose counts fit their types, or don't
+-- of an input whose numbers all fit their types, or don't
 abbrev pub reading_of_input : Bool → Input → Reading
 reading_of_input fit input =
     if is_ready input then (if fit && is_valid input then accepted input else invalid)
@@ -36,7 +31,7 @@ reading_of_form fit (Some input) = reading_of_input fit input
 -- of the value of a JSON text, which nests at most 127 levels deep
 abbrev pub reading_of_json : Option Data → Reading
 reading_of_json None = invalid
-reading_of_json (Some value) = reading_of_form (counts_fit value) (input_form value)
+reading_of_json (Some value) = reading_of_form (numbers_fit value) (input_form value)
 
 -- JSON is text in UTF-8
 unfoldable pub reading : List ℕ → Reading

@@ -1,14 +1,15 @@
-ghost use Rattle.std.specs.Prelude.{◌≡◌, ◌^◌, true, IfOk};
+ghost use Rattle.std.specs.Prelude.{◌≡◌, true, IfOk};
 ghost use Rattle.serde_json.specs.Read.{read};
 ghost use Rattle.serde_json.specs.View.{view};
 ghost use Rattle.pool_run.specs.Built.{is_ready};
 ghost use Rattle.pool_run.specs.Validity.{is_valid};
 ghost use Rattle.pool_cli.specs.Forms.{input_form};
-ghost use Rattle.pool_cli.specs.Reading.{counts_fit, reading, reading_of_input, reading_of_json, reading_of_form, Reads};
+ghost use Rattle.pool_cli.specs.Ranges.{numbers_fit};
+ghost use Rattle.pool_cli.specs.Reading.{reading, reading_of_input, reading_of_json, reading_of_form, Reads};
 
-use crate::fields::is_below;
 use crate::form_fault::FormFault;
 use crate::from_json::FromJson;
+use crate::ranges::numbers_fit;
 use pool_run::{Input, is_ready, is_valid};
 use serde_json::Value;
 use std::alloc::Global;
@@ -23,17 +24,7 @@ pub enum InputFault {
     Memory,
 }
 
-/// Whether 32 bits can hold the number of memories.
-fn counts_fit(value: &Value) -> bool
-    ensures { result ≡ counts_fit (view value.now) }
-{
-    match value.get("config") {
-        Some(config) => is_below(1 << 32, config.get("total_memories")),
-        None => true,
-    }
-}
-
-/// Only what is built is tested further. `fit` says whether the counts fit their types.
+/// Only what is built is tested further. `fit` says whether all numbers fit their types.
 fn tested(input: Input, fit: bool) -> Result<Input, InputFault>
     ensures reads { Reads (reading_of_input fit input) result }
     ensures ready { IfOk result (λ input. is_ready input ≡ true) }
@@ -49,12 +40,12 @@ fn tested(input: Input, fit: bool) -> Result<Input, InputFault>
 }
 
 fn input_of(alloc: Global, value: &Value) -> Result<Input, InputFault>
-    ensures reads { Reads (reading_of_form (counts_fit (view value.now)) (input_form (view value.now))) result }
+    ensures reads { Reads (reading_of_form (numbers_fit (view value.now)) (input_form (view value.now))) result }
     ensures ready { IfOk result (λ input. is_ready input ≡ true) }
     ensures valid { IfOk result (λ input. is_valid input ≡ true) }
 {
     match Input::from_json(alloc, value) {
-        Ok(input) => tested(input, counts_fit(value)),
+        Ok(input) => tested(input, numbers_fit(value)),
         Err(FormFault::OtherForm) => Err(InputFault::NotBuilt),
         Err(FormFault::Memory) => Err(InputFault::Memory),
     }

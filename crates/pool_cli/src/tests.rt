@@ -4,7 +4,7 @@ use crate::print::output_text;
 use crate::status::Status;
 use pool_alloc::Metrics;
 use pool_limits::Trap;
-use pool_pages::{ByteList, MemoryPages, PageCalls, PageSize, PlainList};
+use pool_pages::{ByteList, MemoryPages, PageCalls, PageSize, PlainList, Unsupported};
 use pool_run::{Refusal, Reply, ReplyList, RunOutput};
 use pool_slots::{AllocError as Refused, ConcurrencyKind, PoolConcurrencyLimitError};
 use std::alloc::{AllocError, Global};
@@ -81,6 +81,9 @@ const SHORT_ADDRESSES: &str = "{\"modules\":[{\"memories\":[{\"index\":\"i16\"}]
 
 const MANY_MEMORIES: &str = "{\"config\":{\"total_memories\":4294967296}}";
 
+const LARGE_BYTE: &str =
+    "{\"modules\":[{\"memories\":[{}]}],\"parties\":[{\"commands\":[{\"do\":\"instantiate\",\"module\":0},{\"do\":\"fill\",\"of\":0,\"at\":0,\"len\":0,\"byte\":256}]}]}";
+
 const MINUS_NOUGHT: &str = "{\"parties\":[{\"commands\":[{\"do\":\"drop\",\"of\":-0}]}]}";
 
 #[test]
@@ -93,6 +96,7 @@ fn statuses_of_inputs(rt: HostRuntime) -> Result<(), Fail> {
         (FAULT_OF_A_TABLE, 0, 0, Status::NotBuilt, NOT_BUILT),
         (SHORT_ADDRESSES, 0, 0, Status::NotBuilt, NOT_BUILT),
         (MANY_MEMORIES, 0, 0, Status::BadInput, BAD_INPUT),
+        (LARGE_BYTE, 0, 0, Status::BadInput, BAD_INPUT),
         (
             "{\"schedule\":[[0,1,2]]}",
             0,
@@ -135,6 +139,11 @@ fn replies(alloc: Global) -> Result<ReplyList, AllocError> {
     all.push(Reply::Refused(Refusal::Alloc(Refused::Memory)))?;
     all.push(Reply::Refused(Refusal::NoSuchGrant))?;
     all.push(Reply::Trap(Trap::MemoryOutOfBounds))?;
+    let too_large = Unsupported::InstanceSize {
+        size: 32,
+        limit: 16,
+    };
+    all.push(Reply::Refused(Refusal::Alloc(Refused::Unsupported(too_large))))?;
     Ok(PlainList::from_vec(all))
 }
 
@@ -151,6 +160,7 @@ const OUTPUT: &str = "0.0: granted memories 0,12 tables -\n\
 0.10: refused NoMemory\n\
 0.11: refused NoSuchGrant\n\
 0.12: trap MemoryOutOfBounds\n\
+0.13: refused Unsupported: instance allocation for this module requires 32 bytes which exceeds the configured maximum of 16 bytes; breakdown of allocation requirement:\\n\\n\n\
 2.0: done\n\
 metrics core=1 component=0 memories=1 tables=0 stacks=0 heaps=0 warm_memories=0 memory_resident=0 warm_tables=0 table_resident=0 warm_stacks=0 stack_resident=none\n\
 pages expose=1 hide=0 map_image=1 remap_zeros=0 erase=0 recolour=0 decommit=1\n";
@@ -234,6 +244,19 @@ const RESIDENT_OUTPUT: &str = "0.0: granted memories 0 tables -\n\
 metrics core=0 component=0 memories=0 tables=0 stacks=0 heaps=0 warm_memories=1 memory_resident=4096 warm_tables=0 table_resident=0 warm_stacks=0 stack_resident=none\n\
 pages expose=1 hide=0 map_image=0 remap_zeros=0 erase=0 recolour=0 decommit=1\n";
 
+const MOVES: &str =
+    "{\"config\":{\"total_memories\":1},\"modules\":[{\"memories\":[{\"min\":1}]}],\"parties\":[{\"commands\":[{\"do\":\"instantiate\",\"module\":0},{\"do\":\"grow\",\"of\":0,\"pages\":0},{\"do\":\"grow\",\"of\":0,\"pages\":1},{\"do\":\"size\",\"of\":0},{\"do\":\"fill\",\"of\":0,\"at\":65534,\"len\":2,\"byte\":255},{\"do\":\"read\",\"of\":0,\"at\":65533,\"len\":3},{\"do\":\"fill\",\"of\":0,\"at\":65534,\"len\":3,\"byte\":1}]}]}";
+
+const MOVES_OUTPUT: &str = "0.0: granted memories 0 tables -\n\
+0.1: grown 65536\n\
+0.2: grown none\n\
+0.3: size 65536\n\
+0.4: done\n\
+0.5: bytes 00ffff\n\
+0.6: trap MemoryOutOfBounds\n\
+metrics core=1 component=0 memories=1 tables=0 stacks=0 heaps=0 warm_memories=0 memory_resident=0 warm_tables=0 table_resident=0 warm_stacks=0 stack_resident=none\n\
+pages expose=1 hide=0 map_image=0 remap_zeros=0 erase=0 recolour=0 decommit=0\n";
+
 const FAR_FROM_HOME: &str = "{\"parties\":[{\"home\":65535}],\"schedule\":[],\"finish\":true}";
 
 const NO_BATCH: &str = "{\"config\":{\"decommit_batch_size\":0}}";
@@ -274,6 +297,7 @@ fn runs(rt: HostRuntime) -> Result<(), Fail> {
         (BATCH, 0, Status::Ok, BATCH_OUTPUT),
         (OTHER_MODULE, 0, Status::Ok, OTHER_MODULE_OUTPUT),
         (RESIDENT, 0, Status::Ok, RESIDENT_OUTPUT),
+        (MOVES, 0, Status::Ok, MOVES_OUTPUT),
         (NO_BATCH, 0, Status::BadConfig, NO_BATCH_LINE),
         (NO_BATCH, 2, Status::WriteFault, "error BadC"),
         (TOO_RESIDENT, 0, Status::BadConfig, TOO_RESIDENT_LINE),
