@@ -1,9 +1,9 @@
 -- How the program ends, and what of that the bytes decide.
 use Rattle.std.proofs.Common.{◌≡◌, ℕ, ◌<◌, ◌≤◌, List, length, Option, Some, None, Result, Err, refl, sym, ap, ◌∙◌, subst, inl, inr, arith}
 use Rattle.std.specs.Prelude.{◌⊎◌, ◌↔◌, IfSome}
-use Rattle.pool_pages.specs.ConfigLimits.{first_broken_limit}
 use Rattle.pool_pages.specs.MakerTold.{MakerTold}
 use Rattle.pool_pages.specs.declared.bad_config.BadConfig.{BadConfig}
+use Rattle.pool_run.specs.Built.{broken_rule}
 use Rattle.pool_run.specs.declared.input.Input.{Input}
 use Rattle.pool_run.specs.declared.output.RunFault.{RunFault}
 use Rattle.pool_run.specs.declared.output.RunFault.TheVariants as fault
@@ -21,7 +21,7 @@ use Rattle.pool_cli.specs.declared.words.Task.{Task}
 use Rattle.pool_cli.specs.declared.words.Task.TheVariants.{Run, Later, Unknown}
 
 -- settings that are refused are the cause of a failure
-pub refused_fails : (input : Input) (error : BadConfig) (cause : Failure) (so sn : SourceTold) (mo mn : MakerTold) → HasRead (accepted input) so sn → first_broken_limit input.config ≡ Some error → Refuses error cause → Fails Run cause so sn mo mn
+pub refused_fails : (input : Input) (error : BadConfig) (cause : Failure) (so sn : SourceTold) (mo mn : MakerTold) → HasRead (accepted input) so sn → broken_rule input ≡ Some error → Refuses error cause → Fails Run cause so sn mo mn
 refused_fails input error failure.BadUsage so sn mo mn read broken is = absurd is
 refused_fails input error failure.BadInput so sn mo mn read broken is = absurd is
 refused_fails input error (failure.BadConfig line) so sn mo mn read broken is = (refl, (error, record { input = input; read = read; broken = broken }, is))
@@ -31,7 +31,7 @@ refused_fails input error failure.NoMemory so sn mo mn read broken is = refl
 refused_fails input error failure.TooLong so sn mo mn read broken is = absurd is
 refused_fails input error failure.NotBuilt so sn mo mn read broken is = absurd is
 
--- no limit is broken where no limit is what was answered
+-- no rule is broken where no rule is what was answered
 pub no_limit : (o : Option BadConfig) (r : Result RunOutput RunFault) → ((e : BadConfig) → (r ≡ Err (fault.BadConfig e)) ↔ (o ≡ Some e)) → ((e : BadConfig) → r ≡ Err (fault.BadConfig e) → ⊥) → o ≡ None
 no_limit None r exact none = refl
 no_limit (Some e) r exact none = absurd (none e ((exact e).1 refl))
@@ -56,7 +56,7 @@ read_follows is status so sn rest told read leads =
 hindered : (status : Status) (rest : List ℕ) → IsHindrance status → FollowsBytes status rest
 hindered status rest is = record { short = λ h. inr is; long = λ h. inr is }
 
-limits_of : (input : Input) (o : Option BadConfig) (status : Status) → first_broken_limit input.config ≡ o → status ≡ status_of_limits o → status ≡ status_of (accepted input)
+limits_of : (input : Input) (o : Option BadConfig) (status : Status) → broken_rule input ≡ o → status ≡ status_of_limits o → status ≡ status_of (accepted input)
 limits_of input o status limits is = is ∙ ap status_of_limits (sym limits)
 
 -- the bytes lead to the status, or something stands in the way

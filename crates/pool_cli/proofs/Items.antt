@@ -1,9 +1,11 @@
 -- The items of a list, read one after another.
-use Rattle.std.proofs.Common.{◌≡◌, List, [], ◌∷◌, ◌++◌, Option, Some, None, refl, sym, ap, ◌∙◌, append_assoc}
+use Rattle.std.proofs.Common.{◌≡◌, Bool, ◌&&◌, List, [], ◌∷◌, ◌++◌, Option, Some, None, refl, sym, ap, ◌∙◌, append_assoc}
+use Rattle.std.specs.List.{list_all}
 use Rattle.serde_json.specs.Data.{Data}
 use Rattle.serde_json.specs.View.{view, items_view}
 use Rattle.serde_json.specs.declared.value.Value.{Value}
 use Rattle.pool_cli.specs.Fields.{◌>>=◌, each_item}
+use Rattle.pool_cli.specs.Ranges.{all_pass}
 
 -- what was read so far, before what the rest gives
 abbrev pub onto : {A : Type 0} → List A → Option (List A) → Option (List A)
@@ -34,3 +36,7 @@ pub onto_none : {A : Type 0} (form : Data → Option A) (front : List A) (value 
 onto_none form front value rest all split e =
     ap (λ vs. onto front (each_item form (items_view vs))) split
     ∙ ap (λ o. onto front (o >>= (λ y. each_item form (items_view rest) >>= (λ ys. Some (y ∷ ys))))) e
+
+pub all_viewed : (test : Data → Bool) (values : List Value) → list_all (λ v. test (view v)) values ≡ all_pass test (items_view values)
+all_viewed test [] = refl
+all_viewed test (v ∷ vs) = ap (λ b. test (view v) && b) (all_viewed test vs)

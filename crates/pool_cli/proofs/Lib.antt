@@ -1,5 +1,6 @@
 mod Endings
 mod Items
+mod LineFeeds
 mod Lists
 mod Members
 mod Numerals

@@ -1,6 +1,7 @@
 -- The fields of a JSON object, and what their values are read as. `None` says that a value has another form.
-use Rattle.std.specs.Prelude.{◌≡◌, ℕ, List, [], ◌∷◌, Bool, true, false, ◌&&◌, if◌then◌else◌, Option, Some, None, Result, Ok, Err, is_some, option_map}
+use Rattle.std.specs.Prelude.{◌≡◌, ℕ, List, [], ◌∷◌, Bool, true, false, ◌&&◌, nat_lt, if◌then◌else◌, Option, Some, None, Result, Ok, Err, is_some, option_map}
 use Rattle.std.specs.List.{list_any}
+use Rattle.std.specs.Option.{option_map_or}
 use Rattle.std.specs.Result.{result_ok}
 use Rattle.std.specs.Str.{bytes_eq}
 use Rattle.serde_json.specs.Data.{Data, null, boolean, number, string, array, object, Items, no_items, item, Members, no_members, member}
@@ -54,6 +55,10 @@ required read (Some value) = read value
 abbrev pub optional : {A : Type 0} → A → (Data → Option A) → Option Data → Option A
 optional default read None = Some default
 optional default read (Some value) = read value
+
+-- a field that is there and is a whole number is below this
+abbrev pub is_below : ℕ → Option Data → Bool
+is_below bound field = option_map_or (λ n. nat_lt n bound) (required whole_number field) true
 
 -- null, or else as it is read
 abbrev pub or_null : {A : Type 0} → (Data → Option A) → Data → Option (Option A)

@@ -1,21 +1,18 @@
 -- The input that a JSON value is. `None` says that it has another form than those accepted so far.
-use Rattle.std.specs.Prelude.{ℕ, ◌==◌, ◌&&◌, ◌||◌, List, [], ◌∷◌, length, codes, nat_le, true, false, if◌then◌else◌, Option, Some, None, is_none}
+use Rattle.std.specs.Prelude.{ℕ, List, [], ◌∷◌, codes, min, true, false, if◌then◌else◌, Option, Some, None}
 use Rattle.std.specs.Str.{bytes_eq}
 use Rattle.serde_json.specs.Data.{Data, Items, no_items, item}
 use Rattle.serde_json.specs.Find.{get, as_str, as_array, as_bool}
-use Rattle.pool_pages.specs.Config.{default_config, default_limits}
-use Rattle.pool_pages.specs.declared.config.PoolingAllocationConfig.{PoolingAllocationConfig}
-use Rattle.pool_pages.specs.declared.module_types.IndexType.TheVariants.{I32}
-use Rattle.pool_pages.specs.declared.module_types.MemoryType.{MemoryType}
-use Rattle.pool_pages.specs.declared.module_types.ImageDecl.{ImageDecl}
-use Rattle.pool_pages.specs.declared.module_types.MemoryDecl.{MemoryDecl}
-use Rattle.pool_pages.specs.declared.module_types.ModuleInfo.{ModuleInfo}
+use Rattle.pool_pages.specs.Config.{default_config, default_offered, default_tunables}
 use Rattle.pool_run.specs.declared.command.Command.{Command}
-use Rattle.pool_run.specs.declared.command.Command.TheVariants.{Instantiate, Read, Write, Drop}
+use Rattle.pool_run.specs.declared.command.Command.TheVariants.{Instantiate, Read, Write, Fill, Grow, Size, Drop}
 use Rattle.pool_run.specs.declared.input.Input.{Input}
 use Rattle.pool_run.specs.declared.input.Party.{Party}
+use Rattle.pool_run.specs.declared.input.PartyLimits.{PartyLimits}
 use Rattle.pool_run.specs.declared.input.ScheduleEntry.{ScheduleEntry}
-use Rattle.pool_cli.specs.Fields.{◌>>=◌, only, given, whole_number, hex_bytes, required, optional, or_null, list_of}
+use Rattle.pool_cli.specs.Fields.{◌>>=◌, only, whole_number, hex_bytes, required, optional, or_null, list_of}
+use Rattle.pool_cli.specs.ModuleForms.{module_form}
+use Rattle.pool_cli.specs.SettingsForms.{config_form, tunables_form, offered_form, fault_form}
 
 unfoldable pub instantiate_form : Data → Option Command
 instantiate_form value = do
@@ -41,6 +38,32 @@ write_form value = do
   hex ← required hex_bytes (get (codes "hex") fields)
   Some (Write of memory at hex)
 
+-- a byte that 8 bits can't hold stands as the greatest that they can
+unfoldable pub fill_form : Data → Option Command
+fill_form value = do
+  fields ← only (codes "do" ∷ codes "of" ∷ codes "memory" ∷ codes "at" ∷ codes "len" ∷ codes "byte" ∷ []) value
+  of ← required whole_number (get (codes "of") fields)
+  memory ← optional 0 whole_number (get (codes "memory") fields)
+  at ← required whole_number (get (codes "at") fields)
+  len ← required whole_number (get (codes "len") fields)
+  byte ← required whole_number (get (codes "byte") fields)
+  Some (Fill of memory at len (min byte 255))
+
+unfoldable pub grow_form : Data → Option Command
+grow_form value = do
+  fields ← only (codes "do" ∷ codes "of" ∷ codes "memory" ∷ codes "pages" ∷ []) value
+  of ← required whole_number (get (codes "of") fields)
+  memory ← optional 0 whole_number (get (codes "memory") fields)
+  pages ← required whole_number (get (codes "pages") fields)
+  Some (Grow of memory pages)
+
+unfoldable pub size_form : Data → Option Command
+size_form value = do
+  fields ← only (codes "do" ∷ codes "of" ∷ codes "memory" ∷ []) value
+  of ← required whole_number (get (codes "of") fields)
+  memory ← optional 0 whole_number (get (codes "memory") fields)
+  Some (Size of memory)
+
 unfoldable pub drop_form : Data → Option Command
 drop_form value = do
   fields ← only (codes "do" ∷ codes "of" ∷ []) value
@@ -53,6 +76,9 @@ form_of_name name value =
     if bytes_eq name (codes "instantiate") then instantiate_form value
     else if bytes_eq name (codes "read") then read_form value
     else if bytes_eq name (codes "write") then write_form value
+    else if bytes_eq name (codes "fill") then fill_form value
+    else if bytes_eq name (codes "grow") then grow_form value
+    else if bytes_eq name (codes "size") then size_form value
     else if bytes_eq name (codes "drop") then drop_form value
     else None
 
@@ -62,39 +88,21 @@ command_form value = do
   name ← required as_str (get (codes "do") value)
   form_of_name name value
 
--- bytes at offset 0, at least one and at most 65,536
-unfoldable pub image_form : Data → Option ImageDecl
-image_form value = do
-  fields ← only (codes "offset" ∷ codes "hex" ∷ []) value
-  offset ← required whole_number (get (codes "offset") fields)
-  bytes ← required hex_bytes (get (codes "hex") fields)
-  given (offset == 0 && nat_le 1 (length bytes) && nat_le (length bytes) 65536) (record { offset = offset; bytes = bytes })
-
--- a memory of pages of 65,536 bytes, with addresses of 32 bits and no maximum
-abbrev pub plain_memory : ℕ → MemoryType
-plain_memory min = record { idx_type = I32; limits = record { min = min; max = None }; shared = false; page_size_log2 = 16 }
-
--- no page, or one page and perhaps an image
-unfoldable pub memory_form : Data → Option MemoryDecl
-memory_form value = do
-  fields ← only (codes "min" ∷ codes "image" ∷ []) value
-  min ← optional 0 whole_number (get (codes "min") fields)
-  image ← optional None (or_null image_form) (get (codes "image") fields)
-  given (min == 1 || min == 0 && is_none image) (record { ty = plain_memory min; image = image })
-
--- a module has one memory
-unfoldable pub module_form : Data → Option ModuleInfo
-module_form value = do
-  fields ← only (codes "memories" ∷ []) value
-  memories ← optional [] (list_of memory_form) (get (codes "memories") fields)
-  given (length memories == 1) (record { memories = memories })
+-- what a party's memories may grow to
+unfoldable pub limits_form : Data → Option PartyLimits
+limits_form value = do
+  fields ← only (codes "memory_size" ∷ codes "trap_on_grow_failure" ∷ []) value
+  size ← optional None (or_null whole_number) (get (codes "memory_size") fields)
+  trap ← optional false as_bool (get (codes "trap_on_grow_failure") fields)
+  Some (record { memory_size = size; trap_on_grow_failure = trap })
 
 unfoldable pub party_form : Data → Option Party
 party_form value = do
-  fields ← only (codes "home" ∷ codes "commands" ∷ []) value
+  fields ← only (codes "home" ∷ codes "limits" ∷ codes "commands" ∷ []) value
   home ← optional 0 whole_number (get (codes "home") fields)
+  limits ← optional None (or_null limits_form) (get (codes "limits") fields)
   commands ← optional [] (list_of command_form) (get (codes "commands") fields)
-  Some (record { home = home; commands = commands })
+  Some (record { home = home; limits = limits; commands = commands })
 
 -- the number of a party: one step of it
 unfoldable pub step_form : Data → Option ScheduleEntry
@@ -120,22 +128,16 @@ step_or_pair_form (Some items) value = pair_form items
 unfoldable pub schedule_entry_form : Data → Option ScheduleEntry
 schedule_entry_form value = step_or_pair_form (as_array value) value
 
--- the default settings, but for the number of memories, which is at most 100, how many ranges are decommitted together,
--- and how many bytes of a memory a reset keeps resident
-unfoldable pub config_form : Data → Option PoolingAllocationConfig
-config_form value = do
-  fields ← only (codes "total_memories" ∷ codes "decommit_batch_size" ∷ codes "linear_memory_keep_resident" ∷ []) value
-  total ← optional 10 whole_number (get (codes "total_memories") fields)
-  batch ← optional 1 whole_number (get (codes "decommit_batch_size") fields)
-  resident ← optional 0 whole_number (get (codes "linear_memory_keep_resident") fields)
-  given (nat_le total 100) (record default_config { limits = record default_limits { total_memories = total }; decommit_batch_size = batch; linear_memory_keep_resident = resident })
-
 unfoldable pub input_form : Data → Option Input
 input_form value = do
-  fields ← only (codes "config" ∷ codes "modules" ∷ codes "parties" ∷ codes "schedule" ∷ codes "finish" ∷ []) value
+  fields ← only (codes "page" ∷ codes "config" ∷ codes "tunables" ∷ codes "offered" ∷ codes "modules" ∷ codes "parties" ∷ codes "schedule" ∷ codes "finish" ∷ codes "faults" ∷ []) value
+  page ← optional 4096 whole_number (get (codes "page") fields)
   config ← optional default_config config_form (get (codes "config") fields)
+  tunables ← optional default_tunables tunables_form (get (codes "tunables") fields)
+  offered ← optional default_offered offered_form (get (codes "offered") fields)
   modules ← optional [] (list_of module_form) (get (codes "modules") fields)
   parties ← optional [] (list_of party_form) (get (codes "parties") fields)
   schedule ← optional [] (list_of schedule_entry_form) (get (codes "schedule") fields)
   finish ← optional true as_bool (get (codes "finish") fields)
-  Some (record { config = config; modules = modules; parties = parties; schedule = schedule; finish = finish })
+  faults ← optional [] (list_of fault_form) (get (codes "faults") fields)
+  Some (record { page = page; config = config; tunables = tunables; offered = offered; modules = modules; parties = parties; schedule = schedule; finish = finish; faults = faults })

@@ -1,9 +1,12 @@
 pub mod Fields
 pub mod Forms
 pub mod Lines
+pub mod ModuleForms
 pub mod Output
 pub mod Preparing
+pub mod Ranges
 pub mod Reading
+pub mod SettingsForms
 pub mod Statuses
 pub mod Streams
 pub mod Transfers

@@ -1,5 +1,5 @@
 -- The text of a run's output.
-use Rattle.std.specs.Prelude.{ℕ, ◌+◌, List, [], ◌∷◌, ◌++◌, codes, Bool, true, false, Option, Some, None}
+use Rattle.std.specs.Prelude.{ℕ, ◌+◌, ◌==◌, if◌then◌else◌, List, [], ◌∷◌, ◌++◌, codes, Bool, true, false, Option, Some, None}
 use Rattle.std.specs.Fmt.{decimal}
 use Rattle.hex.specs.Hex.{encode_lower}
 use Rattle.pool_pages.specs.UnsupportedTexts.{unsupported_text}
@@ -36,6 +36,11 @@ abbrev pub bytes_text : List ℕ → List ℕ
 bytes_text [] = codes "-"
 bytes_text (b ∷ bs) = encode_lower (b ∷ bs)
 
+-- a text on one line: each line feed is the two characters `\n`
+unfoldable pub one_line : List ℕ → List ℕ
+one_line [] = []
+one_line (byte ∷ bytes) = if byte == 10 then codes "\\n" ++ one_line bytes else byte ∷ one_line bytes
+
 -- what a limiter said no to
 abbrev pub denied_text : Bool → ℕ → List ℕ
 denied_text false min = codes "memory minimum size of " ++ decimal min ++ codes " pages exceeds memory limits"
@@ -43,7 +48,7 @@ denied_text true min = codes "table minimum size of " ++ decimal min ++ codes " 
 
 abbrev pub alloc_error_text : AllocError → List ℕ
 alloc_error_text NoMemory = codes "NoMemory"
-alloc_error_text (Unsupported u) = codes "Unsupported: " ++ unsupported_text u
+alloc_error_text (Unsupported u) = codes "Unsupported: " ++ one_line (unsupported_text u)
 alloc_error_text (Limit e) = codes "PoolConcurrencyLimitError: " ++ limit_text e
 alloc_error_text (LimiterDenied table min) = codes "LimiterDenied: " ++ denied_text table min
 alloc_error_text (LimiterFault e) = codes "LimiterFault: " ++ limiter_text e

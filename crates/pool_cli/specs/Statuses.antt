@@ -1,10 +1,10 @@
 -- Why the program ends with a status, and what it wrote.
 use Rattle.std.specs.Prelude.{◌≡◌, ℕ, ◌≤◌, ◌<◌, List, length, ◌⊎◌, Option, Some, None, string_bytes}
 use Rattle.pool_pages.specs.Config.{default_tunables}
-use Rattle.pool_pages.specs.ConfigLimits.{first_broken_limit}
 use Rattle.pool_pages.specs.declared.bad_config.BadConfig.{BadConfig}
 use Rattle.pool_pages.specs.MakerTold.{MakerTold}
 use Rattle.pool_pages.specs.Told.{Rose}
+use Rattle.pool_run.specs.Built.{broken_rule}
 use Rattle.pool_run.specs.Runs.{IsRun, FaultsInMaking}
 use Rattle.pool_run.specs.declared.input.Input.{Input}
 use Rattle.pool_run.specs.declared.output.RunOutput.{RunOutput}
@@ -25,29 +25,29 @@ pub record HasRead (is : Reading) (source_old source_new : SourceTold) : Type 0 
   pub whole : ReadWhole bytes source_old source_new
   pub reads : reading bytes ≡ is
 
--- The source was read to its end, the bytes read are an input that can be run, no limit of its settings is broken, and
+-- The source was read to its end, the bytes read are an input that can be run, no rule of its settings is broken, and
 -- the text is that of the output of a run of it, over regions of type P.
 pub record HasRun (P : Type 0) (text : List ℕ) (source_old source_new : SourceTold) (maker_old : MakerTold) : Type 0 where
   pub input : Input
   pub output : RunOutput
   pub read : HasRead (accepted input) source_old source_new
-  pub limits : first_broken_limit input.config ≡ None
+  pub limits : broken_rule input ≡ None
   pub run : IsRun P default_tunables input maker_old output
   pub text_is : text ≡ output_text output
 
 -- The source was read to its end, and the bytes read are an input that can be run but for its settings: this is the
--- first of their limits that is broken.
+-- first of their rules that is broken.
 pub record HasBadConfig (error : BadConfig) (source_old source_new : SourceTold) : Type 0 where
   pub input : Input
   pub read : HasRead (accepted input) source_old source_new
-  pub broken : first_broken_limit input.config ≡ Some error
+  pub broken : broken_rule input ≡ Some error
 
--- The source was read to its end, the bytes read are an input that can be run, no limit of its settings is broken, and
+-- The source was read to its end, the bytes read are an input that can be run, no rule of its settings is broken, and
 -- a making or a call failed as its pool was made.
 pub record HasNoPool (source_old source_new : SourceTold) (maker_old maker_new : MakerTold) : Type 0 where
   pub input : Input
   pub read : HasRead (accepted input) source_old source_new
-  pub limits : first_broken_limit input.config ≡ None
+  pub limits : broken_rule input ≡ None
   pub making : FaultsInMaking input maker_old maker_new
 
 -- nothing was read
@@ -127,7 +127,7 @@ status_of_limits (Some error) = BadSettings
 abbrev pub status_of : Reading → Status
 status_of not_built = NotBuilt
 status_of invalid = BadInput
-status_of (accepted input) = status_of_limits (first_broken_limit input.config)
+status_of (accepted input) = status_of_limits (broken_rule input)
 
 -- the status is the one that the bytes lead to, or a hindrance
 pub record FollowsBytes (status : Status) (bytes : List ℕ) : Type 0 where

@@ -1,7 +1,7 @@
 ghost use Rattle.std.specs.Prelude.{◌≡◌};
 ghost use Rattle.serde_json.specs.View.{view};
 ghost use Rattle.pool_cli.specs.Fields.{IsOfForm};
-ghost use Rattle.pool_cli.specs.Forms.{instantiate_form, read_form, write_form, drop_form, command_form};
+ghost use Rattle.pool_cli.specs.Forms.{instantiate_form, read_form, write_form, fill_form, grow_form, size_form, drop_form, command_form};
 
 use crate::fields::{bytes, has_only, number, number_or, text};
 use crate::form_fault::FormFault;
@@ -61,6 +61,59 @@ fn write(alloc: Global, value: &Value) -> Result<Command, FormFault>
     })
 }
 
+#[tactic(auto, unfolding(crate::specs::Forms::fill_form))]
+fn fill(value: &Value) -> Option<Command>
+    ensures { result ≡ fill_form (view value.now) }
+{
+    if !has_only(value, &["do", "of", "memory", "at", "len", "byte"]) {
+        return None;
+    }
+    let of = number(value.get("of"))?;
+    let memory = number_or(0, value.get("memory"))?;
+    let at = number(value.get("at"))?;
+    let len = number(value.get("len"))?;
+    let byte = number(value.get("byte"))?;
+    Some(Command::Fill {
+        of: of as usize,
+        memory: memory as usize,
+        at,
+        len,
+        byte: byte.min(255) as u8,
+    })
+}
+
+#[tactic(auto, unfolding(crate::specs::Forms::grow_form))]
+fn grow(value: &Value) -> Option<Command>
+    ensures { result ≡ grow_form (view value.now) }
+{
+    if !has_only(value, &["do", "of", "memory", "pages"]) {
+        return None;
+    }
+    let of = number(value.get("of"))?;
+    let memory = number_or(0, value.get("memory"))?;
+    let pages = number(value.get("pages"))?;
+    Some(Command::Grow {
+        of: of as usize,
+        memory: memory as usize,
+        pages,
+    })
+}
+
+#[tactic(auto, unfolding(crate::specs::Forms::size_form))]
+fn size(value: &Value) -> Option<Command>
+    ensures { result ≡ size_form (view value.now) }
+{
+    if !has_only(value, &["do", "of", "memory"]) {
+        return None;
+    }
+    let of = number(value.get("of"))?;
+    let memory = number_or(0, value.get("memory"))?;
+    Some(Command::Size {
+        of: of as usize,
+        memory: memory as usize,
+    })
+}
+
 #[tactic(auto, unfolding(crate::specs::Forms::drop_form))]
 fn give_back(value: &Value) -> Option<Command>
     ensures { result ≡ drop_form (view value.now) }
@@ -84,6 +137,12 @@ impl FromJson for Command {
             read(value).ok_or(FormFault::OtherForm)
         } else if name == "write" {
             write(alloc, value)
+        } else if name == "fill" {
+            fill(value).ok_or(FormFault::OtherForm)
+        } else if name == "grow" {
+            grow(value).ok_or(FormFault::OtherForm)
+        } else if name == "size" {
+            size(value).ok_or(FormFault::OtherForm)
         } else if name == "drop" {
             give_back(value).ok_or(FormFault::OtherForm)
         } else {

@@ -1,8 +1,8 @@
-ghost use Rattle.std.specs.Prelude.{◌≡◌, map, option_map};
+ghost use Rattle.std.specs.Prelude.{◌≡◌, None, map, option_map};
 ghost use Rattle.std.specs.List.{list_any};
 ghost use Rattle.std.specs.Str.{bytes_eq};
 ghost use Rattle.serde_json.specs.View.{view, members_view};
-ghost use Rattle.pool_cli.specs.Fields.{is_among, all_among, has_only, whole_number, required, optional, hex_bytes, IsOfForm};
+ghost use Rattle.pool_cli.specs.Fields.{is_among, all_among, has_only, whole_number, required, optional, is_below, or_null, hex_bytes, IsOfForm};
 ghost use Rattle.serde_json.specs.Find.{as_bool, as_str};
 
 use crate::form_fault::FormFault;
@@ -52,6 +52,35 @@ pub fn number_or(default: u64, field: Option<&Value>) -> Option<u64>
     match field {
         None => Some(default),
         Some(value) => value.as_u64(),
+    }
+}
+
+fn number_or_null(value: &Value) -> Option<Option<u64>>
+    ensures { result ≡ or_null whole_number (view value.now) }
+{
+    if value.is_null() {
+        return Some(None);
+    }
+    Some(Some(value.as_u64()?))
+}
+
+/// A whole number that may be left out, or be null.
+pub fn number_or_none(field: Option<&Value>) -> Option<Option<u64>>
+    ensures { result ≡ optional None (or_null whole_number) (option_map (λ v. view v.now) field.entry) }
+{
+    match field {
+        None => Some(None),
+        Some(value) => number_or_null(value),
+    }
+}
+
+/// Whether a whole number, where there is one, is below the bound.
+pub fn is_below(bound: u64, field: Option<&Value>) -> bool
+    ensures { result ≡ is_below bound (option_map (λ v. view v.now) field.entry) }
+{
+    match number(field) {
+        Some(number) => number < bound,
+        None => true,
     }
 }
 

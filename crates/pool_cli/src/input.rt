@@ -1,28 +1,66 @@
-ghost use Rattle.std.specs.Prelude.{◌≡◌, option_map};
+ghost use Rattle.std.specs.Prelude.{◌≡◌, None, option_map};
 ghost use Rattle.serde_json.specs.View.{view, items_view};
-ghost use Rattle.pool_pages.specs.Config.{default_config};
-ghost use Rattle.pool_cli.specs.Fields.{IsOfForm, optional};
-ghost use Rattle.pool_cli.specs.Forms.{party_form, step_form, pair_form, schedule_entry_form, config_form, input_form};
+ghost use Rattle.pool_cli.specs.Fields.{optional, or_null};
+ghost use Rattle.pool_cli.specs.Forms.{limits_form, party_form, step_form, pair_form, schedule_entry_form, input_form};
 
-use crate::fields::{flag_or, has_only, number_or};
+use crate::fields::{flag_or, has_only, number_or, number_or_none};
 use crate::form_fault::FormFault;
 use crate::from_json::{FromJson, list_or_empty};
-use pool_pages::PoolingAllocationConfig;
-use pool_run::{Input, Party, ScheduleEntry};
+use crate::settings::{config, offered, tunables};
+use pool_run::{Input, Party, PartyLimits, ScheduleEntry};
 use serde_json::Value;
 use std::alloc::Global;
+
+#[tactic(auto, unfolding(crate::specs::Forms::limits_form))]
+fn limits_of(value: &Value) -> Option<PartyLimits>
+    ensures { result ≡ limits_form (view value.now) }
+{
+    if !has_only(value, &["memory_size", "trap_on_grow_failure"]) {
+        return None;
+    }
+    let size = number_or_none(value.get("memory_size"))?;
+    let trap_on_grow_failure = flag_or(false, value.get("trap_on_grow_failure"))?;
+    Some(PartyLimits {
+        memory_size: size.map(|bytes| bytes as usize),
+        trap_on_grow_failure,
+    })
+}
+
+fn limits_or_null(value: &Value) -> Option<Option<PartyLimits>>
+    ensures { result ≡ or_null limits_form (view value.now) }
+{
+    if value.is_null() {
+        return Some(None);
+    }
+    Some(Some(limits_of(value)?))
+}
+
+/// Limits that may be left out, or be null.
+fn limits(field: Option<&Value>) -> Option<Option<PartyLimits>>
+    ensures { result ≡ optional None (or_null limits_form) (option_map (λ v. view v.now) field.entry) }
+{
+    match field {
+        None => Some(None),
+        Some(value) => limits_or_null(value),
+    }
+}
 
 impl FromJson for Party {
     ghost form = { party_form };
 
     #[tactic(auto, unfolding(crate::specs::Forms::party_form))]
     fn from_json(alloc: Global, value: &Value) -> Result<Party, FormFault> {
-        if !has_only(value, &["home", "commands"]) {
+        if !has_only(value, &["home", "limits", "commands"]) {
             return Err(FormFault::OtherForm);
         }
         let home = number_or(0, value.get("home")).ok_or(FormFault::OtherForm)?;
+        let limits = limits(value.get("limits")).ok_or(FormFault::OtherForm)?;
         let commands = list_or_empty(alloc, value.get("commands"))?;
-        Ok(Party { home, commands })
+        Ok(Party {
+            home,
+            limits,
+            commands,
+        })
     }
 }
 
@@ -67,43 +105,6 @@ impl FromJson for ScheduleEntry {
     }
 }
 
-#[tactic(auto, unfolding(crate::specs::Forms::config_form))]
-fn config_of(value: &Value) -> Option<PoolingAllocationConfig>
-    ensures { result ≡ config_form (view value.now) }
-{
-    if !has_only(
-        value,
-        &[
-            "total_memories",
-            "decommit_batch_size",
-            "linear_memory_keep_resident",
-        ],
-    ) {
-        return None;
-    }
-    let total = number_or(10, value.get("total_memories"))?;
-    let batch = number_or(1, value.get("decommit_batch_size"))?;
-    let resident = number_or(0, value.get("linear_memory_keep_resident"))?;
-    if total > 100 {
-        return None;
-    }
-    let mut config = PoolingAllocationConfig::default();
-    config.limits.total_memories = total as u32;
-    config.decommit_batch_size = batch as usize;
-    config.linear_memory_keep_resident = resident as usize;
-    Some(config)
-}
-
-/// Settings that may be left out.
-fn config(field: Option<&Value>) -> Option<PoolingAllocationConfig>
-    ensures { result ≡ optional default_config config_form (option_map (λ v. view v.now) field.entry) }
-{
-    match field {
-        None => Some(PoolingAllocationConfig::default()),
-        Some(value) => config_of(value),
-    }
-}
-
 impl FromJson for Input {
     ghost form = { input_form };
 
@@ -111,21 +112,32 @@ impl FromJson for Input {
     fn from_json(alloc: Global, value: &Value) -> Result<Input, FormFault> {
         if !has_only(
             value,
-            &["config", "modules", "parties", "schedule", "finish"],
+            &[
+                "page", "config", "tunables", "offered", "modules", "parties", "schedule",
+                "finish", "faults",
+            ],
         ) {
             return Err(FormFault::OtherForm);
         }
+        let page = number_or(4096, value.get("page")).ok_or(FormFault::OtherForm)?;
         let config = config(value.get("config")).ok_or(FormFault::OtherForm)?;
+        let tunables = tunables(value.get("tunables")).ok_or(FormFault::OtherForm)?;
+        let offered = offered(value.get("offered")).ok_or(FormFault::OtherForm)?;
         let modules = list_or_empty(alloc, value.get("modules"))?;
         let parties = list_or_empty(alloc, value.get("parties"))?;
         let schedule = list_or_empty(alloc, value.get("schedule"))?;
         let finish = flag_or(true, value.get("finish")).ok_or(FormFault::OtherForm)?;
+        let faults = list_or_empty(alloc, value.get("faults"))?;
         Ok(Input {
+            page: page as usize,
             config,
+            tunables,
+            offered,
             modules,
             parties,
             schedule,
             finish,
+            faults,
         })
     }
 }

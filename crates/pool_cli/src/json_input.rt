@@ -1,14 +1,16 @@
 ghost use Rattle.std.specs.Prelude.{◌≡◌, true, IfOk};
 ghost use Rattle.serde_json.specs.Read.{read};
 ghost use Rattle.serde_json.specs.View.{view};
-ghost use Rattle.pool_run.specs.Built.{is_built};
+ghost use Rattle.pool_run.specs.Built.{is_ready};
 ghost use Rattle.pool_run.specs.Validity.{is_valid};
 ghost use Rattle.pool_cli.specs.Forms.{input_form};
+ghost use Rattle.pool_cli.specs.Ranges.{numbers_fit};
 ghost use Rattle.pool_cli.specs.Reading.{reading, reading_of_input, reading_of_json, reading_of_form, Reads};
 
 use crate::form_fault::FormFault;
 use crate::from_json::FromJson;
-use pool_run::{Input, is_built, is_valid};
+use crate::ranges::numbers_fit;
+use pool_run::{Input, is_ready, is_valid};
 use serde_json::Value;
 use std::alloc::Global;
 
@@ -22,28 +24,28 @@ pub enum InputFault {
     Memory,
 }
 
-/// Only what is built is tested further.
-fn tested(input: Input) -> Result<Input, InputFault>
-    ensures reads { Reads (reading_of_input input) result }
-    ensures built { IfOk result (λ input. is_built input ≡ true) }
+/// Only what is built is tested further. `fit` says whether all numbers fit their types.
+fn tested(input: Input, fit: bool) -> Result<Input, InputFault>
+    ensures reads { Reads (reading_of_input fit input) result }
+    ensures ready { IfOk result (λ input. is_ready input ≡ true) }
     ensures valid { IfOk result (λ input. is_valid input ≡ true) }
 {
-    if !is_built(&input) {
+    if !is_ready(&input) {
         return Err(InputFault::NotBuilt);
     }
-    if !is_valid(&input) {
+    if !fit || !is_valid(&input) {
         return Err(InputFault::Invalid);
     }
     Ok(input)
 }
 
 fn input_of(alloc: Global, value: &Value) -> Result<Input, InputFault>
-    ensures reads { Reads (reading_of_form (input_form (view value.now))) result }
-    ensures built { IfOk result (λ input. is_built input ≡ true) }
+    ensures reads { Reads (reading_of_form (numbers_fit (view value.now)) (input_form (view value.now))) result }
+    ensures ready { IfOk result (λ input. is_ready input ≡ true) }
     ensures valid { IfOk result (λ input. is_valid input ≡ true) }
 {
     match Input::from_json(alloc, value) {
-        Ok(input) => tested(input),
+        Ok(input) => tested(input, numbers_fit(value)),
         Err(FormFault::OtherForm) => Err(InputFault::NotBuilt),
         Err(FormFault::Memory) => Err(InputFault::Memory),
     }
@@ -51,7 +53,7 @@ fn input_of(alloc: Global, value: &Value) -> Result<Input, InputFault>
 
 fn read_text(alloc: Global, text: &str) -> Result<Input, InputFault>
     ensures reads { Reads (reading_of_json (read text.now)) result }
-    ensures built { IfOk result (λ input. is_built input ≡ true) }
+    ensures ready { IfOk result (λ input. is_ready input ≡ true) }
     ensures valid { IfOk result (λ input. is_valid input ≡ true) }
 {
     match Value::from_str(alloc, text) {
@@ -69,7 +71,7 @@ fn read_text(alloc: Global, text: &str) -> Result<Input, InputFault>
 /// Reads the input that the bytes are.
 pub fn read_input(alloc: Global, bytes: &[u8]) -> Result<Input, InputFault>
     ensures reads { Reads (reading bytes.now) result }
-    ensures built { IfOk result (λ input. is_built input ≡ true) }
+    ensures ready { IfOk result (λ input. is_ready input ≡ true) }
     ensures valid { IfOk result (λ input. is_valid input ≡ true) }
 {
     match str::from_utf8(bytes) {

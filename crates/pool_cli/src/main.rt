@@ -12,6 +12,8 @@ mod memory_streams;
 mod modules;
 mod pool_main;
 mod print;
+mod ranges;
+mod settings;
 mod stages;
 mod standard_streams;
 mod status;

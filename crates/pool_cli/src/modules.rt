@@ -1,9 +1,10 @@
 ghost use Rattle.std.specs.Prelude.{◌≡◌, None, option_map};
+ghost use Rattle.pool_pages.specs.declared.module_types.IndexType.TheVariants.{I32};
 ghost use Rattle.serde_json.specs.View.{view};
 ghost use Rattle.pool_cli.specs.Fields.{IsOfForm, optional, or_null};
-ghost use Rattle.pool_cli.specs.Forms.{image_form, plain_memory, memory_form, module_form};
+ghost use Rattle.pool_cli.specs.ModuleForms.{image_form, index_form, index_named, page_log2_form, memory_type_form, memory_form, module_form};
 
-use crate::fields::{bytes, has_only, number, number_or};
+use crate::fields::{bytes, flag_or, has_only, number, number_or, number_or_none};
 use crate::form_fault::FormFault;
 use crate::from_json::{FromJson, list_or_empty};
 use pool_pages::{ImageDecl, IndexType, Limits, MemoryDecl, MemoryType, ModuleInfo};
@@ -13,18 +14,14 @@ use std::alloc::Global;
 impl FromJson for ImageDecl {
     ghost form = { image_form };
 
-    #[tactic(auto, unfolding(crate::specs::Forms::image_form))]
+    #[tactic(auto, unfolding(crate::specs::ModuleForms::image_form))]
     fn from_json(alloc: Global, value: &Value) -> Result<ImageDecl, FormFault> {
         if !has_only(value, &["offset", "hex"]) {
             return Err(FormFault::OtherForm);
         }
         let offset = number(value.get("offset")).ok_or(FormFault::OtherForm)?;
         let bytes = bytes(alloc, value.get("hex"))?;
-        if offset == 0 && 1 <= bytes.len() && bytes.len() <= 65536 {
-            Ok(ImageDecl { offset, bytes })
-        } else {
-            Err(FormFault::OtherForm)
-        }
+        Ok(ImageDecl { offset, bytes })
     }
 }
 
@@ -47,49 +44,84 @@ fn image(alloc: Global, field: Option<&Value>) -> Result<Option<ImageDecl>, Form
     }
 }
 
-/// A memory of pages of 65,536 bytes, with addresses of 32 bits and no maximum.
-fn plain_memory(min: u64) -> MemoryType
-    ensures { result ≡ plain_memory min }
+fn index_named(name: &str) -> Option<IndexType>
+    ensures { result ≡ index_named name.now }
 {
-    MemoryType {
-        idx_type: IndexType::I32,
-        limits: Limits { min, max: None },
-        shared: false,
-        page_size_log2: 16,
+    if name == "i32" {
+        Some(IndexType::I32)
+    } else if name == "i64" {
+        Some(IndexType::I64)
+    } else {
+        None
     }
+}
+
+/// The type of addresses, which may be left out.
+fn index(field: Option<&Value>) -> Option<IndexType>
+    ensures { result ≡ optional I32 index_form (option_map (λ v. view v.now) field.entry) }
+{
+    match field {
+        None => Some(IndexType::I32),
+        Some(value) => index_named(value.as_str()?),
+    }
+}
+
+/// The size of a memory's pages as a power of two, which may be left out.
+fn page_log2(field: Option<&Value>) -> Option<u8>
+    ensures { result ≡ optional 16 page_log2_form (option_map (λ v. view v.now) field.entry) }
+{
+    let log2 = number_or(16, field)?;
+    if log2 == 0 || log2 == 16 {
+        Some(log2 as u8)
+    } else {
+        None
+    }
+}
+
+#[tactic(auto, unfolding(crate::specs::ModuleForms::memory_type_form))]
+fn memory_type(value: &Value) -> Option<MemoryType>
+    ensures { result ≡ memory_type_form (view value.now) }
+{
+    let min = number_or(0, value.get("min"))?;
+    let max = number_or_none(value.get("max"))?;
+    let idx_type = index(value.get("index"))?;
+    let shared = flag_or(false, value.get("shared"))?;
+    let page_size_log2 = page_log2(value.get("page_log2"))?;
+    Some(MemoryType {
+        idx_type,
+        limits: Limits { min, max },
+        shared,
+        page_size_log2,
+    })
 }
 
 impl FromJson for MemoryDecl {
     ghost form = { memory_form };
 
-    #[tactic(auto, unfolding(crate::specs::Forms::memory_form))]
+    #[tactic(auto, unfolding(crate::specs::ModuleForms::memory_form))]
     fn from_json(alloc: Global, value: &Value) -> Result<MemoryDecl, FormFault> {
-        if !has_only(value, &["min", "image"]) {
+        if !has_only(
+            value,
+            &["min", "max", "index", "shared", "page_log2", "image"],
+        ) {
             return Err(FormFault::OtherForm);
         }
-        let min = number_or(0, value.get("min")).ok_or(FormFault::OtherForm)?;
+        let ty = memory_type(value).ok_or(FormFault::OtherForm)?;
         let image = image(alloc, value.get("image"))?;
-        if min == 1 || min == 0 && image.is_none() {
-            Ok(MemoryDecl {
-                ty: plain_memory(min),
-                image,
-            })
-        } else {
-            Err(FormFault::OtherForm)
-        }
+        Ok(MemoryDecl { ty, image })
     }
 }
 
 impl FromJson for ModuleInfo {
     ghost form = { module_form };
 
-    #[tactic(auto, unfolding(crate::specs::Forms::module_form))]
+    #[tactic(auto, unfolding(crate::specs::ModuleForms::module_form))]
     fn from_json(alloc: Global, value: &Value) -> Result<ModuleInfo, FormFault> {
         if !has_only(value, &["memories"]) {
             return Err(FormFault::OtherForm);
         }
         let memories = list_or_empty(alloc, value.get("memories"))?;
-        if memories.len() == 1 {
+        if memories.len() <= 1 {
             Ok(ModuleInfo { memories })
         } else {
             Err(FormFault::OtherForm)

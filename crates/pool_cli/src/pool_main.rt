@@ -45,7 +45,7 @@ pub fn pool_main<S: Source, K: Sink, M: PageMaker>(
     ensures ok { result ≡ Status.Ok → WroteOutput M.Region (task_of words.now) (S.told source.old) (S.told source.new) (K.told sink.old) (K.told sink.new) (M.told pages.old) }
     ensures bad_usage { result ≡ Status.BadUsage → (task_of words.now ≡ Unknown) × Unread (S.told source.old) (S.told source.new) × Wrote (line_of failure.BadUsage) (K.told sink.old) (K.told sink.new) }
     ensures bad_input { result ≡ Status.BadInput → (task_of words.now ≡ Run) × HasRead invalid (S.told source.old) (S.told source.new) × Wrote (line_of failure.BadInput) (K.told sink.old) (K.told sink.new) }
-    // The source was read to its end, the bytes read are an input that can be run but for its settings, and the line written says which of their limits is the first that is broken.
+    // The source was read to its end, the bytes read are an input that can be run but for its settings, and the line written says which of their rules is the first that is broken.
     ensures bad_config { result ≡ Status.BadConfig → WroteBadConfig (task_of words.now) (S.told source.old) (S.told source.new) (K.told sink.old) (K.told sink.new) }
     ensures page_fault { result ≡ Status.PageFault → (task_of words.now ≡ Run) × HasNoPool (S.told source.old) (S.told source.new) (M.told pages.old) (M.told pages.new) × Wrote (line_of failure.PageFault) (K.told sink.old) (K.told sink.new) }
     ensures read_fault { result ≡ Status.ReadFault → (task_of words.now ≡ Run) × Rose (S.told source.old).faults (S.told source.new).faults × Wrote (line_of failure.ReadFault) (K.told sink.old) (K.told sink.new) }

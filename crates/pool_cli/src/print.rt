@@ -1,9 +1,10 @@
-ghost use Rattle.std.specs.Prelude.{◌≡◌, ◌++◌, Some, IfOk, OnOk, string_bytes};
-ghost use Rattle.pool_cli.specs.Output.{numbers_text, bytes_text, refusal_text, alloc_error_text, denied_text, trap_text, grown_text, reply_text, reply_line, reply_lines, party_lines, named, named_or_none, live_text, warm_text, metrics_line, pages_line, output_text};
+ghost use Rattle.std.specs.Prelude.{◌≡◌, ◌++◌, Some, codes, IfOk, OnOk, string_bytes};
+ghost use Rattle.pool_pages.specs.UnsupportedTexts.{unsupported_text};
+ghost use Rattle.pool_cli.specs.Output.{numbers_text, bytes_text, one_line, refusal_text, alloc_error_text, denied_text, trap_text, grown_text, reply_text, reply_line, reply_lines, party_lines, named, named_or_none, live_text, warm_text, metrics_line, pages_line, output_text};
 
 use pool_alloc::Metrics;
 use pool_limits::Trap;
-use pool_pages::PageCalls;
+use pool_pages::{PageCalls, Unsupported};
 use pool_run::{Refusal, Reply, ReplyList, RunOutput};
 use pool_slots::AllocError as Refused;
 use std::alloc::{AllocError, Global};
@@ -34,21 +35,51 @@ fn push_bytes(alloc: Global, out: &mut String, bytes: &[u8]) -> Result<(), Alloc
     out.push_str(text.as_str())
 }
 
-fn push_refusal(out: &mut String, refusal: Refusal) -> Result<(), AllocError>
+fn push_refusal(alloc: Global, out: &mut String, refusal: Refusal) -> Result<(), AllocError>
     ensures { OnOk result (string_bytes out.new ≡ string_bytes out.old ++ refusal_text refusal) }
 {
     match refusal {
         Refusal::NoSuchGrant => out.push_str("NoSuchGrant"),
-        Refusal::Alloc(error) => push_alloc_error(out, error),
+        Refusal::Alloc(error) => push_alloc_error(alloc, out, error),
     }
 }
 
-fn push_alloc_error(out: &mut String, error: Refused) -> Result<(), AllocError>
+/// Adds the text on one line.
+fn push_one_line(out: &mut String, text: &str) -> Result<(), AllocError>
+    ensures { OnOk result (string_bytes out.new ≡ string_bytes out.old ++ one_line text.now) }
+{
+    let mut rest = text;
+    'parts: loop {
+        let Some((line, after)) = rest.split_once('\n') else {
+            return out.push_str(rest);
+        };
+        out.push_str(line)?;
+        out.push_str("\\n")?;
+        rest = after;
+    }
+}
+
+/// Adds the rule's text on one line.
+fn push_rule(alloc: Global, out: &mut String, rule: Unsupported) -> Result<(), AllocError>
+    ensures { OnOk result (string_bytes out.new ≡ string_bytes out.old ++ one_line (unsupported_text rule)) }
+{
+    let text = rule.to_string(alloc)?;
+    push_one_line(out, text.as_str())
+}
+
+fn push_unsupported(alloc: Global, out: &mut String, rule: Unsupported) -> Result<(), AllocError>
+    ensures { OnOk result (string_bytes out.new ≡ string_bytes out.old ++ (codes "Unsupported: " ++ one_line (unsupported_text rule))) }
+{
+    out.push_str("Unsupported: ")?;
+    push_rule(alloc, out, rule)
+}
+
+fn push_alloc_error(alloc: Global, out: &mut String, error: Refused) -> Result<(), AllocError>
     ensures { OnOk result (string_bytes out.new ≡ string_bytes out.old ++ alloc_error_text error) }
 {
     match error {
         Refused::Memory => out.push_str("NoMemory"),
-        Refused::Unsupported(rule) => write!(out, "Unsupported: {rule}"),
+        Refused::Unsupported(rule) => push_unsupported(alloc, out, rule),
         Refused::Limit(limit) => write!(out, "PoolConcurrencyLimitError: {limit}"),
         Refused::LimiterDenied { table, min } => {
             out.push_str("LimiterDenied: ")?;
@@ -115,7 +146,7 @@ fn push_reply(alloc: Global, out: &mut String, reply: &Reply) -> Result<(), Allo
         Reply::Returned => out.push_str("returned"),
         Reply::Refused(refusal) => {
             out.push_str("refused ")?;
-            push_refusal(out, *refusal)
+            push_refusal(alloc, out, *refusal)
         }
         Reply::Trap(trap) => {
             out.push_str("trap ")?;

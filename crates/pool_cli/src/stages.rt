@@ -1,6 +1,6 @@
 ghost use Rattle.std.specs.Prelude.{◌≡◌, true, IfOk};
 ghost use Rattle.pool_pages.specs.declared.bad_config.BadConfig.{BadConfig};
-ghost use Rattle.pool_run.specs.Built.{is_built};
+ghost use Rattle.pool_run.specs.Built.{is_ready};
 ghost use Rattle.pool_run.specs.Validity.{is_valid};
 ghost use Rattle.pool_cli.specs.Lines.{config_line};
 ghost use Rattle.pool_cli.specs.Preparing.{ReadsInput, Prepares, Finishes, Refuses};
@@ -21,7 +21,7 @@ use std::alloc::Global;
 /// Reads the input.
 fn input_from<S: Source>(alloc: Global, source: &mut S) -> Result<Input, Failure>
     ensures reads { ReadsInput (S.told source.old) (S.told source.new) result }
-    ensures built { IfOk result (λ input. is_built input ≡ true) }
+    ensures ready { IfOk result (λ input. is_ready input ≡ true) }
     ensures valid { IfOk result (λ input. is_valid input ≡ true) }
 {
     let bytes = match read_all(alloc, source) {

@@ -5,7 +5,9 @@ use crate::status::Status;
 use crate::untold_pages::UntoldPages;
 use pool_alloc::Metrics;
 use pool_limits::Trap;
-use pool_pages::{ByteList, MemoryPages, PageCalls, PageMaker, PageSize, PlainList};
+use pool_pages::{
+    ByteList, MemoryPages, PageCalls, PageMaker, PageSize, PlainList, Unsupported,
+};
 use pool_run::{Refusal, Reply, ReplyList, RunOutput};
 use pool_slots::{AllocError as Refused, ConcurrencyKind, PoolConcurrencyLimitError};
 use std::alloc::{AllocError, Global};
@@ -92,6 +94,15 @@ const DROPS_NOTHING: &str = "{\"parties\":[{\"commands\":[{\"do\":\"drop\",\"of\
 
 const NO_HOME: &str = "{\"parties\":[{\"home\":65536}]}";
 
+const FAULT_OF_A_TABLE: &str = "{\"faults\":[{\"kind\":\"table\",\"slot\":0,\"call\":0}]}";
+
+const SHORT_ADDRESSES: &str = "{\"modules\":[{\"memories\":[{\"index\":\"i16\"}]}]}";
+
+const MANY_MEMORIES: &str = "{\"config\":{\"total_memories\":4294967296}}";
+
+const LARGE_BYTE: &str =
+    "{\"modules\":[{\"memories\":[{}]}],\"parties\":[{\"commands\":[{\"do\":\"instantiate\",\"module\":0},{\"do\":\"fill\",\"of\":0,\"at\":0,\"len\":0,\"byte\":256}]}]}";
+
 const MINUS_NOUGHT: &str = "{\"parties\":[{\"commands\":[{\"do\":\"drop\",\"of\":-0}]}]}";
 
 #[test]
@@ -101,7 +112,10 @@ fn statuses_of_inputs(rt: HostRuntime) -> Result<(), Fail> {
         (CUT_OFF, 1, 0, Status::ReadFault, ""),
         (CUT_OFF, 0, 2, Status::WriteFault, "error BadI"),
         ("{\"finish\":1}", 0, 0, Status::NotBuilt, NOT_BUILT),
-        ("{\"faults\":[]}", 0, 0, Status::NotBuilt, NOT_BUILT),
+        (FAULT_OF_A_TABLE, 0, 0, Status::NotBuilt, NOT_BUILT),
+        (SHORT_ADDRESSES, 0, 0, Status::NotBuilt, NOT_BUILT),
+        (MANY_MEMORIES, 0, 0, Status::BadInput, BAD_INPUT),
+        (LARGE_BYTE, 0, 0, Status::BadInput, BAD_INPUT),
         (
             "{\"schedule\":[[0,1,2]]}",
             0,
@@ -144,6 +158,11 @@ fn replies(alloc: Global) -> Result<ReplyList, AllocError> {
     all.push(Reply::Refused(Refusal::Alloc(Refused::Memory)))?;
     all.push(Reply::Refused(Refusal::NoSuchGrant))?;
     all.push(Reply::Trap(Trap::MemoryOutOfBounds))?;
+    let too_large = Unsupported::InstanceSize {
+        size: 32,
+        limit: 16,
+    };
+    all.push(Reply::Refused(Refusal::Alloc(Refused::Unsupported(too_large))))?;
     Ok(PlainList::from_vec(all))
 }
 
@@ -160,6 +179,7 @@ const OUTPUT: &str = "0.0: granted memories 0,12 tables -\n\
 0.10: refused NoMemory\n\
 0.11: refused NoSuchGrant\n\
 0.12: trap MemoryOutOfBounds\n\
+0.13: refused Unsupported: instance allocation for this module requires 32 bytes which exceeds the configured maximum of 16 bytes; breakdown of allocation requirement:\\n\\n\n\
 2.0: done\n\
 metrics core=1 component=0 memories=1 tables=0 stacks=0 heaps=0 warm_memories=0 memory_resident=0 warm_tables=0 table_resident=0 warm_stacks=0 stack_resident=none\n\
 pages expose=1 hide=0 map_image=1 remap_zeros=0 erase=0 recolour=0 decommit=1\n";
@@ -243,6 +263,19 @@ const RESIDENT_OUTPUT: &str = "0.0: granted memories 0 tables -\n\
 metrics core=0 component=0 memories=0 tables=0 stacks=0 heaps=0 warm_memories=1 memory_resident=4096 warm_tables=0 table_resident=0 warm_stacks=0 stack_resident=none\n\
 pages expose=1 hide=0 map_image=0 remap_zeros=0 erase=0 recolour=0 decommit=1\n";
 
+const MOVES: &str =
+    "{\"config\":{\"total_memories\":1},\"modules\":[{\"memories\":[{\"min\":1}]}],\"parties\":[{\"commands\":[{\"do\":\"instantiate\",\"module\":0},{\"do\":\"grow\",\"of\":0,\"pages\":0},{\"do\":\"grow\",\"of\":0,\"pages\":1},{\"do\":\"size\",\"of\":0},{\"do\":\"fill\",\"of\":0,\"at\":65534,\"len\":2,\"byte\":255},{\"do\":\"read\",\"of\":0,\"at\":65533,\"len\":3},{\"do\":\"fill\",\"of\":0,\"at\":65534,\"len\":3,\"byte\":1}]}]}";
+
+const MOVES_OUTPUT: &str = "0.0: granted memories 0 tables -\n\
+0.1: grown 65536\n\
+0.2: grown none\n\
+0.3: size 65536\n\
+0.4: done\n\
+0.5: bytes 00ffff\n\
+0.6: trap MemoryOutOfBounds\n\
+metrics core=1 component=0 memories=1 tables=0 stacks=0 heaps=0 warm_memories=0 memory_resident=0 warm_tables=0 table_resident=0 warm_stacks=0 stack_resident=none\n\
+pages expose=1 hide=0 map_image=0 remap_zeros=0 erase=0 recolour=0 decommit=0\n";
+
 const FAR_FROM_HOME: &str = "{\"parties\":[{\"home\":65535}],\"schedule\":[],\"finish\":true}";
 
 const NO_BATCH: &str = "{\"config\":{\"decommit_batch_size\":0}}";
@@ -253,6 +286,21 @@ const TOO_RESIDENT: &str = "{\"config\":{\"linear_memory_keep_resident\":4294967
 
 const TOO_RESIDENT_LINE: &str =
     "error BadConfig: linear_memory_keep_resident of 4294967297 exceeds 4294967296\n";
+
+const TOO_MANY: &str = "{\"config\":{\"total_memories\":4294967295}}";
+
+const TOO_MANY_LINE: &str = "error BadConfig: total_memories of 4294967295 exceeds 100000\n";
+
+const NO_PAGE: &str =
+    "{\"page\":17,\"config\":{\"decommit_batch_size\":0},\"offered\":{\"behaviour\":\"zero\"}}";
+
+const NO_PAGE_LINE: &str = "error BadConfig: page size 17 is not a power of two from 16 to 65536\n";
+
+const NOT_RESERVED: &str =
+    "{\"config\":{\"max_memory_size\":4295032832},\"tunables\":{\"memory_reservation\":65536}}";
+
+const NOT_RESERVED_LINE: &str =
+    "error BadConfig: maximum memory size of 0x100010000 bytes exceeds the configured memory reservation of 0x10000 bytes\n";
 
 const NO_RUN_OUTPUT: &str =
     "metrics core=0 component=0 memories=0 tables=0 stacks=0 heaps=0 warm_memories=0 memory_resident=0 warm_tables=0 table_resident=0 warm_stacks=0 stack_resident=none\n\
@@ -268,9 +316,13 @@ fn runs(rt: HostRuntime) -> Result<(), Fail> {
         (BATCH, 0, Status::Ok, BATCH_OUTPUT),
         (OTHER_MODULE, 0, Status::Ok, OTHER_MODULE_OUTPUT),
         (RESIDENT, 0, Status::Ok, RESIDENT_OUTPUT),
+        (MOVES, 0, Status::Ok, MOVES_OUTPUT),
         (NO_BATCH, 0, Status::BadConfig, NO_BATCH_LINE),
         (NO_BATCH, 2, Status::WriteFault, "error BadC"),
         (TOO_RESIDENT, 0, Status::BadConfig, TOO_RESIDENT_LINE),
+        (TOO_MANY, 0, Status::BadConfig, TOO_MANY_LINE),
+        (NO_PAGE, 0, Status::BadConfig, NO_PAGE_LINE),
+        (NOT_RESERVED, 0, Status::BadConfig, NOT_RESERVED_LINE),
     ] {
         let (ends, sink) = ended(rt.alloc(), "run", input, 0, write)?;
         assert_eq!(rt; ends, status, "at {input}");

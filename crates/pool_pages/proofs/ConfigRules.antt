@@ -1,5 +1,5 @@
 -- The first broken limit, as the tests find it.
-use Rattle.std.proofs.Common.{◌≡◌, ◌&&◌, nat_le, ℕ, ◌≤◌, Bool, true, false, List, [], ◌∷◌, Option, Some, None, find, cond, option_map, refl, sym, ap}
+use Rattle.std.proofs.Common.{◌≡◌, ◌&&◌, nat_le, ℕ, Bool, true, false, List, [], ◌∷◌, Option, Some, None, find, cond, option_map, refl, sym, ap}
 use Rattle.std.proofs.lemmas.Bool.{leb-true, ltb-false}
 use Rattle.pool_pages.specs.declared.bad_config.ConfigField.{ConfigField}
 use Rattle.pool_pages.specs.declared.config.PoolingAllocationConfig.{PoolingAllocationConfig}

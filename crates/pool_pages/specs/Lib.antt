@@ -15,5 +15,6 @@ pub mod MemoryTold
 pub mod MemoryTypes
 pub mod Numerals
 pub mod PageLaws
+pub mod SettingsRules
 pub mod Told
 pub mod UnsupportedTexts

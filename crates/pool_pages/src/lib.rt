@@ -31,6 +31,7 @@ mod page_laws;
 mod pages;
 mod plain_list;
 mod region;
+mod settings_rules;
 #[cfg(test)]
 mod settings_tests;
 mod text;

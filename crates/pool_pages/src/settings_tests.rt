@@ -53,6 +53,64 @@ fn the_first_broken_limit_is_found(rt: HostRuntime) -> Result<(), Fail> {
     Ok(())
 }
 
+// The first broken rule of these sizes, with 10 memories and 6 tables of 4,096 bytes, in pages of 4,096 bytes.
+fn refusal(max: usize, reservation: u64, guard: u64, before: bool) -> Option<BadConfig> {
+    let mut config = PoolingAllocationConfig::default();
+    config.limits.max_memory_size = max;
+    config.limits.total_tables = 6;
+    let mut tunables = Tunables::default();
+    tunables.memory_reservation = reservation;
+    tunables.memory_guard_size = guard;
+    tunables.guard_before_linear_memory = before;
+    config.check_rules(&tunables, 4096).err()
+}
+
+// The most pages that ten slots can share below 2^64 bytes, in bytes.
+const SHARE: u64 = 1844674407370952704;
+
+#[test]
+fn the_first_broken_rule_is_found(rt: HostRuntime) -> Result<(), Fail> {
+    let mut config = PoolingAllocationConfig::default();
+    let tunables = Tunables::default();
+    for page in [16, 65536] {
+        assert!(rt; config.check_rules(&tunables, page).is_ok());
+    }
+    config.decommit_batch_size = 0;
+    for size in [8, 17, 24, 131072] {
+        assert!(rt; config.check_rules(&tunables, size) == Err(BadConfig::PageSize { size }));
+    }
+    config.limits.max_memory_size = 1048577;
+    let batch = BadConfig::DecommitBatch { size: 0 };
+    assert!(rt; config.check_rules(&tunables, 4096) == Err(batch));
+    let exceeds = BadConfig::Reservation {
+        max: 65537,
+        reservation: 65536,
+    };
+    let slab = BadConfig::SlabArithmetic;
+    let regions = BadConfig::Regions { bytes: 4294967296 };
+    for (max, reservation, guard, before, found) in [
+        (65536, 65536, 0, false, None),
+        (65537, 65536, 0, false, Some(exceeds)),
+        (4096, SHARE, 0, false, None),
+        (4096, SHARE + 1, 0, false, Some(slab)),
+        (4096, SHARE - 8192, 4097, false, None),
+        (4096, SHARE - 4096, 4097, false, Some(slab)),
+        (4096, SHARE - 65536, 65536, false, None),
+        (4096, SHARE - 65536, 65536, true, Some(slab)),
+        (4096, 18446744073709551615, 0, false, Some(slab)),
+        (4096, 4096, 18446744073709551615, false, Some(slab)),
+        (429490176, SHARE, 0, false, None),
+        (429490177, SHARE, 0, false, Some(regions)),
+        (429494272, SHARE, 0, false, Some(regions)),
+    ] {
+        assert!(rt;
+            refusal(max, reservation, guard, before) == found,
+            "at {max} {reservation}"
+        );
+    }
+    Ok(())
+}
+
 #[test]
 fn printed_refusals(rt: HostRuntime) -> Result<(), Fail> {
     let alloc = rt.alloc();

@@ -54,7 +54,7 @@ map_all f xs i all = ap (map f) (take_all i xs all)
 
 -- a party that doesn't matter
 nobody : Party
-nobody = record { home = 0; commands = [] }
+nobody = record { home = 0; limits = None; commands = [] }
 
 module _ {P : Type 0} where
   -- a turn that was made is one of the run

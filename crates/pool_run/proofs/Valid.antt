@@ -4,14 +4,14 @@ use Rattle.std.specs.Prelude.{nat_le, nat_lt}
 use Rattle.std.specs.List.{list_all, slice_get}
 use Rattle.std.proofs.lemmas.Bool.{leb-true, ltb-true}
 use Rattle.pool_run.specs.Schedules.{turns_of}
-use Rattle.pool_run.specs.Validity.{is_valid, is_valid_party, is_valid_schedule, are_valid_after, homes, most_commands, most_modules, most_parties, most_steps}
+use Rattle.pool_run.specs.Validity.{is_valid, are_valid_modules, is_valid_party, is_valid_schedule, are_valid_after, homes, most_commands, most_parties, most_steps}
 use Rattle.pool_run.specs.declared.input.Input.{Input}
 use Rattle.pool_run.specs.declared.input.Party.{Party}
 use Rattle.pool_run.specs.declared.input.ScheduleEntry.{ScheduleEntry}
 use Rattle.pool_run.proofs.Tests.{first, second, of_all}
 
 valid_rest : (input : Input) → is_valid input ≡ true → (nat_le (length input.parties) most_parties && (is_valid_schedule (length input.parties) input.schedule && list_all (is_valid_party input.modules) input.parties)) ≡ true
-valid_rest input valid = second (nat_le (length input.modules) most_modules) (nat_le (length input.parties) most_parties && (is_valid_schedule (length input.parties) input.schedule && list_all (is_valid_party input.modules) input.parties)) valid
+valid_rest input valid = second (are_valid_modules input.modules) (nat_le (length input.parties) most_parties && (is_valid_schedule (length input.parties) input.schedule && list_all (is_valid_party input.modules) input.parties)) valid
 
 valid_turns : (input : Input) → is_valid input ≡ true → (is_valid_schedule (length input.parties) input.schedule && list_all (is_valid_party input.modules) input.parties) ≡ true
 valid_turns input valid = second (nat_le (length input.parties) most_parties) (is_valid_schedule (length input.parties) input.schedule && list_all (is_valid_party input.modules) input.parties) (valid_rest input valid)

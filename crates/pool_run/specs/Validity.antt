@@ -1,6 +1,9 @@
 -- When an input can be run: its sizes are within the limits, and what it names is there.
 use Rattle.std.specs.Prelude.{ℕ, List, [], ◌∷◌, ◌++◌, length, ◌&&◌, nat_lt, nat_le, Bool, true, false, Option, Some, None}
 use Rattle.std.specs.List.{list_all, slice_get}
+use Rattle.std.specs.Option.{option_map_or}
+use Rattle.pool_pages.specs.declared.module_types.ImageDecl.{ImageDecl}
+use Rattle.pool_pages.specs.declared.module_types.MemoryDecl.{MemoryDecl}
 use Rattle.pool_pages.specs.declared.module_types.ModuleInfo.{ModuleInfo}
 use Rattle.pool_run.specs.declared.command.Command.{Command}
 use Rattle.pool_run.specs.declared.command.Command.TheVariants.{Instantiate, Read, Write, Fill, Grow, Size, Drop}
@@ -12,6 +15,10 @@ use Rattle.pool_run.specs.Schedules.{turns_of}
 -- how many modules there may be
 abbrev pub most_modules : ℕ
 most_modules = 1000
+
+-- how many memories a module may have
+abbrev pub most_memories : ℕ
+most_memories = 100
 
 -- how many parties there may be
 abbrev pub most_parties : ℕ
@@ -29,7 +36,7 @@ most_steps = 10000000
 abbrev pub most_commands : ℕ
 most_commands = 100000
 
--- how many bytes a command may read or write
+-- how many bytes a command may read or write, and an image may have
 abbrev pub most_bytes : ℕ
 most_bytes = 1048576
 
@@ -92,9 +99,19 @@ is_valid_party modules party = nat_lt party.home homes && (nat_le (length party.
 abbrev pub is_valid_schedule : ℕ → List ScheduleEntry → Bool
 is_valid_schedule parties schedule = nat_le (length (turns_of schedule)) most_steps && list_all (λ entry. nat_lt entry.party parties) schedule
 
+-- its image, if it has one, is not too large
+abbrev pub is_valid_memory : MemoryDecl → Bool
+is_valid_memory decl = option_map_or (λ (image : ImageDecl). nat_le (length image.bytes) most_bytes) decl.image true
+
+abbrev pub is_valid_module : ModuleInfo → Bool
+is_valid_module info = nat_le (length info.memories) most_memories && list_all is_valid_memory info.memories
+
+abbrev pub are_valid_modules : List ModuleInfo → Bool
+are_valid_modules modules = nat_le (length modules) most_modules && list_all is_valid_module modules
+
 abbrev pub is_valid : Input → Bool
 is_valid input =
-    nat_le (length input.modules) most_modules
+    are_valid_modules input.modules
     && (nat_le (length input.parties) most_parties
     && (is_valid_schedule (length input.parties) input.schedule
     && list_all (is_valid_party input.modules) input.parties))

@@ -1,10 +1,21 @@
 use crate::command::Command;
-use pool_pages::{ModuleInfo, PlainList, PoolingAllocationConfig};
+use pool_pages::{Fault, ModuleInfo, Offered, PlainList, PoolingAllocationConfig, Tunables};
 
-/// One party: the number from which its home shard and its home queue follow, and what it commands, in order.
+/// What a party's memories may grow to.
+#[derive(Clone, Copy, Debug, PartialEq, Eq)]
+pub struct PartyLimits {
+    /// In bytes.
+    pub memory_size: Option<usize>,
+    /// Whether a growth that fails is an error.
+    pub trap_on_grow_failure: bool,
+}
+
+/// One party: the number from which its home shard and its home queue follow, the limits on its growth, if there are
+/// any, and what it commands, in order.
 #[derive(Debug, Drop)]
 pub struct Party {
     pub home: u64,
+    pub limits: Option<PartyLimits>,
     pub commands: PlainList<Command>,
 }
 
@@ -15,13 +26,18 @@ pub struct ScheduleEntry {
     pub times: u64,
 }
 
-/// What is to be run: the settings of the pool, the modules, the parties, whose steps come in which order, and whether
-/// each party goes on to its end after that.
+/// What is to be run: the settings of the pool, of the engine and of the system, the modules, the parties, whose steps
+/// come in which order, whether each party goes on to its end after that, and what fails.
 #[derive(Debug, Drop)]
 pub struct Input {
+    /// The size of the pool's pages, in bytes.
+    pub page: usize,
     pub config: PoolingAllocationConfig,
+    pub tunables: Tunables,
+    pub offered: Offered,
     pub modules: PlainList<ModuleInfo>,
     pub parties: PlainList<Party>,
     pub schedule: PlainList<ScheduleEntry>,
     pub finish: bool,
+    pub faults: PlainList<Fault>,
 }

@@ -21,9 +21,9 @@ mod told_run;
 mod turn;
 mod validity;
 
-pub use built::is_built;
+pub use built::is_ready;
 pub use command::Command;
-pub use input::{Input, Party, ScheduleEntry};
+pub use input::{Input, Party, PartyLimits, ScheduleEntry};
 pub use leases::Leases;
 pub use output::{RunFault, RunOutput};
 pub use reply::{Refusal, Reply, ReplyList, SlotList};
@@ -33,5 +33,6 @@ pub use run_input::run_schedule;
 pub use running_party::RunningParty;
 pub use turn::turn_of;
 pub use validity::{
-    HOMES, MOST_BYTES, MOST_COMMANDS, MOST_MODULES, MOST_PARTIES, MOST_STEPS, is_valid,
+    HOMES, MOST_BYTES, MOST_COMMANDS, MOST_MEMORIES, MOST_MODULES, MOST_PARTIES, MOST_STEPS,
+    is_valid,
 };

@@ -13,7 +13,7 @@ pub struct RunOutput {
 /// Why nothing was run.
 #[derive(Clone, Copy, Debug, PartialEq, Eq)]
 pub enum RunFault {
-    /// A limit of the settings is broken: the first of them.
+    /// A rule of the settings is broken: the first of them.
     BadConfig(BadConfig),
     /// A region or an image couldn't be made, or a call on a region as the pool was made failed.
     PageFault,

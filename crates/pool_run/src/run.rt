@@ -1,13 +1,13 @@
 ghost use Rattle.std.specs.Prelude.{◌≡◌, ◌↔◌, ℕ, ◌+◌, ◌^◌, ◌<◌, ◌≤◌, Err, Some, length, map, replicate, slice_get, slice_index_or, true, false, fold, IfOk, IfErr};
 ghost use Rattle.pool_pages.specs.Config.{default_tunables};
-ghost use Rattle.pool_pages.specs.ConfigLimits.{IsWithinLimits, first_broken_limit};
+ghost use Rattle.pool_pages.specs.ConfigLimits.{IsWithinLimits};
 ghost use Rattle.pool_pages.specs.MakerTold.{MakerTold};
 ghost use Rattle.pool_pages.specs.declared.bad_config.BadConfig.{BadConfig};
 ghost use Rattle.pool_alloc.specs.Reserved.{no_room};
 ghost use Rattle.pool_alloc.specs.Sound.{IsCore};
 ghost use Rattle.pool_alloc.specs.Sums.{metrics_of};
 ghost use Rattle.pool_alloc.specs.Whole.{IsUntouched};
-ghost use Rattle.pool_run.specs.Built.{is_built};
+ghost use Rattle.pool_run.specs.Built.{broken_rule, is_built, is_ready};
 ghost use Rattle.pool_run.specs.Folds.{TurnsOf, commands_of, state_of, told_after};
 ghost use Rattle.pool_run.specs.Numbers.{with_party, calls_of_run};
 ghost use Rattle.pool_run.specs.Progress.{is_busy, commands_done, Advances, IsRunOf};
@@ -53,25 +53,25 @@ impl<P: Pages> Model for Run<P> {
 
 impl<P: Pages> Run<P> {
     /// Makes a pool of the input's settings, the calls for its modules with their images, and the parties, each with a
-    /// place for each of its commands. A broken limit of the settings is found first.
+    /// place for each of its commands. A broken rule of the settings is found first.
     pub fn new<M: PageMaker<Region = P>>(
         alloc: Global,
         input: &Input,
         pages: &mut M,
     ) -> Result<Self, RunFault>
-        requires built { is_built input.now ≡ true }
+        requires ready { is_ready input.now ≡ true }
         requires valid { is_valid input.now ≡ true }
         ensures made { IfOk result (IsMadeRun default_tunables input.now (M.told pages.old)) }
-        ensures bad_config { (e : BadConfig) → (result ≡ Err (RunFault.BadConfig e)) ↔ (first_broken_limit input.now.config ≡ Some e) }
+        ensures bad_config { (e : BadConfig) → (result ≡ Err (RunFault.BadConfig e)) ↔ (broken_rule input.now ≡ Some e) }
         ensures fault { result ≡ Err RunFault.PageFault → FaultsInMaking input.now (M.told pages.old) (M.told pages.new) }
     {
-        match input.config.check_limits() {
-            Ok(()) => Run::within(alloc, input, pages),
+        match input.config.check_rules(&input.tunables, input.page) {
+            Ok(_) => Run::within(alloc, input, pages),
             Err(error) => Err(RunFault::BadConfig(error)),
         }
     }
 
-    // The same by a maker that is as told. No limit of the settings is broken.
+    // The same by a maker that is as told. No rule of the settings is broken.
     fn within<M: PageMaker<Region = P>>(
         alloc: Global,
         input: &Input,

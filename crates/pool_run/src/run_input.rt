@@ -1,10 +1,9 @@
 ghost use Rattle.std.specs.Prelude.{◌≡◌, ◌↔◌, ◌≤◌, [], Err, Some, length, true, vec_capacity, IfOk, IfErr};
 ghost use Rattle.pool_pages.specs.Config.{default_tunables};
-ghost use Rattle.pool_pages.specs.ConfigLimits.{first_broken_limit};
 ghost use Rattle.pool_pages.specs.MakerTold.{MakerTold};
 ghost use Rattle.pool_pages.specs.declared.bad_config.BadConfig.{BadConfig};
 ghost use Rattle.pool_alloc.specs.Sums.{metrics_of};
-ghost use Rattle.pool_run.specs.Built.{is_built};
+ghost use Rattle.pool_run.specs.Built.{broken_rule, is_ready};
 ghost use Rattle.pool_run.specs.Numbers.{calls_of_run};
 ghost use Rattle.pool_run.specs.Progress.{IsRunOf};
 ghost use Rattle.pool_run.specs.Runs.{IsMadeRun, IsRun, Performs, FaultsInMaking};
@@ -57,7 +56,7 @@ fn output_of<P: Pages>(run: ToldRun<P>, lists: Vec<ReplyList>) -> RunOutput
 fn run_over<P: Pages>(alloc: Global, input: &Input, run: Run<P>) -> Result<RunOutput, AllocError>
     ghost maker: { MakerTold }
     requires made { IsMadeRun default_tunables input.now maker run }
-    requires built { is_built input.now ≡ true }
+    requires ready { is_ready input.now ≡ true }
     requires valid { is_valid input.now ≡ true }
     ensures { IfOk result (IsRun P default_tunables input.now maker) }
 {
@@ -72,7 +71,7 @@ fn run_over<P: Pages>(alloc: Global, input: &Input, run: Run<P>) -> Result<RunOu
 fn run_to_end<P: Pages>(alloc: Global, input: &Input, run: Run<P>) -> Result<RunOutput, RunFault>
     ghost maker: { MakerTold }
     requires made { IsMadeRun default_tunables input.now maker run }
-    requires built { is_built input.now ≡ true }
+    requires ready { is_ready input.now ≡ true }
     requires valid { is_valid input.now ≡ true }
     ensures ok { IfOk result (IsRun P default_tunables input.now maker) }
     ensures memory { IfErr result (λ fault. fault ≡ RunFault.Memory) }
@@ -91,10 +90,10 @@ fn run_by<P: Pages, M: PageMaker<Region = P>>(
 ) -> Result<RunOutput, RunFault>
     ghost maker: { MakerTold }
     requires told { M.told pages.old ≡ maker }
-    requires built { is_built input.now ≡ true }
+    requires ready { is_ready input.now ≡ true }
     requires valid { is_valid input.now ≡ true }
     ensures ok { IfOk result (λ output. IsRun P default_tunables input.now maker output) }
-    ensures bad_config { (e : BadConfig) → (result ≡ Err (RunFault.BadConfig e)) ↔ (first_broken_limit input.now.config ≡ Some e) }
+    ensures bad_config { (e : BadConfig) → (result ≡ Err (RunFault.BadConfig e)) ↔ (broken_rule input.now ≡ Some e) }
     ensures fault { result ≡ Err RunFault.PageFault → FaultsInMaking input.now maker (M.told pages.new) }
 {
     match Run::new(alloc, input, pages) {
@@ -105,7 +104,7 @@ fn run_by<P: Pages, M: PageMaker<Region = P>>(
 
 /// Makes a pool of the input's settings and the images of its modules, and has the parties make their turns over them:
 /// those of the schedule first, and then, where the input says so, those of each party until each of its commands has
-/// its reply. The replies are in the order of the parties and of their commands. Nothing is run where a limit of the
+/// its reply. The replies are in the order of the parties and of their commands. Nothing is run where a rule of the
 /// settings is broken, which is tested first, where a region or an image can't be made, or where there is no memory for
 /// the run and the lists of its replies.
 pub fn run_schedule<P: Pages, M: PageMaker<Region = P>>(
@@ -113,10 +112,10 @@ pub fn run_schedule<P: Pages, M: PageMaker<Region = P>>(
     input: &Input,
     pages: &mut M,
 ) -> Result<RunOutput, RunFault>
-    requires built { is_built input.now ≡ true }
+    requires ready { is_ready input.now ≡ true }
     requires valid { is_valid input.now ≡ true }
     ensures ok { IfOk result (λ output. IsRun P default_tunables input.now (M.told pages.old) output) }
-    ensures bad_config { (e : BadConfig) → (result ≡ Err (RunFault.BadConfig e)) ↔ (first_broken_limit input.now.config ≡ Some e) }
+    ensures bad_config { (e : BadConfig) → (result ≡ Err (RunFault.BadConfig e)) ↔ (broken_rule input.now ≡ Some e) }
     ensures fault { result ≡ Err RunFault.PageFault → FaultsInMaking input.now (M.told pages.old) (M.told pages.new) }
 {
     run_by(alloc, input, pages)

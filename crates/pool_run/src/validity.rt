@@ -1,14 +1,17 @@
 ghost use Rattle.std.specs.Prelude.{◌≡◌, [], List, length, nat_le, nat_lt, take};
 ghost use Rattle.std.specs.List.{list_all, slice_get};
 ghost use Rattle.pool_run.specs.Schedules.{turns_of};
-ghost use Rattle.pool_run.specs.Validity.{is_valid, is_valid_schedule, is_valid_party, is_valid_after, are_valid_after, asks_for_grant, names_memory, homes, most_modules, most_parties, most_steps, most_commands, most_bytes};
+ghost use Rattle.pool_run.specs.Validity.{is_valid, is_valid_memory, is_valid_module, are_valid_modules, is_valid_schedule, is_valid_party, is_valid_after, are_valid_after, asks_for_grant, names_memory, homes, most_memories, most_modules, most_parties, most_steps, most_commands, most_bytes};
 
 use crate::command::Command;
 use crate::input::{Input, Party, ScheduleEntry};
-use pool_pages::ModuleInfo;
+use pool_pages::{MemoryDecl, ModuleInfo};
 
 /// How many modules an input may have.
 pub const MOST_MODULES: usize = 1_000;
+
+/// How many memories a module may have.
+pub const MOST_MEMORIES: usize = 100;
 
 /// How many parties an input may have.
 pub const MOST_PARTIES: usize = 64;
@@ -22,7 +25,7 @@ pub const MOST_STEPS: u64 = 10_000_000;
 /// How many commands a party may have.
 pub const MOST_COMMANDS: usize = 100_000;
 
-/// How many bytes a command may read or write.
+/// How many bytes a command may read or write, and an image may have.
 pub const MOST_BYTES: usize = 1_048_576;
 
 fn asks_for_grant(earlier: &[Command], of: usize) -> bool
@@ -117,13 +120,46 @@ fn is_valid_schedule(parties: usize, schedule: &[ScheduleEntry]) -> bool
     has_few_steps(schedule) && are_named(parties, schedule)
 }
 
+fn is_valid_memory(decl: &MemoryDecl) -> bool
+    ensures { result ≡ is_valid_memory decl.now }
+{
+    match &decl.image {
+        None => true,
+        Some(image) => image.bytes.len() <= MOST_BYTES,
+    }
+}
+
+fn are_valid_memories(memories: &[MemoryDecl]) -> bool
+    ensures { result ≡ list_all is_valid_memory memories.now }
+{
+    memories.iter().all(|decl| is_valid_memory(decl))
+}
+
+fn is_valid_module(info: &ModuleInfo) -> bool
+    ensures { result ≡ is_valid_module info.now }
+{
+    info.memories.len() <= MOST_MEMORIES && are_valid_memories(info.memories.as_slice())
+}
+
+fn is_each_valid(modules: &[ModuleInfo]) -> bool
+    ensures { result ≡ list_all is_valid_module modules.now }
+{
+    modules.iter().all(|info| is_valid_module(info))
+}
+
+fn are_valid_modules(modules: &[ModuleInfo]) -> bool
+    ensures { result ≡ are_valid_modules modules.now }
+{
+    modules.len() <= MOST_MODULES && is_each_valid(modules)
+}
+
 /// Whether the input can be run: its sizes are within the limits, and what it names is there.
 pub fn is_valid(input: &Input) -> bool
     ensures { result ≡ is_valid input.now }
 {
     let modules = input.modules.as_slice();
     let parties = input.parties.as_slice();
-    modules.len() <= MOST_MODULES
+    are_valid_modules(modules)
         && parties.len() <= MOST_PARTIES
         && is_valid_schedule(parties.len(), input.schedule.as_slice())
         && are_valid_parties(modules, parties)

@@ -1,5 +1,5 @@
 use Rattle.std.proofs.Common.{Ok, Err, refl, ap}
-use Rattle.pool_pages.specs.ConfigLimits.{first_broken_limit}
+use Rattle.pool_run.specs.Built.{broken_rule}
 use Rattle.pool_cli.proofs.Endings.{refused_fails, no_limit}
 use Rattle.pool_cli.proofs.stages.run.Goals as goal
 
@@ -13,7 +13,7 @@ returns-in-Err-PageFault g c = (
   record {
     input = c.in_ok-input.input;
     read = c.in_ok-input.ensures.reads;
-    limits = no_limit (first_broken_limit c.in_ok-input.input.config) (Err c.in-Err-PageFault.field-0) c.in-Err-PageFault.ensures.bad_config (λ e is. let fault = c.in-Err-PageFault.field-0-is in cc);
+    limits = no_limit (broken_rule c.in_ok-input.input) (Err c.in-Err-PageFault.field-0) c.in-Err-PageFault.ensures.bad_config (λ e is. let fault = c.in-Err-PageFault.field-0-is in cc);
     making = c.in-Err-PageFault.ensures.fault (ap Err c.in-Err-PageFault.field-0-is);
   },
 )
@@ -25,7 +25,7 @@ returns-in-Ok-output_text g c = (
     input = c.in_ok-input.input;
     output = c.in-Ok.output;
     read = c.in_ok-input.ensures.reads;
-    limits = no_limit (first_broken_limit c.in_ok-input.input.config) (Ok c.in-Ok.output) c.in-Ok.ensures.bad_config (λ e is. cc);
+    limits = no_limit (broken_rule c.in_ok-input.input) (Ok c.in-Ok.output) c.in-Ok.ensures.bad_config (λ e is. cc);
     run = c.in-Ok.ensures.ok;
     text_is = c.in-Ok-output_text.ensures;
   },

@@ -1,0 +1,57 @@
+-- The module that a JSON value is. `None` says that it has another form than those accepted so far.
+use Rattle.std.specs.Prelude.{ℕ, ◌==◌, ◌||◌, List, [], ◌∷◌, length, codes, nat_le, false, if◌then◌else◌, Option, Some, None}
+use Rattle.std.specs.Str.{bytes_eq}
+use Rattle.serde_json.specs.Data.{Data}
+use Rattle.serde_json.specs.Find.{get, as_bool, as_str}
+use Rattle.pool_pages.specs.declared.module_types.IndexType.{IndexType}
+use Rattle.pool_pages.specs.declared.module_types.IndexType.TheVariants.{I32, I64}
+use Rattle.pool_pages.specs.declared.module_types.MemoryType.{MemoryType}
+use Rattle.pool_pages.specs.declared.module_types.ImageDecl.{ImageDecl}
+use Rattle.pool_pages.specs.declared.module_types.MemoryDecl.{MemoryDecl}
+use Rattle.pool_pages.specs.declared.module_types.ModuleInfo.{ModuleInfo}
+use Rattle.pool_cli.specs.Fields.{◌>>=◌, only, given, whole_number, hex_bytes, required, optional, or_null, list_of}
+
+-- bytes at an offset
+unfoldable pub image_form : Data → Option ImageDecl
+image_form value = do
+  fields ← only (codes "offset" ∷ codes "hex" ∷ []) value
+  offset ← required whole_number (get (codes "offset") fields)
+  bytes ← required hex_bytes (get (codes "hex") fields)
+  Some (record { offset = offset; bytes = bytes })
+
+-- the type of addresses of this name
+abbrev pub index_named : List ℕ → Option IndexType
+index_named name =
+    if bytes_eq name (codes "i32") then Some I32
+    else if bytes_eq name (codes "i64") then Some I64
+    else None
+
+abbrev pub index_form : Data → Option IndexType
+index_form value = as_str value >>= index_named
+
+-- pages of one byte or of 65,536
+abbrev pub page_log2_form : Data → Option ℕ
+page_log2_form value = whole_number value >>= (λ n. given (n == 0 || n == 16) n)
+
+unfoldable pub memory_type_form : Data → Option MemoryType
+memory_type_form fields = do
+  min ← optional 0 whole_number (get (codes "min") fields)
+  max ← optional None (or_null whole_number) (get (codes "max") fields)
+  index ← optional I32 index_form (get (codes "index") fields)
+  shared ← optional false as_bool (get (codes "shared") fields)
+  log2 ← optional 16 page_log2_form (get (codes "page_log2") fields)
+  Some (record { idx_type = index; limits = record { min = min; max = max }; shared = shared; page_size_log2 = log2 })
+
+unfoldable pub memory_form : Data → Option MemoryDecl
+memory_form value = do
+  fields ← only (codes "min" ∷ codes "max" ∷ codes "index" ∷ codes "shared" ∷ codes "page_log2" ∷ codes "image" ∷ []) value
+  ty ← memory_type_form fields
+  image ← optional None (or_null image_form) (get (codes "image") fields)
+  Some (record { ty = ty; image = image })
+
+-- a module has one memory or none
+unfoldable pub module_form : Data → Option ModuleInfo
+module_form value = do
+  fields ← only (codes "memories" ∷ []) value
+  memories ← optional [] (list_of memory_form) (get (codes "memories") fields)
+  given (nat_le (length memories) 1) (record { memories = memories })
