@@ -3,8 +3,8 @@ use Rattle.std.proofs.Common.{◌≡◌, ℕ, zero, suc, ◌+◌, ◌-◌, ◌*�
 use Rattle.std.proofs.lemmas.Bool.{cases_lt}
 use Rattle.std.proofs.lemmas.List.{length-replicate, get_or-replicate, get_or_past}
 use Rattle.std.proofs.lemmas.List.Elements.{All-nil}
-use Rattle.std.proofs.Math.Nat.{mod-eq_of_lt, div-eq_of_lt, div-mul-le_self}
-use Rattle.pool_pages.specs.Count.{IsPageSize, rounded_up}
+use Rattle.std.proofs.Math.Nat.{mod-eq_of_lt, div-eq_of_lt}
+use Rattle.pool_pages.specs.Count.{IsPageSize}
 use Rattle.pool_pages.specs.MakerTold.{MakerTold}
 use Rattle.pool_pages.specs.ConfigLimits.{IsWithinLimits}
 use Rattle.pool_pages.specs.declared.config.PoolingAllocationConfig.{PoolingAllocationConfig}
@@ -15,7 +15,7 @@ use Rattle.pool_index.specs.Shard.{ShardState, IsShard, fresh_shard, use_of, slo
 use Rattle.pool_index.specs.declared.ids.MemoryInModule.{MemoryInModule}
 use Rattle.pool_slots.specs.Cells.{Cell, IsCell, is_taken}
 use Rattle.pool_slots.specs.Queues.{QueueState, empty_queue}
-use Rattle.pool_slots.proofs.PageSizes.{rounded_within}
+use Rattle.pool_slots.proofs.PageSizes.{rounded_within, rounded_leaves}
 use Rattle.pool_alloc.specs.Made.{settings_of, IsMadeCore}
 use Rattle.pool_alloc.specs.Steps.{shard_at, queue_at, shard_of, local_of}
 use Rattle.pool_alloc.specs.Sound.{IsSettings, IsLaidOut, IsShared, IsQueuedOf, IsCore}
@@ -25,17 +25,14 @@ use Rattle.pool_alloc.specs.declared.pool_core.Counters.{Counters}
 use Rattle.pool_alloc.specs.declared.pool_core.Settings.{Settings}
 use Rattle.pool_alloc.proofs.Rounding.{rounded_is_whole}
 
-settings_sound : (page : ℕ) (config : PoolingAllocationConfig) (tunables : Tunables) (offered : Offered) → IsPageSize page → IsWithinLimits config → config.limits.max_memory_size + 131072 < 2 ^ 64 → IsSettings (settings_of page config tunables offered)
+settings_sound : (page : ℕ) (config : PoolingAllocationConfig) (tunables : Tunables) (offered : Offered) → IsPageSize page → IsWithinLimits config → config.limits.max_memory_size + page ≤ 2 ^ 64 → IsSettings (settings_of page config tunables offered)
 settings_sound page config tunables offered paged within small =
-    let least = paged.at_least in
-    let most = paged.at_most in
-    let below : rounded_up page config.limits.max_memory_size ≤ config.limits.max_memory_size + page = omega (arith, div-mul-le_self (config.limits.max_memory_size + page - 1) page) in
     record {
       page = paged;
       keep_page = refl;
       kept = rounded_within page config.linear_memory_keep_resident paged within.memory_keep_resident;
       whole = rounded_is_whole page config.limits.max_memory_size;
-      bounded = omega arith;
+      bounded = rounded_leaves page config.limits.max_memory_size paged small;
       batch = (within.batch_at_least, within.batch_at_most);
       stripes = omega arith;
       slots_per_shard = omega arith;
@@ -93,7 +90,7 @@ none_queued ranges slots zero one = refl
 none_queued ranges slots (suc i) one = absurd (omega arith)
 
 module _ {P : Type 0} where
-  pub made_core : (maker : MakerTold) (config : PoolingAllocationConfig) (tunables : Tunables) (offered : Offered) (c : PoolCore P) → IsPageSize maker.page → IsWithinLimits config → config.limits.max_memory_size + 131072 < 2 ^ 64 → IsShard (fresh_shard memory_kind 0 1 config.limits.total_memories config.max_unused_warm_slots) → IsMadeCore maker config tunables offered c → IsCore maker c
+  pub made_core : (maker : MakerTold) (config : PoolingAllocationConfig) (tunables : Tunables) (offered : Offered) (c : PoolCore P) → IsPageSize maker.page → IsWithinLimits config → config.limits.max_memory_size + maker.page ≤ 2 ^ 64 → IsShard (fresh_shard memory_kind 0 1 config.limits.total_memories config.max_unused_warm_slots) → IsMadeCore maker config tunables offered c → IsCore maker c
   made_core maker config tunables offered c paged within small sound made =
       let total : ℕ = config.limits.total_memories in
       let batch : c.settings.batch ≡ config.decommit_batch_size = ap (λ (s : Settings). s.batch) made.settings in

@@ -33,7 +33,7 @@ impl<P: Pages> PoolCore<P> {
         maker: &mut M,
     ) -> Result<Self, PoolNewError>
         requires within { IsWithinLimits config.now }
-        requires size { config.now.limits.max_memory_size + 131072 < 2 ^ 64 }
+        requires size { config.now.limits.max_memory_size + (M.told maker.old).page ≤ 2 ^ 64 }
         ensures made { IfOk result (IsMadeCore (M.told maker.old) config.now tunables.now offered.now) }
         ensures core { IfOk result (IsCore (M.told maker.old)) }
         ensures untouched { IfOk result IsUntouched }
@@ -91,7 +91,7 @@ fn settings_of(
     tunables: &Tunables,
     offered: &Offered,
 ) -> Settings
-    requires size { config.now.limits.max_memory_size + 131072 < 2 ^ 64 }
+    requires size { config.now.limits.max_memory_size + page ≤ 2 ^ 64 }
     requires kept { config.now.linear_memory_keep_resident ≤ 2 ^ 32 }
     ensures { result ≡ settings_of page config.now tunables.now offered.now }
 {

@@ -5,7 +5,6 @@ use Rattle.std.proofs.lemmas.Bool.{eqb-true, ltb-true}
 use Rattle.std.proofs.lemmas.List.{length-map, length-replicate}
 use Rattle.std.proofs.lemmas.List.Sums.{sum_by-cons}
 use Rattle.std.proofs.lemmas.Option.{slice_get-get_or}
-use Rattle.pool_pages.specs.Config.{default_offered, default_tunables}
 use Rattle.pool_pages.specs.MakerTold.{MakerTold}
 use Rattle.pool_pages.specs.declared.module_types.ModuleInfo.{ModuleInfo}
 use Rattle.pool_alloc.specs.Made.{IsMadeCore}
@@ -109,7 +108,7 @@ module _ {P : Type 0} where
   calls_there : (input : Input) (maker : MakerTold) (c : PoolCore P) (modules : List ModuleCall) → is_built input ≡ true → IsCore maker c → AreMadeCalls maker.page input.modules modules → AreCallsFor (world_of input maker) c.settings modules
   calls_there input maker c modules built core calls = are_calls_for (world_of input maker) c.settings modules (built_modules input built) core.page (omega (arith, core.settings.page.at_least)) calls
 
-  made_under_way : (input : Input) (maker : MakerTold) (c : PoolCore P) (modules : List ModuleCall) → is_built input ≡ true → IsMadeCore maker input.config default_tunables default_offered c → IsCore maker c → IsUntouched c → AreMadeCalls maker.page input.modules modules → IsUnderWay (world_of input maker) modules (commands_in input.parties) (run_made c modules input.parties)
+  made_under_way : (input : Input) (maker : MakerTold) (c : PoolCore P) (modules : List ModuleCall) → is_built input ≡ true → IsMadeCore maker input.config input.tunables input.offered c → IsCore maker c → IsUntouched c → AreMadeCalls maker.page input.modules modules → IsUnderWay (world_of input maker) modules (commands_in input.parties) (run_made c modules input.parties)
   made_under_way input maker c modules built made core untouched calls =
       under_way input maker c modules core untouched (is_world input maker c made) (calls_there input maker c modules built core calls)
 
@@ -117,7 +116,7 @@ module _ {P : Type 0} where
   made_count c parties = length-map parties (party_made_for {P = P} c.settings)
 
   -- The run as it is made, once the lists of its replies are there.
-  pub made_run : (input : Input) (maker : MakerTold) (run : RunParts P) (parties : List Party) (s : RunState P) → IsMadeRun default_tunables input maker run → parties ≡ input.parties → s ≡ state_of run (replicate (length parties) []) → s ≡ run_made run.core run.modules input.parties
+  pub made_run : (input : Input) (maker : MakerTold) (run : RunParts P) (parties : List Party) (s : RunState P) → IsMadeRun input maker run → parties ≡ input.parties → s ≡ state_of run (replicate (length parties) []) → s ≡ run_made run.core run.modules input.parties
   made_run input maker run parties s made same is =
       is ∙ ap (λ (ps : List Party). state_of run (replicate (length ps) [])) same ∙ ap (λ (ps : List (RunningParty P)). record { core = run.core; modules = run.modules; parties = ps; replies = replicate (length input.parties) [] }) made.parties
 
@@ -125,7 +124,7 @@ module _ {P : Type 0} where
   abbrev pub background : Input → MakerTold → RunState P → Background
   background input maker s = record { world = world_of input maker; modules = s.modules; inputs = commands_in input.parties }
 
-  pub is_run_of : (input : Input) (maker : MakerTold) (run : RunParts P) (s : RunState P) → is_built input ≡ true → is_valid input ≡ true → IsMadeRun default_tunables input maker run → s ≡ run_made run.core run.modules input.parties → IsRunOf (background input maker s) input.parties s
+  pub is_run_of : (input : Input) (maker : MakerTold) (run : RunParts P) (s : RunState P) → is_built input ≡ true → is_valid input ≡ true → IsMadeRun input maker run → s ≡ run_made run.core run.modules input.parties → IsRunOf (background input maker s) input.parties s
   is_run_of input maker run s built valid made is =
       let Of : RunState P → Type 0 = λ x. IsRunOf (background input maker x) input.parties x in
       subst Of (sym is)
@@ -147,9 +146,9 @@ module _ {P : Type 0} where
       replies_private w modules inputs end i d ended (omega (arith, below, folds_count w.maker modules inputs schedule s end folds))
 
   -- So the output of its end is that of a run of the input.
-  pub is_run : (input : Input) (maker : MakerTold) (run : RunParts P) (s end : RunState P) (output : RunOutput) → is_built input ≡ true → IsMadeRun default_tunables input maker run → s ≡ run_made run.core run.modules input.parties
+  pub is_run : (input : Input) (maker : MakerTold) (run : RunParts P) (s end : RunState P) (output : RunOutput) → is_built input ≡ true → IsMadeRun input maker run → s ≡ run_made run.core run.modules input.parties
       → Performs input.finish maker s.modules (commands_in input.parties) (turns_of input.schedule) s end → IsKept end.core end.parties
-      → output.replies ≡ end.replies → output.metrics ≡ metrics_of end.core → output.calls ≡ calls_of_run end.core end.parties → IsRun P default_tunables input maker output
+      → output.replies ≡ end.replies → output.metrics ≡ metrics_of end.core → output.calls ≡ calls_of_run end.core end.parties → IsRun P input maker output
   is_run input maker run s end output built made is performs kept replies metrics numbers =
       let c : PoolCore P = run.core in
       let w : World = world_of input maker in

@@ -9,7 +9,6 @@ use Rattle.std.specs.declared.sync.Arc.{Arc}
 use Rattle.std.proofs.lemmas.Bool.{leb-true}
 use Rattle.std.proofs.lemmas.List.{length-append, length-replicate}
 use Rattle.std.proofs.lemmas.Option.{same_Some, slice_get-get_or, slice_get_within}
-use Rattle.pool_pages.specs.Config.{default_offered, default_tunables}
 use Rattle.pool_pages.specs.Count.{rounded_up}
 use Rattle.pool_pages.specs.MakerTold.{MakerTold}
 use Rattle.pool_pages.specs.MemoryTypes.{minimum_byte_size}
@@ -42,7 +41,7 @@ if_some (Some x) Q all = all x refl
 
 module _ {P : Type 0} where
   -- The pool as it is made has the sizes of the world.
-  pub is_world : (input : Input) (maker : MakerTold) (c : PoolCore P) → IsMadeCore maker input.config default_tunables default_offered c → IsWorldOf (world_of input maker) c
+  pub is_world : (input : Input) (maker : MakerTold) (c : PoolCore P) → IsMadeCore maker input.config input.tunables input.offered c → IsWorldOf (world_of input maker) c
   is_world input maker c made = record { settings = sym made.settings; total = sym made.cells.number; most_instances = refl; stripes = refl; rule = refl }
 
 -- the image of a module's memory, among those of the module

@@ -1,11 +1,10 @@
 -- What a run of an input is: the turns of its schedule over a pool as it is made, and then of each party until it has
 -- nothing left; and the output, which tells each party a private run.
 use Rattle.std.specs.Prelude.{◌≡◌, ℕ, ◌<◌, ◌||◌, ◌==◌, List, [], ◌∷◌, ◌+◌, length, Bool, true, false, IfSome}
-use Rattle.pool_pages.specs.Config.{default_offered, default_tunables}
+use Rattle.pool_pages.specs.FaultPlans.{failing_maker, planned_faults}
 use Rattle.pool_pages.specs.MakerTold.{MakerTold, Planned}
 use Rattle.pool_pages.specs.Told.{Rose}
 use Rattle.pool_pages.specs.declared.module_types.ModuleInfo.{ModuleInfo}
-use Rattle.pool_pages.specs.declared.module_types.Tunables.{Tunables}
 use Rattle.pool_limits.specs.Growth.{always}
 use Rattle.pool_images.specs.Images.{makes_listed as makes_listed_images}
 use Rattle.pool_slots.specs.Makings.{makes_listed}
@@ -29,12 +28,16 @@ use Rattle.pool_run.specs.declared.output.RunFault.TheVariants.{BadConfig, PageF
 use Rattle.pool_run.specs.declared.output.RunOutput.{RunOutput}
 use Rattle.pool_run.specs.declared.reply.Reply.{Reply}
 
+-- the maker with the input's page, and with the input's faults before it
+abbrev pub with_faults : Input → MakerTold → MakerTold
+with_faults input maker = failing_maker maker input.page (planned_faults input.faults) maker.next maker.faults
+
 -- what is the same for a whole run of this input over regions of this maker
 abbrev pub world_of : Input → MakerTold → World
 world_of input maker = record {
   maker = maker;
   modules = input.modules;
-  settings = settings_of maker.page input.config default_tunables default_offered;
+  settings = settings_of maker.page input.config input.tunables input.offered;
   total = input.config.limits.total_memories;
   most_instances = input.config.limits.total_core_instances;
   rule = always;
@@ -52,8 +55,8 @@ IsToldBy true w commands replies = IsWholeRun w commands replies
 IsToldBy false w commands replies = IsPrivateRun w commands replies
 
 -- The run is as it is made of the input: its pool is, with a call for each module, and no party has done anything.
-pub record IsMadeRun {P : Type 0} (tunables : Tunables) (input : Input) (maker : MakerTold) (run : RunParts P) : Type 0 where
-  pub made : IsMadeCore maker input.config tunables default_offered run.core
+pub record IsMadeRun {P : Type 0} (input : Input) (maker : MakerTold) (run : RunParts P) : Type 0 where
+  pub made : IsMadeCore maker input.config input.tunables input.offered run.core
   pub core : IsCore maker run.core
   pub untouched : IsUntouched run.core
   pub calls : AreMadeCalls maker.page input.modules run.modules
@@ -61,9 +64,9 @@ pub record IsMadeRun {P : Type 0} (tunables : Tunables) (input : Input) (maker :
 
 -- The output is that of a run of the input: there is a pool as it is made, with a call for each module, and the turns
 -- lead from there to an end, of which the output gives the replies and the numbers.
-pub record IsRun (P : Type 0) (tunables : Tunables) (input : Input) (maker : MakerTold) (output : RunOutput) : Type 0 where
+pub record IsRun (P : Type 0) (input : Input) (maker : MakerTold) (output : RunOutput) : Type 0 where
   pub core : PoolCore P
-  pub made : IsMadeCore maker input.config tunables default_offered core
+  pub made : IsMadeCore maker input.config input.tunables input.offered core
   pub modules : List ModuleCall
   pub calls : AreCallsFor (world_of input maker) core.settings modules
   pub end : RunState P
@@ -74,7 +77,7 @@ pub record IsRun (P : Type 0) (tunables : Tunables) (input : Input) (maker : Mak
   pub metrics : output.metrics ≡ metrics_of end.core
   pub calls_made : output.calls ≡ calls_of_run end.core end.parties
 
--- a limit of the settings is broken
+-- a rule of the settings is broken
 abbrev pub is_bad_config : RunFault → Bool
 is_bad_config (BadConfig e) = true
 is_bad_config PageFault = false

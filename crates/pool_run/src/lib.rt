@@ -21,7 +21,7 @@ mod told_run;
 mod turn;
 mod validity;
 
-pub use built::is_ready;
+pub use built::is_built;
 pub use command::Command;
 pub use input::{Input, Party, PartyLimits, ScheduleEntry};
 pub use leases::Leases;

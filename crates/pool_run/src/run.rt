@@ -1,13 +1,12 @@
 ghost use Rattle.std.specs.Prelude.{◌≡◌, ◌↔◌, ℕ, ◌+◌, ◌^◌, ◌<◌, ◌≤◌, Err, Some, length, map, replicate, slice_get, slice_index_or, true, false, fold, IfOk, IfErr};
-ghost use Rattle.pool_pages.specs.Config.{default_tunables};
-ghost use Rattle.pool_pages.specs.ConfigLimits.{IsWithinLimits};
+ghost use Rattle.pool_pages.specs.SettingsRules.{IsWithinRules};
 ghost use Rattle.pool_pages.specs.MakerTold.{MakerTold};
 ghost use Rattle.pool_pages.specs.declared.bad_config.BadConfig.{BadConfig};
 ghost use Rattle.pool_alloc.specs.Reserved.{no_room};
 ghost use Rattle.pool_alloc.specs.Sound.{IsCore};
 ghost use Rattle.pool_alloc.specs.Sums.{metrics_of};
 ghost use Rattle.pool_alloc.specs.Whole.{IsUntouched};
-ghost use Rattle.pool_run.specs.Built.{broken_rule, is_built, is_ready};
+ghost use Rattle.pool_run.specs.Built.{broken_rule, is_built};
 ghost use Rattle.pool_run.specs.Folds.{TurnsOf, commands_of, state_of, told_after};
 ghost use Rattle.pool_run.specs.Numbers.{with_party, calls_of_run};
 ghost use Rattle.pool_run.specs.Progress.{is_busy, commands_done, Advances, IsRunOf};
@@ -59,9 +58,10 @@ impl<P: Pages> Run<P> {
         input: &Input,
         pages: &mut M,
     ) -> Result<Self, RunFault>
-        requires ready { is_ready input.now ≡ true }
+        requires page { (M.told pages.old).page ≡ input.now.page }
+        requires built { is_built input.now ≡ true }
         requires valid { is_valid input.now ≡ true }
-        ensures made { IfOk result (IsMadeRun default_tunables input.now (M.told pages.old)) }
+        ensures made { IfOk result (IsMadeRun input.now (M.told pages.old)) }
         ensures bad_config { (e : BadConfig) → (result ≡ Err (RunFault.BadConfig e)) ↔ (broken_rule input.now ≡ Some e) }
         ensures fault { result ≡ Err RunFault.PageFault → FaultsInMaking input.now (M.told pages.old) (M.told pages.new) }
     {
@@ -81,8 +81,9 @@ impl<P: Pages> Run<P> {
         requires told { M.told pages.old ≡ maker }
         requires built { is_built input.now ≡ true }
         requires valid { is_valid input.now ≡ true }
-        requires within { IsWithinLimits input.now.config }
-        ensures made { IfOk result (IsMadeRun default_tunables input.now maker) }
+        requires page { (M.told pages.old).page ≡ input.now.page }
+        requires within { IsWithinRules input.now.config input.now.tunables input.now.page }
+        ensures made { IfOk result (IsMadeRun input.now maker) }
         ensures fault { result ≡ Err RunFault.PageFault → FaultsInMaking input.now maker (M.told pages.new) }
         ensures settings { IfErr result (λ fault. is_bad_config fault ≡ false) }
     {

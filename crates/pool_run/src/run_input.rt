@@ -1,12 +1,12 @@
-ghost use Rattle.std.specs.Prelude.{◌≡◌, ◌↔◌, ◌≤◌, [], Err, Some, length, true, vec_capacity, IfOk, IfErr};
-ghost use Rattle.pool_pages.specs.Config.{default_tunables};
+ghost use Rattle.std.specs.Prelude.{◌≡◌, ◌↔◌, ◌≤◌, [], Err, Some, length, true, vec_capacity, IfOk, IfErr, IfSome};
 ghost use Rattle.pool_pages.specs.MakerTold.{MakerTold};
 ghost use Rattle.pool_pages.specs.declared.bad_config.BadConfig.{BadConfig};
+ghost use Rattle.pool_pages.specs.declared.failing.Failing.{Failing};
 ghost use Rattle.pool_alloc.specs.Sums.{metrics_of};
-ghost use Rattle.pool_run.specs.Built.{broken_rule, is_ready};
+ghost use Rattle.pool_run.specs.Built.{broken_rule, is_built};
 ghost use Rattle.pool_run.specs.Numbers.{calls_of_run};
 ghost use Rattle.pool_run.specs.Progress.{IsRunOf};
-ghost use Rattle.pool_run.specs.Runs.{IsMadeRun, IsRun, Performs, FaultsInMaking};
+ghost use Rattle.pool_run.specs.Runs.{IsMadeRun, IsRun, Performs, FaultsInMaking, making_listed, with_faults};
 ghost use Rattle.pool_run.specs.RunsMade.{Background, IsKept};
 ghost use Rattle.pool_run.specs.Schedules.{turns_of};
 ghost use Rattle.pool_run.specs.Validity.{is_valid};
@@ -17,7 +17,7 @@ use crate::reply::ReplyList;
 use crate::run::Run;
 use crate::schedule::{finish, follow};
 use crate::told_run::ToldRun;
-use pool_pages::{PageMaker, Pages};
+use pool_pages::{FailingMaker, PageMaker, Pages};
 use std::alloc::{AllocError, Global};
 
 // Makes the turns of the schedule, and where the input says so those of each party until it has nothing left.
@@ -55,10 +55,10 @@ fn output_of<P: Pages>(run: ToldRun<P>, lists: Vec<ReplyList>) -> RunOutput
 // Reserves the replies to a run as it is made, makes its turns, and ends it.
 fn run_over<P: Pages>(alloc: Global, input: &Input, run: Run<P>) -> Result<RunOutput, AllocError>
     ghost maker: { MakerTold }
-    requires made { IsMadeRun default_tunables input.now maker run }
-    requires ready { is_ready input.now ≡ true }
+    requires made { IsMadeRun input.now maker run }
+    requires built { is_built input.now ≡ true }
     requires valid { is_valid input.now ≡ true }
-    ensures { IfOk result (IsRun P default_tunables input.now maker) }
+    ensures { IfOk result (IsRun P input.now maker) }
 {
     let parties = input.parties.as_slice();
     let lists = Vec::with_capacity(alloc, parties.len())?;
@@ -70,10 +70,10 @@ fn run_over<P: Pages>(alloc: Global, input: &Input, run: Run<P>) -> Result<RunOu
 // The same, as the answer of a run.
 fn run_to_end<P: Pages>(alloc: Global, input: &Input, run: Run<P>) -> Result<RunOutput, RunFault>
     ghost maker: { MakerTold }
-    requires made { IsMadeRun default_tunables input.now maker run }
-    requires ready { is_ready input.now ≡ true }
+    requires made { IsMadeRun input.now maker run }
+    requires built { is_built input.now ≡ true }
     requires valid { is_valid input.now ≡ true }
-    ensures ok { IfOk result (IsRun P default_tunables input.now maker) }
+    ensures ok { IfOk result (IsRun P input.now maker) }
     ensures memory { IfErr result (λ fault. fault ≡ RunFault.Memory) }
 {
     match run_over(alloc, input, run) {
@@ -90,9 +90,10 @@ fn run_by<P: Pages, M: PageMaker<Region = P>>(
 ) -> Result<RunOutput, RunFault>
     ghost maker: { MakerTold }
     requires told { M.told pages.old ≡ maker }
-    requires ready { is_ready input.now ≡ true }
+    requires page { maker.page ≡ input.now.page }
+    requires built { is_built input.now ≡ true }
     requires valid { is_valid input.now ≡ true }
-    ensures ok { IfOk result (λ output. IsRun P default_tunables input.now maker output) }
+    ensures ok { IfOk result (λ output. IsRun P input.now maker output) }
     ensures bad_config { (e : BadConfig) → (result ≡ Err (RunFault.BadConfig e)) ↔ (broken_rule input.now ≡ Some e) }
     ensures fault { result ≡ Err RunFault.PageFault → FaultsInMaking input.now maker (M.told pages.new) }
 {
@@ -104,19 +105,25 @@ fn run_by<P: Pages, M: PageMaker<Region = P>>(
 
 /// Makes a pool of the input's settings and the images of its modules, and has the parties make their turns over them:
 /// those of the schedule first, and then, where the input says so, those of each party until each of its commands has
-/// its reply. The replies are in the order of the parties and of their commands. Nothing is run where a rule of the
-/// settings is broken, which is tested first, where a region or an image can't be made, or where there is no memory for
-/// the run and the lists of its replies.
-pub fn run_schedule<P: Pages, M: PageMaker<Region = P>>(
+/// its reply. The replies are in the order of the parties and of their commands. Makings and page calls fail where the
+/// input lists them. Nothing is run where a rule of the settings is broken, which is tested first, where a region or an
+/// image can't be made, or where there is no memory for the run and the lists of its replies.
+pub fn run_schedule<M: PageMaker>(
     alloc: Global,
     input: &Input,
     pages: &mut M,
 ) -> Result<RunOutput, RunFault>
-    requires ready { is_ready input.now ≡ true }
+    requires built { is_built input.now ≡ true }
     requires valid { is_valid input.now ≡ true }
-    ensures ok { IfOk result (λ output. IsRun P default_tunables input.now (M.told pages.old) output) }
+    ensures ok { IfOk result (IsRun (Failing M.Region) input.now (with_faults input.now (M.told pages.old))) }
     ensures bad_config { (e : BadConfig) → (result ≡ Err (RunFault.BadConfig e)) ↔ (broken_rule input.now ≡ Some e) }
-    ensures fault { result ≡ Err RunFault.PageFault → FaultsInMaking input.now (M.told pages.old) (M.told pages.new) }
+    ensures fault { result ≡ Err RunFault.PageFault → IfSome (with_faults input.now (M.told pages.old)).plan (λ plan. making_listed input.now plan ≡ true) }
 {
-    run_by(alloc, input, pages)
+    match input.config.check_rules(&input.tunables, input.page) {
+        Ok(page) => {
+            let mut maker = FailingMaker::new(pages, page, input.faults.as_slice());
+            run_by(alloc, input, &mut maker)
+        }
+        Err(error) => Err(RunFault::BadConfig(error)),
+    }
 }

@@ -1,7 +1,7 @@
--- A number of bytes up to 2 ^ 32 that is rounded up to pages is at most that, since a page divides it.
+-- Numbers of bytes that are rounded up to pages stay within a power of two, since a page divides it.
 use Rattle.std.proofs.Common.{◌≡◌, ℕ, zero, suc, ◌+◌, ◌-◌, ◌*◌, ◌/◌, ◌%◌, ◌^◌, ◌<◌, ◌≤◌, refl, sym, ap, ◌∙◌, inl, inr, arith}
 use lib.Count.{ones}
-use Rattle.std.proofs.lemmas.Bool.{cases_eq, eqb-true}
+use Rattle.std.proofs.lemmas.Bool.{cases_eq, cases_lt, eqb-true}
 use Rattle.std.proofs.lemmas.Nat.{ones_cat, zero_from_ones, shr_split}
 use Rattle.std.proofs.Math.Nat.{pow-suc, mod-lt, div-lt_iff_lt-mul, mul-le-mul_right}
 use Rattle.pool_pages.specs.Count.{IsPageSize, rounded_up}
@@ -45,12 +45,30 @@ quotient (suc k) n small one =
           (2 ^ suc k, rw is (omega arith))
     ]
 
+rounded_below : (page q n : ℕ) → 0 < page → n ≤ q * page → rounded_up page n ≤ q * page
+rounded_below page q n some small =
+    let step : (q + 1) * page ≡ q * page + page = omega arith in
+    let below : n + page - 1 < (q + 1) * page = omega (arith, step) in
+    let div : (n + page - 1) / page < q + 1 = (div-lt_iff_lt-mul some).1 below in
+    mul-le-mul_right page (omega (arith, div))
+
 pub rounded_within : (page n : ℕ) → IsPageSize page → n ≤ 2 ^ 32 → rounded_up page n ≤ 2 ^ 32
 rounded_within page n sized small =
     let q = quotient 32 page (omega (arith, sized.at_most)) (eqb-true (ones page) 1 sized.power_of_two) in
-    let some : 0 < page = omega (arith, sized.at_least) in
-    let step : (q.0 + 1) * page ≡ q.0 * page + page = omega arith in
-    let below : n + page - 1 < (q.0 + 1) * page = omega (arith, q.1, step) in
-    let div : (n + page - 1) / page < q.0 + 1 = (div-lt_iff_lt-mul some).1 below in
-    let most : (n + page - 1) / page * page ≤ q.0 * page = mul-le-mul_right page (omega (arith, div)) in
+    let most : rounded_up page n ≤ q.0 * page = rounded_below page q.0 n (omega (arith, sized.at_least)) (omega (arith, q.1)) in
     omega (arith, most, q.1)
+
+-- Where there is room for a page above a number of bytes, there is above its whole pages.
+pub rounded_leaves : (page n : ℕ) → IsPageSize page → n + page ≤ 2 ^ 64 → rounded_up page n + page ≤ 2 ^ 64
+rounded_leaves page n sized small =
+    let q = quotient 64 page (omega (arith, sized.at_most)) (eqb-true (ones page) 1 sized.power_of_two) in
+    let r : ℕ = q.0 - 1 in
+    let step : (r + 1) * page ≡ r * page + page = omega arith in
+    let some : 0 < q.0 =
+        elim (cases_lt 0 q.0) [
+          | inl some ↦ some
+          | inr none ↦ let zero_of : q.0 * page ≡ 0 * page = ap (λ (x : ℕ). x * page) (omega (arith, none)) in absurd (omega (arith, q.1, zero_of))
+        ] in
+    let same : q.0 * page ≡ (r + 1) * page = ap (λ (x : ℕ). x * page) (omega (arith, some)) in
+    let most : rounded_up page n ≤ r * page = rounded_below page r n (omega (arith, sized.at_least)) (omega (arith, q.1, same, step)) in
+    omega (arith, most, q.1, same, step)

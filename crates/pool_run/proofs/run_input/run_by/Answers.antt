@@ -1,6 +1,5 @@
 use Rattle.std.proofs.Common.{rules, ◌≡◌, Err, ap, ◌∙◌, subst, Result}
 use Rattle.std.specs.Prelude.{IfErr}
-use Rattle.pool_pages.specs.Config.{default_tunables}
 use Rattle.pool_pages.specs.MakerTold.{MakerTold}
 use Rattle.pool_run.specs.Runs.{IsMadeRun}
 use Rattle.pool_run.specs.declared.output.RunFault.{RunFault}
@@ -10,8 +9,8 @@ use Rattle.pool_run.proofs.run_input.run_by.Goals as goal
 
 pub run_to_end-requires : goal.run_to_end-requires
 run_to_end-requires g c κs within =
-    let Made : MakerTold → Type 0 = λ maker. IsMadeRun default_tunables c.args.input.now maker c.in-Ok.run' in
-    (search rules, (subst Made c.requires.1.1.0 c.in-Ok.ensures.made, (c.requires.1.1.1.0, c.requires.1.1.1.1)))
+    let Made : MakerTold → Type 0 = λ maker. IsMadeRun c.args.input.now maker c.in-Ok.run' in
+    (search rules, (subst Made c.requires.1.1.0 c.in-Ok.ensures.made, (c.requires.1.1.1.1.0, c.requires.1.1.1.1.1)))
 
 pub returns-in-Ok-clause-bad_config : goal.returns-in-Ok-clause-bad_config
 returns-in-Ok-clause-bad_config g c e =

@@ -1,14 +1,21 @@
-use Rattle.std.proofs.Common.{◌≡◌, ℕ, ◌*◌, List, [], ◌∷◌, length, refl, sym, ap, subst, ◌∙◌}
-use Rattle.pool_pages.specs.Count.{IsPageSize}
+use Rattle.std.proofs.Common.{◌≡◌, ℕ, ◌+◌, ◌^◌, ◌≤◌, arith, ◌*◌, List, [], ◌∷◌, length, refl, sym, ap, subst, ◌∙◌}
+use Rattle.pool_pages.specs.Count.{IsPageSize, rounded_up}
 use Rattle.pool_pages.specs.declared.pages.DecommitBehavior.{DecommitBehavior}
 use Rattle.pool_slots.specs.Cells.{Cell, unmapped, region_made}
 use Rattle.pool_slots.specs.Queues.{empty_queue}
 use Rattle.pool_slots.proofs.Fresh.{cells_made}
+use Rattle.pool_slots.proofs.PageSizes.{rounded_leaves}
 use Rattle.pool_alloc.specs.Made.{settings_of}
 use Rattle.pool_alloc.specs.Steps.{cell_at}
 use Rattle.pool_alloc.specs.declared.pool_core.Settings.{Settings}
 use Rattle.pool_alloc.proofs.MadePools.{made_core, made_untouched}
 use Rattle.pool_alloc.proofs.pool_core.PoolCore.new.Goals as goal
+
+pub rounded_up_unchecked-len-requires : goal.rounded_up_unchecked-len-requires
+rounded_up_unchecked-len-requires g c =
+    let size : c.settings_of-settings.result.max_memory_size ≡ rounded_up c.page-page.result c.args.config.now.limits.max_memory_size = ap (λ (s : Settings). s.max_memory_size) c.settings_of-settings.ensures in
+    let room : c.args.config.now.limits.max_memory_size + c.page-page.result ≤ 2 ^ 64 = omega (arith, c.requires.size, c.page-page.ensures) in
+    omega (arith, size, rounded_leaves c.page-page.result c.args.config.now.limits.max_memory_size c.get-bytes.ensures.valid room, c.get-bytes.ensures.valid.at_least)
 
 pub returns-clause-made : goal.returns-clause-made
 returns-clause-made g c =

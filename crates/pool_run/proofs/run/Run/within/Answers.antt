@@ -1,6 +1,5 @@
 use Rattle.std.proofs.Common.{rules, ◌≡◌, List, Err, true, sym, ap, ◌∙◌, subst}
 use Rattle.std.specs.List.{list_all}
-use Rattle.pool_pages.specs.Config.{default_tunables}
 use Rattle.pool_pages.specs.MakerTold.{MakerTold}
 use Rattle.pool_pages.specs.declared.module_types.ModuleInfo.{ModuleInfo}
 use Rattle.pool_alloc.specs.Sound.{IsCore}
@@ -43,7 +42,7 @@ returns-in-Ok-over-clause-made g c =
     let input : Input = c.args.input.now in
     let old : MakerTold = g.M.PageMaker.told c.args.pages.now in
     let Calls : MakerTold → List ModuleInfo → Type 0 = λ maker modules. AreMadeCalls maker.page modules c.in-Ok-make_calls.calls.items in
-    let Made : RunParts P → Type 0 = λ run. IsMadeRun default_tunables input old run in
+    let Made : RunParts P → Type 0 = λ run. IsMadeRun input old run in
     let made : Made (record { core = c.in-Ok.core; modules = c.in-Ok-make_calls.calls.items; parties = parties_made c.in-Ok.core.settings c.as_slice-parties.result.now }) =
     record {
       made = c.in-Ok.ensures.made;
@@ -52,5 +51,5 @@ returns-in-Ok-over-clause-made g c =
       calls = subst (λ maker. Calls maker input.modules) c.in-Ok.ensures.same (subst (Calls (g.M.PageMaker.told c.make_pool.new.pages)) c.as_slice.ensures c.in-Ok-make_calls.ensures.calls);
       parties = ap (parties_made {P = P} c.in-Ok.core.settings) c.as_slice-parties.ensures;
     } in
-    let Run : MakerTold → RunParts P → Type 0 = λ maker run. IsMadeRun default_tunables input maker run in
+    let Run : MakerTold → RunParts P → Type 0 = λ maker run. IsMadeRun input maker run in
     subst (λ maker. Run maker c.in-Ok-over.run') c.requires.1.1.0 (subst (Run old) (sym c.in-Ok-over.ensures) made)
