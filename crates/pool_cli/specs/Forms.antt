@@ -94,7 +94,7 @@ party_form value = do
   fields ← only (codes "home" ∷ codes "commands" ∷ []) value
   home ← optional 0 whole_number (get (codes "home") fields)
   commands ← optional [] (list_of command_form) (get (codes "commands") fields)
-  Some (record { home = home; commands = commands })
+  Some (record { home = home; limits = None; commands = commands })
 
 -- the number of a party: one step of it
 unfoldable pub step_form : Data → Option ScheduleEntry

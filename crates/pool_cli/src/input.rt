@@ -22,7 +22,11 @@ impl FromJson for Party {
         }
         let home = number_or(0, value.get("home")).ok_or(FormFault::OtherForm)?;
         let commands = list_or_empty(alloc, value.get("commands"))?;
-        Ok(Party { home, commands })
+        Ok(Party {
+            home,
+            limits: None,
+            commands,
+        })
     }
 }
 

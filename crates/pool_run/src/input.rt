@@ -1,10 +1,21 @@
 use crate::command::Command;
 use pool_pages::{ModuleInfo, PlainList, PoolingAllocationConfig};
 
-/// One party: the number from which its home shard and its home queue follow, and what it commands, in order.
+/// What a party's memories may grow to.
+#[derive(Clone, Copy, Debug, PartialEq, Eq)]
+pub struct PartyLimits {
+    /// In bytes.
+    pub memory_size: Option<usize>,
+    /// Whether a growth that fails is an error.
+    pub trap_on_grow_failure: bool,
+}
+
+/// One party: the number from which its home shard and its home queue follow, the limits on its growth, if there are
+/// any, and what it commands, in order.
 #[derive(Debug, Drop)]
 pub struct Party {
     pub home: u64,
+    pub limits: Option<PartyLimits>,
     pub commands: PlainList<Command>,
 }
 

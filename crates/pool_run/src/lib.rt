@@ -9,6 +9,7 @@ mod copies;
 mod images;
 mod input;
 mod leases;
+mod limiter;
 mod output;
 mod pools;
 mod reply;
@@ -23,7 +24,7 @@ mod validity;
 
 pub use built::is_built;
 pub use command::Command;
-pub use input::{Input, Party, ScheduleEntry};
+pub use input::{Input, Party, PartyLimits, ScheduleEntry};
 pub use leases::Leases;
 pub use output::{RunFault, RunOutput};
 pub use reply::{Refusal, Reply, ReplyList, SlotList};
