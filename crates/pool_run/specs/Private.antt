@@ -82,7 +82,7 @@ pub record World : Type 0 where
   pub alone : Bool
   pub rule : GrowthRule
 
--- the world of party i, and that of one with this rule
+-- the world of a party with this rule, and that of party i
 abbrev pub under : GrowthRule → World → World
 under rule w = record w { rule = rule }
 

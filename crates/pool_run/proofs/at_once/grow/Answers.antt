@@ -1,4 +1,4 @@
-use Rattle.std.proofs.Common.{◌≡◌, Option, None, Some, sym, ap, subst, refl}
+use Rattle.std.proofs.Common.{◌≡◌, Option, Some, sym, ap, subst, refl}
 use Rattle.pool_limits.specs.Growth.{GrowthLimits, GrowthRule, always, limited_by}
 use Rattle.pool_limits.specs.LimiterTold.{LimiterTold, unlimited}
 use Rattle.pool_limits.specs.StoreLimits.{told_by_limits}
