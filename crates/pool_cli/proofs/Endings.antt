@@ -8,7 +8,7 @@ use Rattle.pool_run.specs.declared.input.Input.{Input}
 use Rattle.pool_run.specs.declared.output.RunFault.{RunFault}
 use Rattle.pool_run.specs.declared.output.RunFault.TheVariants as fault
 use Rattle.pool_run.specs.declared.output.RunOutput.{RunOutput}
-use Rattle.pool_run.specs.Runs.{FaultsInMaking}
+use Rattle.pool_run.specs.Runs.{MayFaultInMaking}
 use Rattle.pool_cli.specs.Preparing.{Refuses}
 use Rattle.pool_cli.specs.Reading.{Reading, not_built, invalid, accepted, reading}
 use Rattle.pool_cli.specs.Statuses.{HasRead, Fails, Ends, FollowsBytes, IsHindrance, IsUnhindered, status_of, status_of_limits}
@@ -21,15 +21,15 @@ use Rattle.pool_cli.specs.declared.words.Task.{Task}
 use Rattle.pool_cli.specs.declared.words.Task.TheVariants.{Run, Later, Unknown}
 
 -- settings that are refused are the cause of a failure
-pub refused_fails : (input : Input) (error : BadConfig) (cause : Failure) (so sn : SourceTold) (mo mn : MakerTold) → HasRead (accepted input) so sn → broken_rule input ≡ Some error → Refuses error cause → Fails Run cause so sn mo mn
-refused_fails input error failure.BadUsage so sn mo mn read broken is = absurd is
-refused_fails input error failure.BadInput so sn mo mn read broken is = absurd is
-refused_fails input error (failure.BadConfig line) so sn mo mn read broken is = (refl, (error, record { input = input; read = read; broken = broken }, is))
-refused_fails input error failure.PageFault so sn mo mn read broken is = absurd is
-refused_fails input error failure.ReadFault so sn mo mn read broken is = absurd is
-refused_fails input error failure.NoMemory so sn mo mn read broken is = refl
-refused_fails input error failure.TooLong so sn mo mn read broken is = absurd is
-refused_fails input error failure.NotBuilt so sn mo mn read broken is = absurd is
+pub refused_fails : (input : Input) (error : BadConfig) (cause : Failure) (so sn : SourceTold) (m : MakerTold) → HasRead (accepted input) so sn → broken_rule input ≡ Some error → Refuses error cause → Fails Run cause so sn m
+refused_fails input error failure.BadUsage so sn m read broken is = absurd is
+refused_fails input error failure.BadInput so sn m read broken is = absurd is
+refused_fails input error (failure.BadConfig line) so sn m read broken is = (refl, (error, record { input = input; read = read; broken = broken }, is))
+refused_fails input error failure.PageFault so sn m read broken is = absurd is
+refused_fails input error failure.ReadFault so sn m read broken is = absurd is
+refused_fails input error failure.NoMemory so sn m read broken is = refl
+refused_fails input error failure.TooLong so sn m read broken is = absurd is
+refused_fails input error failure.NotBuilt so sn m read broken is = absurd is
 
 -- no rule is broken where no rule is what was answered
 pub no_limit : (o : Option BadConfig) (r : Result RunOutput RunFault) → ((e : BadConfig) → (r ≡ Err (fault.BadConfig e)) ↔ (o ≡ Some e)) → ((e : BadConfig) → r ≡ Err (fault.BadConfig e) → ⊥) → o ≡ None
@@ -60,54 +60,54 @@ limits_of : (input : Input) (o : Option BadConfig) (status : Status) → broken_
 limits_of input o status limits is = is ∙ ap status_of_limits (sym limits)
 
 -- the bytes lead to the status, or something stands in the way
-follows_at : (P : Type 0) (task : Task) (status : Status) (so sn : SourceTold) (ko kn : SinkTold) (mo mn : MakerTold) (rest : List ℕ) → so.rest ≡ Some rest → Ends P task status so sn ko kn mo mn → task ≡ Run → FollowsBytes status rest
-follows_at P task Success so sn ko kn mo mn rest told ends asked =
+follows_at : (P : Type 0) (task : Task) (status : Status) (so sn : SourceTold) (ko kn : SinkTold) (m : MakerTold) (rest : List ℕ) → so.rest ≡ Some rest → Ends P task status so sn ko kn m → task ≡ Run → FollowsBytes status rest
+follows_at P task Success so sn ko kn m rest told ends asked =
     read_follows (accepted ends.run.input) Success so sn rest told ends.run.read (limits_of ends.run.input None Success ends.run.limits refl)
-follows_at P task BadUsage so sn ko kn mo mn rest told ends asked = let is : Unknown ≡ Run = sym ends.0.0 ∙ asked in absurd cc
-follows_at P task BadInput so sn ko kn mo mn rest told ends asked = read_follows invalid BadInput so sn rest told ends.0.1 refl
-follows_at P task BadSettings so sn ko kn mo mn rest told ends asked =
+follows_at P task BadUsage so sn ko kn m rest told ends asked = let is : Unknown ≡ Run = sym ends.0.0 ∙ asked in absurd cc
+follows_at P task BadInput so sn ko kn m rest told ends asked = read_follows invalid BadInput so sn rest told ends.0.1 refl
+follows_at P task BadSettings so sn ko kn m rest told ends asked =
     read_follows (accepted ends.refused.input) BadSettings so sn rest told ends.refused.read (limits_of ends.refused.input (Some ends.error) BadSettings ends.refused.broken refl)
-follows_at P task PageFault so sn ko kn mo mn rest told ends asked = hindered PageFault rest (inr (inr (inl refl)))
-follows_at P task ReadFault so sn ko kn mo mn rest told ends asked = hindered ReadFault rest (inl refl)
-follows_at P task WriteFault so sn ko kn mo mn rest told ends asked = hindered WriteFault rest (inr (inl refl))
-follows_at P task NoMemory so sn ko kn mo mn rest told ends asked = hindered NoMemory rest (inr (inr (inr refl)))
-follows_at P task TooLong so sn ko kn mo mn rest told ends asked =
+follows_at P task PageFault so sn ko kn m rest told ends asked = hindered PageFault rest (inr (inr (inl refl)))
+follows_at P task ReadFault so sn ko kn m rest told ends asked = hindered ReadFault rest (inl refl)
+follows_at P task WriteFault so sn ko kn m rest told ends asked = hindered WriteFault rest (inr (inl refl))
+follows_at P task NoMemory so sn ko kn m rest told ends asked = hindered NoMemory rest (inr (inr (inr refl)))
+follows_at P task TooLong so sn ko kn m rest told ends asked =
     let more : most_input < length rest = at_some so.rest rest (λ r. most_input < length r) told ends.0.1.more in
     record { short = λ h. absurd (omega (arith, h, more)); long = λ h. inl refl }
-follows_at P task NotBuilt so sn ko kn mo mn rest told ends asked = elim ends.0 [
+follows_at P task NotBuilt so sn ko kn m rest told ends asked = elim ends.0 [
   | inl later ↦ let is : Later ≡ Run = sym later.0 ∙ asked in absurd cc
   | inr read ↦ read_follows not_built NotBuilt so sn rest told read.1 refl
 ]
 
-pub follows : (P : Type 0) (task : Task) (status : Status) (so sn : SourceTold) (ko kn : SinkTold) (mo mn : MakerTold) → Ends P task status so sn ko kn mo mn → task ≡ Run → IfSome so.rest (FollowsBytes status)
-follows P task status so sn ko kn mo mn ends asked = some_of so.rest (FollowsBytes status) (λ rest told. follows_at P task status so sn ko kn mo mn rest told ends asked)
+pub follows : (P : Type 0) (task : Task) (status : Status) (so sn : SourceTold) (ko kn : SinkTold) (m : MakerTold) → Ends P task status so sn ko kn m → task ≡ Run → IfSome so.rest (FollowsBytes status)
+follows P task status so sn ko kn m ends asked = some_of so.rest (FollowsBytes status) (λ rest told. follows_at P task status so sn ko kn m rest told ends asked)
 
 -- a making failed of the input that the bytes are
-making_failed : (input : Input) (so sn : SourceTold) (mo mn : MakerTold) (rest : List ℕ) → so.rest ≡ Some rest → reading rest ≡ accepted input → (other : Input) → HasRead (accepted other) so sn → FaultsInMaking other mo mn → FaultsInMaking input mo mn
-making_failed input so sn mo mn rest told reads other read making =
+making_failed : (input : Input) (so sn : SourceTold) (m : MakerTold) (rest : List ℕ) → so.rest ≡ Some rest → reading rest ≡ accepted input → (other : Input) → HasRead (accepted other) so sn → MayFaultInMaking other m → MayFaultInMaking input m
+making_failed input so sn m rest told reads other read making =
     let same : read.bytes ≡ rest = at_some so.rest rest (λ r. read.bytes ≡ r) told read.whole.whole in
     let both : accepted other ≡ accepted input = sym read.reads ∙ ap reading same ∙ reads in
     let input_is : other ≡ input = cc in
-    subst (λ (i : Input). FaultsInMaking i mo mn) input_is making
+    subst (λ (i : Input). MayFaultInMaking i m) input_is making
 
 -- nothing stood in the way but want of memory
-unhindered_at : (P : Type 0) (task : Task) (status : Status) (so sn : SourceTold) (ko kn : SinkTold) (mo mn : MakerTold) (rest : List ℕ) → so.rest ≡ Some rest → Ends P task status so sn ko kn mo mn → task ≡ Run → length rest ≤ most_input → (input : Input) → reading rest ≡ accepted input → IsUnhindered input so sn ko kn mo mn → (status ≡ status_of (accepted input)) ⊎ (status ≡ NoMemory)
-unhindered_at P task status so sn ko kn mo mn rest told ends asked short input reads free =
-    let E : Status → Type 0 = λ s. Ends P task s so sn ko kn mo mn in
-    elim ((follows_at P task status so sn ko kn mo mn rest told ends asked).short short) [
+unhindered_at : (P : Type 0) (task : Task) (status : Status) (so sn : SourceTold) (ko kn : SinkTold) (m : MakerTold) (rest : List ℕ) → so.rest ≡ Some rest → Ends P task status so sn ko kn m → task ≡ Run → length rest ≤ most_input → (input : Input) → reading rest ≡ accepted input → IsUnhindered input so sn ko kn m → (status ≡ status_of (accepted input)) ⊎ (status ≡ NoMemory)
+unhindered_at P task status so sn ko kn m rest told ends asked short input reads free =
+    let E : Status → Type 0 = λ s. Ends P task s so sn ko kn m in
+    elim ((follows_at P task status so sn ko kn m rest told ends asked).short short) [
       | inl is ↦ inl (is ∙ ap status_of reads)
       | inr hindrance ↦ elim hindrance [
         | inl is ↦ let end = subst E is ends in absurd (free.reads end.0.1)
         | inr more ↦ elim more [
           | inl is ↦ let end = subst E is ends in absurd (free.writes end.wrote.faults)
           | inr last ↦ elim last [
-            | inl is ↦ let end = subst E is ends in absurd (free.making (making_failed input so sn mo mn rest told reads end.0.1.input end.0.1.read end.0.1.making))
+            | inl is ↦ let end = subst E is ends in absurd (free.making (making_failed input so sn m rest told reads end.0.1.input end.0.1.read end.0.1.making))
             | inr is ↦ inr is
           ]
         ]
       ]
     ]
 
-pub unhindered : (P : Type 0) (task : Task) (status : Status) (so sn : SourceTold) (ko kn : SinkTold) (mo mn : MakerTold) → Ends P task status so sn ko kn mo mn → task ≡ Run → IfSome so.rest (λ bytes. length bytes ≤ most_input → (input : Input) → reading bytes ≡ accepted input → IsUnhindered input so sn ko kn mo mn → (status ≡ status_of (accepted input)) ⊎ (status ≡ NoMemory))
-unhindered P task status so sn ko kn mo mn ends asked =
-    some_of so.rest (λ bytes. length bytes ≤ most_input → (input : Input) → reading bytes ≡ accepted input → IsUnhindered input so sn ko kn mo mn → (status ≡ status_of (accepted input)) ⊎ (status ≡ NoMemory)) (λ rest told. unhindered_at P task status so sn ko kn mo mn rest told ends asked)
+pub unhindered : (P : Type 0) (task : Task) (status : Status) (so sn : SourceTold) (ko kn : SinkTold) (m : MakerTold) → Ends P task status so sn ko kn m → task ≡ Run → IfSome so.rest (λ bytes. length bytes ≤ most_input → (input : Input) → reading bytes ≡ accepted input → IsUnhindered input so sn ko kn m → (status ≡ status_of (accepted input)) ⊎ (status ≡ NoMemory))
+unhindered P task status so sn ko kn m ends asked =
+    some_of so.rest (λ bytes. length bytes ≤ most_input → (input : Input) → reading bytes ≡ accepted input → IsUnhindered input so sn ko kn m → (status ≡ status_of (accepted input)) ⊎ (status ≡ NoMemory)) (λ rest told. unhindered_at P task status so sn ko kn m rest told ends asked)

@@ -18,7 +18,7 @@ use Rattle.pool_cli.specs.declared.words.Task.TheVariants.{Run}
 -- an input was read, or the program fails whatever its maker does
 abbrev pub ReadsInput : SourceTold → SourceTold → Result Input Failure → Type 0
 ReadsInput source_old source_new (Ok input) = HasRead (accepted input) source_old source_new
-ReadsInput source_old source_new (Err failure) = (maker_old maker_new : MakerTold) → Fails Run failure source_old source_new maker_old maker_new
+ReadsInput source_old source_new (Err failure) = (maker : MakerTold) → Fails Run failure source_old source_new maker
 
 -- settings are refused with this error, unless memory ran out
 abbrev pub Refuses : BadConfig → Failure → Type 0
@@ -32,9 +32,9 @@ Refuses error TooLong = ⊥
 Refuses error NotBuilt = ⊥
 
 -- the text of the output, or why there is none
-abbrev pub Prepares : Type 0 → Task → SourceTold → SourceTold → MakerTold → MakerTold → Result (String Global) Failure → Type 0
-Prepares P task source_old source_new maker_old maker_new (Ok text) = (task ≡ Run) × HasRun P (string_bytes text) source_old source_new maker_old
-Prepares P task source_old source_new maker_old maker_new (Err failure) = Fails task failure source_old source_new maker_old maker_new
+abbrev pub Prepares : Type 0 → Task → SourceTold → SourceTold → MakerTold → Result (String Global) Failure → Type 0
+Prepares P task source_old source_new maker (Ok text) = (task ≡ Run) × HasRun P (string_bytes text) source_old source_new maker
+Prepares P task source_old source_new maker (Err failure) = Fails task failure source_old source_new maker
 
 -- the text was written and the status stays, or a write failed
 abbrev pub Finishes : Status → List ℕ → SinkTold → SinkTold → Status → Type 0

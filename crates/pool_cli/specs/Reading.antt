@@ -3,7 +3,7 @@ use Rattle.std.specs.Prelude.{◌≡◌, ℕ, List, Bool, ◌&&◌, if◌then◌
 use Rattle.std.specs.Str.{is_utf8}
 use Rattle.serde_json.specs.Data.{Data}
 use Rattle.serde_json.specs.Read.{read}
-use Rattle.pool_run.specs.Built.{is_ready}
+use Rattle.pool_run.specs.Built.{is_built}
 use Rattle.pool_run.specs.Validity.{is_valid}
 use Rattle.pool_run.specs.declared.input.Input.{Input}
 use Rattle.pool_cli.specs.Forms.{input_form}
@@ -21,7 +21,7 @@ pub data Reading : Type 0 where
 -- of an input whose numbers all fit their types, or don't
 abbrev pub reading_of_input : Bool → Input → Reading
 reading_of_input fit input =
-    if is_ready input then (if fit && is_valid input then accepted input else invalid)
+    if is_built input then (if fit && is_valid input then accepted input else invalid)
     else not_built
 
 abbrev pub reading_of_form : Bool → Option Input → Reading

@@ -1,7 +1,7 @@
 ghost use Rattle.std.specs.Prelude.{◌≡◌, true, IfOk};
 ghost use Rattle.serde_json.specs.Read.{read};
 ghost use Rattle.serde_json.specs.View.{view};
-ghost use Rattle.pool_run.specs.Built.{is_ready};
+ghost use Rattle.pool_run.specs.Built.{is_built};
 ghost use Rattle.pool_run.specs.Validity.{is_valid};
 ghost use Rattle.pool_cli.specs.Forms.{input_form};
 ghost use Rattle.pool_cli.specs.Ranges.{numbers_fit};
@@ -10,7 +10,7 @@ ghost use Rattle.pool_cli.specs.Reading.{reading, reading_of_input, reading_of_j
 use crate::form_fault::FormFault;
 use crate::from_json::FromJson;
 use crate::ranges::numbers_fit;
-use pool_run::{Input, is_ready, is_valid};
+use pool_run::{Input, is_built, is_valid};
 use serde_json::Value;
 use std::alloc::Global;
 
@@ -27,10 +27,10 @@ pub enum InputFault {
 /// Only what is built is tested further. `fit` says whether all numbers fit their types.
 fn tested(input: Input, fit: bool) -> Result<Input, InputFault>
     ensures reads { Reads (reading_of_input fit input) result }
-    ensures ready { IfOk result (λ input. is_ready input ≡ true) }
+    ensures ready { IfOk result (λ input. is_built input ≡ true) }
     ensures valid { IfOk result (λ input. is_valid input ≡ true) }
 {
-    if !is_ready(&input) {
+    if !is_built(&input) {
         return Err(InputFault::NotBuilt);
     }
     if !fit || !is_valid(&input) {
@@ -41,7 +41,7 @@ fn tested(input: Input, fit: bool) -> Result<Input, InputFault>
 
 fn input_of(alloc: Global, value: &Value) -> Result<Input, InputFault>
     ensures reads { Reads (reading_of_form (numbers_fit (view value.now)) (input_form (view value.now))) result }
-    ensures ready { IfOk result (λ input. is_ready input ≡ true) }
+    ensures ready { IfOk result (λ input. is_built input ≡ true) }
     ensures valid { IfOk result (λ input. is_valid input ≡ true) }
 {
     match Input::from_json(alloc, value) {
@@ -53,7 +53,7 @@ fn input_of(alloc: Global, value: &Value) -> Result<Input, InputFault>
 
 fn read_text(alloc: Global, text: &str) -> Result<Input, InputFault>
     ensures reads { Reads (reading_of_json (read text.now)) result }
-    ensures ready { IfOk result (λ input. is_ready input ≡ true) }
+    ensures ready { IfOk result (λ input. is_built input ≡ true) }
     ensures valid { IfOk result (λ input. is_valid input ≡ true) }
 {
     match Value::from_str(alloc, text) {
@@ -71,7 +71,7 @@ fn read_text(alloc: Global, text: &str) -> Result<Input, InputFault>
 /// Reads the input that the bytes are.
 pub fn read_input(alloc: Global, bytes: &[u8]) -> Result<Input, InputFault>
     ensures reads { Reads (reading bytes.now) result }
-    ensures ready { IfOk result (λ input. is_ready input ≡ true) }
+    ensures ready { IfOk result (λ input. is_built input ≡ true) }
     ensures valid { IfOk result (λ input. is_valid input ≡ true) }
 {
     match str::from_utf8(bytes) {

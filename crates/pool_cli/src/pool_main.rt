@@ -22,7 +22,7 @@ fn go<S: Source, K: Sink, M: PageMaker>(
     sink: &mut K,
     pages: &mut M,
 ) -> Status
-    ensures { Ends M.Region (task_of words.now) result (S.told source.old) (S.told source.new) (K.told sink.old) (K.told sink.new) (M.told pages.old) (M.told pages.new) }
+    ensures { Ends M.Region (task_of words.now) result (S.told source.old) (S.told source.new) (K.told sink.old) (K.told sink.new) (M.told pages.old) }
 {
     match prepare(alloc, words, source, pages) {
         Ok(text) => finish(sink, text.as_str(), Status::Ok),
@@ -47,9 +47,9 @@ pub fn pool_main<S: Source, K: Sink, M: PageMaker>(
     ensures bad_input { result ≡ Status.BadInput → (task_of words.now ≡ Run) × HasRead invalid (S.told source.old) (S.told source.new) × Wrote (line_of failure.BadInput) (K.told sink.old) (K.told sink.new) }
     // The source was read to its end, the bytes read are an input that can be run but for its settings, and the line written says which of their rules is the first that is broken.
     ensures bad_config { result ≡ Status.BadConfig → WroteBadConfig (task_of words.now) (S.told source.old) (S.told source.new) (K.told sink.old) (K.told sink.new) }
-    ensures page_fault { result ≡ Status.PageFault → (task_of words.now ≡ Run) × HasNoPool (S.told source.old) (S.told source.new) (M.told pages.old) (M.told pages.new) × Wrote (line_of failure.PageFault) (K.told sink.old) (K.told sink.new) }
+    ensures page_fault { result ≡ Status.PageFault → (task_of words.now ≡ Run) × HasNoPool (S.told source.old) (S.told source.new) (M.told pages.old) × Wrote (line_of failure.PageFault) (K.told sink.old) (K.told sink.new) }
     ensures read_fault { result ≡ Status.ReadFault → (task_of words.now ≡ Run) × Rose (S.told source.old).faults (S.told source.new).faults × Wrote (line_of failure.ReadFault) (K.told sink.old) (K.told sink.new) }
-    ensures write_fault { result ≡ Status.WriteFault → WroteLess M.Region (task_of words.now) (S.told source.old) (S.told source.new) (K.told sink.old) (K.told sink.new) (M.told pages.old) (M.told pages.new) }
+    ensures write_fault { result ≡ Status.WriteFault → WroteLess M.Region (task_of words.now) (S.told source.old) (S.told source.new) (K.told sink.old) (K.told sink.new) (M.told pages.old) }
     ensures no_memory { result ≡ Status.NoMemory → (task_of words.now ≡ Run) × Wrote (line_of failure.NoMemory) (K.told sink.old) (K.told sink.new) }
     ensures too_long { result ≡ Status.TooLong → (task_of words.now ≡ Run) × ReadTooMuch (S.told source.old) (S.told source.new) × Wrote (line_of failure.TooLong) (K.told sink.old) (K.told sink.new) }
     ensures not_built { result ≡ Status.NotBuilt → AsksForMore (task_of words.now) (S.told source.old) (S.told source.new) × Wrote (line_of failure.NotBuilt) (K.told sink.old) (K.told sink.new) }
@@ -58,7 +58,7 @@ pub fn pool_main<S: Source, K: Sink, M: PageMaker>(
     ensures later_words { task_of words.now ≡ Later → (result ≡ Status.NotBuilt) ⊎ (result ≡ Status.WriteFault) }
     ensures by_bytes { task_of words.now ≡ Run → IfSome (S.told source.old).rest (FollowsBytes result) }
     ensures unhindered { task_of words.now ≡ Run → IfSome (S.told source.old).rest (λ bytes. length bytes ≤ most_input → (input : Input) → reading bytes ≡ accepted input
-        → IsUnhindered input (S.told source.old) (S.told source.new) (K.told sink.old) (K.told sink.new) (M.told pages.old) (M.told pages.new) → (result ≡ status_of (accepted input)) ⊎ (result ≡ Status.NoMemory)) }
+        → IsUnhindered input (S.told source.old) (S.told source.new) (K.told sink.old) (K.told sink.new) (M.told pages.old) → (result ≡ status_of (accepted input)) ⊎ (result ≡ Status.NoMemory)) }
 {
     go(alloc, words, source, sink, pages)
 }

@@ -1,6 +1,6 @@
 ghost use Rattle.std.specs.Prelude.{◌≡◌, true, IfOk};
 ghost use Rattle.pool_pages.specs.declared.bad_config.BadConfig.{BadConfig};
-ghost use Rattle.pool_run.specs.Built.{is_ready};
+ghost use Rattle.pool_run.specs.Built.{is_built};
 ghost use Rattle.pool_run.specs.Validity.{is_valid};
 ghost use Rattle.pool_cli.specs.Lines.{config_line};
 ghost use Rattle.pool_cli.specs.Preparing.{ReadsInput, Prepares, Finishes, Refuses};
@@ -21,7 +21,7 @@ use std::alloc::Global;
 /// Reads the input.
 fn input_from<S: Source>(alloc: Global, source: &mut S) -> Result<Input, Failure>
     ensures reads { ReadsInput (S.told source.old) (S.told source.new) result }
-    ensures ready { IfOk result (λ input. is_ready input ≡ true) }
+    ensures ready { IfOk result (λ input. is_built input ≡ true) }
     ensures valid { IfOk result (λ input. is_valid input ≡ true) }
 {
     let bytes = match read_all(alloc, source) {
@@ -54,7 +54,7 @@ fn run<S: Source, M: PageMaker>(
     source: &mut S,
     pages: &mut M,
 ) -> Result<String, Failure>
-    ensures { Prepares M.Region Run (S.told source.old) (S.told source.new) (M.told pages.old) (M.told pages.new) result }
+    ensures { Prepares M.Region Run (S.told source.old) (S.told source.new) (M.told pages.old) result }
 {
     let input = input_from(alloc, source)?;
     let output = match run_schedule(alloc, &input, pages) {
@@ -76,7 +76,7 @@ pub fn prepare<S: Source, M: PageMaker>(
     source: &mut S,
     pages: &mut M,
 ) -> Result<String, Failure>
-    ensures { Prepares M.Region (task_of words.now) (S.told source.old) (S.told source.new) (M.told pages.old) (M.told pages.new) result }
+    ensures { Prepares M.Region (task_of words.now) (S.told source.old) (S.told source.new) (M.told pages.old) result }
 {
     match task_of(words) {
         Task::Run => run(alloc, source, pages),

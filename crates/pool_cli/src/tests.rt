@@ -5,9 +5,7 @@ use crate::status::Status;
 use crate::untold_pages::UntoldPages;
 use pool_alloc::Metrics;
 use pool_limits::Trap;
-use pool_pages::{
-    ByteList, MemoryPages, PageCalls, PageMaker, PageSize, PlainList, Unsupported,
-};
+use pool_pages::{ByteList, MemoryPages, PageCalls, PageMaker, PageSize, PlainList, Unsupported};
 use pool_run::{Refusal, Reply, ReplyList, RunOutput};
 use pool_slots::{AllocError as Refused, ConcurrencyKind, PoolConcurrencyLimitError};
 use std::alloc::{AllocError, Global};
@@ -98,7 +96,7 @@ const FAULT_OF_A_TABLE: &str = "{\"faults\":[{\"kind\":\"table\",\"slot\":0,\"ca
 
 const SHORT_ADDRESSES: &str = "{\"modules\":[{\"memories\":[{\"index\":\"i16\"}]}]}";
 
-const MANY_MEMORIES: &str = "{\"config\":{\"total_memories\":4294967296}}";
+const MANY_MEMORIES: &str = "{\"config\":{\"total_memories\":101}}";
 
 const LARGE_BYTE: &str =
     "{\"modules\":[{\"memories\":[{}]}],\"parties\":[{\"commands\":[{\"do\":\"instantiate\",\"module\":0},{\"do\":\"fill\",\"of\":0,\"at\":0,\"len\":0,\"byte\":256}]}]}";
@@ -114,7 +112,7 @@ fn statuses_of_inputs(rt: HostRuntime) -> Result<(), Fail> {
         ("{\"finish\":1}", 0, 0, Status::NotBuilt, NOT_BUILT),
         (FAULT_OF_A_TABLE, 0, 0, Status::NotBuilt, NOT_BUILT),
         (SHORT_ADDRESSES, 0, 0, Status::NotBuilt, NOT_BUILT),
-        (MANY_MEMORIES, 0, 0, Status::BadInput, BAD_INPUT),
+        (MANY_MEMORIES, 0, 0, Status::NotBuilt, NOT_BUILT),
         (LARGE_BYTE, 0, 0, Status::BadInput, BAD_INPUT),
         (
             "{\"schedule\":[[0,1,2]]}",
@@ -287,10 +285,6 @@ const TOO_RESIDENT: &str = "{\"config\":{\"linear_memory_keep_resident\":4294967
 const TOO_RESIDENT_LINE: &str =
     "error BadConfig: linear_memory_keep_resident of 4294967297 exceeds 4294967296\n";
 
-const TOO_MANY: &str = "{\"config\":{\"total_memories\":4294967295}}";
-
-const TOO_MANY_LINE: &str = "error BadConfig: total_memories of 4294967295 exceeds 100000\n";
-
 const NO_PAGE: &str =
     "{\"page\":17,\"config\":{\"decommit_batch_size\":0},\"offered\":{\"behaviour\":\"zero\"}}";
 
@@ -320,7 +314,6 @@ fn runs(rt: HostRuntime) -> Result<(), Fail> {
         (NO_BATCH, 0, Status::BadConfig, NO_BATCH_LINE),
         (NO_BATCH, 2, Status::WriteFault, "error BadC"),
         (TOO_RESIDENT, 0, Status::BadConfig, TOO_RESIDENT_LINE),
-        (TOO_MANY, 0, Status::BadConfig, TOO_MANY_LINE),
         (NO_PAGE, 0, Status::BadConfig, NO_PAGE_LINE),
         (NOT_RESERVED, 0, Status::BadConfig, NOT_RESERVED_LINE),
     ] {
@@ -387,5 +380,90 @@ fn reads_what_the_pages_hold(rt: HostRuntime) -> Result<(), Fail> {
     let (ends, sink) = ended_over(rt.alloc(), "run", FIRST, 0, 0, UntoldPages::new(page()?))?;
     assert_eq!(rt; ends, Status::Ok);
     assert_eq!(rt; sink.taken(), UNTOLD_OUTPUT.as_bytes());
+    Ok(())
+}
+
+const TOO_LARGE: &str =
+    "{\"config\":{\"max_memory_size\":4295032832},\"tunables\":{\"memory_reservation\":65536}}";
+
+const TOO_LARGE_LINE: &str =
+    "error BadConfig: maximum memory size of 0x100010000 bytes exceeds the configured memory reservation of 0x10000 bytes\n";
+
+const GROWS: &str =
+    "{\"config\":{\"max_memory_size\":131072,\"total_memories\":1},\"modules\":[{\"memories\":[{\"min\":1}]}],\"parties\":[{\"commands\":[{\"do\":\"instantiate\",\"module\":0},{\"do\":\"grow\",\"of\":0,\"pages\":0},{\"do\":\"grow\",\"of\":0,\"pages\":1},{\"do\":\"size\",\"of\":0},{\"do\":\"grow\",\"of\":0,\"pages\":1}]}]}";
+
+const GROWS_OUTPUT: &str = "0.0: granted memories 0 tables -\n\
+0.1: grown 65536\n\
+0.2: grown 65536\n\
+0.3: size 131072\n\
+0.4: grown none\n\
+metrics core=1 component=0 memories=1 tables=0 stacks=0 heaps=0 warm_memories=0 memory_resident=0 warm_tables=0 table_resident=0 warm_stacks=0 stack_resident=none\n\
+pages expose=2 hide=0 map_image=0 remap_zeros=0 erase=0 recolour=0 decommit=0\n";
+
+const GROWS_OR_TRAPS: &str =
+    "{\"config\":{\"max_memory_size\":131072,\"total_memories\":1},\"modules\":[{\"memories\":[{\"min\":1}]}],\"parties\":[{\"limits\":{\"trap_on_grow_failure\":true},\"commands\":[{\"do\":\"instantiate\",\"module\":0},{\"do\":\"grow\",\"of\":0,\"pages\":1},{\"do\":\"grow\",\"of\":0,\"pages\":1}]}]}";
+
+const GROWS_OR_TRAPS_OUTPUT: &str = "0.0: granted memories 0 tables -\n\
+0.1: grown 65536\n\
+0.2: refused LimiterFault: forcing a memory growth failure to be a trap\n\
+metrics core=1 component=0 memories=1 tables=0 stacks=0 heaps=0 warm_memories=0 memory_resident=0 warm_tables=0 table_resident=0 warm_stacks=0 stack_resident=none\n\
+pages expose=2 hide=0 map_image=0 remap_zeros=0 erase=0 recolour=0 decommit=0\n";
+
+const SMALL_PAGES: &str =
+    "{\"page\":16,\"config\":{\"total_memories\":1},\"modules\":[{\"memories\":[{\"min\":32,\"page_log2\":0,\"image\":{\"offset\":16,\"hex\":\"00112233445566778899aabbccddeeff\"}}]}],\"parties\":[{\"commands\":[{\"do\":\"instantiate\",\"module\":0},{\"do\":\"read\",\"of\":0,\"at\":12,\"len\":8}]}]}";
+
+const SMALL_PAGES_OUTPUT: &str = "0.0: granted memories 0 tables -\n\
+0.1: bytes 0000000000112233\n\
+metrics core=1 component=0 memories=1 tables=0 stacks=0 heaps=0 warm_memories=0 memory_resident=0 warm_tables=0 table_resident=0 warm_stacks=0 stack_resident=none\n\
+pages expose=1 hide=0 map_image=1 remap_zeros=0 erase=0 recolour=0 decommit=0\n";
+
+const IMAGE_PAST_THE_END: &str =
+    "{\"page\":16,\"config\":{\"total_memories\":1},\"modules\":[{\"memories\":[{\"min\":31,\"page_log2\":0,\"image\":{\"offset\":16,\"hex\":\"00112233445566778899aabbccddeeff\"}}]}],\"parties\":[{\"commands\":[{\"do\":\"instantiate\",\"module\":0},{\"do\":\"read\",\"of\":0,\"at\":12,\"len\":8}]}]}";
+
+const IMAGE_PAST_THE_END_OUTPUT: &str = "0.0: granted memories 0 tables -\n\
+0.1: bytes 0000000000000000\n\
+metrics core=1 component=0 memories=1 tables=0 stacks=0 heaps=0 warm_memories=0 memory_resident=0 warm_tables=0 table_resident=0 warm_stacks=0 stack_resident=none\n\
+pages expose=1 hide=0 map_image=0 remap_zeros=0 erase=0 recolour=0 decommit=0\n";
+
+const IMAGE_INSIDE_A_PAGE: &str =
+    "{\"page\":16,\"config\":{\"total_memories\":1},\"modules\":[{\"memories\":[{\"min\":32,\"page_log2\":0,\"image\":{\"offset\":8,\"hex\":\"00112233445566778899aabbccddeeff\"}}]}],\"parties\":[{\"commands\":[{\"do\":\"instantiate\",\"module\":0}]}]}";
+
+const IMAGE_INSIDE_A_PAGE_OUTPUT: &str =
+    "0.0: refused Unsupported: image offset 8 is not a multiple of the page\n\
+metrics core=0 component=0 memories=0 tables=0 stacks=0 heaps=0 warm_memories=0 memory_resident=0 warm_tables=0 table_resident=0 warm_stacks=0 stack_resident=none\n\
+pages expose=0 hide=0 map_image=0 remap_zeros=0 erase=0 recolour=0 decommit=0\n";
+
+const LIMITED: &str =
+    "{\"modules\":[{\"memories\":[{\"min\":1}]}],\"parties\":[{\"limits\":{\"memory_size\":65535},\"commands\":[{\"do\":\"instantiate\",\"module\":0}]}]}";
+
+const LIMITED_OUTPUT: &str =
+    "0.0: refused LimiterDenied: memory minimum size of 1 pages exceeds memory limits\n\
+metrics core=0 component=0 memories=0 tables=0 stacks=0 heaps=0 warm_memories=1 memory_resident=0 warm_tables=0 table_resident=0 warm_stacks=0 stack_resident=none\n\
+pages expose=1 hide=0 map_image=0 remap_zeros=0 erase=0 recolour=0 decommit=0\n";
+
+const FAULTY: &str =
+    "{\"config\":{\"total_memories\":1},\"faults\":[{\"kind\":\"memory\",\"slot\":0,\"call\":1}],\"modules\":[{\"memories\":[{\"min\":1}]}],\"parties\":[{\"commands\":[{\"do\":\"instantiate\",\"module\":0},{\"do\":\"instantiate\",\"module\":0}]}]}";
+
+const FAULTY_OUTPUT: &str = "0.0: refused PageFault\n\
+0.1: granted memories 0 tables -\n\
+metrics core=1 component=0 memories=1 tables=0 stacks=0 heaps=0 warm_memories=0 memory_resident=0 warm_tables=0 table_resident=0 warm_stacks=0 stack_resident=none\n\
+pages expose=2 hide=0 map_image=0 remap_zeros=0 erase=1 recolour=0 decommit=0\n";
+
+#[test]
+fn runs_of_sizes_limits_and_faults(rt: HostRuntime) -> Result<(), Fail> {
+    for (input, status, written) in [
+        (TOO_LARGE, Status::BadConfig, TOO_LARGE_LINE),
+        (GROWS, Status::Ok, GROWS_OUTPUT),
+        (GROWS_OR_TRAPS, Status::Ok, GROWS_OR_TRAPS_OUTPUT),
+        (SMALL_PAGES, Status::Ok, SMALL_PAGES_OUTPUT),
+        (IMAGE_PAST_THE_END, Status::Ok, IMAGE_PAST_THE_END_OUTPUT),
+        (IMAGE_INSIDE_A_PAGE, Status::Ok, IMAGE_INSIDE_A_PAGE_OUTPUT),
+        (LIMITED, Status::Ok, LIMITED_OUTPUT),
+        (FAULTY, Status::Ok, FAULTY_OUTPUT),
+    ] {
+        let (ends, sink) = ended(rt.alloc(), "run", input, 0, 0)?;
+        assert_eq!(rt; ends, status, "at {input}");
+        assert_eq!(rt; sink.taken(), written.as_bytes(), "at {input}");
+    }
     Ok(())
 }

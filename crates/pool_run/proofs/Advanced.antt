@@ -6,7 +6,6 @@ use Rattle.std.proofs.lemmas.Option.{slice_get_within, slice_get-get_or}
 use Rattle.pool_pages.specs.MakerTold.{MakerTold}
 use Rattle.pool_pages.specs.declared.module_types.ModuleInfo.{ModuleInfo}
 use Rattle.pool_index.specs.Shard.{one_if}
-use Rattle.pool_limits.specs.LimiterTold.{unlimited}
 use Rattle.pool_slots.specs.declared.request.AllocError.TheVariants as alloc
 use Rattle.pool_alloc.specs.Bounds.{HasGroups, instance_bound, pool_sizes, bound_of, steps_left}
 use Rattle.pool_alloc.specs.Calls.{IsIdle, begun_call}
@@ -26,11 +25,12 @@ use Rattle.pool_alloc.proofs.Endings.{step_ends}
 use Rattle.pool_alloc.proofs.Grouping.{step_grouped, begun_grouped}
 use Rattle.pool_alloc.proofs.StepBounds.{step_fewer, idle_left, begun_bounded}
 use Rattle.pool_memory.specs.Memories.{MemoryState}
+use Rattle.pool_run.specs.PartyRules.{rule_of}
 use Rattle.pool_run.specs.Private.{World, PrivateMemory, IsRead, IsSize}
 use Rattle.pool_run.specs.Progress.{begun_by, begins_by, bound_asked, bound_returned, bound_begun, bound_keyed, bound_by}
 use Rattle.pool_run.specs.RunsMade.{draws_stripe}
 use Rattle.pool_run.specs.Ties.{CanTurn}
-use Rattle.pool_run.specs.Turns.{Turned, MemoryWrites, MemoryGrows, replies, answered, StepsFreely, Steps, Returns, LooksAt, with_lease, MovesIn, Asks, Begins, BeginsKeyed, TurnsAt, Turns}
+use Rattle.pool_run.specs.Turns.{Turned, MemoryWrites, MemoryGrows, replies, answered, Steps, Returns, LooksAt, with_lease, MovesIn, Asks, Begins, BeginsKeyed, TurnsAt, Turns}
 use Rattle.pool_run.specs.Worlds.{IsCallFor, AreCallsFor}
 use Rattle.pool_run.specs.declared.command.Command.{Command}
 use Rattle.pool_run.specs.declared.command.Command.TheVariants as command
@@ -115,13 +115,13 @@ module _ {P : Type 0} where
   step_advanced : (maker : MakerTold) (bound : ℕ) (c : PoolCore P) (p : RunningParty P) (t : Turned P) → CanTurn maker c p → IsReady c p.frame → is_idle p.frame.phase ≡ false → Steps c p t → HasAdvanced 0 bound c p t
   step_advanced maker bound c p t can ready busy steps =
       let a : After P = steps.0 in
-      let by : StepsFreely c p.frame a = steps.1 in
+      let by = steps.1.3 in
       let may : CanStep maker c p.frame = can_step maker c p can in
-      let groups : HasGroups a.core a.frame = step_grouped maker unlimited unlimited c p.frame a may by ready.groups in
-      let left : steps_left a.core a.frame + 1 ≤ steps_left c p.frame = step_fewer maker unlimited unlimited c p.frame a may by ready.groups busy in
-      let keyless : IsKeyless a = step_keyless unlimited unlimited c p.frame a by ready.drawn in
+      let groups : HasGroups a.core a.frame = step_grouped maker steps.1.0 steps.1.1 c p.frame a may by ready.groups in
+      let left : steps_left a.core a.frame + 1 ≤ steps_left c p.frame = step_fewer maker steps.1.0 steps.1.1 c p.frame a may by ready.groups busy in
+      let keyless : IsKeyless a = step_keyless steps.1.0 steps.1.1 c p.frame a by ready.drawn in
       let q : RunningParty P = record p { frame = a.frame } in
-      let ends : is_some a.outcome ≡ is_idle a.frame.phase = ends_where (is_idle p.frame.phase) (is_idle a.frame.phase) a.outcome (step_ends maker unlimited unlimited c p.frame a may by).answer busy in
+      let ends : is_some a.outcome ≡ is_idle a.frame.phase = ends_where (is_idle p.frame.phase) (is_idle a.frame.phase) a.outcome (step_ends maker steps.1.0 steps.1.1 c p.frame a may by).answer busy in
       subst (HasAdvanced 0 bound c p) (sym steps.2)
       (record {
         ready = answered_ready a.outcome a.core q (record { groups = groups; drawn = keyless.phase });
@@ -206,7 +206,7 @@ module _ {P : Type 0} (maker : MakerTold) (c : PoolCore P) (p : RunningParty P) 
   begins_on w modules (command.Read of k i len) t calls begins room = looks_on (λ m. IsRead m i len) k (slice_index_or p.live of None) t begins
   begins_on w modules (command.Write of k i bytes) t calls begins room = moves_on (MemoryWrites i bytes) of k (slice_index_or p.live of None) t begins
   begins_on w modules (command.Fill of k i len byte) t calls begins room = moves_on (MemoryWrites i (replicate len byte)) of k (slice_index_or p.live of None) t begins
-  begins_on w modules (command.Grow of k pages) t calls begins room = moves_on (MemoryGrows pages) of k (slice_index_or p.live of None) t begins
+  begins_on w modules (command.Grow of k pages) t calls begins room = moves_on (MemoryGrows (rule_of p.limits) pages) of k (slice_index_or p.live of None) t begins
   begins_on w modules (command.Size of k) t calls begins room = looks_on IsSize k (slice_index_or p.live of None) t begins
   begins_on w modules (command.Drop of) t calls begins room = returns_on of (slice_index_or p.live of None) t refl begins
 
@@ -216,10 +216,10 @@ module _ {P : Type 0} (maker : MakerTold) (c : PoolCore P) (p : RunningParty P) 
       let q : RunningParty P = record p { frame = begun_call call.Key p.frame } in
       let a : After P = steps.0 in
       let may : CanStep maker c q.frame = can_step maker c q (called_key maker c p can idle) in
-      let groups : HasGroups a.core a.frame = step_grouped maker unlimited unlimited c q.frame a may steps.1 (begun_groups c call.Key p.frame ready.groups) in
-      let outcome : a.outcome ≡ Some answer.Key = ap (λ (x : After P). x.outcome) steps.1.1.is in
-      let phase : is_idle a.frame.phase ≡ true = ap (λ (x : After P). is_idle x.frame.phase) steps.1.1.is in
-      let drawn : draws_stripe a.frame.phase ≡ false = ap (λ (x : After P). draws_stripe x.frame.phase) steps.1.1.is in
+      let groups : HasGroups a.core a.frame = step_grouped maker steps.1.0 steps.1.1 c q.frame a may steps.1.3 (begun_groups c call.Key p.frame ready.groups) in
+      let outcome : a.outcome ≡ Some answer.Key = ap (λ (x : After P). x.outcome) steps.1.3.1.is in
+      let phase : is_idle a.frame.phase ≡ true = ap (λ (x : After P). is_idle x.frame.phase) steps.1.3.1.is in
+      let drawn : draws_stripe a.frame.phase ≡ false = ap (λ (x : After P). draws_stripe x.frame.phase) steps.1.3.1.is in
       let same : t ≡ record { core = a.core; party = record p { frame = a.frame; keyed = true }; reply = None } = steps.2 ∙ ap (λ (o : Option (Outcome P)). answered o a.core (record p { frame = a.frame })) outcome in
       let none : one_if p.keyed ≡ 0 = ap one_if keyed in
       let over : one_if (not (is_idle a.frame.phase)) ≡ 0 = ap (λ (v : Bool). one_if (not v)) phase in

@@ -21,6 +21,7 @@ use Rattle.pool_alloc.specs.declared.frame.Phase.{Phase}
 use Rattle.pool_alloc.specs.declared.frame.Phase.TheVariants.{Idle, Key, Validate, CountInstance, Pick, TakeQueue, TakeRegion, Empty, Instantiate, MakeMemory, CountMemory, PutUnknown, FreeUnknown, UncountMemory, Reset, Merge, Decommit, PutRegion, Free, UncountInstance}
 use Rattle.pool_alloc.proofs.BegunCalls.{at_rest}
 use Rattle.pool_run.specs.Searches.{IsAlone}
+use Rattle.pool_run.specs.PartyRules.{rule_of}
 use Rattle.pool_run.specs.Private.{World, PrivateMemory, PrivateInstance, Grants, grant_at, PrivateStep, IsRead, IsSize, Writes, Grows, LooksAtMemory, LooksAt as SeesLook, MovesMemory, MovesIn as SeesMove, Drops, with_memory}
 use Rattle.pool_run.specs.Turns.{Turned, with_reply, seen_as, private_memory, MemoryWrites, MemoryGrows, private_grant, grants_of, replies, Returns, LooksAtLease, LooksAt, with_lease, MovesLease, MovesIn, Asks, Begins, BeginsKeyed, TurnsAt, Turns}
 use Rattle.pool_run.specs.Ties.{Stage, no_call, ends_as, stage_of, EndsAs, TiedAs, IsPrivate, CanTurn}
@@ -77,7 +78,7 @@ module _ {P : Type 0} where
       subst Tied (sym (back_stage P (length lease.memories.items == 0))) ending
 
 -- a party of this world that is idle: what it was told, and that it may turn
-module _ {P : Type 0} (w : World) (start : Grants) (commands : List Command) (before : List Reply) (c : PoolCore P) (p : RunningParty P) (private : IsPrivate w start commands before p) (world : IsWorldOf w c) (can : CanTurn w.maker c p) (alone : w.alone ≡ true → IsAlone c p.frame p.live) (idle : IsIdle p.frame) where
+module _ {P : Type 0} (w : World) (start : Grants) (commands : List Command) (before : List Reply) (c : PoolCore P) (p : RunningParty P) (private : IsPrivate w start commands before p) (world : IsWorldOf w c) (can : CanTurn w.maker c p) (alone : w.alone ≡ true → IsAlone c p.frame p.live) (ruled : rule_of p.limits ≡ w.rule) (idle : IsIdle p.frame) where
   told_now : grants_of p.live ≡ private.grants
   told_now =
       let Tied : Phase P → Type 0 = λ phase. TiedAs w (stage_of phase p.frame.ending) commands p.done p.live p.frame private.grants in
@@ -152,7 +153,7 @@ module _ {P : Type 0} (w : World) (start : Grants) (commands : List Command) (be
       (record { grants = private.grants; run = private.run; count = private.count; tied = back_tied w commands p.done new private.grants grant p.frame (of, next, there, emptied) })
       world (called_back w.maker of grant c p can idle has)
       (λ e. called_alone w.maker (call.GiveBack grant) new c p can.party.sound.frame (idle, live_grant w.maker c.settings p.live of grant can.party.sound.grants has) (brings_grant p.live of grant has) (returned_searched grant c p.frame) (alone e))
-      steps
+      ruled steps
 
   -- a request for an instance
   asks_seen : (number : ℕ) (o : Option ModuleCall) (t : Turned P) → IfSome o (IsCallFor w c.settings number) → Asks o c p t → slice_get commands p.done ≡ Some (command.Instantiate number) → p.done < length p.live → SeesTurn w start commands before t
@@ -170,7 +171,7 @@ module _ {P : Type 0} (w : World) (start : Grants) (commands : List Command) (be
               count = private.count;
               tied = (told_now, record { number = number; command = next; asked_for = call_for.asked });
             })
-            world (called_module w.maker m c p can idle call_for.images call_for.places room) (λ e. called_alone w.maker (call.Module m) p.live c p can.party.sound.frame (idle, call_for.images, call_for.places) (brings_module m p.live) tt (alone e)) steps.2
+            world (called_module w.maker m c p can idle call_for.images call_for.places room) (λ e. called_alone w.maker (call.Module m) p.live c p can.party.sound.frame (idle, call_for.images, call_for.places) (brings_module m p.live) tt (alone e)) ruled steps.2
       ]
 
   begins_seen : (modules : List ModuleCall) (command : Command) (t : Turned P) → AreCallsFor w c.settings modules → Begins modules command c p t → slice_get commands p.done ≡ Some command → p.done < length p.live → SeesTurn w start commands before t
@@ -178,7 +179,7 @@ module _ {P : Type 0} (w : World) (start : Grants) (commands : List Command) (be
   begins_seen modules (command.Read of k i len) t calls begins next room = looks_seen (command.Read of k i len) (λ m. IsRead m i len) of k (slice_index_or p.live of None) t refl begins (λ reply step. step) next
   begins_seen modules (command.Write of k i bytes) t calls begins next room = moves_seen (command.Write of k i bytes) (MemoryWrites i bytes) (Writes i bytes) of k (slice_index_or p.live of None) t (writes_seen w c.settings i bytes) refl begins (λ reply new step. step) next
   begins_seen modules (command.Fill of k i len byte) t calls begins next room = moves_seen (command.Fill of k i len byte) (MemoryWrites i (replicate len byte)) (Writes i (replicate len byte)) of k (slice_index_or p.live of None) t (writes_seen w c.settings i (replicate len byte)) refl begins (λ reply new step. step) next
-  begins_seen modules (command.Grow of k pages) t calls begins next room = moves_seen (command.Grow of k pages) (MemoryGrows pages) (Grows w pages) of k (slice_index_or p.live of None) t (grows_seen w c.settings pages world.rule) refl begins (λ reply new step. step) next
+  begins_seen modules (command.Grow of k pages) t calls begins next room = moves_seen (command.Grow of k pages) (MemoryGrows (rule_of p.limits) pages) (Grows w pages) of k (slice_index_or p.live of None) t (grows_seen w c.settings (rule_of p.limits) pages ruled) refl begins (λ reply new step. step) next
   begins_seen modules (command.Size of k) t calls begins next room = looks_seen (command.Size of k) IsSize of k (slice_index_or p.live of None) t refl begins (λ reply step. step) next
   begins_seen modules (command.Drop of) t calls begins next room = returns_seen of (slice_index_or p.live of None) t refl begins next
 
@@ -188,14 +189,14 @@ module _ {P : Type 0} (w : World) (start : Grants) (commands : List Command) (be
   keyed_seen false modules (Some command) t calls next room steps =
       step_private w start commands before c (record p { frame = begun_call call.Key p.frame }) t
       (record { grants = private.grants; run = private.run; count = private.count; tied = told_now })
-      world (called_key w.maker c p can idle) (λ e. called_alone w.maker call.Key p.live c p can.party.sound.frame idle (brings_key p.live) tt (alone e)) steps
+      world (called_key w.maker c p can idle) (λ e. called_alone w.maker call.Key p.live c p can.party.sound.frame idle (brings_key p.live) tt (alone e)) ruled steps
   keyed_seen true modules (Some command) t calls next room begins = begins_seen modules command t calls begins next (omega (arith, slice_get_within commands p.done command next))
 
 module _ {P : Type 0} where
-  turn_at : (w : World) (modules : List ModuleCall) (start : Grants) (commands : List Command) (before : List Reply) (c : PoolCore P) (p : RunningParty P) (t : Turned P) (b : Bool) → is_idle p.frame.phase ≡ b → IsPrivate w start commands before p → IsWorldOf w c → AreCallsFor w c.settings modules → CanTurn w.maker c p → (w.alone ≡ true → IsAlone c p.frame p.live) → length commands ≤ length p.live → TurnsAt b modules commands c p t → SeesTurn w start commands before t
-  turn_at w modules start commands before c p t true idle private world calls can alone room turns = keyed_seen w start commands before c p private world can alone (idle_is p.frame.phase idle) p.keyed modules (slice_get commands p.done) t calls refl room turns
-  turn_at w modules start commands before c p t false busy private world calls can alone room turns = step_private w start commands before c p t private world can alone turns
+  turn_at : (w : World) (modules : List ModuleCall) (start : Grants) (commands : List Command) (before : List Reply) (c : PoolCore P) (p : RunningParty P) (t : Turned P) (b : Bool) → is_idle p.frame.phase ≡ b → IsPrivate w start commands before p → IsWorldOf w c → AreCallsFor w c.settings modules → CanTurn w.maker c p → (w.alone ≡ true → IsAlone c p.frame p.live) → rule_of p.limits ≡ w.rule → length commands ≤ length p.live → TurnsAt b modules commands c p t → SeesTurn w start commands before t
+  turn_at w modules start commands before c p t true idle private world calls can alone ruled room turns = keyed_seen w start commands before c p private world can alone ruled (idle_is p.frame.phase idle) p.keyed modules (slice_get commands p.done) t calls refl room turns
+  turn_at w modules start commands before c p t false busy private world calls can alone ruled room turns = step_private w start commands before c p t private world can alone ruled turns
 
   -- After a turn of a party its replies are still a private run.
-  pub turn_private : (w : World) (modules : List ModuleCall) (start : Grants) (commands : List Command) (before : List Reply) (c : PoolCore P) (p : RunningParty P) (t : Turned P) → IsWorldOf w c → AreCallsFor w c.settings modules → CanTurn w.maker c p → (w.alone ≡ true → IsAlone c p.frame p.live) → length commands ≤ length p.live → IsPrivate w start commands before p → Turns modules commands c p t → IsPrivate w start commands (with_reply t.reply before) t.party
-  turn_private w modules start commands before c p t world calls can alone room private turns = turn_at w modules start commands before c p t (is_idle p.frame.phase) refl private world calls can alone room turns
+  pub turn_private : (w : World) (modules : List ModuleCall) (start : Grants) (commands : List Command) (before : List Reply) (c : PoolCore P) (p : RunningParty P) (t : Turned P) → IsWorldOf w c → AreCallsFor w c.settings modules → CanTurn w.maker c p → (w.alone ≡ true → IsAlone c p.frame p.live) → rule_of p.limits ≡ w.rule → length commands ≤ length p.live → IsPrivate w start commands before p → Turns modules commands c p t → IsPrivate w start commands (with_reply t.reply before) t.party
+  turn_private w modules start commands before c p t world calls can alone ruled room private turns = turn_at w modules start commands before c p t (is_idle p.frame.phase) refl private world calls can alone ruled room turns

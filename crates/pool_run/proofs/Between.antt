@@ -27,6 +27,7 @@ use Rattle.pool_run.specs.Progress.{is_busy, begins_by, calls_begun, begins_call
 use Rattle.pool_run.specs.RunsMade.{party_made, IsBetweenTurns}
 use Rattle.pool_run.specs.Turns.{Turned}
 use Rattle.pool_run.specs.declared.command.Command.{Command}
+use Rattle.pool_run.specs.declared.input.PartyLimits.{PartyLimits}
 use Rattle.pool_run.specs.declared.running_party.RunningParty.{RunningParty}
 use Rattle.pool_run.proofs.Advanced.{IsReady, HasAdvanced}
 
@@ -57,8 +58,8 @@ module _ {P : Type 0} where
       let q : QueueState = queue_at i c.queues in
       omega (arith, unowned q.ranges q.memories (untouched.none_queued i below) (core.queues i below).owners)
 
-  pub made_between : (home n : ℕ) (s : Settings) → IsBetweenTurns (party_made {P = P} home s n)
-  made_between home n s = record { local = frame_grouped P home s; drawn = refl }
+  pub made_between : (home n : ℕ) (limits : Option PartyLimits) (s : Settings) → IsBetweenTurns (party_made {P = P} home limits s n)
+  made_between home n limits s = record { local = frame_grouped P home s; drawn = refl }
 
   -- A party that may turn is ready,
   pub ready_there : (s : RunState P) (i : ℕ) (p : RunningParty P) → AreGrouped s.core.queues → All IsBetweenTurns s.parties → slice_get s.parties i ≡ Some p → IsReady s.core p.frame

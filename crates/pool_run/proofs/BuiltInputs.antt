@@ -7,10 +7,10 @@ use Rattle.pool_pages.specs.declared.module_types.MemoryDecl.{MemoryDecl}
 use Rattle.pool_pages.specs.declared.module_types.ModuleInfo.{ModuleInfo}
 use Rattle.pool_run.specs.Built.{is_built, is_built_memory, is_built_module}
 use Rattle.pool_run.specs.declared.input.Input.{Input}
-use Rattle.pool_run.proofs.Tests.{first, second}
+use Rattle.pool_run.proofs.Tests.{second}
 
 pub built_modules : (input : Input) → is_built input ≡ true → list_all is_built_module input.modules ≡ true
-built_modules input built = first (list_all is_built_module input.modules) _ (second (nat_le input.config.limits.total_memories 100) _ built)
+built_modules input built = second (nat_le input.config.limits.total_memories 100) _ built
 
 pub built_memories : (m : ModuleInfo) → is_built_module m ≡ true → list_all is_built_memory m.memories ≡ true
 built_memories m built = second (nat_le (length m.memories) 1) _ built

@@ -5,7 +5,8 @@ use Rattle.std.proofs.lemmas.List.{length-set}
 use Rattle.std.proofs.lemmas.Option.{slice_get-get_or}
 use Rattle.pool_pages.specs.MakerTold.{MakerTold}
 use Rattle.pool_alloc.specs.declared.frame.ModuleCall.{ModuleCall}
-use Rattle.pool_run.specs.Private.{World, Grants, PrivateRun, no_grants}
+use Rattle.pool_run.specs.PartyRules.{rule_of}
+use Rattle.pool_run.specs.Private.{World, Grants, PrivateRun, no_grants, under}
 use Rattle.pool_run.specs.Folds.{RunState, commands_of, replies_to, party_by_party, TurnsIf, Folds, HasNothingLeft, IsFinished, Runs, IsRunTo, IsUnderWay}
 use Rattle.pool_run.specs.declared.command.Command.{Command}
 use Rattle.pool_run.specs.declared.reply.Reply.{Reply}
@@ -20,7 +21,7 @@ no_more_replies w n (c ∷ commands) (r ∷ replies) start end run = omega (arit
 module _ {P : Type 0} where
   -- so that they have places
   pub few_told : (w : World) (commands : List Command) (replies : List Reply) (p : RunningParty P) → IsRunTo w commands replies p → length replies ≤ length p.live
-  few_told w commands replies p to = omega (arith, no_more_replies w 0 commands replies (no_grants commands) to.private.grants to.private.run, to.room)
+  few_told w commands replies p to = omega (arith, no_more_replies (under (rule_of p.limits) w) 0 commands replies (no_grants commands) to.private.grants to.private.run, to.room)
 
   turned_count : (maker : MakerTold) (modules : List ModuleCall) (commands : List Command) (i : ℕ) (o : Option (RunningParty P)) (s new : RunState P) → TurnsIf maker modules commands i o s new → length new.parties ≡ length s.parties
   turned_count maker modules commands i None s new turns = ap (λ (x : RunState P). length x.parties) turns
@@ -41,4 +42,4 @@ module _ {P : Type 0} where
       let to = way.each i d below in
       let Left : Option (RunningParty P) → Type 0 = λ o. IfSome o (HasNothingLeft (commands_of inputs i)) in
       let none : HasNothingLeft (commands_of inputs i) (slice_index_or s.parties i d) = subst Left (slice_get-get_or s.parties i d below) (finished i) in
-      omega (arith, none.all, to.private.count, no_more_replies w 0 (commands_of inputs i) (replies_to i s.replies) (no_grants (commands_of inputs i)) to.private.grants to.private.run)
+      omega (arith, none.all, to.private.count, no_more_replies (under (rule_of (slice_index_or s.parties i d).limits) w) 0 (commands_of inputs i) (replies_to i s.replies) (no_grants (commands_of inputs i)) to.private.grants to.private.run)

@@ -1,8 +1,8 @@
 -- A run of several parties stays what it is through all its turns, so the replies to each party are a private run.
-use Rattle.std.proofs.Common.{◌≡◌, ℕ, ◌<◌, ◌≤◌, Bool, true, false, List, [], ◌∷◌, ◌++◌, length, Option, Some, None, refl, sym, ap, ◌∙◌, subst, inl, inr, arith}
+use Rattle.std.proofs.Common.{◌≡◌, ℕ, ◌<◌, ◌≤◌, Bool, true, false, List, [], ◌∷◌, ◌++◌, length, map, Option, Some, None, refl, sym, ap, ◌∙◌, subst, inl, inr, arith}
 use Rattle.std.specs.Prelude.{slice_get, slice_set, slice_index_or}
 use Rattle.std.proofs.lemmas.Bool.{cases_eq}
-use Rattle.std.proofs.lemmas.List.{length-set, set-get_or, get_or-set_same, get_or-set_other}
+use Rattle.std.proofs.lemmas.List.{length-set, map-set, get_or-map, set-get_or, get_or-set_same, get_or-set_other}
 use Rattle.std.proofs.lemmas.Option.{slice_get_past, slice_get_within, get_or_from_slice_get}
 use Rattle.pool_pages.specs.MakerTold.{MakerTold}
 use Rattle.pool_alloc.specs.Stepping.{is_idle}
@@ -12,10 +12,14 @@ use Rattle.pool_alloc.specs.declared.pool_core.Settings.{Settings}
 use Rattle.pool_alloc.specs.declared.frame.ModuleCall.{ModuleCall}
 use Rattle.pool_alloc.specs.Places.{made_count}
 use Rattle.pool_run.specs.Searches.{IsAlone}
-use Rattle.pool_run.specs.Private.{World, IsPrivateRun, no_grants}
+use Rattle.pool_limits.specs.Growth.{GrowthRule, always}
+use Rattle.pool_alloc.proofs.Telling.{told_weaker}
+use Rattle.pool_run.specs.PartyRules.{rule_of}
+use Rattle.pool_run.specs.declared.input.PartyLimits.{PartyLimits}
+use Rattle.pool_run.specs.Private.{World, under, world_at, IsPrivateRun, no_grants}
 use Rattle.pool_run.specs.Turns.{Turned, Turns, TurnsAt, BeginsKeyed, with_reply}
-use Rattle.pool_run.specs.Ties.{CanTurn, IsSoundTurn}
-use Rattle.pool_run.specs.Worlds.{IsWorldOf, AreCallsFor}
+use Rattle.pool_run.specs.Ties.{IsPrivate, CanTurn, IsSoundTurn}
+use Rattle.pool_run.specs.Worlds.{IsWorldOf, IsCallFor, AreCallsFor}
 use Rattle.pool_run.specs.Folds.{RunState, commands_of, replies_to, party_by_party, with_turn, TurnsIf, TurnsOf, Folds, HasNothingLeft, Runs, IsRunTo, IsUnderWay}
 use Rattle.pool_run.specs.declared.command.Command.{Command}
 use Rattle.pool_run.specs.declared.reply.Reply.{Reply}
@@ -27,8 +31,18 @@ use Rattle.pool_run.proofs.Turned.{HasTurned, has_turned}
 module _ {P : Type 0} where
   -- The world stays that of the pool.
   world_over : (w : World) (c d : PoolCore P) → IsSameSize c d → IsWorldOf w c → IsWorldOf w d
-  world_over w c d size world = record { settings = world.settings ∙ sym size.settings; total = world.total ∙ sym size.cells; most_instances = world.most_instances; stripes = world.stripes; rule = world.rule }
+  world_over w c d size world = record { settings = world.settings ∙ sym size.settings; total = world.total ∙ sym size.cells; most_instances = world.most_instances; stripes = world.stripes }
 
+  -- The world is the pool's whatever the rule of a party.
+  world_under : (rule : GrowthRule) (w : World) (c : PoolCore P) → IsWorldOf w c → IsWorldOf (under rule w) c
+  world_under rule w c world = record { settings = world.settings; total = world.total; most_instances = world.most_instances; stripes = world.stripes }
+
+calls_under : (rule : GrowthRule) (w : World) (s : Settings) (modules : List ModuleCall) → AreCallsFor w s modules → AreCallsFor (under rule w) s modules
+calls_under rule w s modules calls number =
+    told_weaker (IsCallFor w s number) (IsCallFor (under rule w) s number) (slice_get modules number)
+    (λ m for. record { asked = record { some = for.asked.some; memories = for.asked.memories; images = for.asked.images }; images = for.images; places = for.places }) (calls number)
+
+module _ {P : Type 0} where
   calls_over : (w : World) (modules : List ModuleCall) (c d : PoolCore P) → IsSameSize c d → AreCallsFor w c.settings modules → AreCallsFor w d.settings modules
   calls_over w modules c d size calls =
       let Calls : Settings → Type 0 = λ s. AreCallsFor w s modules in
@@ -38,7 +52,10 @@ module _ {P : Type 0} where
   run_to : (w : World) (modules : List ModuleCall) (commands : List Command) (replies : List Reply) (c : PoolCore P) (p : RunningParty P) (t : Turned P) → IsWorldOf w c → AreCallsFor w c.settings modules → CanTurn w.maker c p → (w.alone ≡ true → IsAlone c p.frame p.live) → IsRunTo w commands replies p → Turns modules commands c p t → HasTurned c p t → IsRunTo w commands (with_reply t.reply replies) t.party
   run_to w modules commands replies c p t world calls can alone to turns turned = record {
     room = turned.room ∙ to.room;
-    private = turn_private w modules (no_grants commands) commands replies c p t world calls can alone (omega (arith, to.room)) to.private turns;
+    private =
+        let u : World = under (rule_of p.limits) w in
+        let By : Option PartyLimits → Type 0 = λ limits. IsPrivate (under (rule_of limits) w) (no_grants commands) commands (with_reply t.reply replies) t.party in
+        subst By (sym turned.limits) (turn_private u modules (no_grants commands) commands replies c p t (world_under (rule_of p.limits) w c world) (calls_under (rule_of p.limits) w c.settings modules calls) can alone refl (omega (arith, to.room)) to.private turns);
   }
 
   -- A party that is alone stays so.
@@ -72,6 +89,10 @@ module _ {P : Type 0} where
         given = way.given;
         world = world_over w s.core t.core turned.size way.world;
         calls = calls_over w modules s.core t.core turned.size way.calls;
+        rules =
+            let rule : RunningParty P → GrowthRule = λ q. rule_of q.limits in
+            let same : rule t.party ≡ slice_index_or (map rule s.parties) i always = ap rule_of turned.limits ∙ ap rule (sym here) ∙ sym (get_or-map rule s.parties i p always below) in
+            map-set rule s.parties i t.party ∙ ap (slice_set (map rule s.parties) i) same ∙ set-get_or (map rule s.parties) i always ∙ way.rules;
         alone = λ e.
             let one = way.alone e in
             record {
@@ -120,8 +141,13 @@ module _ {P : Type 0} where
       runs.finishes.folds
 
   -- The replies to each party are a private run of its commands.
-  pub replies_private : (w : World) (modules : List ModuleCall) (inputs : List (List Command)) (s : RunState P) (i : ℕ) (d : RunningParty P) → IsUnderWay w modules inputs s → i < length s.parties → IsPrivateRun w (commands_of inputs i) (replies_to i s.replies)
-  replies_private w modules inputs s i d way below = let to = way.each i d below in (to.private.grants, to.private.run)
+  pub replies_private : (w : World) (modules : List ModuleCall) (inputs : List (List Command)) (s : RunState P) (i : ℕ) (d : RunningParty P) → IsUnderWay w modules inputs s → i < length s.parties → IsPrivateRun (world_at w i) (commands_of inputs i) (replies_to i s.replies)
+  replies_private w modules inputs s i d way below =
+      let to = way.each i d below in
+      let rule : RunningParty P → GrowthRule = λ q. rule_of q.limits in
+      let same : rule (slice_index_or s.parties i d) ≡ slice_index_or w.rules i always = sym (get_or-map rule s.parties i d always below) ∙ ap (λ (rs : List GrowthRule). slice_index_or rs i always) way.rules in
+      let By : GrowthRule → Type 0 = λ r. IsPrivateRun (under r w) (commands_of inputs i) (replies_to i s.replies) in
+      subst By same (to.private.grants, to.private.run)
 
   -- Turns that follow others.
   pub folds_on : (maker : MakerTold) (modules : List ModuleCall) (inputs : List (List Command)) (first second : List ℕ) (s mid end : RunState P) → Folds maker modules inputs first s mid → Folds maker modules inputs second mid end → Folds maker modules inputs (first ++ second) s end

@@ -13,13 +13,15 @@ use Rattle.pool_alloc.specs.Sums.{metrics_of}
 use Rattle.pool_alloc.specs.Whole.{IsUntouched}
 use Rattle.pool_alloc.specs.declared.frame.Grant.{Grant}
 use Rattle.pool_alloc.specs.declared.frame.ModuleCall.{ModuleCall}
+use Rattle.pool_limits.specs.Growth.{GrowthRule}
 use Rattle.pool_alloc.specs.declared.pool_core.PoolCore.{PoolCore}
 use Rattle.pool_alloc.specs.declared.pool_core.Settings.{Settings}
 use Rattle.pool_run.specs.Built.{is_built}
 use Rattle.pool_run.specs.Folds.{RunParts, RunState, IsUnderWay, commands_of, replies_to, state_of}
 use Rattle.pool_run.specs.Made.{AreMadeCalls}
 use Rattle.pool_run.specs.Numbers.{calls_of_run}
-use Rattle.pool_run.specs.Private.{World}
+use Rattle.pool_run.specs.PartyRules.{rule_of}
+use Rattle.pool_run.specs.Private.{World, world_at}
 use Rattle.pool_run.specs.Progress.{IsRunOf}
 use Rattle.pool_run.specs.Runs.{Performs, IsToldBy, IsMadeRun, IsRun, world_of}
 use Rattle.pool_run.specs.RunsMade.{Background, IsKept, commands_in, party_made, party_made_for, parties_made, run_made, places_in}
@@ -65,6 +67,11 @@ parties_name input parties modules same count valid i d below =
     subst (Names modules) (sym same)
     (subst (λ n. Names n input.parties) (sym count) (all_name input.modules [] (slice_index_or input.parties i d).commands (valid_commands input i (get_or input.parties i d) valid (slice_get-get_or input.parties i d inside))))
 
+-- each party grows by the rule of its limits
+rules_made : (P : Type 0) (s : Settings) (parties : List Party) → map (λ p. rule_of p.limits) (map (party_made_for {P = P} s) parties) ≡ map (λ p. rule_of p.limits) parties
+rules_made P s [] = refl
+rules_made P s (p ∷ ps) = ap (λ (rules : List GrowthRule). rule_of p.limits ∷ rules) (rules_made P s ps)
+
 -- Each entry of the schedule is of a party that there is, and each home is a small number.
 pub entries_below : (input : Input) (parties : List Party) (schedule : List ScheduleEntry) → parties ≡ input.parties → schedule ≡ input.schedule → is_valid input ≡ true → (k : ℕ) (d : ScheduleEntry) → k < length schedule → (slice_index_or schedule k d).party < length parties
 entries_below input parties schedule same entries valid k d below =
@@ -103,7 +110,7 @@ module _ {P : Type 0} where
       let parties : List (RunningParty P) = map (party_made_for {P = P} c.settings) input.parties in
       let count : length parties ≡ length input.parties = length-map input.parties (party_made_for {P = P} c.settings) in
       let Way : ℕ → Type 0 = λ n. IsUnderWay w modules (commands_in input.parties) (record { core = c; modules = modules; parties = parties; replies = replicate n [] }) in
-      subst Way count (run_started w modules (commands_in input.parties) c parties core untouched world calls (are_made c.settings input.parties) (λ alone. count ∙ eqb-true (length input.parties) 1 alone))
+      subst Way count (run_started w modules (commands_in input.parties) c parties core untouched world calls (are_made c.settings input.parties) (rules_made P c.settings input.parties) (λ alone. count ∙ eqb-true (length input.parties) 1 alone))
 
   calls_there : (input : Input) (maker : MakerTold) (c : PoolCore P) (modules : List ModuleCall) → is_built input ≡ true → IsCore maker c → AreMadeCalls maker.page input.modules modules → AreCallsFor (world_of input maker) c.settings modules
   calls_there input maker c modules built core calls = are_calls_for (world_of input maker) c.settings modules (built_modules input built) core.page (omega (arith, core.settings.page.at_least)) calls
@@ -136,7 +143,7 @@ module _ {P : Type 0} where
       })
 
   -- What the parties were told at the end of a run.
-  told_by : (finish : Bool) (w : World) (modules : List ModuleCall) (inputs : List (List Command)) (schedule : List ℕ) (s end : RunState P) (i : ℕ) (d : RunningParty P) → IsUnderWay w modules inputs s → Performs finish w.maker modules inputs schedule s end → i < length s.parties → IsToldBy finish w (commands_of inputs i) (replies_to i end.replies)
+  told_by : (finish : Bool) (w : World) (modules : List ModuleCall) (inputs : List (List Command)) (schedule : List ℕ) (s end : RunState P) (i : ℕ) (d : RunningParty P) → IsUnderWay w modules inputs s → Performs finish w.maker modules inputs schedule s end → i < length s.parties → IsToldBy finish (world_at w i) (commands_of inputs i) (replies_to i end.replies)
   told_by true w modules inputs schedule s end i d way runs below =
       let ended : IsUnderWay w modules inputs end = run_under_way w modules inputs schedule s end way runs in
       let inside : i < length end.parties = omega (arith, below, run_count w.maker modules inputs schedule s end runs) in
@@ -165,8 +172,8 @@ module _ {P : Type 0} where
         kept = kept;
         replies = replies;
         told = λ i below.
-            let Told : List (List Reply) → Type 0 = λ rs. IsToldBy input.finish w (commands_of (commands_in input.parties) i) (replies_to i rs) in
-            subst Told (sym replies) (told_by input.finish w run.modules (commands_in input.parties) (turns_of input.schedule) (run_made c run.modules input.parties) end i (party_made 0 c.settings 0) way performed (omega (arith, below, made_count c input.parties)));
+            let Told : List (List Reply) → Type 0 = λ rs. IsToldBy input.finish (world_at w i) (commands_of (commands_in input.parties) i) (replies_to i rs) in
+            subst Told (sym replies) (told_by input.finish w run.modules (commands_in input.parties) (turns_of input.schedule) (run_made c run.modules input.parties) end i (party_made 0 None c.settings 0) way performed (omega (arith, below, made_count c input.parties)));
         metrics = metrics;
         calls_made = numbers;
       }

@@ -1,14 +1,14 @@
 -- What a change of a lease is as a move of its memory.
 use Rattle.std.proofs.Common.{◌≡◌, ℕ, ◌+◌, Bool, true, false, List, length, Option, Result, Ok, Err, refl, ap, ◌∙◌, subst}
 use Rattle.std.specs.Prelude.{nat_le, slice_index_or, if◌then◌else◌, OnOk, OnErr}
-use Rattle.pool_limits.specs.LimiterTold.{unlimited}
+use Rattle.pool_limits.specs.Growth.{GrowthRule}
 use Rattle.pool_limits.specs.declared.errors.GrowFault.{GrowFault}
 use Rattle.pool_limits.specs.declared.errors.Trap.{Trap}
 use Rattle.pool_limits.specs.declared.errors.Trap.TheVariants.{MemoryOutOfBounds}
 use Rattle.pool_memory.specs.Memories.{MemoryState, memory_written}
-use Rattle.pool_alloc.specs.Leases.{Lease, IsWritten, IsGrown, IsChanged}
+use Rattle.pool_alloc.specs.Leases.{Lease, IsWritten, IsChanged}
 use Rattle.pool_alloc.specs.Reserved.{Reserved}
-use Rattle.pool_run.specs.Turns.{MemoryWrites, MemoryGrows, LeaseMoves, write_reply, growth_reply}
+use Rattle.pool_run.specs.Turns.{MemoryWrites, MemoryGrows, GrowsUnder, LeaseMoves, write_reply, growth_reply}
 use Rattle.pool_run.specs.declared.reply.Reply.{Reply}
 use Rattle.pool_run.specs.declared.reply.Reply.TheVariants.{Done, Trap as trapped}
 
@@ -33,5 +33,5 @@ written_by i bytes l n result false answer is =
 pub write_moves : (i : ℕ) (bytes : List ℕ) (l n : Lease) (result : Result (Unit {0}) Trap) → IsWritten i bytes l n result → LeaseMoves (MemoryWrites i bytes) l n (write_reply result)
 write_moves i bytes l n result is = record { index = is.index; memory = is.memory; move = written_by i bytes l n result (nat_le (i + length bytes) l.memory.linear.size) is.answer is }
 
-pub growth_moves : (pages : ℕ) (l n : Lease) (answer : Result (Option ℕ) GrowFault) → IsGrown pages l n unlimited unlimited answer → LeaseMoves (MemoryGrows pages) l n (growth_reply answer)
-growth_moves pages l n answer is = record { index = is.index; memory = is.memory; move = (answer, is.growth, refl) }
+pub growth_moves : (rule : GrowthRule) (pages : ℕ) (l n : Lease) (answer : Result (Option ℕ) GrowFault) → GrowsUnder rule pages l n answer → LeaseMoves (MemoryGrows rule pages) l n (growth_reply answer)
+growth_moves rule pages l n answer is = record { index = is.3.index; memory = is.3.memory; move = (is.0, is.1, answer, is.2, is.3.growth, refl) }

@@ -30,6 +30,7 @@ use Rattle.pool_alloc.proofs.Balances.{in_phase}
 use Rattle.pool_memory.specs.Memories.{MemoryState}
 use Rattle.pool_run.specs.Limits.{admitted_as, admitted_by, admitted}
 use Rattle.pool_run.specs.Ties.{Stage, no_call, asks, ends_as, stage_of, granted_to, held_by_party}
+use Rattle.pool_run.specs.PartyRules.{rule_of}
 use Rattle.pool_run.specs.Private.{PrivateMemory, IsRead, IsSize}
 use Rattle.pool_run.specs.Turns.{Turned, MemoryWrites, MemoryGrows, replies, answered, Steps, Returns, LooksAt, with_lease, MovesIn, Asks, Begins, BeginsKeyed, TurnsAt, Turns}
 use Rattle.pool_run.specs.declared.command.Command.{Command}
@@ -159,7 +160,7 @@ module _ {P : Type 0} where
       let most : ℕ = c.settings.max_core_instances in
       let more : ℕ = others + sum_by (granted_to grant_instances) p.live in
       let a : After P = steps.0 in
-      let by = steps.1 in
+      let by = steps.1.3 in
       let A : After P → Type 0 = λ x. Admits more most x in
       let T : Turned P → Type 0 = λ x. others + admitted x.party ≤ most in
       let admits : Admits more most a = subst A (sym by.1.is) (admits_at more by.0 p.frame.phase c p.frame (omega (arith, within)) (omega (arith, counted))) in
@@ -213,7 +214,7 @@ module _ {P : Type 0} (others : ℕ) (c : PoolCore P) (p : RunningParty P) (with
   begins modules (command.Read of k i len) t is = looks (λ m. IsRead m i len) k (slice_index_or p.live of None) t is
   begins modules (command.Write of k i bytes) t is = moves (MemoryWrites i bytes) of k t is
   begins modules (command.Fill of k i len byte) t is = moves (MemoryWrites i (replicate len byte)) of k t is
-  begins modules (command.Grow of k pages) t is = moves (MemoryGrows pages) of k t is
+  begins modules (command.Grow of k pages) t is = moves (MemoryGrows (rule_of p.limits) pages) of k t is
   begins modules (command.Size of k) t is = looks IsSize k (slice_index_or p.live of None) t is
   begins modules (command.Drop of) t is = returns of (slice_index_or p.live of None) t is
 

@@ -11,7 +11,7 @@ use Rattle.pool_pages.specs.declared.pages.DecommitBehavior.{DecommitBehavior}
 use Rattle.pool_pages.specs.declared.pages.RegionName.TheVariants.{Memory as memory_region}
 use Rattle.pool_images.specs.Slots.{Slot, called, raising, raised, limited}
 use Rattle.pool_limits.specs.Growth.{GrowthRule, always, limited_by, memory_answer, memory_failure}
-use Rattle.pool_limits.specs.LimiterTold.{LimiterTold, unlimited}
+use Rattle.pool_limits.specs.LimiterTold.{LimiterTold}
 use Rattle.pool_limits.specs.declared.errors.GrowError.{GrowError}
 use Rattle.pool_limits.specs.declared.errors.GrowError.TheVariants as failed
 use Rattle.pool_limits.specs.declared.errors.GrowFault.{GrowFault}
@@ -186,7 +186,7 @@ module _ (maker : MakerTold) (behaviour : DecommitBehavior) (room size : ℕ) (l
   growth_seen false false past g within leaves = allowed_seen past g.answer g.failure g.report within leaves
 
 -- what a limiter answers that tells its rule
-answer_told : (rule : GrowthRule) (o : Option GrowthRule) (given : Result Bool LimiterError) (n : ℕ) (most : Option ℕ) → o ≡ Some rule → given ≡ memory_answer o given n most → given ≡ memory_answer (Some rule) (Ok true) n most
+pub answer_told : (rule : GrowthRule) (o : Option GrowthRule) (given : Result Bool LimiterError) (n : ℕ) (most : Option ℕ) → o ≡ Some rule → given ≡ memory_answer o given n most → given ≡ memory_answer (Some rule) (Ok true) n most
 answer_told always o given n most told is = let M : Option GrowthRule → Type 0 = λ r. given ≡ memory_answer r given n most in subst M told is
 answer_told (limited_by l) o given n most told is = let M : Option GrowthRule → Type 0 = λ r. given ≡ memory_answer r given n most in subst M told is
 
@@ -227,14 +227,14 @@ grown_as maker behaviour room pages rule l new asked left answer of fixed told g
       is = seen.is ∙ ap (λ (a : Result Bool LimiterError). Outcome a g.report seen.fault) told_answer ∙ ap (λ (r : Result (Unit {0}) LimiterError). Outcome (memory_answer (Some rule) (Ok true) size most) r seen.fault) told_report;
     }))
 
-pub grows_stay : (maker : MakerTold) (s : Settings) (pages : ℕ) → KeepsSlot maker s (MemoryGrows pages)
-grows_stay maker s pages l new reply of is = (grown_as maker s.behaviour s.max_memory_size pages always l new unlimited unlimited is.0 of.slot of.memory.fixed refl is.1).still
+pub grows_stay : (maker : MakerTold) (s : Settings) (rule : GrowthRule) (pages : ℕ) → KeepsSlot maker s (MemoryGrows rule pages)
+grows_stay maker s rule pages l new reply of is = (grown_as maker s.behaviour s.max_memory_size pages rule l new is.0 is.1 is.2 of.slot of.memory.fixed is.3 is.4).still
 
-pub grows_seen : (w : World) (s : Settings) (pages : ℕ) → w.rule ≡ always → IsSeen w s (MemoryGrows pages) (Grows w pages)
-grows_seen w s pages free l new reply of is =
-    let grown = grown_as w.maker s.behaviour s.max_memory_size pages w.rule l new unlimited unlimited is.0 of.slot of.memory.fixed (ap (λ (r : GrowthRule). Some r) (sym free)) is.1 in
+pub grows_seen : (w : World) (s : Settings) (rule : GrowthRule) (pages : ℕ) → rule ≡ w.rule → IsSeen w s (MemoryGrows rule pages) (Grows w pages)
+grows_seen w s rule pages ruled l new reply of is =
+    let grown = grown_as w.maker s.behaviour s.max_memory_size pages w.rule l new is.0 is.1 is.2 of.slot of.memory.fixed (is.3 ∙ ap (λ (r : GrowthRule). Some r) ruled) is.4 in
     let M : Reply → Type 0 = λ r. Grows w pages (private_memory l) (seen_as l.index new) r in
-    subst M (sym is.2) (grown.fault, grown.may, grown.is)
+    subst M (sym is.5) (grown.fault, grown.may, grown.is)
 
 -- what a turn leaves that begins with such a command
 module _ {P : Type 0} (c : PoolCore P) (p : RunningParty P) where

@@ -88,7 +88,7 @@ module _ {P : Type 0} where
         count = count ∙ sym (length-map parties (party_made_for {P = P} s));
         each = λ i d x below.
             let inside : i < length parties = omega (arith, below, length-map parties (party_made_for {P = P} s)) in
-            let e : Party = record { home = 0; commands = [] } in
+            let e : Party = record { home = 0; limits = None; commands = [] } in
             let none : slice_index_or slots i x ≡ no_room = ap (λ (l : List (Reserved ℕ)). slice_index_or l i x) is ∙ get_or-replicate (length parties) i no_room x inside in
             let made : slice_index_or (parties_made {P = P} s parties) i d ≡ party_made_for s (slice_index_or parties i e) = get_or-map (party_made_for {P = P} s) parties i e d inside in
             let R : RunningParty P → Reserved ℕ → Type 0 = λ p l. IsReserved p.frame l in

@@ -152,7 +152,7 @@ module _ {P : Type 0} where
       subst F (replicate_more n i) (folds_more maker modules inputs (replicate n i) i s mid new folds turns)
 
   one_made : (s : Settings) (q : Party) → IsMadeParty s (length q.commands) (party_made_for {P = P} s q)
-  one_made s q = record { home = q.home; frame = refl; keyed = refl; done = refl; live = refl }
+  one_made s q = record { home = q.home; frame = refl; limits = q.limits; limited = refl; keyed = refl; done = refl; live = refl }
 
   -- each party is as it is made, with a place for each of its commands
   pub are_made : (s : Settings) (parties : List Party) → AreMade s (commands_in parties) (map (party_made_for {P = P} s) parties)
@@ -173,5 +173,5 @@ module _ {P : Type 0} where
         within = made_within c (parties_made c.settings parties) untouched whole;
         few = few;
         queues = untouched_grouped maker c core untouched;
-        between = All-map IsBetweenTurns (party_made_for c.settings) parties (λ k d below. made_between (slice_index_or parties k d).home (length (slice_index_or parties k d).commands) c.settings);
+        between = All-map IsBetweenTurns (party_made_for c.settings) parties (λ k d below. made_between (slice_index_or parties k d).home (length (slice_index_or parties k d).commands) (slice_index_or parties k d).limits c.settings);
       }

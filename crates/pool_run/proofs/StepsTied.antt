@@ -5,8 +5,7 @@ use Rattle.pool_pages.specs.declared.module_types.MemoryDecl.{MemoryDecl}
 use Rattle.pool_pages.specs.declared.unsupported.Unsupported.{Unsupported}
 use Rattle.pool_images.specs.Images.{Image}
 use Rattle.pool_images.specs.Slots.{Slot, IsLeft}
-use Rattle.pool_limits.specs.Growth.{GrowthRule, always, memory_answer}
-use Rattle.pool_limits.specs.LimiterTold.{unlimited}
+use Rattle.pool_limits.specs.LimiterTold.{LimiterTold}
 use Rattle.pool_limits.specs.declared.errors.LimiterError.{LimiterError}
 use Rattle.pool_index.specs.Shard.{ShardState, after_pick, pick_answer, after_free, IsShard}
 use Rattle.pool_index.specs.declared.ids.SlotId.{SlotId}
@@ -54,6 +53,7 @@ use Rattle.pool_run.specs.declared.command.Command.{Command}
 use Rattle.pool_run.specs.declared.command.Command.TheVariants as command
 use Rattle.pool_run.proofs.Bytes.{begun_seen}
 use Rattle.pool_run.proofs.Causes.{limit_of_slots, limit_of_instances, fault_of_slot, given_cause, own_cause, broken_cause, memory_cause, first_is, asked_more, GoesWith, own_goes}
+use Rattle.pool_run.proofs.Moves.{answer_told}
 use Rattle.pool_run.proofs.NewMemories.{begun_none, begun_more}
 use Rattle.pool_run.proofs.Tied.{IsTied, either, goes_either, gives_back, refused, no_slot_left, flush_of_request, flush_of_give_back, ends_with, allocates}
 
@@ -91,15 +91,14 @@ module _ {P : Type 0} where
       (allocating.supported.each k)
 
   -- A memory is made of it, or it is refused with its own refusal.
-  made_own : (w : World) (commands : List Command) (done : ℕ) (held : Slot) (answer : Result Bool LimiterError) (s : Settings) (f : Frame P) (asking : IsAsking w commands done f.asked f.granted.items) → w.rule ≡ always → IsAllocating s f → IfAllocated f (Asks answer unlimited unlimited) → IfAllocated f (λ decl. GoesWith (own_refusal w.rule decl.ty) (memory_made s (memories_asked f.asked) (length f.granted.items) answer held))
-  made_own w commands done held answer s f asking free allocating asks =
+  made_own : (w : World) (commands : List Command) (done : ℕ) (held : Slot) (answer : Result Bool LimiterError) (s : Settings) (f : Frame P) (asking : IsAsking w commands done f.asked f.granted.items) (asked left : LimiterTold) → asked.rule ≡ Some w.rule → IsAllocating s f → IfAllocated f (Asks answer asked left) → IfAllocated f (λ decl. GoesWith (own_refusal w.rule decl.ty) (memory_made s (memories_asked f.asked) (length f.granted.items) answer held))
+  made_own w commands done held answer s f asking asked left told allocating asks =
       let k : ℕ = length f.granted.items in
       let decls : List MemoryDecl = memories_asked f.asked in
-      told_of_three (λ decl. slice_get decls k ≡ Some decl) (λ decl. IsSupported s decl (image_wanted f)) (Asks answer unlimited unlimited) (λ decl. GoesWith (own_refusal w.rule decl.ty) (memory_made s decls k answer held)) (slice_get decls k)
-      (λ decl there supported asked.
+      told_of_three (λ decl. slice_get decls k ≡ Some decl) (λ decl. IsSupported s decl (image_wanted f)) (Asks answer asked left) (λ decl. GoesWith (own_refusal w.rule decl.ty) (memory_made s decls k answer held)) (slice_get decls k)
+      (λ decl there supported answers.
       let Made : Option MemoryDecl → Type 0 = λ o. GoesWith (own_refusal w.rule decl.ty) (made_for s.max_memory_size answer held o) in
-      let Rule : GrowthRule → Type 0 = λ rule. answer ≡ memory_answer (Some rule) (Ok true) (minimum_asked decl.ty) (maximum_asked decl.ty) in
-      subst Made (sym there) (own_goes w.rule answer decl.ty s.max_memory_size held (subst Rule (sym free) asked.answer) supported.minimum))
+      subst Made (sym there) (own_goes w.rule answer decl.ty s.max_memory_size held (answer_told w.rule asked.rule answer (minimum_asked decl.ty) (maximum_asked decl.ty) told answers.answer) supported.minimum))
       (told_itself (slice_get decls k)) (allocating.supported.each k) asks
 
   -- It is new to the party once it is granted.
@@ -213,14 +212,14 @@ module _ {P : Type 0} (w : World) (commands : List Command) (live : List (Option
       (λ full. flush_of_give_back w commands live done told (with_queue (queue_tried 0 c f) (after_take queue) c) (record f { local = taken_into f.local queue }) end)
       (λ fits. gives_back w commands live done told (with_queue (queue_tried 0 c f) queue c) f end)
 
-  pub tied_at : (g : Given) (phase : Phase P) (c : PoolCore P) (f : Frame P) → IsWorldOf w c → CanStep w.maker c (in_phase phase f) → AreHeld c (in_phase phase f) → (w.alone ≡ true → IsAlone c (in_phase phase f) live) → AsksOf unlimited unlimited g phase (in_phase phase f) → MayBeTold c.settings g phase (in_phase phase f) → TiedAs w (stage_of phase f.ending) commands done live (in_phase phase f) told → IsTied w commands live done told (row_of g phase c (in_phase phase f))
-  tied_at g Idle c f world can held alone free may tied = record { tied = tied }
-  tied_at g Key c f world can held alone free may tied = record { tied = tied }
-  tied_at g Validate c f world can held alone free may tied =
+  pub tied_at : (asked left : LimiterTold) → asked.rule ≡ Some w.rule → (g : Given) (phase : Phase P) (c : PoolCore P) (f : Frame P) → IsWorldOf w c → CanStep w.maker c (in_phase phase f) → AreHeld c (in_phase phase f) → (w.alone ≡ true → IsAlone c (in_phase phase f) live) → AsksOf asked left g phase (in_phase phase f) → MayBeTold c.settings g phase (in_phase phase f) → TiedAs w (stage_of phase f.ending) commands done live (in_phase phase f) told → IsTied w commands live done told (row_of g phase c (in_phase phase f))
+  tied_at asked left under g Idle c f world can held alone free may tied = record { tied = tied }
+  tied_at asked left under g Key c f world can held alone free may tied = record { tied = tied }
+  tied_at asked left under g Validate c f world can held alone free may tied =
       let request : IsRequest w commands done f.asked = tied.1 in
       let same : rule_broken w request.number ≡ memories_refused c.settings (memories_asked f.asked) = ap (λ (s : Settings). memories_refused s (memories_of w request.number)) world.settings ∙ ap (memories_refused c.settings) (sym request.asked_for.memories) in
       validated_tied g (memories_refused c.settings (memories_asked f.asked)) c (in_phase Validate f) request same tied.0
-  tied_at g CountInstance c f world can held alone free may tied =
+  tied_at asked left under g CountInstance c f world can held alone free may tied =
       let counted : PoolCore P = counting_instances (c.counters.core_instances + 1) c in
       let most : w.most_instances ≡ c.settings.max_core_instances = world.most_instances ∙ ap (λ (s : Settings). s.max_core_instances) world.settings in
       let has : Frame P = in_phase CountInstance f in
@@ -229,7 +228,7 @@ module _ {P : Type 0} (w : World) (commands : List Command) (live : List (Option
       (λ more. allocates w commands live done told counted has (length c.cells) world.total tied.0 tied.1.0 (λ k. omega (arith, held (slot_of k))))
       (λ full. refused w commands live done told counted has e tied.0 tied.1.0
       (given_cause w tied.1.0.number told e tied.1.0.supported (limit_of_instances w tied.1.0.number told c.settings.max_core_instances most (λ e. omega (arith, most, ltb-false c.counters.core_instances c.settings.max_core_instances full, (alone e).instances, instances_told live told tied.0)))))
-  tied_at g (Pick queues tried) c f world can held alone free may tied =
+  tied_at asked left under g (Pick queues tried) c f world can held alone free may tied =
       let has : Frame P = in_phase (Pick queues tried) f in
       let shard : ShardState = shard_at (shard_tried tried c has) c.shards in
       picked_tied (pick_answer (wanted has) shard) shard queues tried (with_shard (shard_tried tried c has) (after_pick (wanted has) shard) c) has tied.0 tied.1.0
@@ -245,7 +244,7 @@ module _ {P : Type 0} (w : World) (commands : List Command) (live : List (Option
         | inr other ↦ searched.1 j (omega (arith, below, round, same, other))
       ] in
       too_many c has tied.1.0 world tied.0 can.frame.shape.0 can.frame.shape.1 (λ k. refl) (nothing_kept c has (λ j below. searched.0 j (omega (arith, below, last))) full) (alone e)))
-  tied_at g (TakeQueue queues) c f world can held alone free may tied =
+  tied_at asked left under g (TakeQueue queues) c f world can held alone free may tied =
       let has : Frame P = in_phase (TakeQueue queues) f in
       let q : QueueState = queue_at (queue_tried queues c has) c.queues in
       let left : PoolCore P = with_queue (queue_tried queues c has) (after_take q) c in
@@ -264,23 +263,23 @@ module _ {P : Type 0} (w : World) (commands : List Command) (live : List (Option
       ] in
       too_many c has tied.1.0 world tied.0 can.frame.shape.0 can.frame.shape.1 (λ k. refl) (nothing_kept c has empty searched.1) (alone e))))
       (λ some. flush_of_request w commands live done told (queues + 1) left took_it tied.0 tied.1.0)
-  tied_at g (TakeRegion slot) c f world can held alone free may tied = holds_tied slot (cell_at slot c.cells) (with_cell slot taken c) (in_phase (TakeRegion slot) f) tied.0 tied.1.0
-  tied_at g (Empty slot had) c f world can held alone free may tied =
+  tied_at asked left under g (TakeRegion slot) c f world can held alone free may tied = holds_tied slot (cell_at slot c.cells) (with_cell slot taken c) (in_phase (TakeRegion slot) f) tied.0 tied.1.0
+  tied_at asked left under g (Empty slot had) c f world can held alone free may tied =
       let E : Bool → Type 0 = λ b. Empties b had g.slot in
       let has = can.frame.shape.2 in
       goes_either w commands live done told c (in_phase (Empty slot had) f) g.fault (PutUnknown slot g.slot (Refuse refusal.PageFault)) (Instantiate slot g.slot)
       (λ e. record { tied = (tied.0, (tied.1.0, given_cause w tied.1.0.number told refusal.PageFault tied.1.0.supported (fault_of_slot w c.settings.behaviour c.settings.max_memory_size (length c.cells) slot had g.slot world.total has.inside has.region (subst E e may), a_slot_more c slot world tied.0 has.inside (λ k. omega (arith, held (slot_of k)))))) })
       (λ e. record { tied = (tied.0, (tied.1.0, tt)) })
-  tied_at g (Instantiate slot had) c f world can held alone free may tied =
+  tied_at asked left under g (Instantiate slot had) c f world can held alone free may tied =
       let has = can.frame.shape.2 in
       goes_either w commands live done told c (in_phase (Instantiate slot had) f) g.fault (PutUnknown slot g.slot (Refuse refusal.PageFault)) (MakeMemory slot g.slot)
       (λ e. record { tied = (tied.0, (tied.1.0, given_cause w tied.1.0.number told refusal.PageFault tied.1.0.supported (fault_of_slot w c.settings.behaviour c.settings.max_memory_size (length c.cells) slot had g.slot world.total has.inside has.region (left_by c.settings g had (in_phase (Instantiate slot had) f) can.frame.shape.1 e may), a_slot_more c slot world tied.0 has.inside (λ k. omega (arith, held (slot_of k)))))) })
       (λ e. record { tied = (tied.0, (tied.1.0, tt)) })
-  tied_at g (MakeMemory slot had) c f world can held alone free may tied =
+  tied_at asked left under g (MakeMemory slot had) c f world can held alone free may tied =
       let has : Frame P = in_phase (MakeMemory slot had) f in
       made_tied slot had (memory_made c.settings (memories_asked f.asked) (length f.granted.items) g.limiter had) c has tied.0 tied.1.0 can.frame.shape.1
-      (made_own w commands done had g.limiter c.settings has tied.1.0 world.rule can.frame.shape.1 free)
-  tied_at g (CountMemory lease) c f world can held alone free may tied =
+      (made_own w commands done had g.limiter c.settings has tied.1.0 asked left under can.frame.shape.1 free)
+  tied_at asked left under g (CountMemory lease) c f world can held alone free may tied =
       let has : Frame P = in_phase (CountMemory lease) f in
       let more : Frame P = record has { granted = with_item lease f.granted } in
       let asking = tied.1.0 in
@@ -293,26 +292,26 @@ module _ {P : Type 0} (w : World) (commands : List Command) (live : List (Option
         new = new_lease w commands done lease c has asking world.settings can.frame.shape.1 can.frame.shape.2 can.frame.shape.4 tied.1.1;
       })
       (λ k. omega (arith, held (slot_of k), leased_last (slot_of k) f.granted.items lease))
-  tied_at g (PutUnknown slot had (Refuse e)) c f world can held alone free may tied = record { tied = tied }
-  tied_at g (PutUnknown slot had ReturnNext) c f world can held alone free may tied = record { tied = tied }
-  tied_at g (FreeUnknown slot (Refuse e)) c f world can held alone free may tied =
+  tied_at asked left under g (PutUnknown slot had (Refuse e)) c f world can held alone free may tied = record { tied = tied }
+  tied_at asked left under g (PutUnknown slot had ReturnNext) c f world can held alone free may tied = record { tied = tied }
+  tied_at asked left under g (FreeUnknown slot (Refuse e)) c f world can held alone free may tied =
       let j : ℕ = shard_of c.settings slot in
       refused w commands live done told (with_shard j (after_free (local_of c.settings slot) 0 (shard_at j c.shards)) c) (in_phase (FreeUnknown slot (Refuse e)) f) e tied.0 tied.1.0 tied.1.1
-  tied_at g (FreeUnknown slot ReturnNext) c f world can held alone free may tied =
+  tied_at asked left under g (FreeUnknown slot ReturnNext) c f world can held alone free may tied =
       let j : ℕ = shard_of c.settings slot in
       gives_back w commands live done told (with_shard j (after_free (local_of c.settings slot) 0 (shard_at j c.shards)) c) (in_phase (FreeUnknown slot ReturnNext) f) tied
-  tied_at g UncountMemory c f world can held alone free may tied = returns_tied f.returning.items (counting_memories (c.counters.memories - 1) c) (in_phase UncountMemory f) can.frame.shape.2 tied
-  tied_at g (Reset lease) c f world can held alone free may tied =
+  tied_at asked left under g UncountMemory c f world can held alone free may tied = returns_tied f.returning.items (counting_memories (c.counters.memories - 1) c) (in_phase UncountMemory f) can.frame.shape.2 tied
+  tied_at asked left under g (Reset lease) c f world can held alone free may tied =
       let reset : Frame P = record (in_phase (Reset lease) f) { local = reset_into c.settings.keep_resident.bytes lease.index (image_slot_of lease.memory) f.local } in
       either w commands live done told g.fault (goes c (in_phase (Reset lease) f) (PutUnknown lease.index g.slot ReturnNext)) (was_reset c reset) (λ faulted. record { tied = tied })
       (λ kept.
       either w commands live done told ((length reset.local.ranges == 0) || nat_le c.settings.batch (length reset.local.ranges)) (flushes GiveBackNext c reset) (goes c reset Merge)
       (λ full. flush_of_give_back w commands live done told c reset tied) (λ fits. record { tied = tied }))
-  tied_at g Merge c f world can held alone free may tied = merged_tied (joined (queue_at (queue_tried 0 c (in_phase Merge f)) c.queues) f.local) c (record (in_phase Merge f) { local = emptied f.local }) tied
-  tied_at g (Decommit (PickAgain queues)) c f world can held alone free may tied = flush_of_request w commands live done told queues c (record (in_phase (Decommit (PickAgain queues)) f) { local = g.queue }) tied.0 tied.1.0
-  tied_at g (Decommit GiveBackNext) c f world can held alone free may tied = flush_of_give_back w commands live done told c (record (in_phase (Decommit GiveBackNext) f) { local = g.queue }) tied
-  tied_at g (PutRegion (PickAgain queues)) c f world can held alone free may tied = put_of_request queues f.local.memories c (in_phase (PutRegion (PickAgain queues)) f) tied.0 tied.1.0
-  tied_at g (PutRegion GiveBackNext) c f world can held alone free may tied = put_of_give_back f.local.memories c (in_phase (PutRegion GiveBackNext) f) can.frame.shape.2 tied
-  tied_at g (Free (PickAgain queues)) c f world can held alone free may tied = freed_of_request queues _ (record (in_phase (Free (PickAgain queues)) f) { freed = record f.freed { items = freed_elsewhere c.settings (first_shard c.settings f.freed.items) f.freed.items } }) tied.0 tied.1.0
-  tied_at g (Free GiveBackNext) c f world can held alone free may tied = freed_of_give_back _ (record (in_phase (Free GiveBackNext) f) { freed = record f.freed { items = freed_elsewhere c.settings (first_shard c.settings f.freed.items) f.freed.items } }) tied
-  tied_at g UncountInstance c f world can held alone free may tied = ends_with w commands live done told f.ending (counting_instances (c.counters.core_instances - 1) c) (in_phase UncountInstance f) tied
+  tied_at asked left under g Merge c f world can held alone free may tied = merged_tied (joined (queue_at (queue_tried 0 c (in_phase Merge f)) c.queues) f.local) c (record (in_phase Merge f) { local = emptied f.local }) tied
+  tied_at asked left under g (Decommit (PickAgain queues)) c f world can held alone free may tied = flush_of_request w commands live done told queues c (record (in_phase (Decommit (PickAgain queues)) f) { local = g.queue }) tied.0 tied.1.0
+  tied_at asked left under g (Decommit GiveBackNext) c f world can held alone free may tied = flush_of_give_back w commands live done told c (record (in_phase (Decommit GiveBackNext) f) { local = g.queue }) tied
+  tied_at asked left under g (PutRegion (PickAgain queues)) c f world can held alone free may tied = put_of_request queues f.local.memories c (in_phase (PutRegion (PickAgain queues)) f) tied.0 tied.1.0
+  tied_at asked left under g (PutRegion GiveBackNext) c f world can held alone free may tied = put_of_give_back f.local.memories c (in_phase (PutRegion GiveBackNext) f) can.frame.shape.2 tied
+  tied_at asked left under g (Free (PickAgain queues)) c f world can held alone free may tied = freed_of_request queues _ (record (in_phase (Free (PickAgain queues)) f) { freed = record f.freed { items = freed_elsewhere c.settings (first_shard c.settings f.freed.items) f.freed.items } }) tied.0 tied.1.0
+  tied_at asked left under g (Free GiveBackNext) c f world can held alone free may tied = freed_of_give_back _ (record (in_phase (Free GiveBackNext) f) { freed = record f.freed { items = freed_elsewhere c.settings (first_shard c.settings f.freed.items) f.freed.items } }) tied
+  tied_at asked left under g UncountInstance c f world can held alone free may tied = ends_with w commands live done told f.ending (counting_instances (c.counters.core_instances - 1) c) (in_phase UncountInstance f) tied

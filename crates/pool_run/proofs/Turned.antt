@@ -3,7 +3,6 @@ use Rattle.std.proofs.Common.{◌≡◌, ◌≢◌, ℕ, ◌+◌, ◌<◌, ◌�
 use Rattle.std.specs.Prelude.{IfSome, replicate, slice_get, slice_set, slice_index_or, sum_by}
 use Rattle.std.proofs.lemmas.Option.{slice_get_within, get_or_from_slice_get}
 use Rattle.pool_pages.specs.MakerTold.{MakerTold}
-use Rattle.pool_limits.specs.LimiterTold.{unlimited}
 use Rattle.pool_slots.specs.declared.request.AllocError.TheVariants as alloc
 use Rattle.pool_alloc.specs.Leases.{Lease}
 use Rattle.pool_alloc.specs.Calls.{IsIdle, begun_call}
@@ -22,6 +21,7 @@ use Rattle.pool_run.proofs.Moves.{looked, moved}
 use Rattle.pool_run.proofs.Searching.{IsSearched, searched_at}
 use Rattle.pool_run.specs.Searches.{IsSearchedAt}
 use Rattle.pool_memory.specs.Memories.{MemoryState}
+use Rattle.pool_run.specs.PartyRules.{rule_of}
 use Rattle.pool_run.specs.Private.{World, PrivateMemory, IsRead, IsSize}
 use Rattle.pool_run.specs.Turns.{Turned, MemoryWrites, MemoryGrows, replies, answered, Steps, Returns, LooksAt, with_lease, MovesIn, Asks, Begins, BeginsKeyed, TurnsAt, Turns}
 use Rattle.pool_run.specs.Ties.{Stage, no_call, ends_as, stage_of, CanTurn}
@@ -59,6 +59,7 @@ module _ {P : Type 0} where
     pub memories : t.core.counters.memories + (held_by_party p).memories ≡ c.counters.memories + (held_by_party t.party).memories
     pub size : IsSameSize c t.core
     pub room : length t.party.live ≡ length p.live
+    pub limits : t.party.limits ≡ p.limits
     pub to_come : (k : ℕ) → t.party.done ≤ k → slice_index_or t.party.live k None ≡ None
     pub place : stage_of t.party.frame.phase t.party.frame.ending ≡ asks → t.party.done < length t.party.live
     pub searched : IsSearchedAt p.frame.phase c p.frame → IsSearchedAt t.party.frame.phase t.core t.party.frame
@@ -68,16 +69,17 @@ module _ {P : Type 0} where
 
   -- Nothing happened.
   stayed : (c : PoolCore P) (p : RunningParty P) → ((k : ℕ) → p.done ≤ k → slice_index_or p.live k None ≡ None) → (stage_of p.frame.phase p.frame.ending ≡ asks → p.done < length p.live) → HasTurned c p (record { core = c; party = p; reply = None })
-  stayed c p to_come place = record { places = λ x. refl; instances = refl; memories = refl; size = same_size c; room = refl; to_come = to_come; place = place; searched = λ s. s }
+  stayed c p to_come place = record { places = λ x. refl; instances = refl; memories = refl; size = same_size c; room = refl; limits = refl; to_come = to_come; place = place; searched = λ s. s }
 
   -- A command ended at once, and the party has the same of the pool.
-  ended : (c : PoolCore P) (p q : RunningParty P) (reply : Reply) → HaveSame p q → length q.live ≡ length p.live → q.done ≡ p.done → ((k : ℕ) → p.done ≤ k → slice_index_or q.live k None ≡ None) → stage_of q.frame.phase q.frame.ending ≡ no_call → q.frame ≡ p.frame → HasTurned c p (replies reply c q)
-  ended c p q reply same room done to_come settled frame = record {
+  ended : (c : PoolCore P) (p q : RunningParty P) (reply : Reply) → HaveSame p q → length q.live ≡ length p.live → q.limits ≡ p.limits → q.done ≡ p.done → ((k : ℕ) → p.done ≤ k → slice_index_or q.live k None ≡ None) → stage_of q.frame.phase q.frame.ending ≡ no_call → q.frame ≡ p.frame → HasTurned c p (replies reply c q)
+  ended c p q reply same room limits done to_come settled frame = record {
     places = λ x. omega (arith, same.places x);
     instances = omega (arith, same.instances);
     memories = omega (arith, same.memories);
     size = same_size c;
     room = room;
+    limits = limits;
     to_come = λ k behind. to_come k (omega (arith, behind, done));
     place = λ is. no_call_no_place (stage_of q.frame.phase q.frame.ending) settled is;
     searched = λ s. let S : Frame P → Type 0 = λ f. IsSearchedAt f.phase c f in subst S (sym frame) s;
@@ -96,6 +98,7 @@ module _ {P : Type 0} where
     memories = omega (arith, b.memories);
     size = size;
     room = refl;
+    limits = refl;
     to_come = to_come;
     place = has_place (p.done < length p.live) (stage_of f.phase f.ending) placed;
     searched = after;
@@ -106,6 +109,7 @@ module _ {P : Type 0} where
     memories = omega (arith, b.memories);
     size = size;
     room = refl;
+    limits = refl;
     to_come = to_come;
     place = λ is. no_call_no_place (stage_of f.phase f.ending) placed is;
     searched = after;
@@ -118,6 +122,7 @@ module _ {P : Type 0} where
         memories = omega (arith, b.memories, more grant_memories p.live p.done grant placed.2 none);
         size = size;
         room = length-set p.live p.done (Some grant);
+        limits = refl;
         to_come = λ k behind. get_or-set_other p.live p.done k (Some grant) None (λ is. omega (arith, is, behind)) ∙ to_come k (omega (arith, behind));
         place = λ is. no_call_no_place (stage_of f.phase f.ending) placed.0 is;
         searched = after;
@@ -128,6 +133,7 @@ module _ {P : Type 0} where
     memories = omega (arith, b.memories);
     size = size;
     room = refl;
+    limits = refl;
     to_come = λ k behind. to_come k (omega (arith, behind));
     place = λ is. no_call_no_place (stage_of f.phase f.ending) placed is;
     searched = after;
@@ -138,6 +144,7 @@ module _ {P : Type 0} where
     memories = omega (arith, b.memories);
     size = size;
     room = refl;
+    limits = refl;
     to_come = λ k behind. to_come k (omega (arith, behind));
     place = λ is. no_call_no_place (stage_of f.phase f.ending) placed is;
     searched = after;
@@ -147,20 +154,21 @@ module _ {P : Type 0} where
   pub step_turned : (maker : MakerTold) (c : PoolCore P) (p : RunningParty P) (t : Turned P) → CanTurn maker c p → Steps c p t → HasTurned c p t
   step_turned maker c p t can steps =
       let a : After P = steps.0 in
-      let by = steps.1 in
+      let by = steps.1.3 in
       subst (HasTurned c p) (sym steps.2)
-      (answered_turned c p a.core a.frame a.outcome can.party.to_come (step_conserves maker unlimited unlimited c p.frame a (can_step maker c p can) by) (step_keeps_size maker unlimited unlimited c p.frame a (can_step maker c p can) by)
+      (answered_turned c p a.core a.frame a.outcome can.party.to_come (step_conserves maker steps.1.0 steps.1.1 c p.frame a (can_step maker c p can) by) (step_keeps_size maker steps.1.0 steps.1.1 c p.frame a (can_step maker c p can) by)
       (placed_by (λ asked. p.done < length p.live) c p.frame a by can.party.place)
       (λ searching. let Searched : After P → Type 0 = λ x. IsSearched x in (subst Searched (sym by.1.is) (searched_at maker by.0 p.frame.phase c p.frame can.core searching)).searched))
 
   -- The same from a party with as much of the pool.
-  turned_from : (c : PoolCore P) (p q : RunningParty P) (t : Turned P) → HaveSame p q → length q.live ≡ length p.live → IsSearchedAt q.frame.phase c q.frame → HasTurned c q t → HasTurned c p t
-  turned_from c p q t same room searching turned = record {
+  turned_from : (c : PoolCore P) (p q : RunningParty P) (t : Turned P) → HaveSame p q → length q.live ≡ length p.live → q.limits ≡ p.limits → IsSearchedAt q.frame.phase c q.frame → HasTurned c q t → HasTurned c p t
+  turned_from c p q t same room limits searching turned = record {
     places = λ x. omega (arith, turned.places x, same.places x);
     instances = omega (arith, turned.instances, same.instances);
     memories = omega (arith, turned.memories, same.memories);
     size = turned.size;
     room = turned.room ∙ room;
+    limits = turned.limits ∙ limits;
     to_come = turned.to_come;
     place = turned.place;
     searched = λ s. turned.searched searching;
@@ -175,7 +183,7 @@ module _ {P : Type 0} (maker : MakerTold) (c : PoolCore P) (p : RunningParty P) 
   same_now = record { places = λ x. refl; instances = refl; memories = refl }
 
   at_once : (reply : Reply) (t : Turned P) → t ≡ replies reply c p → HasTurned c p t
-  at_once reply t is = subst (HasTurned c p) (sym is) (ended c p p reply same_now refl refl can.party.to_come settled_now refl)
+  at_once reply t is = subst (HasTurned c p) (sym is) (ended c p p reply same_now refl refl refl can.party.to_come settled_now refl)
 
   looks : (Looks : PrivateMemory → Reply → Type 0) (k : ℕ) (x : Option (Grant P)) (t : Turned P) → LooksAt Looks x k c p t → HasTurned c p t
   looks Looks k x t is = let seen = looked c p Looks k x t is in at_once seen.0 t seen.1
@@ -212,7 +220,7 @@ module _ {P : Type 0} (maker : MakerTold) (c : PoolCore P) (p : RunningParty P) 
               memories = omega (arith, swapped grant_memories p.live of (instance m.lease) new m.granted (length-set m.lease.memories.items k m.new));
             } in
             subst (HasTurned c p) (sym m.is)
-            (ended c p q m.reply same (length-set p.live of (Some new)) refl (λ n behind. other_place p.live of n (instance m.lease) new m.granted (can.party.to_come n behind)) settled_now refl)
+            (ended c p q m.reply same (length-set p.live of (Some new)) refl refl (λ n behind. other_place p.live of n (instance m.lease) new m.granted (can.party.to_come n behind)) settled_now refl)
       ]
 
   -- a give-back
@@ -223,7 +231,7 @@ module _ {P : Type 0} (maker : MakerTold) (c : PoolCore P) (p : RunningParty P) 
       let q : RunningParty P = record p { live = new; frame = begun_call (call.GiveBack grant) p.frame } in
       turned_from c p q t
       (has_call maker (call.GiveBack grant) new c p can.party.sound.frame (idle, live_grant maker c.settings p.live of grant can.party.sound.grants has) (brings_grant p.live of grant has))
-      (length-set p.live of None) (returned_searched grant c p.frame) (step_turned maker c q t (called_back maker of grant c p can idle has) steps)
+      (length-set p.live of None) refl (returned_searched grant c p.frame) (step_turned maker c q t (called_back maker of grant c p can idle has) steps)
 
   -- a request for an instance
   asks_for : (w : World) (number : ℕ) (o : Option ModuleCall) (t : Turned P) → IfSome o (IsCallFor w c.settings number) → Asks o c p t → p.done < length p.live → HasTurned c p t
@@ -235,7 +243,7 @@ module _ {P : Type 0} (maker : MakerTold) (c : PoolCore P) (p : RunningParty P) 
             let m : ModuleCall = steps.0 in
             let q : RunningParty P = record p { frame = begun_call (call.Module m) p.frame } in
             let call_for : IsCallFor w c.settings number m = share_for w c.settings number kept m steps.1 for in
-            turned_from c p q t (has_call maker (call.Module m) p.live c p can.party.sound.frame (idle, call_for.images, call_for.places) (brings_module m p.live)) refl tt
+            turned_from c p q t (has_call maker (call.Module m) p.live c p can.party.sound.frame (idle, call_for.images, call_for.places) (brings_module m p.live)) refl refl tt
             (step_turned maker c q t (called_module maker m c p can idle call_for.images call_for.places room) steps.2)
       ]
 
@@ -244,7 +252,7 @@ module _ {P : Type 0} (maker : MakerTold) (c : PoolCore P) (p : RunningParty P) 
   begins w modules (command.Read of k i len) t calls is room = looks (λ m. IsRead m i len) k (slice_index_or p.live of None) t is
   begins w modules (command.Write of k i bytes) t calls is room = moves (MemoryWrites i bytes) of k t is
   begins w modules (command.Fill of k i len byte) t calls is room = moves (MemoryWrites i (replicate len byte)) of k t is
-  begins w modules (command.Grow of k pages) t calls is room = moves (MemoryGrows pages) of k t is
+  begins w modules (command.Grow of k pages) t calls is room = moves (MemoryGrows (rule_of p.limits) pages) of k t is
   begins w modules (command.Size of k) t calls is room = looks IsSize k (slice_index_or p.live of None) t is
   begins w modules (command.Drop of) t calls is room = returns of (slice_index_or p.live of None) t refl is
 
@@ -253,7 +261,7 @@ module _ {P : Type 0} (maker : MakerTold) (c : PoolCore P) (p : RunningParty P) 
   begins_keyed w commands true modules None t calls next room is = subst (HasTurned c p) (sym is) (stayed c p can.party.to_come can.party.place)
   begins_keyed w commands false modules (Some command) t calls next room steps =
       let q : RunningParty P = record p { frame = begun_call call.Key p.frame } in
-      turned_from c p q t (has_call maker call.Key p.live c p can.party.sound.frame idle (brings_key p.live)) refl tt (step_turned maker c q t (called_key maker c p can idle) steps)
+      turned_from c p q t (has_call maker call.Key p.live c p can.party.sound.frame idle (brings_key p.live)) refl refl tt (step_turned maker c q t (called_key maker c p can idle) steps)
   begins_keyed w commands true modules (Some command) t calls next room is = begins w modules command t calls is (omega (arith, slice_get_within commands p.done command next))
 
 module _ {P : Type 0} where

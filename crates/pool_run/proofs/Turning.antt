@@ -1,15 +1,17 @@
 -- A turn of a party, as the party sees it: what it was told stays a private run, with the reply if there is one.
-use Rattle.std.proofs.Common.{◌≡◌, ℕ, ◌+◌, List, [], ◌∷◌, ◌++◌, length, Option, Some, None, refl, sym, subst, arith, true}
+use Rattle.std.proofs.Common.{◌≡◌, ℕ, ◌+◌, List, [], ◌∷◌, ◌++◌, length, Option, Some, None, refl, sym, ap, ◌∙◌, subst, arith, true}
 use Rattle.std.specs.Prelude.{slice_get, slice_set}
 use Rattle.std.proofs.lemmas.List.{length_push}
+use Rattle.pool_limits.specs.Growth.{GrowthRule}
 use Rattle.pool_alloc.specs.Steps.{After}
 use Rattle.pool_alloc.specs.declared.pool_core.PoolCore.{PoolCore}
 use Rattle.pool_alloc.specs.declared.frame.Frame.{Frame}
 use Rattle.pool_alloc.specs.declared.frame.Outcome.{Outcome}
 use Rattle.pool_alloc.specs.declared.frame.Outcome.TheVariants as answer
 use Rattle.pool_run.specs.Searches.{IsAlone}
+use Rattle.pool_run.specs.PartyRules.{rule_of}
 use Rattle.pool_run.specs.Private.{World, Grants, PrivateStep}
-use Rattle.pool_run.specs.Turns.{Turned, with_reply, grants_of, granted_reply, answered, StepsFreely, Steps}
+use Rattle.pool_run.specs.Turns.{Turned, with_reply, grants_of, granted_reply, answered, StepsUnder, Steps}
 use Rattle.pool_run.specs.Ties.{Stage, no_call, stage_of, TiedAs, IsPrivate, CanTurn}
 use Rattle.pool_run.specs.Worlds.{IsWorldOf}
 use Rattle.pool_run.specs.declared.command.Command.{Command}
@@ -49,13 +51,13 @@ module _ {P : Type 0} where
   answered_private w start commands before c p f (Some (answer.Refused e)) private tied = replied w start commands before p (record p { frame = f; done = p.done + 1 }) tied.command (Refused (Alloc e)) private refl tied.settled tied.next tied.step
 
   -- A step of the call under way.
-  pub step_tied : (w : World) (start : Grants) (commands : List Command) (before : List Reply) (c : PoolCore P) (p : RunningParty P) (a : After P) (private : IsPrivate w start commands before p) → IsWorldOf w c → CanTurn w.maker c p → (w.alone ≡ true → IsAlone c p.frame p.live) → StepsFreely c p.frame a → IsTied w commands p.live p.done private.grants a
-  step_tied w start commands before c p a private world can alone steps =
+  pub step_tied : (w : World) (start : Grants) (commands : List Command) (before : List Reply) (c : PoolCore P) (p : RunningParty P) (a : After P) (private : IsPrivate w start commands before p) → IsWorldOf w c → CanTurn w.maker c p → (w.alone ≡ true → IsAlone c p.frame p.live) → rule_of p.limits ≡ w.rule → StepsUnder (rule_of p.limits) c p.frame a → IsTied w commands p.live p.done private.grants a
+  step_tied w start commands before c p a private world can alone ruled steps =
       let T : After P → Type 0 = λ x. IsTied w commands p.live p.done private.grants x in
-      subst T (sym steps.1.is) (tied_at w commands p.live p.done private.grants steps.0 p.frame.phase c p.frame world (can_step w.maker c p can) (λ t. omega (arith, can.fits.once t)) alone steps.1.limiter steps.1.told private.tied)
+      subst T (sym steps.3.1.is) (tied_at w commands p.live p.done private.grants steps.0 steps.1 (steps.2 ∙ ap (λ (r : GrowthRule). Some r) ruled) steps.3.0 p.frame.phase c p.frame world (can_step w.maker c p can) (λ t. omega (arith, can.fits.once t)) alone steps.3.1.limiter steps.3.1.told private.tied)
 
-  pub step_private : (w : World) (start : Grants) (commands : List Command) (before : List Reply) (c : PoolCore P) (p : RunningParty P) (t : Turned P) → IsPrivate w start commands before p → IsWorldOf w c → CanTurn w.maker c p → (w.alone ≡ true → IsAlone c p.frame p.live) → Steps c p t → SeesTurn w start commands before t
-  step_private w start commands before c p t private world can alone steps =
+  pub step_private : (w : World) (start : Grants) (commands : List Command) (before : List Reply) (c : PoolCore P) (p : RunningParty P) (t : Turned P) → IsPrivate w start commands before p → IsWorldOf w c → CanTurn w.maker c p → (w.alone ≡ true → IsAlone c p.frame p.live) → rule_of p.limits ≡ w.rule → Steps c p t → SeesTurn w start commands before t
+  step_private w start commands before c p t private world can alone ruled steps =
       let a : After P = steps.0 in
-      let tied = step_tied w start commands before c p a private world can alone steps.1 in
+      let tied = step_tied w start commands before c p a private world can alone ruled steps.1 in
       subst (SeesTurn w start commands before) (sym steps.2) (answered_private w start commands before a.core p a.frame a.outcome private tied.tied)

@@ -4,7 +4,7 @@ use Rattle.std.specs.Prelude.{slice_get, slice_set, slice_index_or}
 use Rattle.std.proofs.lemmas.List.{set-get_or}
 use Rattle.pool_pages.specs.MakerTold.{MakerTold}
 use Rattle.pool_pages.specs.declared.module_types.MemoryDecl.{MemoryDecl}
-use Rattle.pool_limits.specs.LimiterTold.{unlimited}
+use Rattle.pool_limits.specs.LimiterTold.{LimiterTold}
 use Rattle.pool_memory.specs.Memories.{MemoryState}
 use Rattle.pool_alloc.specs.Calls.{IsGrant, IsGrantOf, IfGranted}
 use Rattle.pool_alloc.specs.Leases.{Lease}
@@ -20,9 +20,10 @@ use Rattle.pool_alloc.specs.declared.frame.Outcome.{Outcome}
 use Rattle.pool_alloc.specs.declared.frame.Outcome.TheVariants as answer
 use Rattle.pool_alloc.specs.declared.lease.InstanceLease.{InstanceLease}
 use Rattle.pool_run.specs.AtOnce.{AnswersMemory, AnswersGrant, LeaseMoved, LiveMoved, Makes}
+use Rattle.pool_run.specs.PartyRules.{rule_of}
 use Rattle.pool_run.specs.Private.{PrivateMemory}
 use Rattle.pool_run.specs.Ties.{CanTurn, IsSoundTurn}
-use Rattle.pool_run.specs.Turns.{Turned, leases_of, replies, answered, Steps, LooksAtLease, LooksAt, MovesLease, MovesIn}
+use Rattle.pool_run.specs.Turns.{Turned, leases_of, replies, answered, StepsUnder, Steps, LooksAtLease, LooksAt, MovesLease, MovesIn}
 use Rattle.pool_run.specs.declared.reply.Reply.{Reply}
 use Rattle.pool_run.specs.declared.reply.Reply.TheVariants.{Refused}
 use Rattle.pool_run.specs.declared.reply.Refusal.TheVariants.{NoSuchGrant}
@@ -51,12 +52,12 @@ module _ {P : Type 0} where
   granted_place Q (Some answer.Returned) f placed = tt
   granted_place Q (Some (answer.Refused e)) f placed = tt
 
-  pub place_for : (maker : MakerTold) (c : PoolCore P) (p : RunningParty P) (a : After P) → CanTurn maker c p → StepsTo unlimited unlimited c p.frame a → IfGranted (λ g. p.done < length p.live) a.outcome
+  pub place_for : {asked left : LimiterTold} (maker : MakerTold) (c : PoolCore P) (p : RunningParty P) (a : After P) → CanTurn maker c p → StepsTo asked left c p.frame a → IfGranted (λ g. p.done < length p.live) a.outcome
   place_for maker c p a can by =
       granted_place (p.done < length p.live) a.outcome a.frame (placed_by (λ asked. p.done < length p.live) c p.frame a by can.party.place)
 
   -- A step of the call under way.
-  pub step_made : (maker : MakerTold) (decls : List MemoryDecl) (c : PoolCore P) (p : RunningParty P) (a : After P) (t : Turned P) → CanTurn maker c p → StepsTo unlimited unlimited c p.frame a → CanStep maker a.core a.frame → IfGranted (IsGrantOf maker c.settings decls) a.outcome → IsSameSize c a.core → t ≡ answered a.outcome a.core (record p { frame = a.frame }) → Makes maker (Steps c p) c t
+  pub step_made : (maker : MakerTold) (decls : List MemoryDecl) (c : PoolCore P) (p : RunningParty P) (a : After P) (t : Turned P) → CanTurn maker c p → StepsUnder (rule_of p.limits) c p.frame a → CanStep maker a.core a.frame → IfGranted (IsGrantOf maker c.settings decls) a.outcome → IsSameSize c a.core → t ≡ answered a.outcome a.core (record p { frame = a.frame }) → Makes maker (Steps c p) c t
   step_made maker decls c p a t can by still granted size is =
       let Granted : Settings → Type 0 = λ s. IfGranted (IsGrant maker s) a.outcome in
       let Same : PoolCore P → Type 0 = λ d. IsSameSize c d in

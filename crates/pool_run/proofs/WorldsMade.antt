@@ -42,7 +42,7 @@ if_some (Some x) Q all = all x refl
 module _ {P : Type 0} where
   -- The pool as it is made has the sizes of the world.
   pub is_world : (input : Input) (maker : MakerTold) (c : PoolCore P) → IsMadeCore maker input.config input.tunables input.offered c → IsWorldOf (world_of input maker) c
-  is_world input maker c made = record { settings = sym made.settings; total = sym made.cells.number; most_instances = refl; stripes = refl; rule = refl }
+  is_world input maker c made = record { settings = sym made.settings; total = sym made.cells.number; most_instances = refl; stripes = refl }
 
 -- the image of a module's memory, among those of the module
 image_from : (id : CompiledModuleId) (page n : ℕ) (decls : List MemoryDecl) (k : ℕ) (d : MemoryDecl) → slice_get decls k ≡ Some d → slice_index_or (images_from id page n decls) k None ≡ option_map (image_of id page (n + k)) d.image

@@ -6,6 +6,7 @@ use Rattle.pool_alloc.specs.Leases.{Lease}
 use Rattle.pool_alloc.specs.Stepping.{IsSameSize}
 use Rattle.pool_alloc.specs.declared.pool_core.PoolCore.{PoolCore}
 use Rattle.pool_alloc.specs.declared.frame.Grant.{Grant}
+use Rattle.pool_run.specs.PartyRules.{rule_of}
 use Rattle.pool_run.specs.Private.{PrivateMemory}
 use Rattle.pool_run.specs.Ties.{IsSoundTurn}
 use Rattle.pool_run.specs.Turns.{Turned, private_memory, LeaseMoves, MemoryWrites, MemoryGrows, leases_of, with_lease}
@@ -24,7 +25,7 @@ AnswersMemory Looks (Some l) reply = Looks (private_memory l) reply
 abbrev pub moved_by : Move → MemoryState → MemoryState → Reply → Type 0
 moved_by (Write at bytes) = MemoryWrites at bytes.now
 moved_by (Fill at len byte) = MemoryWrites at (replicate len byte)
-moved_by (Grow pages) = MemoryGrows pages
+moved_by (Grow pages limits) = MemoryGrows (rule_of limits) pages
 
 module _ {P : Type 0} where
   -- the same of memory k of a grant

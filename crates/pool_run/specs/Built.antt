@@ -1,12 +1,11 @@
 -- The inputs that can be run so far, and the rule that their settings break.
-use Rattle.std.specs.Prelude.{◌&&◌, length, nat_le, Bool, Option, is_none}
+use Rattle.std.specs.Prelude.{◌&&◌, length, nat_le, Bool, Option}
 use Rattle.std.specs.List.{list_all}
 use Rattle.pool_pages.specs.SettingsRules.{first_broken_rule}
 use Rattle.pool_pages.specs.declared.bad_config.BadConfig.{BadConfig}
 use Rattle.pool_pages.specs.declared.module_types.MemoryDecl.{MemoryDecl}
 use Rattle.pool_pages.specs.declared.module_types.ModuleInfo.{ModuleInfo}
 use Rattle.pool_run.specs.declared.input.Input.{Input}
-use Rattle.pool_run.specs.declared.input.Party.{Party}
 
 -- a memory whose own pages are of 64 KiB at most
 abbrev pub is_built_memory : MemoryDecl → Bool
@@ -16,13 +15,9 @@ is_built_memory decl = nat_le decl.ty.page_size_log2 16
 abbrev pub is_built_module : ModuleInfo → Bool
 is_built_module m = nat_le (length m.memories) 1 && list_all is_built_memory m.memories
 
--- a party without limits on its growth
-abbrev pub is_built_party : Party → Bool
-is_built_party party = is_none party.limits
-
--- a hundred slots at most, such modules and such parties
+-- a hundred slots at most, and such modules
 abbrev pub is_built : Input → Bool
-is_built input = nat_le input.config.limits.total_memories 100 && (list_all is_built_module input.modules && list_all is_built_party input.parties)
+is_built input = nat_le input.config.limits.total_memories 100 && list_all is_built_module input.modules
 
 -- the first of the rules of its settings that is broken
 abbrev pub broken_rule : Input → Option BadConfig

@@ -1,12 +1,14 @@
 -- A run of several parties, turn by turn: in the order of the schedule, and then party by party until none has anything
 -- left.
-use Rattle.std.specs.Prelude.{◌≡◌, ℕ, ◌+◌, ◌<◌, ◌≤◌, List, [], ◌∷◌, ◌++◌, length, replicate, slice_get, slice_index_or, slice_set, true, false, Option, Some, None, IfSome}
+use Rattle.std.specs.Prelude.{◌≡◌, ℕ, ◌+◌, ◌<◌, ◌≤◌, List, [], ◌∷◌, ◌++◌, length, map, replicate, slice_get, slice_index_or, slice_set, true, false, Option, Some, None, IfSome}
 use Rattle.pool_pages.specs.MakerTold.{MakerTold}
 use Rattle.pool_alloc.specs.Calls.{frame_made}
 use Rattle.pool_alloc.specs.declared.pool_core.PoolCore.{PoolCore}
 use Rattle.pool_alloc.specs.declared.pool_core.Settings.{Settings}
 use Rattle.pool_alloc.specs.declared.frame.ModuleCall.{ModuleCall}
-use Rattle.pool_run.specs.Private.{World, no_grants}
+use Rattle.pool_run.specs.PartyRules.{rule_of}
+use Rattle.pool_run.specs.Private.{World, under, no_grants}
+use Rattle.pool_run.specs.declared.input.PartyLimits.{PartyLimits}
 use Rattle.pool_run.specs.Turns.{Turned, Turns, with_reply}
 use Rattle.pool_alloc.specs.Stepping.{is_idle}
 use Rattle.pool_run.specs.Ties.{IsPrivate, IsSoundTurn, IsRunning}
@@ -96,14 +98,17 @@ module _ {P : Type 0} where
   pub record IsMadeParty (s : Settings) (places : ℕ) (p : RunningParty P) : Type 0 where
     pub home : ℕ
     pub frame : p.frame ≡ frame_made home s
+    pub limits : Option PartyLimits
+    pub limited : p.limits ≡ limits
     pub keyed : p.keyed ≡ false
     pub done : p.done ≡ 0
     pub live : p.live ≡ replicate places None
 
-  -- how far a party is: its replies are a private run of its commands, and it has a place for each of these
+  -- how far a party is: its replies are a private run of its commands under its limits, and it has a place for each of
+  -- these
   pub record IsRunTo (w : World) (commands : List Command) (replies : List Reply) (p : RunningParty P) : Type 0 where
     pub room : length p.live ≡ length commands
-    pub private : IsPrivate w (no_grants commands) commands replies p
+    pub private : IsPrivate (under (rule_of p.limits) w) (no_grants commands) commands replies p
 
   -- there is one party, which has all that the pool hasn't
   pub record IsOfOne (s : RunState P) : Type 0 where
@@ -116,6 +121,7 @@ module _ {P : Type 0} where
     pub given : s.modules ≡ modules
     pub world : IsWorldOf w s.core
     pub calls : AreCallsFor w s.core.settings modules
+    pub rules : map (λ p. rule_of p.limits) s.parties ≡ w.rules
     pub alone : w.alone ≡ true → IsOfOne s
     pub told : length s.replies ≡ length s.parties
     pub each : (i : ℕ) (d : RunningParty P) → i < length s.parties → IsRunTo w (commands_of inputs i) (replies_to i s.replies) (slice_index_or s.parties i d)

@@ -4,6 +4,7 @@ pub mod Folds
 pub mod Limits
 pub mod Made
 pub mod Numbers
+pub mod PartyRules
 pub mod Private
 pub mod Progress
 pub mod Runs

@@ -10,7 +10,7 @@ use Rattle.pool_pages.specs.declared.module_types.MemoryDecl.{MemoryDecl}
 use Rattle.pool_pages.specs.declared.module_types.ModuleInfo.{ModuleInfo}
 use Rattle.pool_pages.specs.declared.module_types.MemoryType.{MemoryType}
 use Rattle.pool_pages.specs.declared.unsupported.Unsupported.{Unsupported}
-use Rattle.pool_limits.specs.Growth.{GrowthRule, memory_answer, memory_failure}
+use Rattle.pool_limits.specs.Growth.{GrowthRule, always, memory_answer, memory_failure}
 use Rattle.pool_limits.specs.declared.errors.LimiterError.{LimiterError}
 use Rattle.pool_limits.specs.declared.errors.Trap.TheVariants.{MemoryOutOfBounds}
 use Rattle.pool_images.specs.Images.{Image, image_of, start, first_misplaced, ends_in_minimum}
@@ -70,16 +70,24 @@ abbrev pub instance_count : Grants → ℕ
 instance_count grants = sum_by instances_in grants
 
 -- what is the same for the whole run: whether pages are told, the page of their maker and its plan, the modules, the
--- pool's settings, how many slots and how many instances there may be, how the party's limiter decides growth, and
--- whether there is one party alone
+-- pool's settings, how many slots and how many instances there may be, by which rule the growth of each party's memories
+-- is decided, and whether there is one party alone; and the rule of the party that is spoken of
 pub record World : Type 0 where
   pub maker : MakerTold
   pub modules : List ModuleInfo
   pub settings : Settings
   pub total : ℕ
   pub most_instances : ℕ
-  pub rule : GrowthRule
+  pub rules : List GrowthRule
   pub alone : Bool
+  pub rule : GrowthRule
+
+-- the world of a party with this rule, and that of party i
+abbrev pub under : GrowthRule → World → World
+under rule w = record w { rule = rule }
+
+abbrev pub world_at : World → ℕ → World
+world_at w i = under (slice_index_or w.rules i always) w
 
 -- the memories that the module of this number defines
 abbrev pub memories_of : World → ℕ → List MemoryDecl

@@ -1,6 +1,6 @@
 -- What a run of an input is: the turns of its schedule over a pool as it is made, and then of each party until it has
 -- nothing left; and the output, which tells each party a private run.
-use Rattle.std.specs.Prelude.{◌≡◌, ℕ, ◌<◌, ◌||◌, ◌==◌, List, [], ◌∷◌, ◌+◌, length, Bool, true, false, IfSome}
+use Rattle.std.specs.Prelude.{◌≡◌, ℕ, ◌<◌, ◌||◌, ◌==◌, List, [], ◌∷◌, ◌+◌, length, map, Bool, true, false, IfSome}
 use Rattle.pool_pages.specs.FaultPlans.{failing_maker, planned_faults}
 use Rattle.pool_pages.specs.MakerTold.{MakerTold, Planned}
 use Rattle.pool_pages.specs.Told.{Rose}
@@ -17,7 +17,8 @@ use Rattle.pool_alloc.specs.declared.pool_core.PoolCore.{PoolCore}
 use Rattle.pool_run.specs.Folds.{RunParts, RunState, Folds, Runs, commands_of, replies_to}
 use Rattle.pool_run.specs.Made.{AreMadeCalls}
 use Rattle.pool_run.specs.Numbers.{calls_of_run}
-use Rattle.pool_run.specs.Private.{World, IsPrivateRun, IsWholeRun}
+use Rattle.pool_run.specs.PartyRules.{rule_of}
+use Rattle.pool_run.specs.Private.{World, world_at, IsPrivateRun, IsWholeRun}
 use Rattle.pool_run.specs.RunsMade.{IsKept, commands_in, parties_made, run_made}
 use Rattle.pool_run.specs.Schedules.{turns_of}
 use Rattle.pool_run.specs.Worlds.{AreCallsFor}
@@ -40,8 +41,9 @@ world_of input maker = record {
   settings = settings_of maker.page input.config input.tunables input.offered;
   total = input.config.limits.total_memories;
   most_instances = input.config.limits.total_core_instances;
-  rule = always;
+  rules = map (λ p. rule_of p.limits) input.parties;
   alone = length input.parties == 1;
+  rule = always;
 }
 
 -- the turns of the schedule, and with `finish` those of each party until it has nothing left
@@ -73,7 +75,7 @@ pub record IsRun (P : Type 0) (input : Input) (maker : MakerTold) (output : RunO
   pub performed : Performs input.finish maker modules (commands_in input.parties) (turns_of input.schedule) (run_made core modules input.parties) end
   pub kept : IsKept end.core end.parties
   pub replies : output.replies ≡ end.replies
-  pub told : (i : ℕ) → i < length input.parties → IsToldBy input.finish (world_of input maker) (commands_of (commands_in input.parties) i) (replies_to i output.replies)
+  pub told : (i : ℕ) → i < length input.parties → IsToldBy input.finish (world_at (world_of input maker) i) (commands_of (commands_in input.parties) i) (replies_to i output.replies)
   pub metrics : output.metrics ≡ metrics_of end.core
   pub calls_made : output.calls ≡ calls_of_run end.core end.parties
 
@@ -96,3 +98,7 @@ making_listed input plan = makes_listed plan input.config.limits.total_memories 
 pub record FaultsInMaking (input : Input) (old new : MakerTold) : Type 0 where
   pub rose : Rose old.faults new.faults
   pub listed : IfSome old.plan (λ plan. making_listed input plan ≡ true)
+
+-- The same of a whole run, where the maker with the input's faults tells its plan.
+abbrev pub MayFaultInMaking : Input → MakerTold → Type 0
+MayFaultInMaking input maker = IfSome (with_faults input maker).plan (λ plan. making_listed input plan ≡ true)

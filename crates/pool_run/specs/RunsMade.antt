@@ -15,6 +15,7 @@ use Rattle.pool_run.specs.Limits.{IsWithinCounts}
 use Rattle.pool_run.specs.Ties.{held_by_party, IsReserved}
 use Rattle.pool_run.specs.declared.command.Command.{Command}
 use Rattle.pool_run.specs.declared.input.Party.{Party}
+use Rattle.pool_run.specs.declared.input.PartyLimits.{PartyLimits}
 use Rattle.pool_run.specs.declared.reply.Reply.{Reply}
 use Rattle.pool_run.specs.declared.running_party.RunningParty.{RunningParty}
 
@@ -43,11 +44,11 @@ with_told (Some reply) told = with_item reply told
 
 module _ {P : Type 0} where
   -- a party as it is made, with places for so many commands
-  abbrev pub party_made : ℕ → Settings → ℕ → RunningParty P
-  party_made home s places = record { frame = frame_made home s; keyed = false; done = 0; live = replicate places None }
+  abbrev pub party_made : ℕ → Option PartyLimits → Settings → ℕ → RunningParty P
+  party_made home limits s places = record { frame = frame_made home s; limits = limits; keyed = false; done = 0; live = replicate places None }
 
   abbrev pub party_made_for : Settings → Party → RunningParty P
-  party_made_for s p = party_made p.home s (length p.commands)
+  party_made_for s p = party_made p.home p.limits s (length p.commands)
 
   abbrev pub parties_made : Settings → List Party → List (RunningParty P)
   parties_made s parties = map (party_made_for s) parties

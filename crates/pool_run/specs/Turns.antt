@@ -1,13 +1,14 @@
 -- A turn of a party in a run: the next step of its call, or the first step of its next command.
 use Rattle.std.specs.Prelude.{◌≡◌, ℕ, ◌+◌, List, [], ◌∷◌, ◌++◌, length, map, replicate, nat_le, slice_get, slice_index_or, slice_set, ◌⊎◌, Bool, true, false, if◌then◌else◌, Option, Some, None, option_map, Result, Ok, Err}
 use Rattle.std.specs.Arc.{arc_value}
-use Rattle.pool_limits.specs.LimiterTold.{unlimited}
+use Rattle.pool_limits.specs.Growth.{GrowthRule}
+use Rattle.pool_limits.specs.LimiterTold.{LimiterTold}
 use Rattle.pool_limits.specs.declared.errors.GrowFault.{GrowFault}
 use Rattle.pool_limits.specs.declared.errors.GrowFault.TheVariants as fault
 use Rattle.pool_memory.specs.Growing.{IsGrowth}
 use Rattle.pool_memory.specs.Memories.{MemoryState, bytes_of, memory_written}
 use Rattle.pool_slots.specs.declared.request.AllocError.TheVariants as alloc
-use Rattle.pool_alloc.specs.Leases.{Lease, IsMemory}
+use Rattle.pool_alloc.specs.Leases.{Lease, IsMemory, IsGrown}
 use Rattle.pool_alloc.specs.Reserved.{Reserved, no_room}
 use Rattle.pool_alloc.specs.Calls.{begun_call}
 use Rattle.pool_alloc.specs.Steps.{After}
@@ -20,6 +21,7 @@ use Rattle.pool_alloc.specs.declared.frame.Grant.{Grant}
 use Rattle.pool_alloc.specs.declared.frame.Grant.TheVariants.{Instance as instance}
 use Rattle.pool_alloc.specs.declared.frame.Outcome.{Outcome}
 use Rattle.pool_alloc.specs.declared.frame.Outcome.TheVariants as answer
+use Rattle.pool_run.specs.PartyRules.{rule_of}
 use Rattle.pool_run.specs.Private.{PrivateMemory, PrivateInstance, Grants, IsRead, IsSize}
 use Rattle.pool_run.specs.declared.command.Command.{Command}
 use Rattle.pool_run.specs.declared.command.Command.TheVariants.{Instantiate, Read, Write, Fill, Grow, Size as ask_size, Drop}
@@ -51,9 +53,13 @@ growth_reply (Ok size) = Grown size
 growth_reply (Err fault.Memory) = Refused (Alloc alloc.Memory)
 growth_reply (Err (fault.LimiterFault e)) = Refused (Alloc (alloc.LimiterFault e))
 
--- the memory after a growth by so many pages, where there is no limiter, and the reply
-abbrev pub MemoryGrows : ℕ → MemoryState → MemoryState → Reply → Type 0
-MemoryGrows pages old new reply = (answer : Result (Option ℕ) GrowFault) × IsGrowth pages old.linear.size old new unlimited unlimited answer × (reply ≡ growth_reply answer)
+-- The memory after a growth by so many pages, where a limiter decides by this rule, and the reply.
+abbrev pub MemoryGrows : GrowthRule → ℕ → MemoryState → MemoryState → Reply → Type 0
+MemoryGrows rule pages old new reply = (asked : LimiterTold) × (left : LimiterTold) × (answer : Result (Option ℕ) GrowFault) × (asked.rule ≡ Some rule) × IsGrowth pages old.linear.size old new asked left answer × (reply ≡ growth_reply answer)
+
+-- a lease that a limiter with this rule let grow, or didn't
+abbrev pub GrowsUnder : GrowthRule → ℕ → Lease → Lease → Result (Option ℕ) GrowFault → Type 0
+GrowsUnder rule pages l new answer = (asked : LimiterTold) × (left : LimiterTold) × (asked.rule ≡ Some rule) × IsGrown pages l new asked left answer
 
 -- a lease whose memory moved, which can still be used
 pub record LeaseMoves (Moves : MemoryState → MemoryState → Reply → Type 0) (l new : Lease) (reply : Reply) : Type 0 where
@@ -112,13 +118,13 @@ module _ {P : Type 0} where
   abbrev pub after_step : After P → RunningParty P → Turned P
   after_step a p = answered a.outcome a.core (record p { frame = a.frame })
 
-  -- a step of a call, where there is no limiter that could refuse a memory
-  abbrev pub StepsFreely : PoolCore P → Frame P → After P → Type 0
-  StepsFreely c f a = StepsTo unlimited unlimited c f a
+  -- a step of a call, where a limiter decides by this rule
+  abbrev pub StepsUnder : GrowthRule → PoolCore P → Frame P → After P → Type 0
+  StepsUnder rule c f a = (asked : LimiterTold) × (left : LimiterTold) × (asked.rule ≡ Some rule) × StepsTo asked left c f a
 
   -- the party's call makes its next step
   abbrev pub Steps : PoolCore P → RunningParty P → Turned P → Type 0
-  Steps c p t = (a : After P) × StepsFreely c p.frame a × (t ≡ after_step a p)
+  Steps c p t = (a : After P) × StepsUnder (rule_of p.limits) c p.frame a × (t ≡ after_step a p)
 
   -- a grant that the party gives back is no longer one of its live ones
   abbrev pub Returns : Option (Grant P) → ℕ → PoolCore P → RunningParty P → Turned P → Type 0
@@ -160,7 +166,7 @@ module _ {P : Type 0} where
   Begins modules (Read of memory at len) c p t = LooksAt (λ m. IsRead m at len) (slice_index_or p.live of None) memory c p t
   Begins modules (Write of memory at bytes) c p t = MovesIn (MemoryWrites at bytes) (slice_index_or p.live of None) of memory c p t
   Begins modules (Fill of memory at len byte) c p t = MovesIn (MemoryWrites at (replicate len byte)) (slice_index_or p.live of None) of memory c p t
-  Begins modules (Grow of memory pages) c p t = MovesIn (MemoryGrows pages) (slice_index_or p.live of None) of memory c p t
+  Begins modules (Grow of memory pages) c p t = MovesIn (MemoryGrows (rule_of p.limits) pages) (slice_index_or p.live of None) of memory c p t
   Begins modules (ask_size of memory) c p t = LooksAt IsSize (slice_index_or p.live of None) memory c p t
   Begins modules (Drop of) c p t = Returns (slice_index_or p.live of None) of c p t
 

@@ -1,7 +1,6 @@
 -- What a run relies on from its input: the pool has the sizes that replies speak of, and each call for a module is a call
 -- for its memories and their images.
 use Rattle.std.specs.Prelude.{◌≡◌, ℕ, ◌<◌, List, length, slice_get, Some, IfSome}
-use Rattle.pool_limits.specs.Growth.{always}
 use Rattle.pool_alloc.specs.Modules.{HasImages}
 use Rattle.pool_alloc.specs.Steps.{memories_asked, images_asked}
 use Rattle.pool_alloc.specs.Sound.{AreImagesOf}
@@ -13,13 +12,12 @@ use Rattle.pool_run.specs.Ties.{IsAskedFor}
 use Rattle.pool_run.specs.declared.command.Command.{Command}
 use Rattle.pool_run.specs.declared.command.Command.TheVariants.{Instantiate, Read, Write, Fill, Grow, Size, Drop}
 
--- the pool has the settings and as many slots as the world says, and one stripe; there is no limiter
+-- the pool has the settings and as many slots as the world says, and one stripe
 pub record IsWorldOf {P : Type 0} (w : World) (c : PoolCore P) : Type 0 where
   pub settings : w.settings ≡ c.settings
   pub total : w.total ≡ length c.cells
   pub most_instances : w.most_instances ≡ w.settings.max_core_instances
   pub stripes : w.settings.stripes ≡ 1
-  pub rule : w.rule ≡ always
 
 -- the call is one for the module of this number
 pub record IsCallFor (w : World) (s : Settings) (number : ℕ) (m : ModuleCall) : Type 0 where

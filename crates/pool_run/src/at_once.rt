@@ -2,10 +2,13 @@ ghost use Rattle.std.specs.Prelude.{◌≡◌, ◌<◌, length, slice_get, slice
 ghost use Rattle.pool_alloc.specs.Leases.{IsChanged};
 ghost use Rattle.pool_alloc.specs.declared.frame.Grant.TheVariants.{Instance as instance};
 ghost use Rattle.pool_run.specs.AtOnce.{AnswersMemory, AnswersGrant, GrantMoved, LeaseMoved, LiveMoved, moved_by};
+ghost use Rattle.pool_run.specs.PartyRules.{rule_of};
 ghost use Rattle.pool_run.specs.Private.{IsRead, IsSize};
-ghost use Rattle.pool_run.specs.Turns.{LeaseMoves, private_memory, growth_reply, write_reply};
+ghost use Rattle.pool_run.specs.Turns.{GrowsUnder, LeaseMoves, private_memory, growth_reply, write_reply};
 
+use crate::input::PartyLimits;
 use crate::leases::Leases;
+use crate::limiter::limiter_of;
 use crate::reply::{Refusal, Reply};
 use pool_alloc::{Grant, InstanceLease, MemoryLease, ReservedList};
 use pool_limits::{GrowFault, Trap, Unlimited};
@@ -88,9 +91,20 @@ fn size_in<P: Pages>(lease: &InstanceLease<P>, memory: usize) -> Reply
 /// How a command moves a memory.
 #[derive(Drop)]
 pub(crate) enum Move<'a> {
-    Write { at: u64, bytes: &'a [u8] },
-    Fill { at: u64, len: u64, byte: u8 },
-    Grow { pages: u64 },
+    Write {
+        at: u64,
+        bytes: &'a [u8],
+    },
+    Fill {
+        at: u64,
+        len: u64,
+        byte: u8,
+    },
+    /// Under these limits.
+    Grow {
+        pages: u64,
+        limits: Option<PartyLimits>,
+    },
 }
 
 /// Moves memory `memory` of the grant of command `of`.
@@ -153,7 +167,26 @@ fn move_memory<P: Pages>(
     match by {
         Move::Write { at, bytes } => write_reply(memories.write(memory, *at, bytes)),
         Move::Fill { at, len, byte } => write_reply(memories.fill(memory, *at, *len, *byte)),
-        Move::Grow { pages } => growth_reply(memories.grow(memory, *pages, &mut Unlimited)),
+        Move::Grow { pages, limits } => growth_reply(grow(memories, memory, *pages, *limits)),
+    }
+}
+
+// Grows a memory under these limits.
+fn grow<P: Pages>(
+    memories: &mut ReservedList<MemoryLease<P>>,
+    memory: usize,
+    pages: u64,
+    limits: Option<PartyLimits>,
+) -> Result<Option<usize>, GrowFault>
+    requires { memory < length memories.old.items }
+    ensures { IsChanged (λ l new. GrowsUnder (rule_of limits) pages l new result) memory memories.old memories.new }
+{
+    match limits {
+        None => memories.grow(memory, pages, &mut Unlimited),
+        Some(limits) => {
+            let mut limiter = limiter_of(limits);
+            memories.grow(memory, pages, &mut limiter)
+        }
     }
 }
 

@@ -1,24 +1,16 @@
 ghost use Rattle.std.specs.Prelude.{◌≡◌};
 ghost use Rattle.std.specs.List.{list_all};
-ghost use Rattle.pool_run.specs.Built.{is_built, is_built_module, is_built_memory, is_built_party};
+ghost use Rattle.pool_run.specs.Built.{is_built, is_built_module, is_built_memory};
 
-use crate::input::{Input, Party};
+use crate::input::Input;
 use pool_pages::{MemoryDecl, ModuleInfo};
 
-/// Whether the input is of those that can be run so far: a hundred slots at most, modules of at most one memory each, whose
-/// own pages have at most 64 KiB, and parties without limits.
+/// Whether the input is of those that can be run so far: a hundred slots at most, and modules of at most one memory each,
+/// whose own pages have at most 64 KiB.
 pub fn is_built(input: &Input) -> bool
     ensures { result ≡ is_built input.now }
 {
-    input.config.limits.total_memories <= 100
-        && are_built_modules(input.modules.as_slice())
-        && are_built_parties(input.parties.as_slice())
-}
-
-fn are_built_parties(parties: &[Party]) -> bool
-    ensures { result ≡ list_all is_built_party parties.now }
-{
-    parties.iter().all(|party| party.limits.is_none())
+    input.config.limits.total_memories <= 100 && are_built_modules(input.modules.as_slice())
 }
 
 fn are_built_modules(modules: &[ModuleInfo]) -> bool

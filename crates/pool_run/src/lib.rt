@@ -9,6 +9,7 @@ mod copies;
 mod images;
 mod input;
 mod leases;
+mod limiter;
 mod output;
 mod pools;
 mod reply;

@@ -27,13 +27,7 @@ pub(crate) fn make_pool<P: Pages, M: PageMaker<Region = P>>(
     ensures fault { result ≡ Err RunFault.PageFault → FaultsInMaking input.now (M.told pages.old) (M.told pages.new) }
     ensures settings { IfErr result (λ fault. is_bad_config fault ≡ false) }
 {
-    match PoolCore::new(
-        alloc,
-        &input.config,
-        &input.tunables,
-        &input.offered,
-        pages,
-    ) {
+    match PoolCore::new(alloc, &input.config, &input.tunables, &input.offered, pages) {
         Ok(core) => Ok(core),
         Err(PoolNewError::PageFault) => Err(RunFault::PageFault),
         Err(PoolNewError::Memory) => Err(RunFault::Memory),

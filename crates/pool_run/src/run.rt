@@ -230,6 +230,7 @@ fn make_party<P: Pages>(
 {
     Ok(RunningParty {
         frame: core.frame(alloc, party.home as u32)?,
+        limits: party.limits,
         keyed: false,
         done: 0,
         live: Leases::new(alloc, party.commands.len())?,

@@ -1,4 +1,4 @@
-ghost use Rattle.std.specs.Prelude.{◌≡◌, ◌↔◌, ◌≤◌, [], Err, Some, length, true, vec_capacity, IfOk, IfErr, IfSome};
+ghost use Rattle.std.specs.Prelude.{◌≡◌, ◌↔◌, ◌≤◌, [], Err, Some, length, true, vec_capacity, IfOk, IfErr};
 ghost use Rattle.pool_pages.specs.MakerTold.{MakerTold};
 ghost use Rattle.pool_pages.specs.declared.bad_config.BadConfig.{BadConfig};
 ghost use Rattle.pool_pages.specs.declared.failing.Failing.{Failing};
@@ -6,7 +6,7 @@ ghost use Rattle.pool_alloc.specs.Sums.{metrics_of};
 ghost use Rattle.pool_run.specs.Built.{broken_rule, is_built};
 ghost use Rattle.pool_run.specs.Numbers.{calls_of_run};
 ghost use Rattle.pool_run.specs.Progress.{IsRunOf};
-ghost use Rattle.pool_run.specs.Runs.{IsMadeRun, IsRun, Performs, FaultsInMaking, making_listed, with_faults};
+ghost use Rattle.pool_run.specs.Runs.{IsMadeRun, IsRun, Performs, FaultsInMaking, MayFaultInMaking, with_faults};
 ghost use Rattle.pool_run.specs.RunsMade.{Background, IsKept};
 ghost use Rattle.pool_run.specs.Schedules.{turns_of};
 ghost use Rattle.pool_run.specs.Validity.{is_valid};
@@ -103,6 +103,22 @@ fn run_by<P: Pages, M: PageMaker<Region = P>>(
     }
 }
 
+// The same by any maker with the input's page.
+fn run_with<P: Pages, M: PageMaker<Region = P>>(
+    alloc: Global,
+    input: &Input,
+    pages: &mut M,
+) -> Result<RunOutput, RunFault>
+    requires page { (M.told pages.old).page ≡ input.now.page }
+    requires built { is_built input.now ≡ true }
+    requires valid { is_valid input.now ≡ true }
+    ensures ok { IfOk result (λ output. IsRun P input.now (M.told pages.old) output) }
+    ensures bad_config { (e : BadConfig) → (result ≡ Err (RunFault.BadConfig e)) ↔ (broken_rule input.now ≡ Some e) }
+    ensures fault { result ≡ Err RunFault.PageFault → FaultsInMaking input.now (M.told pages.old) (M.told pages.new) }
+{
+    run_by(alloc, input, pages)
+}
+
 /// Makes a pool of the input's settings and the images of its modules, and has the parties make their turns over them:
 /// those of the schedule first, and then, where the input says so, those of each party until each of its commands has
 /// its reply. The replies are in the order of the parties and of their commands. Makings and page calls fail where the
@@ -117,12 +133,12 @@ pub fn run_schedule<M: PageMaker>(
     requires valid { is_valid input.now ≡ true }
     ensures ok { IfOk result (IsRun (Failing M.Region) input.now (with_faults input.now (M.told pages.old))) }
     ensures bad_config { (e : BadConfig) → (result ≡ Err (RunFault.BadConfig e)) ↔ (broken_rule input.now ≡ Some e) }
-    ensures fault { result ≡ Err RunFault.PageFault → IfSome (with_faults input.now (M.told pages.old)).plan (λ plan. making_listed input.now plan ≡ true) }
+    ensures fault { result ≡ Err RunFault.PageFault → MayFaultInMaking input.now (M.told pages.old) }
 {
     match input.config.check_rules(&input.tunables, input.page) {
         Ok(page) => {
             let mut maker = FailingMaker::new(pages, page, input.faults.as_slice());
-            run_by(alloc, input, &mut maker)
+            run_with(alloc, input, &mut maker)
         }
         Err(error) => Err(RunFault::BadConfig(error)),
     }

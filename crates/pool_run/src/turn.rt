@@ -1,15 +1,18 @@
 ghost use Rattle.std.specs.Prelude.{◌≡◌, ◌+◌, ◌^◌, ◌<◌, ◌≤◌, [], length, map, slice_get, slice_index_or, IfOk, None, Some};
 ghost use Rattle.pool_pages.specs.MakerTold.{MakerTold};
-ghost use Rattle.pool_alloc.specs.Calls.{IsIdle, IfGranted, begun_call};
+ghost use Rattle.pool_alloc.specs.Calls.{IsIdle, IsGrantOf, IfGranted, begun_call};
 ghost use Rattle.pool_alloc.specs.Steps.{memories_asked};
-ghost use Rattle.pool_alloc.specs.Stepping.{CanCount, IsSameSize, is_idle};
+ghost use Rattle.pool_alloc.specs.Stepping.{CanStep, CanCount, IsSameSize, is_idle};
 ghost use Rattle.pool_run.specs.AtOnce.{Makes};
+ghost use Rattle.pool_run.specs.PartyRules.{rule_of};
 ghost use Rattle.pool_run.specs.Ties.{CanTurn, IsSoundTurn, IsReserved};
-ghost use Rattle.pool_run.specs.Turns.{IsShareOf, leases_of, granted_reply, answered, slots_after, Steps, Returns, Asks, Begins, BeginsKeyed, Turns};
+ghost use Rattle.pool_run.specs.Turns.{IsShareOf, leases_of, granted_reply, answered, slots_after, StepsUnder, Steps, Returns, Asks, Begins, BeginsKeyed, Turns};
 ghost use Rattle.pool_run.specs.Worlds.{IsFit, AreFit, NamesModule, NameModules};
 
 use crate::at_once::{Move, make_move, read, size};
 use crate::command::Command;
+use crate::input::PartyLimits;
+use crate::limiter::limiter_of;
 use crate::reply::{Refusal, Reply, SlotList};
 use crate::reserved_vec::ReservedVec;
 use crate::running_party::RunningParty;
@@ -58,7 +61,7 @@ pub(crate) fn is_idle<P: Pages>(frame: &Frame<P>) -> bool
     matches!(&frame.phase, Phase::Idle)
 }
 
-// Makes the next step of the call that is under way. There is no limiter, and no maker of heaps.
+// Makes the next step of the call that is under way.
 fn step_call<P: Pages>(
     alloc: Global,
     core: &mut PoolCore<P>,
@@ -73,10 +76,36 @@ fn step_call<P: Pages>(
     ensures makes { Makes maker (Steps core.old party.old) core.old (record { core = core.new; party = party.new; reply = result }) }
     ensures reserved { IsReserved party.new.frame slots.new }
 {
-    let nobody: Option<&mut Unlimited> = None;
-    let mut heaps = NoHeaps::new();
-    let outcome = core.step(alloc, &mut party.frame, nobody, &mut heaps);
+    let outcome = step_under(alloc, core, &mut party.frame, party.limits);
     answer(alloc, party, slots, outcome)
+}
+
+// A step of a call of a party with these limits, and without a maker of heaps.
+fn step_under<P: Pages>(
+    alloc: Global,
+    core: &mut PoolCore<P>,
+    frame: &mut Frame<P>,
+    limits: Option<PartyLimits>,
+) -> Option<Outcome<P>>
+    ghost maker: { MakerTold }
+    requires can { CanStep maker core.old frame.old }
+    requires counts { CanCount core.old }
+    ensures row { StepsUnder (rule_of limits) core.old frame.old (record { core = core.new; frame = frame.new; outcome = result }) }
+    ensures can { CanStep maker core.new frame.new }
+    ensures granted { IfGranted (IsGrantOf maker core.old.settings (memories_asked frame.old.asked)) result }
+    ensures size { IsSameSize core.old core.new }
+{
+    let mut heaps = NoHeaps::new();
+    match limits {
+        None => {
+            let nobody: Option<&mut Unlimited> = None;
+            core.step(alloc, frame, nobody, &mut heaps)
+        }
+        Some(limits) => {
+            let mut limiter = limiter_of(limits);
+            core.step(alloc, frame, Some(&mut limiter), &mut heaps)
+        }
+    }
 }
 
 // Takes the answer to the party's call.
@@ -262,7 +291,11 @@ fn begin<P: Pages>(
             Some(reply)
         }
         Command::Grow { of, memory, pages } => {
-            let reply = make_move(&mut party.live, *of, *memory, &Move::Grow { pages: *pages });
+            let by = Move::Grow {
+                pages: *pages,
+                limits: party.limits,
+            };
+            let reply = make_move(&mut party.live, *of, *memory, &by);
             party.done += 1;
             Some(reply)
         }

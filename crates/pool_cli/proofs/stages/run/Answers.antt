@@ -5,7 +5,7 @@ use Rattle.pool_cli.proofs.stages.run.Goals as goal
 
 pub returns-in-Err-BadConfig : goal.returns-in-Err-BadConfig
 returns-in-Err-BadConfig g c =
-    refused_fails c.in_ok-input.input c.in-Err-BadConfig.error c.refused.result _ _ _ _ c.in_ok-input.ensures.reads ((c.in-Err-BadConfig.ensures.bad_config c.in-Err-BadConfig.error).0 (ap Err c.in-Err-BadConfig.field-0-is)) c.refused.ensures
+    refused_fails c.in_ok-input.input c.in-Err-BadConfig.error c.refused.result _ _ _ c.in_ok-input.ensures.reads ((c.in-Err-BadConfig.ensures.bad_config c.in-Err-BadConfig.error).0 (ap Err c.in-Err-BadConfig.field-0-is)) c.refused.ensures
 
 pub returns-in-Err-PageFault : goal.returns-in-Err-PageFault
 returns-in-Err-PageFault g c = (

@@ -1,8 +1,9 @@
 use Rattle.std.proofs.Common.{replicate, sym, subst}
-use Rattle.pool_limits.specs.LimiterTold.{unlimited}
-use Rattle.pool_alloc.specs.Leases.{IsWritten, IsGrown, IsChanged}
+use Rattle.pool_limits.specs.Growth.{GrowthRule}
+use Rattle.pool_alloc.specs.Leases.{IsWritten, IsChanged}
 use Rattle.pool_run.specs.AtOnce.{moved_by}
-use Rattle.pool_run.specs.Turns.{MemoryWrites, MemoryGrows, LeaseMoves, write_reply, growth_reply}
+use Rattle.pool_run.specs.PartyRules.{rule_of}
+use Rattle.pool_run.specs.Turns.{MemoryWrites, MemoryGrows, GrowsUnder, LeaseMoves, write_reply, growth_reply}
 use Rattle.pool_run.specs.declared.at_once.Move.{Move}
 use Rattle.pool_run.specs.declared.at_once.Move.TheVariants.{Write, Fill, Grow}
 use Rattle.pool_run.specs.declared.reply.Reply.{Reply}
@@ -25,7 +26,8 @@ returns-in-Fill g c =
 
 pub returns-in-Grow : goal.returns-in-Grow
 returns-in-Grow g c =
-    let Moved : Move → Reply → Type 0 = λ by reply. IsChanged (λ l n. LeaseMoves (moved_by by) l n reply) c.args.memory c.args.memories.now c.grow.new.self in
+    let rule : GrowthRule = rule_of c.in-Grow.limits in
+    let Moved : Move → Reply → Type 0 = λ by reply. IsChanged (λ l n. LeaseMoves (moved_by by) l n reply) c.args.memory c.args.memories.now c.grow.new.memories in
     subst (λ (by : Move). Moved by c.growth_reply.result) (sym c.in-Grow.is)
-    (subst (Moved (Grow c.in-Grow.pages)) (sym c.growth_reply.ensures)
-    (changed_as (λ l n. IsGrown c.in-Grow.pages l n unlimited unlimited c.grow.result) (λ l n. LeaseMoves (MemoryGrows c.in-Grow.pages) l n (growth_reply c.grow.result)) c.args.memory c.args.memories.now c.grow.new.self (λ l n is. growth_moves c.in-Grow.pages l n c.grow.result is) c.grow.ensures))
+    (subst (Moved (Grow c.in-Grow.pages c.in-Grow.limits)) (sym c.growth_reply.ensures)
+    (changed_as (λ l n. GrowsUnder rule c.in-Grow.pages l n c.grow.result) (λ l n. LeaseMoves (MemoryGrows rule c.in-Grow.pages) l n (growth_reply c.grow.result)) c.args.memory c.args.memories.now c.grow.new.memories (λ l n is. growth_moves rule c.in-Grow.pages l n c.grow.result is) c.grow.ensures))

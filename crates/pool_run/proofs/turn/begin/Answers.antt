@@ -1,6 +1,7 @@
 use Rattle.std.proofs.Common.{ℕ, List, replicate, sym, subst}
 use Rattle.pool_alloc.specs.declared.pool_core.PoolCore.{PoolCore}
 use Rattle.pool_run.specs.AtOnce.{Makes}
+use Rattle.pool_run.specs.PartyRules.{rule_of}
 use Rattle.pool_run.specs.Turns.{Begins, MemoryWrites, MemoryGrows}
 use Rattle.pool_run.specs.declared.command.Command.{Command}
 use Rattle.pool_run.specs.declared.command.Command.TheVariants.{Write}
@@ -23,7 +24,7 @@ returns-in-Grow-clause-makes g c =
     let core : PoolCore P = c.args.core.now in
     let p : RunningParty P = c.args.party.now in
     let M : Command → Type 0 = λ command. Makes g.maker (Begins c.args.modules.now command core p) core (after_move core p c.make_move-reply-in-Grow.new.live c.make_move-reply-in-Grow.result) in
-    subst M (sym c.in-Grow.is) (move_made g.maker (MemoryGrows c.in-Grow.pages) c.in-Grow.of c.in-Grow.memory core p c.make_move-reply-in-Grow.new.live c.make_move-reply-in-Grow.result (grows_stay g.maker core.settings c.in-Grow.pages) c.requires.1.0 c.make_move-reply-in-Grow.ensures)
+    subst M (sym c.in-Grow.is) (move_made g.maker (MemoryGrows (rule_of p.limits) c.in-Grow.pages) c.in-Grow.of c.in-Grow.memory core p c.make_move-reply-in-Grow.new.live c.make_move-reply-in-Grow.result (grows_stay g.maker core.settings (rule_of p.limits) c.in-Grow.pages) c.requires.1.0 c.make_move-reply-in-Grow.ensures)
 
 pub returns-in-Write-clause-makes : goal.returns-in-Write-clause-makes
 returns-in-Write-clause-makes g c =
