@@ -65,10 +65,10 @@ rounded_leaves page n sized small =
     let r : ℕ = q.0 - 1 in
     let step : (r + 1) * page ≡ r * page + page = omega arith in
     let some : 0 < q.0 =
-        elim (cases_lt 0 q.0) [
-          | inl some ↦ some
-          | inr none ↦ let zero_of : q.0 * page ≡ 0 * page = ap (λ (x : ℕ). x * page) (omega (arith, none)) in absurd (omega (arith, q.1, zero_of))
-        ] in
+    elim (cases_lt 0 q.0) [
+      | inl some ↦ some
+      | inr none ↦ let zero_of : q.0 * page ≡ 0 * page = ap (λ (x : ℕ). x * page) (omega (arith, none)) in absurd (omega (arith, q.1, zero_of))
+    ] in
     let same : q.0 * page ≡ (r + 1) * page = ap (λ (x : ℕ). x * page) (omega (arith, some)) in
     let most : rounded_up page n ≤ r * page = rounded_below page r n (omega (arith, sized.at_least)) (omega (arith, q.1, same, step)) in
     omega (arith, most, q.1, same, step)
