@@ -1,6 +1,6 @@
 -- The steps of an allocation that have a region in their hands leave what is sound.
-use Rattle.std.proofs.Common.{◌≡◌, ℕ, ◌+◌, ◌<◌, Bool, true, false, List, [], ◌∷◌, ◌++◌, length, set, refl, sym, subst, arith, Option, Some, None, Result, Ok, Err}
-use Rattle.std.specs.Prelude.{◌^◌, nat_le, nat_lt, if◌then◌else◌, IfSome, IsSome, IfOk, slice_get}
+use Rattle.std.proofs.Common.{◌≡◌, ℕ, ◌+◌, ◌<◌, ◌≤◌, Bool, true, false, List, [], ◌∷◌, ◌++◌, length, set, refl, sym, subst, arith, Option, Some, None, Result, Ok, Err}
+use Rattle.std.specs.Prelude.{◌^◌, nat_le, nat_lt, if◌then◌else◌, IfSome, IsSome, IfOk, slice_get, slice_index_or}
 use Rattle.std.proofs.lemmas.List.{length-set, length-append}
 use Rattle.std.proofs.lemmas.List.Elements.{All-push}
 use Rattle.pool_pages.specs.Count.{count}
@@ -21,12 +21,13 @@ use Rattle.pool_memory.specs.declared.memory_error.MemoryError.TheVariants as un
 use Rattle.pool_slots.specs.Cells.{Cell, unmapped, unknown, previously_used, taken, is_taken, IsCell, IsSlotOf}
 use Rattle.pool_slots.specs.declared.request.AllocError.{AllocError}
 use Rattle.pool_slots.specs.declared.request.AllocError.TheVariants as refusal
+use Rattle.pool_memory.proofs.Makings.{least_most}
 use Rattle.pool_alloc.specs.Reserved.{with_item}
 use Rattle.pool_alloc.specs.Leases.{Lease, IsMemory}
 use Rattle.pool_alloc.specs.Own.{image_made, made_of, made_with, made_for, memory_made}
-use Rattle.pool_alloc.specs.Steps.{memories_asked, image_wanted, shard_at, cell_at, shard_of, local_of, with_shard, with_cell, counting_memories, holds_region, take_region_row, empty_row, instantiate_row, made, make_memory_row, count_memory_row, put_unknown_row, was_freed, free_unknown_row}
+use Rattle.pool_alloc.specs.Steps.{memories_asked, images_asked, image_wanted, shard_at, cell_at, shard_of, local_of, with_shard, with_cell, counting_memories, holds_region, take_region_row, empty_row, instantiate_row, made, make_memory_row, count_memory_row, put_unknown_row, was_freed, free_unknown_row}
 use Rattle.pool_alloc.specs.Answers.{Empties, InstantiatesAs, InstantiatesFor}
-use Rattle.pool_alloc.specs.Sound.{IsCore, IsLeaseOf, IsSettled, IsAllocating, IsShapedFree, HasSlot, HasBegun, IsMadeOf, IsNew}
+use Rattle.pool_alloc.specs.Sound.{IsCore, IsLeaseOf, IsSettled, IsAllocating, IsShapedFree, IsSupported, HasSlot, HasBegun, IsMadeOf, IsNew}
 use Rattle.pool_alloc.specs.Modules.{IfAllocated}
 use Rattle.pool_alloc.specs.declared.pool_core.PoolCore.{PoolCore}
 use Rattle.pool_alloc.specs.declared.pool_core.Settings.{Settings}
@@ -56,6 +57,11 @@ pub record IsMadeIn (room : ℕ) (decls : List MemoryDecl) (k : ℕ) (held : Slo
 record IsMadeFor (room : ℕ) (o : Option MemoryDecl) (held : Slot) (memory : MemoryState) : Type 0 where
   slot : slot_of memory ≡ held
   made : IfSome o (IsMadeOf room memory)
+
+-- a memory may have its minimum
+capacity_least : (room least : ℕ) (o : Option ℕ) → IfSome o (λ most. least ≤ most) → least ≤ room → least ≤ capacity_of room o
+capacity_least room least None order fits = fits
+capacity_least room least (Some most) order fits = omega (arith, order, fits)
 
 made_static_for : (b : Bool) (decl : MemoryDecl) (room : ℕ) (held : Slot) → IfOk (made_of decl.ty (if b then Ok (record { slot = held; size = minimum_byte_size decl.ty; capacity = capacity_of room (maximum_asked decl.ty) }) else Err (held, InitialSize))) (IsMadeFor room (Some decl) held)
 made_static_for true decl room held = record { slot = refl; made = record { size = refl; capacity = refl; ty = refl; fixed = refl } }
@@ -152,9 +158,15 @@ module _ {P : Type 0} where
 
   memory_of : (s : Settings) (f : Frame P) (memory : MemoryState) → IsAllocating s f → IfAllocated f (IsNew s.max_memory_size (image_wanted f) memory) → IsMemory memory
   memory_of s f memory allocating new =
-      told_there (IsMemory memory) (memories_asked f.asked) (length f.granted.items) allocating.more
-      (told_weaker (IsNew s.max_memory_size (image_wanted f) memory) (λ decl. IsMemory memory) (slice_get (memories_asked f.asked) (length f.granted.items))
-      (λ decl is. record { in_use = record { dirty = is.slot.begun.dirty; ready = is.slot.begun.ready }; inside = rw is.made.size is.slot.holds.reached; fixed = is.made.fixed }) new)
+      let k : ℕ = length f.granted.items in
+      told_there (IsMemory memory) (memories_asked f.asked) k allocating.more
+      (told_both (λ decl. IsSupported s decl (slice_index_or (images_asked f.asked) k None)) (IsNew s.max_memory_size (image_wanted f) memory) (λ decl. IsMemory memory) (slice_get (memories_asked f.asked) k)
+      (λ decl fits is. record {
+        within = rw (is.made.size, is.made.capacity) (capacity_least s.max_memory_size (minimum_byte_size decl.ty) (maximum_asked decl.ty) (least_most decl.ty fits.limits) fits.minimum);
+        in_use = record { dirty = is.slot.begun.dirty; ready = is.slot.begun.ready };
+        inside = rw is.made.size is.slot.holds.reached;
+        fixed = is.made.fixed;
+      }) (allocating.supported.each k) new)
 
   made_kept : (maker : MakerTold) (decls : List MemoryDecl) (slot : ℕ) (had : Slot) (r : Result MemoryState AllocError) (c : PoolCore P) (f : Frame P) → IsCore maker c → Held maker c.settings f → IsSettled f → IsAllocating c.settings f → HasSlot maker c.settings (length c.cells) slot had → IfAllocated f (HasBegun (image_wanted f) had) → IfOk r (IsMadeIn c.settings.max_memory_size (memories_asked f.asked) (length f.granted.items) had) → IsSoundAfter maker decls (made slot had r c f)
   made_kept maker decls slot had (Ok memory) c f core held settled allocating has begun in_slot =

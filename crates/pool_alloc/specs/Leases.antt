@@ -13,8 +13,9 @@ pub record Lease : Type 0 where
   pub index : ℕ
   pub memory : MemoryState
 
--- the memory can be read and written, and stays where it is
+-- the memory can be read and written, is no larger than it may be, and stays where it is
 pub record IsMemory (m : MemoryState) : Type 0 where
+  pub within : m.linear.size ≤ m.linear.capacity
   pub in_use : IsInUse (slot_of m)
   pub inside : m.linear.size ≤ (slot_of m).accessible.bytes
   pub fixed : m.may_move ≡ false

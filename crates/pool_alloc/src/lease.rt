@@ -40,6 +40,7 @@ impl<P: Pages> MemoryLease<P> {
     {
         let result = self.memory.write(at, bytes);
         let _slot = self.memory.slot();
+        let _size = self.memory.byte_size();
         result
     }
 
@@ -49,6 +50,7 @@ impl<P: Pages> MemoryLease<P> {
     {
         let result = self.memory.fill(at, len, byte);
         let _slot = self.memory.slot();
+        let _size = self.memory.byte_size();
         result
     }
 
@@ -62,6 +64,7 @@ impl<P: Pages> MemoryLease<P> {
     {
         let result = self.memory.grow(&mut (), delta_pages, Some(limiter));
         let _slot = self.memory.slot();
+        let _size = self.memory.byte_size();
         result
     }
 }
