@@ -41,15 +41,15 @@ pub trait HeapMaker {
         ensures planned { IfSome (told self.old).plan (λ plan. MatchResult result (λ _. fails_next plan (told self.old) ≡ false) (λ e. e ≡ HeapMakeFault.HeapFault → fails_next plan (told self.old) ≡ true)) };
 }
 
-/// A heap that there isn't.
+/// A heap in name alone, which no store uses. None is ever made.
 #[derive(Drop)]
-pub enum NoHeap {}
+pub struct NoHeap;
 
 impl GcHeap for NoHeap {
     ghost attached = { λ _. false };
 
     fn is_attached(&self) -> bool {
-        match *self {}
+        false
     }
 }
 
