@@ -7,6 +7,8 @@ use Rattle.pool_pages.specs.Told.{Told, joined_plan}
 use Rattle.pool_pages.specs.MakerTold.{MakerTold, Planned, calls_of, part_of, made_region, no_calls}
 use Rattle.pool_pages.specs.FailingTold.{failing_told, if_empty, no_counts}
 use Rattle.pool_pages.specs.FaultPlans.{failing_maker, layers_before}
+use Rattle.pool_pages.specs.MakeFaults.{RaisesFaults, RaisesBehind}
+use Rattle.pool_pages.specs.declared.maker.MakeFault.{MakeFault}
 use Rattle.pool_pages.specs.declared.pages.RegionName.{RegionName}
 use Rattle.pool_pages.specs.declared.pages.DecommitBehavior.{DecommitBehavior}
 use Rattle.pool_pages.specs.declared.pages.PageCalls.{PageCalls}
@@ -62,3 +64,13 @@ made_failing name behaviour accessible len maker page next faults listed region 
     ∙ ap (λ p. told t p (if_empty l 0 0) (if_empty l no_calls no_calls) (if_empty l 0 0)) (joined_part name maker.plan maker.layers listed)
     ∙ ap (λ n. told t (part_of name (joined_plan maker.plan listed) (layers_before listed maker.plan maker.layers)) n (if_empty l no_calls no_calls) n) (if_empty_same l 0)
     ∙ ap (λ n. told t (part_of name (joined_plan maker.plan listed) (layers_before listed maker.plan maker.layers)) 0 n 0) (if_empty_same l no_calls)
+
+-- a listed making leaves the count of the maker behind
+pub listed_stays : (listed : Bool) (n : ℕ) (fault : MakeFault) → listed ≡ true → RaisesBehind listed n n fault
+listed_stays true n fault e = refl
+listed_stays false n fault e = absurd (cc e)
+
+-- a making that isn't listed is made by the maker behind
+pub made_behind : (listed : Bool) (old new : ℕ) (fault : MakeFault) → listed ≡ false → RaisesFaults old new fault → RaisesBehind listed old new fault
+made_behind true old new fault e h = absurd (cc e)
+made_behind false old new fault e h = h

@@ -4,11 +4,11 @@ pub mod FailingCalls
 pub mod FailingMakers
 pub mod FaultLists
 pub mod Multiples
-pub mod NoImage
 pub mod PageChanges
 pub mod PageNumbers
 pub mod PageRuns
 pub mod Prefixes
 pub mod Puts
 pub mod Shapes
+pub mod SortedFaults
 pub mod ZeroingCalls

@@ -1,16 +1,23 @@
 -- Each call on pages changes exactly the pages of its range.
-use Rattle.std.proofs.Common.{◌≡◌, ℕ, ◌+◌, ◌-◌, ◌*◌, ◌/◌, ◌<◌, ◌≤◌, ◌⊎◌, Bool, true, false, List, length, min, get_or, replicate, refl, sym, ap, ◌∙◌, arith, inl, inr, slice_range}
+use Rattle.std.proofs.Common.{◌≡◌, ℕ, ◌+◌, ◌-◌, ◌*◌, ◌/◌, ◌<◌, ◌≤◌, ◌⊎◌, Bool, true, false, List, length, min, get_or, take, drop, replicate, refl, sym, ap, ◌∙◌, arith, inl, inr, slice_range}
 use Rattle.std.proofs.Math.Nat.{mul-le-mul_right, mul-le-mul_left, div-mul-le_self, lt-mul-div-succ}
-use Rattle.std.proofs.lemmas.List.{length-replicate, same_lists}
+use Rattle.std.proofs.lemmas.List.{length-replicate, take-replicate, drop-replicate, same_lists}
 use Rattle.std.proofs.lemmas.Bool.{cases_lt}
 use Rattle.pool_pages.specs.Contents.{Contents, Page, page_bytes, page_origin, page_at, IsIn, IsShaped, put, put_all, touched}
 use Rattle.pool_pages.specs.Dense.{zeroed}
 use Rattle.pool_pages.specs.PageLaws.{IsPages, ChangesExactly, image_part, IsTouched, ExposeChangesItsPages, HideChangesItsPages, MapChangesItsPages, CopyChangesItsPages, EraseChangesItsPages, RemapChangesItsPages, RecolourChangesItsPages, DecommitChangesItsPages, WriteChangesItsPages, RestoreChangesItsPages}
 use Rattle.pool_pages.proofs.Multiples.{page_below}
-use Rattle.pool_pages.proofs.NoImage.{zeros_range}
 use Rattle.pool_pages.proofs.PageNumbers.{page_before, page_from, page_above, page_inside, touched_some, touched_above, touched_fit}
 use Rattle.pool_pages.proofs.Puts.{length-put, length-range, get_or-range, get_or-put_below, get_or-put_in, get_or-put_above, put_range, range_range}
 use Rattle.pool_pages.proofs.Shapes.{get_or-put_all_in, get_or-put_all_out, untouched, pages_fit, column_inside, column_outside}
+
+-- a range of zeros
+zeros_range : (n a c : ℕ) → a + c ≤ n → slice_range (replicate {A = ℕ} n 0) a (a + c) ≡ replicate c 0
+zeros_range n a c fits =
+    let count : a + c - a ≡ c = omega arith in
+    ap (λ m. take m (drop a (replicate {A = ℕ} n 0))) count
+    ∙ ap (λ xs. take c xs) (drop-replicate a n 0)
+    ∙ take-replicate c (n - a) 0 (omega arith)
 
 abbrev page : Bool → List ℕ → List ℕ → Bool → ℕ → Page
 page accessible bytes origin dirty colour = record { accessible = accessible; bytes = bytes; origin = origin; dirty = dirty; colour = colour }

@@ -4,8 +4,6 @@ use Rattle.std.proofs.Math.Nat.{mul-le-mul_right}
 use Rattle.std.proofs.lemmas.List.{length-replicate, length-append, get_or_append_left, get_or-append_right, replicate_more, set_split, same_lists}
 use Rattle.std.proofs.lemmas.Bool.{cases_lt}
 use Rattle.pool_pages.specs.Contents.{put, put_all}
-use Rattle.pool_pages.specs.Dense.{with_zeros}
-use Rattle.pool_pages.proofs.Prefixes.{length-with_zeros}
 use Rattle.pool_pages.proofs.Puts.{length-put, length-range, get_or-range, range-put_above, get_or-put_above, put-put, put_range, put_empty}
 
 module _ {X : Type 0} where
@@ -80,33 +78,28 @@ pub next_mark : {X : Type 0} (first k : ℕ) (v : X) (xs : List X) (d : X) → f
 next_mark first k v xs d from below =
     get_or-put_above first (replicate (k - first) v) xs k d (omega arith) (omega (arith, length-replicate (k - first) v))
 
--- Pages from first on were set, up to page k: xs is what bs became.
-pub run_long : (page first k : ℕ) (p bs xs : List ℕ) → first ≤ k → k * page ≤ length bs → length p ≤ length bs → xs ≡ put (first * page) (slice_range (with_zeros (length bs) p) (first * page) (k * page)) bs → length xs ≡ length bs
-run_long page first k p bs xs from fits kept is =
-    let long : length (with_zeros (length bs) p) ≡ length bs = length-with_zeros (length bs) p kept in
-    let some : length (slice_range (with_zeros (length bs) p) (first * page) (k * page)) ≡ k * page - first * page = length-range (with_zeros (length bs) p) (first * page) (k * page) (omega arith) in
-    ap length is ∙ length-put (first * page) (slice_range (with_zeros (length bs) p) (first * page) (k * page)) bs (omega (arith, mul-le-mul_right page from))
+-- Pages from first on were set to their part of a column ys, up to page k: xs is what bs became.
+pub run_long : (page first k : ℕ) (ys bs xs : List ℕ) → first ≤ k → k * page ≤ length bs → length ys ≡ length bs → xs ≡ put (first * page) (slice_range ys (first * page) (k * page)) bs → length xs ≡ length bs
+run_long page first k ys bs xs from fits long is =
+    let some : length (slice_range ys (first * page) (k * page)) ≡ k * page - first * page = length-range ys (first * page) (k * page) (omega arith) in
+    ap length is ∙ length-put (first * page) (slice_range ys (first * page) (k * page)) bs (omega (arith, mul-le-mul_right page from))
 
 -- page k holds its part of the column, if it did before and its mark isn't set
-pub run_clean : (page first k : ℕ) (p bs xs : List ℕ) (ds es : List Bool) → first ≤ k → k * page + page ≤ length bs → k < length ds → length p ≤ length bs → xs ≡ put (first * page) (slice_range (with_zeros (length bs) p) (first * page) (k * page)) bs → es ≡ put_all first (k - first) false ds → (get_or ds k true ≡ false → slice_range bs (k * page) (k * page + page) ≡ slice_range (with_zeros (length bs) p) (k * page) (k * page + page)) → get_or es k true ≡ false → slice_range xs (k * page) (k * page + page) ≡ slice_range (with_zeros (length xs) p) (k * page) (k * page + page)
-run_clean page first k p bs xs ds es from fits below kept is marks clean mark =
-    let long : length xs ≡ length bs = run_long page first k p bs xs from (omega arith) kept is in
+pub run_clean : (page first k : ℕ) (ys bs xs : List ℕ) (ds es : List Bool) → first ≤ k → k * page + page ≤ length bs → k < length ds → length ys ≡ length bs → xs ≡ put (first * page) (slice_range ys (first * page) (k * page)) bs → es ≡ put_all first (k - first) false ds → (get_or ds k true ≡ false → slice_range bs (k * page) (k * page + page) ≡ slice_range ys (k * page) (k * page + page)) → get_or es k true ≡ false → slice_range xs (k * page) (k * page + page) ≡ slice_range ys (k * page) (k * page + page)
+run_clean page first k ys bs xs ds es from fits below long is marks clean mark =
     let same : get_or ds k true ≡ false = sym (next_mark first k false ds true from below) ∙ ap (λ fs. get_or fs k true) (sym marks) ∙ mark in
-    ap (λ ys. slice_range ys (k * page) (k * page + page)) is
-    ∙ next_page page (first * page) (k * page) (with_zeros (length bs) p) bs (mul-le-mul_right page from) fits (length-with_zeros (length bs) p kept)
+    ap (λ zs. slice_range zs (k * page) (k * page + page)) is
+    ∙ next_page page (first * page) (k * page) ys bs (mul-le-mul_right page from) fits long
     ∙ clean same
-    ∙ ap (λ n. slice_range (with_zeros n p) (k * page) (k * page + page)) (sym long)
 
 -- page k set too
-pub run_more : (page first k : ℕ) (p bs xs new : List ℕ) → first ≤ k → k * page + page ≤ length bs → length p ≤ length bs → xs ≡ put (first * page) (slice_range (with_zeros (length bs) p) (first * page) (k * page)) bs → new ≡ put (k * page) (slice_range (with_zeros (length xs) p) (k * page) (k * page + page)) xs → new ≡ put (first * page) (slice_range (with_zeros (length bs) p) (first * page) ((k + 1) * page)) bs
-run_more page first k p bs xs new from fits kept is set =
-    let long : length xs ≡ length bs = run_long page first k p bs xs from (omega arith) kept is in
+pub run_more : (page first k : ℕ) (ys bs xs new : List ℕ) → first ≤ k → k * page + page ≤ length bs → length ys ≡ length bs → xs ≡ put (first * page) (slice_range ys (first * page) (k * page)) bs → new ≡ put (k * page) (slice_range ys (k * page) (k * page + page)) xs → new ≡ put (first * page) (slice_range ys (first * page) ((k + 1) * page)) bs
+run_more page first k ys bs xs new from fits long is set =
     let end : k * page + page ≡ (k + 1) * page = omega arith in
     set
-    ∙ ap (λ n. put (k * page) (slice_range (with_zeros n p) (k * page) (k * page + page)) xs) long
-    ∙ ap (λ ys. put (k * page) (slice_range (with_zeros (length bs) p) (k * page) (k * page + page)) ys) is
-    ∙ put_more (first * page) (k * page) (k * page + page) (with_zeros (length bs) p) bs (mul-le-mul_right page from) (omega arith) fits (length-with_zeros (length bs) p kept)
-    ∙ ap (λ n. put (first * page) (slice_range (with_zeros (length bs) p) (first * page) n) bs) end
+    ∙ ap (λ zs. put (k * page) (slice_range ys (k * page) (k * page + page)) zs) is
+    ∙ put_more (first * page) (k * page) (k * page + page) ys bs (mul-le-mul_right page from) (omega arith) fits long
+    ∙ ap (λ n. put (first * page) (slice_range ys (first * page) n) bs) end
 
 -- the next page of a run lies inside
 pub run_end : (page end k n : ℕ) → end * page ≤ n → k < end → k * page + page ≤ n

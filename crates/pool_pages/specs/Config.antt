@@ -7,8 +7,8 @@ use Rattle.pool_pages.specs.declared.module_types.Tunables.{Tunables}
 use Rattle.pool_pages.specs.declared.offered.Offered.{Offered}
 use Rattle.pool_pages.specs.declared.pages.DecommitBehavior.TheVariants.{RestoreOriginalMapping}
 
-abbrev pub default_limits : InstanceLimits
-default_limits = record {
+abbrev pub default_instance_limits : InstanceLimits
+default_instance_limits = record {
   total_core_instances = 1000;
   total_component_instances = 1000;
   total_memories = 10;
@@ -28,7 +28,7 @@ default_limits = record {
 
 abbrev pub default_config : PoolingAllocationConfig
 default_config = record {
-  limits = default_limits;
+  limits = default_instance_limits;
   max_unused_warm_slots = 100;
   decommit_batch_size = 1;
   stack_size = 0;
@@ -42,7 +42,7 @@ default_config = record {
 }
 
 abbrev pub IsDefaultLimits : InstanceLimits → Type 0
-IsDefaultLimits limits = limits ≡ default_limits
+IsDefaultLimits limits = limits ≡ default_instance_limits
 
 abbrev pub IsDefaultConfig : PoolingAllocationConfig → Type 0
 IsDefaultConfig config = config ≡ default_config

@@ -1,10 +1,11 @@
--- The greatest values of a pool's settings, and the first of its limits that they break.
-use Rattle.std.specs.Prelude.{ℕ, ◌∷◌, [], ◌^◌, ◌≤◌, List, Bool, ◌&&◌, nat_le, nat_lt, find, Option, Some, if◌then◌else◌, option_map}
+-- The greatest values of a pool's settings and of what is offered to it.
+use Rattle.std.specs.Prelude.{ℕ, ◌∷◌, [], ◌^◌, ◌≤◌, List, Bool, ◌&&◌, nat_le, nat_lt, find, Option, option_map}
 use Rattle.pool_pages.specs.declared.config.PoolingAllocationConfig.{PoolingAllocationConfig}
 use Rattle.pool_pages.specs.declared.bad_config.ConfigField.{ConfigField}
 use Rattle.pool_pages.specs.declared.bad_config.ConfigField.TheVariants.{TotalCoreInstances, TotalComponentInstances, TotalMemories, TotalTables, TotalStacks, TotalGcHeaps, MaxMemoriesPerModule, MaxTablesPerModule, MaxCoreInstancesPerComponent, MaxMemoriesPerComponent, MaxTablesPerComponent, TableElements, CoreInstanceSize, ComponentInstanceSize, MaxUnusedWarmSlots, StackSize, AsyncStackKeepResident, LinearMemoryKeepResident, TableKeepResident, MaxMemoryProtectionKeys, OfferedKeys}
 use Rattle.pool_pages.specs.declared.bad_config.BadConfig.{BadConfig}
-use Rattle.pool_pages.specs.declared.bad_config.BadConfig.TheVariants.{DecommitBatch, TooGreat}
+use Rattle.pool_pages.specs.declared.bad_config.BadConfig.TheVariants.{TooGreat}
+use Rattle.pool_pages.specs.declared.offered.Offered.{Offered}
 
 -- the greatest value of a field
 abbrev pub greatest : ConfigField → ℕ
@@ -22,8 +23,8 @@ greatest OfferedKeys = 15
 greatest _ = 100000
 
 -- each field that has a greatest value, beside its value, in the order in which they are tested
-abbrev pub limited_values : PoolingAllocationConfig → List (ConfigField × ℕ)
-limited_values c =
+abbrev pub limited_values : PoolingAllocationConfig → Offered → List (ConfigField × ℕ)
+limited_values c o =
     (TotalCoreInstances, c.limits.total_core_instances)
     ∷ (TotalComponentInstances, c.limits.total_component_instances)
     ∷ (TotalMemories, c.limits.total_memories)
@@ -44,6 +45,7 @@ limited_values c =
     ∷ (LinearMemoryKeepResident, c.linear_memory_keep_resident)
     ∷ (TableKeepResident, c.table_keep_resident)
     ∷ (MaxMemoryProtectionKeys, c.max_memory_protection_keys)
+    ∷ (OfferedKeys, o.keys)
     ∷ []
 
 -- the field exceeds its greatest value
@@ -53,15 +55,15 @@ is_exceeded (field, value) = nat_lt (greatest field) value
 abbrev pub too_great : ConfigField × ℕ → BadConfig
 too_great (field, value) = TooGreat field value (greatest field)
 
+-- the first field above its greatest value
+abbrev pub first_too_great : PoolingAllocationConfig → Offered → Option BadConfig
+first_too_great c o = option_map too_great (find is_exceeded (limited_values c o))
+
 -- a batch of the decommit queue has 1 to 4,096 ranges
 abbrev pub is_batch_size : ℕ → Bool
 is_batch_size size = nat_le 1 size && nat_le size 4096
 
--- the first of the limits that is broken: the batch, and then the first field above its greatest value
-abbrev pub first_broken_limit : PoolingAllocationConfig → Option BadConfig
-first_broken_limit c = if is_batch_size c.decommit_batch_size then option_map too_great (find is_exceeded (limited_values c)) else Some (DecommitBatch c.decommit_batch_size)
-
--- no limit is broken
+-- the batch and each field of the settings are within their limits
 pub record IsWithinLimits (c : PoolingAllocationConfig) : Type 0 where
   pub batch_at_least : 1 ≤ c.decommit_batch_size
   pub batch_at_most : c.decommit_batch_size ≤ 4096

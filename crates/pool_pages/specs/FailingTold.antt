@@ -1,5 +1,5 @@
 -- What a region tells before which a list of calls stands that fail.
-use Rattle.std.specs.Prelude.{ℕ, List, [], ◌∷◌, Bool, not, ◌==◌, ◌||◌, if◌then◌else◌}
+use Rattle.std.specs.Prelude.{◌≡◌, ℕ, ◌<◌, ◌≤◌, List, [], ◌∷◌, Bool, false, not, ◌==◌, ◌||◌, if◌then◌else◌}
 use Rattle.std.specs.List.{list_any}
 use Rattle.pool_pages.specs.Told.{Told, risen, joined_plan}
 use Rattle.pool_pages.specs.MakerTold.{no_calls}
@@ -32,6 +32,10 @@ counts_after kind len failed c = record {
 -- the list lets the next call through: its range is empty, or its number isn't in the list
 abbrev pub lets_through : List ℕ → ℕ → ℕ → Bool
 lets_through listed made len = (len == 0) || not (list_any (λ n. n == risen made) listed)
+
+-- the list has no number from the one up to the other
+abbrev pub HasNone : ℕ → ℕ → List ℕ → Type 0
+HasNone from next listed = (n : ℕ) → from ≤ n → n < next → list_any (λ m. m == n) listed ≡ false
 
 -- where a list is empty the one, otherwise the other
 abbrev pub if_empty : {X : Type 0} → List ℕ → X → X → X

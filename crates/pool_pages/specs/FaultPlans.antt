@@ -38,13 +38,16 @@ layers_before listed (Some plan) layers = plan ∷ listed ∷ []
 layers_before listed None [] = []
 layers_before listed None (last ∷ before) = last ∷ (before ++ listed ∷ [])
 
--- It tells what the maker behind it tells, but for its page, its plan and its counts.
+-- It tells what the maker behind it tells, but for its page, its plan and its counts. Its list is told whatever the
+-- maker behind tells.
 abbrev pub failing_maker : MakerTold → ℕ → List Planned → ℕ → ℕ → MakerTold
 failing_maker maker page listed next faults = record {
   page = page;
   tells = maker.tells;
   plan = joined_plan maker.plan listed;
   layers = layers_before listed maker.plan maker.layers;
+  listed = listed;
+  behind = maker.faults;
   next = next;
   faults = faults;
 }

@@ -1,4 +1,6 @@
+pub mod Breakdown
 pub mod ByteCountTexts
+pub mod CallSums
 pub mod Config
 pub mod ConfigLimits
 pub mod ConfigTexts
@@ -16,5 +18,6 @@ pub mod MemoryTypes
 pub mod Numerals
 pub mod PageLaws
 pub mod SettingsRules
+pub mod SortedFaults
 pub mod Told
 pub mod UnsupportedTexts

@@ -15,13 +15,16 @@ pub data Planned : Type 0 where
   on_images : ℕ → Planned
 
 -- Its page. Whether its regions tell what they hold. Which makings and calls on its regions fail, where it tells
--- that; where it doesn't, the plans that stand one behind the other, as far as they are told. The number of its next
--- region on demand, and how often a making failed.
+-- that; where it doesn't, the plans that stand one behind the other, as far as they are told. The list that it has
+-- itself, whatever stands behind it, and how often a making by the maker behind it failed: one with none behind it has
+-- an empty list, and its own count. The number of its next region on demand, and how often a making failed.
 pub record MakerTold : Type 0 where
   pub page : ℕ
   pub tells : Bool
   pub plan : Option (List Planned)
   pub layers : List (List Planned)
+  pub listed : List Planned
+  pub behind : ℕ
   pub next : ℕ
   pub faults : ℕ
 

@@ -28,6 +28,8 @@ memory_maker page next = record {
   tells = true;
   plan = Some [];
   layers = [];
+  listed = [];
+  behind = 0;
   next = next;
   faults = 0;
 }

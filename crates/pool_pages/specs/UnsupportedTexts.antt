@@ -1,7 +1,9 @@
 -- The texts of what the allocator can't do.
-use Rattle.std.specs.Prelude.{ℕ, Bool, true, false, List, [], ◌++◌, codes}
+use Rattle.std.specs.Prelude.{ℕ, Bool, true, false, List, [], ◌++◌, codes, Option, Some, None}
 use Rattle.std.specs.Fmt.{decimal}
+use Rattle.pool_pages.specs.Breakdown.{breakdown}
 use Rattle.pool_pages.specs.Numerals.{hexadecimal}
+use Rattle.pool_pages.specs.declared.module_types.ModuleInfo.{ModuleInfo}
 use Rattle.pool_pages.specs.declared.unsupported.Unsupported.{Unsupported}
 use Rattle.pool_pages.specs.declared.unsupported.Unsupported.TheVariants.{ImageOffset, MinimumExceedsMaximum, SharedOnDemand, MemoriesPerModule, MemoryUnrepresentable, MemoryExceedsSlot, MemoryShared, TablesPerModule, TotalTables, TableExceedsSlot, InstanceSize, MemoryMinimum, TableSize, AddressSpace, ComponentInstances, ComponentMemories, ComponentTables, ComponentSize, ImageLength, MallocTunables, InitialSize, NotShared}
 
@@ -38,3 +40,13 @@ unsupported_text NotShared = []
 abbrev pub has_breakdown : Unsupported → Bool
 has_breakdown (InstanceSize size limit) = true
 has_breakdown _ = false
+
+-- the lines that end its text, where the module that is refused is given
+abbrev pub breakdown_text : Option ModuleInfo → Unsupported → List ℕ
+breakdown_text None u = []
+breakdown_text (Some info) (InstanceSize size limit) = breakdown size info
+breakdown_text (Some info) _ = []
+
+-- the whole text
+abbrev pub whole_text : Unsupported → Option ModuleInfo → List ℕ
+whole_text u info = unsupported_text u ++ breakdown_text info u

@@ -165,6 +165,7 @@ impl HostAlignedByteCount {
         ensures aligned { self.bytes % self.page ≡ 0 }
         ensures page { IsPageSize self.page }
     {
+        // Whoever asks for the page learns that its size is one of a page.
         let _page = self.page.get();
         self.bytes
     }

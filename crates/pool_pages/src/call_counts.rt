@@ -1,5 +1,6 @@
 ghost use Rattle.std.specs.Prelude.{◌≡◌};
 ghost use Rattle.pool_pages.specs.Told.{risen};
+ghost use Rattle.pool_pages.specs.CallSums.{added};
 ghost use Rattle.pool_pages.specs.MakerTold.{no_calls};
 ghost use Rattle.pool_pages.specs.FailingTold.{no_counts, raised, counts_after};
 
@@ -33,7 +34,8 @@ pub struct CallCounts {
 }
 
 impl PageCalls {
-    pub(crate) fn none() -> PageCalls
+    /// No calls.
+    pub fn none() -> PageCalls
         ensures { result ≡ no_calls }
     {
         PageCalls {
@@ -44,6 +46,21 @@ impl PageCalls {
             erase: 0,
             recolour: 0,
             decommit: 0,
+        }
+    }
+
+    /// The calls of both, each count of which stands still at the end of its type.
+    pub fn plus(self, other: PageCalls) -> PageCalls
+        ensures { result ≡ added self other }
+    {
+        PageCalls {
+            expose: self.expose.saturating_add(other.expose),
+            hide: self.hide.saturating_add(other.hide),
+            map_image: self.map_image.saturating_add(other.map_image),
+            remap_zeros: self.remap_zeros.saturating_add(other.remap_zeros),
+            erase: self.erase.saturating_add(other.erase),
+            recolour: self.recolour.saturating_add(other.recolour),
+            decommit: self.decommit.saturating_add(other.decommit),
         }
     }
 

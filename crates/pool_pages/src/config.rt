@@ -1,9 +1,3 @@
-ghost use Rattle.std.specs.Prelude.{◌≡◌, None, OnOk, IfErr};
-ghost use Rattle.pool_pages.specs.ConfigLimits.{IsWithinLimits, first_broken_limit, is_batch_size};
-
-use crate::bad_config::BadConfig;
-use crate::greatest_values::{first_exceeded, limited_values};
-
 /// Whether a feature of the system is used: where it is offered, always, or never.
 #[derive(Clone, Copy, Debug, PartialEq, Eq)]
 pub enum Enabled {
@@ -94,36 +88,6 @@ impl Default for PoolingAllocationConfig {
             memory_protection_keys: Enabled::No,
             max_memory_protection_keys: 15,
             pagemap_scan: Enabled::No,
-        }
-    }
-}
-
-// Whether a batch of the decommit queue may have this many ranges.
-fn is_batch_size(size: usize) -> bool
-    ensures { result ≡ is_batch_size size }
-{
-    1 <= size && size <= 4096
-}
-
-impl PoolingAllocationConfig {
-    /// Tests the limits that these settings have whatever is offered: the batch of the decommit queue, and then
-    /// each field that has a greatest value, in order. The error is the first that is broken.
-    pub fn check_limits(&self) -> Result<(), BadConfig>
-        ensures ok { OnOk result (first_broken_limit self.now ≡ None) }
-        ensures err { IfErr result (λ e. first_broken_limit self.now ≡ Some e) }
-        ensures within { OnOk result (IsWithinLimits self.now) }
-    {
-        let size = self.decommit_batch_size;
-        if !is_batch_size(size) {
-            return Err(BadConfig::DecommitBatch { size });
-        }
-        match first_exceeded(&limited_values(self)) {
-            Some((field, value)) => Err(BadConfig::TooGreat {
-                field,
-                value,
-                greatest: field.greatest(),
-            }),
-            None => Ok(()),
         }
     }
 }

@@ -1,41 +1,39 @@
-ghost use Rattle.std.specs.Prelude.{◌≡◌, ℕ, ◌+◌, ◌-◌, ◌*◌, ◌/◌, ◌%◌, ◌^◌, ◌<◌, ◌≤◌, List, length, replicate, slice_range, slice_index_or, true, IfOk, vec_capacity, Bool};
-ghost use Rattle.pool_pages.specs.Contents.{IsShaped, put_all, touched, image_mapped, image_copied, erased, remapped, recoloured, decommitted, written, put_back};
+ghost use Rattle.std.specs.Prelude.{◌≡◌, ℕ, ◌+◌, ◌-◌, ◌*◌, ◌/◌, ◌%◌, ◌^◌, ◌<◌, ◌≤◌, List, length, replicate, slice_range, slice_index_or, slice_set, true, false, IfOk, Bool, IsTrue, ◌↔◌};
+ghost use Rattle.pool_pages.specs.Contents.{IsShaped, put, put_all, touched, image_mapped, image_copied, erased, remapped, recoloured, decommitted, written, put_back};
 ghost use Rattle.pool_pages.specs.Dense.{zeroed};
 ghost use Rattle.pool_pages.specs.Count.{IsPageSize};
 ghost use Rattle.pool_pages.specs.MakerTold.{fresh};
 
 use crate::byte_count::PageSize;
-use crate::column_edits::{
-    clear_in_prefix, copy_out, fill_range, overwrite, put_into_prefix, restore, restore_pages,
-    set_marks,
-};
+use crate::column::Column;
+use crate::column_edits::{fill_range, set_marks};
 use std::alloc::{AllocError, Global};
 use std::marker::Model;
 
 /// The pages of a region, in memory that is taken when they are made.
 ///
-/// What they go back to is kept as a prefix, past which it is zeros; the buffer of the prefix has room for
-/// all of it. So it is touched only as far as images are mapped.
+/// What they hold and what they go back to are touched only as far as something was written or mapped: what was
+/// only made costs by its number of pages, not of bytes.
 #[derive(Drop)]
 pub(crate) struct DensePages {
     page: PageSize,
-    bytes: Vec<u8>,
-    prefix: Vec<u8>,
+    bytes: Column,
+    origin: Column,
     accessible: Vec<bool>,
     dirty: Vec<bool>,
     colour: Vec<u8>,
 }
 
 impl Model for DensePages {
-    ghost use Rattle.std.specs.Prelude.{vec_capacity};
-    ghost use Rattle.pool_pages.specs.Contents.{Contents};
-    ghost use Rattle.pool_pages.specs.Dense.{dense, IsDense};
+    ghost use Rattle.std.specs.Prelude.{length};
+    ghost use Rattle.pool_pages.specs.Contents.{Contents, IsShaped};
+    ghost use Rattle.pool_pages.specs.Dense.{dense};
 
     ghost Value = { Contents };
 
-    ghost view = { λ d. dense d.page d.bytes.items d.prefix.items d.accessible.items d.dirty.items d.colour.items };
+    ghost view = { λ d. dense d.page d.bytes d.origin d.accessible.items d.dirty.items d.colour.items };
 
-    ghost invariant = { λ d. IsDense d.page d.bytes.items d.prefix.items d.accessible.items d.dirty.items d.colour.items (vec_capacity d.prefix) };
+    ghost invariant = { λ d. IsShaped d.page (length d.bytes) (dense d.page d.bytes d.origin d.accessible.items d.dirty.items d.colour.items) };
 }
 
 /// The number of pages that the bytes from a place on touch.
@@ -61,12 +59,51 @@ fn filled<T: Copy + Drop>(alloc: Global, len: usize, value: T) -> Result<Vec<T>,
     Ok(items)
 }
 
+// Sets page `k` to its part of `origin` and clears its mark, unless it isn't dirty: then it holds that already.
+#[tactic(auto, using(crate::proofs::PageRuns::put_same))]
+fn restore_page(bytes: &mut Column, dirty: &mut Vec<bool>, origin: &Column, page: usize, k: usize)
+    requires inside { k * page + page ≤ length bytes.old }
+    requires mark { k < length dirty.old.items }
+    requires same_length { length origin.now ≡ length bytes.old }
+    requires clean { slice_index_or dirty.old.items k true ≡ false → slice_range bytes.old (k * page) (k * page + page) ≡ slice_range origin.now (k * page) (k * page + page) }
+    ensures bytes { bytes.new ≡ put (k * page) (slice_range origin.now (k * page) (k * page + page)) bytes.old }
+    ensures dirty { dirty.new.items ≡ slice_set dirty.old.items k false }
+{
+    bytes.bounded();
+    if dirty[k] {
+        bytes.restore(origin, k * page, page);
+        dirty[k] = false;
+    }
+}
+
+// Sets `count` pages from `first` on to their part of `origin`, and clears their marks. Those that aren't dirty
+// hold that already and are left. Goes through the marks once.
+fn restore_pages(
+    bytes: &mut Column,
+    dirty: &mut Vec<bool>,
+    origin: &Column,
+    page: usize,
+    first: usize,
+    count: usize,
+)
+    requires inside { (first + count) * page ≤ length bytes.old }
+    requires marks { first + count ≤ length dirty.old.items }
+    requires same_length { length origin.now ≡ length bytes.old }
+    requires clean { (k : ℕ) → first ≤ k → k < first + count → slice_index_or dirty.old.items k true ≡ false → slice_range bytes.old (k * page) (k * page + page) ≡ slice_range origin.now (k * page) (k * page + page) }
+    ensures bytes { bytes.new ≡ put (first * page) (slice_range origin.now (first * page) ((first + count) * page)) bytes.old }
+    ensures dirty { dirty.new.items ≡ put_all first count false dirty.old.items }
+{
+    for k in first..first + count {
+        restore_page(bytes, dirty, origin, page, k);
+    }
+}
+
 impl DensePages {
     /// Pages of zeros, of which those below `accessible` can be reached. `accessible` and `len` are in bytes.
     ///
-    /// The buffer of the prefix is reserved for every region, whatever its name, since an image may be mapped
-    /// into any and that must take no memory. It isn't touched before.
-    #[tactic(auto, using(crate::proofs::DenseCalls::fresh_is, crate::proofs::DenseCalls::fresh_again, crate::proofs::DenseCalls::fresh_marks))]
+    /// Two buffers of the region's length are reserved, and not touched: one for its bytes, and one for the
+    /// images that may be mapped into any region and that must then take no memory.
+    #[tactic(auto, using(crate::proofs::DenseCalls::fresh_again))]
     pub(crate) fn new(
         alloc: Global,
         page: PageSize,
@@ -84,8 +121,8 @@ impl DensePages {
         set_marks(&mut marks, 0, accessible / size, true);
         Ok(DensePages {
             page,
-            bytes: filled(alloc, len, 0)?,
-            prefix: Vec::with_capacity(alloc, len)?,
+            bytes: Column::new(alloc, len)?,
+            origin: Column::new(alloc, len)?,
             accessible: marks,
             dirty: filled(alloc, count, false)?,
             colour: filled(alloc, count, 0)?,
@@ -96,6 +133,7 @@ impl DensePages {
         ensures value { result ≡ self.now.page }
         ensures valid { IsPageSize self.now.page }
     {
+        // read so that the prover knows that it is a size of pages
         let _size = self.page.get();
         self.page
     }
@@ -162,8 +200,8 @@ impl DensePages {
     {
         let page = self.page.get();
         let (first, count) = (start / page, image.len() / page);
-        overwrite(&mut self.bytes, start, image);
-        put_into_prefix(&mut self.prefix, start, image);
+        self.bytes.put(start, image);
+        self.origin.put(start, image);
         set_marks(&mut self.accessible, first, count, true);
         set_marks(&mut self.dirty, first, count, false);
         fill_range(&mut self.colour, first, count, 0);
@@ -181,7 +219,7 @@ impl DensePages {
     {
         let page = self.page.get();
         let (first, count) = (start / page, image.len() / page);
-        overwrite(&mut self.bytes, start, image);
+        self.bytes.put(start, image);
         set_marks(&mut self.accessible, first, count, true);
         set_marks(&mut self.dirty, first, count, true);
         fill_range(&mut self.colour, first, count, 0);
@@ -199,22 +237,14 @@ impl DensePages {
     {
         let page = self.page.get();
         let (first, count) = (start / page, len / page);
-        let kept = self.prefix.len();
-        clear_in_prefix(&mut self.prefix, start, len);
-        restore_pages(
-            &mut self.bytes,
-            &mut self.dirty,
-            &self.prefix,
-            kept,
-            page,
-            first,
-            count,
-        );
+        self.bytes.clear(start, len);
+        self.origin.clear(start, len);
         set_marks(&mut self.accessible, first, count, access);
+        set_marks(&mut self.dirty, first, count, false);
         fill_range(&mut self.colour, first, count, 0);
     }
 
-    /// Costs in proportion to the pages that are dirty or had an image.
+    /// Sets the marks of its pages, and writes zeros only where bytes behind its range were written or mapped.
     pub(crate) fn erase(&mut self, start: usize, len: usize)
         requires start { start % self.old.page ≡ 0 }
         requires len { len % self.old.page ≡ 0 }
@@ -238,7 +268,7 @@ impl DensePages {
         self.zero(start, len, true);
     }
 
-    /// Costs in proportion to the dirty pages.
+    /// Goes through the marks of its pages once, and copies those that are dirty.
     #[tactic(auto, using(crate::proofs::DenseCalls::put_long, crate::proofs::DenseCalls::put_all_long))]
     pub(crate) fn decommit(&mut self, start: usize, len: usize)
         requires start { start % self.old.page ≡ 0 }
@@ -252,8 +282,7 @@ impl DensePages {
         restore_pages(
             &mut self.bytes,
             &mut self.dirty,
-            &self.prefix,
-            0,
+            &self.origin,
             page,
             start / page,
             len / page,
@@ -264,7 +293,15 @@ impl DensePages {
         requires { start + length out.old ≤ length self.now.bytes }
         ensures { out.new ≡ slice_range self.now.bytes start (start + length out.old) }
     {
-        copy_out(&self.bytes, start, out);
+        self.bytes.read(start, out);
+    }
+
+    /// Compares where the bytes lie.
+    pub(crate) fn holds(&self, start: usize, bytes: &[u8]) -> bool
+        requires { start + length bytes.now ≤ length self.now.bytes }
+        ensures { IsTrue result ↔ (slice_range self.now.bytes start (start + length bytes.now) ≡ bytes.now) }
+    {
+        self.bytes.holds(start, bytes)
     }
 
     #[tactic(auto, using(crate::proofs::DenseCalls::put_long, crate::proofs::DenseCalls::put_all_long))]
@@ -275,8 +312,9 @@ impl DensePages {
         ensures shaped { IsShaped self.new.page (length self.new.bytes) self.new }
     {
         let page = self.page.get();
+        self.bytes.bounded();
         let count = touched_pages(page, start, bytes.len());
-        overwrite(&mut self.bytes, start, bytes);
+        self.bytes.put(start, bytes);
         set_marks(&mut self.dirty, start / page, count, true);
     }
 
@@ -288,8 +326,9 @@ impl DensePages {
         ensures shaped { IsShaped self.new.page (length self.new.bytes) self.new }
     {
         let page = self.page.get();
+        self.bytes.bounded();
         let count = touched_pages(page, start, len);
-        fill_range(&mut self.bytes, start, len, byte);
+        self.bytes.fill(start, len, byte);
         set_marks(&mut self.dirty, start / page, count, true);
     }
 
@@ -302,8 +341,9 @@ impl DensePages {
         ensures shaped { IsShaped self.new.page (length self.new.bytes) self.new }
     {
         let page = self.page.get();
+        self.bytes.bounded();
         let count = touched_pages(page, start, len);
-        restore(&mut self.bytes, &self.prefix, start, len);
+        self.bytes.restore(&self.origin, start, len);
         set_marks(&mut self.dirty, start / page, count, true);
     }
 }

@@ -1,9 +1,10 @@
-ghost use Rattle.std.specs.Prelude.{◌≡◌, ◌==◌};
-ghost use Rattle.std.specs.List.{list_any};
-ghost use Rattle.pool_pages.specs.FailingTold.{failing_told, lets_through, no_counts};
+ghost use Rattle.std.specs.Prelude.{◌≡◌};
+ghost use Rattle.pool_pages.specs.Told.{TellsShaped};
+ghost use Rattle.pool_pages.specs.FailingTold.{failing_told, lets_through, no_counts, counts_after};
 
 use crate::byte_count::{HostAlignedByteCount, PageSize};
 use crate::call_counts::{CallCounts, CallKind, risen};
+use crate::call_plan::CallPlan;
 use crate::image_data::ImageData;
 use crate::pages::{DecommitBehavior, PageCalls, PageFault, Pages, RegionName};
 use crate::plain_list::PlainList;
@@ -14,9 +15,9 @@ use crate::plain_list::PlainList;
 /// listed call isn't made on the region behind: it changes nothing but the counts.
 #[derive(Drop)]
 pub struct Failing<R: Pages> {
-    pub(crate) region: R,
-    pub(crate) plan: PlainList<u64>,
-    pub(crate) counts: CallCounts,
+    region: R,
+    plan: CallPlan,
+    counts: CallCounts,
 }
 
 impl<R: Pages> Failing<R> {
@@ -26,23 +27,28 @@ impl<R: Pages> Failing<R> {
     {
         Failing {
             region,
-            plan,
+            plan: CallPlan::new(plan),
             counts: CallCounts::none(),
         }
     }
-}
 
-// Whether a list lets the next call through, on a range of this length, after `made` calls.
-fn lets_through(listed: &[u64], made: u64, len: usize) -> bool
-    ensures { result ≡ lets_through listed.now made len }
-{
-    len == 0 || !lists(listed, risen(made))
-}
+    // Whether the list lets the next call through, on a range of this length.
+    fn lets_through(&self, len: usize) -> bool
+        ensures { result ≡ lets_through self.now.plan self.now.counts.made len }
+    {
+        len == 0 || !self.plan.lists(risen(self.counts.made))
+    }
 
-fn lists(listed: &[u64], number: u64) -> bool
-    ensures { result ≡ list_any (λ n. n == number) listed.now }
-{
-    listed.iter().any(|&call| call == number)
+    // Counts a call, made on the region behind or not. That what the region tells has its shape is known by
+    // its length, which is asked for that alone.
+    fn count(&mut self, kind: CallKind, len: usize, failed: bool)
+        ensures counted { self.new ≡ record self.old { counts = counts_after kind len failed self.old.counts } }
+        ensures shaped { TellsShaped (R.told self.new.region) }
+    {
+        let _len = self.region.len();
+        self.counts = self.counts.after(kind, len, failed);
+        self.plan.reach(risen(self.counts.made));
+    }
 }
 
 impl<R: Pages> Pages for Failing<R> {
@@ -94,14 +100,13 @@ impl<R: Pages> Pages for Failing<R> {
         len: HostAlignedByteCount,
     ) -> Result<(), PageFault> {
         let bytes = len.byte_count();
-        if !lets_through(self.plan.as_slice(), self.counts.made, bytes) {
-            let _len = self.region.len();
-            self.counts = self.counts.after(CallKind::Expose, bytes, true);
+        if !self.lets_through(bytes) {
+            self.count(CallKind::Expose, bytes, true);
             return Err(PageFault);
         }
-        let result = self.region.expose(start, len);
-        self.counts = self.counts.after(CallKind::Expose, bytes, result.is_err());
-        result
+        let made = self.region.expose(start, len);
+        self.count(CallKind::Expose, bytes, made.is_err());
+        made
     }
 
     fn hide(
@@ -110,14 +115,13 @@ impl<R: Pages> Pages for Failing<R> {
         len: HostAlignedByteCount,
     ) -> Result<(), PageFault> {
         let bytes = len.byte_count();
-        if !lets_through(self.plan.as_slice(), self.counts.made, bytes) {
-            let _len = self.region.len();
-            self.counts = self.counts.after(CallKind::Hide, bytes, true);
+        if !self.lets_through(bytes) {
+            self.count(CallKind::Hide, bytes, true);
             return Err(PageFault);
         }
-        let result = self.region.hide(start, len);
-        self.counts = self.counts.after(CallKind::Hide, bytes, result.is_err());
-        result
+        let made = self.region.hide(start, len);
+        self.count(CallKind::Hide, bytes, made.is_err());
+        made
     }
 
     fn map_image(
@@ -125,15 +129,14 @@ impl<R: Pages> Pages for Failing<R> {
         start: HostAlignedByteCount,
         image: &ImageData,
     ) -> Result<(), PageFault> {
-        let len = image.as_slice().len();
-        if !lets_through(self.plan.as_slice(), self.counts.made, len) {
-            let _len = self.region.len();
-            self.counts = self.counts.after(CallKind::MapImage, len, true);
+        let bytes = image.as_slice().len();
+        if !self.lets_through(bytes) {
+            self.count(CallKind::MapImage, bytes, true);
             return Err(PageFault);
         }
-        let result = self.region.map_image(start, image);
-        self.counts = self.counts.after(CallKind::MapImage, len, result.is_err());
-        result
+        let made = self.region.map_image(start, image);
+        self.count(CallKind::MapImage, bytes, made.is_err());
+        made
     }
 
     fn remap_zeros(
@@ -142,16 +145,13 @@ impl<R: Pages> Pages for Failing<R> {
         len: HostAlignedByteCount,
     ) -> Result<(), PageFault> {
         let bytes = len.byte_count();
-        if !lets_through(self.plan.as_slice(), self.counts.made, bytes) {
-            let _len = self.region.len();
-            self.counts = self.counts.after(CallKind::RemapZeros, bytes, true);
+        if !self.lets_through(bytes) {
+            self.count(CallKind::RemapZeros, bytes, true);
             return Err(PageFault);
         }
-        let result = self.region.remap_zeros(start, len);
-        self.counts = self
-            .counts
-            .after(CallKind::RemapZeros, bytes, result.is_err());
-        result
+        let made = self.region.remap_zeros(start, len);
+        self.count(CallKind::RemapZeros, bytes, made.is_err());
+        made
     }
 
     fn erase(
@@ -160,14 +160,13 @@ impl<R: Pages> Pages for Failing<R> {
         len: HostAlignedByteCount,
     ) -> Result<(), PageFault> {
         let bytes = len.byte_count();
-        if !lets_through(self.plan.as_slice(), self.counts.made, bytes) {
-            let _len = self.region.len();
-            self.counts = self.counts.after(CallKind::Erase, bytes, true);
+        if !self.lets_through(bytes) {
+            self.count(CallKind::Erase, bytes, true);
             return Err(PageFault);
         }
-        let result = self.region.erase(start, len);
-        self.counts = self.counts.after(CallKind::Erase, bytes, result.is_err());
-        result
+        let made = self.region.erase(start, len);
+        self.count(CallKind::Erase, bytes, made.is_err());
+        made
     }
 
     fn recolour(
@@ -177,16 +176,13 @@ impl<R: Pages> Pages for Failing<R> {
         colour: u8,
     ) -> Result<(), PageFault> {
         let bytes = len.byte_count();
-        if !lets_through(self.plan.as_slice(), self.counts.made, bytes) {
-            let _len = self.region.len();
-            self.counts = self.counts.after(CallKind::Recolour, bytes, true);
+        if !self.lets_through(bytes) {
+            self.count(CallKind::Recolour, bytes, true);
             return Err(PageFault);
         }
-        let result = self.region.recolour(start, len, colour);
-        self.counts = self
-            .counts
-            .after(CallKind::Recolour, bytes, result.is_err());
-        result
+        let made = self.region.recolour(start, len, colour);
+        self.count(CallKind::Recolour, bytes, made.is_err());
+        made
     }
 
     fn decommit(
@@ -195,20 +191,21 @@ impl<R: Pages> Pages for Failing<R> {
         len: HostAlignedByteCount,
     ) -> Result<(), PageFault> {
         let bytes = len.byte_count();
-        if !lets_through(self.plan.as_slice(), self.counts.made, bytes) {
-            let _len = self.region.len();
-            self.counts = self.counts.after(CallKind::Decommit, bytes, true);
+        if !self.lets_through(bytes) {
+            self.count(CallKind::Decommit, bytes, true);
             return Err(PageFault);
         }
-        let result = self.region.decommit(start, len);
-        self.counts = self
-            .counts
-            .after(CallKind::Decommit, bytes, result.is_err());
-        result
+        let made = self.region.decommit(start, len);
+        self.count(CallKind::Decommit, bytes, made.is_err());
+        made
     }
 
     fn read(&self, at: usize, out: &mut [u8]) {
         self.region.read(at, out)
+    }
+
+    fn holds(&self, at: usize, bytes: &[u8]) -> bool {
+        self.region.holds(at, bytes)
     }
 
     fn write(&mut self, at: usize, bytes: &[u8]) {

@@ -3,28 +3,30 @@ ghost use Rattle.std.specs.List.{list_any};
 ghost use Rattle.pool_pages.specs.FaultPlans.{failing_maker, planned_faults};
 
 use crate::byte_count::{HostAlignedByteCount, PageSize};
-use crate::call_counts::{CallCounts, risen};
+use crate::call_counts::risen;
 use crate::failing::Failing;
-use crate::fault_plan::{Fault, calls_on, lists_images};
+use crate::fault_index::FaultIndex;
+use crate::fault_plan::Fault;
 use crate::maker::{MakeFault, PageMaker, next_after};
 use crate::pages::{DecommitBehavior, RegionName};
 use std::alloc::Global;
 
 /// A maker with a list of the makings, and of the calls on its regions, that fail.
 ///
-/// A listed making isn't made by the maker behind: it changes nothing but the counts.
+/// A listed making isn't made by the maker behind: it changes nothing but the counts. Contracts are told the list,
+/// and how often a making by the maker behind failed, whatever that one tells.
 #[derive(Drop)]
 pub struct FailingMaker<'a, M: PageMaker + Drop> {
     maker: M,
     page: PageSize,
-    plan: &'a [Fault],
+    plan: FaultIndex<'a>,
     next: u32,
     faults: u64,
 }
 
 impl<'a, M: PageMaker + Drop> FailingMaker<'a, M> {
     /// Owns the maker behind it, and borrows the list. `page` is that of a region that isn't given one.
-    /// Takes no memory.
+    /// Takes no memory: the list is sorted, once, where the first region is made.
     pub fn new(maker: M, page: PageSize, plan: &'a [Fault]) -> Self
         ensures { ⟦<FailingMaker<'a, M> as PageMaker>⟧.told result ≡ failing_maker (M.told maker) page (planned_faults plan.now) (M.told maker).next (M.told maker).faults }
     {
@@ -33,7 +35,7 @@ impl<'a, M: PageMaker + Drop> FailingMaker<'a, M> {
         FailingMaker {
             maker,
             page,
-            plan,
+            plan: FaultIndex::new(plan),
             next,
             faults,
         }
@@ -50,7 +52,7 @@ fn has_making(calls: &[u64]) -> bool
 impl<'a, M: PageMaker + Drop> PageMaker for FailingMaker<'a, M> {
     type Region = Failing<M::Region>;
 
-    ghost told = { λ m. failing_maker (M.told m.maker) m.page (planned_faults m.plan.now) m.next m.faults };
+    ghost told = { λ m. failing_maker (M.told m.maker) m.page (planned_faults m.plan) m.next m.faults };
 
     fn faults(&self) -> u64 {
         self.faults
@@ -73,7 +75,7 @@ impl<'a, M: PageMaker + Drop> PageMaker for FailingMaker<'a, M> {
         len: HostAlignedByteCount,
     ) -> Result<Failing<M::Region>, MakeFault> {
         self.next = next_after(name, self.next);
-        let Ok(calls) = calls_on(alloc, self.plan, name) else {
+        let Ok(calls) = self.plan.calls_on(alloc, name) else {
             return Err(MakeFault::Memory);
         };
         if has_making(calls.as_slice()) {
@@ -81,11 +83,7 @@ impl<'a, M: PageMaker + Drop> PageMaker for FailingMaker<'a, M> {
             return Err(MakeFault::PageFault);
         }
         match self.maker.make(alloc, name, behaviour, accessible, len) {
-            Ok(region) => Ok(Failing {
-                region,
-                plan: calls,
-                counts: CallCounts::none(),
-            }),
+            Ok(region) => Ok(Failing::new(region, calls)),
             Err(MakeFault::PageFault) => {
                 self.faults = risen(self.faults);
                 Err(MakeFault::PageFault)
@@ -101,7 +99,7 @@ impl<'a, M: PageMaker + Drop> PageMaker for FailingMaker<'a, M> {
         memory: u32,
         len: HostAlignedByteCount,
     ) -> Result<(), MakeFault> {
-        if lists_images(self.plan, id) {
+        if self.plan.lists_images(id) {
             self.faults = risen(self.faults);
             return Err(MakeFault::PageFault);
         }

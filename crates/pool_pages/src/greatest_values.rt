@@ -1,12 +1,13 @@
 ghost use Rattle.std.specs.Prelude.{◌≡◌, find};
-ghost use Rattle.pool_pages.specs.ConfigLimits.{limited_values, is_exceeded};
+ghost use Rattle.pool_pages.specs.ConfigLimits.{limited_values, is_exceeded, first_too_great};
 
-use crate::bad_config::ConfigField as Field;
+use crate::bad_config::{BadConfig, ConfigField as Field};
 use crate::config::PoolingAllocationConfig;
+use crate::offered::Offered;
 
-/// Each field of the settings that has a greatest value, beside its value, in the order in which they are tested.
-pub(crate) fn limited_values(config: &PoolingAllocationConfig) -> [(Field, usize); 20]
-    ensures { result ≡ limited_values config.now }
+// Each field that has a greatest value, beside its value, in the order in which they are tested.
+fn limited_values(config: &PoolingAllocationConfig, offered: &Offered) -> [(Field, usize); 21]
+    ensures { result ≡ limited_values config.now offered.now }
 {
     let limits = &config.limits;
     [
@@ -63,15 +64,33 @@ pub(crate) fn limited_values(config: &PoolingAllocationConfig) -> [(Field, usize
             Field::MaxMemoryProtectionKeys,
             config.max_memory_protection_keys,
         ),
+        (Field::OfferedKeys, offered.keys as usize),
     ]
 }
 
-/// The first field whose value exceeds its greatest, with that value.
-pub(crate) fn first_exceeded(values: &[(Field, usize)]) -> Option<(Field, usize)>
+// The first field whose value exceeds its greatest, with that value.
+fn first_exceeded(values: &[(Field, usize)]) -> Option<(Field, usize)>
     ensures { result ≡ find is_exceeded values.now }
 {
     values
         .iter()
         .copied()
         .find(|&(field, value)| value > field.greatest())
+}
+
+/// The first field that exceeds its greatest value.
+pub(crate) fn first_too_great(
+    config: &PoolingAllocationConfig,
+    offered: &Offered,
+) -> Option<BadConfig>
+    ensures { result ≡ first_too_great config.now offered.now }
+{
+    match first_exceeded(&limited_values(config, offered)) {
+        Some((field, value)) => Some(BadConfig::TooGreat {
+            field,
+            value,
+            greatest: field.greatest(),
+        }),
+        None => None,
+    }
 }

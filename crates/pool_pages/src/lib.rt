@@ -2,19 +2,19 @@
 #![tactic(auto)]
 
 mod bad_config;
+mod breakdown;
 mod byte_count;
 mod byte_count_errors;
 mod byte_count_forms;
-#[cfg(test)]
-mod byte_count_tests;
 mod call_counts;
+mod call_plan;
+mod column;
 mod column_edits;
 mod config;
 mod dense_pages;
 mod failing;
 mod failing_maker;
-#[cfg(test)]
-mod failing_tests;
+mod fault_index;
 mod fault_plan;
 mod greatest_values;
 mod image_data;
@@ -22,8 +22,6 @@ mod made_region;
 mod maker;
 mod memory_pages;
 mod memory_region;
-#[cfg(test)]
-mod memory_tests;
 mod module_types;
 mod numerals;
 mod offered;
@@ -32,8 +30,7 @@ mod pages;
 mod plain_list;
 mod region;
 mod settings_rules;
-#[cfg(test)]
-mod settings_tests;
+mod table_type;
 mod text;
 mod unsupported;
 mod zeroing_region;
@@ -52,14 +49,15 @@ pub use maker::{MakeFault, PageMaker};
 pub use memory_pages::MemoryPages;
 pub use memory_region::MemoryRegion;
 pub use module_types::{
-    CompiledModuleId, DefinedMemoryIndex, ImageDecl, IndexType, Limits, MemoryDecl, MemoryKind,
-    MemoryTunables, MemoryType, ModuleInfo, Tunables,
+    CompiledModuleId, ComponentInfo, DefinedMemoryIndex, DefinedTableIndex, ImageDecl, IndexType,
+    Limits, MemoryDecl, MemoryKind, MemoryTunables, MemoryType, ModuleInfo, Part, Tunables,
 };
 pub use offered::Offered;
 pub use page_laws::calls_change_their_pages;
 pub use pages::{DecommitBehavior, PageCalls, PageFault, Pages, RegionName};
 pub use plain_list::{ByteList, PlainList};
 pub use region::PageRegion;
+pub use table_type::{TableElementType, TableType};
 pub use text::Text;
 pub use unsupported::Unsupported;
 pub use zeroing_region::ZeroingRegion;

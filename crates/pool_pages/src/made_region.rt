@@ -157,6 +157,13 @@ impl Pages for MadeRegion {
         }
     }
 
+    fn holds(&self, at: usize, bytes: &[u8]) -> bool {
+        match self {
+            MadeRegion::Memory(region) => region.holds(at, bytes),
+            MadeRegion::Zeroing(region) => region.holds(at, bytes),
+        }
+    }
+
     fn write(&mut self, at: usize, bytes: &[u8]) {
         match self {
             MadeRegion::Memory(region) => region.write(at, bytes),

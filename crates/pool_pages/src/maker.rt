@@ -1,5 +1,5 @@
 ghost use Rattle.std.specs.Prelude.{◌≡◌, ℕ, ◌≤◌, false, true, IfOk, IfSome, OnOk, MatchResult};
-ghost use Rattle.pool_pages.specs.MakeFaults.{RaisesFaults};
+ghost use Rattle.pool_pages.specs.MakeFaults.{RaisesFaults, RaisesBehind};
 ghost use Rattle.pool_pages.specs.MakerTold.{MakerTold, made_region, next_after, fails_making, fails_images};
 
 use crate::byte_count::{HostAlignedByteCount, PageSize};
@@ -16,7 +16,9 @@ pub enum MakeFault {
 /// Makes regions, and the backing files of images.
 ///
 /// A making that answers `PageFault` raises `faults`, and each other leaves it. A maker may tell contracts
-/// which makings fail, and which calls on the regions that it makes.
+/// which makings fail, and which calls on the regions that it makes. It always tells the list that it has
+/// itself, and how often a making by the maker behind it failed: a making that it lists fails and isn't made
+/// there, and another one answers `PageFault` only where that count rose.
 pub trait PageMaker {
     type Region: Pages;
 
@@ -46,8 +48,10 @@ pub trait PageMaker {
         requires page { accessible.page ≡ len.page }
         requires within { accessible.bytes ≤ len.bytes }
         ensures region { IfOk result (λ region. Self.Region.told region ≡ made_region name behaviour accessible len (told self.old)) }
-        ensures maker { told self.new ≡ record (told self.old) { next = next_after name (told self.old).next; faults = (told self.new).faults } }
+        ensures maker { told self.new ≡ record (told self.old) { next = next_after name (told self.old).next; behind = (told self.new).behind; faults = (told self.new).faults } }
         ensures faults { MatchResult result (λ _. (told self.new).faults ≡ (told self.old).faults) (RaisesFaults (told self.old).faults (told self.new).faults) }
+        ensures listed { IfOk result (λ _. fails_making name (told self.old).listed ≡ false) }
+        ensures behind { MatchResult result (λ _. (told self.new).behind ≡ (told self.old).behind) (RaisesBehind (fails_making name (told self.old).listed) (told self.old).behind (told self.new).behind) }
         ensures planned { IfSome (told self.old).plan (λ plan. MatchResult result (λ _. fails_making name plan ≡ false) (λ e. e ≡ MakeFault.PageFault → fails_making name plan ≡ true)) };
 
     /// Stands for making the file behind the image of a memory of the module `id`. `len` is that of the image.
@@ -58,8 +62,10 @@ pub trait PageMaker {
         memory: u32,
         len: HostAlignedByteCount,
     ) -> Result<(), MakeFault>
-        ensures maker { told self.new ≡ record (told self.old) { faults = (told self.new).faults } }
+        ensures maker { told self.new ≡ record (told self.old) { behind = (told self.new).behind; faults = (told self.new).faults } }
         ensures faults { MatchResult result (λ _. (told self.new).faults ≡ (told self.old).faults) (RaisesFaults (told self.old).faults (told self.new).faults) }
+        ensures listed { IfOk result (λ _. fails_images id (told self.old).listed ≡ false) }
+        ensures behind { MatchResult result (λ _. (told self.new).behind ≡ (told self.old).behind) (RaisesBehind (fails_images id (told self.old).listed) (told self.old).behind (told self.new).behind) }
         ensures planned { IfSome (told self.old).plan (λ plan. MatchResult result (λ _. fails_images id plan ≡ false) (λ e. e ≡ MakeFault.PageFault → fails_images id plan ≡ true)) };
 }
 

@@ -57,6 +57,7 @@ impl PageMaker for MemoryPages {
     ghost told = { λ m. m };
 
     fn faults(&self) -> u64 {
+        // a field is read so that the prover knows the view
         let _page = &self.page;
         0
     }
@@ -91,6 +92,7 @@ impl PageMaker for MemoryPages {
         _memory: u32,
         _len: HostAlignedByteCount,
     ) -> Result<(), MakeFault> {
+        // likewise
         let _page = &self.page;
         Ok(())
     }

@@ -80,6 +80,7 @@ impl Pages for MemoryRegion {
     }
 
     fn faults(&self) -> u64 {
+        // a field is read so that the prover knows the view
         let _made = self.made;
         0
     }
@@ -89,6 +90,7 @@ impl Pages for MemoryRegion {
     }
 
     fn behaviour(&self) -> DecommitBehavior {
+        // likewise
         let _made = self.made;
         DecommitBehavior::RestoreOriginalMapping
     }
@@ -206,6 +208,10 @@ impl Pages for MemoryRegion {
 
     fn read(&self, at: usize, out: &mut [u8]) {
         self.pages.read(at, out);
+    }
+
+    fn holds(&self, at: usize, bytes: &[u8]) -> bool {
+        self.pages.holds(at, bytes)
     }
 
     fn write(&mut self, at: usize, bytes: &[u8]) {

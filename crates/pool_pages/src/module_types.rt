@@ -4,6 +4,8 @@ ghost use Rattle.pool_pages.specs.MemoryTypes.{minimum_byte_size, maximum_byte_s
 
 use crate::byte_count::PageSize;
 use crate::plain_list::{ByteList, PlainList};
+use crate::table_type::TableType;
+use crate::text::Text;
 use crate::unsupported::Unsupported;
 
 /// The name of a compiled module: its number in the input.
@@ -13,6 +15,10 @@ pub struct CompiledModuleId(pub u64);
 /// The number of a memory among those that a module defines.
 #[derive(Clone, Copy, Debug, PartialEq, Eq, PartialOrd, Ord, Hash)]
 pub struct DefinedMemoryIndex(pub u32);
+
+/// The number of a table among those that a module defines.
+#[derive(Clone, Copy, Debug, PartialEq, Eq, PartialOrd, Ord, Hash)]
+pub struct DefinedTableIndex(pub u32);
 
 /// The type of the addresses of a memory or table.
 #[derive(Clone, Copy, Debug, PartialEq, Eq)]
@@ -158,10 +164,34 @@ pub struct MemoryDecl {
     pub image: Option<ImageDecl>,
 }
 
-/// What the allocator has to know of a compiled module.
+/// A part of the state of an instance, such as its imports.
+#[derive(Debug, Drop)]
+pub struct Part {
+    pub name: Text,
+    pub bytes: u64,
+}
+
+/// What the allocator has to know of a compiled module. An instance takes `state_bytes` and the bytes of all parts.
 #[derive(Debug, Drop)]
 pub struct ModuleInfo {
     pub memories: PlainList<MemoryDecl>,
+    pub tables: PlainList<TableType>,
+    /// What the runtime itself keeps of an instance, in bytes.
+    pub state_bytes: u64,
+    pub parts: PlainList<Part>,
+}
+
+/// What the allocator has to know of a compiled component: how many things all its instances have together, and how
+/// many bytes they take.
+#[derive(Clone, Copy, Debug, PartialEq, Eq)]
+pub struct ComponentInfo {
+    pub core_instances: u64,
+    pub memories: u64,
+    pub tables: u64,
+    /// What its core instances take.
+    pub core_bytes: u64,
+    /// What the component takes beside them.
+    pub own_bytes: u64,
 }
 
 /// What a linear memory is for.

@@ -1,4 +1,4 @@
-ghost use Rattle.std.specs.Prelude.{◌≡◌, ℕ, ◌+◌, ◌/◌, ◌<◌, ◌≤◌, true, List, length, replicate, slice_range, slice_index_or, is_ok, OnOk, OnErr, IfSome};
+ghost use Rattle.std.specs.Prelude.{◌≡◌, ℕ, ◌+◌, ◌/◌, ◌<◌, ◌≤◌, true, List, length, replicate, slice_range, slice_index_or, is_ok, OnOk, OnErr, IfSome, IsTrue, ◌↔◌};
 ghost use Rattle.pool_pages.specs.Count.{count, IsPageSize};
 ghost use Rattle.pool_pages.specs.Contents.{CanReach, HasNoOtherImage};
 ghost use Rattle.pool_pages.specs.Told.{Told, IsRange, Faulted, succeeded, TellsShaped, overwritten, restored, passes, exposing, hiding, mapping, remapping, erasing, recolouring, decommitting};
@@ -166,6 +166,13 @@ pub trait Pages: Drop {
         requires inside { at + length out.old ≤ (told self.now).len }
         requires reachable { IfSome (told self.now).contents (CanReach at (length out.old)) }
         ensures { IfSome (told self.now).contents (λ c. out.new ≡ slice_range c.bytes at (at + length out.old)) };
+
+    /// Whether the bytes from `at` on are these. They are compared where they lie. It is no page call: it
+    /// can't fail and isn't counted.
+    fn holds(&self, at: usize, bytes: &[u8]) -> bool
+        requires inside { at + length bytes.now ≤ (told self.now).len }
+        requires reachable { IfSome (told self.now).contents (CanReach at (length bytes.now)) }
+        ensures { IfSome (told self.now).contents (λ c. IsTrue result ↔ (slice_range c.bytes at (at + length bytes.now) ≡ bytes.now)) };
 
     /// Writes the bytes from `at` on. The touched pages are dirty.
     fn write(&mut self, at: usize, bytes: &[u8])

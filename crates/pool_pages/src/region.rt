@@ -1,4 +1,4 @@
-ghost use Rattle.std.specs.Prelude.{◌≡◌, ℕ, ◌+◌, ◌/◌, ◌<◌, ◌≤◌, true, List, length, replicate, slice_range, slice_index_or, is_ok, OnOk, OnErr, IfSome};
+ghost use Rattle.std.specs.Prelude.{◌≡◌, ℕ, ◌+◌, ◌/◌, ◌<◌, ◌≤◌, true, List, length, replicate, slice_range, slice_index_or, is_ok, OnOk, OnErr, IfSome, IsTrue, ◌↔◌};
 ghost use Rattle.pool_pages.specs.Count.{count, IsPageSize};
 ghost use Rattle.pool_pages.specs.Contents.{CanReach, HasNoOtherImage};
 ghost use Rattle.pool_pages.specs.Told.{Told, IsRange, Faulted, succeeded, TellsShaped, overwritten, restored, passes, exposing, hiding, mapping, remapping, erasing, recolouring, decommitting};
@@ -200,6 +200,14 @@ impl<P: Pages> PageRegion<P> {
         ensures { IfSome self.now.contents (λ c. out.new ≡ slice_range c.bytes at (at + length out.old)) }
     {
         self.pages.read(at, out)
+    }
+
+    pub fn holds(&self, at: usize, bytes: &[u8]) -> bool
+        requires inside { at + length bytes.now ≤ self.now.len }
+        requires reachable { IfSome self.now.contents (CanReach at (length bytes.now)) }
+        ensures { IfSome self.now.contents (λ c. IsTrue result ↔ (slice_range c.bytes at (at + length bytes.now) ≡ bytes.now)) }
+    {
+        self.pages.holds(at, bytes)
     }
 
     pub fn write(&mut self, at: usize, bytes: &[u8])

@@ -1,6 +1,8 @@
-ghost use Rattle.std.specs.Prelude.{◌≡◌, Some, false, IfOk};
-ghost use Rattle.pool_pages.specs.UnsupportedTexts.{used_text, unsupported_text, has_breakdown};
+ghost use Rattle.std.specs.Prelude.{◌≡◌, Some, true, IfOk, IsSome, option_map};
+ghost use Rattle.pool_pages.specs.UnsupportedTexts.{used_text, unsupported_text, whole_text, has_breakdown};
 
+use crate::breakdown::push_breakdown;
+use crate::module_types::ModuleInfo;
 use crate::numerals::Hexadecimal;
 use crate::text::Text;
 use std::alloc::{AllocError, Global};
@@ -222,11 +224,16 @@ impl Unsupported {
         matches!(self, Unsupported::InstanceSize { size: _, limit: _ })
     }
 
-    /// The text of one that lists no parts; empty where it has none.
-    pub fn text(&self, alloc: Global) -> Result<Text, AllocError>
-        requires { has_breakdown self.now ≡ false }
-        ensures { IfOk result (λ text. text ≡ unsupported_text self.now) }
+    /// The text; empty where it has none. That of an instance which is too large lists the parts of the module, which has
+    /// to be given then; otherwise it isn't looked at.
+    pub fn text(&self, alloc: Global, info: Option<&ModuleInfo>) -> Result<Text, AllocError>
+        requires given { has_breakdown self.now ≡ true → IsSome info }
+        ensures { IfOk result (λ text. text ≡ whole_text self.now (option_map (λ i. i.now) info.entry)) }
     {
-        Ok(Text::from_string(self.to_string(alloc)?))
+        let mut text = self.to_string(alloc)?;
+        if let (Unsupported::InstanceSize { size, limit: _ }, Some(info)) = (*self, info) {
+            push_breakdown(&mut text, size, info)?;
+        }
+        Ok(Text::from_string(text))
     }
 }

@@ -60,6 +60,7 @@ impl Pages for ZeroingRegion {
     }
 
     fn behaviour(&self) -> DecommitBehavior {
+        // a field is read so that the prover knows the view
         let _region = &self.region;
         DecommitBehavior::Zero
     }
@@ -132,6 +133,10 @@ impl Pages for ZeroingRegion {
 
     fn read(&self, at: usize, out: &mut [u8]) {
         self.region.read(at, out)
+    }
+
+    fn holds(&self, at: usize, bytes: &[u8]) -> bool {
+        self.region.holds(at, bytes)
     }
 
     fn write(&mut self, at: usize, bytes: &[u8]) {

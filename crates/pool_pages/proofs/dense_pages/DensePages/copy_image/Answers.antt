@@ -1,24 +1,24 @@
-use Rattle.std.proofs.Common.{length, refl, vec_capacity}
+use Rattle.std.proofs.Common.{length, refl}
 use Rattle.pool_pages.proofs.DenseCalls.{range_fits, copied_again}
 use Rattle.pool_pages.proofs.dense_pages.DensePages.copy_image.Goals as goal
 
 pub set_marks-requires : goal.set_marks-requires
 set_marks-requires c =
-    (range_fits c.self.inside.page c.get-page.result (vec_capacity c.self.inside.prefix) c.self.inside.bytes.items c.self.inside.prefix.items c.self.inside.accessible.items c.self.inside.dirty.items c.self.inside.colour.items c.args.self.now c.get-page.ensures.value c.self.view_is c.self.invariant c.get-page.ensures.valid c.args.start (length c.args.image.now) c.requires.start c.requires.len c.requires.inside).0
+    (range_fits c.self.inside.page c.get-page.result c.self.inside.bytes c.self.inside.origin c.self.inside.accessible.items c.self.inside.dirty.items c.self.inside.colour.items c.args.self.now c.get-page.ensures.value c.self.view_is c.self.invariant c.get-page.ensures.valid c.args.start (length c.args.image.now) c.requires.start c.requires.len c.requires.inside).0
 
 pub set_marks-requires-2 : goal.set_marks-requires-2
 set_marks-requires-2 c =
-    (range_fits c.self.inside.page c.get-page.result (vec_capacity c.self.inside.prefix) c.self.inside.bytes.items c.self.inside.prefix.items c.self.inside.accessible.items c.self.inside.dirty.items c.self.inside.colour.items c.args.self.now c.get-page.ensures.value c.self.view_is c.self.invariant c.get-page.ensures.valid c.args.start (length c.args.image.now) c.requires.start c.requires.len c.requires.inside).1
+    (range_fits c.self.inside.page c.get-page.result c.self.inside.bytes c.self.inside.origin c.self.inside.accessible.items c.self.inside.dirty.items c.self.inside.colour.items c.args.self.now c.get-page.ensures.value c.self.view_is c.self.invariant c.get-page.ensures.valid c.args.start (length c.args.image.now) c.requires.start c.requires.len c.requires.inside).1
 
 pub fill_range-requires : goal.fill_range-requires
 fill_range-requires c =
-    (range_fits c.self.inside.page c.get-page.result (vec_capacity c.self.inside.prefix) c.self.inside.bytes.items c.self.inside.prefix.items c.self.inside.accessible.items c.self.inside.dirty.items c.self.inside.colour.items c.args.self.now c.get-page.ensures.value c.self.view_is c.self.invariant c.get-page.ensures.valid c.args.start (length c.args.image.now) c.requires.start c.requires.len c.requires.inside).2
+    (range_fits c.self.inside.page c.get-page.result c.self.inside.bytes c.self.inside.origin c.self.inside.accessible.items c.self.inside.dirty.items c.self.inside.colour.items c.args.self.now c.get-page.ensures.value c.self.view_is c.self.invariant c.get-page.ensures.valid c.args.start (length c.args.image.now) c.requires.start c.requires.len c.requires.inside).2
 
 pub invariant_of-self : goal.invariant_of-self
 invariant_of-self c =
-    copied_again c.self.inside.page c.get-page.result (vec_capacity c.self.inside.prefix) c.self.inside.bytes.items c.self.inside.prefix.items c.self.inside.accessible.items c.self.inside.dirty.items c.self.inside.colour.items c.args.self.now c.get-page.ensures.value c.self.view_is c.self.invariant c.get-page.ensures.valid c.args.start (length c.args.image.now) c.requires.start c.requires.len c.requires.inside
-    c.args.image.now c.overwrite.new.bytes.items c.set_marks.new.marks.items c.set_marks-2.new.marks.items c.fill_range.new.bytes.items
-    refl c.overwrite.ensures.items c.set_marks.ensures c.set_marks-2.ensures c.fill_range.ensures.items
+    copied_again c.self.inside.page c.get-page.result c.self.inside.bytes c.self.inside.origin c.self.inside.accessible.items c.self.inside.dirty.items c.self.inside.colour.items c.args.self.now c.get-page.ensures.value c.self.view_is c.self.invariant c.get-page.ensures.valid c.args.start (length c.args.image.now) c.requires.start c.requires.len c.requires.inside
+    c.args.image.now c.put.new.self c.set_marks.new.marks.items c.set_marks-2.new.marks.items c.fill_range.new.bytes.items
+    refl c.put.ensures c.set_marks.ensures c.set_marks-2.ensures c.fill_range.ensures.items
 
 pub returns-clause-shaped : goal.returns-clause-shaped
-returns-clause-shaped c = (invariant_of-self c).shaped
+returns-clause-shaped c = invariant_of-self c

@@ -1,14 +1,13 @@
-use Rattle.std.proofs.Common.{vec_capacity}
 use Rattle.pool_pages.proofs.DenseCalls.{range_fits, access_again}
 use Rattle.pool_pages.proofs.dense_pages.DensePages.set_access.Goals as goal
 
 pub set_marks-requires : goal.set_marks-requires
 set_marks-requires c =
-    (range_fits c.self.inside.page c.get-page.result (vec_capacity c.self.inside.prefix) c.self.inside.bytes.items c.self.inside.prefix.items c.self.inside.accessible.items c.self.inside.dirty.items c.self.inside.colour.items c.args.self.now c.get-page.ensures.value c.self.view_is c.self.invariant c.get-page.ensures.valid c.args.start c.args.len c.requires.start c.requires.len c.requires.inside).0
+    (range_fits c.self.inside.page c.get-page.result c.self.inside.bytes c.self.inside.origin c.self.inside.accessible.items c.self.inside.dirty.items c.self.inside.colour.items c.args.self.now c.get-page.ensures.value c.self.view_is c.self.invariant c.get-page.ensures.valid c.args.start c.args.len c.requires.start c.requires.len c.requires.inside).0
 
 pub invariant_of-self : goal.invariant_of-self
 invariant_of-self c =
-    access_again c.self.inside.page c.get-page.result (vec_capacity c.self.inside.prefix) c.self.inside.bytes.items c.self.inside.prefix.items c.self.inside.accessible.items c.self.inside.dirty.items c.self.inside.colour.items c.args.self.now c.get-page.ensures.value c.self.view_is c.self.invariant c.get-page.ensures.valid c.args.start c.args.len c.requires.start c.requires.len c.requires.inside c.args.value c.set_marks.new.marks.items c.set_marks.ensures
+    access_again c.self.inside.page c.get-page.result c.self.inside.bytes c.self.inside.origin c.self.inside.accessible.items c.self.inside.dirty.items c.self.inside.colour.items c.args.self.now c.get-page.ensures.value c.self.view_is c.self.invariant c.get-page.ensures.valid c.args.start c.args.len c.requires.start c.requires.len c.requires.inside c.args.value c.set_marks.new.marks.items c.set_marks.ensures
 
 pub returns-clause-shaped : goal.returns-clause-shaped
-returns-clause-shaped c = (invariant_of-self c).shaped
+returns-clause-shaped c = invariant_of-self c

@@ -1,4 +1,4 @@
-use Rattle.std.proofs.Common.{is_ok, length, sym}
+use Rattle.std.proofs.Common.{is_ok, sym, length}
 use Rattle.pool_pages.proofs.FailingCalls.{refused_planned, passed_planned}
 use Rattle.pool_pages.proofs.failing.FailingPages.map_image.Goals as goal
 
@@ -6,11 +6,11 @@ pub returns-then-not-lets_through-clause-planned : goal.returns-then-not-lets_th
 returns-then-not-lets_through-clause-planned g c =
     let region = g.R.Pages.told c.args.self.now.region in
     refused_planned region.plan c.args.self.now.plan region.made c.args.self.now.counts.made (length c.args.image.now.bytes)
-    (sym (rw (c.as_slice.ensures, c.as_slice-len.ensures.value) at c.if-not-lets_through.ensures))
+    (sym (rw c.as_slice-bytes.ensures.value at c.if-not-lets_through.ensures))
 
 pub returns-clause-planned : goal.returns-clause-planned
 returns-clause-planned g c =
     let region = g.R.Pages.told c.args.self.now.region in
-    passed_planned (is_ok c.map_image-result.result) region.plan c.args.self.now.plan region.made c.args.self.now.counts.made (length c.args.image.now.bytes)
-    (sym (rw (c.as_slice.ensures, c.as_slice-len.ensures.value) at c.if-not-lets_through.ensures))
-    c.map_image-result.ensures.planned
+    passed_planned (is_ok c.map_image-made.result) region.plan c.args.self.now.plan region.made c.args.self.now.counts.made (length c.args.image.now.bytes)
+    (sym (rw c.as_slice-bytes.ensures.value at c.if-not-lets_through.ensures))
+    c.map_image-made.ensures.planned

@@ -6,11 +6,11 @@ pub returns-then-not-lets_through-clause-planned : goal.returns-then-not-lets_th
 returns-then-not-lets_through-clause-planned g c =
     let region = g.R.Pages.told c.args.self.now.region in
     refused_planned region.plan c.args.self.now.plan region.made c.args.self.now.counts.made c.args.len.bytes
-    (sym (rw (c.as_slice.ensures, c.byte_count-bytes.ensures.value) at c.if-not-lets_through.ensures))
+    (sym (rw c.byte_count-bytes.ensures.value at c.if-not-lets_through.ensures))
 
 pub returns-clause-planned : goal.returns-clause-planned
 returns-clause-planned g c =
     let region = g.R.Pages.told c.args.self.now.region in
-    passed_planned (is_ok c.remap_zeros-result.result) region.plan c.args.self.now.plan region.made c.args.self.now.counts.made c.args.len.bytes
-    (sym (rw (c.as_slice.ensures, c.byte_count-bytes.ensures.value) at c.if-not-lets_through.ensures))
-    c.remap_zeros-result.ensures.planned
+    passed_planned (is_ok c.remap_zeros-made.result) region.plan c.args.self.now.plan region.made c.args.self.now.counts.made c.args.len.bytes
+    (sym (rw c.byte_count-bytes.ensures.value at c.if-not-lets_through.ensures))
+    c.remap_zeros-made.ensures.planned

@@ -1,0 +1,8 @@
+use Rattle.std.proofs.Common.{sym, ap, ◌∙◌, ◌==◌}
+use Rattle.std.specs.List.{list_any}
+use Rattle.pool_pages.proofs.call_plan.CallPlan.lists.Goals as goal
+
+pub returns-then-number-self : goal.returns-then-number-self
+returns-then-number-self c =
+    sym (c.self.invariant c.args.number c.if-self-number.true c.if-number-self.true)
+    ∙ ap (list_any (λ n. n == c.args.number)) c.self.view_is
