@@ -1,5 +1,7 @@
 -- When a memory or a table may grow, and what comes of a growth that fails.
 use Rattle.std.specs.Prelude.{ℕ, nat_le, Bool, true, false, ◌&&◌, Option, Some, None, Result, Ok, Err}
+use Rattle.pool_limits.specs.declared.growing.Growable.{Growable}
+use Rattle.pool_limits.specs.declared.growing.Growable.TheVariants.{Memory, Table}
 use Rattle.pool_limits.specs.declared.errors.LimiterError.{LimiterError}
 use Rattle.pool_limits.specs.declared.errors.LimiterError.TheVariants.{MemoryGrow, TableGrow, MemoryGrowFailed, TableGrowFailed}
 
@@ -57,3 +59,12 @@ abbrev pub table_failure : Option GrowthRule → Result (Unit {0}) LimiterError 
 table_failure None given = given
 table_failure (Some always) given = Ok tt
 table_failure (Some (limited_by l)) given = failure_answer l.trap_on_grow_failure TableGrowFailed
+
+-- the same for either, by what is to grow
+abbrev pub answer_by : Growable → Option GrowthRule → Result Bool LimiterError → ℕ → Option ℕ → Result Bool LimiterError
+answer_by Memory rule given desired maximum = memory_answer rule given desired maximum
+answer_by Table rule given desired maximum = table_answer rule given desired maximum
+
+abbrev pub failure_by : Growable → Option GrowthRule → Result (Unit {0}) LimiterError → Result (Unit {0}) LimiterError
+failure_by Memory rule given = memory_failure rule given
+failure_by Table rule given = table_failure rule given

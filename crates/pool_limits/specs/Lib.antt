@@ -1,3 +1,5 @@
+pub mod Exchanges
+pub mod Growing
 pub mod Growth
 pub mod LimiterTold
 pub mod StoreLimits

@@ -23,8 +23,8 @@ pub record LimiterTold : Type 0 where
   pub quotas : Quotas
   pub counts : LimiterCounts
 
-abbrev pub no_counts : LimiterCounts
-no_counts = record { noes = 0; errors = 0 }
+abbrev pub no_refusals : LimiterCounts
+no_refusals = record { noes = 0; errors = 0 }
 
 -- the quotas where none are set
 abbrev pub default_quotas : Quotas
@@ -46,16 +46,16 @@ counts_after_report (Ok u) c = c
 counts_after_report (Err e) c = with_error c
 
 -- a limiter after it gave this answer
-abbrev pub answered : Result Bool LimiterError → LimiterTold → LimiterTold
-answered answer t = record t { counts = counts_after answer t.counts }
+abbrev pub after_answer : Result Bool LimiterError → LimiterTold → LimiterTold
+after_answer answer t = record t { counts = counts_after answer t.counts }
 
 -- a limiter after it was told of a failure, and gave this answer
-abbrev pub reported : Result (Unit {0}) LimiterError → LimiterTold → LimiterTold
-reported answer t = record t { counts = counts_after_report answer t.counts }
+abbrev pub after_report : Result (Unit {0}) LimiterError → LimiterTold → LimiterTold
+after_report answer t = record t { counts = counts_after_report answer t.counts }
 
 -- what stands for a limiter where there is none
 abbrev pub unlimited : LimiterTold
-unlimited = record { rule = Some always; quotas = default_quotas; counts = no_counts }
+unlimited = record { rule = Some always; quotas = default_quotas; counts = no_refusals }
 
 -- what a limiter tells that keeps all but its answers to growth at the defaults
 abbrev pub told_by_default : LimiterCounts → LimiterTold

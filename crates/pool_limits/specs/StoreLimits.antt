@@ -1,7 +1,7 @@
 -- The limits of a store.
 use Rattle.std.specs.Prelude.{◌≡◌, false, None, Some}
 use Rattle.pool_limits.specs.Growth.{GrowthLimits, limited_by}
-use Rattle.pool_limits.specs.LimiterTold.{LimiterCounts, Quotas, LimiterTold, no_counts, default_quotas}
+use Rattle.pool_limits.specs.LimiterTold.{LimiterCounts, Quotas, LimiterTold, no_refusals, default_quotas}
 
 -- fixed limits on growth, quotas, and how often growth was refused
 pub record Limits : Type 0 where
@@ -14,7 +14,7 @@ abbrev pub default_limits : Limits
 default_limits = record {
   growth = record { memory_size = None; table_elements = None; trap_on_grow_failure = false };
   quotas = default_quotas;
-  counts = no_counts;
+  counts = no_refusals;
 }
 
 abbrev pub IsDefault : Limits → Type 0

@@ -2,14 +2,14 @@
 #![tactic(auto)]
 
 mod errors;
-#[cfg(test)]
-mod limit_tests;
+mod growing;
 mod resource_limiter;
 mod store_limits;
 
 pub use errors::{GrowError, GrowFault, LimiterError, Trap, WaitResult};
+pub use growing::{Growable, report_failure};
 pub use resource_limiter::{
     DEFAULT_INSTANCE_LIMIT, DEFAULT_MEMORY_LIMIT, DEFAULT_TABLE_LIMIT, GrowthLimiter,
-    ResourceLimiter, Unlimited, memory_may_grow, table_may_grow,
+    ResourceLimiter, Unlimited,
 };
 pub use store_limits::{StoreLimits, StoreLimitsBuilder};

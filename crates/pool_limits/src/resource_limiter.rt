@@ -1,8 +1,8 @@
-ghost use Rattle.std.specs.Prelude.{◌≡◌, ℕ, Bool, Option, Result, IsOk};
-ghost use Rattle.std.specs.Option.{option_copied_mut};
-ghost use Rattle.pool_limits.specs.declared.errors.LimiterError.{LimiterError};
+ghost use Rattle.std.specs.Prelude.{◌≡◌, Ok};
+ghost use Rattle.pool_limits.specs.declared.growing.Growable.TheVariants.{Memory, Table};
 ghost use Rattle.pool_limits.specs.Growth.{memory_answer, table_answer, memory_failure, table_failure};
-ghost use Rattle.pool_limits.specs.LimiterTold.{LimiterCounts, LimiterTold, counts_after, answered, reported, told_by_default, unlimited, limiter_told, option_left};
+ghost use Rattle.pool_limits.specs.LimiterTold.{LimiterCounts, LimiterTold, counts_after, after_answer, after_report, told_by_default, unlimited};
+ghost use Rattle.pool_limits.specs.Exchanges.{Exchange, may_grow, has_failed, question_of, HeedsGrowth};
 
 use crate::errors::{GrowError, LimiterError};
 
@@ -27,6 +27,10 @@ pub const DEFAULT_MEMORY_LIMIT: usize = 10_000;
 pub trait ResourceLimiter: Send {
     ghost told: { Self → LimiterTold };
 
+    // Which state a question with this answer, or the report of a failure with this answer, may lead to. Code that is
+    // written for every limiter can show that it asked something only by asking it.
+    ghost leads: { Self → Exchange → Self → Type 0 } = { λ _ _ _. Unit {0} };
+
     /// Whether a memory of size `current` may grow to `desired`. Its type's greatest size is `maximum`.
     fn memory_growing(
         &mut self,
@@ -35,12 +39,14 @@ pub trait ResourceLimiter: Send {
         maximum: Option<usize>,
     ) -> Result<bool, LimiterError>
         ensures answer { result ≡ memory_answer (told self.old).rule result desired maximum }
-        ensures left { told self.new ≡ answered result (told self.old) };
+        ensures left { told self.new ≡ after_answer result (told self.old) }
+        ensures exchange { leads self.old (may_grow (question_of Memory current desired maximum) result) self.new };
 
     /// The growth of a memory failed. An error makes a trap of it.
     fn memory_grow_failed(&mut self, error: GrowError) -> Result<(), LimiterError>
         ensures answer { result ≡ memory_failure (told self.old).rule result }
-        ensures left { told self.new ≡ reported result (told self.old) };
+        ensures left { told self.new ≡ after_report result (told self.old) }
+        ensures exchange { leads self.old (has_failed Memory error result) self.new };
 
     /// Whether a table of size `current` may grow to `desired`. The greatest size is `maximum`.
     fn table_growing(
@@ -50,12 +56,14 @@ pub trait ResourceLimiter: Send {
         maximum: Option<usize>,
     ) -> Result<bool, LimiterError>
         ensures answer { result ≡ table_answer (told self.old).rule result desired maximum }
-        ensures left { told self.new ≡ answered result (told self.old) };
+        ensures left { told self.new ≡ after_answer result (told self.old) }
+        ensures exchange { leads self.old (may_grow (question_of Table current desired maximum) result) self.new };
 
     /// The growth of a table failed. An error makes a trap of it.
     fn table_grow_failed(&mut self, error: GrowError) -> Result<(), LimiterError>
         ensures answer { result ≡ table_failure (told self.old).rule result }
-        ensures left { told self.new ≡ reported result (told self.old) };
+        ensures left { told self.new ≡ after_report result (told self.old) }
+        ensures exchange { leads self.old (has_failed Table error result) self.new };
 
     /// How many instances a host may make for the store.
     fn instances(&self) -> usize
@@ -83,10 +91,8 @@ pub trait ResourceLimiter: Send {
 pub trait GrowthLimiter: Send {
     ghost counts: { Self → LimiterCounts };
 
-    // What may be the answer to a size, a wanted size and a maximum, and what it leaves, where that is told.
-    ghost memory_gives: { Self → ℕ → ℕ → Option ℕ → Result Bool LimiterError → Self → Type 0 } = { λ _ _ _ _ _ _. Unit {0} };
-
-    ghost table_gives: { Self → ℕ → ℕ → Option ℕ → Result Bool LimiterError → Self → Type 0 } = { λ _ _ _ _ _ _. Unit {0} };
+    // As `ResourceLimiter::leads`. Failures aren't reported to it.
+    ghost heeds: { Self → Exchange → Self → Type 0 } = { λ _ _ _. Unit {0} };
 
     /// As `ResourceLimiter::memory_growing`.
     fn may_grow_memory(
@@ -95,7 +101,7 @@ pub trait GrowthLimiter: Send {
         desired: usize,
         maximum: Option<usize>,
     ) -> Result<bool, LimiterError>
-        ensures answer { memory_gives self.old current desired maximum result self.new }
+        ensures exchange { heeds self.old (may_grow (question_of Memory current desired maximum) result) self.new }
         ensures left { counts self.new ≡ counts_after result (counts self.old) };
 
     /// As `ResourceLimiter::table_growing`.
@@ -105,7 +111,7 @@ pub trait GrowthLimiter: Send {
         desired: usize,
         maximum: Option<usize>,
     ) -> Result<bool, LimiterError>
-        ensures answer { table_gives self.old current desired maximum result self.new }
+        ensures exchange { heeds self.old (may_grow (question_of Table current desired maximum) result) self.new }
         ensures left { counts self.new ≡ counts_after result (counts self.old) };
 
     /// As `ResourceLimiter::noes`.
@@ -120,20 +126,22 @@ pub trait GrowthLimiter: Send {
 impl<L: GrowthLimiter> ResourceLimiter for L {
     ghost told = { λ l. told_by_default (L.counts l) };
 
+    ghost leads = { λ old exchange new. HeedsGrowth L.heeds old exchange new };
+
     fn memory_growing(
         &mut self,
         current: usize,
         desired: usize,
         maximum: Option<usize>,
     ) -> Result<bool, LimiterError>
-        ensures answer { L.memory_gives self.old current desired maximum result self.new }
+        ensures exchange { L.heeds self.old (may_grow (question_of Memory current desired maximum) result) self.new }
         ensures left { L.counts self.new ≡ counts_after result (L.counts self.old) }
     {
         self.may_grow_memory(current, desired, maximum)
     }
 
     fn memory_grow_failed(&mut self, _error: GrowError) -> Result<(), LimiterError>
-        ensures ok { IsOk result }
+        ensures ok { result ≡ Ok tt }
         ensures same { self.new ≡ self.old }
     {
         Ok(())
@@ -145,14 +153,14 @@ impl<L: GrowthLimiter> ResourceLimiter for L {
         desired: usize,
         maximum: Option<usize>,
     ) -> Result<bool, LimiterError>
-        ensures answer { L.table_gives self.old current desired maximum result self.new }
+        ensures exchange { L.heeds self.old (may_grow (question_of Table current desired maximum) result) self.new }
         ensures left { L.counts self.new ≡ counts_after result (L.counts self.old) }
     {
         self.may_grow_table(current, desired, maximum)
     }
 
     fn table_grow_failed(&mut self, _error: GrowError) -> Result<(), LimiterError>
-        ensures ok { IsOk result }
+        ensures ok { result ≡ Ok tt }
         ensures same { self.new ≡ self.old }
     {
         Ok(())
@@ -230,37 +238,5 @@ impl ResourceLimiter for Unlimited {
 
     fn errors(&self) -> u64 {
         0
-    }
-}
-
-/// Asks the limiter whether a memory may grow. Without one it may.
-pub fn memory_may_grow<R: ResourceLimiter>(
-    limiter: Option<&mut R>,
-    current: usize,
-    desired: usize,
-    maximum: Option<usize>,
-) -> Result<bool, LimiterError>
-    ensures answer { result ≡ memory_answer (limiter_told R.told (option_copied_mut limiter.entry)).rule result desired maximum }
-    ensures left { limiter_told R.told (option_left limiter.exit) ≡ answered result (limiter_told R.told (option_copied_mut limiter.entry)) }
-{
-    match limiter {
-        Some(limiter) => limiter.memory_growing(current, desired, maximum),
-        None => Unlimited.memory_growing(current, desired, maximum),
-    }
-}
-
-/// Asks the limiter whether a table may grow. Without one it may.
-pub fn table_may_grow<R: ResourceLimiter>(
-    limiter: Option<&mut R>,
-    current: usize,
-    desired: usize,
-    maximum: Option<usize>,
-) -> Result<bool, LimiterError>
-    ensures answer { result ≡ table_answer (limiter_told R.told (option_copied_mut limiter.entry)).rule result desired maximum }
-    ensures left { limiter_told R.told (option_left limiter.exit) ≡ answered result (limiter_told R.told (option_copied_mut limiter.entry)) }
-{
-    match limiter {
-        Some(limiter) => limiter.table_growing(current, desired, maximum),
-        None => Unlimited.table_growing(current, desired, maximum),
     }
 }

@@ -1,42 +1,24 @@
--- Each way that a growth can go.
+-- Each way that a growth of a memory can go.
 use Rattle.std.proofs.Common.{◌≡◌, ◌≢◌, ℕ, Bool, true, false, refl, sym, ap, ◌∙◌, subst, arith, Option, Some, None, Result, Ok, Err}
 use Rattle.std.specs.Prelude.{◌==◌, not}
 use Rattle.std.proofs.lemmas.Bool.{eq-eqb}
 use Rattle.std.proofs.lemmas.Bool.Decides.{nat_tests}
 use Rattle.pool_pages.specs.MemoryTypes.{allow_growth_to}
-use Rattle.pool_limits.specs.Growth.{GrowthRule, always, limited_by, memory_answer, memory_failure}
-use Rattle.pool_limits.specs.LimiterTold.{LimiterTold, answered, reported}
+use Rattle.pool_limits.specs.Growth.{memory_answer, memory_failure}
+use Rattle.pool_limits.specs.LimiterTold.{LimiterTold, limiter_told, after_answer, after_report}
+use Rattle.pool_limits.specs.Exchanges.{GrowthQuestion, Exchange, may_grow, has_failed, Exchanged}
+use Rattle.pool_limits.specs.Growing.{Obstacles, GrowthGiven, growth_exchanges, IsRuled, result_by, answer_result, allowed_result, report_result, is_want_of_memory, report_seen}
+use Rattle.pool_limits.specs.declared.growing.Growable.TheVariants.{Memory}
 use Rattle.pool_limits.specs.declared.errors.LimiterError.{LimiterError}
 use Rattle.pool_limits.specs.declared.errors.GrowError.{GrowError}
 use Rattle.pool_limits.specs.declared.errors.GrowError.TheVariants as failed
 use Rattle.pool_limits.specs.declared.errors.GrowFault.{GrowFault}
 use Rattle.pool_limits.specs.declared.errors.GrowFault.TheVariants as fault
+use Rattle.pool_limits.proofs.Ruled.{unasked, ruled_nothing, ruled_past_type, ruled_error, ruled_no, ruled_yes, allowed_grown, allowed_past, allowed_failed}
 use Rattle.pool_memory.specs.Linear.{Linear}
 use Rattle.pool_memory.specs.Making.{maximum_asked}
 use Rattle.pool_memory.specs.Memories.{MemoryState}
-use Rattle.pool_memory.specs.Growing.{Obstacles, obstacles, Given, IsGrowth, IsAllowedGrowth, GrowthLeaves, AskedPages, growth_reply, reply_by, answer_reply, report_reply, told_of_answer, limiter_left, grown_size, past_room, is_memory, report_seen, first_of}
-
--- What a limiter may answer that isn't asked: what its rule says, or yes.
-answer_fits : (rule : Option GrowthRule) (size : ℕ) (most : Option ℕ) → memory_answer rule (Ok true) size most ≡ memory_answer rule (memory_answer rule (Ok true) size most) size most
-answer_fits None size most = refl
-answer_fits (Some always) size most = refl
-answer_fits (Some (limited_by l)) size most = refl
-
-report_fits : (rule : Option GrowthRule) → memory_failure rule (Ok tt) ≡ memory_failure rule (memory_failure rule (Ok tt))
-report_fits None = refl
-report_fits (Some always) = refl
-report_fits (Some (limited_by l)) = refl
-
-growth_of : {X : Type 0} (pages : ℕ) (x : X) (old new : MemoryState) (t u : LimiterTold) (r : Result (Option X) GrowFault) (o : Obstacles) (g : Given) → obstacles pages old ≡ o → g.answer ≡ memory_answer t.rule g.answer (grown_size pages old) (maximum_asked old.ty) → g.report ≡ memory_failure t.rule g.report → r ≡ growth_reply x o g → u ≡ limiter_left o g t → new ≡ record old { linear = new.linear } → GrowthLeaves o g (grown_size pages old) old.linear new.linear → IsGrowth pages x old new t u r
-growth_of pages x old new t u r o g at answer report replies limiter memory linear = record {
-  given = g;
-  answer = answer;
-  report = report;
-  replies = let P : Obstacles → Type 0 = λ k. r ≡ growth_reply x k g in subst P (sym at) replies;
-  limiter = let P : Obstacles → Type 0 = λ k. u ≡ limiter_left k g t in subst P (sym at) limiter;
-  memory = memory;
-  linear = let P : Obstacles → Type 0 = λ k. GrowthLeaves k g (grown_size pages old) old.linear new.linear in subst P (sym at) linear;
-}
+use Rattle.pool_memory.specs.Growing.{obstacles, growth_question, IsGrowth, GrowsAsking, IsAllowedGrowth, GrowthLeaves, AskedPages, GrowsTo, IsUngrown, grown_size, past_room, first_of}
 
 seen : (pages : ℕ) (old : MemoryState) (a b : Bool) → (pages == 0) ≡ a → allow_growth_to old.ty (grown_size pages old) ≡ not b → not (not b) ≡ b → obstacles pages old ≡ record { nothing = a; past_type = b; past_room = past_room (grown_size pages old) old }
 seen pages old a b first second twice =
@@ -45,129 +27,157 @@ seen pages old a b first second twice =
     ap (λ (n : Bool). record { nothing = n; past_type = not (allow_growth_to old.ty (grown_size pages old)); past_room = room }) first
     ∙ ap (λ (n : Bool). record { nothing = a; past_type = n; past_room = room }) past
 
--- by nothing
-pub grown_nothing : {X : Type 0} (pages : ℕ) (x : X) (old : MemoryState) (t : LimiterTold) → pages ≡ 0 → IsGrowth pages x old old t t (Ok (Some x))
-grown_nothing pages x old t none =
-    let past : Bool = not (allow_growth_to old.ty (grown_size pages old)) in
-    let room : Bool = past_room (grown_size pages old) old in
-    growth_of pages x old old t t (Ok (Some x)) (record { nothing = true; past_type = past; past_room = room })
-    (record { answer = memory_answer t.rule (Ok true) (grown_size pages old) (maximum_asked old.ty); failure = None; report = memory_failure t.rule (Ok tt) })
-    (ap (λ (n : Bool). record { nothing = n; past_type = past; past_room = room }) (eq-eqb pages 0 none))
-    (answer_fits t.rule (grown_size pages old) (maximum_asked old.ty)) (report_fits t.rule) refl refl refl refl
-
 some_pages : (pages : ℕ) → pages ≢ 0 → (pages == 0) ≡ false
 some_pages pages some = grind (arith, nat_tests)
 
--- past what the type allows
-pub grown_past_type : {X : Type 0} (pages : ℕ) (x : X) (old : MemoryState) (t u : LimiterTold) (r : Result (Option X) GrowFault) → pages ≢ 0 → allow_growth_to old.ty (grown_size pages old) ≡ false → report_seen r ≡ memory_failure t.rule (report_seen r) → r ≡ report_reply false (report_seen r) → u ≡ reported (report_seen r) t → IsGrowth pages x old old t u r
-grown_past_type pages x old t u r some past report replies limiter =
-    growth_of pages x old old t u r (record { nothing = false; past_type = true; past_room = past_room (grown_size pages old) old })
-    (record { answer = memory_answer t.rule (Ok true) (grown_size pages old) (maximum_asked old.ty); failure = None; report = report_seen r })
-    (seen pages old false true (some_pages pages some) past refl)
-    (answer_fits t.rule (grown_size pages old) (maximum_asked old.ty)) report replies limiter refl refl
+-- over a limiter
+module _ {R X : Type 0} (told : R → LimiterTold) (leads : R → Exchange → R → Type 0) (pages : ℕ) (x : X) (old : MemoryState) where
+  abbrev Grows : MemoryState → R → R → Result (Option X) GrowFault → Type 0
+  Grows new before after r = GrowsAsking told leads pages x old new (Some before) (Some after) r
 
--- where the limiter refuses it with an error
-pub grown_error : {X : Type 0} (pages : ℕ) (x : X) (old : MemoryState) (t u : LimiterTold) (e : LimiterError) → pages ≢ 0 → allow_growth_to old.ty (grown_size pages old) ≡ true → Err e ≡ memory_answer t.rule (Err e) (grown_size pages old) (maximum_asked old.ty) → u ≡ answered (Err e) t → IsGrowth pages x old old t u (Err (fault.LimiterFault e))
-grown_error pages x old t u e some allowed answer limiter =
-    growth_of pages x old old t u (Err (fault.LimiterFault e)) (record { nothing = false; past_type = false; past_room = past_room (grown_size pages old) old })
-    (record { answer = Err e; failure = None; report = memory_failure t.rule (Ok tt) })
-    (seen pages old false false (some_pages pages some) allowed refl) answer (report_fits t.rule) refl limiter refl refl
+  abbrev question : GrowthQuestion
+  question = growth_question pages old
 
--- where it says no
-pub grown_no : {X : Type 0} (pages : ℕ) (x : X) (old : MemoryState) (t u : LimiterTold) → pages ≢ 0 → allow_growth_to old.ty (grown_size pages old) ≡ true → Ok false ≡ memory_answer t.rule (Ok false) (grown_size pages old) (maximum_asked old.ty) → u ≡ answered (Ok false) t → IsGrowth pages x old old t u (Ok None)
-grown_no pages x old t u some allowed answer limiter =
-    growth_of pages x old old t u (Ok None) (record { nothing = false; past_type = false; past_room = past_room (grown_size pages old) old })
-    (record { answer = Ok false; failure = None; report = memory_failure t.rule (Ok tt) })
-    (seen pages old false false (some_pages pages some) allowed refl) answer (report_fits t.rule) refl limiter refl refl
+  growth_of : (new : MemoryState) (before after : R) (r : Result (Option X) GrowFault) (o : Obstacles) (g : GrowthGiven) → obstacles pages old ≡ o → IsRuled question o g x (told before) (told after) r → new ≡ record old { linear = new.linear } → GrowthLeaves o g (grown_size pages old) old.linear new.linear → Exchanged leads (growth_exchanges question o g) before after → Grows new before after r
+  growth_of new before after r o g at ruled memory linear exchanged = (
+    g,
+    (
+      record {
+        ruled = let P : Obstacles → Type 0 = λ k. IsRuled question k g x (told before) (told after) r in subst P (sym at) ruled;
+        memory = memory;
+        linear = let P : Obstacles → Type 0 = λ k. GrowthLeaves k g (grown_size pages old) old.linear new.linear in subst P (sym at) linear;
+      },
+      let P : Obstacles → Type 0 = λ k. Exchanged leads (growth_exchanges question k g) before after in subst P (sym at) exchanged,
+    ),
+  )
 
--- where it says yes
-pub grown_allowed : {X : Type 0} (pages : ℕ) (x : X) (old new : MemoryState) (t v u : LimiterTold) (r : Result (Option X) GrowFault) → pages ≢ 0 → allow_growth_to old.ty (grown_size pages old) ≡ true → Ok true ≡ memory_answer t.rule (Ok true) (grown_size pages old) (maximum_asked old.ty) → v ≡ answered (Ok true) t → IsAllowedGrowth (past_room (grown_size pages old) old) (grown_size pages old) x old.linear new.linear v u r → new ≡ record old { linear = new.linear } → IsGrowth pages x old new t u r
-grown_allowed pages x old new t v u r some allowed answer limiter growth memory =
-    let same : v ≡ t = limiter in
-    let R : LimiterTold → Type 0 = λ k. growth.answer ≡ memory_failure k.rule growth.answer in
-    let L : LimiterTold → Type 0 = λ k. u ≡ told_of_answer (past_room (grown_size pages old) old) (Ok true) growth.failure growth.answer k in
-    growth_of pages x old new t u r (record { nothing = false; past_type = false; past_room = past_room (grown_size pages old) old })
-    (record { answer = Ok true; failure = growth.failure; report = growth.answer })
-    (seen pages old false false (some_pages pages some) allowed refl) answer (subst R same growth.report) growth.replies (subst L same growth.limiter) memory growth.linear
+  -- by nothing
+  pub grown_nothing : (l : R) → pages ≡ 0 → Grows old l l (Ok (Some x))
+  grown_nothing l none =
+      let past : Bool = not (allow_growth_to old.ty (grown_size pages old)) in
+      let room : Bool = past_room (grown_size pages old) old in
+      growth_of old l l (Ok (Some x)) (record { nothing = true; past_type = past; past_room = room }) (unasked question (told l))
+      (ap (λ (n : Bool). record { nothing = n; past_type = past; past_room = room }) (eq-eqb pages 0 none))
+      (ruled_nothing question past room x (told l)) refl refl refl
 
--- the pages gave the size
-pages_ok : {X : Type 0} (past : Bool) (size : ℕ) (x : X) (old new : Linear) (t : LimiterTold) → AskedPages past size old new (Ok tt) → IsAllowedGrowth past size x old new t t (Ok (Some x))
-pages_ok true size x old new t asked = absurd (let e : Ok tt ≡ Err failed.MaximumExceeded = asked.0 in cc)
-pages_ok false size x old new t asked = record {
-  failure = None;
-  answer = memory_failure t.rule (Ok tt);
-  report = report_fits t.rule;
-  replies = refl;
-  limiter = refl;
-  linear = asked;
-}
+  -- past what the type allows
+  pub grown_past_type : (before after : R) (r : Result (Option X) GrowFault) → pages ≢ 0 → allow_growth_to old.ty (grown_size pages old) ≡ false → report_seen r ≡ memory_failure (told before).rule (report_seen r) → r ≡ report_result false (report_seen r) → told after ≡ after_report (report_seen r) (told before) → leads before (has_failed Memory failed.TypeLimit (report_seen r)) after → Grows old before after r
+  grown_past_type before after r some past report replies limiter exchange =
+      let room : Bool = past_room (grown_size pages old) old in
+      growth_of old before after r (record { nothing = false; past_type = true; past_room = room })
+      (record (unasked question (told before)) { report = report_seen r })
+      (seen pages old false true (some_pages pages some) past refl)
+      (ruled_past_type question room x (told before) (told after) r report replies limiter) refl refl (after, (exchange, refl))
+
+  -- where the limiter refuses it with an error
+  pub grown_error : (before after : R) (e : LimiterError) → pages ≢ 0 → allow_growth_to old.ty (grown_size pages old) ≡ true → Err e ≡ memory_answer (told before).rule (Err e) (grown_size pages old) (maximum_asked old.ty) → told after ≡ after_answer (Err e) (told before) → leads before (may_grow question (Err e)) after → Grows old before after (Err (fault.LimiterFault e))
+  grown_error before after e some allowed answer limiter exchange =
+      let room : Bool = past_room (grown_size pages old) old in
+      growth_of old before after (Err (fault.LimiterFault e)) (record { nothing = false; past_type = false; past_room = room })
+      (record (unasked question (told before)) { answer = Err e })
+      (seen pages old false false (some_pages pages some) allowed refl)
+      (ruled_error question room x (told before) (told after) e answer limiter) refl refl (after, (exchange, refl))
+
+  -- where it says no
+  pub grown_no : (before after : R) → pages ≢ 0 → allow_growth_to old.ty (grown_size pages old) ≡ true → Ok false ≡ memory_answer (told before).rule (Ok false) (grown_size pages old) (maximum_asked old.ty) → told after ≡ after_answer (Ok false) (told before) → leads before (may_grow question (Ok false)) after → Grows old before after (Ok None)
+  grown_no before after some allowed answer limiter exchange =
+      let room : Bool = past_room (grown_size pages old) old in
+      growth_of old before after (Ok None) (record { nothing = false; past_type = false; past_room = room })
+      (record (unasked question (told before)) { answer = Ok false })
+      (seen pages old false false (some_pages pages some) allowed refl)
+      (ruled_no question room x (told before) (told after) answer limiter) refl refl (after, (exchange, refl))
+
+  -- where it says yes
+  pub grown_allowed : (new : MemoryState) (before between after : R) (r : Result (Option X) GrowFault) → pages ≢ 0 → allow_growth_to old.ty (grown_size pages old) ≡ true → Ok true ≡ memory_answer (told before).rule (Ok true) (grown_size pages old) (maximum_asked old.ty) → told between ≡ after_answer (Ok true) (told before) → leads before (may_grow question (Ok true)) between → IsAllowedGrowth told leads (past_room (grown_size pages old) old) (grown_size pages old) x old.linear new.linear between after r → new ≡ record old { linear = new.linear } → Grows new before after r
+  grown_allowed new before between after r some allowed answer limiter exchange growth memory =
+      let past : Bool = past_room (grown_size pages old) old in
+      growth_of new before after r (record { nothing = false; past_type = false; past_room = past })
+      (record { answer = Ok true; failure = growth.failure; report = growth.report })
+      (seen pages old false false (some_pages pages some) allowed refl)
+      (ruled_yes told leads question past x (new.linear ≡ old.linear) (GrowsTo (grown_size pages old) old.linear new.linear) (λ e. IsUngrown e (grown_size pages old) old.linear new.linear) (told before) between after r answer limiter growth)
+      memory growth.makes (between, (exchange, growth.exchanged))
 
 abbrev is_err_of : GrowError → Result (Unit {0}) GrowError
 is_err_of e = Err e
 
--- they didn't, which was reported
-pages_err : {X : Type 0} (past : Bool) (size : ℕ) (x : X) (old new : Linear) (t u : LimiterTold) (e : GrowError) (r : Result (Option X) GrowFault) → AskedPages past size old new (Err e) → report_seen r ≡ memory_failure t.rule (report_seen r) → r ≡ report_reply (is_memory e) (report_seen r) → u ≡ reported (report_seen r) t → IsAllowedGrowth past size x old new t u r
-pages_err {X} true size x old new t u e r asked report replies limiter =
-    let is : is_err_of e ≡ is_err_of failed.MaximumExceeded = asked.0 in
-    let same : e ≡ failed.MaximumExceeded = cc in
-    let P : GrowError → Type 0 = λ k. r ≡ report_reply (is_memory k) (report_seen r) in
-    record {
-      failure = None;
-      answer = report_seen r;
-      report = report;
-      replies = subst P same replies;
-      limiter = limiter;
-      linear = asked.1;
-    }
-pages_err false size x old new t u e r asked report replies limiter = record {
-  failure = Some e;
-  answer = report_seen r;
-  report = report;
-  replies = replies;
-  limiter = limiter;
-  linear = asked;
-}
+-- after the limiter allowed a size
+module _ {R X : Type 0} (told : R → LimiterTold) (leads : R → Exchange → R → Type 0) (size : ℕ) (x : X) (old new : Linear) where
+  abbrev Allowed : Bool → R → R → Result (Option X) GrowFault → Type 0
+  Allowed past before after r = IsAllowedGrowth told leads past size x old new before after r
 
-pub allowed_ok : {X : Type 0} (past : Bool) (size : ℕ) (x : X) (old new : Linear) (t : LimiterTold) (result : Result (Unit {0}) GrowError) (u : Unit {0}) → result ≡ Ok u → AskedPages past size old new result → IsAllowedGrowth past size x old new t t (Ok (Some x))
-allowed_ok past size x old new t result u is asked =
-    let P : Result (Unit {0}) GrowError → Type 0 = λ k. AskedPages past size old new k in
-    pages_ok past size x old new t (subst P is asked)
+  -- the pages gave it
+  pages_ok : (past : Bool) (l : R) → AskedPages past size old new (Ok tt) → Allowed past l l (Ok (Some x))
+  pages_ok true l asked = absurd (let e : Ok tt ≡ Err failed.MaximumExceeded = asked.0 in cc)
+  pages_ok false l asked = allowed_grown told leads Memory x (new ≡ old) (GrowsTo size old new) (λ e. IsUngrown e size old new) l asked
 
-pub allowed_err : {X : Type 0} (past : Bool) (size : ℕ) (x : X) (old new : Linear) (t u : LimiterTold) (result : Result (Unit {0}) GrowError) (e : GrowError) (r : Result (Option X) GrowFault) → result ≡ Err e → AskedPages past size old new result → report_seen r ≡ memory_failure t.rule (report_seen r) → r ≡ report_reply (is_memory e) (report_seen r) → u ≡ reported (report_seen r) t → IsAllowedGrowth past size x old new t u r
-allowed_err past size x old new t u result e r is asked report replies limiter =
-    let P : Result (Unit {0}) GrowError → Type 0 = λ k. AskedPages past size old new k in
-    pages_err past size x old new t u e r (subst P is asked) report replies limiter
+  -- they didn't, which was reported
+  pages_err : (past : Bool) (before after : R) (e : GrowError) (r : Result (Option X) GrowFault) → AskedPages past size old new (Err e) → report_seen r ≡ memory_failure (told before).rule (report_seen r) → r ≡ report_result (is_want_of_memory e) (report_seen r) → told after ≡ after_report (report_seen r) (told before) → leads before (has_failed Memory e (report_seen r)) after → Allowed past before after r
+  pages_err true before after e r asked answer replies limiter exchange =
+      let is : is_err_of e ≡ is_err_of failed.MaximumExceeded = asked.0 in
+      let same : e ≡ failed.MaximumExceeded = cc in
+      let P : GrowError → Type 0 = λ k. r ≡ report_result (is_want_of_memory k) (report_seen r) in
+      let E : GrowError → Type 0 = λ k. leads before (has_failed Memory k (report_seen r)) after in
+      allowed_past told leads Memory x (new ≡ old) (GrowsTo size old new) (λ f. IsUngrown f size old new) before after r answer (subst P same replies) limiter (subst E same exchange) asked.1
+  pages_err false before after e r asked answer replies limiter exchange =
+      allowed_failed told leads Memory x (new ≡ old) (GrowsTo size old new) (λ f. IsUngrown f size old new) before after e r answer replies limiter exchange asked
 
-first_reply : (x : ℕ × ℕ) (past : Bool) (answer : Result Bool LimiterError) (failure : Option GrowError) (report : Result (Unit {0}) LimiterError) → first_of (answer_reply x past answer failure report) ≡ answer_reply x.0 past answer failure report
-first_reply x past (Err e) failure report = refl
-first_reply x past (Ok false) failure report = refl
-first_reply x true (Ok true) failure (Err e) = refl
-first_reply x true (Ok true) failure (Ok u) = refl
-first_reply x false (Ok true) None report = refl
-first_reply x false (Ok true) (Some e) (Err f) = refl
-first_reply x false (Ok true) (Some failed.TypeLimit) (Ok u) = refl
-first_reply x false (Ok true) (Some failed.MaximumExceeded) (Ok u) = refl
-first_reply x false (Ok true) (Some failed.PageFault) (Ok u) = refl
-first_reply x false (Ok true) (Some failed.Memory) (Ok u) = refl
-first_reply x false (Ok true) (Some failed.Overflow) (Ok u) = refl
+  pub allowed_ok : (past : Bool) (l : R) (result : Result (Unit {0}) GrowError) (u : Unit {0}) → result ≡ Ok u → AskedPages past size old new result → Allowed past l l (Ok (Some x))
+  allowed_ok past l result u is asked =
+      let P : Result (Unit {0}) GrowError → Type 0 = λ k. AskedPages past size old new k in
+      pages_ok past l (subst P is asked)
 
-first_report : (report : Result (Unit {0}) LimiterError) → first_of (report_reply {X = ℕ × ℕ} false report) ≡ report_reply {X = ℕ} false report
+  pub allowed_err : (past : Bool) (before after : R) (result : Result (Unit {0}) GrowError) (e : GrowError) (r : Result (Option X) GrowFault) → result ≡ Err e → AskedPages past size old new result → report_seen r ≡ memory_failure (told before).rule (report_seen r) → r ≡ report_result (is_want_of_memory e) (report_seen r) → told after ≡ after_report (report_seen r) (told before) → leads before (has_failed Memory e (report_seen r)) after → Allowed past before after r
+  allowed_err past before after result e r is asked answer replies limiter exchange =
+      let P : Result (Unit {0}) GrowError → Type 0 = λ k. AskedPages past size old new k in
+      pages_err past before after e r (subst P is asked) answer replies limiter exchange
+
+first_report : (report : Result (Unit {0}) LimiterError) → first_of (report_result {X = ℕ × ℕ} false report) ≡ report_result {X = ℕ} false report
 first_report (Err e) = refl
 first_report (Ok u) = refl
 
-first_by : (x : ℕ × ℕ) (a b c : Bool) (g : Given) → first_of (reply_by x a b c g) ≡ reply_by x.0 a b c g
+first_allowed : (x : ℕ × ℕ) (past : Bool) (failure : Option GrowError) (report : Result (Unit {0}) LimiterError) → first_of (allowed_result x past failure report) ≡ allowed_result x.0 past failure report
+first_allowed x true failure report = first_report report
+first_allowed x false None report = refl
+first_allowed x false (Some e) (Err f) = refl
+first_allowed x false (Some failed.TypeLimit) (Ok u) = refl
+first_allowed x false (Some failed.MaximumExceeded) (Ok u) = refl
+first_allowed x false (Some failed.PageFault) (Ok u) = refl
+first_allowed x false (Some failed.Memory) (Ok u) = refl
+first_allowed x false (Some failed.Overflow) (Ok u) = refl
+
+first_answer : (x : ℕ × ℕ) (past : Bool) (answer : Result Bool LimiterError) (failure : Option GrowError) (report : Result (Unit {0}) LimiterError) → first_of (answer_result x past answer failure report) ≡ answer_result x.0 past answer failure report
+first_answer x past (Err e) failure report = refl
+first_answer x past (Ok false) failure report = refl
+first_answer x past (Ok true) failure report = first_allowed x past failure report
+
+first_by : (x : ℕ × ℕ) (a b c : Bool) (g : GrowthGiven) → first_of (result_by x a b c g) ≡ result_by x.0 a b c g
 first_by x true b c g = refl
 first_by x false true c g = first_report g.report
-first_by x false false c g = first_reply x c g.answer g.failure g.report
+first_by x false false c g = first_answer x c g.answer g.failure g.report
 
--- the same growth, of which the reply tells only the old size
-pub growth_first : (pages : ℕ) (x : ℕ × ℕ) (old new : MemoryState) (t u : LimiterTold) (r : Result (Option (ℕ × ℕ)) GrowFault) (s : Result (Option ℕ) GrowFault) → s ≡ first_of r → IsGrowth pages x old new t u r → IsGrowth pages x.0 old new t u s
-growth_first pages x old new t u r s is growth = record {
-  given = growth.given;
-  answer = growth.answer;
-  report = growth.report;
-  replies = is ∙ ap first_of growth.replies ∙ first_by x (obstacles pages old).nothing (obstacles pages old).past_type (obstacles pages old).past_room growth.given;
-  limiter = growth.limiter;
-  memory = growth.memory;
-  linear = growth.linear;
-}
+-- the same growth, whose result tells only the old size
+pub growth_first : {R : Type 0} (told : R → LimiterTold) (leads : R → Exchange → R → Type 0) (pages : ℕ) (x : ℕ × ℕ) (old new : MemoryState) (before after : R) (r : Result (Option (ℕ × ℕ)) GrowFault) (s : Result (Option ℕ) GrowFault) → s ≡ first_of r → GrowsAsking told leads pages x old new (Some before) (Some after) r → GrowsAsking told leads pages x.0 old new (Some before) (Some after) s
+growth_first told leads pages x old new before after r s is grows =
+    let growth = grows.1.0 in
+    let o : Obstacles = obstacles pages old in (
+      grows.0,
+      (
+        record {
+          ruled = record {
+            answer = growth.ruled.answer;
+            report = growth.ruled.report;
+            replies = is ∙ ap first_of growth.ruled.replies ∙ first_by x o.nothing o.past_type o.past_room grows.0;
+            limiter = growth.ruled.limiter;
+          };
+          memory = growth.memory;
+          linear = growth.linear;
+        },
+        grows.1.1,
+      ),
+    )
+
+-- a growth where nobody is asked that could say no
+pub growth_alone : {R S X : Type 0} (told : R → LimiterTold) (leads : R → Exchange → R → Type 0) (other : S → LimiterTold) (ways : S → Exchange → S → Type 0) (pages : ℕ) (x : X) (old new : MemoryState) (before after : S) (r : Result (Option X) GrowFault) → other before ≡ limiter_told told None → other after ≡ limiter_told told None → GrowsAsking other ways pages x old new (Some before) (Some after) r → GrowsAsking told leads pages x old new None None r
+growth_alone told leads other ways pages x old new before after r first second grows =
+    let P : LimiterTold → LimiterTold → Type 0 = λ t u. IsGrowth grows.0 pages x old new t u r in
+    (grows.0, (subst (λ (t : LimiterTold). P t (limiter_told told None)) first (subst (λ (u : LimiterTold). P (other before) u) second grows.1.0), tt))

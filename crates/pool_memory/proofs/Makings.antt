@@ -1,5 +1,5 @@
 -- How a memory is made: the answer that a refusal tells, the sizes of a type, and what a memory begins with.
-use Rattle.std.proofs.Common.{◌≡◌, ℕ, ◌+◌, ◌-◌, ◌*◌, ◌^◌, ◌<◌, ◌≤◌, ◌%◌, Bool, true, false, refl, sym, ap, ◌∙◌, inl, inr, arith, nat_le, nat_lt, Option, Some, None, Result, Ok, Err}
+use Rattle.std.proofs.Common.{◌≡◌, ℕ, ◌+◌, ◌-◌, ◌*◌, ◌^◌, ◌<◌, ◌≤◌, ◌%◌, Bool, true, false, refl, sym, ap, ◌∙◌, inl, inr, arith, nat_lt, Option, Some, None, Result, Ok, Err}
 use Rattle.std.specs.Prelude.{IfSome, if◌then◌else◌}
 use Rattle.std.proofs.Math.Nat.{mul-le-mul_right, mul-mod_left}
 use Rattle.std.proofs.lemmas.Nat.{pow-add}
@@ -8,12 +8,9 @@ use Rattle.pool_pages.proofs.Multiples.{page_below}
 use Rattle.pool_pages.specs.MemoryTypes.{page_size, minimum_byte_size, maximum_byte_size, greatest_size, index_bound, allow_growth_to, refused_limits, above}
 use Rattle.pool_pages.specs.declared.module_types.MemoryType.{MemoryType}
 use Rattle.pool_pages.specs.declared.unsupported.Unsupported.{Unsupported}
-use Rattle.pool_pages.specs.declared.unsupported.Unsupported.TheVariants.{MinimumExceedsMaximum, MemoryMinimum, AddressSpace, InitialSize}
+use Rattle.pool_pages.specs.declared.unsupported.Unsupported.TheVariants.{MinimumExceedsMaximum, MemoryMinimum, AddressSpace}
 use Rattle.pool_limits.specs.declared.errors.LimiterError.{LimiterError}
-use Rattle.pool_images.specs.Slots.{Slot}
-use Rattle.pool_memory.specs.Static.{Static, capacity_of}
-use Rattle.pool_memory.specs.Making.{maximum_asked, limits_answer, limiter_answer, static_limiter_answer, made_memory, made_within}
-use Rattle.pool_memory.specs.declared.memory_error.MemoryError.{MemoryError}
+use Rattle.pool_memory.specs.Making.{maximum_asked, limits_answer, limiter_answer}
 use Rattle.pool_memory.specs.declared.memory_error.MemoryError.TheVariants as refused
 
 granted_told : {X : Type 0} (b c : Bool) (x : X) (u v : Unsupported) → limiter_answer (if b then (if c then Ok x else Err (refused.Unsupported u)) else Err (refused.Unsupported v)) ≡ Ok true
@@ -26,16 +23,6 @@ pub answer_told : (a : Result Bool LimiterError) (ty : MemoryType) → limiter_a
 answer_told (Err e) ty = refl
 answer_told (Ok false) ty = refl
 answer_told (Ok true) ty = granted_told (nat_lt (minimum_byte_size ty) (2 ^ 64)) (allow_growth_to ty (minimum_byte_size ty)) (minimum_byte_size ty, maximum_asked ty) AddressSpace (MemoryMinimum ty.limits.min)
-
-within_size : (M L : Type 0) (b : Bool) (limits : ℕ × Option ℕ) (ty : MemoryType) (slot : Slot) (m : Static) → static_limiter_answer (made_memory {M = M} {L = L} ty (if b then Ok m else Err (slot, InitialSize))) ≡ Ok true
-within_size M L true limits ty slot m = refl
-within_size M L false limits ty slot m = refl
-
--- and so does the memory that is made within them
-pub making_told : (M L : Type 0) (limits : Result (ℕ × Option ℕ) MemoryError) (ty : MemoryType) (base_capacity : ℕ) (slot : Slot) → static_limiter_answer (made_within {M = M} {L = L} limits ty base_capacity slot) ≡ limiter_answer limits
-making_told M L (Err e) ty base_capacity slot = refl
-making_told M L (Ok limits) ty base_capacity slot =
-    within_size M L (nat_le limits.0 base_capacity) limits ty slot (record { slot = slot; size = limits.0; capacity = capacity_of base_capacity limits.1 })
 
 pages_order : (min : ℕ) (o : Option ℕ) → above min o ≡ None → IfSome o (λ most. min ≤ most)
 pages_order min None e = tt

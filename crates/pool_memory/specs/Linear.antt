@@ -69,8 +69,8 @@ abbrev pub linear_written : ℕ → List ℕ → Linear → Linear
 linear_written at new l = record l { storage = storage_written at new l.storage }
 
 -- the memory with more of what is ready
-abbrev pub resized : ℕ → Linear → Linear
-resized size l = record l { size = size }
+abbrev pub grown_into_ready : ℕ → Linear → Linear
+grown_into_ready size l = record l { size = size }
 
 -- what holds of every memory: all of it can be reached, and what can be reached behind it is zeros
 pub record IsLinear (l : Linear) : Type 0 where

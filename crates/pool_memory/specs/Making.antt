@@ -4,6 +4,8 @@ use Rattle.pool_pages.specs.MemoryTypes.{page_size, minimum_byte_size, maximum_b
 use Rattle.pool_pages.specs.declared.module_types.MemoryType.{MemoryType}
 use Rattle.pool_pages.specs.declared.unsupported.Unsupported.{Unsupported}
 use Rattle.pool_pages.specs.declared.unsupported.Unsupported.TheVariants.{MemoryMinimum, AddressSpace}
+use Rattle.pool_limits.specs.Exchanges.{GrowthQuestion, question_of}
+use Rattle.pool_limits.specs.declared.growing.Growable.TheVariants.{Memory as memory_kind}
 use Rattle.pool_limits.specs.declared.errors.LimiterError.{LimiterError}
 use Rattle.pool_images.specs.Images.{Image}
 use Rattle.pool_images.specs.Slots.{Slot}
@@ -21,6 +23,10 @@ minimum_asked ty = if nat_lt (minimum_byte_size ty) (2 ^ 64) then minimum_byte_s
 -- the maximum that it is told, where a `u64` can hold it
 abbrev pub maximum_asked : MemoryType → Option ℕ
 maximum_asked ty = if nat_lt (maximum_byte_size ty) (2 ^ 64) then Some (maximum_byte_size ty) else None
+
+-- what it is asked
+abbrev pub minimum_question : MemoryType → GrowthQuestion
+minimum_question ty = question_of memory_kind 0 (minimum_asked ty) (maximum_asked ty)
 
 -- With how many bytes a memory of this type begins, and how many it may have, where the limiter gave this answer. What
 -- it doesn't refuse is refused still where a `u64` or the memory's addresses can't hold the minimum.

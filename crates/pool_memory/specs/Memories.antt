@@ -14,7 +14,7 @@ pub record MemoryState : Type 0 where
   pub linear : Linear
 
 -- what is kept of every memory: its size leaves room for one page of its own, and it isn't to move where it can't
-pub record IsMemory (m : MemoryState) : Type 0 where
+pub record IsMemoryState (m : MemoryState) : Type 0 where
   pub page : m.ty.page_size_log2 < 64
   pub room : m.linear.size + page_size m.ty ≤ 2 ^ 64
   pub moves : m.may_move ≡ true → m.linear.moves ≡ true

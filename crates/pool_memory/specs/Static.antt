@@ -30,12 +30,12 @@ pub record IsStatic (m : Static) : Type 0 where
   pub room : rounded_up m.slot.region.page m.capacity ≤ m.slot.static_size
 
 -- the lesser of what the slot offers and what the memory's type allows
-abbrev pub capacity_of : ℕ → Option ℕ → ℕ
-capacity_of base_capacity maximum = option_map_or (min base_capacity) maximum base_capacity
+abbrev pub static_capacity : ℕ → Option ℕ → ℕ
+static_capacity base_capacity maximum = option_map_or (min base_capacity) maximum base_capacity
 
 -- the memory made in a slot, or the slot again where the memory begins with more than the slot offers
 abbrev pub made_static : ℕ → ℕ → Option ℕ → Slot → Result Static (Slot × Unsupported)
 made_static base_capacity initial maximum slot =
     if nat_le initial base_capacity
-    then Ok (record { slot = slot; size = initial; capacity = capacity_of base_capacity maximum })
+    then Ok (record { slot = slot; size = initial; capacity = static_capacity base_capacity maximum })
     else Err (slot, InitialSize)

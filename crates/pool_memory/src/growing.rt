@@ -1,13 +1,12 @@
-ghost use Rattle.std.specs.Prelude.{◌≡◌, ◌+◌, ◌^◌, ◌≤◌, Ok};
+ghost use Rattle.std.specs.Prelude.{◌≡◌, ◌+◌, ◌^◌, ◌≤◌, Some};
 ghost use Rattle.std.specs.Option.{option_copied_mut};
 ghost use Rattle.pool_pages.specs.MemoryTypes.{page_size};
-ghost use Rattle.pool_limits.specs.Growth.{memory_failure};
-ghost use Rattle.pool_limits.specs.LimiterTold.{reported, limiter_told, option_left};
-ghost use Rattle.pool_memory.specs.Growing.{IsGrowth, IsAllowedGrowth, grown_size, past_room, is_memory, report_reply, report_seen, first_of};
+ghost use Rattle.pool_limits.specs.LimiterTold.{option_left};
+ghost use Rattle.pool_memory.specs.Growing.{GrowsAsking, IsAllowedGrowth, grown_size, past_room, first_of};
 
 use crate::linear_memory::RuntimeLinearMemory;
 use crate::local_memory::LocalMemory;
-use pool_limits::{GrowError, GrowFault, ResourceLimiter, Unlimited};
+use pool_limits::{GrowError, GrowFault, Growable, ResourceLimiter, Unlimited, report_failure};
 
 impl<M, L: RuntimeLinearMemory<M>> LocalMemory<M, L> {
     /// Grows the memory by so many of its own pages. Answers the old size and the new one, or None, where the memory
@@ -18,7 +17,7 @@ impl<M, L: RuntimeLinearMemory<M>> LocalMemory<M, L> {
         delta_pages: u64,
         limiter: Option<&mut R>,
     ) -> Result<Option<(usize, usize)>, GrowFault>
-        ensures { IsGrowth delta_pages (self.old.linear.size, grown_size delta_pages self.old) self.old self.new (limiter_told R.told (option_copied_mut limiter.entry)) (limiter_told R.told (option_left limiter.exit)) result }
+        ensures { GrowsAsking R.told R.leads delta_pages (self.old.linear.size, grown_size delta_pages self.old) self.old self.new (option_copied_mut limiter.entry) (option_left limiter.exit) result }
     {
         match limiter {
             Some(limiter) => self.grow_asking(maker, delta_pages, limiter),
@@ -33,7 +32,7 @@ impl<M, L: RuntimeLinearMemory<M>> LocalMemory<M, L> {
         delta_pages: u64,
         limiter: &mut R,
     ) -> Result<Option<(usize, usize)>, GrowFault>
-        ensures { IsGrowth delta_pages (self.old.linear.size, grown_size delta_pages self.old) self.old self.new (R.told limiter.old) (R.told limiter.new) result }
+        ensures { GrowsAsking R.told R.leads delta_pages (self.old.linear.size, grown_size delta_pages self.old) self.old self.new (Some limiter.old) (Some limiter.new) result }
     {
         let old = self.byte_size();
         let size = self.grown_size(delta_pages);
@@ -41,7 +40,7 @@ impl<M, L: RuntimeLinearMemory<M>> LocalMemory<M, L> {
             return Ok(Some((old, size)));
         }
         if !self.ty().allow_growth_to(size) {
-            return report(limiter, GrowError::TypeLimit);
+            return report_failure(limiter, Growable::Memory, GrowError::TypeLimit);
         }
         match limiter.memory_growing(old, size, self.maximum()) {
             Err(error) => Err(GrowFault::LimiterFault(error)),
@@ -57,7 +56,7 @@ impl<M, L: RuntimeLinearMemory<M>> LocalMemory<M, L> {
         delta_pages: u64,
         limiter: &mut R,
     ) -> Result<Option<usize>, GrowFault>
-        ensures { IsGrowth delta_pages self.old.linear.size self.old self.new (R.told limiter.old) (R.told limiter.new) result }
+        ensures { GrowsAsking R.told R.leads delta_pages self.old.linear.size self.old self.new (Some limiter.old) (Some limiter.new) result }
     {
         old_size(self.grow_asking(maker, delta_pages, limiter))
     }
@@ -71,41 +70,14 @@ impl<M, L: RuntimeLinearMemory<M>> LocalMemory<M, L> {
     ) -> Result<Option<(usize, usize)>, GrowFault>
         requires more { self.old.linear.size ≤ size }
         requires room { size + page_size self.old.ty ≤ 2 ^ 64 }
-        ensures growth { IsAllowedGrowth (past_room size self.old) size (self.old.linear.size, size) self.old.linear self.new.linear (R.told limiter.old) (R.told limiter.new) result }
+        ensures growth { IsAllowedGrowth R.told R.leads (past_room size self.old) size (self.old.linear.size, size) self.old.linear self.new.linear limiter.old limiter.new result }
         ensures same { self.new ≡ record self.old { linear = self.new.linear } }
     {
         let old = self.byte_size();
         match self.grow_pages(maker, size) {
             Ok(()) => Ok(Some((old, size))),
-            Err(error) => report(limiter, error),
+            Err(error) => report_failure(limiter, Growable::Memory, error),
         }
-    }
-}
-
-// Tells the limiter of a failure.
-fn report<R: ResourceLimiter>(
-    limiter: &mut R,
-    error: GrowError,
-) -> Result<Option<(usize, usize)>, GrowFault>
-    ensures answer { report_seen result ≡ memory_failure (R.told limiter.old).rule (report_seen result) }
-    ensures reply { result ≡ report_reply (is_memory error) (report_seen result) }
-    ensures limiter { R.told limiter.new ≡ reported (report_seen result) (R.told limiter.old) }
-{
-    match limiter.memory_grow_failed(error) {
-        Err(error) => Err(GrowFault::LimiterFault(error)),
-        Ok(()) => reported(error),
-    }
-}
-
-fn reported(error: GrowError) -> Result<Option<(usize, usize)>, GrowFault>
-    ensures { result ≡ report_reply (is_memory error) (Ok tt) }
-{
-    match error {
-        GrowError::Memory => Err(GrowFault::Memory),
-        GrowError::TypeLimit
-        | GrowError::MaximumExceeded
-        | GrowError::PageFault
-        | GrowError::Overflow => Ok(None),
     }
 }
 

@@ -8,8 +8,6 @@ mod local_memory;
 mod making;
 mod memory;
 mod memory_error;
-#[cfg(test)]
-mod memory_tests;
 mod static_memory;
 
 pub use atomics::validate_atomic_addr;

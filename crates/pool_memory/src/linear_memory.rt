@@ -1,5 +1,5 @@
 ghost use Rattle.std.specs.Prelude.{◌≡◌, ◌+◌, ◌≤◌, length, replicate, slice_range, false, IfSome, IfErr, OnOk};
-ghost use Rattle.pool_memory.specs.Linear.{Linear, IsLinear, is_mapped, linear_bytes, linear_written, ready, resized};
+ghost use Rattle.pool_memory.specs.Linear.{Linear, IsLinear, is_mapped, linear_bytes, linear_written, ready, grown_into_ready};
 ghost use Rattle.pool_memory.specs.Growing.{GrowsTo, IsUngrown};
 
 use pool_limits::GrowError;
@@ -51,5 +51,5 @@ pub trait RuntimeLinearMemory<M>: Drop {
     fn set_byte_size(&mut self, len: usize)
         requires more { (linear self.old).size ≤ len }
         requires ready { len ≤ ready (linear self.old) }
-        ensures { linear self.new ≡ resized len (linear self.old) };
+        ensures { linear self.new ≡ grown_into_ready len (linear self.old) };
 }

@@ -24,13 +24,13 @@ pub struct LocalMemory<M, L: RuntimeLinearMemory<M>> {
 }
 
 impl<M, L: RuntimeLinearMemory<M>> Model for LocalMemory<M, L> {
-    ghost use Rattle.pool_memory.specs.Memories.{MemoryState, IsMemory};
+    ghost use Rattle.pool_memory.specs.Memories.{MemoryState, IsMemoryState};
 
     ghost Value = { MemoryState };
 
     ghost view = { λ m. record { ty = m.ty; may_move = m.memory_may_move; linear = L.linear m.memory } };
 
-    ghost invariant = { λ m. IsMemory (record { ty = m.ty; may_move = m.memory_may_move; linear = L.linear m.memory }) };
+    ghost invariant = { λ m. IsMemoryState (record { ty = m.ty; may_move = m.memory_may_move; linear = L.linear m.memory }) };
 }
 
 impl<M, L: RuntimeLinearMemory<M>> LocalMemory<M, L> {

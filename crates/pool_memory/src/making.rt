@@ -2,13 +2,14 @@ ghost use Rattle.std.specs.Prelude.{◌≡◌, ◌^◌, ◌<◌, ◌≤◌, true
 ghost use Rattle.pool_pages.specs.Count.{rounded_up};
 ghost use Rattle.pool_pages.specs.MemoryTypes.{page_size, minimum_byte_size, refused_limits};
 ghost use Rattle.pool_limits.specs.Growth.{memory_answer};
-ghost use Rattle.pool_limits.specs.LimiterTold.{answered};
+ghost use Rattle.pool_limits.specs.LimiterTold.{after_answer};
+ghost use Rattle.pool_limits.specs.Exchanges.{may_grow};
 ghost use Rattle.pool_images.specs.Images.{Image, start};
 ghost use Rattle.pool_images.specs.Slots.{IsBegun};
 ghost use Rattle.pool_memory.specs.Static.{CanHold};
 ghost use Rattle.pool_memory.specs.Memories.{bytes_of};
 ghost use Rattle.pool_memory.specs.MemoryStates.{state_of};
-ghost use Rattle.pool_memory.specs.Making.{Granted, EndsWithin, minimum_asked, maximum_asked, limits_answer, limiter_answer, static_limiter_answer, made_within, static_answer};
+ghost use Rattle.pool_memory.specs.Making.{Granted, EndsWithin, minimum_asked, maximum_asked, minimum_question, limits_answer, limiter_answer, static_limiter_answer, made_within, static_answer};
 
 use crate::local_memory::LocalMemory;
 use crate::memory::Memory;
@@ -32,7 +33,8 @@ pub(crate) fn make_static<P: Pages, R: ResourceLimiter>(
     requires room { rounded_up slot.region.page base_capacity ≤ slot.static_size }
     ensures value { result ≡ static_answer (static_limiter_answer result) ty.now base_capacity slot }
     ensures asked { static_limiter_answer result ≡ memory_answer (R.told limiter.old).rule (static_limiter_answer result) (minimum_asked ty.now) (maximum_asked ty.now) }
-    ensures limiter { R.told limiter.new ≡ answered (static_limiter_answer result) (R.told limiter.old) }
+    ensures limiter { R.told limiter.new ≡ after_answer (static_limiter_answer result) (R.told limiter.old) }
+    ensures exchange { R.leads limiter.old (may_grow (minimum_question ty.now) (static_limiter_answer result)) limiter.new }
     ensures begun { IfOk result (λ m. (image : Option Image) → IsBegun image slot → EndsWithin (minimum_byte_size ty.now) image → IfSome (bytes_of (state_of m)) (λ bytes. bytes ≡ start image (minimum_byte_size ty.now))) }
 {
     let limits = limit_new(ty, limiter);
@@ -47,7 +49,8 @@ fn limit_new<R: ResourceLimiter>(
     requires { ty.now.page_size_log2 < 64 }
     ensures value { result ≡ limits_answer (limiter_answer result) ty.now }
     ensures asked { limiter_answer result ≡ memory_answer (R.told limiter.old).rule (limiter_answer result) (minimum_asked ty.now) (maximum_asked ty.now) }
-    ensures limiter { R.told limiter.new ≡ answered (limiter_answer result) (R.told limiter.old) }
+    ensures limiter { R.told limiter.new ≡ after_answer (limiter_answer result) (R.told limiter.old) }
+    ensures exchange { R.leads limiter.old (may_grow (minimum_question ty.now) (limiter_answer result)) limiter.new }
     ensures granted { IfOk result (Granted ty.now) }
 {
     let answer = limiter.memory_growing(0, minimum_asked(ty), maximum_asked(ty));

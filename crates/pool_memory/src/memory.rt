@@ -1,16 +1,17 @@
-ghost use Rattle.std.specs.Prelude.{◌≡◌, ◌+◌, ◌^◌, ◌<◌, ◌≤◌, length, replicate, slice_range, not, false, Option, None, IfOk, IfSome, OnOk, OnErr};
+ghost use Rattle.std.specs.Prelude.{[], ◌∷◌, ◌≡◌, ◌+◌, ◌^◌, ◌<◌, ◌≤◌, length, replicate, slice_range, not, false, Option, Some, None, IfOk, IfSome, OnOk, OnErr};
 ghost use Rattle.std.specs.Option.{option_copied_mut};
 ghost use Rattle.pool_pages.specs.Count.{rounded_up};
 ghost use Rattle.pool_pages.specs.MemoryTypes.{page_size, minimum_byte_size, refused_limits};
 ghost use Rattle.pool_limits.specs.Growth.{memory_answer};
-ghost use Rattle.pool_limits.specs.LimiterTold.{answered, limiter_told, option_left};
+ghost use Rattle.pool_limits.specs.LimiterTold.{after_answer, limiter_told, option_left};
+ghost use Rattle.pool_limits.specs.Exchanges.{may_grow, IfExchanged};
 ghost use Rattle.pool_images.specs.Images.{Image, start};
 ghost use Rattle.pool_images.specs.Slots.{IsBegun};
 ghost use Rattle.pool_memory.specs.Linear.{IsLinear, in_slot, is_mapped};
 ghost use Rattle.pool_memory.specs.Static.{CanHold};
 ghost use Rattle.pool_memory.specs.Memories.{slot_of, bytes_of, memory_written, access_answer};
-ghost use Rattle.pool_memory.specs.Making.{EndsWithin, minimum_asked, maximum_asked, static_limiter_answer, static_answer};
-ghost use Rattle.pool_memory.specs.Growing.{IsGrowth};
+ghost use Rattle.pool_memory.specs.Making.{EndsWithin, minimum_asked, maximum_asked, minimum_question, static_limiter_answer, static_answer};
+ghost use Rattle.pool_memory.specs.Growing.{GrowsAsking};
 ghost use Rattle.pool_memory.specs.MemoryStates.{state_of};
 
 use crate::linear_memory::RuntimeLinearMemory;
@@ -109,7 +110,7 @@ impl<M, L: RuntimeLinearMemory<M>> Memory<M, L> {
         delta_pages: u64,
         limiter: Option<&mut R>,
     ) -> Result<Option<usize>, GrowFault>
-        ensures { IsGrowth delta_pages (state_of self.old).linear.size (state_of self.old) (state_of self.new) (limiter_told R.told (option_copied_mut limiter.entry)) (limiter_told R.told (option_left limiter.exit)) result }
+        ensures { GrowsAsking R.told R.leads delta_pages (state_of self.old).linear.size (state_of self.old) (state_of self.new) (option_copied_mut limiter.entry) (option_left limiter.exit) result }
     {
         match limiter {
             Some(limiter) => self.grow_asking(maker, delta_pages, limiter),
@@ -124,7 +125,7 @@ impl<M, L: RuntimeLinearMemory<M>> Memory<M, L> {
         delta_pages: u64,
         limiter: &mut R,
     ) -> Result<Option<usize>, GrowFault>
-        ensures { IsGrowth delta_pages (state_of self.old).linear.size (state_of self.old) (state_of self.new) (R.told limiter.old) (R.told limiter.new) result }
+        ensures { GrowsAsking R.told R.leads delta_pages (state_of self.old).linear.size (state_of self.old) (state_of self.new) (Some limiter.old) (Some limiter.new) result }
     {
         let Memory::Local(memory) = self;
         memory.grow_from(maker, delta_pages, limiter)
@@ -148,7 +149,8 @@ impl<P: Pages> Memory<(), StaticMemory<P>> {
         requires room { rounded_up slot.region.page base_capacity ≤ slot.static_size }
         ensures value { result ≡ static_answer (static_limiter_answer result) ty.now base_capacity slot }
         ensures asked { static_limiter_answer result ≡ memory_answer (limiter_told R.told (option_copied_mut limiter.entry)).rule (static_limiter_answer result) (minimum_asked ty.now) (maximum_asked ty.now) }
-        ensures limiter { limiter_told R.told (option_left limiter.exit) ≡ answered (static_limiter_answer result) (limiter_told R.told (option_copied_mut limiter.entry)) }
+        ensures limiter { limiter_told R.told (option_left limiter.exit) ≡ after_answer (static_limiter_answer result) (limiter_told R.told (option_copied_mut limiter.entry)) }
+        ensures exchange { IfExchanged R.leads (may_grow (minimum_question ty.now) (static_limiter_answer result) ∷ []) (option_copied_mut limiter.entry) (option_left limiter.exit) }
         ensures begun { IfOk result (λ m. (image : Option Image) → IsBegun image slot → EndsWithin (minimum_byte_size ty.now) image → IfSome (bytes_of (state_of m)) (λ bytes. bytes ≡ start image (minimum_byte_size ty.now))) }
     {
         match limiter {

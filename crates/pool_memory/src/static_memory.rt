@@ -1,8 +1,8 @@
 ghost use Rattle.std.specs.Prelude.{◌≡◌, ◌+◌, ◌≤◌, length, slice_range, IfSome, IfErr, OnOk};
 ghost use Rattle.pool_pages.specs.Count.{rounded_up};
-ghost use Rattle.pool_images.specs.Slots.{IsInUse, Fits};
+ghost use Rattle.pool_images.specs.Slots.{IsInUse, IsSlot};
 ghost use Rattle.pool_memory.specs.Growing.{GrowsTo, IsUngrown};
-ghost use Rattle.pool_memory.specs.Static.{CanHold, linear_of, capacity_of, made_static};
+ghost use Rattle.pool_memory.specs.Static.{CanHold, linear_of, static_capacity, made_static};
 
 use crate::linear_memory::RuntimeLinearMemory;
 use pool_images::MemoryImageSlot;
@@ -86,7 +86,7 @@ impl<P: Pages> StaticMemory<P> {
 
     // What holds of every slot, for the proofs of its callers here.
     fn fits(&self)
-        ensures { Fits self.now.slot }
+        ensures { IsSlot self.now.slot }
     {
         let _accessible = self.slot.accessible();
     }
@@ -101,7 +101,7 @@ impl<P: Pages> StaticMemory<P> {
 
 // The lesser of what a slot offers and the maximum.
 fn capacity_of(base_capacity: usize, maximum: Option<usize>) -> usize
-    ensures { result ≡ capacity_of base_capacity maximum }
+    ensures { result ≡ static_capacity base_capacity maximum }
 {
     match maximum {
         Some(most) => base_capacity.min(most),

@@ -2,11 +2,13 @@ use Rattle.std.proofs.Common.{◌≡◌, ℕ, Bool, true, false, Option, Some, R
 use Rattle.pool_pages.specs.MemoryTypes.{allow_growth_to}
 use Rattle.pool_pages.specs.declared.module_types.MemoryType.{MemoryType}
 use Rattle.pool_limits.specs.Growth.{memory_answer}
-use Rattle.pool_limits.specs.LimiterTold.{LimiterTold, answered}
+use Rattle.pool_limits.specs.LimiterTold.{LimiterTold, after_answer}
+use Rattle.pool_limits.specs.Exchanges.{Exchange, question_of, may_grow}
+use Rattle.pool_limits.specs.declared.growing.Growable.TheVariants.{Memory}
 use Rattle.pool_limits.specs.declared.errors.LimiterError.{LimiterError}
 use Rattle.pool_memory.specs.Memories.{MemoryState}
 use Rattle.pool_memory.specs.Making.{maximum_asked}
-use Rattle.pool_memory.specs.Growing.{IsGrowth, IsAllowedGrowth, grown_size, past_room}
+use Rattle.pool_memory.specs.Growing.{GrowsAsking, IsAllowedGrowth, growth_question, grown_size, past_room}
 use Rattle.pool_memory.proofs.Growths.{grown_nothing, grown_past_type, grown_error, grown_no, grown_allowed}
 use Rattle.pool_memory.proofs.local_memory.LocalMemory.grow_asking.Goals as goal
 
@@ -24,8 +26,17 @@ answer_at t old size wanted most a b same all is answer =
     let second : P b wanted most = subst (λ (n : ℕ). P b n most) same first in
     subst (λ (o : Option ℕ). P b wanted o) all second
 
-left_at : (t u : LimiterTold) (a b : Result Bool LimiterError) → a ≡ b → u ≡ answered a t → u ≡ answered b t
-left_at t u a b is left = let P : Result Bool LimiterError → Type 0 = λ k. u ≡ answered k t in subst P is left
+left_at : (t u : LimiterTold) (a b : Result Bool LimiterError) → a ≡ b → u ≡ after_answer a t → u ≡ after_answer b t
+left_at t u a b is left = let P : Result Bool LimiterError → Type 0 = λ k. u ≡ after_answer k t in subst P is left
+
+-- the limiter was asked for this growth
+asked_at : {R : Type 0} (leads : R → Exchange → R → Type 0) (pages : ℕ) (old : MemoryState) (before after : R) (current size : ℕ) (most : Option ℕ) (a b : Result Bool LimiterError) → current ≡ old.linear.size → size ≡ grown_size pages old → most ≡ maximum_asked old.ty → a ≡ b → leads before (may_grow (question_of Memory current size most) a) after → leads before (may_grow (growth_question pages old) b) after
+asked_at leads pages old before after current size most a b first second third is exchange =
+    let P : ℕ → ℕ → Option ℕ → Result Bool LimiterError → Type 0 = λ m n o k. leads before (may_grow (question_of Memory m n o) k) after in
+    let one : P old.linear.size size most a = subst (λ (m : ℕ). P m size most a) first exchange in
+    let two : P old.linear.size (grown_size pages old) most a = subst (λ (n : ℕ). P old.linear.size n most a) second one in
+    let all : P old.linear.size (grown_size pages old) (maximum_asked old.ty) a = subst (λ (o : Option ℕ). P old.linear.size (grown_size pages old) o a) third two in
+    subst (λ (k : Result Bool LimiterError). P old.linear.size (grown_size pages old) (maximum_asked old.ty) k) is all
 
 abbrev ok_of : Bool → Result Bool LimiterError
 ok_of b = Ok b
@@ -33,55 +44,66 @@ ok_of b = Ok b
 pub returns-then-delta_pages-eq0 : goal.returns-then-delta_pages-eq0
 returns-then-delta_pages-eq0 g c =
     let old = c.args.self.now in
-    let t = g.R.ResourceLimiter.told c.args.limiter.now in
-    let P : ℕ → ℕ → Type 0 = λ m n. IsGrowth c.args.delta_pages (old.linear.size, grown_size c.args.delta_pages old) old old t t (Ok (Some (m, n))) in
-    let first : P old.linear.size (grown_size c.args.delta_pages old) = grown_nothing c.args.delta_pages (old.linear.size, grown_size c.args.delta_pages old) old t c.if-delta_pages-eq0.true in
+    let l = c.args.limiter.now in
+    let told = g.R.ResourceLimiter.told in
+    let leads = g.R.ResourceLimiter.leads in
+    let P : ℕ → ℕ → Type 0 = λ m n. GrowsAsking told leads c.args.delta_pages (old.linear.size, grown_size c.args.delta_pages old) old old (Some l) (Some l) (Ok (Some (m, n))) in
+    let first : P old.linear.size (grown_size c.args.delta_pages old) = grown_nothing told leads c.args.delta_pages (old.linear.size, grown_size c.args.delta_pages old) old l c.if-delta_pages-eq0.true in
     let second : P old.linear.size c.grown_size-size.result = subst (λ (n : ℕ). P old.linear.size n) (sym c.grown_size-size.ensures.value) first in
     subst (λ (m : ℕ). P m c.grown_size-size.result) (sym c.byte_size-old.ensures.value) second
 
 pub returns-then-not-allow_growth_to : goal.returns-then-not-allow_growth_to
 returns-then-not-allow_growth_to g c =
     let old = c.args.self.now in
-    grown_past_type c.args.delta_pages (old.linear.size, grown_size c.args.delta_pages old) old (g.R.ResourceLimiter.told c.args.limiter.now) (g.R.ResourceLimiter.told c.report.new.limiter) c.report.result
+    grown_past_type g.R.ResourceLimiter.told g.R.ResourceLimiter.leads c.args.delta_pages (old.linear.size, grown_size c.args.delta_pages old) old c.args.limiter.now c.report_failure.new.limiter c.report_failure.result
     c.if-delta_pages-eq0.false
     (allowed_at c.ty.result.now old.ty c.grown_size-size.result (grown_size c.args.delta_pages old) false c.allow_growth_to.result c.ty.ensures c.grown_size-size.ensures.value c.allow_growth_to.ensures c.if-not-allow_growth_to.true)
-    c.report.ensures.answer c.report.ensures.reply c.report.ensures.limiter
+    c.report_failure.ensures.answer c.report_failure.ensures.result c.report_failure.ensures.limiter c.report_failure.ensures.exchange
 
 pub returns-in-Err : goal.returns-in-Err
 returns-in-Err g c =
     let old = c.args.self.now in
-    let t = g.R.ResourceLimiter.told c.args.limiter.now in
-    let u = g.R.ResourceLimiter.told c.memory_growing.new.self in
-    grown_error c.args.delta_pages (old.linear.size, grown_size c.args.delta_pages old) old t u c.in-Err.error
+    let told = g.R.ResourceLimiter.told in
+    let leads = g.R.ResourceLimiter.leads in
+    let l = c.args.limiter.now in
+    let m = c.memory_growing.new.self in
+    grown_error told leads c.args.delta_pages (old.linear.size, grown_size c.args.delta_pages old) old l m c.in-Err.error
     c.if-delta_pages-eq0.false
     (allowed_at c.ty.result.now old.ty c.grown_size-size.result (grown_size c.args.delta_pages old) true c.allow_growth_to.result c.ty.ensures c.grown_size-size.ensures.value c.allow_growth_to.ensures c.if-not-allow_growth_to.false)
-    (answer_at t old c.grown_size-size.result (grown_size c.args.delta_pages old) c.maximum.result c.memory_growing.result (Err c.in-Err.error) c.grown_size-size.ensures.value c.maximum.ensures c.in-Err.is c.memory_growing.ensures.answer)
-    (left_at t u c.memory_growing.result (Err c.in-Err.error) c.in-Err.is c.memory_growing.ensures.left)
+    (answer_at (told l) old c.grown_size-size.result (grown_size c.args.delta_pages old) c.maximum.result c.memory_growing.result (Err c.in-Err.error) c.grown_size-size.ensures.value c.maximum.ensures c.in-Err.is c.memory_growing.ensures.answer)
+    (left_at (told l) (told m) c.memory_growing.result (Err c.in-Err.error) c.in-Err.is c.memory_growing.ensures.left)
+    (asked_at leads c.args.delta_pages old l m c.byte_size-old.result c.grown_size-size.result c.maximum.result c.memory_growing.result (Err c.in-Err.error) c.byte_size-old.ensures.value c.grown_size-size.ensures.value c.maximum.ensures c.in-Err.is c.memory_growing.ensures.exchange)
 
 pub returns-in-Ok-false : goal.returns-in-Ok-false
 returns-in-Ok-false g c =
     let old = c.args.self.now in
-    let t = g.R.ResourceLimiter.told c.args.limiter.now in
-    let u = g.R.ResourceLimiter.told c.memory_growing.new.self in
+    let told = g.R.ResourceLimiter.told in
+    let leads = g.R.ResourceLimiter.leads in
+    let l = c.args.limiter.now in
+    let m = c.memory_growing.new.self in
     let no : c.memory_growing.result ≡ Ok false = c.in-Ok-false.is ∙ ap ok_of c.in-Ok-false.field-0-test in
-    grown_no c.args.delta_pages (old.linear.size, grown_size c.args.delta_pages old) old t u
+    grown_no told leads c.args.delta_pages (old.linear.size, grown_size c.args.delta_pages old) old l m
     c.if-delta_pages-eq0.false
     (allowed_at c.ty.result.now old.ty c.grown_size-size.result (grown_size c.args.delta_pages old) true c.allow_growth_to.result c.ty.ensures c.grown_size-size.ensures.value c.allow_growth_to.ensures c.if-not-allow_growth_to.false)
-    (answer_at t old c.grown_size-size.result (grown_size c.args.delta_pages old) c.maximum.result c.memory_growing.result (Ok false) c.grown_size-size.ensures.value c.maximum.ensures no c.memory_growing.ensures.answer)
-    (left_at t u c.memory_growing.result (Ok false) no c.memory_growing.ensures.left)
+    (answer_at (told l) old c.grown_size-size.result (grown_size c.args.delta_pages old) c.maximum.result c.memory_growing.result (Ok false) c.grown_size-size.ensures.value c.maximum.ensures no c.memory_growing.ensures.answer)
+    (left_at (told l) (told m) c.memory_growing.result (Ok false) no c.memory_growing.ensures.left)
+    (asked_at leads c.args.delta_pages old l m c.byte_size-old.result c.grown_size-size.result c.maximum.result c.memory_growing.result (Ok false) c.byte_size-old.ensures.value c.grown_size-size.ensures.value c.maximum.ensures no c.memory_growing.ensures.exchange)
 
 pub returns-in-Ok-true : goal.returns-in-Ok-true
 returns-in-Ok-true g c =
     let old = c.args.self.now in
-    let t = g.R.ResourceLimiter.told c.args.limiter.now in
-    let v = g.R.ResourceLimiter.told c.memory_growing.new.self in
-    let u = g.R.ResourceLimiter.told c.grow_allowed.new.limiter in
+    let told = g.R.ResourceLimiter.told in
+    let leads = g.R.ResourceLimiter.leads in
+    let l = c.args.limiter.now in
+    let m = c.memory_growing.new.self in
+    let n = c.grow_allowed.new.limiter in
     let yes_it_may : c.memory_growing.result ≡ Ok true = c.in-Ok-true.is ∙ ap ok_of c.in-Ok-true.field-0-test in
-    let P : ℕ → Type 0 = λ n. IsAllowedGrowth (past_room n old) n (old.linear.size, n) old.linear c.grow_allowed.new.self.linear v u c.grow_allowed.result in
-    grown_allowed c.args.delta_pages (old.linear.size, grown_size c.args.delta_pages old) old c.grow_allowed.new.self t v u c.grow_allowed.result
+    let P : ℕ → Type 0 = λ s. IsAllowedGrowth told leads (past_room s old) s (old.linear.size, s) old.linear c.grow_allowed.new.self.linear m n c.grow_allowed.result in
+    grown_allowed told leads c.args.delta_pages (old.linear.size, grown_size c.args.delta_pages old) old c.grow_allowed.new.self l m n c.grow_allowed.result
     c.if-delta_pages-eq0.false
     (allowed_at c.ty.result.now old.ty c.grown_size-size.result (grown_size c.args.delta_pages old) true c.allow_growth_to.result c.ty.ensures c.grown_size-size.ensures.value c.allow_growth_to.ensures c.if-not-allow_growth_to.false)
-    (answer_at t old c.grown_size-size.result (grown_size c.args.delta_pages old) c.maximum.result c.memory_growing.result (Ok true) c.grown_size-size.ensures.value c.maximum.ensures yes_it_may c.memory_growing.ensures.answer)
-    (left_at t v c.memory_growing.result (Ok true) yes_it_may c.memory_growing.ensures.left)
+    (answer_at (told l) old c.grown_size-size.result (grown_size c.args.delta_pages old) c.maximum.result c.memory_growing.result (Ok true) c.grown_size-size.ensures.value c.maximum.ensures yes_it_may c.memory_growing.ensures.answer)
+    (left_at (told l) (told m) c.memory_growing.result (Ok true) yes_it_may c.memory_growing.ensures.left)
+    (asked_at leads c.args.delta_pages old l m c.byte_size-old.result c.grown_size-size.result c.maximum.result c.memory_growing.result (Ok true) c.byte_size-old.ensures.value c.grown_size-size.ensures.value c.maximum.ensures yes_it_may c.memory_growing.ensures.exchange)
     (subst P c.grown_size-size.ensures.value c.grow_allowed.ensures.growth)
     c.grow_allowed.ensures.same

@@ -1,6 +1,6 @@
-use Rattle.std.proofs.Common.{ℕ, ◌+◌, ◌≤◌, List, length, replicate, sym, subst, arith, IfSome}
+use Rattle.std.proofs.Common.{ℕ, ◌+◌, ◌≤◌, List, replicate, sym, subst, arith, IfSome}
 use Rattle.std.proofs.lemmas.List.{length-replicate}
-use Rattle.pool_images.specs.Slots.{Slot, Fits, IsReady}
+use Rattle.pool_images.specs.Slots.{Slot, IsSlot, IsReady}
 use Rattle.pool_memory.specs.Static.{Static, IsStatic}
 use Rattle.pool_memory.proofs.Statics.{written_is_static}
 use Rattle.pool_memory.proofs.static_memory.StaticMemoryRuntimeLinearMemory.fill.Goals as goal
@@ -10,7 +10,7 @@ invariant_of-self g c =
     let i = c.self.inside in
     let m : Static = record { slot = i.slot; size = i.size; capacity = i.capacity } in
     let bytes : List ℕ = replicate c.args.len c.args.byte in
-    let F : Static → Type 0 = λ s. Fits s.slot in
+    let F : Static → Type 0 = λ s. IsSlot s.slot in
     let N : Static → Type 0 = λ s. c.args.at + c.args.len ≤ s.size in
     let P : Slot → Type 0 = λ s. IsStatic (record { slot = s; size = i.size; capacity = i.capacity }) in
     let R : Slot → Type 0 = λ s. IfSome s.region.contents (IsReady s) in

@@ -1,5 +1,5 @@
 use Rattle.std.proofs.Common.{◌≤◌, sym, subst, arith}
-use Rattle.pool_images.specs.Slots.{Fits}
+use Rattle.pool_images.specs.Slots.{IsSlot}
 use Rattle.pool_images.proofs.Kept.{kept_self}
 use Rattle.pool_memory.specs.Linear.{ready}
 use Rattle.pool_memory.specs.Static.{Static, linear_of}
@@ -10,7 +10,7 @@ pub invariant_of-self : goal.invariant_of-self
 invariant_of-self g c =
     let i = c.self.inside in
     let m : Static = record { slot = i.slot; size = i.size; capacity = i.capacity } in
-    let F : Static → Type 0 = λ s. Fits s.slot in
+    let F : Static → Type 0 = λ s. IsSlot s.slot in
     let M : Static → Type 0 = λ s. s.size ≤ c.args.len in
     let N : Static → Type 0 = λ s. c.args.len ≤ ready (linear_of s) in
     let within : c.args.len ≤ ready (linear_of m) = subst N (sym c.self.view_is) c.requires.ready in

@@ -1,5 +1,5 @@
 use Rattle.std.proofs.Common.{◌+◌, ◌≤◌, length, sym, subst, IfSome}
-use Rattle.pool_images.specs.Slots.{Slot, Fits, IsReady}
+use Rattle.pool_images.specs.Slots.{Slot, IsSlot, IsReady}
 use Rattle.pool_memory.specs.Static.{Static, IsStatic}
 use Rattle.pool_memory.proofs.Statics.{written_is_static}
 use Rattle.pool_memory.proofs.static_memory.StaticMemoryRuntimeLinearMemory.write.Goals as goal
@@ -8,7 +8,7 @@ pub invariant_of-self : goal.invariant_of-self
 invariant_of-self g c =
     let i = c.self.inside in
     let m : Static = record { slot = i.slot; size = i.size; capacity = i.capacity } in
-    let F : Static → Type 0 = λ s. Fits s.slot in
+    let F : Static → Type 0 = λ s. IsSlot s.slot in
     let N : Static → Type 0 = λ s. c.args.at + length c.args.bytes.now ≤ s.size in
     let P : Slot → Type 0 = λ s. IsStatic (record { slot = s; size = i.size; capacity = i.capacity }) in
     let R : Slot → Type 0 = λ s. IfSome s.region.contents (IsReady s) in

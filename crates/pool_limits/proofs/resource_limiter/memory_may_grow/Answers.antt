@@ -1,4 +1,0 @@
-use Rattle.pool_limits.proofs.resource_limiter.memory_may_grow.Goals as goal
-
-pub returns-in-Some-clause-left : goal.returns-in-Some-clause-left
-returns-in-Some-clause-left g c = rw c.in-Some.is c.memory_growing.ensures.left
