@@ -37,7 +37,7 @@ none_left (w ∷ us) none' = let one : one_if (same w w) ≡ 1 = ap one_if (same
 
 -- Puts, by the units that come into the view and those that leave it. The kinds of part make no difference
 module _ {T : Type 0} (m : Meaning T) (parts : List T) (limits : List ℕ) (p : ℕ) (x y : T) (us : List UnitName) (stands : StandsAt m parts limits p y) (topped : m.topped x ≡ true → m.topped y ≡ true)
-    (steady : m.steady y ≡ true → m.steady x ≡ true) (rises : m.steady y ≡ true → (i : ℕ) → slice_index (m.counts x) i ≤ slice_index (m.counts y) i) where
+    (steady : m.steady y ≡ m.steady x) (rises : m.steady y ≡ true → (i : ℕ) → slice_index (m.counts x) i ≤ slice_index (m.counts y) i) where
   -- any units: those that come are the part's to give, and the view has those that leave
   module _ (come leave : List UnitName) (flow : (u : UnitName) → times u (m.away y) + times u (m.kept x) + times u leave ≡ times u (m.away x) + times u (m.kept y) + times u come)
       (had : (u : UnitName) → times u leave ≤ times u us + times u come) where

@@ -86,7 +86,7 @@ module _ {T : Type 0} (m : Meaning T) (parts : List T) (limits : List ℕ) where
         rose = λ i. 0;
         counts = λ i. omega arith;
         count = λ i. let small = (r.part p x here).small i in omega arith;
-        steady = λ e. e;
+        steady = refl;
         exact = λ e i. omega arith;
         others = λ q i apart. refl;
         topped = λ e. e;

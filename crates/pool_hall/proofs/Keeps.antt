@@ -72,7 +72,7 @@ module _ {T : Type 0} (m : Meaning T) (parts : List T) (limits : List ℕ) where
     pub rose : ℕ → ℕ
     pub counts : (i : ℕ) → number (counted p i) w ≡ number (counted p i) v + rose i
     pub count : (i : ℕ) → slice_index (m.counts y) i ≡ (slice_index (m.counts x) i + rose i) % 2 ^ 64
-    pub steady : m.steady y ≡ true → m.steady x ≡ true
+    pub steady : m.steady y ≡ m.steady x
     pub exact : m.steady y ≡ true → (i : ℕ) → slice_index (m.counts y) i ≡ slice_index (m.counts x) i + rose i
     pub others : (q i : ℕ) → q ≢ p → number (counted q i) w ≡ number (counted q i) v
     pub topped : m.topped x ≡ true → m.topped y ≡ true
@@ -179,7 +179,7 @@ module _ {T : Type 0} (m : Meaning T) (parts : List T) (limits : List ℕ) where
           (let a = counted_here i in let b = r.count p i x here in let c = mv.count i in omega arith)
           (λ q z f e. r.count q i z e ∙ ap (λ k. k % 2 ^ 64) (sym (counted_apart q i f))) q z e;
       exact = λ q i z e. at_now (λ q z. m.steady z ≡ true → slice_index (m.counts z) i ≡ sum (counted q i) t.views)
-          (λ steady. let a = counted_here i in let b = r.exact p i x here (mv.steady steady) in let c = mv.exact steady i in omega arith)
+          (λ steady. let a = counted_here i in let b = r.exact p i x here (sym mv.steady ∙ steady) in let c = mv.exact steady i in omega arith)
           (λ q z f e steady. r.exact q i z e steady ∙ sym (counted_apart q i f)) q z e;
       portions = let a = total_set (number portion_count) s.views id v w seen in let b : w.portions ≡ v.portions = mv.portions in let c = r.portions in omega arith;
       each = λ j u e. ⊎_elim

@@ -90,7 +90,8 @@ module _ {T : Type 0} (m : Meaning T) where
     pub paid : (u : UnitName) → times u (m.away x) + times u (m.kept y) ≤ times u us + (times u (m.away y) + times u (m.kept x))
     pub beside : Beside (moved x y us)
     pub topped : m.topped x ≡ true → m.topped y ≡ true
-    pub steady : m.steady y ≡ true → m.steady x ≡ true
+    -- a part is steady for good, or never
+    pub steady : m.steady y ≡ m.steady x
     -- no count of a steady part fell
     pub rises : m.steady y ≡ true → (i : ℕ) → slice_index (m.counts x) i ≤ slice_index (m.counts y) i
 

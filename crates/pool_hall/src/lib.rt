@@ -19,6 +19,3 @@ pub use part::Part;
 pub use sums::sums_follow;
 pub use unit_name::{SlotKind, UnitName};
 pub use view::{CountRise, HeldPart, View};
-
-#[cfg(test)]
-mod tests;

@@ -22,6 +22,7 @@ impl<T: Part> Hall<T> {
         ensures still_free { IsFree seat.old → IsFree seat.new }
         ensures free { IsFree result }
     {
+        // The contract alone reads the number.
         let _ = portions;
         let other = self.table.shared.split_seat::<Cut<N>>(&mut seat.seat);
         HallSeat {
