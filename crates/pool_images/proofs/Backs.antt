@@ -5,7 +5,7 @@ use Rattle.pool_pages.specs.Count.{Count}
 use Rattle.pool_pages.specs.Contents.{Contents, IsShaped, CanReach, put, put_all, written, put_back}
 use Rattle.pool_pages.specs.Told.{Told, TellsShaped, restored}
 use Rattle.pool_pages.proofs.Puts.{length-put, length-range, range-put, range-put_both, put_empty, put_range}
-use Rattle.pool_images.specs.Slots.{Slot, Fits, Keeps, IsSound, IsReady, size_of, cleared}
+use Rattle.pool_images.specs.Slots.{Slot, IsSlot, Keeps, IsSound, IsReady, size_of, cleared}
 use Rattle.pool_images.proofs.Making.{reach_slot}
 use Rattle.pool_images.proofs.Ready.{followed}
 
@@ -47,13 +47,13 @@ restored_none i n t none =
     subst E (sym none) (ap (λ o. record t { contents = o }) (sym (none_told i t.contents)))
 
 -- the first bytes of the slot can be reached
-pub reach_first : (s : Slot) (n : ℕ) → Fits s → IfSome s.region.contents (IsReady s) → n ≤ s.accessible.bytes → IfSome s.region.contents (CanReach s.base.bytes n)
+pub reach_first : (s : Slot) (n : ℕ) → IsSlot s → IfSome s.region.contents (IsReady s) → n ≤ s.accessible.bytes → IfSome s.region.contents (CanReach s.base.bytes n)
 reach_first s n fits ready within =
     let zero : s.base.bytes + 0 ≡ s.base.bytes = omega arith in
     let P : ℕ → Type 0 = λ i. IfSome s.region.contents (CanReach i n) in
     subst P zero (reach_slot s 0 n fits ready (omega arith))
 
-pub tells_shaped : (s : Slot) → Fits s → TellsShaped s.region
+pub tells_shaped : (s : Slot) → IsSlot s → TellsShaped s.region
 tells_shaped s fits = followed (IsSound s.region.page s.region.len s.base.bytes (size_of s)) (IsShaped s.region.page s.region.len) s.region.contents (λ c h. h.shaped) fits.told
 
 back_sound : (page len base size i n : ℕ) (o : Option Contents) → IfSome o (IsSound page len base size) → IfSome (option_map (put_back i n) o) (IsShaped page len) → IfSome (option_map (put_back i n) o) (IsSound page len base size)
@@ -65,16 +65,7 @@ pub cleared_keeps : (whole : Count) (s : Slot) (kept : ℕ) → Keeps whole s �
 cleared_keeps whole s kept keeps shaped = record {
   size = keeps.size;
   fits = record {
-    page_size = keeps.fits.page_size;
-    base_page = keeps.fits.base_page;
-    base_whole = keeps.fits.base_whole;
-    accessible_page = keeps.fits.accessible_page;
-    accessible_whole = keeps.fits.accessible_whole;
-    inside = keeps.fits.inside;
-    bounded = keeps.fits.bounded;
-    roomy = keeps.fits.roomy;
-    within = keeps.fits.within;
-    image = keeps.fits.image;
+    sizes = keeps.fits.sizes;
     told = back_sound s.region.page s.region.len s.base.bytes (size_of s) s.base.bytes kept s.region.contents keeps.fits.told shaped;
   };
 }

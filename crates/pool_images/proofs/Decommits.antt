@@ -2,32 +2,33 @@
 use Rattle.std.proofs.Common.{◌≡◌, ℕ, ◌+◌, ◌-◌, ◌*◌, ◌/◌, ◌<◌, ◌≤◌, false, List, length, get_or, refl, sym, ap, ◌∙◌, subst, inl, inr, arith, slice_range, Option, Some, None, Result, Ok, Err}
 use Rattle.std.specs.Prelude.{IfSome, OnOk, OnErr, ◌⊎◌, slice_index_or}
 use Rattle.std.proofs.lemmas.Bool.{cases_lt}
-use Rattle.pool_pages.specs.Contents.{Contents, IsShaped, Page, page_at, page_origin, decommitted}
+use Rattle.pool_pages.specs.Contents.{Contents, IsShaped, IsIn, Page, page_at, page_origin, decommitted}
 use Rattle.pool_pages.specs.Told.{Told, PageCall, IsPartly, MayChangePartly, Faulted, TellsShaped, counted, succeeded, decommitting}
 use Rattle.pool_pages.proofs.Multiples.{page_of}
 use Rattle.pool_pages.proofs.Puts.{get_or-range, same_at, same_range, range_within, same_by_pages}
-use Rattle.pool_images.specs.Slots.{Slot, Fits, IsSound, IsReady, IsClean, Holds, origin_image, placed, size_of, called}
+use Rattle.pool_images.specs.Slots.{Slot, IsSlot, IsSound, IsReady, IsClean, Holds, origin_image, placed, size_of, called}
 use Rattle.pool_images.proofs.Backs.{back_there}
 use Rattle.pool_images.proofs.Ready.{IsGood, IsStarted, good, lifted, followed}
 
 -- bytes that are what they go back to still are once some are put back
-still_holds : (s : Slot) (start len from to : ℕ) (c : Contents) → Fits s → IsSound s.region.page s.region.len s.base.bytes (size_of s) c → start + len ≤ size_of s → to ≤ size_of s → Holds s from to c → Holds s from to (decommitted (s.base.bytes + start) len c)
+still_holds : (s : Slot) (start len from to : ℕ) (c : Contents) → IsSlot s → IsSound s.region.page s.region.len s.base.bytes (size_of s) c → start + len ≤ size_of s → to ≤ size_of s → Holds s from to c → Holds s from to (decommitted (s.base.bytes + start) len c)
 still_holds s start len from to c fits sound inside within holds =
     let all : length c.origin ≡ s.region.len = sound.shaped.origin in
     let every : length c.bytes ≡ s.region.len = sound.shaped.bytes in
-    back_there (s.base.bytes + start) len (s.base.bytes + from) (s.base.bytes + to) c.bytes c.origin (every ∙ sym all) (omega (arith, fits.inside)) (omega (arith, fits.inside)) holds
+    back_there (s.base.bytes + start) len (s.base.bytes + from) (s.base.bytes + to) c.bytes c.origin (every ∙ sym all) (omega (arith, fits.sizes.inside)) (omega (arith, fits.sizes.inside)) holds
 
-still_started : (s : Slot) (start len : ℕ) (c : Contents) → Fits s → start + len ≤ size_of s → IsGood s c → IsStarted (called (decommitting (s.base.bytes + start) len) s) (decommitted (s.base.bytes + start) len c)
+still_started : (s : Slot) (start len : ℕ) (c : Contents) → IsSlot s → start + len ≤ size_of s → IsGood s c → IsStarted (called (decommitting (s.base.bytes + start) len) s) (decommitted (s.base.bytes + start) len c)
 still_started s start len c fits inside g = record {
   ready = record {
     reach = g.ready.reach;
     origin = g.ready.origin;
     beyond = still_holds s start len s.accessible.bytes (size_of s) c fits g.sound inside (omega arith) g.ready.beyond;
+    colour = g.ready.colour;
   };
   holds = still_holds s start len 0 (size_of s) c fits g.sound inside (omega arith) g.holds;
 }
 
-pub still_clean : (s : Slot) (start len : ℕ) → Fits s → IsClean s → start + len ≤ size_of s → IsClean (called (decommitting (s.base.bytes + start) len) s)
+pub still_clean : (s : Slot) (start len : ℕ) → IsSlot s → IsClean s → start + len ≤ size_of s → IsClean (called (decommitting (s.base.bytes + start) len) s)
 still_clean s start len fits clean inside =
     let t : Slot = called (decommitting (s.base.bytes + start) len) s in
     let f : Contents → Contents = decommitted (s.base.bytes + start) len in
@@ -73,13 +74,13 @@ from_page d k i x inside holds =
     ∙ holds
     ∙ get_or-range d.origin (k * d.page) (k * d.page + d.page) i x under
 
-module _ (s : Slot) (start len : ℕ) (c d : Contents) (fits : Fits s) (inside : start + len ≤ size_of s) (g : IsGood s c) (partly : IsPartly (decommitting (s.base.bytes + start) len) c d) (shaped : IsShaped s.region.page s.region.len d) where
+module _ (s : Slot) (start len : ℕ) (c d : Contents) (fits : IsSlot s) (inside : start + len ≤ size_of s) (g : IsGood s c) (partly : IsPartly (decommitting (s.base.bytes + start) len) c d) (shaped : IsShaped s.region.page s.region.len d) where
   partly_page : d.page ≡ c.page
   partly_page = shaped.same_page ∙ sym g.sound.shaped.same_page
 
   partly_origin : d.origin ≡ c.origin
   partly_origin =
-      same_by_pages d.origin c.origin s.region.page (omega (arith, fits.page_size.at_least)) (rw shaped.origin shaped.whole) (shaped.origin ∙ sym g.sound.shaped.origin)
+      same_by_pages d.origin c.origin s.region.page (omega (arith, fits.sizes.page_size.at_least)) (rw shaped.origin shaped.whole) (shaped.origin ∙ sym g.sound.shaped.origin)
       (λ k below.
       let P : ℕ → ℕ → Type 0 = λ m n. slice_range d.origin (k * m) (k * m + m) ≡ slice_range c.origin (k * n) (k * n + n) in
       let same : P d.page c.page = by_page (λ p. p.origin ≡ page_origin k c) (decommitting (s.base.bytes + start) len) c d k partly refl refl in
@@ -89,9 +90,12 @@ module _ (s : Slot) (start len : ℕ) (c d : Contents) (fits : Fits s) (inside :
   partly_reach : (k : ℕ) → slice_index_or d.accessible k false ≡ slice_index_or c.accessible k false
   partly_reach k = by_page (λ p. p.accessible ≡ slice_index_or c.accessible k false) (decommitting (s.base.bytes + start) len) c d k partly refl refl
 
+  partly_colour : (k : ℕ) → slice_index_or d.colour k 0 ≡ slice_index_or c.colour k 0
+  partly_colour k = by_page (λ p. p.colour ≡ slice_index_or c.colour k 0) (decommitting (s.base.bytes + start) len) c d k partly refl refl
+
   partly_at : (j x : ℕ) → s.base.bytes + 0 ≤ j → j < s.base.bytes + size_of s → get_or d.bytes j x ≡ get_or d.origin j x
   partly_at j x from below =
-      let some : 0 < d.page = rw shaped.same_page (omega (arith, fits.page_size.at_least)) in
+      let some : 0 < d.page = rw shaped.same_page (omega (arith, fits.sizes.page_size.at_least)) in
       let k : ℕ = j / d.page in
       let place = page_of j d.page some in
       let i : ℕ = j - j / d.page * d.page in
@@ -109,7 +113,7 @@ module _ (s : Slot) (start len : ℕ) (c d : Contents) (fits : Fits s) (inside :
       subst P sum (from_page d k i x within at)
 
   partly_holds : Holds s 0 (size_of s) d
-  partly_holds = same_range d.bytes d.origin (s.base.bytes + 0) (s.base.bytes + size_of s) (omega (arith, shaped.bytes, fits.inside)) (omega (arith, shaped.origin, fits.inside)) (λ j x from below. partly_at j x from below)
+  partly_holds = same_range d.bytes d.origin (s.base.bytes + 0) (s.base.bytes + size_of s) (omega (arith, shaped.bytes, fits.sizes.inside)) (omega (arith, shaped.origin, fits.sizes.inside)) (λ j x from below. partly_at j x from below)
 
   partly_started : IsStarted s d
   partly_started = record {
@@ -119,18 +123,21 @@ module _ (s : Slot) (start len : ℕ) (c d : Contents) (fits : Fits s) (inside :
           let P : List ℕ → Type 0 = λ l. l ≡ placed s.base.bytes (origin_image s) l in
           subst P (sym partly_origin) g.ready.origin;
       beyond = range_within d.bytes d.origin (s.base.bytes + 0) (s.base.bytes + size_of s) (s.base.bytes + s.accessible.bytes) (s.base.bytes + size_of s)
-          (omega (arith, shaped.bytes, fits.inside)) (omega (arith, shaped.origin, fits.inside)) (omega arith) (omega arith) partly_holds;
+          (omega (arith, shaped.bytes, fits.sizes.inside)) (omega (arith, shaped.origin, fits.sizes.inside)) (omega arith) (omega arith) partly_holds;
+      colour = λ k inside.
+          let same : IsIn s.base.bytes (size_of s) c.page k = rw partly_page at inside in
+          partly_colour k ∙ g.ready.colour k same;
     };
     holds = partly_holds;
   }
 
-partly_told : (s : Slot) (start len : ℕ) (old new : Option Contents) → Fits s → start + len ≤ size_of s → IfSome old (IsGood s) → MayChangePartly (decommitting (s.base.bytes + start) len) old new → IfSome new (IsShaped s.region.page s.region.len) → IfSome new (IsStarted s)
+partly_told : (s : Slot) (start len : ℕ) (old new : Option Contents) → IsSlot s → start + len ≤ size_of s → IfSome old (IsGood s) → MayChangePartly (decommitting (s.base.bytes + start) len) old new → IfSome new (IsShaped s.region.page s.region.len) → IfSome new (IsStarted s)
 partly_told s start len None None fits inside g partly shaped = shaped
 partly_told s start len None (Some d) fits inside g partly shaped = absurd partly
 partly_told s start len (Some c) None fits inside g partly shaped = absurd partly
 partly_told s start len (Some c) (Some d) fits inside g partly shaped = partly_started s start len c d fits inside g partly shaped
 
-pub faulted_clean : (s : Slot) (start len : ℕ) (new : Told) → Fits s → IsClean s → start + len ≤ size_of s → Faulted (decommitting (s.base.bytes + start) len) s.region new → TellsShaped new → IsClean (record s { region = new })
+pub faulted_clean : (s : Slot) (start len : ℕ) (new : Told) → IsSlot s → IsClean s → start + len ≤ size_of s → Faulted (decommitting (s.base.bytes + start) len) s.region new → TellsShaped new → IsClean (record s { region = new })
 faulted_clean s start len new fits clean inside faulted shaped =
     let P : Told → Type 0 = λ t. IsClean (record s { region = t }) in
     let page : new.page ≡ s.region.page = ap (λ (t : Told). t.page) faulted.same in
@@ -144,19 +151,19 @@ faulted_clean s start len new fits clean inside faulted shaped =
     subst P (sym faulted.same) (record {
       not_dirty = clean.not_dirty;
       image = clean.image;
-      ready = followed (IsStarted s) (IsReady t) new.contents (λ d st. record { reach = st.ready.reach; origin = st.ready.origin; beyond = st.ready.beyond }) started;
+      ready = followed (IsStarted s) (IsReady t) new.contents (λ d st. record { reach = st.ready.reach; origin = st.ready.origin; beyond = st.ready.beyond; colour = st.ready.colour }) started;
       holds = followed (IsStarted s) (Holds t 0 (size_of t)) new.contents (λ d st. st.holds) started;
     })
 
 -- The same as the code says them, whatever the call answered.
-pub clean_ok : {U E : Type 0} (s : Slot) (from start len : ℕ) (new : Told) (r : Result U E) → from ≡ s.base.bytes + start → Fits s → IsClean s → start + len ≤ size_of s → OnOk r (new ≡ succeeded (decommitting from len) s.region) → OnOk r (IsClean (record s { region = new }))
+pub clean_ok : {U E : Type 0} (s : Slot) (from start len : ℕ) (new : Told) (r : Result U E) → from ≡ s.base.bytes + start → IsSlot s → IsClean s → start + len ≤ size_of s → OnOk r (new ≡ succeeded (decommitting from len) s.region) → OnOk r (IsClean (record s { region = new }))
 clean_ok s from start len new (Err e) at fits clean inside ok = ok
 clean_ok s from start len new (Ok x) at fits clean inside ok =
     let P : Told → Type 0 = λ t. IsClean (record s { region = t }) in
     let Q : ℕ → Type 0 = λ n. new ≡ succeeded (decommitting n len) s.region in
     subst P (sym (subst Q at ok)) (still_clean s start len fits clean inside)
 
-pub clean_err : {U E : Type 0} (s : Slot) (from start len : ℕ) (new : Told) (r : Result U E) → from ≡ s.base.bytes + start → Fits s → IsClean s → start + len ≤ size_of s → OnErr r (Faulted (decommitting from len) s.region new) → TellsShaped new → OnErr r (IsClean (record s { region = new }))
+pub clean_err : {U E : Type 0} (s : Slot) (from start len : ℕ) (new : Told) (r : Result U E) → from ≡ s.base.bytes + start → IsSlot s → IsClean s → start + len ≤ size_of s → OnErr r (Faulted (decommitting from len) s.region new) → TellsShaped new → OnErr r (IsClean (record s { region = new }))
 clean_err s from start len new (Ok x) at fits clean inside fault shaped = fault
 clean_err s from start len new (Err e) at fits clean inside fault shaped =
     let Q : ℕ → Type 0 = λ n. Faulted (decommitting n len) s.region new in

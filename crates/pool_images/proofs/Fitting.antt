@@ -5,7 +5,7 @@ use Rattle.std.proofs.lemmas.Bool.{cases_lt}
 use Rattle.std.proofs.Math.Nat.{mul-le-mul_right}
 use Rattle.pool_pages.specs.Count.{Count, count}
 use Rattle.pool_pages.specs.Contents.{Contents, IsShaped, IsIn, Page, page_origin, put}
-use Rattle.pool_pages.specs.Told.{Told, PageCall, MayChangePartly, Faulted, TellsShaped, succeeded, exposing, hiding, mapped, mapping, remapping, erasing, decommitting}
+use Rattle.pool_pages.specs.Told.{Told, PageCall, MayChangePartly, Faulted, TellsShaped, succeeded, exposing, hiding, mapped, mapping, remapping, erasing, recolouring, decommitting}
 use Rattle.pool_pages.specs.declared.pages.DecommitBehavior.{DecommitBehavior}
 use Rattle.pool_pages.specs.declared.pages.DecommitBehavior.TheVariants.{Zero, RestoreOriginalMapping}
 use Rattle.std.proofs.lemmas.List.{length-replicate}
@@ -44,16 +44,7 @@ pub keeps_ok : (whole : Count) (call : PageCall) (s : Slot) → Keeps whole s �
 keeps_ok whole call s keeps outside shaped = record {
   size = keeps.size;
   fits = record {
-    page_size = keeps.fits.page_size;
-    base_page = keeps.fits.base_page;
-    base_whole = keeps.fits.base_whole;
-    accessible_page = keeps.fits.accessible_page;
-    accessible_whole = keeps.fits.accessible_whole;
-    inside = keeps.fits.inside;
-    bounded = keeps.fits.bounded;
-    roomy = keeps.fits.roomy;
-    within = keeps.fits.within;
-    image = keeps.fits.image;
+    sizes = keeps.fits.sizes;
     told = told_ok call s.region.page s.region.len s.base.bytes (size_of s) s.region.contents outside keeps.fits.told shaped;
   };
 }
@@ -69,16 +60,7 @@ keeps_err whole call s new keeps outside faulted shaped =
     subst P (sym faulted.same) (record {
       size = keeps.size;
       fits = record {
-        page_size = keeps.fits.page_size;
-        base_page = keeps.fits.base_page;
-        base_whole = keeps.fits.base_whole;
-        accessible_page = keeps.fits.accessible_page;
-        accessible_whole = keeps.fits.accessible_whole;
-        inside = keeps.fits.inside;
-        bounded = keeps.fits.bounded;
-        roomy = keeps.fits.roomy;
-        within = keeps.fits.within;
-        image = keeps.fits.image;
+        sizes = keeps.fits.sizes;
         told = told_partly call s.region.page s.region.len s.base.bytes (size_of s) s.region.contents new.contents outside keeps.fits.told faulted.partly shape;
       };
     })
@@ -130,10 +112,15 @@ module _ {U E : Type 0} (whole : Count) (s : Slot) (from : Count) (new : Told) (
       let place : from.bytes ≡ s.base.bytes + start = ap (λ (c : Count). c.bytes) at in
       keeps_called whole (decommitting from.bytes len) s new r keeps (record { from = omega arith; to = omega arith; outside = λ c k h below out. refl }) ok fault shaped
 
+  pub keeps_recoloured : (start len colour : ℕ) → Keeps whole s → from ≡ count s.base.page (s.base.bytes + start) → start + len ≤ size_of s → OnOk r (new ≡ succeeded (recolouring from.bytes len colour) s.region) → OnErr r (Faulted (recolouring from.bytes len colour) s.region new) → TellsShaped new → Keeps whole (record s { region = new })
+  keeps_recoloured start len colour keeps at inside ok fault shaped =
+      let place : from.bytes ≡ s.base.bytes + start = ap (λ (c : Count). c.bytes) at in
+      keeps_called whole (recolouring from.bytes len colour) s new r keeps (record { from = omega arith; to = omega arith; outside = λ c k h below out. refl }) ok fault shaped
+
   outside_put : (start : ℕ) (ys : List ℕ) → Keeps whole s → from.bytes ≡ s.base.bytes + start → start + length ys ≤ size_of s → (c : Contents) (k : ℕ) → IsShaped s.region.page s.region.len c → k < s.region.len / s.region.page → (IsIn s.base.bytes (size_of s) s.region.page k → ⊥) → slice_range (put from.bytes ys c.origin) (k * c.page) (k * c.page + c.page) ≡ page_origin k c
   outside_put start ys keeps place inside c k h below out =
-      let least : 16 ≤ s.region.page = keeps.fits.page_size.at_least in
-      rw h.same_page (put_outside from.bytes ys c.origin s.region.page s.region.len s.base.bytes (size_of s) k (omega arith) h.origin h.whole keeps.fits.base_whole (omega arith) (omega arith) keeps.fits.inside below out)
+      let least : 16 ≤ s.region.page = keeps.fits.sizes.page_size.at_least in
+      rw h.same_page (put_outside from.bytes ys c.origin s.region.page s.region.len s.base.bytes (size_of s) k (omega arith) h.origin h.whole keeps.fits.sizes.base_whole (omega arith) (omega arith) keeps.fits.sizes.inside below out)
 
   pub keeps_remapped : (start len : ℕ) → Keeps whole s → from ≡ count s.base.page (s.base.bytes + start) → start + len ≤ size_of s → OnOk r (new ≡ succeeded (remapping from.bytes len) s.region) → OnErr r (Faulted (remapping from.bytes len) s.region new) → TellsShaped new → Keeps whole (record s { region = new })
   keeps_remapped start len keeps at inside ok fault shaped =

@@ -1,11 +1,19 @@
 -- The images of a module, one memory after another.
-use Rattle.std.proofs.Common.{◌≡◌, ℕ, zero, suc, ◌+◌, ◌<◌, List, [], ◌∷◌, ◌++◌, length, get_or, take, refl, ap, ◌∙◌, arith, Option, Some, None, Bool, true, false}
-use Rattle.std.specs.Prelude.{is_some, IfSome, option_map, ◌&&◌, ◌||◌, if◌then◌else◌}
+use Rattle.std.proofs.Common.{◌≡◌, ℕ, zero, suc, ◌+◌, ◌<◌, List, [], ◌∷◌, ◌++◌, length, get_or, take, refl, sym, subst, ap, ◌∙◌, arith, Option, Some, None, Bool, true, false}
+use Rattle.std.specs.Prelude.{Result, Ok, Err, MatchResult, is_some, IfSome, option_map, ◌&&◌, ◌||◌, if◌then◌else◌}
+use Rattle.std.specs.List.{list_any}
+use Rattle.std.specs.Result.{IsErrAnd}
 use Rattle.std.proofs.lemmas.List.{take_more, length-take-le}
+use Rattle.std.proofs.lemmas.List.Folds.{list_any_at}
 use Rattle.pool_pages.specs.declared.module_types.CompiledModuleId.{CompiledModuleId}
 use Rattle.pool_pages.specs.declared.module_types.MemoryDecl.{MemoryDecl}
+use Rattle.pool_pages.specs.declared.maker.MakeFault.TheVariants as making
+use Rattle.pool_pages.specs.MakeFaults.{RaisesBehind}
 use Rattle.pool_pages.specs.MakerTold.{Planned, fails_images}
-use Rattle.pool_images.specs.Images.{image_of, images_from, makes_listed, misplaced, first_misplaced}
+use Rattle.pool_images.specs.declared.memory_image.ImageError.{ImageError}
+use Rattle.pool_images.specs.declared.memory_image.ImageError.TheVariants.{Memory, Unsupported, PageFault}
+use Rattle.pool_images.specs.ImageErrors.{RaisesImageBehind}
+use Rattle.pool_images.specs.Images.{image_of, images_from, makes_listed_images, misplaced, first_misplaced}
 
 -- one more memory
 pub images_from_push : (id : CompiledModuleId) (page n : ℕ) (decls : List MemoryDecl) (decl : MemoryDecl) → images_from id page n (decls ++ decl ∷ []) ≡ images_from id page n decls ++ option_map (image_of id page (n + length decls)) decl.image ∷ []
@@ -30,11 +38,11 @@ or_assoc false b c = refl
 or_assoc true b c = refl
 
 -- one more memory, for the list of those whose making fails
-pub makes_listed_push : (id : CompiledModuleId) (plan : List Planned) (decls : List MemoryDecl) (decl : MemoryDecl) → makes_listed id plan (decls ++ decl ∷ []) ≡ makes_listed id plan decls || (is_some decl.image && fails_images id.0 plan)
+pub makes_listed_push : (id : CompiledModuleId) (plan : List Planned) (decls : List MemoryDecl) (decl : MemoryDecl) → makes_listed_images id plan (decls ++ decl ∷ []) ≡ makes_listed_images id plan decls || (is_some decl.image && fails_images id.0 plan)
 makes_listed_push id plan [] decl = or_false (is_some decl.image && fails_images id.0 plan)
 makes_listed_push id plan (d ∷ decls) decl =
     ap (λ b. (is_some d.image && fails_images id.0 plan) || b) (makes_listed_push id plan decls decl)
-    ∙ or_assoc (is_some d.image && fails_images id.0 plan) (makes_listed id plan decls) (is_some decl.image && fails_images id.0 plan)
+    ∙ or_assoc (is_some d.image && fails_images id.0 plan) (makes_listed_images id plan decls) (is_some decl.image && fails_images id.0 plan)
 
 neither : (o r : Option ℕ) → (if is_some o then o else r) ≡ None → (o ≡ None) × (r ≡ None)
 neither None r none = (refl, none)
@@ -47,10 +55,35 @@ none_misplaced page (x ∷ xs) zero d below none = (neither (misplaced page x) (
 none_misplaced page (x ∷ xs) (suc i) d below none = none_misplaced page xs i d (omega arith) (neither (misplaced page x) (first_misplaced page xs) none).1
 
 -- none of the makings so far is listed, and the next isn't
-pub planned_more : (plan : Option (List Planned)) (id : CompiledModuleId) (decls : List MemoryDecl) (i : ℕ) (d : MemoryDecl) → i < length decls → IfSome plan (λ p. makes_listed id p (take i decls) ≡ false) → IfSome plan (λ p. (is_some (get_or decls i d).image && fails_images id.0 p) ≡ false) → IfSome plan (λ p. makes_listed id p (take (i + 1) decls) ≡ false)
+pub planned_more : (plan : Option (List Planned)) (id : CompiledModuleId) (decls : List MemoryDecl) (i : ℕ) (d : MemoryDecl) → i < length decls → IfSome plan (λ p. makes_listed_images id p (take i decls) ≡ false) → IfSome plan (λ p. (is_some (get_or decls i d).image && fails_images id.0 p) ≡ false) → IfSome plan (λ p. makes_listed_images id p (take (i + 1) decls) ≡ false)
 planned_more None id decls i d below before next = before
 planned_more (Some p) id decls i d below before next =
-    ap (makes_listed id p) (take_more decls i d below)
+    ap (makes_listed_images id p) (take_more decls i d below)
     ∙ makes_listed_push id p (take i decls) (get_or decls i d)
     ∙ ap (λ b. b || (is_some (get_or decls i d).image && fails_images id.0 p)) before
     ∙ next
+
+and_false : (b : Bool) → (b && false) ≡ false
+and_false true = refl
+and_false false = refl
+
+lists_none : (decls : List MemoryDecl) → list_any (λ d. is_some d.image && false) decls ≡ false
+lists_none [] = refl
+lists_none (d ∷ decls) = ap (λ b. b || list_any (λ d. is_some d.image && false) decls) (and_false (is_some d.image)) ∙ lists_none decls
+
+-- where one memory has an image, the makings of the module are listed where images are
+lists_one : (listed : Bool) (decls : List MemoryDecl) (i : ℕ) (d : MemoryDecl) → i < length decls → is_some (get_or decls i d).image ≡ true → list_any (λ d. is_some d.image && listed) decls ≡ listed
+lists_one true decls i d below has = list_any_at (λ d. is_some d.image && true) decls i d below (ap (λ b. b && true) has)
+lists_one false decls i d below has = lists_none decls
+
+-- a refused making of one image is one of the module's makings
+pub raises_one : (id : CompiledModuleId) (own : List Planned) (decls : List MemoryDecl) (i : ℕ) (d : MemoryDecl) (old new : ℕ) (e : ImageError) → i < length decls → (e ≡ PageFault → is_some (get_or decls i d).image ≡ true) →
+    RaisesImageBehind (fails_images id.0 own) old new e → RaisesImageBehind (makes_listed_images id own decls) old new e
+raises_one id own decls i d old new Memory below has raises = raises
+raises_one id own decls i d old new (Unsupported u) below has raises = raises
+raises_one id own decls i d old new PageFault below has raises = subst (λ b. RaisesBehind b old new making.PageFault) (sym (lists_one (fails_images id.0 own) decls i d below (has refl))) raises
+
+-- an error that `?` hands on is the one that was answered
+pub handed_on : {T : Type 0} (Q : T → Type 0) (P : ImageError → Type 0) (r : Result T ImageError) (e : ImageError) → IsErrAnd r (λ x. x ≡ e) → P e → MatchResult r Q P
+handed_on Q P (Ok t) e h p = absurd h
+handed_on Q P (Err x) e h p = subst P (sym h) p

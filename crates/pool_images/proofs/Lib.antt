@@ -1,8 +1,9 @@
 pub mod Backs
 pub mod Begun
+pub mod Colours
 pub mod Decommits
-pub mod Emptied
 pub mod Fitting
+pub mod Identity
 pub mod Images
 pub mod Kept
 pub mod Making
@@ -13,3 +14,5 @@ pub mod Queued
 pub mod Ready
 pub mod Resets
 pub mod Sizes
+pub mod Unmapped
+pub mod Wiped

@@ -1,15 +1,14 @@
 -- Page calls in order: those of several calls on a slot, one after the other.
-use Rattle.std.proofs.Common.{◌≡◌, ℕ, List, [], ◌∷◌, ◌++◌, Bool, true, false, Option, Some, None, Result, Ok, Err, refl, sym, ap, subst, ◌∙◌}
+use Rattle.std.proofs.Common.{◌≡◌, ℕ, List, [], ◌∷◌, ◌++◌, ◌+◌, length, Bool, true, false, Option, Some, None, Result, Ok, Err, refl, sym, ap, subst, ◌∙◌}
 use Rattle.std.proofs.lemmas.Bool.{true≢false}
 use Rattle.std.specs.Prelude.{if◌then◌else◌, IfSome, is_ok, IsErr}
-use Rattle.pool_pages.specs.Count.{Count}
-use Rattle.pool_pages.specs.Told.{Told, PageCall, succeeded, passes}
-use Rattle.pool_pages.specs.declared.pages.DecommitBehavior.{DecommitBehavior}
+use Rattle.pool_pages.specs.Told.{Told, PageCall, succeeded, passes, mapping}
 use Rattle.pool_images.specs.Images.{Image}
-use Rattle.pool_images.specs.Orders.{Follows, failed, outcome, removing, resizing, image_mapping, replacing}
-use Rattle.pool_images.specs.Slots.{Slot, resized, without, without_image}
+use Rattle.pool_images.specs.Orders.{Follows, colouring, failed, outcome, removing, resizing, image_mapping, replacing}
+use Rattle.pool_images.specs.Slots.{Slot, SlotIdentity, resized, without, without_image}
 use Rattle.pool_images.specs.declared.image_slot.ImageName.{ImageName}
-use Rattle.pool_images.proofs.Sizes.{IsLike, like_resized, like_without}
+use Rattle.pool_images.proofs.Identity.{IsLike}
+use Rattle.pool_images.proofs.Sizes.{like_resized, like_without}
 
 pub not_ok : {U E : Type 0} (r : Result U E) → IsErr r → is_ok r ≡ false
 not_ok (Ok x) err = sym err
@@ -41,7 +40,8 @@ resizing_without size hides (Some name) s = refl
 
 mapping_same : (image : Option Image) (t s : Slot) → IsLike s t → image_mapping image t ≡ image_mapping image s
 mapping_same None t s same = refl
-mapping_same (Some i) t s same = ap (λ (b : DecommitBehavior). image_mapping (Some i) (record t { region = record t.region { behaviour = b } })) same.behaviour ∙ ap (λ (r : ℕ). image_mapping (Some i) (record s { base = record s.base { bytes = r } })) (ap (λ (n : Count). n.bytes) same.base)
+mapping_same (Some i) t s same =
+    ap (λ (k : SlotIdentity). mapping k.behaviour (k.base.bytes + i.offset) i.bytes ∷ colouring k.colour (k.base.bytes + i.offset) (length i.bytes)) same.same
 
 -- the image is removed, the slot resized, and another image mapped
 pub replaced_in_order : (size : ℕ) (hides : Bool) (image : Option Image) (ok : Bool) (s a b : Slot) (new : Told) → a ≡ without_image s → b ≡ resized size hides a → Follows (removing s) true s.region a.region → Follows (resizing size hides a) true a.region b.region → Follows (image_mapping image b) ok b.region new → Follows (replacing size hides image s) ok s.region new
@@ -54,6 +54,6 @@ replaced_in_order size hides image ok s a b new first second removed resizes map
     let images : image_mapping image b ≡ image_mapping image s = mapping_same image b a same_b ∙ mapping_same image a s same_a in
     let P : List PageCall → Type 0 = λ xs. Follows xs true a.region b.region in
     let Q : List PageCall → Type 0 = λ xs. Follows xs ok b.region new in
-    follows_then (removing s ++ resizing size hides s) (image_mapping image s) ok s.region b.region new (same_b.plan ∙ same_a.plan)
-    (follows_then (removing s) (resizing size hides s) true s.region a.region b.region same_a.plan removed (subst P sizes resizes))
+    follows_then (removing s ++ resizing size hides s) (image_mapping image s) ok s.region b.region new (ap (λ (k : SlotIdentity). k.plan) (same_b.same ∙ same_a.same))
+    (follows_then (removing s) (resizing size hides s) true s.region a.region b.region (ap (λ (k : SlotIdentity). k.plan) same_a.same) removed (subst P sizes resizes))
     (subst Q images maps)

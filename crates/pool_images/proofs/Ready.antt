@@ -1,17 +1,16 @@
 -- What each call makes of a slot that is clean or in use.
-use Rattle.std.proofs.Common.{◌≡◌, ℕ, ◌+◌, ◌-◌, ◌/◌, ◌%◌, ◌<◌, ◌≤◌, List, length, replicate, refl, sym, ap, ◌∙◌, subst, arith, slice_range, Option, Some, None}
+use Rattle.std.proofs.Common.{◌≡◌, ℕ, ◌+◌, ◌-◌, ◌/◌, ◌%◌, ◌<◌, ◌≤◌, List, length, replicate, sym, ap, ◌∙◌, subst, arith, slice_range, Option, Some, None}
 use Rattle.std.specs.Prelude.{IfSome, option_map}
-use Rattle.std.proofs.lemmas.List.{length-replicate}
 use Rattle.pool_pages.specs.Count.{Count, count}
-use Rattle.pool_pages.specs.Contents.{Contents, CanReach, put, put_all, exposed, hidden, remapped}
-use Rattle.pool_pages.specs.Told.{exposing, hiding, remapping}
+use Rattle.pool_pages.specs.Contents.{Contents, CanReach, put, exposed, hidden}
+use Rattle.pool_pages.specs.Told.{exposing, hiding}
 use Rattle.std.proofs.Math.Nat.{div-mul-le_self, le-div_iff_mul-le}
 use Rattle.pool_pages.proofs.Multiples.{sub_whole}
-use Rattle.pool_pages.proofs.Puts.{length-put, length-range, range-put_both, range_within}
+use Rattle.pool_pages.proofs.Puts.{range_within}
 use Rattle.pool_images.specs.Images.{Image, start}
 use Rattle.pool_images.specs.declared.image_slot.ImageName.{ImageName}
-use Rattle.pool_images.specs.Slots.{Slot, Fits, IsSound, IsPlaced, IsReady, IsClean, Holds, HasImage, size_of, name_of, image_bytes, origin_image, placed, called, without}
-use Rattle.pool_images.proofs.Marks.{reach_marked, reach_exposed, reach_hidden, range-zeros, put-zeros, range-put_around}
+use Rattle.pool_images.specs.Slots.{Slot, IsSlot, IsSound, IsReady, IsClean, Holds, HasImage, size_of, name_of, image_bytes, origin_image, placed, called}
+use Rattle.pool_images.proofs.Marks.{reach_exposed, reach_hidden, range-zeros, range-put_around}
 
 -- what holds of a told region that a clean slot is in
 pub record IsGood (s : Slot) (c : Contents) : Type 0 where
@@ -24,7 +23,7 @@ good_of : (s : Slot) (o : Option Contents) → s.image ≡ origin_image s → If
 good_of s None image sound ready holds = sound
 good_of s (Some c) image sound ready holds = record { image = image; sound = sound; ready = ready; holds = holds }
 
-pub good : (s : Slot) → Fits s → IsClean s → IfSome s.region.contents (IsGood s)
+pub good : (s : Slot) → IsSlot s → IsClean s → IfSome s.region.contents (IsGood s)
 good s fits clean = good_of s s.region.contents clean.image fits.told clean.ready clean.holds
 
 -- what holds of told pages that are what they go back to
@@ -46,43 +45,44 @@ paired P Q None left right = left
 paired P Q (Some c) left right = (left, right)
 
 -- a part of what holds of a whole slot
-part_holds : (s : Slot) (c : Contents) (from to : ℕ) → Fits s → IsSound s.region.page s.region.len s.base.bytes (size_of s) c → to ≤ size_of s → Holds s 0 (size_of s) c → Holds s from to c
+part_holds : (s : Slot) (c : Contents) (from to : ℕ) → IsSlot s → IsSound s.region.page s.region.len s.base.bytes (size_of s) c → to ≤ size_of s → Holds s 0 (size_of s) c → Holds s from to c
 part_holds s c from to fits sound within holds =
     range_within c.bytes c.origin (s.base.bytes + 0) (s.base.bytes + size_of s) (s.base.bytes + from) (s.base.bytes + to)
-    (omega (arith, sound.shaped.bytes, fits.inside)) (omega (arith, sound.shaped.origin, fits.inside)) (omega arith) (omega arith) holds
+    (omega (arith, sound.shaped.bytes, fits.sizes.inside)) (omega (arith, sound.shaped.origin, fits.sizes.inside)) (omega arith) (omega arith) holds
 
 -- the first bytes of such a slot
-held : (s : Slot) (n : ℕ) (c : Contents) → Fits s → IsSound s.region.page s.region.len s.base.bytes (size_of s) c → n ≤ size_of s → Holds s 0 (size_of s) c → slice_range c.bytes s.base.bytes (s.base.bytes + n) ≡ slice_range c.origin s.base.bytes (s.base.bytes + n)
+held : (s : Slot) (n : ℕ) (c : Contents) → IsSlot s → IsSound s.region.page s.region.len s.base.bytes (size_of s) c → n ≤ size_of s → Holds s 0 (size_of s) c → slice_range c.bytes s.base.bytes (s.base.bytes + n) ≡ slice_range c.origin s.base.bytes (s.base.bytes + n)
 held s n c fits sound within holds =
     range_within c.bytes c.origin (s.base.bytes + 0) (s.base.bytes + size_of s) s.base.bytes (s.base.bytes + n)
-    (omega (arith, sound.shaped.bytes, fits.inside)) (omega (arith, sound.shaped.origin, fits.inside)) (omega arith) (omega arith) holds
+    (omega (arith, sound.shaped.bytes, fits.sizes.inside)) (omega (arith, sound.shaped.origin, fits.sizes.inside)) (omega arith) (omega arith) holds
 
 -- the page of the contents is the region's, and can be told from zero
-pub page_some : (s : Slot) (c : Contents) → Fits s → IsSound s.region.page s.region.len s.base.bytes (size_of s) c → 0 < c.page
-page_some s c fits sound = rw sound.shaped.same_page (omega (arith, fits.page_size.at_least))
+pub page_some : (s : Slot) (c : Contents) → IsSlot s → IsSound s.region.page s.region.len s.base.bytes (size_of s) c → 0 < c.page
+page_some s c fits sound = rw sound.shaped.same_page (omega (arith, fits.sizes.page_size.at_least))
 
 -- a place inside the slot is in a page of the region
-pub page_inside : (s : Slot) (c : Contents) (n : ℕ) → Fits s → IsSound s.region.page s.region.len s.base.bytes (size_of s) c → n ≤ size_of s → (s.base.bytes + n) / c.page ≤ length c.accessible
+pub page_inside : (s : Slot) (c : Contents) (n : ℕ) → IsSlot s → IsSound s.region.page s.region.len s.base.bytes (size_of s) c → n ≤ size_of s → (s.base.bytes + n) / c.page ≤ length c.accessible
 page_inside s c n fits sound within =
-    let some : 0 < s.region.page = omega (arith, fits.page_size.at_least) in
-    rw (sound.shaped.same_page, sound.shaped.accessible) ((le-div_iff_mul-le some).1 (omega (arith, fits.inside, div-mul-le_self (s.base.bytes + n) s.region.page)))
+    let some : 0 < s.region.page = omega (arith, fits.sizes.page_size.at_least) in
+    rw (sound.shaped.same_page, sound.shaped.accessible) ((le-div_iff_mul-le some).1 (omega (arith, fits.sizes.inside, div-mul-le_self (s.base.bytes + n) s.region.page)))
 
-ready_exposed : (s : Slot) (size : ℕ) → Fits s → s.accessible.bytes ≤ size → size ≤ size_of s → size % s.region.page ≡ 0 → (c : Contents) → IsGood s c → IsReady (record (called (exposing (s.base.bytes + s.accessible.bytes) (size - s.accessible.bytes)) s) { accessible = count s.region.page size }) (exposed (s.base.bytes + s.accessible.bytes) (size - s.accessible.bytes) c)
+ready_exposed : (s : Slot) (size : ℕ) → IsSlot s → s.accessible.bytes ≤ size → size ≤ size_of s → size % s.region.page ≡ 0 → (c : Contents) → IsGood s c → IsReady (record (called (exposing (s.base.bytes + s.accessible.bytes) (size - s.accessible.bytes)) s) { accessible = count s.region.page size }) (exposed (s.base.bytes + s.accessible.bytes) (size - s.accessible.bytes) c)
 ready_exposed s size fits more within size_whole c g =
     let page : c.page ≡ s.region.page = g.sound.shaped.same_page in
-    let rest : (size - s.accessible.bytes) % s.region.page ≡ 0 = sub_whole size s.accessible.bytes s.region.page size_whole fits.accessible_whole in
+    let rest : (size - s.accessible.bytes) % s.region.page ≡ 0 = sub_whole size s.accessible.bytes s.region.page size_whole fits.sizes.accessible_whole in
     let sum : s.accessible.bytes + (size - s.accessible.bytes) ≡ size = omega arith in
     let reached : CanReach s.base.bytes (s.accessible.bytes + (size - s.accessible.bytes)) (exposed (s.base.bytes + s.accessible.bytes) (size - s.accessible.bytes) c) =
-    reach_exposed s.base.bytes s.accessible.bytes (size - s.accessible.bytes) c (page_some s c fits g.sound) (rw page fits.base_whole) (rw page fits.accessible_whole) (rw page rest) (page_inside s c s.accessible.bytes fits g.sound fits.within) g.ready.reach in
+    reach_exposed s.base.bytes s.accessible.bytes (size - s.accessible.bytes) c (page_some s c fits g.sound) (rw page fits.sizes.base_whole) (rw page fits.sizes.accessible_whole) (rw page rest) (page_inside s c s.accessible.bytes fits g.sound fits.sizes.within) g.ready.reach in
     let P : ℕ → Type 0 = λ n. CanReach s.base.bytes n (exposed (s.base.bytes + s.accessible.bytes) (size - s.accessible.bytes) c) in
     record {
       reach = subst P sum reached;
       origin = g.ready.origin;
       beyond = part_holds s c size (size_of s) fits g.sound (omega arith) g.holds;
+      colour = g.ready.colour;
     }
 
 -- more of a clean slot is exposed
-pub clean_exposed : (s : Slot) (size : ℕ) → Fits s → IsClean s → s.accessible.bytes ≤ size → size ≤ size_of s → size % s.region.page ≡ 0 → IsClean (record (called (exposing (s.base.bytes + s.accessible.bytes) (size - s.accessible.bytes)) s) { accessible = count s.region.page size })
+pub clean_exposed : (s : Slot) (size : ℕ) → IsSlot s → IsClean s → s.accessible.bytes ≤ size → size ≤ size_of s → size % s.region.page ≡ 0 → IsClean (record (called (exposing (s.base.bytes + s.accessible.bytes) (size - s.accessible.bytes)) s) { accessible = count s.region.page size })
 clean_exposed s size fits clean more within size_whole =
     let f : Contents → Contents = exposed (s.base.bytes + s.accessible.bytes) (size - s.accessible.bytes) in
     let t : Slot = record (called (exposing (s.base.bytes + s.accessible.bytes) (size - s.accessible.bytes)) s) { accessible = count s.region.page size } in
@@ -93,19 +93,20 @@ clean_exposed s size fits clean more within size_whole =
       holds = lifted (Holds s 0 (size_of s)) (Holds t 0 (size_of t)) f s.region.contents (λ c h. h) clean.holds;
     }
 
-ready_hidden : (s : Slot) (size : ℕ) → Fits s → size ≤ s.accessible.bytes → size % s.region.page ≡ 0 → (c : Contents) → IsGood s c → IsReady (record (called (hiding (s.base.bytes + size) (s.accessible.bytes - size)) s) { accessible = count s.region.page size }) (hidden (s.base.bytes + size) (s.accessible.bytes - size) c)
+ready_hidden : (s : Slot) (size : ℕ) → IsSlot s → size ≤ s.accessible.bytes → size % s.region.page ≡ 0 → (c : Contents) → IsGood s c → IsReady (record (called (hiding (s.base.bytes + size) (s.accessible.bytes - size)) s) { accessible = count s.region.page size }) (hidden (s.base.bytes + size) (s.accessible.bytes - size) c)
 ready_hidden s size fits less size_whole c g =
     let page : c.page ≡ s.region.page = g.sound.shaped.same_page in
     let sum : s.accessible.bytes ≡ size + (s.accessible.bytes - size) = omega arith in
     let P : ℕ → Type 0 = λ n. CanReach s.base.bytes n c in
     record {
-      reach = reach_hidden s.base.bytes size (s.accessible.bytes - size) c (page_some s c fits g.sound) (rw page fits.base_whole) (rw page size_whole) (page_inside s c size fits g.sound (omega (arith, fits.within))) (subst P sum g.ready.reach);
+      reach = reach_hidden s.base.bytes size (s.accessible.bytes - size) c (page_some s c fits g.sound) (rw page fits.sizes.base_whole) (rw page size_whole) (page_inside s c size fits g.sound (omega (arith, fits.sizes.within))) (subst P sum g.ready.reach);
       origin = g.ready.origin;
       beyond = part_holds s c size (size_of s) fits g.sound (omega arith) g.holds;
+      colour = g.ready.colour;
     }
 
 -- a part of a clean slot is hidden
-pub clean_hidden : (s : Slot) (size : ℕ) → Fits s → IsClean s → size ≤ s.accessible.bytes → size % s.region.page ≡ 0 → IsClean (record (called (hiding (s.base.bytes + size) (s.accessible.bytes - size)) s) { accessible = count s.region.page size })
+pub clean_hidden : (s : Slot) (size : ℕ) → IsSlot s → IsClean s → size ≤ s.accessible.bytes → size % s.region.page ≡ 0 → IsClean (record (called (hiding (s.base.bytes + size) (s.accessible.bytes - size)) s) { accessible = count s.region.page size })
 clean_hidden s size fits clean less size_whole =
     let f : Contents → Contents = hidden (s.base.bytes + size) (s.accessible.bytes - size) in
     let t : Slot = record (called (hiding (s.base.bytes + size) (s.accessible.bytes - size)) s) { accessible = count s.region.page size } in
@@ -116,34 +117,8 @@ clean_hidden s size fits clean less size_whole =
       holds = lifted (Holds s 0 (size_of s)) (Holds t 0 (size_of t)) f s.region.contents (λ c h. h) clean.holds;
     }
 
--- the image of a clean slot is taken away
-started_without : (s : Slot) (name : ImageName) → s.image ≡ Some name → Fits s → IsPlaced s.region.page s.accessible.bytes name → (c : Contents) → IsGood s c → IsStarted (without (Some name) s) (remapped (s.base.bytes + name.offset) name.len c)
-started_without s name is fits at c g =
-    let all : length c.origin ≡ s.region.len = g.sound.shaped.origin in
-    let every : length c.bytes ≡ s.region.len = g.sound.shaped.bytes in
-    let O : Option ImageName → Type 0 = λ o. c.origin ≡ placed s.base.bytes o c.origin in
-    let mapped : c.origin ≡ placed s.base.bytes (Some name) c.origin = subst O (sym g.image ∙ is) g.ready.origin in
-    let image : List ℕ = image_bytes s.base.bytes name c.origin in
-    let ends : s.base.bytes + name.offset + name.len ≤ length c.origin = omega (arith, fits.inside, fits.within, at.inside) in
-    let len : length (image_bytes s.base.bytes name c.origin) ≡ name.len = length-range c.origin (s.base.bytes + name.offset) (s.base.bytes + name.offset + name.len) ends ∙ omega arith in
-    let zeros : length (replicate {A = ℕ} name.len 0) ≡ name.len = length-replicate {A = ℕ} name.len 0 in
-    let P : List ℕ → Type 0 = λ l. put_all (s.base.bytes + name.offset) name.len 0 l ≡ replicate (length c.origin) 0 in
-    let cleared : put_all (s.base.bytes + name.offset) name.len 0 c.origin ≡ replicate (length c.origin) 0 =
-    subst P (sym mapped) (put-zeros (s.base.bytes + name.offset) name.len (length c.origin) (image_bytes s.base.bytes name c.origin) len ends) in
-    let same : length (put_all (s.base.bytes + name.offset) name.len 0 c.origin) ≡ length c.origin = length-put (s.base.bytes + name.offset) (replicate {A = ℕ} name.len 0) c.origin (omega arith) in
-    let both : (from to : ℕ) → to ≤ size_of s → Holds s from to c → Holds (without (Some name) s) from to (remapped (s.base.bytes + name.offset) name.len c) =
-    λ from to within h. range-put_both (s.base.bytes + name.offset) (replicate {A = ℕ} name.len 0) c.bytes c.origin (s.base.bytes + from) (s.base.bytes + to) (omega arith) (omega arith) (omega (arith, fits.inside)) h in
-    record {
-      ready = record {
-        reach = reach_marked s.base.bytes s.accessible.bytes ((s.base.bytes + name.offset) / c.page) (name.len / c.page) c (page_inside s c name.offset fits g.sound (omega (arith, fits.within, at.inside))) g.ready.reach;
-        origin = cleared ∙ ap (λ (n : ℕ). replicate {A = ℕ} n 0) (sym same);
-        beyond = both s.accessible.bytes (size_of s) (omega arith) g.ready.beyond;
-      };
-      holds = both 0 (size_of s) (omega arith) g.holds;
-    }
-
 -- what a slot that holds what it goes back to reads as
-pub reads_start : (s : Slot) (image : Option Image) (n : ℕ) (c : Contents) → Fits s → IsSound s.region.page s.region.len s.base.bytes (size_of s) c → s.image ≡ origin_image s → n ≤ size_of s → IfSome image (λ i. i.offset + length i.bytes ≤ n) → IsStarted s c → HasImage s image c → slice_range c.bytes s.base.bytes (s.base.bytes + n) ≡ start image n
+pub reads_start : (s : Slot) (image : Option Image) (n : ℕ) (c : Contents) → IsSlot s → IsSound s.region.page s.region.len s.base.bytes (size_of s) c → s.image ≡ origin_image s → n ≤ size_of s → IfSome image (λ i. i.offset + length i.bytes ≤ n) → IsStarted s c → HasImage s image c → slice_range c.bytes s.base.bytes (s.base.bytes + n) ≡ start image n
 reads_start s None n c fits sound is within inside st has =
     let all : length c.origin ≡ s.region.len = sound.shaped.origin in
     let O : Option ImageName → Type 0 = λ o. c.origin ≡ placed s.base.bytes o c.origin in
@@ -151,7 +126,7 @@ reads_start s None n c fits sound is within inside st has =
     let size : s.base.bytes + n - s.base.bytes ≡ n = omega arith in
     held s n c fits sound within st.holds
     ∙ ap (λ (l : List ℕ). slice_range l s.base.bytes (s.base.bytes + n)) zeros
-    ∙ range-zeros (length c.origin) s.base.bytes (s.base.bytes + n) (omega (arith, fits.inside))
+    ∙ range-zeros (length c.origin) s.base.bytes (s.base.bytes + n) (omega (arith, fits.sizes.inside))
     ∙ ap (λ (k : ℕ). replicate {A = ℕ} k 0) size
 reads_start s (Some i) n c fits sound is within inside st has =
     let all : length c.origin ≡ s.region.len = sound.shaped.origin in
@@ -160,37 +135,13 @@ reads_start s (Some i) n c fits sound is within inside st has =
     let exact : c.origin ≡ put (s.base.bytes + i.offset) i.bytes (replicate (length c.origin) 0) = mapped ∙ ap (λ (l : List ℕ). put (s.base.bytes + i.offset) l (replicate (length c.origin) 0)) has.1 in
     held s n c fits sound within st.holds
     ∙ ap (λ (l : List ℕ). slice_range l s.base.bytes (s.base.bytes + n)) exact
-    ∙ range-put_around i.offset i.bytes (length c.origin) s.base.bytes n (omega (arith, fits.inside)) inside (omega (arith, fits.inside))
-
-clean_of : (s : Slot) (name : ImageName) → s.image ≡ Some name → Fits s → IsPlaced s.region.page s.accessible.bytes name → IsClean s → IsClean (without (Some name) s)
-clean_of s name is fits at clean =
-    let f : Contents → Contents = remapped (s.base.bytes + name.offset) name.len in
-    let t : Slot = without (Some name) s in
-    record {
-      not_dirty = clean.not_dirty;
-      image = refl;
-      ready = lifted (IsGood s) (IsReady t) f s.region.contents (λ c g. (started_without s name is fits at c g).ready) (good s fits clean);
-      holds = lifted (IsGood s) (Holds t 0 (size_of t)) f s.region.contents (λ c g. (started_without s name is fits at c g).holds) (good s fits clean);
-    }
-
--- a clean slot's image is taken away
-pub clean_without : (s : Slot) (name : ImageName) → s.image ≡ Some name → Fits s → IsClean s → IsClean (without (Some name) s)
-clean_without s name is fits clean =
-    let P : Option ImageName → Type 0 = λ o. IfSome o (IsPlaced s.region.page s.accessible.bytes) in
-    clean_of s name is fits (subst P is fits.image) clean
+    ∙ range-put_around i.offset i.bytes (length c.origin) s.base.bytes n (omega (arith, fits.sizes.inside)) inside (omega (arith, fits.sizes.inside))
 
 -- The same as the code says them, with the range and the size as it has them.
-pub hidden_clean : (s : Slot) (size : Count) (from len : ℕ) → Fits s → IsClean s → from ≡ s.base.bytes + size.bytes → len ≡ s.accessible.bytes - size.bytes → size.page ≡ s.region.page → size.bytes % size.page ≡ 0 → size.bytes ≤ s.accessible.bytes → IsClean (record (called (hiding from len) s) { accessible = size })
+pub hidden_clean : (s : Slot) (size : Count) (from len : ℕ) → IsSlot s → IsClean s → from ≡ s.base.bytes + size.bytes → len ≡ s.accessible.bytes - size.bytes → size.page ≡ s.region.page → size.bytes % size.page ≡ 0 → size.bytes ≤ s.accessible.bytes → IsClean (record (called (hiding from len) s) { accessible = size })
 hidden_clean s size from len fits clean at long page is less =
     let P : ℕ → ℕ → ℕ → Type 0 = λ p f l. IsClean (record (called (hiding f l) s) { accessible = count p size.bytes }) in
     let start : P s.region.page (s.base.bytes + size.bytes) (s.accessible.bytes - size.bytes) = clean_hidden s size.bytes fits clean less (rw page at is) in
     let first = subst (λ (p : ℕ). P p (s.base.bytes + size.bytes) (s.accessible.bytes - size.bytes)) (sym page) start in
     let second = subst (λ (f : ℕ). P size.page f (s.accessible.bytes - size.bytes)) (sym at) first in
     subst (λ (l : ℕ). P size.page from l) (sym long) second
-
-pub unmapped_clean : (s : Slot) (name : ImageName) (from len : ℕ) → s.image ≡ Some name → Fits s → IsClean s → from ≡ s.base.bytes + name.offset → len ≡ name.len → IsClean (record (called (remapping from len) s) { image = None })
-unmapped_clean s name from len is fits clean at long =
-    let P : ℕ → ℕ → Type 0 = λ f l. IsClean (record (called (remapping f l) s) { image = None }) in
-    let start : P (s.base.bytes + name.offset) name.len = clean_without s name is fits clean in
-    let first = subst (λ (f : ℕ). P f name.len) (sym at) start in
-    subst (λ (l : ℕ). P from l) (sym long) first

@@ -10,7 +10,7 @@ use Rattle.pool_pages.specs.declared.pages.DecommitBehavior.TheVariants.{Zero, R
 use Rattle.pool_pages.proofs.Multiples.{sub_whole}
 use Rattle.pool_pages.proofs.Puts.{range_joined, range_within}
 use Rattle.pool_images.specs.declared.image_slot.ImageName.{ImageName}
-use Rattle.pool_images.specs.Slots.{Slot, Fits, IsSound, IsReady, IsClean, IsPart, Holds, size_of, restored_image, called, cleared, reset_ranges, kept_bytes, decommitted_all}
+use Rattle.pool_images.specs.Slots.{Slot, IsSlot, IsSound, IsReady, IsClean, IsPart, Holds, size_of, restored_image, called, cleared, reset_ranges, kept_bytes, decommitted_all}
 use Rattle.pool_images.proofs.Backs.{back_here, back_there, length-back}
 use Rattle.pool_images.proofs.Ready.{IsStarted, lifted, followed, paired}
 
@@ -28,11 +28,11 @@ record IsHalf (s : Slot) (kept : ℕ) (c : Contents) : Type 0 where
   ready : IsReady s c
   first : Holds s 0 kept c
 
-half_cleared : (s : Slot) (kept : ℕ) (c : Contents) → Fits s → IsSound s.region.page s.region.len s.base.bytes (size_of s) c → IsReady s c → kept ≤ s.accessible.bytes → IsHalf s kept (put_back s.base.bytes kept c)
+half_cleared : (s : Slot) (kept : ℕ) (c : Contents) → IsSlot s → IsSound s.region.page s.region.len s.base.bytes (size_of s) c → IsReady s c → kept ≤ s.accessible.bytes → IsHalf s kept (put_back s.base.bytes kept c)
 half_cleared s kept c fits sound ready within =
     let every : length c.bytes ≡ s.region.len = sound.shaped.bytes in
     let all : length c.origin ≡ s.region.len = sound.shaped.origin in
-    let ends : s.base.bytes + kept ≤ length c.origin = omega (arith, fits.inside, fits.within) in
+    let ends : s.base.bytes + kept ≤ length c.origin = omega (arith, fits.sizes.inside, fits.sizes.within) in
     let bytes : List ℕ = (put_back s.base.bytes kept c).bytes in
     let long : length (put_back s.base.bytes kept c).bytes ≡ length c.origin = length-back s.base.bytes kept c.bytes c.origin (every ∙ sym all) ends in
     record {
@@ -41,26 +41,27 @@ half_cleared s kept c fits sound ready within =
       ready = record {
         reach = ready.reach;
         origin = ready.origin;
-        beyond = back_there s.base.bytes kept (s.base.bytes + s.accessible.bytes) (s.base.bytes + size_of s) c.bytes c.origin (every ∙ sym all) ends (omega (arith, fits.inside)) ready.beyond;
+        beyond = back_there s.base.bytes kept (s.base.bytes + s.accessible.bytes) (s.base.bytes + size_of s) c.bytes c.origin (every ∙ sym all) ends (omega (arith, fits.sizes.inside)) ready.beyond;
+        colour = ready.colour;
       };
       first = range_within (put_back s.base.bytes kept c).bytes c.origin s.base.bytes (s.base.bytes + kept) (s.base.bytes + 0) (s.base.bytes + kept) (omega arith) (omega arith) (omega arith) (omega arith)
           (back_here s.base.bytes kept c.bytes c.origin (omega arith) ends);
     }
 
-half : (s : Slot) (kept : ℕ) → Fits s → IfSome s.region.contents (IsReady s) → kept ≤ s.accessible.bytes → IfSome (option_map (put_back s.base.bytes kept) s.region.contents) (IsHalf s kept)
+half : (s : Slot) (kept : ℕ) → IsSlot s → IfSome s.region.contents (IsReady s) → kept ≤ s.accessible.bytes → IfSome (option_map (put_back s.base.bytes kept) s.region.contents) (IsHalf s kept)
 half s kept fits ready within =
     let P : Contents → Type 0 = λ c. IsSound s.region.page s.region.len s.base.bytes (size_of s) c × IsReady s c in
     lifted P (IsHalf s kept) (put_back s.base.bytes kept) s.region.contents (λ c h. half_cleared s kept c fits h.0 h.1 within)
     (paired (IsSound s.region.page s.region.len s.base.bytes (size_of s)) (IsReady s) s.region.contents fits.told ready)
 
 -- all that could be reached was set by hand
-whole_started : (s : Slot) (c : Contents) → Fits s → IsHalf s s.accessible.bytes c → IsStarted (cleared s.accessible.bytes s) c
+whole_started : (s : Slot) (c : Contents) → IsSlot s → IsHalf s s.accessible.bytes c → IsStarted (cleared s.accessible.bytes s) c
 whole_started s c fits h = record {
-  ready = record { reach = h.ready.reach; origin = h.ready.origin; beyond = h.ready.beyond };
-  holds = range_joined c.bytes c.origin (s.base.bytes + 0) (s.base.bytes + s.accessible.bytes) (s.base.bytes + size_of s) (omega (arith, h.bytes, fits.inside)) (omega (arith, h.origin, fits.inside)) h.first h.ready.beyond;
+  ready = record { reach = h.ready.reach; origin = h.ready.origin; beyond = h.ready.beyond; colour = h.ready.colour };
+  holds = range_joined c.bytes c.origin (s.base.bytes + 0) (s.base.bytes + s.accessible.bytes) (s.base.bytes + size_of s) (omega (arith, h.bytes, fits.sizes.inside)) (omega (arith, h.origin, fits.sizes.inside)) h.first h.ready.beyond;
 }
 
-whole_clean : (s : Slot) → s.region.behaviour ≡ RestoreOriginalMapping → Fits s → IfSome s.region.contents (IsReady s) → IsClean (cleared s.accessible.bytes s)
+whole_clean : (s : Slot) → s.region.behaviour ≡ RestoreOriginalMapping → IsSlot s → IfSome s.region.contents (IsReady s) → IsClean (cleared s.accessible.bytes s)
 whole_clean s is fits ready =
     let t : Slot = cleared s.accessible.bytes s in
     let told = half s s.accessible.bytes fits ready (omega arith) in
@@ -76,14 +77,14 @@ whole_clean s is fits ready =
 abbrev finished : ℕ → Slot → Slot
 finished kept s = called (decommitting (s.base.bytes + kept) (s.accessible.bytes - kept)) (cleared kept s)
 
-rest_started : (s : Slot) (kept : ℕ) (c : Contents) → Fits s → kept ≤ s.accessible.bytes → IsHalf s kept c → IsStarted (finished kept s) (decommitted (s.base.bytes + kept) (s.accessible.bytes - kept) c)
+rest_started : (s : Slot) (kept : ℕ) (c : Contents) → IsSlot s → kept ≤ s.accessible.bytes → IsHalf s kept c → IsStarted (finished kept s) (decommitted (s.base.bytes + kept) (s.accessible.bytes - kept) c)
 rest_started s kept c fits within h =
     let i : ℕ = s.base.bytes + kept in
     let n : ℕ = s.accessible.bytes - kept in
     let new : List ℕ = (decommitted (s.base.bytes + kept) (s.accessible.bytes - kept) c).bytes in
     let same : length c.bytes ≡ length c.origin = h.bytes ∙ sym h.origin in
-    let ends : s.base.bytes + kept + (s.accessible.bytes - kept) ≤ length c.origin = omega (arith, h.origin, fits.inside, fits.within) in
-    let size : s.base.bytes + size_of s ≤ length c.origin = omega (arith, h.origin, fits.inside) in
+    let ends : s.base.bytes + kept + (s.accessible.bytes - kept) ≤ length c.origin = omega (arith, h.origin, fits.sizes.inside, fits.sizes.within) in
+    let size : s.base.bytes + size_of s ≤ length c.origin = omega (arith, h.origin, fits.sizes.inside) in
     let long : length (decommitted (s.base.bytes + kept) (s.accessible.bytes - kept) c).bytes ≡ length c.origin = length-back (s.base.bytes + kept) (s.accessible.bytes - kept) c.bytes c.origin same ends in
     let last : s.base.bytes + kept + (s.accessible.bytes - kept) ≡ s.base.bytes + s.accessible.bytes = omega arith in
     let first : Holds s 0 kept (decommitted (s.base.bytes + kept) (s.accessible.bytes - kept) c) =
@@ -94,12 +95,12 @@ rest_started s kept c fits within h =
     let third : Holds s s.accessible.bytes (size_of s) (decommitted (s.base.bytes + kept) (s.accessible.bytes - kept) c) =
     back_there (s.base.bytes + kept) (s.accessible.bytes - kept) (s.base.bytes + s.accessible.bytes) (s.base.bytes + size_of s) c.bytes c.origin same ends size h.ready.beyond in
     record {
-      ready = record { reach = h.ready.reach; origin = h.ready.origin; beyond = third };
+      ready = record { reach = h.ready.reach; origin = h.ready.origin; beyond = third; colour = h.ready.colour };
       holds = range_joined (decommitted (s.base.bytes + kept) (s.accessible.bytes - kept) c).bytes c.origin (s.base.bytes + 0) (s.base.bytes + kept) (s.base.bytes + size_of s) (omega arith) size first
           (range_joined (decommitted (s.base.bytes + kept) (s.accessible.bytes - kept) c).bytes c.origin (s.base.bytes + kept) (s.base.bytes + s.accessible.bytes) (s.base.bytes + size_of s) (omega arith) size second third);
     }
 
-rest_clean : (s : Slot) (kept : ℕ) → s.region.behaviour ≡ RestoreOriginalMapping → Fits s → IfSome s.region.contents (IsReady s) → kept ≤ s.accessible.bytes → IsClean (finished kept s)
+rest_clean : (s : Slot) (kept : ℕ) → s.region.behaviour ≡ RestoreOriginalMapping → IsSlot s → IfSome s.region.contents (IsReady s) → kept ≤ s.accessible.bytes → IsClean (finished kept s)
 rest_clean s kept is fits ready within =
     let t : Slot = finished kept s in
     let f : Contents → Contents = decommitted (s.base.bytes + kept) (s.accessible.bytes - kept) in
@@ -112,7 +113,7 @@ rest_clean s kept is fits ready within =
       holds = lifted (IsHalf s kept) (Holds t 0 (size_of t)) f o (λ c h. (rest_started s kept c fits within h).holds) told;
     }
 
-reset_by : (s : Slot) (keep : ℕ) (less : Bool) → nat_lt keep s.accessible.bytes ≡ less → s.region.behaviour ≡ RestoreOriginalMapping → Fits s → IfSome s.region.contents (IsReady s) → IsClean (decommitted_all (if less then record { start = keep; len = s.accessible.bytes - keep } ∷ [] else []) (cleared (min keep s.accessible.bytes) s))
+reset_by : (s : Slot) (keep : ℕ) (less : Bool) → nat_lt keep s.accessible.bytes ≡ less → s.region.behaviour ≡ RestoreOriginalMapping → IsSlot s → IfSome s.region.contents (IsReady s) → IsClean (decommitted_all (if less then record { start = keep; len = s.accessible.bytes - keep } ∷ [] else []) (cleared (min keep s.accessible.bytes) s))
 reset_by s keep true is restores fits ready =
     let below : keep < s.accessible.bytes = ltb-true keep s.accessible.bytes is in
     let kept : keep ≡ min keep s.accessible.bytes = omega arith in
@@ -125,7 +126,7 @@ reset_by s keep false is restores fits ready =
     subst P kept (whole_clean s restores fits ready)
 
 -- once that is done the slot is clean
-pub reset_clean : (s : Slot) (keep : ℕ) → s.region.behaviour ≡ RestoreOriginalMapping → Fits s → IfSome s.region.contents (IsReady s) → IsClean (decommitted_all (reset_ranges keep s.accessible.bytes) (cleared (min keep s.accessible.bytes) s))
+pub reset_clean : (s : Slot) (keep : ℕ) → s.region.behaviour ≡ RestoreOriginalMapping → IsSlot s → IfSome s.region.contents (IsReady s) → IsClean (decommitted_all (reset_ranges keep s.accessible.bytes) (cleared (min keep s.accessible.bytes) s))
 reset_clean s keep restores fits ready = reset_by s keep (nat_lt keep s.accessible.bytes) refl restores fits ready
 
 -- nothing is left where all that could be reached was kept

@@ -1,5 +1,5 @@
 -- The images of a module, and the bytes that a memory begins with.
-use Rattle.std.specs.Prelude.{◌≡◌, ℕ, ◌+◌, ◌-◌, ◌%◌, ◌==◌, ◌&&◌, List, [], ◌∷◌, ◌++◌, length, replicate, Bool, true, nat_le, if◌then◌else◌, Option, Some, None, is_some, option_map, option_and_then}
+use Rattle.std.specs.Prelude.{ℕ, ◌+◌, ◌-◌, ◌%◌, ◌==◌, ◌&&◌, List, [], ◌∷◌, ◌++◌, length, replicate, Bool, true, nat_le, if◌then◌else◌, Option, Some, None, is_some, option_map, option_and_then}
 use Rattle.std.specs.Option.{option_map_or}
 use Rattle.std.specs.List.{list_any}
 use Rattle.pool_pages.specs.Count.{rounded_up}
@@ -10,6 +10,8 @@ use Rattle.pool_pages.specs.declared.module_types.CompiledModuleId.{CompiledModu
 use Rattle.pool_pages.specs.declared.module_types.DefinedMemoryIndex.{DefinedMemoryIndex}
 use Rattle.pool_pages.specs.declared.module_types.ImageDecl.{ImageDecl}
 use Rattle.pool_pages.specs.declared.module_types.MemoryDecl.{MemoryDecl}
+use Rattle.pool_pages.specs.declared.unsupported.Unsupported.{Unsupported}
+use Rattle.pool_pages.specs.declared.unsupported.Unsupported.TheVariants.{ImageOffset, ImageLength}
 
 -- the image of a module's memory: whole pages of bytes, at an offset
 pub record Image : Type 0 where
@@ -19,10 +21,9 @@ pub record Image : Type 0 where
   pub offset : ℕ
   pub bytes : List ℕ
 
--- an image begins and ends at a page
-pub record IsWhole (i : Image) : Type 0 where
-  pub offset : i.offset % i.page ≡ 0
-  pub bytes : length i.bytes % i.page ≡ 0
+-- what of an image is no multiple of the page: its offset, or else its length
+abbrev pub misaligned : ℕ → ℕ → ℕ → Option Unsupported
+misaligned page offset len = if offset % page == 0 then (if len % page == 0 then None else Some (ImageLength len)) else Some (ImageOffset offset)
 
 -- the first n bytes of a memory that begins with this image: its bytes at its offset, and zeros elsewhere
 abbrev pub start : Option Image → ℕ → List ℕ
@@ -56,5 +57,5 @@ abbrev pub ends_in_minimum : ℕ → MemoryDecl → Bool
 ends_in_minimum page decl = option_map_or (λ image. nat_le (image.offset + rounded_up page (length image.bytes)) (minimum_byte_size decl.ty)) decl.image true
 
 -- some memory has an image, and the making of this module's images is listed as one that fails
-abbrev pub makes_listed : CompiledModuleId → List Planned → List MemoryDecl → Bool
-makes_listed id plan decls = list_any (λ decl. is_some decl.image && fails_images id.0 plan) decls
+abbrev pub makes_listed_images : CompiledModuleId → List Planned → List MemoryDecl → Bool
+makes_listed_images id plan decls = list_any (λ decl. is_some decl.image && fails_images id.0 plan) decls

@@ -2,7 +2,8 @@
 use Rattle.std.specs.Prelude.{◌≡◌, ℕ, ◌+◌, ◌-◌, ◌*◌, ◌/◌, ◌%◌, ◌^◌, ◌<◌, ◌≤◌, ◌&&◌, ◌||◌, List, [], ◌∷◌, length, min, replicate, slice_range, slice_index_or, Bool, true, false, nat_lt, if◌then◌else◌, Option, Some, None, IfSome, is_some, option_map}
 use Rattle.pool_pages.specs.Count.{Count, count, IsPageSize, rounded_up}
 use Rattle.pool_pages.specs.Contents.{Contents, IsShaped, CanReach, IsIn, page_origin, put}
-use Rattle.pool_pages.specs.Told.{Told, PageCall, Faulted, Rose, succeeded, overwritten, restored, exposing, hiding, mapping, remapping, erasing, decommitting}
+use Rattle.pool_pages.specs.Told.{Told, PageCall, Faulted, Rose, succeeded, overwritten, restored, exposing, hiding, mapping, remapping, erasing, recolouring, decommitting}
+use Rattle.pool_pages.specs.declared.pages.RegionName.{RegionName}
 use Rattle.pool_pages.specs.declared.pages.DecommitBehavior.{DecommitBehavior}
 use Rattle.pool_pages.specs.declared.pages.DecommitBehavior.TheVariants.{Zero, RestoreOriginalMapping}
 use Rattle.pool_pages.specs.MemoryTypes.{guard_size, can_use_virtual_memory}
@@ -22,6 +23,32 @@ pub record Slot : Type 0 where
   pub image : Option ImageName
   pub dirty : Bool
   pub colour : Option ℕ
+
+-- What no call changes of a slot: where it begins in its region, how large it may become, its colour, and of the region
+-- its name, page, length, behaviour and plan, and whether it tells what it holds.
+pub record SlotIdentity : Type 0 where
+  pub base : Count
+  pub static_size : ℕ
+  pub colour : Option ℕ
+  pub name : RegionName
+  pub page : ℕ
+  pub len : ℕ
+  pub behaviour : DecommitBehavior
+  pub plan : Option (List ℕ)
+  pub tells : Bool
+
+abbrev pub identity : Slot → SlotIdentity
+identity s = record {
+  base = s.base;
+  static_size = s.static_size;
+  colour = s.colour;
+  name = s.region.name;
+  page = s.region.page;
+  len = s.region.len;
+  behaviour = s.region.behaviour;
+  plan = s.region.plan;
+  tells = is_some s.region.contents;
+}
 
 -- the bytes of the slot's pages
 abbrev pub size_of : Slot → ℕ
@@ -60,35 +87,49 @@ pub record IsPlaced (page accessible : ℕ) (name : ImageName) : Type 0 where
   pub len : name.len % page ≡ 0
   pub inside : name.offset + name.len ≤ accessible
 
--- Sizes that fit one another. It holds of every slot.
-pub record Fits (s : Slot) : Type 0 where
-  pub page_size : IsPageSize s.region.page
-  pub base_page : s.base.page ≡ s.region.page
-  pub base_whole : s.base.bytes % s.region.page ≡ 0
-  pub accessible_page : s.accessible.page ≡ s.region.page
-  pub accessible_whole : s.accessible.bytes % s.region.page ≡ 0
-  pub inside : s.base.bytes + size_of s ≤ s.region.len
-  pub bounded : s.region.len < 2 ^ 64
-  pub roomy : s.static_size + s.region.page ≤ 2 ^ 64
-  pub within : s.accessible.bytes ≤ size_of s
-  pub image : IfSome s.image (IsPlaced s.region.page s.accessible.bytes)
+-- sizes of a slot and its region that fit one another
+pub record SizesFit (page len : ℕ) (base accessible : Count) (static_size : ℕ) (mapped : Option ImageName) : Type 0 where
+  pub page_size : IsPageSize page
+  pub base_page : base.page ≡ page
+  pub base_whole : base.bytes % page ≡ 0
+  pub accessible_page : accessible.page ≡ page
+  pub accessible_whole : accessible.bytes % page ≡ 0
+  pub inside : base.bytes + rounded_up page static_size ≤ len
+  pub bounded : len < 2 ^ 64
+  pub roomy : static_size + page ≤ 2 ^ 64
+  pub within : accessible.bytes ≤ rounded_up page static_size
+  pub image : IfSome mapped (IsPlaced page accessible.bytes)
+
+-- what holds of every slot, clean or not
+pub record IsSlot (s : Slot) : Type 0 where
+  pub sizes : SizesFit s.region.page s.region.len s.base s.accessible s.static_size s.image
   pub told : IfSome s.region.contents (IsSound s.region.page s.region.len s.base.bytes (size_of s))
 
 -- what a slot keeps beside its value: its size in whole pages
 pub record Keeps (whole : Count) (s : Slot) : Type 0 where
   pub size : whole ≡ count s.region.page (size_of s)
-  pub fits : Fits s
+  pub fits : IsSlot s
 
 -- the bytes from one place of the slot to another are what they go back to
 abbrev pub Holds : Slot → ℕ → ℕ → Contents → Type 0
 Holds s from to c = slice_range c.bytes (s.base.bytes + from) (s.base.bytes + to) ≡ slice_range c.origin (s.base.bytes + from) (s.base.bytes + to)
 
+-- a colour as a page has it: 0 for none
+abbrev pub colour_number : Option ℕ → ℕ
+colour_number None = 0
+colour_number (Some colour) = colour
+
+-- each page of a range has this colour
+abbrev pub HasColour : ℕ → ℕ → Option ℕ → Contents → Type 0
+HasColour base size colour c = (k : ℕ) → IsIn base size c.page k → slice_index_or c.colour k 0 ≡ colour_number colour
+
 -- The slot can be used: its accessible pages can be reached, the region goes back to the mapped image, or to zeros
--- where that is its behaviour, and what can't be reached is what it goes back to.
+-- where that is its behaviour, what can't be reached is what it goes back to, and each page has the slot's colour.
 pub record IsReady (s : Slot) (c : Contents) : Type 0 where
   pub reach : CanReach s.base.bytes s.accessible.bytes c
   pub origin : c.origin ≡ placed s.base.bytes (origin_image s) c.origin
   pub beyond : Holds s s.accessible.bytes (size_of s) c
+  pub colour : HasColour s.base.bytes (size_of s) s.colour c
 
 -- The slot is clean: it can be used, wasn't written, and holds what it goes back to. Its image is what it goes back to,
 -- so that it has none where pages go back to zeros.
@@ -135,25 +176,28 @@ abbrev pub limited : ℕ → Slot → Slot
 limited size s = if nat_lt s.accessible.bytes (rounded_up s.region.page size) then raised (rounded_up s.region.page size) s else s
 
 -- Of the slot only pages were exposed: it has the same parts and bytes, and it is clean, or can be used, where it was.
-pub record IsKept (old new : Slot) : Type 0 where
-  pub base : new.base ≡ old.base
-  pub static_size : new.static_size ≡ old.static_size
+pub record OnlyExposed (old new : Slot) : Type 0 where
+  pub same : identity new ≡ identity old
   pub image : new.image ≡ old.image
   pub dirty : new.dirty ≡ old.dirty
-  pub colour : new.colour ≡ old.colour
-  pub name : new.region.name ≡ old.region.name
-  pub page : new.region.page ≡ old.region.page
-  pub len : new.region.len ≡ old.region.len
-  pub behaviour : new.region.behaviour ≡ old.region.behaviour
-  pub plan : new.region.plan ≡ old.region.plan
   pub bytes : option_map (λ c. c.bytes) new.region.contents ≡ option_map (λ c. c.bytes) old.region.contents
   pub ready : IfSome old.region.contents (IsReady old) → IfSome new.region.contents (IsReady new)
   pub clean : IsClean old → IsClean new
 
+-- what a region tells once pages of it got a colour, where there is one
+abbrev pub coloured : Option ℕ → ℕ → ℕ → Told → Told
+coloured None start len t = t
+coloured (Some colour) start len t = succeeded (recolouring start len colour) t
+
+-- the slot after a call on its region that takes the colour of its pages away, and the one right behind it that gives
+-- them the slot's colour, where it has one
+abbrev pub renewed : PageCall → Slot → Slot
+renewed call s = record s { region = coloured s.colour call.start call.len (succeeded call s.region) }
+
 -- the slot without its image, whose pages become zeros
 abbrev pub without : Option ImageName → Slot → Slot
 without None s = s
-without (Some name) s = record (called (remapping (s.base.bytes + name.offset) name.len) s) { image = None }
+without (Some name) s = record (renewed (remapping (s.base.bytes + name.offset) name.len) s) { image = None }
 
 abbrev pub without_image : Slot → Slot
 without_image s = without s.image s
@@ -161,7 +205,7 @@ without_image s = without s.image s
 -- the slot with an image mapped, if there is one
 abbrev pub with_image : Option Image → Slot → Slot
 with_image None s = s
-with_image (Some i) s = record (called (mapping s.region.behaviour (s.base.bytes + i.offset) i.bytes) s) { image = Some (name_of i) }
+with_image (Some i) s = record (renewed (mapping s.region.behaviour (s.base.bytes + i.offset) i.bytes) s) { image = Some (name_of i) }
 
 -- the slot as a memory gets it that has the image already, and one that hasn't
 abbrev pub reused : ℕ → Bool → Slot → Slot
@@ -171,8 +215,8 @@ abbrev pub replaced : ℕ → Bool → Option Image → Slot → Slot
 replaced size hides image s = record (with_image image (resized size hides (without_image s))) { dirty = true }
 
 -- the slot without anything: no page can be reached, and each is zeros
-abbrev pub emptied : Slot → Slot
-emptied s = record (called (erasing s.base.bytes (size_of s)) s) { accessible = count s.region.page 0; image = None; dirty = false }
+abbrev pub wiped : Slot → Slot
+wiped s = record (renewed (erasing s.base.bytes (size_of s)) s) { accessible = count s.region.page 0; image = None; dirty = false }
 
 -- the slot after bytes of it were written
 abbrev pub written_at : ℕ → List ℕ → Slot → Slot
@@ -210,24 +254,16 @@ pub record CallFaulted (call : PageCall) (old new : Slot) : Type 0 where
   pub region : Faulted call old.region new.region
   pub same : new ≡ record old { region = new.region }
 
--- The slot after a fault: its region, base and size are the same, and the region's count of faults rose, which only a
--- call that the region's plan lists does, where it tells one. Nothing is said of what it holds.
+-- The slot after a fault: it is the same slot, and its region's count of faults rose, which only a call that the region's
+-- plan lists does, where it tells one. Nothing is said of what it holds.
 pub record IsLeft (old new : Slot) : Type 0 where
-  pub base : new.base ≡ old.base
-  pub static_size : new.static_size ≡ old.static_size
-  pub colour : new.colour ≡ old.colour
-  pub name : new.region.name ≡ old.region.name
-  pub page : new.region.page ≡ old.region.page
-  pub len : new.region.len ≡ old.region.len
-  pub behaviour : new.region.behaviour ≡ old.region.behaviour
-  pub plan : new.region.plan ≡ old.region.plan
-  pub tells : is_some new.region.contents ≡ is_some old.region.contents
+  pub same : identity new ≡ identity old
   pub rose : Rose old.region.faults new.region.faults
   pub listed : IfSome old.region.plan (λ plan. 0 < length plan)
 
--- the slot can be made of this region: its pages go back to zeros, and those of the slot hold zeros and can be reached
--- below `accessible`
-pub record IsFresh (base accessible : Count) (static_size : ℕ) (t : Told) : Type 0 where
+-- the slot can be made of this region: its pages go back to zeros, and those of the slot hold zeros, can be reached
+-- below `accessible`, and have this colour
+pub record IsFresh (base accessible : Count) (static_size : ℕ) (colour : Option ℕ) (t : Told) : Type 0 where
   pub base_page : base.page ≡ t.page
   pub accessible_page : accessible.page ≡ t.page
   pub inside : base.bytes + rounded_up t.page static_size ≤ t.len
@@ -236,6 +272,7 @@ pub record IsFresh (base accessible : Count) (static_size : ℕ) (t : Told) : Ty
   pub origin : IfSome t.contents (λ c. c.origin ≡ replicate t.len 0)
   pub zeros : IfSome t.contents (λ c. slice_range c.bytes base.bytes (base.bytes + rounded_up t.page static_size) ≡ replicate (rounded_up t.page static_size) 0)
   pub reach : IfSome t.contents (CanReach base.bytes accessible.bytes)
+  pub has_colour : IfSome t.contents (HasColour base.bytes (rounded_up t.page static_size) colour)
 
 -- The slot as a memory begins in it: in use, and its first bytes are the image at its offset and zeros elsewhere.
 pub record IsBegun (image : Option Image) (s : Slot) : Type 0 where
@@ -255,7 +292,7 @@ cleared kept s = record s { region = restored s.base.bytes kept s.region; dirty 
 abbrev pub reset_ranges : ℕ → ℕ → List ByteRange
 reset_ranges kept accessible = if nat_lt kept accessible then record { start = kept; len = accessible - kept } ∷ [] else []
 
--- What a reset makes of a slot depends on the region's behaviour: where pages go back to zeros, the slot is emptied
+-- What a reset makes of a slot depends on the region's behaviour: where pages go back to zeros, the slot is wiped
 -- whatever is to be kept. How many bytes stay resident:
 abbrev pub kept_bytes : DecommitBehavior → ℕ → ℕ → ℕ
 kept_bytes RestoreOriginalMapping keep accessible = min keep accessible
@@ -269,7 +306,7 @@ left_ranges Zero keep accessible = []
 -- the slot
 abbrev pub reset_slot : DecommitBehavior → ℕ → Slot → Slot
 reset_slot RestoreOriginalMapping keep s = cleared (min keep s.accessible.bytes) s
-reset_slot Zero keep s = emptied s
+reset_slot Zero keep s = wiped s
 
 -- what is accessible and not wanted is hidden: the memory has a guard, or its bounds rest on hidden pages
 abbrev pub hides : MemoryType → MemoryTunables → ℕ → Bool
@@ -277,14 +314,6 @@ hides ty tunables page = nat_lt 0 (guard_size tunables) || can_use_virtual_memor
 
 -- the slot after an instantiation: its parts but the region's pages are told by those before
 pub record IsSized (initial : ℕ) (hide : Bool) (old new : Slot) : Type 0 where
-  pub base : new.base ≡ old.base
-  pub static_size : new.static_size ≡ old.static_size
-  pub colour : new.colour ≡ old.colour
+  pub same : identity new ≡ identity old
   pub accessible : new.accessible ≡ (resized (rounded_up old.region.page initial) hide old).accessible
-  pub name : new.region.name ≡ old.region.name
-  pub page : new.region.page ≡ old.region.page
-  pub len : new.region.len ≡ old.region.len
-  pub behaviour : new.region.behaviour ≡ old.region.behaviour
-  pub plan : new.region.plan ≡ old.region.plan
-  pub tells : is_some new.region.contents ≡ is_some old.region.contents
   pub faults : new.region.faults ≡ old.region.faults

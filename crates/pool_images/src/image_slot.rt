@@ -1,7 +1,7 @@
 ghost use Rattle.std.specs.Prelude.{◌≡◌, ◌+◌, ◌≤◌, [], ◌∷◌, length, replicate, slice_range, false, None, is_ok, is_some, IfSome, OnOk, OnErr};
-ghost use Rattle.pool_pages.specs.Told.{exposing, hiding, mapping, remapping, erasing, decommitting, passes};
-ghost use Rattle.pool_images.specs.Orders.{Follows};
-ghost use Rattle.pool_images.specs.Slots.{size_of, IsRangeOf, CallFaulted, IsFresh, IsReady, IsClean, Fits, FitsInto, called, written_at};
+ghost use Rattle.pool_pages.specs.Told.{exposing, hiding, mapping, remapping, erasing, recolouring, decommitting, passes};
+ghost use Rattle.pool_images.specs.Orders.{Follows, colouring};
+ghost use Rattle.pool_images.specs.Slots.{size_of, IsRangeOf, CallFaulted, IsLeft, IsFresh, IsReady, IsClean, IsSlot, FitsInto, called, coloured, written_at};
 
 mod instantiate;
 mod limit;
@@ -56,7 +56,8 @@ impl<P: Pages> Model for MemoryImageSlot<P> {
 
 impl<P: Pages> MemoryImageSlot<P> {
     /// A slot without image. It begins at `base` in the region, and `static_size` bytes of it can become accessible.
-    /// All its pages have the colour, 0 for None.
+    /// All its pages must have the colour, 0 for None. Each page call that takes the colour of pages away is followed by
+    /// one that gives it back, unless the colour is None.
     pub fn create(
         region: P,
         base: HostAlignedByteCount,
@@ -64,7 +65,7 @@ impl<P: Pages> MemoryImageSlot<P> {
         static_size: usize,
         colour: Option<u8>,
     ) -> Self
-        requires { IsFresh base accessible static_size (P.told region) }
+        requires { IsFresh base accessible static_size colour (P.told region) }
         ensures value { result ≡ record { region = P.told region; base = base; accessible = accessible; static_size = static_size; image = None; dirty = false; colour = colour } }
         ensures clean { IsClean result }
     {
@@ -113,7 +114,7 @@ impl<P: Pages> MemoryImageSlot<P> {
     pub fn accessible(&self) -> HostAlignedByteCount
         ensures value { result ≡ self.now.accessible }
         ensures within { self.now.accessible.bytes ≤ size_of self.now }
-        ensures fits { Fits self.now }
+        ensures fits { IsSlot self.now }
     {
         self.accessible
     }
@@ -208,6 +209,7 @@ impl<P: Pages> MemoryImageSlot<P> {
         ensures ok { OnOk result (self.new ≡ called (remapping (self.old.base.bytes + start.bytes) len.bytes) self.old) }
         ensures fault { OnErr result (CallFaulted (remapping (self.old.base.bytes + start.bytes) len.bytes) self.old self.new) }
         ensures planned { IfSome self.old.region.plan (λ plan. is_ok result ≡ passes plan (remapping (self.old.base.bytes + start.bytes) len.bytes) self.old.region) }
+        ensures order { Follows (remapping (self.old.base.bytes + start.bytes) len.bytes ∷ []) (is_ok result) self.old.region self.new.region }
     {
         let from = self.base.unchecked_add(start);
         self.region.remap_zeros(from, len)
@@ -222,9 +224,43 @@ impl<P: Pages> MemoryImageSlot<P> {
         ensures ok { OnOk result (self.new ≡ called (erasing (self.old.base.bytes + start.bytes) len.bytes) self.old) }
         ensures fault { OnErr result (CallFaulted (erasing (self.old.base.bytes + start.bytes) len.bytes) self.old self.new) }
         ensures planned { IfSome self.old.region.plan (λ plan. is_ok result ≡ passes plan (erasing (self.old.base.bytes + start.bytes) len.bytes) self.old.region) }
+        ensures order { Follows (erasing (self.old.base.bytes + start.bytes) len.bytes ∷ []) (is_ok result) self.old.region self.new.region }
     {
         let from = self.base.unchecked_add(start);
         self.region.erase(from, len)
+    }
+
+    // Gives the pages of a range the slot's colour, where it has one.
+    fn recolour(
+        &mut self,
+        start: HostAlignedByteCount,
+        len: HostAlignedByteCount,
+    ) -> Result<(), PageFault>
+        requires { IsRangeOf start len self.old }
+        ensures ok { OnOk result (self.new ≡ record self.old { region = coloured self.old.colour (self.old.base.bytes + start.bytes) len.bytes self.old.region }) }
+        ensures mark { OnErr result (self.new.dirty ≡ self.old.dirty) }
+        ensures fault { OnErr result (IsLeft self.old self.new) }
+        ensures order { Follows (colouring self.old.colour (self.old.base.bytes + start.bytes) len.bytes) (is_ok result) self.old.region self.new.region }
+    {
+        match self.colour {
+            None => Ok(()),
+            Some(colour) => self.recolour_as(start, len, colour),
+        }
+    }
+
+    fn recolour_as(
+        &mut self,
+        start: HostAlignedByteCount,
+        len: HostAlignedByteCount,
+        colour: u8,
+    ) -> Result<(), PageFault>
+        requires { IsRangeOf start len self.old }
+        ensures ok { OnOk result (self.new ≡ called (recolouring (self.old.base.bytes + start.bytes) len.bytes colour) self.old) }
+        ensures fault { OnErr result (CallFaulted (recolouring (self.old.base.bytes + start.bytes) len.bytes colour) self.old self.new) }
+        ensures order { Follows (recolouring (self.old.base.bytes + start.bytes) len.bytes colour ∷ []) (is_ok result) self.old.region self.new.region }
+    {
+        let from = self.base.unchecked_add(start);
+        self.region.recolour(from, len, colour)
     }
 
     fn map_image(&mut self, image: &MemoryImage) -> Result<(), PageFault>
@@ -234,6 +270,7 @@ impl<P: Pages> MemoryImageSlot<P> {
         ensures ok { OnOk result (self.new ≡ called (mapping self.old.region.behaviour (self.old.base.bytes + image.now.offset) image.now.bytes) self.old) }
         ensures fault { OnErr result (CallFaulted (mapping self.old.region.behaviour (self.old.base.bytes + image.now.offset) image.now.bytes) self.old self.new) }
         ensures planned { IfSome self.old.region.plan (λ plan. is_ok result ≡ passes plan (mapping self.old.region.behaviour (self.old.base.bytes + image.now.offset) image.now.bytes) self.old.region) }
+        ensures order { Follows (mapping self.old.region.behaviour (self.old.base.bytes + image.now.offset) image.now.bytes ∷ []) (is_ok result) self.old.region self.new.region }
     {
         let start = HostAlignedByteCount::new_unchecked(image.data().page(), image.offset());
         let from = self.base.unchecked_add(start);
@@ -242,7 +279,7 @@ impl<P: Pages> MemoryImageSlot<P> {
 
     // What holds of every slot, for the proofs of its callers here.
     fn fits(&self)
-        ensures { Fits self.now }
+        ensures { IsSlot self.now }
     {
         let _region = &self.region;
     }

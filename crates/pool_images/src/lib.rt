@@ -4,8 +4,6 @@
 mod image_slot;
 mod memory_image;
 mod ranges;
-#[cfg(test)]
-mod slot_tests;
 
 pub use image_slot::{ImageName, MemoryImageSlot};
 pub use memory_image::{ImageError, MemoryImage, ModuleMemoryImages};

@@ -1,9 +1,9 @@
-ghost use Rattle.std.specs.Prelude.{◌≡◌, ◌≢◌, ◌↔◌, ℕ, ◌+◌, ◌%◌, ◌^◌, ◌<◌, ◌&&◌, ◌∷◌, ◌++◌, [], false, length, map, vec_len, slice_index_or, Err, Some, None, is_some, IsSome, All, IfOk, IfSome, OnOk, MatchResult, option_map};
+ghost use Rattle.std.specs.Prelude.{◌≡◌, ◌≢◌, ◌↔◌, ℕ, ◌+◌, ◌%◌, ◌^◌, ◌<◌, ◌&&◌, ◌∷◌, ◌++◌, [], false, true, length, map, vec_len, slice_index_or, Err, Some, None, is_some, IsSome, All, IfOk, IfSome, OnOk, MatchResult, option_map};
 ghost use Rattle.std.specs.Arc.{arc_value};
 ghost use Rattle.std.specs.List.{list_all};
 ghost use Rattle.pool_pages.specs.MakerTold.{fails_images};
-ghost use Rattle.pool_images.specs.Images.{image_of, padded, images_from, makes_listed, misplaced, first_misplaced, ends_in_minimum};
-ghost use Rattle.pool_images.specs.ImageErrors.{RaisesFaults, IsListed};
+ghost use Rattle.pool_images.specs.Images.{image_of, padded, images_from, makes_listed_images, misaligned, misplaced, first_misplaced, ends_in_minimum};
+ghost use Rattle.pool_images.specs.ImageErrors.{RaisesImageFaults, RaisesImageBehind, IsListedImageFault};
 
 use pool_pages::{
     ByteList, CompiledModuleId, DefinedMemoryIndex, HostAlignedByteCount, ImageData, ImageDecl,
@@ -65,12 +65,12 @@ impl MemoryImage {
         bytes: &[u8],
     ) -> Result<MemoryImage, ImageError>
         ensures ok { IfOk result (λ image. image ≡ record { id = id; memory = memory; page = page; offset = offset; bytes = bytes.now }) }
-        ensures whole { OnOk result ((offset % page ≡ 0) × (length bytes.now % page ≡ 0)) }
-        ensures offset { (result ≡ Err (ImageError.Unsupported (Unsupported.ImageOffset offset))) ↔ (offset % page ≢ 0) }
-        ensures length { result ≡ Err (ImageError.Unsupported (Unsupported.ImageLength (length bytes.now))) → length bytes.now % page ≢ 0 }
-        ensures maker { M.told maker.new ≡ record (M.told maker.old) { faults = (M.told maker.new).faults } }
-        ensures faults { MatchResult result (λ _. (M.told maker.new).faults ≡ (M.told maker.old).faults) (RaisesFaults (M.told maker.old).faults (M.told maker.new).faults) }
-        ensures planned { IfSome (M.told maker.old).plan (λ plan. MatchResult result (λ _. fails_images id.0 plan ≡ false) (IsListed (fails_images id.0 plan))) }
+        ensures unsupported { (u : _) → (result ≡ Err (ImageError.Unsupported u)) ↔ (misaligned page offset (length bytes.now) ≡ Some u) }
+        ensures maker { M.told maker.new ≡ record (M.told maker.old) { behind = (M.told maker.new).behind; faults = (M.told maker.new).faults } }
+        ensures faults { MatchResult result (λ _. (M.told maker.new).faults ≡ (M.told maker.old).faults) (RaisesImageFaults (M.told maker.old).faults (M.told maker.new).faults) }
+        ensures planned { IfSome (M.told maker.old).plan (λ plan. MatchResult result (λ _. fails_images id.0 plan ≡ false) (IsListedImageFault (fails_images id.0 plan))) }
+        ensures listed { IfOk result (λ _. fails_images id.0 (M.told maker.old).listed ≡ false) }
+        ensures behind { MatchResult result (λ _. (M.told maker.new).behind ≡ (M.told maker.old).behind) (RaisesImageBehind (fails_images id.0 (M.told maker.old).listed) (M.told maker.old).behind (M.told maker.new).behind) }
     {
         if offset % page.get() as u64 != 0 {
             return Err(ImageError::Unsupported(Unsupported::ImageOffset { offset }));
@@ -131,9 +131,11 @@ fn make_image<M: PageMaker>(
     requires whole { length bytes % page ≡ 0 }
     ensures ok { IfOk result (λ image. image ≡ record { id = id; memory = memory; page = page; offset = offset; bytes = bytes }) }
     ensures supported { (u : _) → result ≢ Err (ImageError.Unsupported u) }
-    ensures maker { M.told maker.new ≡ record (M.told maker.old) { faults = (M.told maker.new).faults } }
-    ensures faults { MatchResult result (λ _. (M.told maker.new).faults ≡ (M.told maker.old).faults) (RaisesFaults (M.told maker.old).faults (M.told maker.new).faults) }
-    ensures planned { IfSome (M.told maker.old).plan (λ plan. MatchResult result (λ _. fails_images id.0 plan ≡ false) (IsListed (fails_images id.0 plan))) }
+    ensures maker { M.told maker.new ≡ record (M.told maker.old) { behind = (M.told maker.new).behind; faults = (M.told maker.new).faults } }
+    ensures faults { MatchResult result (λ _. (M.told maker.new).faults ≡ (M.told maker.old).faults) (RaisesImageFaults (M.told maker.old).faults (M.told maker.new).faults) }
+    ensures planned { IfSome (M.told maker.old).plan (λ plan. MatchResult result (λ _. fails_images id.0 plan ≡ false) (IsListedImageFault (fails_images id.0 plan))) }
+    ensures listed { IfOk result (λ _. fails_images id.0 (M.told maker.old).listed ≡ false) }
+    ensures behind { MatchResult result (λ _. (M.told maker.new).behind ≡ (M.told maker.old).behind) (RaisesImageBehind (fails_images id.0 (M.told maker.old).listed) (M.told maker.old).behind (M.told maker.new).behind) }
 {
     let len = HostAlignedByteCount::new_unchecked(page, bytes.len());
     match maker.image(alloc, id.0, memory.0, len) {
@@ -179,11 +181,14 @@ impl ModuleMemoryImages {
         ensures begins { OnOk result (first_misplaced page module_info.now.memories ≡ None) }
         ensures ends { IfOk result (λ made. is_some made ≡ list_all (ends_in_minimum page) module_info.now.memories) }
         ensures images { IfOk result (λ made. IfSome made (λ images. images ≡ images_from id page 0 module_info.now.memories)) }
-        ensures unsupported { (n : ℕ) → result ≡ Err (ImageError.Unsupported (Unsupported.ImageOffset n)) → first_misplaced page module_info.now.memories ≡ Some n }
+        ensures unsupported { (n : ℕ) → (result ≡ Err (ImageError.Unsupported (Unsupported.ImageOffset n))) ↔ (first_misplaced page module_info.now.memories ≡ Some n) }
+        ensures page_fault { result ≡ Err ImageError.PageFault → (first_misplaced page module_info.now.memories ≡ None) × (list_all (ends_in_minimum page) module_info.now.memories ≡ true) }
         ensures offsets { (u : _) → result ≡ Err (ImageError.Unsupported u) → (n : ℕ) × (u ≡ Unsupported.ImageOffset n) }
-        ensures maker { M.told maker.new ≡ record (M.told maker.old) { faults = (M.told maker.new).faults } }
-        ensures faults { MatchResult result (λ _. (M.told maker.new).faults ≡ (M.told maker.old).faults) (RaisesFaults (M.told maker.old).faults (M.told maker.new).faults) }
-        ensures planned { IfSome (M.told maker.old).plan (λ plan. MatchResult result (λ made. IsSome made → makes_listed id plan module_info.now.memories ≡ false) (IsListed (makes_listed id plan module_info.now.memories))) }
+        ensures maker { M.told maker.new ≡ record (M.told maker.old) { behind = (M.told maker.new).behind; faults = (M.told maker.new).faults } }
+        ensures faults { MatchResult result (λ _. (M.told maker.new).faults ≡ (M.told maker.old).faults) (RaisesImageFaults (M.told maker.old).faults (M.told maker.new).faults) }
+        ensures planned { IfSome (M.told maker.old).plan (λ plan. MatchResult result (λ made. IsSome made → makes_listed_images id plan module_info.now.memories ≡ false) (IsListedImageFault (makes_listed_images id plan module_info.now.memories))) }
+        ensures listed { IfOk result (λ made. IsSome made → makes_listed_images id (M.told maker.old).listed module_info.now.memories ≡ false) }
+        ensures behind { MatchResult result (λ _. (M.told maker.new).behind ≡ (M.told maker.old).behind) (RaisesImageBehind (makes_listed_images id (M.told maker.old).listed module_info.now.memories) (M.told maker.old).behind (M.told maker.new).behind) }
     {
         let memories = module_info.memories.as_slice();
         if let Some(offset) = first_misplaced(page, memories) {
@@ -276,9 +281,11 @@ fn make_declared<M: PageMaker>(
     requires { decl.now.offset % page ≡ 0 }
     ensures ok { IfOk result (λ image. arc_value image ≡ image_of id page memory.0 decl.now) }
     ensures supported { (u : _) → result ≢ Err (ImageError.Unsupported u) }
-    ensures maker { M.told maker.new ≡ record (M.told maker.old) { faults = (M.told maker.new).faults } }
-    ensures faults { MatchResult result (λ _. (M.told maker.new).faults ≡ (M.told maker.old).faults) (RaisesFaults (M.told maker.old).faults (M.told maker.new).faults) }
-    ensures planned { IfSome (M.told maker.old).plan (λ plan. MatchResult result (λ _. fails_images id.0 plan ≡ false) (IsListed (fails_images id.0 plan))) }
+    ensures maker { M.told maker.new ≡ record (M.told maker.old) { behind = (M.told maker.new).behind; faults = (M.told maker.new).faults } }
+    ensures faults { MatchResult result (λ _. (M.told maker.new).faults ≡ (M.told maker.old).faults) (RaisesImageFaults (M.told maker.old).faults (M.told maker.new).faults) }
+    ensures planned { IfSome (M.told maker.old).plan (λ plan. MatchResult result (λ _. fails_images id.0 plan ≡ false) (IsListedImageFault (fails_images id.0 plan))) }
+    ensures listed { IfOk result (λ _. fails_images id.0 (M.told maker.old).listed ≡ false) }
+    ensures behind { MatchResult result (λ _. (M.told maker.new).behind ≡ (M.told maker.old).behind) (RaisesImageBehind (fails_images id.0 (M.told maker.old).listed) (M.told maker.old).behind (M.told maker.new).behind) }
 {
     let bytes = padded(alloc, page, decl.bytes.as_slice())?;
     let image = make_image(alloc, maker, page, id, memory, decl.offset, bytes)?;
@@ -297,9 +304,12 @@ fn make_one<M: PageMaker>(
     requires { misplaced page decl.now ≡ None }
     ensures ok { IfOk result (λ image. option_map arc_value image ≡ option_map (image_of id page memory.0) decl.now.image) }
     ensures supported { (u : _) → result ≢ Err (ImageError.Unsupported u) }
-    ensures maker { M.told maker.new ≡ record (M.told maker.old) { faults = (M.told maker.new).faults } }
-    ensures faults { MatchResult result (λ _. (M.told maker.new).faults ≡ (M.told maker.old).faults) (RaisesFaults (M.told maker.old).faults (M.told maker.new).faults) }
-    ensures planned { IfSome (M.told maker.old).plan (λ plan. MatchResult result (λ _. (is_some decl.now.image && fails_images id.0 plan) ≡ false) (IsListed (is_some decl.now.image && fails_images id.0 plan))) }
+    ensures maker { M.told maker.new ≡ record (M.told maker.old) { behind = (M.told maker.new).behind; faults = (M.told maker.new).faults } }
+    ensures faults { MatchResult result (λ _. (M.told maker.new).faults ≡ (M.told maker.old).faults) (RaisesImageFaults (M.told maker.old).faults (M.told maker.new).faults) }
+    ensures planned { IfSome (M.told maker.old).plan (λ plan. MatchResult result (λ _. (is_some decl.now.image && fails_images id.0 plan) ≡ false) (IsListedImageFault (is_some decl.now.image && fails_images id.0 plan))) }
+    ensures listed { IfOk result (λ _. (is_some decl.now.image && fails_images id.0 (M.told maker.old).listed) ≡ false) }
+    ensures behind { MatchResult result (λ _. (M.told maker.new).behind ≡ (M.told maker.old).behind) (RaisesImageBehind (fails_images id.0 (M.told maker.old).listed) (M.told maker.old).behind (M.told maker.new).behind) }
+    ensures image { result ≡ Err ImageError.PageFault → is_some decl.now.image ≡ true }
 {
     match &decl.image {
         None => Ok(None),
@@ -324,9 +334,12 @@ fn push_image<M: PageMaker>(
     ensures ok { OnOk result (map (option_map arc_value) images.new.items ≡ map (option_map arc_value) images.old.items ++ option_map (image_of id page (vec_len images.old)) decl.now.image ∷ []) }
     ensures len { OnOk result (vec_len images.new ≡ vec_len images.old + 1) }
     ensures supported { (u : _) → result ≢ Err (ImageError.Unsupported u) }
-    ensures maker { M.told maker.new ≡ record (M.told maker.old) { faults = (M.told maker.new).faults } }
-    ensures faults { MatchResult result (λ _. (M.told maker.new).faults ≡ (M.told maker.old).faults) (RaisesFaults (M.told maker.old).faults (M.told maker.new).faults) }
-    ensures planned { IfSome (M.told maker.old).plan (λ plan. MatchResult result (λ _. (is_some decl.now.image && fails_images id.0 plan) ≡ false) (IsListed (is_some decl.now.image && fails_images id.0 plan))) }
+    ensures maker { M.told maker.new ≡ record (M.told maker.old) { behind = (M.told maker.new).behind; faults = (M.told maker.new).faults } }
+    ensures faults { MatchResult result (λ _. (M.told maker.new).faults ≡ (M.told maker.old).faults) (RaisesImageFaults (M.told maker.old).faults (M.told maker.new).faults) }
+    ensures planned { IfSome (M.told maker.old).plan (λ plan. MatchResult result (λ _. (is_some decl.now.image && fails_images id.0 plan) ≡ false) (IsListedImageFault (is_some decl.now.image && fails_images id.0 plan))) }
+    ensures listed { IfOk result (λ _. (is_some decl.now.image && fails_images id.0 (M.told maker.old).listed) ≡ false) }
+    ensures behind { MatchResult result (λ _. (M.told maker.new).behind ≡ (M.told maker.old).behind) (RaisesImageBehind (fails_images id.0 (M.told maker.old).listed) (M.told maker.old).behind (M.told maker.new).behind) }
+    ensures image { result ≡ Err ImageError.PageFault → is_some decl.now.image ≡ true }
 {
     let memory = DefinedMemoryIndex(images.len() as u32);
     let image = make_one(alloc, maker, page, id, memory, decl)?;
@@ -347,9 +360,11 @@ fn make_images<M: PageMaker>(
     requires count { length memories.now < 2 ^ 32 }
     ensures ok { IfOk result (λ images. map (option_map arc_value) images.items ≡ images_from id page 0 memories.now) }
     ensures supported { (u : _) → result ≢ Err (ImageError.Unsupported u) }
-    ensures maker { M.told maker.new ≡ record (M.told maker.old) { faults = (M.told maker.new).faults } }
-    ensures faults { MatchResult result (λ _. (M.told maker.new).faults ≡ (M.told maker.old).faults) (RaisesFaults (M.told maker.old).faults (M.told maker.new).faults) }
-    ensures planned { IfSome (M.told maker.old).plan (λ plan. MatchResult result (λ _. makes_listed id plan memories.now ≡ false) (IsListed (makes_listed id plan memories.now))) }
+    ensures maker { M.told maker.new ≡ record (M.told maker.old) { behind = (M.told maker.new).behind; faults = (M.told maker.new).faults } }
+    ensures faults { MatchResult result (λ _. (M.told maker.new).faults ≡ (M.told maker.old).faults) (RaisesImageFaults (M.told maker.old).faults (M.told maker.new).faults) }
+    ensures planned { IfSome (M.told maker.old).plan (λ plan. MatchResult result (λ _. makes_listed_images id plan memories.now ≡ false) (IsListedImageFault (makes_listed_images id plan memories.now))) }
+    ensures listed { IfOk result (λ _. makes_listed_images id (M.told maker.old).listed memories.now ≡ false) }
+    ensures behind { MatchResult result (λ _. (M.told maker.new).behind ≡ (M.told maker.old).behind) (RaisesImageBehind (makes_listed_images id (M.told maker.old).listed memories.now) (M.told maker.old).behind (M.told maker.new).behind) }
 {
     let mut images = Vec::with_capacity(alloc, memories.len())?;
     for decl in memories {

@@ -1,9 +1,9 @@
-ghost use Rattle.std.specs.Prelude.{◌≡◌, ◌+◌, ◌-◌, ◌%◌, ◌<◌, ◌≤◌, [], ◌∷◌, length, true, IfSome, is_ok, OnOk, OnErr, option_map};
+ghost use Rattle.std.specs.Prelude.{◌≡◌, ◌⊎◌, ◌+◌, ◌-◌, ◌%◌, ◌<◌, ◌≤◌, [], ◌∷◌, length, true, IfSome, is_ok, OnOk, OnErr, option_map};
 ghost use Rattle.std.specs.Arc.{arc_value};
 ghost use Rattle.pool_pages.specs.Count.{count, rounded_up};
 ghost use Rattle.pool_pages.specs.Told.{exposing, hiding};
 ghost use Rattle.pool_images.specs.Orders.{Follows, resizing, replacing};
-ghost use Rattle.pool_images.specs.Slots.{size_of, IsClean, IsLeft, IsBegun, IsSized, Fits, FitsInto, HasImage, name_of, called, resized, reused, replaced, hides};
+ghost use Rattle.pool_images.specs.Slots.{size_of, IsClean, IsLeft, IsBegun, IsSized, IsSlot, FitsInto, HasImage, name_of, called, resized, reused, replaced, hides};
 
 use crate::image_slot::MemoryImageSlot;
 use crate::memory_image::MemoryImage;
@@ -13,9 +13,9 @@ use std::sync::Arc;
 impl<P: Pages> MemoryImageSlot<P> {
     /// Makes a clean slot what a memory of this type begins in: `initial` bytes of it accessible, the image mapped. It
     /// is in use then. An image that is mapped already isn't mapped again: it is told by its name, offset and length,
-    /// and by its bytes, which are read from the slot. Where pages go back to zeros no clean slot has an image, so that
-    /// it is mapped each time. What is accessible above `initial` is hidden only where the memory's bounds may rest on
-    /// it.
+    /// and by its bytes, which are compared where they lie. Where pages go back to zeros no clean slot has an image, so
+    /// that it is mapped each time. What is accessible above `initial` is hidden only where the memory's bounds may rest
+    /// on it.
     pub fn instantiate(
         &mut self,
         initial: usize,
@@ -34,11 +34,15 @@ impl<P: Pages> MemoryImageSlot<P> {
             self.new ≡ reused (rounded_up self.old.region.page initial) (hides ty.now tunables.now self.old.region.page) self.old)) }
         ensures replaced { OnOk result (IfSome self.old.region.contents (λ c. (HasImage self.old (option_map (λ i. arc_value i.now) image.entry) c → ⊥) →
             self.new ≡ replaced (rounded_up self.old.region.page initial) (hides ty.now tunables.now self.old.region.page) (option_map (λ i. arc_value i.now) image.entry) self.old)) }
+        ensures either { let size = rounded_up self.old.region.page initial in let hide = hides ty.now tunables.now self.old.region.page in
+            OnOk result ((self.new ≡ reused size hide self.old) ⊎ (self.new ≡ replaced size hide (option_map (λ i. arc_value i.now) image.entry) self.old)) }
         ensures fault { OnErr result (IsLeft self.old self.new) }
         ensures reuse_order { IfSome self.old.region.contents (λ c. HasImage self.old (option_map (λ i. arc_value i.now) image.entry) c →
             Follows (resizing (rounded_up self.old.region.page initial) (hides ty.now tunables.now self.old.region.page) self.old) (is_ok result) self.old.region self.new.region) }
         ensures replace_order { IfSome self.old.region.contents (λ c. (HasImage self.old (option_map (λ i. arc_value i.now) image.entry) c → ⊥) →
             Follows (replacing (rounded_up self.old.region.page initial) (hides ty.now tunables.now self.old.region.page) (option_map (λ i. arc_value i.now) image.entry) self.old) (is_ok result) self.old.region self.new.region) }
+        ensures either_order { let size = rounded_up self.old.region.page initial in let hide = hides ty.now tunables.now self.old.region.page in
+            (Follows (resizing size hide self.old) (is_ok result) self.old.region self.new.region) ⊎ (Follows (replacing size hide (option_map (λ i. arc_value i.now) image.entry) self.old) (is_ok result) self.old.region self.new.region) }
     {
         let hides = hides(ty, tunables, self.region.page());
         self.instantiate_image(initial, image_of(image), hides)
@@ -60,11 +64,15 @@ impl<P: Pages> MemoryImageSlot<P> {
             self.new ≡ reused (rounded_up self.old.region.page initial) hides self.old)) }
         ensures replaced { OnOk result (IfSome self.old.region.contents (λ c. (HasImage self.old (option_map (λ i. i.now) image.entry) c → ⊥) →
             self.new ≡ replaced (rounded_up self.old.region.page initial) hides (option_map (λ i. i.now) image.entry) self.old)) }
+        ensures either { let size = rounded_up self.old.region.page initial in
+            OnOk result ((self.new ≡ reused size hides self.old) ⊎ (self.new ≡ replaced size hides (option_map (λ i. i.now) image.entry) self.old)) }
         ensures fault { OnErr result (IsLeft self.old self.new) }
         ensures reuse_order { IfSome self.old.region.contents (λ c. HasImage self.old (option_map (λ i. i.now) image.entry) c →
             Follows (resizing (rounded_up self.old.region.page initial) hides self.old) (is_ok result) self.old.region self.new.region) }
         ensures replace_order { IfSome self.old.region.contents (λ c. (HasImage self.old (option_map (λ i. i.now) image.entry) c → ⊥) →
             Follows (replacing (rounded_up self.old.region.page initial) hides (option_map (λ i. i.now) image.entry) self.old) (is_ok result) self.old.region self.new.region) }
+        ensures either_order { let size = rounded_up self.old.region.page initial in
+            (Follows (resizing size hides self.old) (is_ok result) self.old.region self.new.region) ⊎ (Follows (replacing size hides (option_map (λ i. i.now) image.entry) self.old) (is_ok result) self.old.region self.new.region) }
     {
         let size = self.rounded(initial);
         if self.has(image) {
@@ -81,7 +89,7 @@ impl<P: Pages> MemoryImageSlot<P> {
         ensures whole { rounded_up self.now.region.page bytes % self.now.region.page ≡ 0 }
         ensures within { rounded_up self.now.region.page bytes ≤ size_of self.now }
         ensures above { bytes ≤ rounded_up self.now.region.page bytes }
-        ensures fits { Fits self.now }
+        ensures fits { IsSlot self.now }
     {
         self.fits();
         HostAlignedByteCount::rounded_up_unchecked(self.region.page(), bytes)
@@ -160,7 +168,7 @@ impl<P: Pages> MemoryImageSlot<P> {
 
     fn hide_from(&mut self, size: HostAlignedByteCount) -> Result<(), PageFault>
         requires clean { IsClean self.old }
-        requires fits { Fits self.old }
+        requires fits { IsSlot self.old }
         requires page { size.page ≡ self.old.region.page }
         requires whole { size.bytes % size.page ≡ 0 }
         requires less { size.bytes ≤ self.old.accessible.bytes }

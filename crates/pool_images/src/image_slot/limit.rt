@@ -1,7 +1,7 @@
 ghost use Rattle.std.specs.Prelude.{◌≡◌, ◌%◌, ◌≤◌, is_ok, IfSome, OnOk, OnErr};
 ghost use Rattle.pool_pages.specs.Count.{rounded_up};
 ghost use Rattle.pool_pages.specs.Told.{passes};
-ghost use Rattle.pool_images.specs.Slots.{size_of, CallFaulted, Fits, IsKept, raising, raised, limited};
+ghost use Rattle.pool_images.specs.Slots.{size_of, CallFaulted, IsSlot, OnlyExposed, raising, raised, limited};
 
 use crate::image_slot::MemoryImageSlot;
 use pool_pages::{HostAlignedByteCount, PageFault, Pages};
@@ -15,8 +15,8 @@ impl<P: Pages> MemoryImageSlot<P> {
         ensures reached { OnOk result (size ≤ self.new.accessible.bytes) }
         ensures fault { OnErr result (CallFaulted (raising (rounded_up self.old.region.page size) self.old) self.old self.new) }
         ensures planned { IfSome self.old.region.plan (λ plan. is_ok result ≡ passes plan (raising (rounded_up self.old.region.page size) self.old) self.old.region) }
-        ensures kept { IsKept self.old self.new }
-        ensures fits { Fits self.new }
+        ensures kept { OnlyExposed self.old self.new }
+        ensures fits { IsSlot self.new }
     {
         let size = self.rounded(size);
         if self.accessible.byte_count() < size.byte_count() {
@@ -35,8 +35,8 @@ impl<P: Pages> MemoryImageSlot<P> {
         ensures ok { OnOk result (self.new ≡ raised size.bytes self.old) }
         ensures fault { OnErr result (CallFaulted (raising size.bytes self.old) self.old self.new) }
         ensures planned { IfSome self.old.region.plan (λ plan. is_ok result ≡ passes plan (raising size.bytes self.old) self.old.region) }
-        ensures kept { IsKept self.old self.new }
-        ensures fits { Fits self.new }
+        ensures kept { OnlyExposed self.old self.new }
+        ensures fits { IsSlot self.new }
     {
         self.fits();
         let had = self.accessible;

@@ -1,6 +1,6 @@
 ghost use Rattle.std.specs.Prelude.{◌≡◌, ◌↔◌, ◌+◌, ◌%◌, ◌≤◌, length, slice_range, true, None, Some, Ok, IsTrue, IfSome, is_ok, OnOk, OnErr, option_map};
 ghost use Rattle.pool_images.specs.Orders.{Follows, unmapping, removing, image_mapping};
-ghost use Rattle.pool_images.specs.Slots.{IsReady, IsClean, IsLeft, IsBegun, Fits, FitsInto, HasImage, name_of, without, without_image, with_image};
+ghost use Rattle.pool_images.specs.Slots.{IsReady, IsClean, IsLeft, IsBegun, IsSlot, FitsInto, HasImage, name_of, without, without_image, with_image};
 
 use crate::image_slot::{ImageName, MemoryImageSlot};
 use crate::memory_image::MemoryImage;
@@ -24,17 +24,18 @@ impl<P: Pages> MemoryImageSlot<P> {
 
     fn unmap(&mut self, name: ImageName) -> Result<(), PageFault>
         requires clean { IsClean self.old }
-        requires fits { Fits self.old }
+        requires fits { IsSlot self.old }
         requires image { self.old.image ≡ Some name }
         ensures ok { OnOk result (self.new ≡ without (Some name) self.old) }
         ensures clean { OnOk result (IsClean self.new) }
         ensures fault { OnErr result (IsLeft self.old self.new) }
-        ensures order { Follows (unmapping self.old.base.bytes (Some name)) (is_ok result) self.old.region self.new.region }
+        ensures order { Follows (unmapping self.old.base.bytes self.old.colour (Some name)) (is_ok result) self.old.region self.new.region }
     {
         let page = self.region.page();
         let start = HostAlignedByteCount::new_unchecked(page, name.offset);
         let len = HostAlignedByteCount::new_unchecked(page, name.len);
         self.remap_zeros(start, len)?;
+        self.recolour(start, len)?;
         self.image = None;
         Ok(())
     }
@@ -80,7 +81,11 @@ impl<P: Pages> MemoryImageSlot<P> {
     {
         self.fits();
         let name = name_of(image);
+        let page = image.data().page();
+        let from = HostAlignedByteCount::new_unchecked(page, name.offset);
+        let len = HostAlignedByteCount::new_unchecked(page, name.len);
         self.map_image(image)?;
+        self.recolour(from, len)?;
         self.image = Some(name);
         Ok(())
     }
@@ -124,38 +129,9 @@ impl<P: Pages> MemoryImageSlot<P> {
         requires ready { IfSome self.now.region.contents (IsReady self.now) }
         ensures { IfSome self.now.region.contents (λ c. IsTrue result ↔ (slice_range c.bytes (self.now.base.bytes + at) (self.now.base.bytes + at + length bytes.now) ≡ bytes.now)) }
     {
-        self.fits();
-        let mut done = 0;
-        while done < bytes.len() {
-            let len = (bytes.len() - done).min(PIECE);
-            if !self.holds_piece(at + done, &bytes[done..done + len]) {
-                return false;
-            }
-            done += len;
-        }
-        true
+        let from = self.base.byte_count() + at;
+        self.region.holds(from, bytes)
     }
-
-    fn holds_piece(&self, at: usize, bytes: &[u8]) -> bool
-        requires small { length bytes.now ≤ 4096 }
-        requires inside { at + length bytes.now ≤ self.now.accessible.bytes }
-        requires ready { IfSome self.now.region.contents (IsReady self.now) }
-        ensures { IfSome self.now.region.contents (λ c. IsTrue result ↔ (slice_range c.bytes (self.now.base.bytes + at) (self.now.base.bytes + at + length bytes.now) ≡ bytes.now)) }
-    {
-        let mut buffer = [0u8; PIECE];
-        let piece = &mut buffer[..bytes.len()];
-        self.read(at, piece);
-        same_bytes(piece, bytes)
-    }
-}
-
-// How many bytes are compared at a time.
-const PIECE: usize = 4096;
-
-fn same_bytes(left: &[u8], right: &[u8]) -> bool
-    ensures { IsTrue result ↔ (left.now ≡ right.now) }
-{
-    left == right
 }
 
 // The name under which a slot keeps the image.

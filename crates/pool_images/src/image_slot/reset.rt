@@ -1,8 +1,8 @@
 ghost use Rattle.std.specs.Prelude.{◌≡◌, ◌+◌, ◌≤◌, [], min, false, true, All, IfOk, IfSome, is_ok, OnOk, OnErr};
 ghost use Rattle.pool_pages.specs.Contents.{CanReach};
 ghost use Rattle.pool_pages.specs.Told.{TellsShaped, restored};
-ghost use Rattle.pool_images.specs.Orders.{Follows, emptying, resetting, set_by_hand};
-ghost use Rattle.pool_images.specs.Slots.{size_of, Fits, IsReady, IsClean, IsLeft, IsShut, IsPart, emptied, cleared, reset_ranges, kept_bytes, left_ranges, reset_slot, decommitted_all};
+ghost use Rattle.pool_images.specs.Orders.{Follows, wiping, resetting, set_by_hand};
+ghost use Rattle.pool_images.specs.Slots.{size_of, IsSlot, IsReady, IsClean, IsLeft, IsShut, IsPart, wiped, cleared, reset_ranges, kept_bytes, left_ranges, reset_slot, decommitted_all};
 
 use crate::image_slot::MemoryImageSlot;
 use crate::ranges::{ByteRange, Ranges};
@@ -32,7 +32,7 @@ impl<P: Pages> MemoryImageSlot<P> {
         ensures parts { All (IsPart self.new.region.page (size_of self.new)) ranges.new }
         ensures clean_after { OnOk result (IsClean (decommitted_all ranges.new self.new)) }
         ensures clean { self.old.accessible.bytes ≤ keep_resident.bytes → OnOk result (IsClean self.new) }
-        ensures fits { Fits self.new }
+        ensures fits { IsSlot self.new }
         ensures restores { self.old.region.behaviour ≡ DecommitBehavior.RestoreOriginalMapping → is_ok result ≡ true }
         ensures mark { OnErr result (self.new.dirty ≡ self.old.dirty) }
         ensures fault { OnErr result (IsLeft self.old self.new) }
@@ -58,7 +58,7 @@ impl<P: Pages> MemoryImageSlot<P> {
         ensures parts { All (IsPart self.new.region.page (size_of self.new)) ranges.new }
         ensures clean_after { IsClean (decommitted_all ranges.new self.new) }
         ensures clean { self.old.accessible.bytes ≤ keep_resident.bytes → IsClean self.new }
-        ensures fits { Fits self.new }
+        ensures fits { IsSlot self.new }
     {
         self.fits();
         let keep = keep_resident.byte_count();
@@ -72,12 +72,12 @@ impl<P: Pages> MemoryImageSlot<P> {
     // The reset where pages go back to zeros.
     fn reset_to_zeros(&mut self) -> Result<usize, PageFault>
         ensures resident { IfOk result (λ n. n ≡ 0) }
-        ensures value { OnOk result (self.new ≡ emptied self.old) }
+        ensures value { OnOk result (self.new ≡ wiped self.old) }
         ensures clean { OnOk result (IsClean self.new) }
-        ensures fits { Fits self.new }
+        ensures fits { IsSlot self.new }
         ensures mark { OnErr result (self.new.dirty ≡ self.old.dirty) }
         ensures fault { OnErr result (IsLeft self.old self.new) }
-        ensures order { Follows (emptying self.old) (is_ok result) self.old.region self.new.region }
+        ensures order { Follows (wiping self.old) (is_ok result) self.old.region self.new.region }
     {
         let reset = self.reset_with_anon_memory();
         self.fits();
@@ -90,7 +90,7 @@ impl<P: Pages> MemoryImageSlot<P> {
         requires within { kept ≤ self.old.accessible.bytes }
         requires ready { IfSome self.old.region.contents (IsReady self.old) }
         ensures value { self.new ≡ cleared kept self.old }
-        ensures fits { Fits self.new }
+        ensures fits { IsSlot self.new }
     {
         let from = self.base.byte_count();
         restore(&mut self.region, from, kept);
@@ -100,18 +100,19 @@ impl<P: Pages> MemoryImageSlot<P> {
     /// Leaves the slot as it is made: without image, none of it accessible, and zeros. Whatever came before, also a
     /// `PageFault`. Makes no page call where `static_size` is zero.
     pub fn reset_with_anon_memory(&mut self) -> Result<(), PageFault>
-        ensures ok { OnOk result (self.new ≡ emptied self.old) }
+        ensures ok { OnOk result (self.new ≡ wiped self.old) }
         ensures clean { OnOk result (IsClean self.new) }
         ensures shut { OnOk result (IfSome self.new.region.contents (IsShut self.new)) }
         ensures mark { OnErr result (self.new.dirty ≡ self.old.dirty) }
         ensures fault { OnErr result (IsLeft self.old self.new) }
-        ensures order { Follows (emptying self.old) (is_ok result) self.old.region self.new.region }
+        ensures order { Follows (wiping self.old) (is_ok result) self.old.region self.new.region }
     {
         self.fits();
-        let page = self.region.page();
+        let none = self.region.page().zero();
         let size = self.size;
-        self.erase(page.zero(), size)?;
-        self.accessible = page.zero();
+        self.erase(none, size)?;
+        self.recolour(none, size)?;
+        self.accessible = none;
         self.image = None;
         self.dirty = false;
         Ok(())

@@ -1,7 +1,7 @@
 use Rattle.std.proofs.Common.{◌≡◌, take, map, vec_len, false}
 use Rattle.std.specs.Prelude.{option_map, IfSome}
 use Rattle.std.specs.Arc.{arc_value}
-use Rattle.pool_images.specs.Images.{images_from, makes_listed}
+use Rattle.pool_images.specs.Images.{images_from, makes_listed_images}
 use Rattle.pool_images.proofs.memory_image.make_images.Given as goal
 
 -- the images so far, and the maker is as it was
@@ -10,5 +10,6 @@ invariant-loop-decl g l = record {
   count : vec_len l.images ≡ l.decl-index;
   images : map (option_map arc_value) l.images.items ≡ images_from l.id l.page 0 (take l.decl-index l.memories);
   maker : g.M.PageMaker.told l.maker ≡ g.M.PageMaker.told l.fn.maker;
-  planned : IfSome (g.M.PageMaker.told l.fn.maker).plan (λ plan. makes_listed l.id plan (take l.decl-index l.memories) ≡ false);
+  planned : IfSome (g.M.PageMaker.told l.fn.maker).plan (λ plan. makes_listed_images l.id plan (take l.decl-index l.memories) ≡ false);
+  listed : makes_listed_images l.id (g.M.PageMaker.told l.fn.maker).listed (take l.decl-index l.memories) ≡ false;
 }

@@ -8,7 +8,7 @@ use Rattle.pool_images.proofs.image_slot.MemoryImageSlot.create.Goals as goal
 pub invariant_of-result : goal.invariant_of-result
 invariant_of-result g c =
     let t : Told = c.new-region.result in
-    let P : Told → Type 0 = λ t. IsFresh c.args.base c.args.accessible c.args.static_size t in
+    let P : Told → Type 0 = λ t. IsFresh c.args.base c.args.accessible c.args.static_size c.args.colour t in
     let bytes : c.len.result.bytes ≡ t.len = ap (λ (n : Count). n.bytes) c.len.ensures.value in
     rw (c.rounded_up_unchecked-size.ensures, c.page.ensures)
     (fresh_keeps t c.args.base c.args.accessible c.args.static_size c.args.colour (subst P (sym c.new-region.ensures) c.requires)
@@ -18,5 +18,5 @@ invariant_of-result g c =
 pub returns-clause-clean : goal.returns-clause-clean
 returns-clause-clean g c =
     let t : Told = c.new-region.result in
-    let P : Told → Type 0 = λ t. IsFresh c.args.base c.args.accessible c.args.static_size t in
+    let P : Told → Type 0 = λ t. IsFresh c.args.base c.args.accessible c.args.static_size c.args.colour t in
     fresh_clean t c.args.base c.args.accessible c.args.static_size c.args.colour (subst P (sym c.new-region.ensures) c.requires) c.len.ensures.shaped

@@ -12,6 +12,6 @@ returns-then-is_named-clause-told g c =
     let i : Image = c.args.image.now in
     let named : s.image ≡ Some (name_of i) = c.is_named.ensures.0 c.if-is_named.true ∙ ap (λ (n : ImageName). Some n) c.name_of-name.ensures.value in
     let P : Option ImageName → Type 0 = λ o. IfSome o (IsPlaced s.region.page s.accessible.bytes) in
-    let placed : IsPlaced s.region.page s.accessible.bytes (name_of i) = subst P named c.fits.ensures.image in
-    image_told s i c.holds.result s.region.contents named (omega (arith, placed.inside, c.fits.ensures.within)) c.fits.ensures c.fits.ensures.told c.requires.clean.holds
+    let placed : IsPlaced s.region.page s.accessible.bytes (name_of i) = subst P named c.fits.ensures.sizes.image in
+    image_told s i c.holds.result s.region.contents named (omega (arith, placed.inside, c.fits.ensures.sizes.within)) c.fits.ensures c.fits.ensures.told c.requires.clean.holds
     (rw (c.offset.ensures.value, c.as_slice.ensures.value, c.data.ensures) at c.holds.ensures)

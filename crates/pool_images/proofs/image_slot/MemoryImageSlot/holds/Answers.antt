@@ -1,19 +1,10 @@
-use Rattle.std.proofs.Common.{◌+◌, length, arith}
+use Rattle.std.proofs.Common.{length}
 use Rattle.pool_images.specs.Slots.{Slot}
-use Rattle.pool_images.proofs.Pieces.{bytes_told, piece_differs, piece_same}
+use Rattle.pool_images.proofs.Making.{reach_slot}
 use Rattle.pool_images.proofs.image_slot.MemoryImageSlot.holds.Goals as goal
 
-pub returns-then-not-holds_piece : goal.returns-then-not-holds_piece
-returns-then-not-holds_piece g c =
-    let s : Slot = c.args.self.now in
-    piece_differs s.region.contents c.args.bytes.now s.base.bytes c.args.at c.loop-done.done c.min-len.result c.holds_piece.result
-    c.if-not-holds_piece.true (omega arith) (bytes_told s (c.args.at + length c.args.bytes.now) c.fits.ensures c.requires.inside) c.holds_piece.ensures
-
-pub loop-done-preserved : goal.loop-done-preserved
-loop-done-preserved g c = record {
-  within = omega arith;
-  same =
-      let s : Slot = c.args.self.now in
-      piece_same s.region.contents c.args.bytes.now s.base.bytes c.args.at c.loop-done.done c.min-len.result c.holds_piece.result
-      c.if-not-holds_piece.false (omega arith) (bytes_told s (c.args.at + length c.args.bytes.now) c.fits.ensures c.requires.inside) c.holds_piece.ensures c.loop-done.invariant.same;
-}
+pub holds-requires-clause-reachable : goal.holds-requires-clause-reachable
+holds-requires-clause-reachable g c =
+    let i = c.self.inside in
+    let s : Slot = record { region = i.region; base = i.base; accessible = i.accessible; static_size = i.static_size; image = i.image; dirty = i.dirty; colour = i.colour } in
+    rw c.byte_count.ensures.value (reach_slot s c.args.at (length c.args.bytes.now) c.self.invariant.fits (rw (← c.self.view_is) at c.requires.ready) (rw (← c.self.view_is) at c.requires.inside))

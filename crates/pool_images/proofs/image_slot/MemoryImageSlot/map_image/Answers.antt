@@ -14,7 +14,7 @@ map_image-requires-clause-one_image g c =
     let fits = c.self.invariant.fits in
     let inside = rw (← c.self.view_is) at c.requires.fits.inside in
     rw c.data-2.ensures (none_mapped s c.unchecked_add-from.result.bytes c.args.image.now.bytes fits (rw (← c.self.view_is) at c.requires.clean.ready) (rw (← c.self.view_is) at c.requires.none)
-    (omega (arith, from, start, c.offset.ensures.value, inside, fits.inside, fits.within)))
+    (omega (arith, from, start, c.offset.ensures.value, inside, fits.sizes.inside, fits.sizes.within)))
 
 pub invariant_of-self : goal.invariant_of-self
 invariant_of-self g c =
@@ -24,5 +24,5 @@ invariant_of-self g c =
     let fits = c.self.invariant.fits in
     let inside = rw (← c.self.view_is) at c.requires.fits.inside in
     keeps_mapped i.size s c.unchecked_add-from.result c.map_image.new.self c.map_image.result c.new_unchecked-start.result.bytes c.args.image.now.bytes
-    c.self.invariant c.unchecked_add-from.ensures (omega (arith, start, c.offset.ensures.value, inside, fits.within))
+    c.self.invariant c.unchecked_add-from.ensures (omega (arith, start, c.offset.ensures.value, inside, fits.sizes.within))
     (rw c.data-2.ensures at c.map_image.ensures.ok) (rw c.data-2.ensures at c.map_image.ensures.fault) c.map_image.ensures.shaped

@@ -16,7 +16,7 @@ returns-clause-parts g c =
     let new : c.clear.new.self ≡ cleared (min n v.accessible.bytes) v = c.clear.ensures.value ∙ ap (λ k. cleared k v) kept in
     let keep_whole : n % v.region.page ≡ 0 = rw c.requires.page at c.byte_count-keep.ensures.aligned in
     let P : List ByteRange → Slot → Type 0 = λ l t. All (IsPart t.region.page (size_of t)) l in
-    let parts : P (reset_ranges n v.accessible.bytes) (cleared (min n v.accessible.bytes) v) = reset_parts v.region.page (size_of v) n v.accessible.bytes keep_whole c.fits.ensures.accessible_whole c.fits.ensures.within in
+    let parts : P (reset_ranges n v.accessible.bytes) (cleared (min n v.accessible.bytes) v) = reset_parts v.region.page (size_of v) n v.accessible.bytes keep_whole c.fits.ensures.sizes.accessible_whole c.fits.ensures.sizes.within in
     subst (λ l. P l c.clear.new.self) (sym made) (subst (λ t. P (reset_ranges n v.accessible.bytes) t) (sym new) parts)
 
 pub returns-clause-clean_after : goal.returns-clause-clean_after

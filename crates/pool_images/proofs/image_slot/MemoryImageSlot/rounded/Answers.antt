@@ -12,4 +12,4 @@ rounded_up_unchecked-requires g c =
 pub returns-clause-within : goal.returns-clause-within
 returns-clause-within g c =
     let s : Slot = c.args.self.now in
-    rounded_up_more s.region.page c.args.bytes s.static_size (omega (arith, c.fits.ensures.page_size.at_least)) c.requires
+    rounded_up_more s.region.page c.args.bytes s.static_size (omega (arith, c.fits.ensures.sizes.page_size.at_least)) c.requires
