@@ -1,4 +1,12 @@
+pub mod ComingBack
+pub mod Ends
+pub mod Freeing
+pub mod Filtered
 pub mod LastPlaces
 pub mod Layouts
-pub mod Positions
+pub mod Linking
+pub mod Records
 pub mod Shards
+pub mod Tables
+pub mod Views
+pub mod Weaving

@@ -1,19 +1,41 @@
 -- What is known of the slots that a pick takes.
-use Rattle.std.proofs.Common.{◌≡◌, ℕ, ◌+◌, ◌^◌, ◌<◌, ◌≤◌, length, arith, Bool, true, false, List, refl, suc, ap, ◌∙◌, ◌≢◌, sym, subst, inl, inr, get_or-set_same, get_or-set_other, take, drop}
-use Rattle.std.specs.Prelude.{Some, None, Option, IsSome, is_some, ◌==◌, if◌then◌else◌, slice_index_or, slice_set, remove, count_by, nat_lt}
+use Rattle.std.proofs.Common.{◌≡◌, ℕ, ◌+◌, ◌*◌, ◌^◌, ◌<◌, ◌≤◌, length, arith, Bool, true, false, List, refl, suc, ap, ◌∙◌, ◌≢◌, sym, subst, inl, inr, get_or-set_same, get_or-set_other, take, drop, true≢false, eq-eqb}
+use Rattle.std.specs.Prelude.{Some, None, Option, IsSome, IfSome, is_some, option_map, ◌==◌, if◌then◌else◌, slice_index_or, slice_set, remove, count_by, nat_lt}
 use Rattle.std.proofs.lemmas.Bool.Decides.{nat_tests}
-use Rattle.std.proofs.lemmas.List.{length-set}
-use Rattle.std.proofs.lemmas.Bool.{cases_eq}
+use Rattle.std.proofs.lemmas.List.{length-set, get_or_past}
+use Rattle.std.proofs.lemmas.Bool.{cases_eq, cases_lt}
 use Rattle.std.proofs.lemmas.List.Edits.{length-remove}
-use Rattle.std.proofs.lemmas.List.Elements.{All-append, All-take, All-drop}
+use Rattle.std.proofs.lemmas.List.Elements.{All-append, All-take, All-drop, All-get_or}
 use Rattle.std.proofs.lemmas.List.Sums.{sum_by-le, sum_by-remove, sum_by-set, get_or-le-sum_by}
-use Rattle.pool_index.specs.Shard.{ShardState, IsShard, one_if, warm_count, entry_at, use_of, is_used, used_count, resident_bytes, after_choice, warm_at, next_cold}
+use Rattle.std.specs.Option.{option_map_or}
+use Rattle.pool_index.specs.Affinity.{is_affine}
+use Rattle.pool_index.specs.Positions.{last_position}
+use Rattle.pool_index.proofs.Filtered.{last_passes}
+use Rattle.pool_index.specs.Shard.{ShardState, IsShard, affine_choice, slot_and_bytes, one_if, warm_count, entry_at, use_of, is_used, used_count, resident_bytes, after_choice, warm_at, next_cold}
 use Rattle.pool_index.specs.declared.warm_slot.WarmSlot.{WarmSlot}
 use Rattle.pool_index.specs.declared.ids.MemoryInModule.{MemoryInModule}
+use Rattle.pool_index.specs.declared.ids.SlotId.{SlotId}
 
--- the bytes of all warm slots together fit 64 bits
-pub resident_fits : (s : ShardState) → IsShard s → resident_bytes s < 2 ^ 64
-resident_fits s sound = omega (arith, sum_by-le (λ (e : WarmSlot). e.bytes) (2 ^ 32) s.warm sound.bytes)
+-- a used slot counts
+used_some : (s : ShardState) (k : ℕ) → IsSome (use_of s k) → 1 ≤ used_count s
+used_some s k used = elim (cases_lt k (length s.used)) [
+  | inl inside ↦
+      let here : one_if (is_some (slice_index_or s.used k None)) ≤ used_count s = get_or-le-sum_by (λ (x : Option (Option MemoryInModule)). one_if (is_some x)) s.used k None inside in
+      let one : one_if (is_some (use_of s k)) ≡ 1 = ap one_if used in
+      omega arith
+  | inr past ↦ absurd (true≢false (sym used ∙ ap is_some (get_or_past s.used k None past)))
+]
+
+-- where a slot is used, another may be warm, and the bytes of all warm slots together fit 64 bits
+pub record HasRoomFor (s : ShardState) (more : ℕ) : Type 0 where
+  pub slots : length s.warm < length s.used
+  pub bytes : resident_bytes s + more < 2 ^ 64
+
+pub room_for_free : (s : ShardState) (k bytes : ℕ) → IsShard s → IsSome (use_of s k) → bytes ≤ 2 ^ 32 → HasRoomFor s bytes
+room_for_free s k bytes sound used few =
+    let one : 1 ≤ used_count s = used_some s k used in
+    let more : resident_bytes s ≤ length s.warm * 2 ^ 32 = sum_by-le (λ (e : WarmSlot). e.bytes) (2 ^ 32) s.warm sound.bytes in
+    record { slots = omega arith; bytes = omega arith }
 
 counted_once : (a : ℕ) (u t : Bool) → a + one_if u ≡ one_if t → 1 ≤ a → (u ≡ false) × (t ≡ true)
 counted_once a true true e h = absurd (omega arith)
@@ -54,11 +76,22 @@ cold_slot_free s sound =
     let none = none_counted (warm_count s.cold s.warm) (is_used s s.cold) _ (sound.partition s.cold) (grind (arith, nat_tests)) in
     record { not_warm = none.0; unused = none_from (use_of s s.cold) none.1 }
 
-used_once_more : (s : ShardState) (n : ℕ) (want : Option MemoryInModule) → n < length s.used → use_of s n ≡ None → count_by is_some (slice_set s.used n (Some want)) ≡ used_count s + 1
-used_once_more s n want within unused =
-    let before : one_if (is_used s n) ≡ 0 = rw unused refl in
-    let set : count_by is_some (slice_set s.used n (Some want)) + one_if (is_used s n) ≡ used_count s + 1 = sum_by-set (λ (x : Option (Option MemoryInModule)). one_if (is_some x)) s.used n (Some want) None within in
+pub used_once_more_in : (used : List (Option (Option MemoryInModule))) (n : ℕ) (want : Option MemoryInModule) → n < length used → slice_index_or used n None ≡ None → count_by is_some (slice_set used n (Some want)) ≡ count_by is_some used + 1
+used_once_more_in used n want within unused =
+    let before : one_if (is_some (slice_index_or used n None)) ≡ 0 = rw unused refl in
+    let set : count_by is_some (slice_set used n (Some want)) + one_if (is_some (slice_index_or used n None)) ≡ count_by is_some used + 1 = sum_by-set (λ (x : Option (Option MemoryInModule)). one_if (is_some x)) used n (Some want) None within in
     omega arith
+
+-- the first cold slot isn't warm
+pub cold_apart : (s : ShardState) → IsShard s → (i : ℕ) → i < length s.warm → (entry_at s i).slot.0 ≢ s.cold
+cold_apart s sound i inside same =
+    let none' : warm_count s.cold s.warm ≡ 0 = (cold_slot_free s sound).not_warm in
+    let here : one_if ((entry_at s i).slot.0 == s.cold) ≤ warm_count s.cold s.warm = get_or-le-sum_by (λ (e : WarmSlot). one_if (e.slot.0 == s.cold)) s.warm i _ inside in
+    let one : one_if ((entry_at s i).slot.0 == s.cold) ≡ 1 = ap one_if (eq-eqb (entry_at s i).slot.0 s.cold same) in
+    absurd (omega arith)
+
+used_once_more : (s : ShardState) (n : ℕ) (want : Option MemoryInModule) → n < length s.used → use_of s n ≡ None → count_by is_some (slice_set s.used n (Some want)) ≡ used_count s + 1
+used_once_more s n want within unused = used_once_more_in s.used n want within unused
 
 -- what the partition says of a slot, in numbers
 abbrev uses : List (Option (Option MemoryInModule)) → ℕ → ℕ
@@ -160,3 +193,32 @@ other_slot s m n unused used same =
     let F : Option (Option MemoryInModule) → Type 0 = λ o. IsSome o in
     let never : IsSome {T = Option MemoryInModule} None = subst F none used in
     grind arith
+
+-- what is known of a warm slot that is taken
+pub record IsWarm (s : ShardState) (p : SlotId × ℕ) : Type 0 where
+  pub inside : p.0.0 < s.capacity
+  pub unused : use_of s p.0.0 ≡ None
+  pub bytes : p.1 ≤ 2 ^ 32
+
+pub warm_slot_known : (s : ShardState) (i : ℕ) → IsShard s → i < length s.warm → IsWarm s (slot_and_bytes s (warm_at i))
+warm_slot_known s i sound inside =
+    let free : IsFree s (entry_at s i).slot.0 = warm_slot_free s i sound inside in
+    record { inside = let w : (entry_at s i).slot.0 < length s.used = free.within in omega arith; unused = free.unused; bytes = All-get_or (λ (e : WarmSlot). e.bytes ≤ 2 ^ 32) s.warm i _ inside sound.bytes }
+
+affine_known : (s : ShardState) (of : MemoryInModule) (o : Option ℕ) → last_position (is_affine of) s.warm ≡ o → IsShard s → IfSome (option_map (slot_and_bytes s) (option_map warm_at o)) (IsWarm s)
+affine_known s of None e sound = tt
+affine_known s of (Some i) e sound = warm_slot_known s i sound (last_passes (is_affine of) s.warm i (entry_at s i) e).inside
+
+pub affine_slot_known : (s : ShardState) (of : MemoryInModule) (r : Option (SlotId × ℕ)) → r ≡ option_map (slot_and_bytes s) (affine_choice (Some of) s) → IsShard s → IfSome r (IsWarm s)
+affine_slot_known s of r same sound = subst (λ o. IfSome o (IsWarm s)) (sym same) (affine_known s of (last_position (is_affine of) s.warm) refl sound)
+
+affine_sound : (want : Option MemoryInModule) (s : ShardState) (of : MemoryInModule) (o : Option ℕ) → last_position (is_affine of) s.warm ≡ o → IsShard s → IsShard (option_map_or (after_choice want s) (option_map warm_at o) s)
+affine_sound want s of None e sound = sound
+affine_sound want s of (Some i) e sound = after_warm want s i sound (last_passes (is_affine of) s.warm i (entry_at s i) e).inside
+
+pub after_affine_sound : (want : Option MemoryInModule) (s t : ShardState) (of : MemoryInModule) → t ≡ option_map_or (after_choice want s) (affine_choice (Some of) s) s → IsShard s → IsShard t
+after_affine_sound want s t of same sound = subst IsShard (sym same) (affine_sound want s of (last_position (is_affine of) s.warm) refl sound)
+
+pub some_weaker : {X : Type 0} (o : Option X) (P Q : X → Type 0) → ((x : X) → P x → Q x) → IfSome o P → IfSome o Q
+some_weaker None P Q f h = tt
+some_weaker (Some x) P Q f h = f x h

@@ -1,6 +1,13 @@
 pub mod Affinity
 pub mod Laws
 pub mod Layout
+pub mod ListFields
+pub mod Links
+pub mod Lists
 pub mod Positions
+pub mod Records
 pub mod Shard
 pub mod ShardFields
+pub mod Table
+pub mod TableFields
+pub mod Taken

@@ -1,7 +1,8 @@
 -- A shard: which of its slots are cold, warm and used, what a pick takes, and what a free gives back.
-use Rattle.std.specs.Prelude.{◌≡◌, ◌≢◌, ℕ, ◌+◌, ◌*◌, ◌%◌, ◌^◌, ◌<◌, ◌≤◌, ◌==◌, Bool, List, [], ◌∷◌, ◌++◌, length, replicate, slice_index_or, slice_set, remove, count_by, sum_by, All, Option, None, Some, is_some, IsSome, option_map, unwrap_or, nat_lt, if◌then◌else◌}
+use Rattle.std.specs.Prelude.{◌≡◌, ◌≢◌, ℕ, ◌+◌, ◌*◌, ◌%◌, ◌^◌, ◌<◌, ◌≤◌, ◌==◌, Bool, List, [], ◌∷◌, ◌++◌, length, replicate, slice_index_or, slice_set, remove, count_by, sum_by, map, All, Option, None, Some, is_some, IsSome, option_map, unwrap_or, nat_lt, if◌then◌else◌}
 use Rattle.std.specs.Option.{option_or, option_map_or}
 use Rattle.pool_index.specs.Affinity.{is_affine}
+use Rattle.pool_index.specs.Lists.{with_bytes, use_again}
 use Rattle.pool_index.specs.Positions.{last_position}
 use Rattle.pool_index.specs.declared.ids.MemoryInModule.{MemoryInModule}
 use Rattle.pool_index.specs.declared.ids.SlotId.{SlotId}
@@ -140,6 +141,22 @@ after_free slot bytes s = record s {
   warm = s.warm ++ record { slot = slot; affinity = unwrap_or (use_of s slot.0) None; bytes = bytes } ∷ [];
   used = slice_set s.used slot.0 None;
 }
+
+-- a pick by affinity alone takes the slot that a pick for the memory takes first, and records no affinity
+abbrev pub affine_answer : MemoryInModule → ShardState → Option SlotId
+affine_answer of s = option_map (λ c. (slot_and_bytes s c).0) (affine_choice (Some of) s)
+
+-- where no slot is affine, only the count of affine misses rises
+abbrev pub after_affine_pick : MemoryInModule → ShardState → ShardState
+after_affine_pick of s = option_map_or (after_choice None s) (affine_choice (Some of) s) (record s { affine_misses = (s.affine_misses + 1) % 2 ^ 64 })
+
+-- all warm slots in their order
+abbrev pub taken_slots : ShardState → List (SlotId × ℕ)
+taken_slots s = map with_bytes s.warm
+
+-- all warm slots are taken: each is used, and keeps its affinity
+abbrev pub after_take_warm : ShardState → ShardState
+after_take_warm s = record s { warm = []; used = use_again s.warm s.used; warm_takes = (s.warm_takes + 1) % 2 ^ 64 }
 
 -- what no pick and no free changes
 pub record IsSameShard (old new : ShardState) : Type 0 where

@@ -1,12 +1,16 @@
-ghost use Rattle.std.specs.Prelude.{◌≡◌, ◌^◌, ◌<◌, ◌≤◌, ◌==◌, length, IfOk, IfSome, OnOk, OnErr, IsSome, option_map};
+ghost use Rattle.std.specs.Prelude.{◌≡◌, ◌+◌, ◌^◌, ◌<◌, ◌≤◌, ◌==◌, ◌++◌, length, All, IfOk, IfSome, OnOk, OnErr, IsSome, Some, None, option_map};
 ghost use Rattle.std.specs.Result.{result_ok};
-ghost use Rattle.pool_index.specs.Shard.{IsShard, IsSameShard, NumbersFit, KeepsOthers, KeepsUsed, fresh_shard, use_of, used_count, resident_bytes, slot_number, warm_at, next_cold, affine_choice, slot_and_bytes, after_choice, pick_answer, after_full, after_pick, after_free};
+ghost use Rattle.std.specs.Option.{option_map_or};
+ghost use Rattle.pool_index.specs.Shard.{IsShard, IsSameShard, NumbersFit, KeepsOthers, KeepsUsed, fresh_shard, use_of, used_count, resident_bytes, slot_number, warm_at, next_cold, affine_choice, slot_and_bytes, after_choice, pick_answer, after_full, after_pick, affine_answer, after_affine_pick, taken_slots, after_take_warm, after_free};
 
 use crate::ids::{MemoryInModule, SlotId};
-use crate::warm_slot::{WarmSlot, bytes_of, last_affine_of};
+use crate::slot_lists::SlotLists;
+use crate::steps::Steps;
+use crate::taken::Taken;
 use pool_hall::SlotKind;
 use std::alloc::{AllocError, Global};
-use std::marker::Model;
+use std::marker::{Brand, Model};
+use std::sync::ledger::{Blank, Ledger};
 
 /// That a shard had no free slot. Only `Shard::pick` makes one.
 #[derive(Debug, Drop)]
@@ -25,8 +29,7 @@ pub struct Shard {
     capacity: u32,
     budget: u32,
     cold: u32,
-    warm: Vec<WarmSlot>,
-    used: Vec<Option<Option<MemoryInModule>>>,
+    lists: SlotLists,
     full_answers: u64,
     affine_misses: u64,
     warm_takes: u64,
@@ -37,11 +40,12 @@ impl Model for Shard {
 
     ghost Value = { ShardState };
 
-    ghost use Rattle.pool_index.specs.ShardFields.{state_of, IsShardWithRoom};
+    ghost use Rattle.pool_index.specs.Shard.{IsShard};
+    ghost use Rattle.pool_index.specs.ShardFields.{state_of};
 
     ghost view = { state_of };
 
-    ghost invariant = { IsShardWithRoom };
+    ghost invariant = { λ s. IsShard (state_of s) };
 }
 
 impl Shard {
@@ -59,9 +63,7 @@ impl Shard {
         ensures made { IfOk result (λ s. s ≡ fresh_shard kind first step capacity budget) }
         ensures sound { IfOk result IsShard }
     {
-        let warm = Vec::with_capacity(alloc, capacity as usize)?;
-        let mut used = Vec::new(alloc);
-        used.resize(capacity as usize, None)?;
+        let lists = SlotLists::new(alloc, capacity)?;
         Ok(Shard {
             kind,
             first,
@@ -69,8 +71,7 @@ impl Shard {
             capacity,
             budget,
             cold: 0,
-            warm,
-            used,
+            lists,
             full_answers: 0,
             affine_misses: 0,
             warm_takes: 0,
@@ -89,21 +90,21 @@ impl Shard {
     pub fn is_empty(&self) -> bool
         ensures { result ≡ (used_count self.now == 0) }
     {
-        self.warm.len() == self.cold as usize
+        self.lists.warm_len() == self.cold as usize
     }
 
     /// The number of warm slots.
     pub fn unused_warm_slots(&self) -> u32
         ensures { result ≡ length self.now.warm }
     {
-        self.warm.len() as u32
+        self.lists.warm_len() as u32
     }
 
     /// The bytes that the warm slots keep resident, together.
     pub fn unused_bytes_resident(&self) -> usize
         ensures { result ≡ resident_bytes self.now }
     {
-        bytes_of(self.warm.as_slice())
+        self.lists.bytes_resident()
     }
 
     /// The number by which a slot of this shard is known outside.
@@ -116,7 +117,11 @@ impl Shard {
 
     /// Takes a free slot for the wanted memory, or for none in particular, and tells the bytes that the slot keeps
     /// resident. The slot is the caller's until it is freed. Takes no memory.
-    pub fn pick(&mut self, want: Option<MemoryInModule>) -> Result<(SlotId, usize), FullNote>
+    pub fn pick<L: Ledger>(
+        &mut self,
+        want: Option<MemoryInModule>,
+        steps: &mut Steps<L>,
+    ) -> Result<(SlotId, usize), FullNote>
         ensures answer { result_ok result ≡ pick_answer want self.old }
         ensures after { self.new ≡ after_pick want self.old }
         ensures same { IsSameShard self.old self.new }
@@ -132,24 +137,66 @@ impl Shard {
         ensures stay { KeepsUsed self.old self.new }
         ensures bytes { IfOk result (λ p. p.1 ≤ 2 ^ 32) }
         ensures sound { IsShard self.new }
+        ensures steps { steps.new ≤ steps.old + 8 }
     {
-        if let Some(at) = self.last_affine(want) {
-            return Ok(self.take_warm_at(at, want));
+        if let Some(taken) = self.take_affine(want, steps) {
+            return Ok(taken);
         }
         let has_cold = self.cold < self.capacity;
-        let has_warm = !self.warm.is_empty();
-        if has_cold && (!has_warm || self.warm.len() < self.budget as usize) {
-            Ok(self.take_cold(want))
+        let warm = self.lists.warm_len();
+        let has_warm = warm > 0;
+        if has_cold && (!has_warm || warm < self.budget as usize) {
+            Ok(self.take_cold(want, steps))
         } else if has_warm {
-            Ok(self.take_warm_at(0, want))
+            Ok(self.take_first(want, steps))
         } else {
             self.full_answers = self.full_answers.wrapping_add(1);
             Err(FullNote { full: () })
         }
     }
 
+    /// Takes the warm slot that a pick for the memory takes first, and records no affinity. The slot is the caller's
+    /// until it is freed. Takes no memory.
+    pub fn pick_affine_and_clear<L: Ledger>(
+        &mut self,
+        of: MemoryInModule,
+        steps: &mut Steps<L>,
+    ) -> Option<SlotId>
+        ensures answer { result ≡ affine_answer of self.old }
+        ensures after { self.new ≡ after_affine_pick of self.old }
+        ensures same { IsSameShard self.old self.new }
+        ensures inside { IfSome result (λ k. k.0 < self.old.capacity) }
+        ensures unused { IfSome result (λ k. use_of self.old k.0 ≡ None) }
+        ensures used { IfSome result (λ k. use_of self.new k.0 ≡ Some None) }
+        ensures others { IfSome result (λ k. KeepsOthers k self.old self.new) }
+        ensures stay { KeepsUsed self.old self.new }
+        ensures sound { IsShard self.new }
+        ensures steps { steps.new ≤ steps.old + 8 }
+    {
+        let Some((slot, _)) = self.take_last_affine(of, None, steps) else {
+            self.affine_misses = self.affine_misses.wrapping_add(1);
+            return None;
+        };
+        Some(slot)
+    }
+
+    /// Takes all warm slots in the order in which they were freed, with the bytes that they keep resident. They keep
+    /// their affinities, and are the caller's until they are freed. Takes no memory.
+    pub fn take_warm(&mut self, out: &mut Taken)
+        requires { length out.old.items + length self.old.warm ≤ out.old.room }
+        ensures taken { out.new ≡ record out.old { items = out.old.items ++ taken_slots self.old } }
+        ensures after { self.new ≡ after_take_warm self.old }
+        ensures same { IsSameShard self.old self.new }
+        ensures used { All (λ p. IsSome (use_of self.new p.0.0)) (taken_slots self.old) }
+        ensures stay { KeepsUsed self.old self.new }
+        ensures sound { IsShard self.new }
+    {
+        self.lists.take_all::<Brand>(out, Blank::new(1));
+        self.warm_takes = self.warm_takes.wrapping_add(1);
+    }
+
     /// Gives a used slot back: it is warm then, and keeps so many bytes resident. Takes no memory.
-    pub fn free(&mut self, slot: SlotId, bytes_resident: usize)
+    pub fn free<L: Ledger>(&mut self, slot: SlotId, bytes_resident: usize, steps: &mut Steps<L>)
         requires used { IsSome (use_of self.old slot.0) }
         requires bytes { bytes_resident ≤ 2 ^ 32 }
         ensures after { self.new ≡ after_free slot bytes_resident self.old }
@@ -157,53 +204,85 @@ impl Shard {
         ensures unused { use_of self.new slot.0 ≡ None }
         ensures others { KeepsOthers slot self.old self.new }
         ensures sound { IsShard self.new }
+        ensures steps { steps.new ≤ steps.old + 8 }
     {
-        let affinity = self.used[slot.index()].take().unwrap();
-        let entry = WarmSlot {
-            slot,
-            affinity,
-            bytes: bytes_resident,
-        };
-        let Ok(()) = self.warm.push(entry) else {
-            unreachable!()
-        };
+        self.lists.free(slot, bytes_resident, steps);
     }
 
-    /// The last warm slot that is affine to the wanted memory.
-    fn last_affine(&self, want: Option<MemoryInModule>) -> Option<usize>
-        ensures choice { option_map warm_at result ≡ affine_choice want self.now }
-        ensures inside { IfSome result (λ i. i < length self.now.warm) }
+    /// Takes the last warm slot that is affine to the wanted memory, where there is one.
+    fn take_affine<L: Ledger>(
+        &mut self,
+        want: Option<MemoryInModule>,
+        steps: &mut Steps<L>,
+    ) -> Option<(SlotId, usize)>
+        ensures answer { result ≡ option_map (slot_and_bytes self.old) (affine_choice want self.old) }
+        ensures after { self.new ≡ option_map_or (after_choice want self.old) (affine_choice want self.old) self.old }
+        ensures inside { IfSome result (λ p. p.0.0 < self.old.capacity) }
+        ensures unused { IfSome result (λ p. use_of self.old p.0.0 ≡ None) }
+        ensures bytes { IfSome result (λ p. p.1 ≤ 2 ^ 32) }
+        ensures before { IfSome result (λ _. IsShard self.old) }
+        ensures sound { IfSome result (λ _. IsShard self.new) }
+        ensures steps { steps.new ≤ steps.old + 5 }
+        ensures missed { result ≡ None → steps.new ≡ steps.old }
     {
-        last_affine_of(self.warm.as_slice(), want?)
+        self.take_last_affine(want?, want, steps)
     }
 
-    /// Takes the warm slot at a place of the warm list.
-    fn take_warm_at(&mut self, at: usize, want: Option<MemoryInModule>) -> (SlotId, usize)
-        requires { at < length self.old.warm }
-        ensures answer { result ≡ slot_and_bytes self.old (warm_at at) }
-        ensures after { self.new ≡ after_choice want self.old (warm_at at) }
+    /// Takes the last warm slot that is affine to a memory, where there is one, for what is wanted.
+    fn take_last_affine<L: Ledger>(
+        &mut self,
+        of: MemoryInModule,
+        want: Option<MemoryInModule>,
+        steps: &mut Steps<L>,
+    ) -> Option<(SlotId, usize)>
+        ensures answer { result ≡ option_map (slot_and_bytes self.old) (affine_choice (Some of) self.old) }
+        ensures after { self.new ≡ option_map_or (after_choice want self.old) (affine_choice (Some of) self.old) self.old }
+        ensures inside { IfSome result (λ p. p.0.0 < self.old.capacity) }
+        ensures unused { IfSome result (λ p. use_of self.old p.0.0 ≡ None) }
+        ensures bytes { IfSome result (λ p. p.1 ≤ 2 ^ 32) }
+        ensures before { IsShard self.old }
+        ensures sound { IsShard self.new }
+        ensures steps { steps.new ≤ steps.old + 5 }
+        ensures missed { result ≡ None → steps.new ≡ steps.old }
+    {
+        self.lists.take_affine(of, want, steps)
+    }
+
+    /// Takes the first warm slot.
+    fn take_first<L: Ledger>(
+        &mut self,
+        want: Option<MemoryInModule>,
+        steps: &mut Steps<L>,
+    ) -> (SlotId, usize)
+        requires { 0 < length self.old.warm }
+        ensures answer { result ≡ slot_and_bytes self.old (warm_at 0) }
+        ensures after { self.new ≡ after_choice want self.old (warm_at 0) }
         ensures inside { result.0.0 < self.old.capacity }
         ensures unused { use_of self.old result.0.0 ≡ None }
         ensures bytes { result.1 ≤ 2 ^ 32 }
         ensures before { IsShard self.old }
         ensures sound { IsShard self.new }
+        ensures steps { steps.new ≤ steps.old + 5 }
     {
-        let entry = self.warm.remove(at);
-        self.used[entry.slot.index()] = Some(want);
-        (entry.slot, entry.bytes)
+        self.lists.take_first(want, steps)
     }
 
     /// Takes the first cold slot.
-    fn take_cold(&mut self, want: Option<MemoryInModule>) -> (SlotId, usize)
+    fn take_cold<L: Ledger>(
+        &mut self,
+        want: Option<MemoryInModule>,
+        steps: &mut Steps<L>,
+    ) -> (SlotId, usize)
         requires { self.old.cold < self.old.capacity }
         ensures answer { result ≡ slot_and_bytes self.old next_cold }
         ensures after { self.new ≡ after_choice want self.old next_cold }
         ensures unused { use_of self.old result.0.0 ≡ None }
         ensures before { IsShard self.old }
         ensures sound { IsShard self.new }
+        ensures steps { steps.new ≡ steps.old + 1 }
     {
         let slot = SlotId(self.cold);
-        self.used[slot.index()] = Some(want);
+        self.lists.take_cold(slot, want, steps);
         self.cold += 1;
         (slot, 0)
     }

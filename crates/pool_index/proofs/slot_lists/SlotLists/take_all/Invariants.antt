@@ -1,0 +1,14 @@
+use Rattle.std.proofs.Common.{◌≡◌, ◌++◌, length}
+use Rattle.std.specs.Prelude.{map}
+use Rattle.pool_index.specs.Lists.{with_bytes, use_again}
+use Rattle.pool_index.proofs.slot_lists.SlotLists.take_all.Given as goal
+
+abbrev pub invariant-loop-self : goal.invariant-loop-self
+invariant-loop-self g l = record {
+  items : l.out.items ++ map with_bytes l.self.warm ≡ l.fn.out.items ++ map with_bytes l.fn.self.warm;
+  used : use_again l.self.warm l.self.used ≡ use_again l.fn.self.warm l.fn.self.used;
+  room : l.out.room ≡ l.fn.out.room;
+}
+
+abbrev pub decreases-loop-self : goal.decreases-loop-self
+decreases-loop-self g l = length l.self.warm

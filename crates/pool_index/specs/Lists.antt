@@ -1,0 +1,42 @@
+-- The slots that were used: the free ones in a list, and what each of the others was picked for.
+use Rattle.std.specs.Prelude.{ℕ, ◌++◌, List, [], ◌∷◌, slice_index_or, slice_set, remove, sum_by, Option, None, Some, unwrap_or}
+use Rattle.pool_index.specs.declared.ids.MemoryInModule.{MemoryInModule}
+use Rattle.pool_index.specs.declared.ids.SlotId.{SlotId}
+use Rattle.pool_index.specs.declared.warm_slot.WarmSlot.{WarmSlot}
+
+-- the warm slots in the order in which they were freed, and for each slot what it was picked for, where it is used
+pub record SlotLists : Type 0 where
+  pub warm : List WarmSlot
+  pub used : List (Option (Option MemoryInModule))
+
+-- the warm slot at a place; past the end it doesn't matter which
+abbrev pub warm_slot : SlotLists → ℕ → WarmSlot
+warm_slot l i = slice_index_or l.warm i (record { slot = record { 0 = 0 }; affinity = None; bytes = 0 })
+
+-- the slot of a warm slot, with the bytes that it keeps resident
+abbrev pub with_bytes : WarmSlot → SlotId × ℕ
+with_bytes e = (e.slot, e.bytes)
+
+-- the bytes that warm slots keep resident
+abbrev pub bytes_of : List WarmSlot → ℕ
+bytes_of warm = sum_by (λ e. e.bytes) warm
+
+-- the warm slot at a place is used for what was wanted
+abbrev pub use_warm : Option MemoryInModule → SlotLists → ℕ → SlotLists
+use_warm want l i = record { warm = remove l.warm i; used = slice_set l.used (warm_slot l i).slot.0 (Some want) }
+
+-- a slot is used for what was wanted
+abbrev pub use_slot : SlotId → Option MemoryInModule → SlotLists → SlotLists
+use_slot slot want l = record l { used = slice_set l.used slot.0 (Some want) }
+
+-- a used slot is the last warm one, affine to what it was picked for
+abbrev pub free_slot : SlotId → ℕ → SlotLists → SlotLists
+free_slot slot bytes l = record {
+  warm = l.warm ++ record { slot = slot; affinity = unwrap_or (slice_index_or l.used slot.0 None) None; bytes = bytes } ∷ [];
+  used = slice_set l.used slot.0 None;
+}
+
+-- each of these slots is used for what it is affine to
+abbrev pub use_again : List WarmSlot → List (Option (Option MemoryInModule)) → List (Option (Option MemoryInModule))
+use_again [] used = used
+use_again (e ∷ es) used = use_again es (slice_set used e.slot.0 (Some e.affinity))

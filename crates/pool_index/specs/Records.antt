@@ -1,0 +1,54 @@
+-- The records of slots, and how their links change.
+use Rattle.std.specs.Prelude.{ℕ, List, slice_index_or, slice_set, replicate, Option, None, Some}
+use Rattle.pool_index.specs.declared.slot_row.Chain.{Chain}
+use Rattle.pool_index.specs.declared.slot_row.Chain.TheVariants.{Freed, Affine}
+use Rattle.pool_index.specs.declared.slot_row.Links.{Links}
+use Rattle.pool_index.specs.declared.slot_row.SlotRecord.{SlotRecord}
+use Rattle.pool_index.specs.declared.slot_row.SlotRecord.TheVariants.{Cold, Used, Warm}
+
+-- the record of slot k
+abbrev pub record_of : List SlotRecord → ℕ → SlotRecord
+record_of rs k = slice_index_or rs k Cold
+
+-- so many slots, all cold
+abbrev pub cold_records : ℕ → List SlotRecord
+cold_records n = replicate n Cold
+
+abbrev pub no_links : Links
+no_links = record { before = None; after = None }
+
+-- the neighbours in a list
+abbrev pub links_of : Chain → SlotRecord → Links
+links_of Freed (Warm w) = w.freed
+links_of Affine (Warm w) = w.affine
+links_of Freed Cold = no_links
+links_of Affine Cold = no_links
+links_of Freed (Used a) = no_links
+links_of Affine (Used a) = no_links
+
+-- a warm slot with other neighbours in a list
+abbrev pub with_links : Chain → Links → SlotRecord → SlotRecord
+with_links Freed l (Warm w) = Warm (record w { freed = l })
+with_links Affine l (Warm w) = Warm (record w { affine = l })
+with_links Freed l Cold = Cold
+with_links Affine l Cold = Cold
+with_links Freed l (Used a) = Used a
+with_links Affine l (Used a) = Used a
+
+-- a slot, if there is one, has another slot after it in a list
+abbrev pub with_after : Chain → Option ℕ → Option ℕ → List SlotRecord → List SlotRecord
+with_after c None after rs = rs
+with_after c (Some k) after rs = slice_set rs k (with_links c (record { before = (links_of c (record_of rs k)).before; after = after }) (record_of rs k))
+
+-- a slot, if there is one, has another slot before it in a list
+abbrev pub with_before : Chain → Option ℕ → Option ℕ → List SlotRecord → List SlotRecord
+with_before c None before rs = rs
+with_before c (Some k) before rs = slice_set rs k (with_links c (record { before = before; after = (links_of c (record_of rs k)).after }) (record_of rs k))
+
+-- the neighbours of a slot are linked with each other
+abbrev pub unlinked : Chain → Links → List SlotRecord → List SlotRecord
+unlinked c l rs = with_before c l.after l.before (with_after c l.before l.after rs)
+
+-- the last slot of a list is linked with one behind it
+abbrev pub appended : Chain → Option ℕ → ℕ → List SlotRecord → List SlotRecord
+appended c last k rs = with_after c last (Some k) rs
