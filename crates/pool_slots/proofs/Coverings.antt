@@ -9,7 +9,7 @@ use Rattle.pool_pages.specs.PageLaws.{IsPages}
 use Rattle.pool_pages.proofs.Multiples.{whole, add_whole, page_below}
 use Rattle.pool_pages.proofs.PageChanges.{decommit_law}
 use Rattle.pool_images.specs.declared.ranges.ByteRange.{ByteRange}
-use Rattle.pool_images.specs.Slots.{Slot, Fits, IsSound, IsClean, IsPart, size_of, decommitted_all}
+use Rattle.pool_images.specs.Slots.{Slot, IsSlot, IsSound, IsClean, IsPart, size_of, decommitted_all}
 use Rattle.pool_images.proofs.Marks.{page_lt}
 use Rattle.pool_images.proofs.Queued.{next, fits_next}
 use Rattle.pool_slots.specs.declared.queued_range.QueueKind.TheVariants.{Memory}
@@ -27,39 +27,39 @@ same_part xs ys base n at len from to same =
     let E : ℕ → Type 0 = λ p. slice_range xs p (p + len) ≡ slice_range ys p (p + len) in
     subst E place (sym (range_of_range xs base n i len inside) ∙ ap (λ (l : List ℕ). slice_range l i (i + len)) same ∙ range_of_range ys base n i len inside)
 
-slot_whole : (s : Slot) → Fits s → (s.base.bytes + size_of s) % s.region.page ≡ 0
-slot_whole s fits = add_whole s.base.bytes (size_of s) s.region.page fits.base_whole (mul-mod_left ((s.static_size + s.region.page - 1) / s.region.page) s.region.page)
+slot_whole : (s : Slot) → IsSlot s → (s.base.bytes + size_of s) % s.region.page ≡ 0
+slot_whole s fits = add_whole s.base.bytes (size_of s) s.region.page fits.sizes.base_whole (mul-mod_left ((s.static_size + s.region.page - 1) / s.region.page) s.region.page)
 
 from_mapped : (f : Contents → Contents) (Q : Contents → Type 0) (o : Option Contents) → IfSome (option_map f o) Q → IfSome o (λ c. Q (f c))
 from_mapped f Q None h = h
 from_mapped f Q (Some c) h = h
 
 -- a page of the slot is one of the region
-page_there : (s : Slot) (k : ℕ) (c : Contents) → Fits s → IsSound s.region.page s.region.len s.base.bytes (size_of s) c → IsIn s.base.bytes (size_of s) s.region.page k → k < length c.accessible
+page_there : (s : Slot) (k : ℕ) (c : Contents) → IsSlot s → IsSound s.region.page s.region.len s.base.bytes (size_of s) c → IsIn s.base.bytes (size_of s) s.region.page k → k < length c.accessible
 page_there s k c fits sound is =
     let all : s.region.page * (s.region.len / s.region.page) ≡ s.region.len = whole s.region.len s.region.page sound.shaped.whole in
-    let below : k * s.region.page < s.region.len / s.region.page * s.region.page = omega (arith, is.below, fits.inside, all) in
+    let below : k * s.region.page < s.region.len / s.region.page * s.region.page = omega (arith, is.below, fits.sizes.inside, all) in
     rw sound.shaped.accessible (page_lt k (s.region.len / s.region.page) s.region.page below)
 
 -- a page outside a range that is decommitted stays
-page_stays : (s : Slot) (r : ByteRange) (k : ℕ) (c : Contents) → Fits s → IsPart s.region.page (size_of s) r → IsSound s.region.page s.region.len s.base.bytes (size_of s) c → IsIn s.base.bytes (size_of s) s.region.page k → (IsIn (s.base.bytes + r.start) r.len s.region.page k → ⊥) → page_at k (decommitted (s.base.bytes + r.start) r.len c) ≡ page_at k c
+page_stays : (s : Slot) (r : ByteRange) (k : ℕ) (c : Contents) → IsSlot s → IsPart s.region.page (size_of s) r → IsSound s.region.page s.region.len s.base.bytes (size_of s) c → IsIn s.base.bytes (size_of s) s.region.page k → (IsIn (s.base.bytes + r.start) r.len s.region.page k → ⊥) → page_at k (decommitted (s.base.bytes + r.start) r.len c) ≡ page_at k c
 page_stays s r k c fits part sound is out =
     let page : c.page ≡ s.region.page = sound.shaped.same_page in
-    let start : (s.base.bytes + r.start) % s.region.page ≡ 0 = add_whole s.base.bytes r.start s.region.page fits.base_whole part.start in
+    let start : (s.base.bytes + r.start) % s.region.page ≡ 0 = add_whole s.base.bytes r.start s.region.page fits.sizes.base_whole part.start in
     let S : ℕ → Type 0 = λ p. IsShaped p s.region.len c in
     let O : ℕ → Type 0 = λ p. IsIn (s.base.bytes + r.start) r.len p k → ⊥ in
     let pages : IsPages s.region.len (s.base.bytes + r.start) r.len c = record {
-      positive = rw page (omega (arith, fits.page_size.at_least));
+      positive = rw page (omega (arith, fits.sizes.page_size.at_least));
       shaped = subst S (sym page) sound.shaped;
       whole_start = rw page start;
       whole_len = rw page part.len;
-      inside = omega (arith, part.inside, fits.inside);
+      inside = omega (arith, part.inside, fits.sizes.inside);
     } in
     let change = decommit_law s.region.len (s.base.bytes + r.start) r.len c pages in
     change.others k (page_there s k c fits sound is) (subst O (sym page) out)
 
 -- what isn't in the first range is as it is once that is decommitted
-first_covered : (s : Slot) (r : ByteRange) (rs : List ByteRange) (c : Contents) → Fits s → IsPart s.region.page (size_of s) r → IsSound s.region.page s.region.len s.base.bytes (size_of s) c → ((k : ℕ) → IsIn s.base.bytes (size_of s) s.region.page k → (page_bytes k (decommitted (s.base.bytes + r.start) r.len c) ≡ page_origin k (decommitted (s.base.bytes + r.start) r.len c)) ⊎ IsInSome s.base.bytes s.region.page k rs) → (k : ℕ) → IsIn s.base.bytes (size_of s) s.region.page k → (page_bytes k c ≡ page_origin k c) ⊎ IsInSome s.base.bytes s.region.page k (r ∷ rs)
+first_covered : (s : Slot) (r : ByteRange) (rs : List ByteRange) (c : Contents) → IsSlot s → IsPart s.region.page (size_of s) r → IsSound s.region.page s.region.len s.base.bytes (size_of s) c → ((k : ℕ) → IsIn s.base.bytes (size_of s) s.region.page k → (page_bytes k (decommitted (s.base.bytes + r.start) r.len c) ≡ page_origin k (decommitted (s.base.bytes + r.start) r.len c)) ⊎ IsInSome s.base.bytes s.region.page k rs) → (k : ℕ) → IsIn s.base.bytes (size_of s) s.region.page k → (page_bytes k c ≡ page_origin k c) ⊎ IsInSome s.base.bytes s.region.page k (r ∷ rs)
 first_covered s r rs c fits part sound rest k is =
     let from : ℕ = s.base.bytes + r.start in
     let outside : (IsIn from r.len s.region.page k → ⊥) → (page_bytes k c ≡ page_origin k c) ⊎ IsInSome s.base.bytes s.region.page k (r ∷ rs) =
@@ -78,7 +78,7 @@ first_covered s r rs c fits part sound rest k is =
           ]
     ]
 
-covered_of : (rs : List ByteRange) (s : Slot) → Fits s → All (IsPart s.region.page (size_of s)) rs → IsClean (decommitted_all rs s) → IfSome s.region.contents (λ c. (k : ℕ) → IsIn s.base.bytes (size_of s) s.region.page k → (page_bytes k c ≡ page_origin k c) ⊎ IsInSome s.base.bytes s.region.page k rs)
+covered_of : (rs : List ByteRange) (s : Slot) → IsSlot s → All (IsPart s.region.page (size_of s)) rs → IsClean (decommitted_all rs s) → IfSome s.region.contents (λ c. (k : ℕ) → IsIn s.base.bytes (size_of s) s.region.page k → (page_bytes k c ≡ page_origin k c) ⊎ IsInSome s.base.bytes s.region.page k rs)
 covered_of [] s fits parts clean =
     let size : ℕ = size_of s in
     let S : Contents → Type 0 = IsSound s.region.page s.region.len s.base.bytes size in

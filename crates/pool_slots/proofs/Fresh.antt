@@ -7,7 +7,8 @@ use Rattle.pool_pages.specs.MakerTold.{MakerTold, made_region}
 use Rattle.pool_pages.specs.declared.pages.PageCalls.{PageCalls}
 use Rattle.pool_pages.specs.declared.pages.RegionName.TheVariants.{Memory}
 use Rattle.pool_pages.specs.declared.pages.DecommitBehavior.{DecommitBehavior}
-use Rattle.pool_slots.specs.Cells.{Cell, unmapped, taken, region_made, calls_in, calls_of_all, sum_at_most, added, both}
+use Rattle.pool_pages.specs.CallSums.{added, both}
+use Rattle.pool_slots.specs.Cells.{Cell, unmapped, taken, region_made, all_calls, sum_at_most}
 use Rattle.pool_slots.specs.Makings.{AreMade}
 
 -- the cells that were made hold the regions as made
@@ -30,19 +31,18 @@ same_calls a b e h m z r c d =
     ∙ ap (λ (n : ℕ). record b { recolour = n; decommit = a.decommit }) c
     ∙ ap (λ (n : ℕ). record b { decommit = n }) d
 
--- one cell more is added
-sum_more : (of : PageCalls → ℕ) (cells : List Cell) (i : ℕ) (d : Cell) → i < length cells → both (sum_at_most of (take i cells)) (of (calls_in (get_or cells i d))) ≡ sum_at_most of (take (i + 1) cells)
-sum_more of cells i d inside =
-    sat (sum_by (λ (c : Cell). of (calls_in c)) (take i cells)) (of (calls_in (get_or cells i d))) (sum_by (λ (c : Cell). of (calls_in c)) (take (i + 1) cells)) (2 ^ 64 - 1)
-    (sum_by_more (λ (c : Cell). of (calls_in c)) cells i d inside)
+-- the calls of one region more are added
+sum_more : (of : PageCalls → ℕ) (calls : List PageCalls) (i : ℕ) (d : PageCalls) → i < length calls → both (sum_at_most of (take i calls)) (of (get_or calls i d)) ≡ sum_at_most of (take (i + 1) calls)
+sum_more of calls i d inside =
+    sat (sum_by of (take i calls)) (of (get_or calls i d)) (sum_by of (take (i + 1) calls)) (2 ^ 64 - 1) (sum_by_more of calls i d inside)
 
-pub calls_more : (cells : List Cell) (i : ℕ) (d : Cell) → i < length cells → added (calls_of_all (take i cells)) (calls_in (get_or cells i d)) ≡ calls_of_all (take (i + 1) cells)
-calls_more cells i d inside =
-    same_calls (added (calls_of_all (take i cells)) (calls_in (get_or cells i d))) (calls_of_all (take (i + 1) cells))
-    (sum_more (λ c. c.expose) cells i d inside)
-    (sum_more (λ c. c.hide) cells i d inside)
-    (sum_more (λ c. c.map_image) cells i d inside)
-    (sum_more (λ c. c.remap_zeros) cells i d inside)
-    (sum_more (λ c. c.erase) cells i d inside)
-    (sum_more (λ c. c.recolour) cells i d inside)
-    (sum_more (λ c. c.decommit) cells i d inside)
+pub calls_more : (calls : List PageCalls) (i : ℕ) (d : PageCalls) → i < length calls → added (all_calls (take i calls)) (get_or calls i d) ≡ all_calls (take (i + 1) calls)
+calls_more calls i d inside =
+    same_calls (added (all_calls (take i calls)) (get_or calls i d)) (all_calls (take (i + 1) calls))
+    (sum_more (λ c. c.expose) calls i d inside)
+    (sum_more (λ c. c.hide) calls i d inside)
+    (sum_more (λ c. c.map_image) calls i d inside)
+    (sum_more (λ c. c.remap_zeros) calls i d inside)
+    (sum_more (λ c. c.erase) calls i d inside)
+    (sum_more (λ c. c.recolour) calls i d inside)
+    (sum_more (λ c. c.decommit) calls i d inside)

@@ -12,3 +12,4 @@ pub mod QueueOrders
 pub mod QueueRuns
 pub mod QueueSteps
 pub mod Fresh
+pub mod Flushing

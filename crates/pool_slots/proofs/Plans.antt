@@ -11,15 +11,15 @@ use Rattle.pool_pages.specs.MakerTold.{MakerTold, Planned, fails_making, made_re
 use Rattle.pool_pages.specs.declared.pages.RegionName.TheVariants.{Memory}
 use Rattle.pool_pages.specs.declared.pages.DecommitBehavior.{DecommitBehavior}
 use Rattle.pool_slots.specs.Cells.{Cell, unmapped, taken}
-use Rattle.pool_slots.specs.Makings.{AreMade, makes_listed, IsListed}
-use Rattle.pool_slots.specs.declared.request.PoolNewError.{PoolNewError}
-use Rattle.pool_slots.specs.declared.request.PoolNewError.TheVariants as refused
+use Rattle.pool_slots.specs.Makings.{AreMade, makes_listed_regions, IsListedPoolFault, RaisesPoolBehind}
+use Rattle.pool_slots.specs.declared.errors.PoolNewError.{PoolNewError}
+use Rattle.pool_slots.specs.declared.errors.PoolNewError.TheVariants as refused
 
 -- none of the first n makings is listed
 abbrev pub NoneListed : List Planned → ℕ → Type 0
 NoneListed plan n = (i : ℕ) → i < n → fails_making (Memory i) plan ≡ false
 
-pub none_listed : (plan : List Planned) (total : ℕ) → NoneListed plan total → makes_listed plan total ≡ false
+pub none_listed : (plan : List Planned) (total : ℕ) → NoneListed plan total → makes_listed_regions plan total ≡ false
 none_listed plan total none =
     list_any_none (λ (i : ℕ). fails_making (Memory i) plan) (range_with_len 0 total)
     (λ k d below.
@@ -27,7 +27,7 @@ none_listed plan total none =
     let here : get_or (range_with_len 0 total) k d ≡ k = get_or-range_with_len 0 total k d under ∙ omega arith in
     rw here (none k under))
 
-pub some_listed : (plan : List Planned) (total i : ℕ) → i < total → fails_making (Memory i) plan ≡ true → makes_listed plan total ≡ true
+pub some_listed : (plan : List Planned) (total i : ℕ) → i < total → fails_making (Memory i) plan ≡ true → makes_listed_regions plan total ≡ true
 some_listed plan total i under listed =
     let here : get_or (range_with_len 0 total) i 0 ≡ i = get_or-range_with_len 0 total i 0 under ∙ omega arith in
     list_any_at (λ (i : ℕ). fails_making (Memory i) plan) (range_with_len 0 total) i 0 (rw length-range_with_len under) (rw here listed)
@@ -63,18 +63,29 @@ made_more maker behaviour n len cells cell made now =
           ];
     }
 
-listed_by : (plan : List Planned) (total i : ℕ) (e : PoolNewError) → i < total → IsListed (fails_making (Memory i) plan) e → IsListed (makes_listed plan total) e
+listed_by : (plan : List Planned) (total i : ℕ) (e : PoolNewError) → i < total → IsListedPoolFault (fails_making (Memory i) plan) e → IsListedPoolFault (makes_listed_regions plan total) e
 listed_by plan total i (refused.BadConfig b) under h = h
 listed_by plan total i refused.PageFault under h = some_listed plan total i under h
 listed_by plan total i refused.Memory under h = h
 
 -- a making that is refused is one of all
-pub listed_of : (o : Option (List Planned)) (total i : ℕ) (e : PoolNewError) → i < total → IfSome o (λ plan. IsListed (fails_making (Memory i) plan) e) → IfSome o (λ plan. IsListed (makes_listed plan total) e)
+pub listed_of : (o : Option (List Planned)) (total i : ℕ) (e : PoolNewError) → i < total → IfSome o (λ plan. IsListedPoolFault (fails_making (Memory i) plan) e) → IfSome o (λ plan. IsListedPoolFault (makes_listed_regions plan total) e)
 listed_of o total i e under h =
-    let P : List Planned → Type 0 = λ plan. IsListed (fails_making (Memory i) plan) e in
-    let Q : List Planned → Type 0 = λ plan. IsListed (makes_listed plan total) e in
+    let P : List Planned → Type 0 = λ plan. IsListedPoolFault (fails_making (Memory i) plan) e in
+    let Q : List Planned → Type 0 = λ plan. IsListedPoolFault (makes_listed_regions plan total) e in
     mapped_told P Q o (λ plan k. listed_by plan total i e under k) h
 
--- a maker whose count of faults stays tells what it told
-pub same_maker : (old new : MakerTold) → new ≡ record old { faults = new.faults } → new.faults ≡ old.faults → new ≡ old
-same_maker old new same faults = same ∙ ap (λ (n : ℕ). record old { faults = n }) faults
+-- so it is with what it does to the maker behind
+pub behind_of : (own : List Planned) (total i old new : ℕ) (e : PoolNewError) → i < total → RaisesPoolBehind (fails_making (Memory i) own) old new e → RaisesPoolBehind (makes_listed_regions own total) old new e
+behind_of own total i old new (refused.BadConfig b) under h = h
+behind_of own total i old new refused.PageFault under h =
+    elim h [
+      | inl listed ↦ inl (some_listed own total i under listed)
+      | inr rose ↦ inr rose
+    ]
+behind_of own total i old new refused.Memory under h = h
+
+-- a maker whose counts of faults stay tells what it told
+pub same_maker : (old new : MakerTold) → new ≡ record old { behind = new.behind; faults = new.faults } → new.behind ≡ old.behind → new.faults ≡ old.faults → new ≡ old
+same_maker old new same behind faults =
+    same ∙ ap (λ (n : ℕ). record old { behind = n; faults = new.faults }) behind ∙ ap (λ (n : ℕ). record old { faults = n }) faults

@@ -6,11 +6,11 @@ use Rattle.std.proofs.lemmas.List.Folds.{list_any-append}
 use Rattle.std.specs.List.{AllByRecursion}
 use Rattle.std.proofs.lemmas.List.{append-nil, length-append}
 use Rattle.pool_images.specs.declared.ranges.ByteRange.{ByteRange}
-use Rattle.pool_images.specs.Slots.{Fits, IsClean, IsPart, size_of, decommitted_all}
+use Rattle.pool_images.specs.Slots.{IsSlot, IsClean, IsPart, size_of, decommitted_all}
 use Rattle.pool_slots.specs.declared.queued_range.QueueKind.{QueueKind}
 use Rattle.pool_slots.specs.declared.queued_range.QueueKind.TheVariants.{Memory, Table, Stack}
 use Rattle.pool_slots.specs.declared.queued_range.QueuedRange.{QueuedRange}
-use Rattle.pool_slots.specs.Queues.{QueuedMemory, QueueState, same_kind, is_of, ranges_of, holds, is_held, HasOwners, AreApart, LeavesClean, IsQueue, with_range, with_ranges, with_memory, joined}
+use Rattle.pool_slots.specs.Queues.{QueuedMemory, QueueState, same_kind, is_of, ranges_of, holds, is_held, HasOwners, AreApart, LeavesClean, IsQueue, with_range, with_ranges, with_memory, after_append}
 use Rattle.pool_slots.proofs.QueueFaults.{range_of}
 use Rattle.pool_slots.proofs.QueueLists.{each_append, each_both, each_known, ranges_append, ranges_here, ranges_none, none_unheld, unheld_each, distinct_append, apart_other_way, owned_more, owned_later, AreOwned}
 
@@ -52,7 +52,7 @@ queue_memory m q is room free clean =
     }
 
 -- two queues are joined
-pub queue_joined : (q more : QueueState) → IsQueue q → IsQueue more → length q.ranges + length more.ranges ≤ q.range_room → length q.memories + length more.memories ≤ q.slot_room → HasOwners q → HasOwners more → AreApart q.memories more.memories → IsQueue (joined q more)
+pub queue_joined : (q more : QueueState) → IsQueue q → IsQueue more → length q.ranges + length more.ranges ≤ q.range_room → length q.memories + length more.memories ≤ q.slot_room → HasOwners q → HasOwners more → AreApart q.memories more.memories → IsQueue (after_append q more)
 queue_joined q more is also ranges slots owned also_owned apart =
     let all : List QueuedRange = q.ranges ++ more.ranges in
     record {
@@ -74,7 +74,7 @@ queue_joined q more is also ranges slots owned also_owned apart =
           also.each (apart_other_way q.memories more.memories apart));
     }
 
-pub owned_joined : (q more : QueueState) → HasOwners q → HasOwners more → HasOwners (joined q more)
+pub owned_joined : (q more : QueueState) → HasOwners q → HasOwners more → HasOwners (after_append q more)
 owned_joined q more owned also_owned =
     each_append (λ r. is_held r.kind r.slot.0 (q.memories ++ more.memories) ≡ true) q.ranges more.ranges
     (owned_more q.ranges q.memories more.memories owned) (owned_later more.ranges q.memories more.memories also_owned)
@@ -86,7 +86,7 @@ own_ranges k (r ∷ rs) =
     ranges_here k (range_of k r) (map (range_of k) rs) (eq-eqb k k refl) ∙ ap (λ (l : List ByteRange). r ∷ l) (own_ranges k rs)
 
 -- a slot whose ranges alone were pushed
-pub leaves_clean : (m : QueuedMemory) (rs : List ByteRange) (q : QueueState) → HasOwners q → holds m.index q.memories ≡ false → Fits m.slot → All (IsPart m.slot.region.page (size_of m.slot)) rs → IsClean (decommitted_all rs m.slot) → m.bytes ≤ 2 ^ 32 → LeavesClean (with_ranges m.index rs q).ranges m
+pub leaves_clean : (m : QueuedMemory) (rs : List ByteRange) (q : QueueState) → HasOwners q → holds m.index q.memories ≡ false → IsSlot m.slot → All (IsPart m.slot.region.page (size_of m.slot)) rs → IsClean (decommitted_all rs m.slot) → m.bytes ≤ 2 ^ 32 → LeavesClean (with_ranges m.index rs q).ranges m
 leaves_clean m rs q owned free fits parts clean bytes =
     let all : ranges_of Memory m.index (q.ranges ++ map (range_of m.index) rs) ≡ rs =
     ranges_append Memory m.index q.ranges (map (range_of m.index) rs)

@@ -14,7 +14,7 @@ use Rattle.pool_slots.proofs.QueueSteps.{queue_first}
 use Rattle.pool_slots.proofs.QueueRuns.{of_slot, of_kind, zip_length}
 use Rattle.pool_slots.proofs.QueueFaults.{left_at}
 
-first_is : (ranges : List QueuedRange) (r : QueuedRange) (rs : List QueuedRange) (k : ℕ) → ranges ≡ r ∷ rs → begins_with k ranges ≡ true → is_of Memory k r ≡ true
+pub first_is : (ranges : List QueuedRange) (r : QueuedRange) (rs : List QueuedRange) (k : ℕ) → ranges ≡ r ∷ rs → begins_with k ranges ≡ true → is_of Memory k r ≡ true
 first_is ranges r rs k e begins =
     let B : List QueuedRange → Type 0 = λ l. begins_with k l ≡ true in
     subst B e begins
@@ -98,13 +98,13 @@ queue_left k q ns is left =
       each = each_left k q.ranges q.memories ns left is.each;
     }
 
-faulted_at : (ms : List QueuedMemory) (room : ℕ) (r : QueuedRange) (i : ℕ) (new : MemoryList) → i < length ms → AreDistinct ms → HoldsAt (λ m. is_of Memory m.index r ≡ true) ms i → ((d : QueuedMemory) → (n : QueuedMemory) × IsLeftItem (get_or ms i d) n × (new ≡ record { items = slice_set ms i n; room = room })) → AllZip (IsLeftBy r.slot.0) ms (map forgotten new.items) × (new.room ≡ room)
+faulted_at : (ms : List QueuedMemory) (room : ℕ) (r : QueuedRange) (i : ℕ) (new : MemoryList) → i < length ms → AreDistinct ms → HoldsAt (λ m. is_of Memory m.index r ≡ true) ms i → ((d : QueuedMemory) → (n : QueuedMemory) × IsLeftItem r.range (get_or ms i d) n × (new ≡ record { items = slice_set ms i n; room = room })) → AllZip (IsLeftBy r.slot.0) ms (map forgotten new.items) × (new.room ≡ room)
 faulted_at [] room r i new inside distinct of now = absurd (omega arith)
 faulted_at (m ∷ ms) room r i new inside distinct of now =
     let w = now m in
     let L : List QueuedMemory → Type 0 = λ l. AllZip (IsLeftBy r.slot.0) (m ∷ ms) (map forgotten l) in
-    (subst L (sym (ap (λ (l : MemoryList). l.items) w.2)) (left_at r.slot.0 (m ∷ ms) i m w.0 inside distinct (sym (of_slot (get_or (m ∷ ms) i m).index r (of m))) w.1), ap (λ (l : MemoryList). l.room) w.2)
+    (subst L (sym (ap (λ (l : MemoryList). l.items) w.2)) (left_at r.slot.0 r.range (m ∷ ms) i m w.0 inside distinct (sym (of_slot (get_or (m ∷ ms) i m).index r (of m))) w.1), ap (λ (l : MemoryList). l.room) w.2)
 
-pub first_faulted : (q : QueueState) (r : QueuedRange) (rs : List QueuedRange) (i : ℕ) (new : MemoryList) → IsQueue q → q.ranges ≡ r ∷ rs → i < length q.memories → HoldsAt (λ m. begins_with m.index q.ranges ≡ true) q.memories i → ((d : QueuedMemory) → (n : QueuedMemory) × IsLeftItem (get_or q.memories i d) n × (new ≡ record { items = slice_set q.memories i n; room = q.slot_room })) → AllZip (IsLeftBy r.slot.0) q.memories (map forgotten new.items) × (new.room ≡ q.slot_room)
+pub first_faulted : (q : QueueState) (r : QueuedRange) (rs : List QueuedRange) (i : ℕ) (new : MemoryList) → IsQueue q → q.ranges ≡ r ∷ rs → i < length q.memories → HoldsAt (λ m. begins_with m.index q.ranges ≡ true) q.memories i → ((d : QueuedMemory) → (n : QueuedMemory) × IsLeftItem r.range (get_or q.memories i d) n × (new ≡ record { items = slice_set q.memories i n; room = q.slot_room })) → AllZip (IsLeftBy r.slot.0) q.memories (map forgotten new.items) × (new.room ≡ q.slot_room)
 first_faulted q r rs i new is e inside begins now =
     faulted_at q.memories q.slot_room r i new inside is.distinct (λ d. first_is q.ranges r rs (get_or q.memories i d).index e (begins d)) now

@@ -4,8 +4,8 @@ use Rattle.std.specs.Prelude.{map, ◌==◌, slice_set, if◌then◌else◌, IfS
 use Rattle.std.specs.List.{AllZip, HoldsAt}
 use Rattle.std.proofs.lemmas.Bool.{true≢false, ne_eqb, eqb-false, or_parts}
 use Rattle.std.proofs.lemmas.Option.{IfSome_then}
-use Rattle.pool_pages.specs.Count.{Count}
 use Rattle.pool_pages.specs.Told.{Told, PageCall, succeeded, passes, decommitting}
+use Rattle.pool_images.specs.Slots.{SlotIdentity}
 use Rattle.pool_images.specs.Orders.{Follows, failed, outcome}
 use Rattle.pool_images.specs.declared.ranges.ByteRange.{ByteRange}
 use Rattle.pool_images.proofs.Ordering.{follows_then}
@@ -22,7 +22,7 @@ none_told : (plan : Option (List ℕ)) (t : Told) → IfSome plan (λ p. ◌≡�
 none_told None t = tt
 none_told (Some p) t = refl
 
-follows_none : (t : Told) → Follows [] true t t
+pub follows_none : (t : Told) → Follows [] true t t
 follows_none t = none_told t.plan t
 
 -- a first call that fails is the last
@@ -90,9 +90,9 @@ order_forgotten k ranges ok ms new order = zip_map (FollowsAt k ranges ok) (Foll
 -- one range, and more after it
 order_next : (k : ℕ) (r : ByteRange) (rs : List ByteRange) (ok : Bool) (m n p : QueuedMemory) → FollowsAt k (r ∷ []) true m n × IsKeptBy k m n → FollowsAt k rs ok n p → FollowsAt k (r ∷ rs) ok m p
 order_next k r rs ok m n p first rest e =
-    let base : n.slot.base.bytes ≡ m.slot.base.bytes = ap (λ (c : Count). c.bytes) first.1.slot.base in
+    let base : n.slot.base.bytes ≡ m.slot.base.bytes = ap (λ (i : SlotIdentity). i.base.bytes) first.1.slot.same in
     let F : ℕ → Type 0 = λ b. Follows (decommits b rs) ok n.slot.region p.slot.region in
-    follows_then (decommits m.slot.base.bytes (r ∷ [])) (decommits m.slot.base.bytes rs) ok m.slot.region n.slot.region p.slot.region first.1.slot.plan (first.0 e) (subst F base (rest (first.1.index ∙ e)))
+    follows_then (decommits m.slot.base.bytes (r ∷ [])) (decommits m.slot.base.bytes rs) ok m.slot.region n.slot.region p.slot.region (ap (λ (i : SlotIdentity). i.plan) first.1.slot.same) (first.0 e) (subst F base (rest (first.1.index ∙ e)))
 
 orders_next : (k : ℕ) (r : ByteRange) (rs : List ByteRange) (ok : Bool) (ms ns ps : List QueuedMemory) → AreInOrder k (r ∷ []) true ms ns → AllZip (IsKeptBy k) ms ns → AreInOrder k rs ok ns ps → AreInOrder k (r ∷ rs) ok ms ps
 orders_next k r rs ok ms ns ps first kept rest =

@@ -1,20 +1,21 @@
--- Runs of ranges of one slot, and a flush made of them.
-use Rattle.std.proofs.Common.{◌≡◌, ℕ, suc, ◌+◌, ◌<◌, ◌≤◌, Bool, true, false, List, [], ◌∷◌, length, get_or, refl, sym, ap, ◌∙◌, subst, inl, inr, arith, Ok, Err}
+-- Runs of ranges of one slot.
+use Rattle.std.proofs.Common.{◌≡◌, ℕ, suc, ◌+◌, ◌<◌, Bool, true, false, List, [], ◌∷◌, length, get_or, refl, sym, ap, ◌∙◌, subst, inl, inr, arith, Ok, Err}
 use Rattle.std.specs.Prelude.{map, ◌==◌, Result, OnErr}
 use Rattle.std.specs.List.{AllZip, HoldsAt}
-use Rattle.std.proofs.lemmas.Bool.{cases_Bool, and_parts, and_from, eqb-true, eq-eqb, or_cases}
+use Rattle.std.proofs.lemmas.Bool.{cases_Bool, and_parts, eqb-true}
 use Rattle.std.proofs.lemmas.List.{length-map, get_or-map}
 use Rattle.pool_pages.specs.Told.{decommitting}
 use Rattle.pool_images.specs.declared.ranges.ByteRange.{ByteRange}
-use Rattle.pool_images.specs.Slots.{Slot, IsLeft, called, decommitted_all}
+use Rattle.pool_images.specs.Slots.{Slot, decommitted_all}
 use Rattle.pool_slots.specs.declared.queued_range.QueueKind.{QueueKind}
 use Rattle.pool_slots.specs.declared.queued_range.QueueKind.TheVariants.{Memory, Table, Stack}
 use Rattle.pool_slots.specs.declared.queued_range.QueuedRange.{QueuedRange}
-use Rattle.pool_slots.specs.Queues.{QueuedMemory, QueueState, same_kind, is_of, holds, is_held, HasOwners, change_at, decommitted_at, settle, settled, first_slot, front, behind, after_run_of, after_run, IsFaulted, IsLeftBy, IsSlotLeft, IsLost, AreLost, HasFaulted, IsSameSlot, AnyZip}
+use Rattle.pool_slots.specs.Queues.{QueuedMemory, QueueState, same_kind, is_of, is_held, HasOwners, change_at, decommitted_at, first_slot, front, behind, after_run_of, IsFaulted, IsLeftBy, IsSlotLeft}
 use Rattle.pool_slots.specs.QueueSteps.{begins_with, after_first_of, after_first}
-use Rattle.pool_slots.proofs.Resets.{IsKept, kept_self, kept_called, left_after}
+use Rattle.pool_images.proofs.Identity.{IsLike, like_self}
+use Rattle.pool_slots.proofs.Resets.{like_called, left_after}
 use Rattle.pool_slots.proofs.QueueLists.{change_index, change_here, change_elsewhere, AreOwned}
-use Rattle.pool_slots.proofs.QueueSteps.{memory_kind, settled_first, owners_first}
+use Rattle.pool_slots.proofs.QueueSteps.{memory_kind, owners_first}
 
 -- the slot of a memory's range
 pub of_slot : (slot : ℕ) (r : QueuedRange) → is_of Memory slot r ≡ true → r.slot.0 ≡ slot
@@ -72,25 +73,10 @@ run_end_of k (r ∷ rs) q e =
 pub run_end : (k : ℕ) (q : QueueState) → begins_with k q.ranges ≡ false → after_run_of k q ≡ q
 run_end k q e = run_end_of k q.ranges q e
 
--- what a run is made of
-settled_run_of : (k : ℕ) (ranges : List QueuedRange) (q : QueueState) → settled (after_run_of k (record q { ranges = ranges })) ≡ settled (record q { ranges = ranges })
-settled_run_of k [] q = ap settled (run_end_of k [] q refl)
-settled_run_of k (r ∷ rs) q =
-    elim (cases_Bool (is_of Memory k r)) [
-      | inl e ↦
-          ap settled (sym (run_next k r rs q e))
-          ∙ settled_run_of k rs (after_first_of (r ∷ rs) q)
-          ∙ settled_first r rs q (of_kind k r e)
-      | inr e ↦ ap settled (run_end_of k (r ∷ rs) q e)
-    ]
-
-pub settled_run : (k : ℕ) (q : QueueState) → settled (after_run_of k q) ≡ settled q
-settled_run k q = settled_run_of k q.ranges q
-
 -- decommits of the slot with this number succeeded
 pub record IsKeptBy (k : ℕ) (old new : QueuedMemory) : Type 0 where
   pub index : new.index ≡ old.index
-  pub slot : IsKept old.slot new.slot
+  pub slot : IsLike old.slot new.slot
   pub other : (k == old.index) ≡ false → new.slot ≡ old.slot
   pub known : new.known ≡ old.known
   pub bytes : new.bytes ≡ old.bytes
@@ -120,7 +106,7 @@ zip_length R (x ∷ xs) [] a = absurd a
 zip_length R (x ∷ xs) (y ∷ ys) a = ap (λ (n : ℕ). suc n) (zip_length R xs ys a.1)
 
 pub kept_by_self : (k : ℕ) (m : QueuedMemory) → IsKeptBy k m m
-kept_by_self k m = record { index = refl; slot = kept_self m.slot; other = λ _. refl; known = refl; bytes = refl }
+kept_by_self k m = record { index = refl; slot = like_self m.slot; other = λ _. refl; known = refl; bytes = refl }
 
 -- one range more is decommitted
 pub kept_more : (k : ℕ) (r : ByteRange) (m n : QueuedMemory) → IsKeptBy k m n → IsKeptBy k m (change_at k (decommitted_at r) n)
@@ -131,7 +117,7 @@ kept_more k r m n kept =
           let mine : (k == m.index) ≡ true = ap (λ (i : ℕ). k == i) (sym kept.index) ∙ e in
           subst P (sym (change_here k (decommitted_at r) n e)) (record {
             index = kept.index;
-            slot = kept_called m.slot n.slot (decommitting (n.slot.base.bytes + r.start) r.len) kept.slot;
+            slot = like_called m.slot n.slot (decommitting (n.slot.base.bytes + r.start) r.len) kept.slot;
             other = λ no. absurd (cc (mine, no));
             known = kept.known;
             bytes = kept.bytes;
@@ -139,28 +125,7 @@ kept_more k r m n kept =
       | inr e ↦ subst P (sym (change_elsewhere k (decommitted_at r) n e)) kept
     ]
 
--- a whole run is
-kept_by_all : (rs : List ByteRange) (s t : Slot) → IsKept s t → IsKept s (decommitted_all rs t)
-kept_by_all [] s t k = k
-kept_by_all (r ∷ rs) s t k = kept_by_all rs s (called (decommitting (t.base.bytes + r.start) r.len) t) (kept_called s t (decommitting (t.base.bytes + r.start) r.len) k)
-
-pub record IsKeptItem (old new : QueuedMemory) : Type 0 where
-  pub index : new.index ≡ old.index
-  pub slot : IsKept old.slot new.slot
-  pub bytes : new.bytes ≡ old.bytes
-
-pub kept_item_self : (m : QueuedMemory) → IsKeptItem m m
-kept_item_self m = record { index = refl; slot = kept_self m.slot; bytes = refl }
-
-pub kept_run : (k : ℕ) (rs : List ByteRange) (m n : QueuedMemory) → IsKeptItem m n → IsKeptItem m (change_at k (decommitted_all rs) n)
-kept_run k rs m n kept =
-    let P : QueuedMemory → Type 0 = λ x. IsKeptItem m x in
-    elim (cases_Bool (k == n.index)) [
-      | inl e ↦ subst P (sym (change_here k (decommitted_all rs) n e)) (record { index = kept.index; slot = kept_by_all rs m.slot n.slot kept.slot; bytes = kept.bytes })
-      | inr e ↦ subst P (sym (change_elsewhere k (decommitted_all rs) n e)) kept
-    ]
-
-slot_left : (b : Bool) (s t u : Slot) → IsKept s t → (b ≡ false → t ≡ s) → IsSlotLeft b t u → IsSlotLeft b s u
+slot_left : (b : Bool) (s t u : Slot) → IsLike s t → (b ≡ false → t ≡ s) → IsSlotLeft b t u → IsSlotLeft b s u
 slot_left true s t u kept other left = left_after s t u kept left
 slot_left false s t u kept other left = left ∙ other refl
 
@@ -173,60 +138,6 @@ left_by k m n p kept left =
       slot = slot_left (k == m.index) m.slot n.slot p.slot kept.slot kept.other (subst S kept.index left.slot);
       known = left.known;
       bytes = left.bytes ∙ kept.bytes;
-    }
-
-same_kept : (s t : Slot) → IsKept s t → IsSameSlot s t
-same_kept s t k = record { base = k.base; static_size = k.static_size; colour = k.colour; name = k.name; page = k.page; len = k.len; behaviour = k.behaviour; plan = k.plan; tells = k.tells; faults = inl k.faults }
-
-same_left : (s t : Slot) → IsLeft s t → IsSameSlot s t
-same_left s t l = record { base = l.base; static_size = l.static_size; colour = l.colour; name = l.name; page = l.page; len = l.len; behaviour = l.behaviour; plan = l.plan; tells = l.tells; faults = inr l.rose }
-
-same_if : (b : Bool) (s t u : Slot) → IsKept s t → IsSlotLeft b t u → IsSameSlot s u
-same_if true s t u kept left = same_left s u (left_after s t u kept left)
-same_if false s t u kept left = let P : Slot → Type 0 = λ x. IsSameSlot s x in subst P (sym left) (same_kept s t kept)
-
-pub lost_by : (k : ℕ) (m n p : QueuedMemory) → IsKeptItem m n → IsLeftBy k n p → IsLost m p
-lost_by k m n p kept left =
-    record {
-      index = left.index ∙ kept.index;
-      slot = same_if (k == n.index) m.slot n.slot p.slot kept.slot left.slot;
-      known = left.known;
-      bytes = left.bytes ∙ kept.bytes;
-    }
-
-faulted_by : (k : ℕ) (m n p : QueuedMemory) → IsKeptItem m n → IsLeftBy k n p → (k == n.index) ≡ true → HasFaulted m p
-faulted_by k m n p kept left e =
-    let B : Bool → Type 0 = λ b. IsSlotLeft b n.slot p.slot in
-    let l : IsLeft m.slot p.slot = left_after m.slot n.slot p.slot kept.slot (subst B e left.slot) in
-    record { rose = l.rose; listed = l.listed }
-
--- a call on some slot failed
-some_faulted : (k : ℕ) (ms ns ps : List QueuedMemory) → AllZip IsKeptItem ms ns → AllZip (IsLeftBy k) ns ps → holds k ns ≡ true → AnyZip HasFaulted ms ps
-some_faulted k ms [] ps a b held = absurd cc
-some_faulted k [] (n ∷ ns) ps a b held = absurd a
-some_faulted k (m ∷ ms) (n ∷ ns) [] a b held = absurd b
-some_faulted k (m ∷ ms) (n ∷ ns) (p ∷ ps) a b held =
-    elim (or_cases (k == n.index) (holds k ns) held) [
-      | inl e ↦ inl (faulted_by k m n p a.0 b.0 e)
-      | inr e ↦ inr (some_faulted k ms ns ps a.1 b.1 e)
-    ]
-
-held_memory : (kind : QueueKind) (n : ℕ) (ms : List QueuedMemory) → is_held kind n ms ≡ true → holds n ms ≡ true
-held_memory Memory n ms held = held
-held_memory Table n ms held = absurd cc
-held_memory Stack n ms held = absurd cc
-
-pub first_held : (ranges : List QueuedRange) (ms : List QueuedMemory) → 0 < length ranges → AreOwned ranges ms → holds (first_slot ranges) ms ≡ true
-first_held [] ms some owned = absurd (omega arith)
-first_held (r ∷ rs) ms some owned = held_memory r.kind r.slot.0 ms owned.0
-
--- a decommit failed after others succeeded
-pub are_lost : (old now new : QueueState) → AllZip IsKeptItem old.memories now.memories → 0 < length now.ranges → HasOwners now → IsFaulted now new → AreLost old.memories new.memories
-are_lost old now new kept some owned fault =
-    let k : ℕ = first_slot now.ranges in
-    record {
-      each = zip_both IsKeptItem (IsLeftBy k) IsLost old.memories now.memories new.memories (lost_by k) kept fault.memories;
-      some = some_faulted k old.memories now.memories new.memories kept fault.memories (first_held now.ranges now.memories some owned);
     }
 
 -- A run under way: what is left of it leads to the same queue, and only the slot at this place has changed.
@@ -285,16 +196,6 @@ begins_some : (k : ℕ) (ranges : List QueuedRange) → begins_with k ranges ≡
 begins_some k [] begins = absurd cc
 begins_some k (r ∷ rs) begins = (omega arith, of_slot k r begins)
 
-pub run_some : (k : ℕ) (ranges : List QueuedRange) → begins_with k ranges ≡ true → 0 < length ranges
-run_some k ranges begins = (begins_some k ranges begins).0
-
-smaller_of : (k : ℕ) (ranges : List QueuedRange) (q : QueueState) → begins_with k ranges ≡ true → length (after_first_of ranges q).ranges < length ranges
-smaller_of k [] q begins = absurd cc
-smaller_of k (r ∷ rs) q begins = omega arith
-
-pub run_smaller : (k : ℕ) (now new : QueueState) → begins_with k now.ranges ≡ true → new ≡ after_first now → length new.ranges < length now.ranges
-run_smaller k now new begins is = rw is (smaller_of k now.ranges now begins)
-
 -- a fault in a run under way is one of the whole run
 pub run_faulted : (k i : ℕ) (old now new : QueueState) → IsRunning k i old now → begins_with k now.ranges ≡ true → first_slot old.ranges ≡ k → IsFaulted now new → IsFaulted old new
 run_faulted k i old now new running begins first fault =
@@ -316,71 +217,9 @@ faulted_owned old new fault =
     let O : List QueuedRange → Type 0 = λ l. AreOwned l new.memories in
     subst O (sym fault.ranges) tt
 
--- A flush under way: what is left to be decommitted leads to the same slots.
-pub record IsFlushing (old now : QueueState) : Type 0 where
-  pub rest : settled now ≡ settled old
-  pub owned : HasOwners now
-  pub kept : AllZip IsKeptItem old.memories now.memories
-  pub range_room : now.range_room ≡ old.range_room
-  pub slot_room : now.slot_room ≡ old.slot_room
-  pub takes : now.takes ≡ old.takes
-  pub appended : now.appended ≡ old.appended
-
-pub flush_begins : (q : QueueState) → HasOwners q → IsFlushing q q
-flush_begins q owned = record { rest = refl; owned = owned; kept = zip_same IsKeptItem q.memories kept_item_self; range_room = refl; slot_room = refl; takes = refl; appended = refl }
-
-pub flush_step : (old now new : QueueState) → IsFlushing old now → new ≡ after_run now → HasOwners new → IsFlushing old new
-flush_step old now new flushing is owned =
-    let k : ℕ = first_slot now.ranges in
-    let done : List ByteRange = map (λ r. r.range) (front (is_of Memory k) now.ranges) in
-    let K : QueueState → Type 0 = λ q. AllZip IsKeptItem old.memories q.memories in
-    record {
-      rest = ap settled is ∙ settled_run k now ∙ flushing.rest;
-      owned = owned;
-      kept = subst K (sym is) (zip_map IsKeptItem IsKeptItem (change_at k (decommitted_all done)) old.memories now.memories (kept_run k done) flushing.kept);
-      range_room = ap (λ (q : QueueState). q.range_room) is ∙ flushing.range_room;
-      slot_room = ap (λ (q : QueueState). q.slot_room) is ∙ flushing.slot_room;
-      takes = ap (λ (q : QueueState). q.takes) is ∙ flushing.takes;
-      appended = ap (λ (q : QueueState). q.appended) is ∙ flushing.appended;
-    }
-
-behind_short : (test : QueuedRange → Bool) (rs : List QueuedRange) → length (behind test rs) ≤ length rs
-behind_short test [] = omega arith
-behind_short test (r ∷ rs) =
-    elim (cases_Bool (test r)) [
-      | inl e ↦ let less : length (behind test rs) ≤ length rs = behind_short test rs in rw e (omega (arith, less))
-      | inr e ↦ rw e (omega arith)
-    ]
-
-owned_kind : (kind : QueueKind) (n : ℕ) (ms : List QueuedMemory) → is_held kind n ms ≡ true → same_kind Memory kind ≡ true
-owned_kind Memory n ms held = refl
-owned_kind Table n ms held = absurd cc
-owned_kind Stack n ms held = absurd cc
-
-behind_less : (ranges : List QueuedRange) (ms : List QueuedMemory) → 0 < length ranges → AreOwned ranges ms → length (behind (is_of Memory (first_slot ranges)) ranges) < length ranges
-behind_less [] ms some owned = absurd (omega arith)
-behind_less (r ∷ rs) ms some owned =
-    let of : is_of Memory r.slot.0 r ≡ true = and_from (same_kind Memory r.kind) (r.slot.0 == r.slot.0) (owned_kind r.kind r.slot.0 ms owned.0) (eq-eqb r.slot.0 r.slot.0 refl) in
-    let less : length (behind (is_of Memory r.slot.0) rs) ≤ length rs = behind_short (is_of Memory r.slot.0) rs in
-    rw of (omega (arith, less))
-
-pub flush_smaller : (now new : QueueState) → 0 < length now.ranges → HasOwners now → new ≡ after_run now → length new.ranges < length now.ranges
-flush_smaller now new some owned is = rw is (behind_less now.ranges now.memories some owned)
-
-nothing_left : (ms : List QueuedMemory) → map (settle []) ms ≡ ms
-nothing_left [] = refl
-nothing_left (m ∷ ms) = ap (λ (l : List QueuedMemory). m ∷ l) (nothing_left ms)
-
 pub no_ranges : (ranges : List QueuedRange) → (0 < length ranges → ⊥) → ranges ≡ []
 no_ranges [] none = refl
 no_ranges (r ∷ rs) none = absurd (none (omega arith))
-
-pub flush_over : (old now : QueueState) → IsFlushing old now → now.ranges ≡ [] → now.memories ≡ settled old
-flush_over old now flushing none =
-    sym (nothing_left now.memories) ∙ ap (λ (l : List QueuedRange). map (settle l) now.memories) (sym none) ∙ flushing.rest
-
-pub flush_faulted : (old now new : QueueState) → IsFlushing old now → 0 < length now.ranges → IsFaulted now new → AreLost old.memories new.memories
-flush_faulted old now new flushing some fault = are_lost old now new flushing.kept some flushing.owned fault
 
 unheld_none : (kind : QueueKind) (n : ℕ) → is_held kind n [] ≡ true → ⊥
 unheld_none Memory n held = absurd cc

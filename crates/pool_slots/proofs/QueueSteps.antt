@@ -1,6 +1,6 @@
 -- The first range of a queue is decommitted.
-use Rattle.std.proofs.Common.{◌≡◌, ℕ, Bool, true, List, [], ◌∷◌, refl, sym, ap, ◌∙◌, subst, inl, inr, arith}
-use Rattle.std.specs.Prelude.{map, ◌==◌, ◌&&◌, All}
+use Rattle.std.proofs.Common.{◌≡◌, ℕ, Bool, true, List, ◌∷◌, refl, sym, ◌∙◌, subst, inl, inr, arith}
+use Rattle.std.specs.Prelude.{◌==◌, ◌&&◌, All}
 use Rattle.std.proofs.lemmas.Bool.{cases_Bool}
 use Rattle.std.proofs.lemmas.List.{length-map}
 use Rattle.std.proofs.lemmas.List.Elements.{All-head, All-tail}
@@ -10,7 +10,7 @@ use Rattle.pool_images.proofs.Queued.{fits_next}
 use Rattle.pool_slots.specs.declared.queued_range.QueueKind.{QueueKind}
 use Rattle.pool_slots.specs.declared.queued_range.QueueKind.TheVariants.{Memory, Table, Stack}
 use Rattle.pool_slots.specs.declared.queued_range.QueuedRange.{QueuedRange}
-use Rattle.pool_slots.specs.Queues.{QueuedMemory, QueueState, same_kind, is_of, ranges_of, HasOwners, LeavesClean, IsQueue, change_at, decommitted_at, settle, settled}
+use Rattle.pool_slots.specs.Queues.{QueuedMemory, QueueState, same_kind, is_of, ranges_of, HasOwners, LeavesClean, IsQueue, change_at, decommitted_at}
 use Rattle.pool_slots.specs.QueueSteps.{after_first_of}
 use Rattle.pool_slots.proofs.QueueLists.{each_map, ranges_here, ranges_elsewhere, change_index, change_here, change_elsewhere, distinct_map, owned_map}
 
@@ -20,24 +20,8 @@ memory_kind Table b e = absurd cc
 memory_kind Stack b e = absurd cc
 
 -- of a memory's range, whether it is of a slot is whether that slot has its number
-of_memory : (slot : ℕ) (r : QueuedRange) → r.kind ≡ Memory → is_of Memory slot r ≡ (r.slot.0 == slot)
+pub of_memory : (slot : ℕ) (r : QueuedRange) → r.kind ≡ Memory → is_of Memory slot r ≡ (r.slot.0 == slot)
 of_memory slot r e = rw e refl
-
--- one slot's ranges are decommitted in the order in which they stand
-settle_first : (r : QueuedRange) (rs : List QueuedRange) (m : QueuedMemory) → r.kind ≡ Memory → settle rs (change_at r.slot.0 (decommitted_at r.range) m) ≡ settle (r ∷ rs) m
-settle_first r rs m kind =
-    elim (cases_Bool (r.slot.0 == m.index)) [
-      | inl e ↦
-          let here : ranges_of Memory m.index (r ∷ rs) ≡ r.range ∷ ranges_of Memory m.index rs = ranges_here m.index r rs (of_memory m.index r kind ∙ e) in
-          ap (settle rs) (change_here r.slot.0 (decommitted_at r.range) m e) ∙ sym (ap (λ (l : List ByteRange). record m { slot = decommitted_all l m.slot }) here)
-      | inr e ↦
-          let elsewhere : ranges_of Memory m.index (r ∷ rs) ≡ ranges_of Memory m.index rs = ranges_elsewhere m.index r rs (of_memory m.index r kind ∙ e) in
-          ap (settle rs) (change_elsewhere r.slot.0 (decommitted_at r.range) m e) ∙ sym (ap (λ (l : List ByteRange). record m { slot = decommitted_all l m.slot }) elsewhere)
-    ]
-
-settle_all : (r : QueuedRange) (rs : List QueuedRange) (ms : List QueuedMemory) → r.kind ≡ Memory → map (settle rs) (map (change_at r.slot.0 (decommitted_at r.range)) ms) ≡ map (settle (r ∷ rs)) ms
-settle_all r rs [] kind = refl
-settle_all r rs (m ∷ ms) kind = rw (settle_first r rs m kind, settle_all r rs ms kind) refl
 
 clean_first : (r : QueuedRange) (rs : List QueuedRange) (m : QueuedMemory) → r.kind ≡ Memory → LeavesClean (r ∷ rs) m → LeavesClean rs (change_at r.slot.0 (decommitted_at r.range) m)
 clean_first r rs m kind c =
@@ -74,9 +58,6 @@ queue_first r rs q kind is =
       distinct = distinct_map f (change_index r.slot.0 (decommitted_at r.range)) q.memories is.distinct;
       each = each_map (LeavesClean (r ∷ rs)) (LeavesClean rs) f q.memories (λ m c. clean_first r rs m kind c) is.each;
     }
-
-pub settled_first : (r : QueuedRange) (rs : List QueuedRange) (q : QueueState) → r.kind ≡ Memory → settled (after_first_of (r ∷ rs) q) ≡ settled (record q { ranges = r ∷ rs })
-settled_first r rs q kind = settle_all r rs q.memories kind
 
 pub owners_first : (r : QueuedRange) (rs : List QueuedRange) (q : QueueState) → HasOwners (record q { ranges = r ∷ rs }) → HasOwners (after_first_of (r ∷ rs) q)
 owners_first r rs q owned = owned_map (change_at r.slot.0 (decommitted_at r.range)) (change_index r.slot.0 (decommitted_at r.range)) rs q.memories owned.1

@@ -1,12 +1,12 @@
 -- What the cell of a memory slot holds.
-use Rattle.std.specs.Prelude.{◌≡◌, ℕ, ◌-◌, ◌^◌, ◌+◌, List, min, sum_by, Bool, true, false, None, is_some}
+use Rattle.std.specs.Prelude.{◌≡◌, ℕ, ◌-◌, ◌^◌, List, map, min, sum_by, Bool, true, false, Option, is_some}
 use Rattle.pool_pages.specs.Count.{count, rounded_up}
 use Rattle.pool_pages.specs.Told.{Told}
-use Rattle.pool_pages.specs.MakerTold.{MakerTold, made_region, plan_for, no_calls}
+use Rattle.pool_pages.specs.MakerTold.{MakerTold, made_region, no_calls}
 use Rattle.pool_pages.specs.declared.pages.PageCalls.{PageCalls}
 use Rattle.pool_pages.specs.declared.pages.RegionName.TheVariants.{Memory}
 use Rattle.pool_pages.specs.declared.pages.DecommitBehavior.{DecommitBehavior}
-use Rattle.pool_images.specs.Slots.{Slot, IsClean}
+use Rattle.pool_images.specs.Slots.{Slot, SlotIdentity, IsClean, identity}
 
 -- the region as it was made, a slot of which nothing is known, a slot that was used and is clean, or nothing
 pub data Cell : Type 0 where
@@ -29,59 +29,57 @@ calls_in (previously_used slot) = slot.region.calls
 calls_in taken = no_calls
 
 -- a sum that stands still at the end of its type
-abbrev pub sum_at_most : (PageCalls → ℕ) → List Cell → ℕ
-sum_at_most of cells = min (sum_by (λ c. of (calls_in c)) cells) (2 ^ 64 - 1)
+abbrev pub sum_at_most : (PageCalls → ℕ) → List PageCalls → ℕ
+sum_at_most of calls = min (sum_by of calls) (2 ^ 64 - 1)
+
+-- the calls of several regions, together
+abbrev pub all_calls : List PageCalls → PageCalls
+all_calls calls = record {
+  expose = sum_at_most (λ c. c.expose) calls;
+  hide = sum_at_most (λ c. c.hide) calls;
+  map_image = sum_at_most (λ c. c.map_image) calls;
+  remap_zeros = sum_at_most (λ c. c.remap_zeros) calls;
+  erase = sum_at_most (λ c. c.erase) calls;
+  recolour = sum_at_most (λ c. c.recolour) calls;
+  decommit = sum_at_most (λ c. c.decommit) calls;
+}
 
 -- the calls on the regions of cells, together
 abbrev pub calls_of_all : List Cell → PageCalls
-calls_of_all cells = record {
-  expose = sum_at_most (λ c. c.expose) cells;
-  hide = sum_at_most (λ c. c.hide) cells;
-  map_image = sum_at_most (λ c. c.map_image) cells;
-  remap_zeros = sum_at_most (λ c. c.remap_zeros) cells;
-  erase = sum_at_most (λ c. c.erase) cells;
-  recolour = sum_at_most (λ c. c.recolour) cells;
-  decommit = sum_at_most (λ c. c.decommit) cells;
-}
-
--- two counts of calls together, each of which stands still at the end of its type
-abbrev pub both : ℕ → ℕ → ℕ
-both a b = min (a + b) (2 ^ 64 - 1)
-
-abbrev pub added : PageCalls → PageCalls → PageCalls
-added a b = record {
-  expose = both a.expose b.expose;
-  hide = both a.hide b.hide;
-  map_image = both a.map_image b.map_image;
-  remap_zeros = both a.remap_zeros b.remap_zeros;
-  erase = both a.erase b.erase;
-  recolour = both a.recolour b.recolour;
-  decommit = both a.decommit b.decommit;
-}
-
--- the region that the maker made for memory slot i
-pub record IsRegionOf (maker : MakerTold) (behaviour : DecommitBehavior) (static_size i : ℕ) (t : Told) : Type 0 where
-  pub name : t.name ≡ Memory i
-  pub page : t.page ≡ maker.page
-  pub len : t.len ≡ rounded_up maker.page static_size
-  pub behaves : t.behaviour ≡ behaviour
-  pub plan : t.plan ≡ plan_for (Memory i) maker
-  pub tells : is_some t.contents ≡ maker.tells
-
--- the image slot of memory slot i: it has the whole region
-pub record IsSlotOf (maker : MakerTold) (behaviour : DecommitBehavior) (static_size i : ℕ) (s : Slot) : Type 0 where
-  pub region : IsRegionOf maker behaviour static_size i s.region
-  pub base : s.base ≡ count maker.page 0
-  pub same_size : s.static_size ≡ static_size
-  pub colour : s.colour ≡ None
+calls_of_all cells = all_calls (map calls_in cells)
 
 -- the region of memory slot i as it is made
 abbrev pub region_made : MakerTold → DecommitBehavior → ℕ → ℕ → Told
 region_made maker behaviour static_size i = made_region (Memory i) behaviour (count maker.page 0) (count maker.page (rounded_up maker.page static_size)) maker
 
--- what the cell of memory slot i may hold: a slot that was used before is clean
-abbrev pub IsCell : MakerTold → DecommitBehavior → ℕ → ℕ → Cell → Type 0
-IsCell maker behaviour static_size i (unmapped region) = region ≡ region_made maker behaviour static_size i
-IsCell maker behaviour static_size i (unknown slot) = IsSlotOf maker behaviour static_size i slot
-IsCell maker behaviour static_size i (previously_used slot) = IsSlotOf maker behaviour static_size i slot × IsClean slot
-IsCell maker behaviour static_size i taken = Unit {0}
+-- what no call changes of the slot that is made of a region: it begins with the region, and has this colour
+abbrev pub identity_made : Told → Option ℕ → ℕ → SlotIdentity
+identity_made made colour static_size = record {
+  base = count made.page 0;
+  static_size = static_size;
+  colour = colour;
+  name = made.name;
+  page = made.page;
+  len = made.len;
+  behaviour = made.behaviour;
+  plan = made.plan;
+  tells = is_some made.contents;
+}
+
+-- the slot that was made of this region, with this colour
+pub record IsSlotOf (made : Told) (colour : Option ℕ) (static_size : ℕ) (s : Slot) : Type 0 where
+  pub same : identity s ≡ identity_made made colour static_size
+
+-- a slot that was used before is clean
+abbrev pub IsCleanOnceUsed : Cell → Type 0
+IsCleanOnceUsed (unmapped region) = Unit {0}
+IsCleanOnceUsed (unknown slot) = Unit {0}
+IsCleanOnceUsed (previously_used slot) = IsClean slot
+IsCleanOnceUsed taken = Unit {0}
+
+-- What the cell of a slot may hold: the region as it was made, or the slot that was made of it.
+abbrev pub IsCell : Told → Option ℕ → ℕ → Cell → Type 0
+IsCell made colour static_size (unmapped region) = region ≡ made
+IsCell made colour static_size (unknown slot) = IsSlotOf made colour static_size slot
+IsCell made colour static_size (previously_used slot) = IsSlotOf made colour static_size slot × IsClean slot
+IsCell made colour static_size taken = Unit {0}

@@ -17,6 +17,6 @@ abbrev pub fails_next : List ℕ → HeapsTold → Bool
 fails_next plan t = list_any (λ n. n == risen t.made) plan
 
 -- a fault raises the count, and want of memory leaves it
-abbrev pub RaisesFaults : ℕ → ℕ → HeapMakeFault → Type 0
-RaisesFaults old new Memory = new ≡ old
-RaisesFaults old new HeapFault = Rose old new
+abbrev pub RaisesHeapFaults : ℕ → ℕ → HeapMakeFault → Type 0
+RaisesHeapFaults old new Memory = new ≡ old
+RaisesHeapFaults old new HeapFault = Rose old new

@@ -1,5 +1,6 @@
 pub mod CellOf
 pub mod Cells
+pub mod Flushes
 pub mod HeapsTold
 pub mod Makings
 pub mod QueueOrders

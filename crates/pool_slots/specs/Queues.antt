@@ -1,13 +1,13 @@
 -- The decommit queue: ranges of slots that are to be decommitted, and the slots that go back to their pools once that is
 -- done.
-use Rattle.std.specs.Prelude.{◌≡◌, ℕ, ◌+◌, ◌^◌, ◌%◌, ◌≤◌, ◌==◌, ◌&&◌, ◌⊎◌, List, [], ◌∷◌, ◌++◌, length, map, filter, All, Bool, true, false, if◌then◌else◌, Option, None, Some, IfSome, is_some}
+use Rattle.std.specs.Prelude.{◌≡◌, ℕ, ◌+◌, ◌^◌, ◌%◌, ◌≤◌, ◌==◌, ◌&&◌, ◌⊎◌, List, [], ◌∷◌, ◌++◌, length, map, filter, All, Bool, true, false, if◌then◌else◌, Option, None, Some, IfSome}
 use Rattle.std.specs.List.{list_any, AllByRecursion, AllZip}
 use Rattle.pool_pages.specs.Contents.{IsIn, page_bytes, page_origin}
-use Rattle.pool_pages.specs.Told.{Rose, decommitting}
+use Rattle.pool_pages.specs.Told.{decommitting}
 use Rattle.pool_pages.specs.declared.pages.PageCalls.{PageCalls}
 use Rattle.pool_images.specs.declared.ranges.ByteRange.{ByteRange}
-use Rattle.pool_images.specs.Slots.{Slot, Fits, IsClean, IsLeft, IsPart, size_of, called, decommitted_all}
-use Rattle.pool_slots.specs.Cells.{unknown, calls_of_all}
+use Rattle.pool_images.specs.Slots.{Slot, IsSlot, IsClean, IsLeft, IsPart, CallFaulted, size_of, called, decommitted_all}
+use Rattle.pool_slots.specs.Cells.{all_calls}
 use Rattle.pool_slots.specs.declared.queued_range.QueueKind.{QueueKind}
 use Rattle.pool_slots.specs.declared.queued_range.QueueKind.TheVariants.{Memory, Table, Stack}
 use Rattle.pool_slots.specs.declared.queued_range.QueuedRange.{QueuedRange}
@@ -19,6 +19,11 @@ pub record QueuedMemory : Type 0 where
   pub slot : Slot
   pub known : Bool
   pub bytes : ℕ
+
+-- ranges in order, and room for so many
+pub record RangeList : Type 0 where
+  pub items : List QueuedRange
+  pub room : ℕ
 
 -- such slots in order, and room for so many
 pub record MemoryList : Type 0 where
@@ -44,8 +49,8 @@ abbrev pub empty_queue : ℕ → ℕ → QueueState
 empty_queue ranges slots = record { ranges = []; memories = []; range_room = ranges; slot_room = slots; takes = 0; appended = 0 }
 
 -- the queue without its ranges and slots
-abbrev pub emptied : QueueState → QueueState
-emptied q = record q { ranges = []; memories = [] }
+abbrev pub drained : QueueState → QueueState
+drained q = record q { ranges = []; memories = [] }
 
 abbrev pub same_kind : QueueKind → QueueKind → Bool
 same_kind Memory Memory = true
@@ -86,7 +91,7 @@ AreApart these those = AllByRecursion (λ m. holds m.index those ≡ false) thes
 
 -- The slot's ranges are whole pages of it, and once they are decommitted, a known slot is clean.
 pub record LeavesClean (ranges : List QueuedRange) (m : QueuedMemory) : Type 0 where
-  pub fits : m.known ≡ true → Fits m.slot
+  pub fits : m.known ≡ true → IsSlot m.slot
   pub parts : All (IsPart m.slot.region.page (size_of m.slot)) (ranges_of Memory m.index ranges)
   pub clean : m.known ≡ true → IsClean (decommitted_all (ranges_of Memory m.index ranges) m.slot)
   pub bytes : m.bytes ≤ 2 ^ 32
@@ -122,8 +127,8 @@ abbrev pub with_memory : QueuedMemory → QueueState → QueueState
 with_memory m q = record q { memories = q.memories ++ m ∷ []; appended = (q.appended + 1) % 2 ^ 64 }
 
 -- both queues' ranges and slots, in order
-abbrev pub joined : QueueState → QueueState → QueueState
-joined q more = record q { ranges = q.ranges ++ more.ranges; memories = q.memories ++ more.memories; appended = (q.appended + length more.memories) % 2 ^ 64 }
+abbrev pub after_append : QueueState → QueueState → QueueState
+after_append q more = record q { ranges = q.ranges ++ more.ranges; memories = q.memories ++ more.memories; appended = (q.appended + length more.memories) % 2 ^ 64 }
 
 -- the queue once it was taken, and the empty queue into which it was taken
 abbrev pub after_take : QueueState → QueueState
@@ -196,46 +201,6 @@ settle ranges m = record m { slot = decommitted_all (ranges_of Memory m.index ra
 abbrev pub settled : QueueState → List QueuedMemory
 settled q = map (settle q.ranges) q.memories
 
--- It is the slot of the same region, of which a call may have failed.
-pub record IsSameSlot (old new : Slot) : Type 0 where
-  pub base : new.base ≡ old.base
-  pub static_size : new.static_size ≡ old.static_size
-  pub colour : new.colour ≡ old.colour
-  pub name : new.region.name ≡ old.region.name
-  pub page : new.region.page ≡ old.region.page
-  pub len : new.region.len ≡ old.region.len
-  pub behaviour : new.region.behaviour ≡ old.region.behaviour
-  pub plan : new.region.plan ≡ old.region.plan
-  pub tells : is_some new.region.contents ≡ is_some old.region.contents
-  pub faults : (new.region.faults ≡ old.region.faults) ⊎ Rose old.region.faults new.region.faults
-
--- nothing is known of what the slot holds
-pub record IsLost (old new : QueuedMemory) : Type 0 where
-  pub index : new.index ≡ old.index
-  pub slot : IsSameSlot old.slot new.slot
-  pub known : new.known ≡ false
-  pub bytes : new.bytes ≡ old.bytes
-
--- a call on the slot's region failed, which its plan lists, where it tells one
-pub record HasFaulted (old new : QueuedMemory) : Type 0 where
-  pub rose : Rose old.slot.region.faults new.slot.region.faults
-  pub listed : IfSome old.slot.region.plan (λ plan. 1 ≤ length plan)
-
--- R holds of the items of two lists at some place
-abbrev pub AnyZip : {A B : Type 0} → (A → B → Type 0) → List A → List B → Type 0
-AnyZip R [] ys = ⊥
-AnyZip R (x ∷ xs) [] = ⊥
-AnyZip R (x ∷ xs) (y ∷ ys) = R x y ⊎ AnyZip R xs ys
-
--- a decommit failed, and nothing is known of any of the slots
-pub record AreLost (old items : List QueuedMemory) : Type 0 where
-  pub each : AllZip IsLost old items
-  pub some : AnyZip HasFaulted old items
-
--- what a flush gives back: each slot that the queue held, in order, after all its ranges, or after one failed
-abbrev pub IsFlushed : QueueState → List QueuedMemory → Type 0
-IsFlushed q items = (items ≡ settled q) ⊎ AreLost q.memories items
-
 -- a slot that goes back to its pool: it is clean where it is known
 pub record IsSettled (m : QueuedMemory) : Type 0 where
   pub clean : m.known ≡ true → IsClean m.slot
@@ -254,9 +219,10 @@ forgotten m = record m { known = false }
 abbrev pub decommitted_at : ByteRange → Slot → Slot
 decommitted_at r s = called (decommitting (s.base.bytes + r.start) r.len) s
 
-pub record IsLeftItem (old new : QueuedMemory) : Type 0 where
+pub record IsLeftItem (r : ByteRange) (old new : QueuedMemory) : Type 0 where
   pub index : new.index ≡ old.index
   pub slot : IsLeft old.slot new.slot
+  pub call : CallFaulted (decommitting (old.slot.base.bytes + r.start) r.len) old.slot new.slot
   pub known : new.known ≡ old.known
   pub bytes : new.bytes ≡ old.bytes
 
@@ -266,4 +232,4 @@ with_ranges slot ranges q = record q { ranges = q.ranges ++ map (λ r. record { 
 
 -- the calls on the regions of slots, together
 abbrev pub calls_held : List QueuedMemory → PageCalls
-calls_held memories = calls_of_all (map (λ m. unknown m.slot) memories)
+calls_held memories = all_calls (map (λ m. m.slot.region.calls) memories)

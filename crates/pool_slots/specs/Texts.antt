@@ -1,9 +1,9 @@
 -- The texts of refusals.
 use Rattle.std.specs.Prelude.{ℕ, List, ◌++◌, codes}
 use Rattle.std.specs.Fmt.{decimal}
-use Rattle.pool_slots.specs.declared.request.ConcurrencyKind.{ConcurrencyKind}
-use Rattle.pool_slots.specs.declared.request.ConcurrencyKind.TheVariants.{MemoryStripe, Tables, Fibers, GcHeaps, CoreInstances, ComponentInstances}
-use Rattle.pool_slots.specs.declared.request.PoolConcurrencyLimitError.{PoolConcurrencyLimitError}
+use Rattle.pool_slots.specs.declared.errors.ConcurrencyKind.{ConcurrencyKind}
+use Rattle.pool_slots.specs.declared.errors.ConcurrencyKind.TheVariants.{MemoryStripe, Tables, Fibers, GcHeaps, CoreInstances, ComponentInstances}
+use Rattle.pool_slots.specs.declared.errors.PoolConcurrencyLimitError.{PoolConcurrencyLimitError}
 
 abbrev pub kind_text : ConcurrencyKind → List ℕ
 kind_text (MemoryStripe stripe) = codes "memory stripe " ++ decimal stripe

@@ -1,6 +1,5 @@
 ghost use Rattle.std.specs.Prelude.{◌≡◌};
-ghost use Rattle.pool_pages.specs.MakerTold.{no_calls};
-ghost use Rattle.pool_slots.specs.Cells.{Cell, unmapped, taken, calls_in, added};
+ghost use Rattle.pool_slots.specs.Cells.{unmapped, taken, calls_in, IsCleanOnceUsed};
 ghost use Rattle.pool_slots.specs.CellOf.{cell_of};
 
 use pool_images::MemoryImageSlot;
@@ -35,6 +34,10 @@ impl<P: Pages> Model for MemoryCell<P> {
     ghost use Rattle.pool_slots.specs.CellOf.{cell_of};
 
     ghost view = { λ c. cell_of c.slot };
+
+    ghost use Rattle.pool_slots.specs.Cells.{IsCleanOnceUsed};
+
+    ghost invariant = { λ c. IsCleanOnceUsed (cell_of c.slot) };
 }
 
 impl<P: Pages> MemoryCell<P> {
@@ -49,6 +52,7 @@ impl<P: Pages> MemoryCell<P> {
     /// Takes out what the cell holds.
     pub fn take(&mut self) -> ImageSlot<P>
         ensures value { cell_of result ≡ self.old }
+        ensures clean { IsCleanOnceUsed self.old }
         ensures empty { self.new ≡ taken }
     {
         mem::replace(&mut self.slot, ImageSlot::Taken)
@@ -56,6 +60,7 @@ impl<P: Pages> MemoryCell<P> {
 
     /// Puts a slot into the cell, in place of what it holds.
     pub fn put(&mut self, slot: ImageSlot<P>)
+        requires { IsCleanOnceUsed (cell_of slot) }
         ensures { self.new ≡ cell_of slot }
     {
         self.slot = slot;
@@ -69,37 +74,7 @@ impl<P: Pages> MemoryCell<P> {
             ImageSlot::Unmapped(region) => region.calls(),
             ImageSlot::Unknown(slot) => slot.region().calls(),
             ImageSlot::PreviouslyUsed(slot) => slot.region().calls(),
-            ImageSlot::Taken => no_calls(),
+            ImageSlot::Taken => PageCalls::none(),
         }
-    }
-}
-
-/// No calls.
-pub fn no_calls() -> PageCalls
-    ensures { result ≡ no_calls }
-{
-    PageCalls {
-        expose: 0,
-        hide: 0,
-        map_image: 0,
-        remap_zeros: 0,
-        erase: 0,
-        recolour: 0,
-        decommit: 0,
-    }
-}
-
-/// The calls of both, each count of which stands still at the end of its type.
-pub fn add_calls(a: PageCalls, b: PageCalls) -> PageCalls
-    ensures { result ≡ added a b }
-{
-    PageCalls {
-        expose: a.expose.saturating_add(b.expose),
-        hide: a.hide.saturating_add(b.hide),
-        map_image: a.map_image.saturating_add(b.map_image),
-        remap_zeros: a.remap_zeros.saturating_add(b.remap_zeros),
-        erase: a.erase.saturating_add(b.erase),
-        recolour: a.recolour.saturating_add(b.recolour),
-        decommit: a.decommit.saturating_add(b.decommit),
     }
 }

@@ -1,21 +1,21 @@
 ghost use Rattle.std.specs.Prelude.{◌≡◌, ◌+◌, ◌<◌, ◌≤◌, ◌==◌, ◌^◌, [], ◌∷◌, ◌++◌, length, ℕ, List, nat_lt, false, true, is_ok, IfOk, IfSome, OnOk, OnErr, MatchOption, slice_index_or};
 ghost use Rattle.std.specs.List.{HoldsAt};
 ghost use Rattle.pool_images.specs.declared.ranges.ByteRange.{ByteRange};
-ghost use Rattle.pool_slots.specs.Queues.{QueuedMemory, QueueState, empty_queue, emptied, is_held, holds, HasOwners, AreDistinct, AreApart, LeavesClean, ForgetsNothing, with_range, with_ranges, with_memory, joined, after_take, taken_into, IsSpareOf, after_run, after_run_of, IsFaulted, IsFlushed, AreSettled, IsSettled, calls_held, first_slot};
+ghost use Rattle.pool_slots.specs.Queues.{QueuedMemory, QueueState, empty_queue, drained, is_held, holds, HasOwners, AreDistinct, AreApart, LeavesClean, ForgetsNothing, with_range, with_ranges, with_memory, after_append, after_take, taken_into, IsSpareOf, after_run, after_run_of, IsFaulted, AreSettled, IsSettled, calls_held, first_slot};
+ghost use Rattle.pool_slots.specs.Flushes.{IsFlushed};
 ghost use Rattle.pool_slots.specs.QueueOrders.{run_of, first_of, AreInOrder};
-ghost use Rattle.pool_slots.specs.QueueSteps.{begins_with, after_first};
+ghost use Rattle.pool_slots.specs.QueueSteps.{begins_with, after_first, FirstFailed};
 ghost use Rattle.pool_slots.specs.declared.queued_range.QueueKind.TheVariants.{Memory};
 
-use crate::cells::{add_calls, no_calls};
+use crate::allocation_index::MemoryAllocationIndex;
 use crate::memory_items::{MemoryItem, MemoryItems};
 use crate::queued_range::{QueueKind, QueuedRange};
-use crate::request::MemoryAllocationIndex;
+use crate::range_items::RangeItems;
 use crate::slot_return::SlotReturn;
 use pool_images::{ByteRange, MemoryImageSlot};
 use pool_index::SlotId;
 use pool_pages::{HostAlignedByteCount, PageCalls, PageFault, Pages};
 use std::alloc::{AllocError, Global};
-use std::collections::VecDeque;
 use std::marker::Model;
 use std::mem;
 
@@ -26,9 +26,8 @@ use std::mem;
 /// `decommit_run` for each run of ranges of one slot, and then one `pop_memory` for each slot.
 #[derive(Drop)]
 pub struct DecommitQueue<P: Pages> {
-    ranges: VecDeque<QueuedRange>,
+    ranges: RangeItems,
     memories: MemoryItems<P>,
-    range_room: usize,
     // Where the search for the slot of a run begins.
     cursor: usize,
     takes: u64,
@@ -36,15 +35,13 @@ pub struct DecommitQueue<P: Pages> {
 }
 
 impl<P: Pages> Model for DecommitQueue<P> {
-    ghost use Rattle.std.specs.VecDeque.{deque_capacity};
-    ghost use Rattle.pool_slots.specs.Queues.{QueueState};
-    ghost use Rattle.pool_slots.specs.QueueSteps.{IsQueueWithin};
+    ghost use Rattle.pool_slots.specs.Queues.{QueueState, IsQueue};
 
     ghost Value = { QueueState };
 
-    ghost view = { λ q. record { ranges = q.ranges.items; memories = q.memories.items; range_room = q.range_room; slot_room = q.memories.room; takes = q.takes; appended = q.appended } };
+    ghost view = { λ q. record { ranges = q.ranges.items; memories = q.memories.items; range_room = q.ranges.room; slot_room = q.memories.room; takes = q.takes; appended = q.appended } };
 
-    ghost invariant = { λ q. IsQueueWithin (deque_capacity q.ranges) (record { ranges = q.ranges.items; memories = q.memories.items; range_room = q.range_room; slot_room = q.memories.room; takes = q.takes; appended = q.appended }) };
+    ghost invariant = { λ q. IsQueue (record { ranges = q.ranges.items; memories = q.memories.items; range_room = q.ranges.room; slot_room = q.memories.room; takes = q.takes; appended = q.appended }) };
 }
 
 impl<P: Pages> DecommitQueue<P> {
@@ -53,11 +50,10 @@ impl<P: Pages> DecommitQueue<P> {
         ensures { IfOk result (λ q. q ≡ empty_queue ranges slots) }
     {
         let memories = MemoryItems::new(alloc, slots)?;
-        let list = VecDeque::with_capacity(alloc, ranges)?;
+        let ranges = RangeItems::new(alloc, ranges)?;
         Ok(DecommitQueue {
-            ranges: list,
+            ranges,
             memories,
-            range_room: ranges,
             cursor: 0,
             takes: 0,
             appended: 0,
@@ -103,7 +99,7 @@ impl<P: Pages> DecommitQueue<P> {
         requires not_held { is_held range.kind range.slot.0 self.old.memories ≡ false }
         ensures { self.new ≡ with_range range self.old }
     {
-        self.ranges.push_back_reserved(range);
+        self.ranges.push(range);
     }
 
     /// Takes a slot that is clean once the ranges that were pushed for it are decommitted, and that keeps so many bytes
@@ -128,11 +124,21 @@ impl<P: Pages> DecommitQueue<P> {
         self.appended = self.appended.wrapping_add(1);
     }
 
+    /// What holds of each queue, for a proof to cite: nothing of a known slot is forgotten. It does nothing.
+    pub fn queue_law(&self)
+        ensures forgets_nothing { ForgetsNothing self.now }
+        ensures distinct { AreDistinct self.now.memories }
+        ensures range_room { length self.now.ranges ≤ self.now.range_room }
+        ensures slot_room { length self.now.memories ≤ self.now.slot_room }
+    {
+        // A read, at which the proof learns what the queue keeps.
+        let _ranges = self.ranges.len();
+    }
+
     /// The number of ranges.
     pub fn raw_len(&self) -> usize
         ensures value { result ≡ length self.now.ranges }
         ensures within { length self.now.ranges ≤ self.now.range_room }
-        ensures forgets_nothing { ForgetsNothing self.now }
     {
         self.ranges.len()
     }
@@ -150,9 +156,9 @@ impl<P: Pages> DecommitQueue<P> {
     pub fn page_calls(&self) -> PageCalls
         ensures { result ≡ calls_held self.now.memories }
     {
-        let mut calls = no_calls();
+        let mut calls = PageCalls::none();
         for at in 0..self.memories.len() {
-            calls = add_calls(calls, self.memories.get(at).page_calls());
+            calls = calls.plus(self.memories.get(at).page_calls());
         }
         calls
     }
@@ -164,26 +170,34 @@ impl<P: Pages> DecommitQueue<P> {
         requires owners { HasOwners self.old }
         requires other_owners { HasOwners other.old }
         requires apart { AreApart self.old.memories other.old.memories }
-        ensures joined { self.new ≡ joined self.old other.old }
-        ensures empty { other.new ≡ emptied other.old }
+        ensures joined { self.new ≡ after_append self.old other.old }
+        ensures empty { other.new ≡ drained other.old }
         ensures owners { HasOwners self.new }
     {
         self.appended = self.appended.wrapping_add(other.memories.len() as u64);
         self.memories.append(&mut other.memories);
-        let Ok(()) = self.ranges.append(&mut other.ranges) else {
-            unreachable!()
-        };
+        self.ranges.append(&mut other.ranges);
     }
 
-    /// Takes all ranges and slots at once, into an empty queue with the same room.
+    /// Takes all ranges and slots at once, into an empty queue with the same room, and counts the take.
     pub fn take(&mut self, spare: &mut DecommitQueue<P>)
         requires { IsSpareOf self.old spare.old }
         ensures after { self.new ≡ after_take self.old }
         ensures taken { spare.new ≡ taken_into spare.old self.old }
     {
+        self.swap(spare);
+        self.takes = self.takes.wrapping_add(1);
+    }
+
+    /// Moves all ranges and slots into an empty queue with the same room, as a merge does that makes a batch full. It
+    /// doesn't count as a take.
+    pub fn swap(&mut self, spare: &mut DecommitQueue<P>)
+        requires { IsSpareOf self.old spare.old }
+        ensures after { self.new ≡ drained self.old }
+        ensures taken { spare.new ≡ taken_into spare.old self.old }
+    {
         mem::swap(&mut self.ranges, &mut spare.ranges);
         mem::swap(&mut self.memories, &mut spare.memories);
-        self.takes = self.takes.wrapping_add(1);
     }
 
     /// Decommits the ranges at the front that are of one slot, in order. Ranges of no length make no page call. Where a
@@ -209,7 +223,10 @@ impl<P: Pages> DecommitQueue<P> {
         requires { 0 < length self.now.ranges }
         ensures { result.0 ≡ first_slot self.now.ranges }
     {
-        self.ranges[0].slot
+        let Some(first) = self.ranges.first() else {
+            unreachable!()
+        };
+        first.slot
     }
 
     fn begin_at(&mut self, at: usize)
@@ -272,6 +289,7 @@ impl<P: Pages> DecommitQueue<P> {
         requires index { HoldsAt (λ m. begins_with m.index self.old.ranges ≡ true) self.old.memories at }
         ensures ok { OnOk result (self.new ≡ after_first self.old) }
         ensures err { OnErr result (IsFaulted self.old self.new) }
+        ensures failed { OnErr result (FirstFailed self.old.ranges self.old.memories self.new.memories) }
         ensures order { AreInOrder (first_slot self.old.ranges) (first_of self.old.ranges) (is_ok result) self.old.memories self.new.memories }
     {
         let Some(first) = self.ranges.pop_front() else {
@@ -295,10 +313,35 @@ impl<P: Pages> DecommitQueue<P> {
         ensures same { self.new ≡ record self.old { ranges = []; memories = self.new.memories } }
     {
         while self.raw_len() > 0 {
-            let Ok(()) = self.decommit_run() else {
+            let Ok(()) = self.decommit_next() else {
                 return;
             };
         }
+    }
+
+    // Decommits the first range.
+    fn decommit_next(&mut self) -> Result<(), PageFault>
+        requires some { 0 < length self.old.ranges }
+        requires owners { HasOwners self.old }
+        ensures ok { OnOk result (self.new ≡ after_first self.old) }
+        ensures err { OnErr result (IsFaulted self.old self.new) }
+        ensures failed { OnErr result (FirstFailed self.old.ranges self.old.memories self.new.memories) }
+        ensures order { AreInOrder (first_slot self.old.ranges) (first_of self.old.ranges) (is_ok result) self.old.memories self.new.memories }
+    {
+        let at = self.place_of_first();
+        self.begin_at(at);
+        self.decommit_first(at)
+    }
+
+    // The place of the slot that the first range is of.
+    fn place_of_first(&self) -> usize
+        requires some { 0 < length self.now.ranges }
+        requires owners { HasOwners self.now }
+        ensures inside { result < length self.now.memories }
+        ensures index { HoldsAt (λ m. begins_with m.index self.now.ranges ≡ true) self.now.memories result }
+    {
+        let slot = self.first_slot();
+        self.place_of(slot)
     }
 
     // Gives all slots back to their pool.
@@ -316,7 +359,7 @@ impl<P: Pages> DecommitQueue<P> {
     fn continues(&self, slot: SlotId) -> bool
         ensures { result ≡ begins_with slot.0 self.now.ranges }
     {
-        match self.ranges.front() {
+        match self.ranges.first() {
             Some(range) => range.kind == QueueKind::Memory && range.slot == slot,
             None => false,
         }
@@ -338,7 +381,7 @@ impl<P: Pages> DecommitQueue<P> {
         requires owners { HasOwners self.old }
         requires accepted { (items : List QueuedMemory) → IsFlushed self.old items → D.accepts items pool.old }
         ensures value { result ≡ nat_lt 0 (length self.old.memories) }
-        ensures empty { self.new ≡ emptied self.old }
+        ensures empty { self.new ≡ drained self.old }
         ensures returned { result ≡ true → (items : List QueuedMemory) × IsFlushed self.old items × D.returns items pool.old pool.new }
         ensures same { result ≡ false → pool.new ≡ pool.old }
     {

@@ -1,6 +1,6 @@
 ghost use Rattle.std.specs.Prelude.{◌≡◌, Bool, Err, None, false, true, IfOk, IfSome, MatchResult};
 ghost use Rattle.pool_pages.specs.Told.{risen};
-ghost use Rattle.pool_slots.specs.HeapsTold.{HeapsTold, RaisesFaults, fails_next};
+ghost use Rattle.pool_slots.specs.HeapsTold.{HeapsTold, RaisesHeapFaults, fails_next};
 
 use std::alloc::Global;
 
@@ -37,7 +37,7 @@ pub trait HeapMaker {
     fn new_gc_heap(&mut self, alloc: Global) -> Result<Self::Heap, HeapMakeFault>
         ensures heap { IfOk result (λ heap. Self.Heap.attached heap ≡ false) }
         ensures maker { told self.new ≡ record (told self.old) { made = risen (told self.old).made; faults = (told self.new).faults } }
-        ensures faults { MatchResult result (λ _. (told self.new).faults ≡ (told self.old).faults) (RaisesFaults (told self.old).faults (told self.new).faults) }
+        ensures faults { MatchResult result (λ _. (told self.new).faults ≡ (told self.old).faults) (RaisesHeapFaults (told self.old).faults (told self.new).faults) }
         ensures planned { IfSome (told self.old).plan (λ plan. MatchResult result (λ _. fails_next plan (told self.old) ≡ false) (λ e. e ≡ HeapMakeFault.HeapFault → fails_next plan (told self.old) ≡ true)) };
 }
 

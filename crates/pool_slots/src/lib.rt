@@ -1,24 +1,23 @@
 //! The cells of memory slots, the queue of slots on their way back, makers of heaps, and why a pool refuses.
 #![tactic(auto)]
 
+mod allocation_index;
 mod cells;
 mod decommit_queue;
+mod errors;
 mod heap_maker;
 mod making;
 mod memory_items;
-#[cfg(test)]
-mod queue_tests;
 mod queued_range;
-mod request;
+mod range_items;
 mod slot_return;
 
-pub use cells::{ImageSlot, MemoryCell, add_calls, no_calls};
+pub use allocation_index::MemoryAllocationIndex;
+pub use cells::{ImageSlot, MemoryCell};
 pub use decommit_queue::DecommitQueue;
+pub use errors::{AllocError, ConcurrencyKind, PoolConcurrencyLimitError, PoolNewError};
 pub use heap_maker::{GcHeap, HeapMakeFault, HeapMaker, NoHeap, NoHeaps};
 pub use making::make_cells;
 pub use memory_items::{MemoryItem, MemoryItems};
 pub use queued_range::{QueueKind, QueuedRange};
-pub use request::{
-    AllocError, ConcurrencyKind, MemoryAllocationIndex, PoolConcurrencyLimitError, PoolNewError,
-};
 pub use slot_return::SlotReturn;

@@ -1,12 +1,12 @@
 ghost use Rattle.std.specs.Prelude.{◌≡◌, ◌+◌, ◌<◌, ◌≤◌, ◌==◌, [], ◌∷◌, ◌++◌, length, List, map, slice_index_or, slice_set, is_ok, IfOk, OnOk, OnErr};
 ghost use Rattle.std.specs.List.{HoldsAt};
 ghost use Rattle.pool_images.specs.Orders.{Follows};
-ghost use Rattle.pool_images.specs.Slots.{IsPart, IsLeft, called, size_of};
+ghost use Rattle.pool_images.specs.Slots.{IsPart, IsLeft, CallFaulted, called, size_of};
 ghost use Rattle.pool_pages.specs.Told.{decommitting};
 ghost use Rattle.pool_slots.specs.Queues.{QueuedMemory, TakesFirst, decommitted_at, forgotten, IsLeftItem};
 ghost use Rattle.pool_slots.specs.QueueOrders.{decommits};
 
-use crate::request::MemoryAllocationIndex;
+use crate::allocation_index::MemoryAllocationIndex;
 use pool_images::{ByteRange, MemoryImageSlot};
 use pool_pages::{HostAlignedByteCount, PageCalls, PageFault, Pages};
 use std::alloc::{AllocError, Global};
@@ -43,7 +43,7 @@ impl<P: Pages> MemoryItem<P> {
     fn decommit(&mut self, range: ByteRange) -> Result<(), PageFault>
         requires { IsPart self.old.slot.region.page (size_of self.old.slot) range }
         ensures ok { OnOk result (self.new ≡ record self.old { slot = decommitted_at range self.old.slot }) }
-        ensures err { OnErr result (IsLeftItem self.old self.new) }
+        ensures err { OnErr result (IsLeftItem range self.old self.new) }
         ensures order { Follows (decommits self.old.slot.base.bytes (range ∷ [])) (is_ok result) self.old.slot.region self.new.slot.region }
     {
         decommit_one(&mut self.slot, range)
@@ -127,7 +127,7 @@ impl<P: Pages> MemoryItems<P> {
         requires inside { at < length self.old.items }
         requires part { HoldsAt (λ m. IsPart m.slot.region.page (size_of m.slot) range) self.old.items at }
         ensures ok { OnOk result (HoldsAt (λ m. self.new ≡ record self.old { items = slice_set self.old.items at (record m { slot = decommitted_at range m.slot }) }) self.old.items at) }
-        ensures err { OnErr result (HoldsAt (λ m. (n : QueuedMemory) × IsLeftItem m n × (self.new ≡ record self.old { items = slice_set self.old.items at n })) self.old.items at) }
+        ensures err { OnErr result (HoldsAt (λ m. (n : QueuedMemory) × IsLeftItem range m n × (self.new ≡ record self.old { items = slice_set self.old.items at n })) self.old.items at) }
         ensures order { HoldsAt (λ m. HoldsAt (λ n. Follows (decommits m.slot.base.bytes (range ∷ [])) (is_ok result) m.slot.region n.slot.region) self.new.items at) self.old.items at }
     {
         let item = &mut self.list[at];
@@ -138,22 +138,18 @@ impl<P: Pages> MemoryItems<P> {
     pub(crate) fn forget(&mut self)
         ensures { self.new ≡ record self.old { items = map forgotten self.old.items } }
     {
-        for _ in 0..self.list.len() {
-            self.forget_first();
+        for at in 0..self.list.len() {
+            self.forget_at(at);
         }
     }
 
-    // Moves the first to the end, and forgets what is known of it.
-    fn forget_first(&mut self)
-        requires { 0 < length self.old.items }
-        ensures items { (m : QueuedMemory) (rest : List QueuedMemory) → self.old.items ≡ m ∷ rest → self.new.items ≡ rest ++ forgotten m ∷ [] }
-        ensures room { self.new.room ≡ self.old.room }
+    // Nothing is known of the slot at a place from now on.
+    fn forget_at(&mut self, at: usize)
+        requires { at < length self.old.items }
+        ensures { HoldsAt (λ m. self.new ≡ record self.old { items = slice_set self.old.items at (forgotten m) }) self.old.items at }
     {
-        let Some(mut item) = self.list.pop_front() else {
-            unreachable!()
-        };
+        let item = &mut self.list[at];
         item.known = false;
-        self.list.push_back_reserved(item);
     }
 }
 
@@ -179,6 +175,7 @@ fn decommit_one<P: Pages>(slot: &mut MemoryImageSlot<P>, range: ByteRange) -> Re
     requires { IsPart slot.old.region.page (size_of slot.old) range }
     ensures ok { OnOk result (slot.new ≡ called (decommitting (slot.old.base.bytes + range.start) range.len) slot.old) }
     ensures err { OnErr result (IsLeft slot.old slot.new) }
+    ensures fault { OnErr result (CallFaulted (decommitting (slot.old.base.bytes + range.start) range.len) slot.old slot.new) }
     ensures order { Follows (decommits slot.old.base.bytes (range ∷ [])) (is_ok result) slot.old.region slot.new.region }
 {
     let page = slot.region().page();

@@ -1,3 +1,5 @@
+ghost use Rattle.std.specs.Prelude.{◌≡◌};
+
 use pool_images::ByteRange;
 use pool_index::SlotId;
 
@@ -15,4 +17,17 @@ pub struct QueuedRange {
     pub kind: QueueKind,
     pub slot: SlotId,
     pub range: ByteRange,
+}
+
+impl Default for QueuedRange {
+    ghost is_default = { λ r. r.range.len ≡ 0 };
+
+    /// A range of no length, which stands where a list has none.
+    fn default() -> Self {
+        QueuedRange {
+            kind: QueueKind::Memory,
+            slot: SlotId(0),
+            range: ByteRange::default(),
+        }
+    }
 }

@@ -1,5 +1,5 @@
 use Rattle.std.proofs.Common.{length}
-use Rattle.pool_slots.proofs.QueueRuns.{IsFlushing}
+use Rattle.pool_slots.proofs.Flushing.{IsFlushing}
 use Rattle.pool_slots.proofs.decommit_queue.DecommitQueue.decommit_all.Given as goal
 
 abbrev pub invariant-loop-self : goal.invariant-loop-self

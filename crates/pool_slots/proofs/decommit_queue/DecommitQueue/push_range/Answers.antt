@@ -5,8 +5,5 @@ use Rattle.pool_slots.proofs.decommit_queue.DecommitQueue.push_range.Goals as go
 pub invariant_of-self : goal.invariant_of-self
 invariant_of-self g c =
     let i = c.self.inside in
-    let q : QueueState = record { ranges = i.ranges.items; memories = i.memories.items; range_room = i.range_room; slot_room = i.memories.room; takes = i.takes; appended = i.appended } in
-    record {
-      queue = rw c.push_back_reserved.ensures.items (queue_range c.args.range q c.self.invariant.queue (rw (← c.self.view_is) at c.requires.room) (rw (← c.self.view_is) at c.requires.not_held));
-      reserved = rw c.push_back_reserved.ensures.capacity c.self.invariant.reserved;
-    }
+    let q : QueueState = record { ranges = i.ranges.items; memories = i.memories.items; range_room = i.ranges.room; slot_room = i.memories.room; takes = i.takes; appended = i.appended } in
+    rw c.push.ensures (queue_range c.args.range q c.self.invariant (rw (← c.self.view_is) at c.requires.room) (rw (← c.self.view_is) at c.requires.not_held))

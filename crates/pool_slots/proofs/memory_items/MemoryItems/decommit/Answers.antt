@@ -30,5 +30,5 @@ returns-clause-err g c =
     let m : QueuedMemory = c.index_mut-item.result.now in
     let inside : c.args.at < length xs = rw (← c.self.view_is) at c.requires.inside in
     let read : (d : QueuedMemory) → m ≡ slice_index_or xs c.args.at d = λ d. get_or_read xs c.args.at m inside c.index_mut-item.ensures.value d in
-    let L : QueuedMemory → Type 0 = λ x. IsLeftItem x c.decommit.new.self in
+    let L : QueuedMemory → Type 0 = λ x. IsLeftItem c.args.range x c.decommit.new.self in
     rw (← c.self.view_is) (on_err_weaker c.decommit.result (λ e d. (c.decommit.new.self, subst L (read d) e, refl)) c.decommit.ensures.err)

@@ -3,10 +3,10 @@ use Rattle.std.specs.Prelude.{map}
 use Rattle.pool_slots.specs.Queues.{forgotten}
 use Rattle.pool_slots.proofs.memory_items.MemoryItems.forget.Given as goal
 
--- the first ones stand behind the others, and are forgotten
-abbrev pub invariant-loop : goal.invariant-loop
-invariant-loop g l = record {
-  items : l.self.items ≡ drop l.counter l.fn.self.items ++ map forgotten (take l.counter l.fn.self.items);
+-- the first ones are forgotten
+abbrev pub invariant-loop-at : goal.invariant-loop-at
+invariant-loop-at g l = record {
+  items : l.self.items ≡ map forgotten (take l.at l.fn.self.items) ++ drop l.at l.fn.self.items;
   room : l.self.room ≡ l.fn.self.room;
-  all : l.end ≡ length l.fn.self.items;
+  all : l.at-end ≡ length l.fn.self.items;
 }

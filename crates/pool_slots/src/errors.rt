@@ -1,4 +1,4 @@
-ghost use Rattle.std.specs.Prelude.{◌≡◌, Some};
+ghost use Rattle.std.specs.Prelude.{Some};
 ghost use Rattle.pool_slots.specs.Texts.{kind_text, limit_text};
 
 use pool_limits::LimiterError;
@@ -61,12 +61,18 @@ pub enum AllocError {
     Unsupported(Unsupported),
     /// No slot is free, or a counter is at its limit.
     Limit(PoolConcurrencyLimitError),
+    /// The pool's stacks have no bytes.
+    StacksDisabled,
+    /// No collector is set.
+    HeapsDisabled,
     /// The limiter said no to a memory of `min` pages of its own, or to a table of `min` elements.
     LimiterDenied { table: bool, min: u64 },
     /// The limiter answered an error.
     LimiterFault(LimiterError),
     /// A call on the pages of the slot failed.
     PageFault,
+    /// The heap couldn't be made.
+    HeapFault,
 }
 
 /// Why a pool can't be made.
@@ -76,27 +82,4 @@ pub enum PoolNewError {
     /// A region couldn't be made, or a call on it failed.
     PageFault,
     Memory,
-}
-
-/// The slot that a memory is in.
-#[derive(Clone, Copy, Debug, PartialEq, Eq, PartialOrd, Ord, Hash)]
-pub struct MemoryAllocationIndex(pub u32);
-
-impl MemoryAllocationIndex {
-    pub fn index(self) -> usize
-        ensures { result ≡ self.0 }
-    {
-        self.0 as usize
-    }
-}
-
-impl Default for MemoryAllocationIndex {
-    ghost use Rattle.std.specs.Prelude.{◌≡◌};
-
-    ghost is_default = { λ i. i.0 ≡ 4294967295 };
-
-    /// The index of a memory that is in no slot.
-    fn default() -> Self {
-        MemoryAllocationIndex(u32::MAX)
-    }
 }
