@@ -1,0 +1,10 @@
+pub mod Accesses
+pub mod Copies
+pub mod Fresh
+pub mod Growths
+pub mod Kept
+pub mod Listed
+pub mod Made
+pub mod Stored
+pub mod Words
+pub mod Zeros

@@ -1,0 +1,6 @@
+pub mod Elements
+pub mod Growing
+pub mod Making
+pub mod Stores
+pub mod TableStates
+pub mod Tables

@@ -1,0 +1,78 @@
+ghost use Rattle.std.specs.Prelude.{◌≡◌, ◌==◌, is_ok, not, IfSome, OnOk, OnErr};
+ghost use Rattle.std.specs.List.{list_any};
+ghost use Rattle.pool_pages.specs.Told.{risen};
+ghost use Rattle.pool_table.specs.Stores.{StoreTold, store_called, store_passes, StoreFaulted, listed_store};
+
+use pool_limits::Trap;
+use pool_pages::PlainList;
+
+/// A call on a store failed.
+#[derive(Clone, Copy, Debug, PartialEq, Eq)]
+pub struct GcStoreFault;
+
+/// Why a GC reference isn't written to a table.
+#[derive(Clone, Copy, Debug, PartialEq, Eq)]
+pub enum GcTableError {
+    Trap(Trap),
+    /// The call on the store failed that comes before the write.
+    GcStoreFault,
+}
+
+/// The store of a collector: it is told of each reference that is written, and may fail then.
+pub trait GcStore {
+    ghost told: { Self → StoreTold };
+
+    /// How many calls have failed. Never falls.
+    fn faults(&self) -> u64
+        ensures { result ≡ (told self.now).faults };
+
+    /// One reference is about to take the place of another.
+    fn write_gc_ref(&mut self, old: Option<u32>, new: Option<u32>) -> Result<(), GcStoreFault>
+        ensures ok { OnOk result (told self.new ≡ store_called (told self.old)) }
+        ensures fault { OnErr result (StoreFaulted (told self.old) (told self.new)) }
+        ensures planned { IfSome (told self.old).plan (λ plan. store_passes plan (told self.old) ≡ is_ok result) };
+}
+
+/// A store with a list of the numbers of its calls that fail. Its calls are numbered from 1.
+#[derive(Debug, Drop)]
+pub struct ListedStore {
+    failing: PlainList<u64>,
+    made: u64,
+    faults: u64,
+}
+
+impl ListedStore {
+    /// No call was made on it yet. Takes no memory.
+    pub fn new(failing: PlainList<u64>) -> Self
+        ensures { ⟦<ListedStore as GcStore>⟧.told result ≡ listed_store failing 0 0 }
+    {
+        ListedStore {
+            failing,
+            made: 0,
+            faults: 0,
+        }
+    }
+}
+
+fn lists(listed: &[u64], number: u64) -> bool
+    ensures { result ≡ list_any (λ n. n == number) listed.now }
+{
+    listed.iter().any(|&call| call == number)
+}
+
+impl GcStore for ListedStore {
+    ghost told = { λ s. listed_store s.failing s.made s.faults };
+
+    fn faults(&self) -> u64 {
+        self.faults
+    }
+
+    fn write_gc_ref(&mut self, _old: Option<u32>, _new: Option<u32>) -> Result<(), GcStoreFault> {
+        self.made = self.made.saturating_add(1);
+        if lists(self.failing.as_slice(), self.made) {
+            self.faults = self.faults.saturating_add(1);
+            return Err(GcStoreFault);
+        }
+        Ok(())
+    }
+}
