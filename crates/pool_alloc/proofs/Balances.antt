@@ -4,12 +4,12 @@ use Rattle.std.specs.Prelude.{if◌then◌else◌, nat_lt, ◌==◌}
 use Rattle.pool_index.specs.Shard.{ShardState}
 use Rattle.pool_slots.specs.Cells.{Cell}
 use Rattle.pool_slots.specs.Queues.{QueueState}
-use Rattle.pool_slots.specs.declared.request.AllocError.{AllocError}
+use Rattle.pool_slots.specs.declared.errors.AllocError.{AllocError}
 use Rattle.pool_alloc.specs.Leases.{Lease}
 use Rattle.pool_alloc.specs.Reserved.{no_room}
 use Rattle.pool_alloc.specs.Places.{Thing, leased_count, queued_count, freed_count, kept_count, phase_count, frame_count, phase_instances, frame_memories}
-use Rattle.pool_alloc.specs.Steps.{After, memories_asked, with_shard, with_cell, with_queue, goes, give_back_next, refuses, allocate_next, flushes, after_flush, no_slot}
-use Rattle.pool_alloc.specs.Stepping.{Conserves, IsSameSize, granted, grant_count, grant_instances, grant_memories}
+use Rattle.pool_alloc.specs.Steps.{After, memories_wanted, with_shard, with_cell, with_queue, goes, give_back_next, refuses, allocate_next, flushes, after_flush, none_picked}
+use Rattle.pool_alloc.specs.Stepping.{Conserves, IsSameSize, count_granted, grant_count, grant_instances, grant_memories}
 use Rattle.pool_alloc.specs.declared.pool_core.PoolCore.{PoolCore}
 use Rattle.pool_alloc.specs.declared.pool_core.Settings.{Settings}
 use Rattle.pool_alloc.specs.declared.frame.Ending.TheVariants as ending
@@ -81,9 +81,9 @@ module _ {P : Type 0} where
 
   -- what a step leaves has the same sums
   pub record Balances (s : Sums) (a : After P) : Type 0 where
-    pub places : (t : Thing) → kept_count t a.core + (frame_count t a.frame + granted (grant_count t) a.outcome) ≡ s.places t
-    pub instances : a.core.counters.core_instances + s.own_instances ≡ s.instances + (phase_instances a.frame.phase + granted grant_instances a.outcome)
-    pub memories : a.core.counters.memories + s.own_memories ≡ s.memories + (frame_memories a.frame + granted grant_memories a.outcome)
+    pub places : (t : Thing) → kept_count t a.core + (frame_count t a.frame + count_granted (grant_count t) a.outcome) ≡ s.places t
+    pub instances : a.core.counters.core_instances + s.own_instances ≡ s.instances + (phase_instances a.frame.phase + count_granted grant_instances a.outcome)
+    pub memories : a.core.counters.memories + s.own_memories ≡ s.memories + (frame_memories a.frame + count_granted grant_memories a.outcome)
     pub sizes : sizes_of a.core ≡ s.sizes
 
   pub conserves_by : (c : PoolCore P) (f : Frame P) (a : After P) → Balances (sums_of c f) a → Conserves c f a
@@ -126,7 +126,7 @@ module _ {P : Type 0} where
 
   pub allocate_keeps : (s : Sums) (c : PoolCore P) (f : Frame P) → IsEven s nothing 1 c f → Balances s (allocate_next c f)
   allocate_keeps s c f e =
-      either_end s (nat_lt (length f.granted.items) (length (memories_asked f.asked))) _ _
+      either_end s (nat_lt (length f.granted.items) (length (memories_wanted f.asked))) _ _
       (goes_on s c f (Pick 0 0) e)
       (record {
         places = λ t. omega (arith, e.places t);
@@ -142,5 +142,5 @@ module _ {P : Type 0} where
   after_flush_keeps s (PickAgain queues) c f e = goes_on s c f (Pick queues 0) e
   after_flush_keeps s GiveBackNext c f e = give_back_keeps s c f e
 
-  pub no_slot_keeps : (s : Sums) (queues : ℕ) (c : PoolCore P) (f : Frame P) → f.returning.items ≡ [] → IsEven s nothing 1 c f → Balances s (no_slot queues c f)
+  pub no_slot_keeps : (s : Sums) (queues : ℕ) (c : PoolCore P) (f : Frame P) → f.returning.items ≡ [] → IsEven s nothing 1 c f → Balances s (none_picked queues c f)
   no_slot_keeps s queues c f none e = either_end s (nat_lt queues (length c.queues)) _ _ (goes_on s c f (TakeQueue queues) e) (refuse_keeps s c f _ none e)

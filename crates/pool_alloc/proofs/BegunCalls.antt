@@ -6,7 +6,7 @@ use Rattle.pool_pages.specs.MakerTold.{MakerTold}
 use Rattle.pool_alloc.specs.Places.{Thing, leased_count, phase_count, frame_count, phase_instances, frame_memories}
 use Rattle.pool_alloc.specs.Sound.{IsCore, IsFrame, IsLeaseOf, IsQueuedOf, IsAtRest}
 use Rattle.pool_alloc.specs.Stepping.{grant_count, grant_instances, grant_memories}
-use Rattle.pool_alloc.specs.Calls.{frame_made, IsIdle, IsGrant, MayBegin, gives_back, begun_call, call_has}
+use Rattle.pool_alloc.specs.Calls.{frame_made, IsIdle, IsGrant, MayBegin, gives_back, begun_call}
 use Rattle.pool_alloc.specs.declared.pool_core.PoolCore.{PoolCore}
 use Rattle.pool_alloc.specs.declared.pool_core.Settings.{Settings}
 use Rattle.pool_alloc.specs.declared.frame.Frame.{Frame}
@@ -55,6 +55,12 @@ module _ {P : Type 0} where
         returning = All-nil (IsLeaseOf maker c.settings);
         shape = record { settled = record { no_ranges = refl; no_slots = refl; none_freed = refl }; none_granted = refl; none_returning = refl };
       }
+
+  -- how often a call brings a thing along, and how many instances and memories that are counted
+  abbrev pub call_has : (Grant P → ℕ) → Call P → ℕ
+  call_has of call.Key = 0
+  call_has of (call.Module m) = 0
+  call_has of (call.GiveBack grant) = of grant
 
   -- between calls the frame has nothing
   pub at_rest : (maker : MakerTold) (c : PoolCore P) (f : Frame P) → IsFrame maker c f → IsIdle f → IsAtRest f

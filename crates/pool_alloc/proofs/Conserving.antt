@@ -2,7 +2,7 @@
 use Rattle.std.proofs.Common.{refl, arith}
 use Rattle.pool_pages.specs.MakerTold.{MakerTold}
 use Rattle.pool_alloc.specs.Answers.{MayBeTold}
-use Rattle.pool_alloc.specs.Steps.{Given, row_of, row}
+use Rattle.pool_alloc.specs.Steps.{StepGiven, row_of, row}
 use Rattle.pool_alloc.specs.Stepping.{CanStep, Conserves, IsSameSize}
 use Rattle.pool_alloc.specs.declared.pool_core.PoolCore.{PoolCore}
 use Rattle.pool_alloc.specs.declared.frame.Frame.{Frame}
@@ -15,7 +15,7 @@ use Rattle.pool_alloc.proofs.Stages.{picked_is_home, unknown_is_away, unknown_is
 
 module _ {P : Type 0} where
   -- in each phase
-  pub balances_at : (maker : MakerTold) (g : Given) (c : PoolCore P) (f : Frame P) (phase : Phase P) → CanStep maker c (in_phase phase f) → MayBeTold c.settings g phase (in_phase phase f) → Balances (sums_of c (in_phase phase f)) (row_of g phase c (in_phase phase f))
+  pub balances_at : (maker : MakerTold) (g : StepGiven) (c : PoolCore P) (f : Frame P) (phase : Phase P) → CanStep maker c (in_phase phase f) → MayBeTold c.settings g phase (in_phase phase f) → Balances (sums_of c (in_phase phase f)) (row_of g phase c (in_phase phase f))
   balances_at maker g c f Idle can told = record { places = λ t. omega arith; instances = omega arith; memories = omega arith; sizes = refl }
   balances_at maker g c f Key can told = key_keeps c f
   balances_at maker g c f Validate can told = validate_keeps g.wants c f can.frame.shape.0.none_granted
@@ -37,13 +37,13 @@ module _ {P : Type 0} where
   balances_at maker g c f (Free after) can told = free_keeps maker after c f can.core can.fits can.frame.shape.3
   balances_at maker g c f UncountInstance can told = uncount_instance_keeps c f can.fits.instances
 
-  pub balances : (maker : MakerTold) (g : Given) (c : PoolCore P) (f : Frame P) → CanStep maker c f → MayBeTold c.settings g f.phase f → Balances (sums_of c f) (row g c f)
+  pub balances : (maker : MakerTold) (g : StepGiven) (c : PoolCore P) (f : Frame P) → CanStep maker c f → MayBeTold c.settings g f.phase f → Balances (sums_of c f) (row g c f)
   balances maker g c f can told = balances_at maker g c f f.phase can told
 
   -- What a step takes from the pool's parts comes into the frame or the grant, and the other way round.
-  pub conserves : (maker : MakerTold) (g : Given) (c : PoolCore P) (f : Frame P) → CanStep maker c f → MayBeTold c.settings g f.phase f → Conserves c f (row g c f)
+  pub conserves : (maker : MakerTold) (g : StepGiven) (c : PoolCore P) (f : Frame P) → CanStep maker c f → MayBeTold c.settings g f.phase f → Conserves c f (row g c f)
   conserves maker g c f can told = conserves_by c f (row g c f) (balances maker g c f can told)
 
   -- No step changes how many parts there are.
-  pub size_kept : (maker : MakerTold) (g : Given) (c : PoolCore P) (f : Frame P) → CanStep maker c f → MayBeTold c.settings g f.phase f → IsSameSize c (row g c f).core
+  pub size_kept : (maker : MakerTold) (g : StepGiven) (c : PoolCore P) (f : Frame P) → CanStep maker c f → MayBeTold c.settings g f.phase f → IsSameSize c (row g c f).core
   size_kept maker g c f can told = same_size c (row g c f).core (balances maker g c f can told).sizes

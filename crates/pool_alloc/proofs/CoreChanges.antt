@@ -4,10 +4,10 @@ use Rattle.std.proofs.lemmas.Bool.{cases_eq, cases_lt}
 use Rattle.std.proofs.lemmas.List.{length-set, get_or-set_same, get_or-set_other, set_past}
 use Rattle.pool_pages.specs.MakerTold.{MakerTold}
 use Rattle.pool_index.specs.Shard.{ShardState, IsShard, IsSameShard}
-use Rattle.pool_slots.specs.Cells.{Cell, IsCell}
+use Rattle.pool_slots.specs.Cells.{Cell}
 use Rattle.pool_slots.specs.Queues.{QueueState}
-use Rattle.pool_alloc.specs.Steps.{shard_at, shard_of, with_shard, with_cell, with_queue}
-use Rattle.pool_alloc.specs.Sound.{IsCore, IsLaidOut, IsShared}
+use Rattle.pool_alloc.specs.Steps.{nth_shard, shard_of, with_shard, with_cell, with_queue}
+use Rattle.pool_alloc.specs.Sound.{IsPoolCell, IsCore, IsLaidOut, IsShared}
 use Rattle.pool_alloc.specs.declared.pool_core.PoolCore.{PoolCore}
 use Rattle.pool_alloc.specs.declared.pool_core.Counters.{Counters}
 use Rattle.pool_alloc.specs.declared.pool_core.Settings.{Settings}
@@ -29,38 +29,38 @@ pub same_shard : (s : ShardState) → IsSameShard s s
 same_shard s = record { kind = refl; first = refl; step = refl; capacity = refl; budget = refl }
 
 -- where shard j was replaced by one with the same slots, each shard has the slots that it had
-pub same_shards : (j k : ℕ) (shard : ShardState) (shards : List ShardState) → IsSameShard (shard_at j shards) shard → IsSameShard (shard_at k shards) (shard_at k (set shards j shard))
+pub same_shards : (j k : ℕ) (shard : ShardState) (shards : List ShardState) → IsSameShard (nth_shard j shards) shard → IsSameShard (nth_shard k shards) (nth_shard k (set shards j shard))
 same_shards j k shard shards same =
     elim (cases_lt j (length shards)) [
       | inl inside ↦
           elim (cases_eq k j) [
             | inl e ↦
-                let now : shard_at j (set shards j shard) ≡ shard = get_or-set_same shards j shard _ inside in
+                let now : nth_shard j (set shards j shard) ≡ shard = get_or-set_same shards j shard _ inside in
                 rw (e, now) same
             | inr other ↦
-                let now : shard_at k (set shards j shard) ≡ shard_at k shards = get_or-set_other shards j k shard _ other in
-                rw now (same_shard (shard_at k shards))
+                let now : nth_shard k (set shards j shard) ≡ nth_shard k shards = get_or-set_other shards j k shard _ other in
+                rw now (same_shard (nth_shard k shards))
           ]
       | inr past ↦
           let now : set shards j shard ≡ shards = set_past shards j shard past in
-          rw now (same_shard (shard_at k shards))
+          rw now (same_shard (nth_shard k shards))
     ]
 
 -- the slots lie as before among shards that have the slots that they had
-pub laid_out_same : (s : Settings) (total : ℕ) (xs ys : List ShardState) → length ys ≡ length xs → ((k : ℕ) → IsSameShard (shard_at k xs) (shard_at k ys)) → IsLaidOut s total xs → IsLaidOut s total ys
+pub laid_out_same : (s : Settings) (total : ℕ) (xs ys : List ShardState) → length ys ≡ length xs → ((k : ℕ) → IsSameShard (nth_shard k xs) (nth_shard k ys)) → IsLaidOut s total xs → IsLaidOut s total ys
 laid_out_same s total xs ys long same l =
     record {
       some = rw long l.some;
       inside = λ slot below. (rw long (l.inside slot below).0, rw (same (shard_of s slot)).capacity (l.inside slot below).1);
       number = λ slot below. rw ((same (shard_of s slot)).first, (same (shard_of s slot)).step) (l.number slot below);
       back = λ j k under within.
-          let was : k < (shard_at j xs).capacity = rw (same j).capacity at within in
+          let was : k < (nth_shard j xs).capacity = rw (same j).capacity at within in
           let there : j < length xs = rw long at under in
           rw ((same j).first, (same j).step) (l.back j k there was);
     }
 
 module _ {P : Type 0} where
-  pub core_with_shard : (maker : MakerTold) (j : ℕ) (shard : ShardState) (c : PoolCore P) → IsCore maker c → IsShard shard → IsSameShard (shard_at j c.shards) shard → IsCore maker (with_shard j shard c)
+  pub core_with_shard : (maker : MakerTold) (j : ℕ) (shard : ShardState) (c : PoolCore P) → IsCore maker c → IsShard shard → IsSameShard (nth_shard j c.shards) shard → IsCore maker (with_shard j shard c)
   core_with_shard maker j shard c core sound same =
       record {
         settings = core.settings;
@@ -81,7 +81,7 @@ module _ {P : Type 0} where
       let C : List ShardState → Type 0 = λ shards. IsCore maker (record c { shards = shards }) in
       subst C (sym (set_past c.shards j shard past)) core
 
-  pub core_with_cell : (maker : MakerTold) (i : ℕ) (cell : Cell) (c : PoolCore P) → IsCore maker c → IsCell maker c.settings.behaviour c.settings.max_memory_size i cell → IsCore maker (with_cell i cell c)
+  pub core_with_cell : (maker : MakerTold) (i : ℕ) (cell : Cell) (c : PoolCore P) → IsCore maker c → IsPoolCell maker c.settings.behaviour c.settings.max_memory_size i cell → IsCore maker (with_cell i cell c)
   core_with_cell maker i cell c core holds =
       let long : length (set c.cells i cell) ≡ length c.cells = length-set c.cells i cell in
       record {
@@ -92,7 +92,7 @@ module _ {P : Type 0} where
         small = rw long core.small;
         cells = λ k below.
             let under : k < length c.cells = rw long at below in
-            at_set (λ n x. IsCell maker c.settings.behaviour c.settings.max_memory_size n x) c.cells i k cell _ under holds (core.cells k under);
+            at_set (λ n x. IsPoolCell maker c.settings.behaviour c.settings.max_memory_size n x) c.cells i k cell _ under holds (core.cells k under);
         queues_some = core.queues_some;
         queues = core.queues;
       }

@@ -1,12 +1,12 @@
 -- The slots of one shard are freed in turns, one for each slot of the list.
 use Rattle.std.proofs.Common.{◌≡◌, ℕ, ◌+◌, ◌<◌, ◌≤◌, Bool, true, false, List, [], ◌∷◌, ◌++◌, length, length-set, take, drop, get_or, set, refl, sym, ap, subst, ◌∙◌, arith}
 use Rattle.std.specs.Prelude.{◌==◌, ◌^◌, All, IsSome, if◌then◌else◌, not, min}
-use Rattle.std.proofs.lemmas.List.{take_more, drop_more, append-nil, append_assoc, drop_all, take_all, set-set, set-get_or, get_or-set_same}
+use Rattle.std.proofs.lemmas.List.{take_more, drop_more, append-nil, append_assoc, set-set, get_or-set_same}
 use Rattle.std.proofs.lemmas.List.Elements.{filter-append, All-get_or}
 use Rattle.std.proofs.lemmas.Bool.{eq-eqb}
 use Rattle.pool_index.specs.Shard.{ShardState, use_of, after_free}
 use Rattle.pool_alloc.specs.Freeing.{AreUsedInTurn, CanFreeNext, shards_after_next, freed_after_next}
-use Rattle.pool_alloc.specs.Steps.{shard_at, shard_of, local_of, freed_of, freed_elsewhere, first_shard, after_frees}
+use Rattle.pool_alloc.specs.Steps.{nth_shard, shard_of, local_of, freed_of, freed_elsewhere, first_shard, after_frees}
 use Rattle.pool_alloc.specs.declared.frame.FreedSlot.{FreedSlot}
 use Rattle.pool_alloc.specs.declared.pool_core.Settings.{Settings}
 
@@ -19,31 +19,31 @@ first_more s (y ∷ z ∷ rest) x some = omega (arith, first_more s (z ∷ rest)
 -- After i turns: the slots that are left, those of other shards behind them, and the shard.
 pub record FreesSoFar (s : Settings) (j : ℕ) (olds : List ShardState) (xs : List FreedSlot) (i : ℕ) (shards : List ShardState) (items : List FreedSlot) : Type 0 where
   pub list : items ≡ drop i xs ++ freed_elsewhere s j (take i xs)
-  pub others : shards ≡ set olds j (shard_at j shards)
-  pub rest : after_frees s (freed_of s j (drop i xs)) (shard_at j shards) ≡ after_frees s (freed_of s j xs) (shard_at j olds)
-  pub used : AreUsedInTurn s (freed_of s j (drop i xs)) (shard_at j shards)
+  pub others : shards ≡ set olds j (nth_shard j shards)
+  pub rest : after_frees s (freed_of s j (drop i xs)) (nth_shard j shards) ≡ after_frees s (freed_of s j xs) (nth_shard j olds)
+  pub used : AreUsedInTurn s (freed_of s j (drop i xs)) (nth_shard j shards)
 
 record AfterTurn (s : Settings) (j : ℕ) (olds : List ShardState) (of more kept : List FreedSlot) (target : ShardState) (shards : List ShardState) (items : List FreedSlot) : Type 0 where
   list : items ≡ more ++ kept
-  others : shards ≡ set olds j (shard_at j shards)
-  rest : after_frees s of (shard_at j shards) ≡ target
-  used : AreUsedInTurn s of (shard_at j shards)
+  others : shards ≡ set olds j (nth_shard j shards)
+  rest : after_frees s of (nth_shard j shards) ≡ target
+  used : AreUsedInTurn s of (nth_shard j shards)
 
 turn : (b : Bool) (s : Settings) (j : ℕ) (olds : List ShardState) (x : FreedSlot) (of more kept : List FreedSlot) (target : ShardState) (shards : List ShardState)
     → j < length olds
-    → shards ≡ set olds j (shard_at j shards)
-    → after_frees s (if b then x ∷ of else of) (shard_at j shards) ≡ target
-    → AreUsedInTurn s (if b then x ∷ of else of) (shard_at j shards)
-    → AfterTurn s j olds of more (kept ++ (if not b then x ∷ [] else [])) target (if b then set shards j (after_free (local_of s x.slot) x.bytes (shard_at j shards)) else shards) (if b then more ++ kept else more ++ kept ++ x ∷ [])
+    → shards ≡ set olds j (nth_shard j shards)
+    → after_frees s (if b then x ∷ of else of) (nth_shard j shards) ≡ target
+    → AreUsedInTurn s (if b then x ∷ of else of) (nth_shard j shards)
+    → AfterTurn s j olds of more (kept ++ (if not b then x ∷ [] else [])) target (if b then set shards j (after_free (local_of s x.slot) x.bytes (nth_shard j shards)) else shards) (if b then more ++ kept else more ++ kept ++ x ∷ [])
 turn true s j olds x of more kept target shards inside others rest used =
-    let freed : ShardState = after_free (local_of s x.slot) x.bytes (shard_at j shards) in
-    let long : j < length shards = rw others (omega (arith, length-set olds j (shard_at j shards))) in
-    let now : shard_at j (set shards j freed) ≡ freed = get_or-set_same shards j freed _ long in
+    let freed : ShardState = after_free (local_of s x.slot) x.bytes (nth_shard j shards) in
+    let long : j < length shards = rw others (omega (arith, length-set olds j (nth_shard j shards))) in
+    let now : nth_shard j (set shards j freed) ≡ freed = get_or-set_same shards j freed _ long in
     let R : ShardState → Type 0 = λ n. after_frees s of n ≡ target in
     let U : ShardState → Type 0 = λ n. AreUsedInTurn s of n in
     record {
       list = ap (λ (l : List FreedSlot). more ++ l) (sym (append-nil kept));
-      others = ap (λ (l : List ShardState). set l j freed) others ∙ set-set olds j (shard_at j shards) freed ∙ ap (set olds j) (sym now);
+      others = ap (λ (l : List ShardState). set l j freed) others ∙ set-set olds j (nth_shard j shards) freed ∙ ap (set olds j) (sym now);
       rest = subst R (sym now) rest;
       used = subst U (sym now) used.1;
     }
@@ -59,24 +59,16 @@ use_now true s x of shard used e = used.0
 use_now false s x of shard used e = absurd (cc)
 
 module _ (s : Settings) (j : ℕ) (olds : List ShardState) (xs : List FreedSlot) where
-  pub frees_none : j < length olds → AreUsedInTurn s (freed_of s j xs) (shard_at j olds) → FreesSoFar s j olds xs 0 olds xs
-  frees_none inside used = record {
-    list = sym (append-nil xs);
-    others = sym (set-get_or olds j _);
-    rest = refl;
-    used = used;
-  }
-
   -- the next slot can be freed
-  pub can_free_next : (i : ℕ) (shards : List ShardState) (items : List FreedSlot) → i < length xs → All (λ x. x.bytes ≤ 2 ^ 32) xs → FreesSoFar s j olds xs i shards items → CanFreeNext s j items (shard_at j shards)
+  pub can_free_next : (i : ℕ) (shards : List ShardState) (items : List FreedSlot) → i < length xs → All (λ x. x.bytes ≤ 2 ^ 32) xs → FreesSoFar s j olds xs i shards items → CanFreeNext s j items (nth_shard j shards)
   can_free_next i shards items inside small so_far =
       let d : FreedSlot = record { slot = 0; bytes = 0 } in
       let x : FreedSlot = get_or xs i d in
       let more : List FreedSlot = drop (i + 1) xs in
       let left : drop i xs ≡ x ∷ more = drop_more xs i d inside in
-      let U : List FreedSlot → Type 0 = λ l. AreUsedInTurn s (freed_of s j l) (shard_at j shards) in
-      let C : List FreedSlot → Type 0 = λ l. CanFreeNext s j l (shard_at j shards) in
-      let used = use_now (shard_of s x.slot == j) s x (freed_of s j more) (shard_at j shards) (subst U left so_far.used) in
+      let U : List FreedSlot → Type 0 = λ l. AreUsedInTurn s (freed_of s j l) (nth_shard j shards) in
+      let C : List FreedSlot → Type 0 = λ l. CanFreeNext s j l (nth_shard j shards) in
+      let used = use_now (shard_of s x.slot == j) s x (freed_of s j more) (nth_shard j shards) (subst U left so_far.used) in
       subst C (sym (so_far.list ∙ ap (λ (l : List FreedSlot). l ++ freed_elsewhere s j (take i xs)) left))
       (λ e. used (eq-eqb (shard_of s x.slot) j e), All-get_or (λ (y : FreedSlot). y.bytes ≤ 2 ^ 32) xs i d inside small)
 
@@ -90,9 +82,9 @@ module _ (s : Settings) (j : ℕ) (olds : List ShardState) (xs : List FreedSlot)
       let left : drop i xs ≡ x ∷ more = drop_more xs i d inside in
       let now : items ≡ x ∷ (more ++ kept) = so_far.list ∙ ap (λ (l : List FreedSlot). l ++ kept) left in
       let b : Bool = shard_of s x.slot == j in
-      let U : List FreedSlot → Type 0 = λ l. AreUsedInTurn s (freed_of s j l) (shard_at j shards) in
-      let R : List FreedSlot → Type 0 = λ l. after_frees s (freed_of s j l) (shard_at j shards) ≡ after_frees s (freed_of s j xs) (shard_at j olds) in
-      let after = turn b s j olds x (freed_of s j more) more kept (after_frees s (freed_of s j xs) (shard_at j olds)) shards below so_far.others (subst R left so_far.rest) (subst U left so_far.used) in
+      let U : List FreedSlot → Type 0 = λ l. AreUsedInTurn s (freed_of s j l) (nth_shard j shards) in
+      let R : List FreedSlot → Type 0 = λ l. after_frees s (freed_of s j l) (nth_shard j shards) ≡ after_frees s (freed_of s j xs) (nth_shard j olds) in
+      let after = turn b s j olds x (freed_of s j more) more kept (after_frees s (freed_of s j xs) (nth_shard j olds)) shards below so_far.others (subst R left so_far.rest) (subst U left so_far.used) in
       let elsewhere : freed_elsewhere s j (take (i + 1) xs) ≡ kept ++ (if not b then x ∷ [] else []) =
       ap (freed_elsewhere s j) (take_more xs i d inside) ∙ filter-append (λ (y : FreedSlot). not (shard_of s y.slot == j)) (take i xs) (x ∷ []) in
       let F : List FreedSlot → Type 0 = λ l. FreesSoFar s j olds xs (i + 1) (shards_after_next s j l shards) (freed_after_next s j l) in
@@ -102,11 +94,3 @@ module _ (s : Settings) (j : ℕ) (olds : List ShardState) (xs : List FreedSlot)
         rest = after.rest;
         used = after.used;
       })
-
-  -- after all turns
-  pub frees_all : (i : ℕ) (shards : List ShardState) (items : List FreedSlot) → length xs ≤ i → FreesSoFar s j olds xs i shards items → (shards ≡ set olds j (after_frees s (freed_of s j xs) (shard_at j olds))) × (items ≡ freed_elsewhere s j xs)
-  frees_all i shards items far so_far =
-      let gone : drop i xs ≡ [] = drop_all i xs far in
-      let R : List FreedSlot → Type 0 = λ l. after_frees s (freed_of s j l) (shard_at j shards) ≡ after_frees s (freed_of s j xs) (shard_at j olds) in
-      let last : shard_at j shards ≡ after_frees s (freed_of s j xs) (shard_at j olds) = subst R gone so_far.rest in
-      (so_far.others ∙ ap (set olds j) last, so_far.list ∙ ap (λ (l : List FreedSlot). l ++ freed_elsewhere s j (take i xs)) gone ∙ ap (freed_elsewhere s j) (take_all i xs far))

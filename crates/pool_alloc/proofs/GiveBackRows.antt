@@ -6,14 +6,14 @@ use Rattle.pool_images.specs.Slots.{Slot}
 use Rattle.pool_index.specs.Shard.{ShardState}
 use Rattle.pool_memory.specs.Memories.{slot_of as image_slot_of}
 use Rattle.pool_slots.specs.Cells.{unknown, previously_used, is_taken}
-use Rattle.pool_slots.specs.Queues.{QueueState, QueuedMemory, joined, after_take, taken_into, emptied}
+use Rattle.pool_slots.specs.Queues.{QueueState, QueuedMemory, after_append, taken_into, drained}
 use Rattle.pool_alloc.specs.Leases.{Lease}
 use Rattle.pool_alloc.specs.Own.{reset_into}
 use Rattle.pool_alloc.specs.Reserved.{with_item}
 use Rattle.pool_alloc.specs.Answers.{Decommits}
 use Rattle.pool_alloc.specs.Places.{Thing, both_count, queued_count, leased_count}
-use Rattle.pool_alloc.specs.Sound.{IsCore, Fits}
-use Rattle.pool_alloc.specs.Steps.{Given, ends, shard_at, queue_at, with_shard, with_cell, with_queue, counting_instances, counting_memories, queue_tried, cell_returned, after_frees, freed_of, freed_elsewhere, first_shard, shard_of, returns, uncount_memory_row, reset_row, merge_row, decommit_row, puts, put_region_row, free_row, answer_of, uncount_instance_row}
+use Rattle.pool_alloc.specs.Sound.{IsCore, FitsCore}
+use Rattle.pool_alloc.specs.Steps.{StepGiven, ends, nth_shard, nth_queue, with_shard, with_cell, with_queue, counting_instances, counting_memories, queue_tried, cell_returned, after_frees, freed_of, freed_elsewhere, first_shard, shard_of, returns, uncount_memory_row, reset_row, merge_row, decommit_row, puts, put_region_row, free_row, answer_of, uncount_instance_row}
 use Rattle.pool_alloc.specs.declared.pool_core.PoolCore.{PoolCore}
 use Rattle.pool_alloc.specs.declared.frame.Ending.{Ending}
 use Rattle.pool_alloc.specs.declared.frame.Ending.TheVariants.{Returned, Refused}
@@ -75,18 +75,18 @@ module _ {P : Type 0} where
   merge_keeps maker c f core =
       let s : Sums = sums_of c (in_phase Merge f) in
       let i : ℕ = queue_tried 0 c f in
-      let home : QueueState = queue_at i c.queues in
-      let whole : QueueState = joined home f.local in
+      let home : QueueState = nth_queue i c.queues in
+      let whole : QueueState = after_append home f.local in
       let below : i < length c.queues = omega (arith, core.queues_some) in
-      let left : PoolCore P = with_queue i (after_take whole) c in
+      let left : PoolCore P = with_queue i (drained whole) c in
       let more : PoolCore P = with_queue i whole c in
-      let has : Frame P = record f { phase = Merge; local = taken_into (emptied f.local) whole } in
-      let gave : Frame P = record f { phase = Merge; local = emptied f.local } in
+      let has : Frame P = record f { phase = Merge; local = taken_into (drained f.local) whole } in
+      let gave : Frame P = record f { phase = Merge; local = drained f.local } in
       let taken : IsEven s nothing 1 left has = record {
-        places = λ t. omega (arith, kept_queue t i (after_take whole) c below, queued_joined t home.memories f.local.memories);
+        places = λ t. omega (arith, kept_queue t i (drained whole) c below, queued_joined t home.memories f.local.memories);
         instances = omega arith;
         memories = omega arith;
-        sizes = sizes_queue i (after_take whole) c;
+        sizes = sizes_queue i (drained whole) c;
       } in
       let put : IsEven s nothing 1 more gave = record {
         places = λ t. omega (arith, kept_queue t i whole c below, queued_joined t home.memories f.local.memories);
@@ -96,7 +96,7 @@ module _ {P : Type 0} where
       } in
       either_end s (nat_le c.settings.batch (length whole.ranges)) _ _ (flush_keeps s GiveBackNext left has taken) (give_back_keeps s more gave put)
 
-  pub decommit_keeps : (g : Given) (after : AfterFlush) (c : PoolCore P) (f : Frame P) → Decommits g.fault f.local g.queue → Balances (sums_of c (in_phase (Decommit after) f)) (decommit_row g.queue after c (in_phase (Decommit after) f))
+  pub decommit_keeps : (g : StepGiven) (after : AfterFlush) (c : PoolCore P) (f : Frame P) → Decommits g.fault f.local g.queue → Balances (sums_of c (in_phase (Decommit after) f)) (decommit_row g.queue after c (in_phase (Decommit after) f))
   decommit_keeps g after c f told =
       flush_keeps (sums_of c (in_phase (Decommit after) f)) after c (record f { phase = Decommit after; local = g.queue }) (record {
         places = λ t. omega (arith, decommit_counts t g.fault f.local g.queue told);
@@ -112,7 +112,7 @@ module _ {P : Type 0} where
       let has : Frame P = record f { local = record f.local { memories = rest }; freed = with_item (record { slot = m.index; bytes = m.bytes }) f.freed } in
       either_next s (length rest == 0) put has (Free after) (PutRegion after) (goes_on s put has (Free after) (even m rest refl)) (goes_on s put has (PutRegion after) (even m rest refl))
 
-  pub put_region_keeps : (after : AfterFlush) (c : PoolCore P) (f : Frame P) → Fits c (in_phase (PutRegion after) f) → 0 < length f.local.memories → Balances (sums_of c (in_phase (PutRegion after) f)) (put_region_row after c (in_phase (PutRegion after) f))
+  pub put_region_keeps : (after : AfterFlush) (c : PoolCore P) (f : Frame P) → FitsCore c (in_phase (PutRegion after) f) → 0 < length f.local.memories → Balances (sums_of c (in_phase (PutRegion after) f)) (put_region_row after c (in_phase (PutRegion after) f))
   put_region_keeps after c f fits some =
       puts_keeps (sums_of c (in_phase (PutRegion after) f)) after f.local.memories c (in_phase (PutRegion after) f) some
       (λ m rest e.
@@ -125,12 +125,12 @@ module _ {P : Type 0} where
         sizes = sizes_cell m.index (cell_returned m) c;
       })
 
-  pub free_keeps : (maker : MakerTold) (after : AfterFlush) (c : PoolCore P) (f : Frame P) → IsCore maker c → Fits c (in_phase (Free after) f) → 0 < length f.freed.items → Balances (sums_of c (in_phase (Free after) f)) (free_row after c (in_phase (Free after) f))
+  pub free_keeps : (maker : MakerTold) (after : AfterFlush) (c : PoolCore P) (f : Frame P) → IsCore maker c → FitsCore c (in_phase (Free after) f) → 0 < length f.freed.items → Balances (sums_of c (in_phase (Free after) f)) (free_row after c (in_phase (Free after) f))
   free_keeps maker after c f core fits some =
       let s : Sums = sums_of c (in_phase (Free after) f) in
       let j : ℕ = first_shard c.settings f.freed.items in
       let below : j < length c.shards = first_is_shard maker c (in_phase (Free after) f) core fits some in
-      let shard : ShardState = after_frees c.settings (freed_of c.settings j f.freed.items) (shard_at j c.shards) in
+      let shard : ShardState = after_frees c.settings (freed_of c.settings j f.freed.items) (nth_shard j c.shards) in
       let left : PoolCore P = with_shard j shard c in
       let has : Frame P = record f { phase = Free after; freed = record f.freed { items = freed_elsewhere c.settings j f.freed.items } } in
       let even : IsEven s nothing 1 left has = record {

@@ -7,14 +7,14 @@ use Rattle.std.proofs.lemmas.List.Elements.{All-nil}
 use Rattle.pool_pages.specs.MakerTold.{MakerTold}
 use Rattle.pool_pages.specs.declared.module_types.MemoryDecl.{MemoryDecl}
 use Rattle.pool_slots.specs.Queues.{QueueState}
-use Rattle.pool_slots.specs.declared.request.AllocError.{AllocError}
-use Rattle.pool_slots.specs.declared.request.AllocError.TheVariants as refusal
-use Rattle.pool_slots.specs.declared.request.ConcurrencyKind.TheVariants.{MemoryStripe}
+use Rattle.pool_slots.specs.declared.errors.AllocError.{AllocError}
+use Rattle.pool_slots.specs.declared.errors.AllocError.TheVariants as refusal
+use Rattle.pool_slots.specs.declared.errors.ConcurrencyKind.TheVariants.{MemoryStripe}
 use Rattle.pool_alloc.specs.Reserved.{Reserved, no_room}
 use Rattle.pool_alloc.specs.Leases.{Lease}
-use Rattle.pool_alloc.specs.Steps.{After, memories_asked, images_asked, goes, ends, give_back_next, refuses, allocate_next, flushes, after_flush, no_slot}
+use Rattle.pool_alloc.specs.Steps.{After, memories_wanted, images_wanted, goes, ends, give_back_next, refuses, allocate_next, flushes, after_flush, none_picked}
 use Rattle.pool_alloc.specs.Modules.{HasImages}
-use Rattle.pool_alloc.specs.Sound.{IsCore, IsFrame, IsLocal, IsLeaseOf, IsSettled, IsAtRest, IsAllocating, AreSupported, IsShapedAt, IsShapedAfter}
+use Rattle.pool_alloc.specs.Sound.{IsCore, IsFrame, IsLocal, IsLeaseOf, HasNoneWaiting, IsAtRest, IsAllocating, AreSupported, IsShapedAt, IsShapedAfter}
 use Rattle.pool_alloc.specs.Calls.{IsGrantOf, IfGranted}
 use Rattle.pool_alloc.specs.declared.pool_core.PoolCore.{PoolCore}
 use Rattle.pool_alloc.specs.declared.pool_core.Settings.{Settings}
@@ -94,28 +94,15 @@ module _ {P : Type 0} where
   goes_either maker decls c f false one other core held g h = goes_on maker decls c f other core held (h refl)
 
   pub ended : (maker : MakerTold) (decls : List MemoryDecl) (c : PoolCore P) (f : Frame P) (outcome : Outcome P) → IsCore maker c → Held maker c.settings f → IsAtRest f → IfGranted (IsGrantOf maker c.settings decls) (Some outcome) → IsSoundAfter maker decls (ends c f outcome)
-  ended maker decls c f outcome core held rest granted =
-      record {
-        core = core;
-        frame = record {
-          stripe = held.stripe;
-          queue = held.queue;
-          freed_room = held.freed_room;
-          freed_bytes = held.freed_bytes;
-          granted = held.granted;
-          returning = held.returning;
-          shape = rest;
-        };
-        granted = granted;
-      }
+  ended maker decls c f outcome core held rest granted = record { core = core; frame = frame_of maker c (ends c f outcome).frame held rest; granted = granted }
 
-  pub gives_back_next : (maker : MakerTold) (decls : List MemoryDecl) (c : PoolCore P) (f : Frame P) → IsCore maker c → Held maker c.settings f → IsSettled f → f.granted.items ≡ [] → IsSoundAfter maker decls (give_back_next c f)
+  pub gives_back_next : (maker : MakerTold) (decls : List MemoryDecl) (c : PoolCore P) (f : Frame P) → IsCore maker c → Held maker c.settings f → HasNoneWaiting f → f.granted.items ≡ [] → IsSoundAfter maker decls (give_back_next c f)
   gives_back_next maker decls c f core held settled none =
       goes_either maker decls c f (length f.returning.items == 0) UncountInstance UncountMemory core held
       (λ e. record { settled = settled; none_granted = none; none_returning = empty_length f.returning.items e })
       (λ e. (settled, none, some_length f.returning.items e))
 
-  pub refused : (maker : MakerTold) (decls : List MemoryDecl) (c : PoolCore P) (f : Frame P) (e : AllocError) → IsCore maker c → Held maker c.settings f → IsSettled f → IsSoundAfter maker decls (refuses c f e)
+  pub refused : (maker : MakerTold) (decls : List MemoryDecl) (c : PoolCore P) (f : Frame P) (e : AllocError) → IsCore maker c → Held maker c.settings f → HasNoneWaiting f → IsSoundAfter maker decls (refuses c f e)
   refused maker decls c f e core held settled =
       gives_back_next maker decls c (record f { granted = no_room; returning = f.granted; ending = ending.Refused e }) core
       (record {
@@ -128,12 +115,12 @@ module _ {P : Type 0} where
       })
       settled refl
 
-  pub allocates_next : (maker : MakerTold) (c : PoolCore P) (f : Frame P) → IsCore maker c → Held maker c.settings f → IsSettled f → AreSupported c.settings (memories_asked f.asked) (images_asked f.asked) → HasImages f.asked → f.granted.room ≡ length (memories_asked f.asked) → length f.granted.items ≤ length (memories_asked f.asked) → f.returning.items ≡ [] → IsSoundAfter maker (memories_asked f.asked) (allocate_next c f)
+  pub allocates_next : (maker : MakerTold) (c : PoolCore P) (f : Frame P) → IsCore maker c → Held maker c.settings f → HasNoneWaiting f → AreSupported c.settings (memories_wanted f.asked) (images_wanted f.asked) → HasImages f.asked → f.granted.room ≡ length (memories_wanted f.asked) → length f.granted.items ≤ length (memories_wanted f.asked) → f.returning.items ≡ [] → IsSoundAfter maker (memories_wanted f.asked) (allocate_next c f)
   allocates_next maker c f core held settled supported images room within none =
-      either maker (memories_asked f.asked) (nat_lt (length f.granted.items) (length (memories_asked f.asked))) (goes c f (Pick 0 0)) (ends c (record f { granted = no_room }) (answer.Granted (Instance (record { memories = f.granted }))))
-      (λ more. goes_on maker (memories_asked f.asked) c f (Pick 0 0) core held
-      (settled, record { supported = supported; images = images; room = room; more = ltb-true (length f.granted.items) (length (memories_asked f.asked)) more; none_returning = none }, omega arith, core.layout.some))
-      (λ last. ended maker (memories_asked f.asked) c (record f { granted = no_room }) (answer.Granted (Instance (record { memories = f.granted }))) core
+      either maker (memories_wanted f.asked) (nat_lt (length f.granted.items) (length (memories_wanted f.asked))) (goes c f (Pick 0 0)) (ends c (record f { granted = no_room }) (answer.Granted (Instance (record { memories = f.granted }))))
+      (λ more. goes_on maker (memories_wanted f.asked) c f (Pick 0 0) core held
+      (settled, record { supported = supported; images = images; room = room; more = ltb-true (length f.granted.items) (length (memories_wanted f.asked)) more; none_returning = none }, omega arith, core.layout.some))
+      (λ last. ended maker (memories_wanted f.asked) c (record f { granted = no_room }) (answer.Granted (Instance (record { memories = f.granted }))) core
       (record {
         stripe = held.stripe;
         queue = held.queue;
@@ -143,9 +130,9 @@ module _ {P : Type 0} where
         returning = held.returning;
       })
       (record { settled = settled; none_granted = refl; none_returning = none })
-      (held.granted, let all = ltb-false (length f.granted.items) (length (memories_asked f.asked)) last in omega arith))
+      (held.granted, let all = ltb-false (length f.granted.items) (length (memories_wanted f.asked)) last in omega arith))
 
-  pub no_slot_found : (maker : MakerTold) (decls : List MemoryDecl) (queues : ℕ) (c : PoolCore P) (f : Frame P) → IsCore maker c → Held maker c.settings f → IsSettled f → IsAllocating c.settings f → IsSoundAfter maker decls (no_slot queues c f)
+  pub no_slot_found : (maker : MakerTold) (decls : List MemoryDecl) (queues : ℕ) (c : PoolCore P) (f : Frame P) → IsCore maker c → Held maker c.settings f → HasNoneWaiting f → IsAllocating c.settings f → IsSoundAfter maker decls (none_picked queues c f)
   no_slot_found maker decls queues c f core held settled allocating =
       let e : AllocError = refusal.Limit (record { limit = length c.cells; kind = MemoryStripe f.stripe }) in
       either maker decls (nat_lt queues (length c.queues)) (goes c f (TakeQueue queues)) (refuses c f e)
@@ -158,6 +145,6 @@ module _ {P : Type 0} where
       (λ e. (goes, empty_length f.local.ranges e, some))
       (λ e. (goes, none, some_length f.local.ranges e, some))
 
-  pub goes_after_flush : (maker : MakerTold) (decls : List MemoryDecl) (after : AfterFlush) (c : PoolCore P) (f : Frame P) → IsCore maker c → Held maker c.settings f → IsSettled f → IsShapedAfter c.settings (length c.queues) after f → IsSoundAfter maker decls (after_flush after c f)
+  pub goes_after_flush : (maker : MakerTold) (decls : List MemoryDecl) (after : AfterFlush) (c : PoolCore P) (f : Frame P) → IsCore maker c → Held maker c.settings f → HasNoneWaiting f → IsShapedAfter c.settings (length c.queues) after f → IsSoundAfter maker decls (after_flush after c f)
   goes_after_flush maker decls (PickAgain queues) c f core held settled goes = goes_on maker decls c f (Pick queues 0) core held (settled, goes.0, goes.1, core.layout.some)
   goes_after_flush maker decls GiveBackNext c f core held settled none = gives_back_next maker decls c f core held settled none

@@ -10,9 +10,9 @@ use Rattle.pool_index.specs.declared.ids.SlotId.{SlotId}
 use Rattle.pool_limits.specs.LimiterTold.{LimiterTold}
 use Rattle.pool_memory.specs.Memories.{MemoryState, slot_of}
 use Rattle.pool_slots.specs.Cells.{Cell, unmapped, unknown, previously_used, taken}
-use Rattle.pool_slots.specs.Queues.{QueueState, QueuedMemory, empty_queue, joined, after_take, taken_into}
+use Rattle.pool_slots.specs.Queues.{QueueState, QueuedMemory, empty_queue, after_append, after_take, taken_into, drained}
 use Rattle.pool_slots.specs.declared.queued_range.QueuedRange.{QueuedRange}
-use Rattle.pool_slots.specs.declared.request.AllocError.{AllocError}
+use Rattle.pool_slots.specs.declared.errors.AllocError.{AllocError}
 use Rattle.pool_alloc.specs.Answers.{MayBeTold}
 use Rattle.pool_alloc.specs.Bounds.{runs, IsGrouped, AreGrouped, HasGroups}
 use Rattle.pool_alloc.specs.Calls.{frame_made, begun_call}
@@ -20,7 +20,7 @@ use Rattle.pool_alloc.specs.Leases.{Lease}
 use Rattle.pool_alloc.specs.Own.{memory_made}
 use Rattle.pool_alloc.specs.Refusals.{memories_refused}
 use Rattle.pool_alloc.specs.Reserved.{with_item}
-use Rattle.pool_alloc.specs.Steps.{Given, After, memories_asked, shard_at, cell_at, queue_at, shard_of, local_of, with_shard, with_cell, with_queue, counting_instances, counting_memories, allocate_next, was_freed, after_flush, no_slot, were_freed, first_shard, freed_of, freed_elsewhere, after_frees, validated, shard_tried, queue_tried, picked, wanted, holds_region, made, returns, puts, row_of}
+use Rattle.pool_alloc.specs.Steps.{StepGiven, After, memories_wanted, nth_shard, nth_cell, nth_queue, shard_of, local_of, with_shard, with_cell, with_queue, counting_instances, counting_memories, allocate_next, was_freed, after_flush, none_picked, were_freed, first_shard, freed_of, freed_elsewhere, after_frees, validated, shard_tried, queue_tried, picked, wanted, holds_region, was_made, returns, puts, row_of}
 use Rattle.pool_alloc.specs.Stepping.{CanStep, StepsTo}
 use Rattle.pool_alloc.specs.declared.pool_core.PoolCore.{PoolCore}
 use Rattle.pool_alloc.specs.declared.pool_core.Settings.{Settings}
@@ -67,9 +67,9 @@ module _ {P : Type 0} where
     groups f o local = record { queues = queues; local = local }
 
     allocates : (f : Frame P) → IsGrouped f.local → Grouped (allocate_next d f)
-    allocates f local = either (nat_lt (length f.granted.items) (length (memories_asked f.asked))) _ _ (groups _ _ local) (groups _ _ local)
+    allocates f local = either (nat_lt (length f.granted.items) (length (memories_wanted f.asked))) _ _ (groups _ _ local) (groups _ _ local)
 
-    finds_none : (n : ℕ) (f : Frame P) → IsGrouped f.local → Grouped (no_slot n d f)
+    finds_none : (n : ℕ) (f : Frame P) → IsGrouped f.local → Grouped (none_picked n d f)
     finds_none n f local = either (nat_lt n (length d.queues)) _ _ (groups _ _ local) (groups _ _ local)
 
     flushed : (after : AfterFlush) (f : Frame P) → IsGrouped f.local → Grouped (after_flush after d f)
@@ -97,7 +97,7 @@ module _ {P : Type 0} where
     takes slot (previously_used had) f local = groups _ _ local
     takes slot taken f local = groups _ _ local
 
-    makes : (slot : ℕ) (had : Slot) (r : Result MemoryState AllocError) (f : Frame P) → IsGrouped f.local → Grouped (made slot had r d f)
+    makes : (slot : ℕ) (had : Slot) (r : Result MemoryState AllocError) (f : Frame P) → IsGrouped f.local → Grouped (was_made slot had r d f)
     makes slot had (Ok memory) f local = groups _ _ local
     makes slot had (Err e) f local = groups _ _ local
 
@@ -109,33 +109,33 @@ module _ {P : Type 0} where
     puts_back after [] f none local = groups _ _ local
     puts_back after (m ∷ rest) f none local = record { queues = queues; local = no_runs f.local.ranges (length rest) none }
 
-  grouped_at : (maker : MakerTold) (g : Given) (next : Phase P) (c : PoolCore P) (f : Frame P) → CanStep maker c (in_phase next f) → MayBeTold c.settings g next (in_phase next f) → AreGrouped c.queues → IsGrouped f.local → Grouped (row_of g next c (in_phase next f))
+  grouped_at : (maker : MakerTold) (g : StepGiven) (next : Phase P) (c : PoolCore P) (f : Frame P) → CanStep maker c (in_phase next f) → MayBeTold c.settings g next (in_phase next f) → AreGrouped c.queues → IsGrouped f.local → Grouped (row_of g next c (in_phase next f))
   grouped_at maker g Idle c f can told queues local = groups c queues _ _ local
   grouped_at maker g Key c f can told queues local = groups _ queues _ _ local
-  grouped_at maker g Validate c f can told queues local = validates c queues (memories_refused c.settings (memories_asked f.asked)) g.wants (in_phase Validate f) local
+  grouped_at maker g Validate c f can told queues local = validates c queues (memories_refused c.settings (memories_wanted f.asked)) g.wants (in_phase Validate f) local
   grouped_at maker g CountInstance c f can told queues local =
       let d : PoolCore P = counting_instances (c.counters.core_instances + 1) c in
       either (nat_lt c.counters.core_instances c.settings.max_core_instances) _ _ (allocates d queues (in_phase CountInstance f) local) (groups d queues _ _ local)
   grouped_at maker g (Pick n tried) c f can told queues local =
-      let shard : ShardState = shard_at (shard_tried tried c f) c.shards in
+      let shard : ShardState = nth_shard (shard_tried tried c f) c.shards in
       picks (with_shard (shard_tried tried c f) (after_pick (wanted f) shard) c) queues (pick_answer (wanted f) shard) shard n tried (in_phase (Pick n tried) f) local
   grouped_at maker g (TakeQueue n) c f can told queues local =
       let i : ℕ = queue_tried n c f in
-      let q : QueueState = queue_at i c.queues in
+      let q : QueueState = nth_queue i c.queues in
       let there : IsGrouped q = queues i (tried_is_queue maker n c f can.core) in
       let d : PoolCore P = with_queue i (after_take q) c in
       let left : AreGrouped d.queues = grouped_set c.queues i (after_take q) queues (omega arith) in
       let taken : Frame P = record f { local = taken_into f.local q; phase = TakeQueue n } in
       either (length q.memories == 0) _ _ (finds_none d left (n + 1) taken there) (groups d left _ _ there)
-  grouped_at maker g (TakeRegion slot) c f can told queues local = takes (with_cell slot taken c) queues slot (cell_at slot c.cells) (in_phase (TakeRegion slot) f) local
+  grouped_at maker g (TakeRegion slot) c f can told queues local = takes (with_cell slot taken c) queues slot (nth_cell slot c.cells) (in_phase (TakeRegion slot) f) local
   grouped_at maker g (Empty slot had) c f can told queues local = groups c queues _ _ local
   grouped_at maker g (Instantiate slot had) c f can told queues local = groups c queues _ _ local
-  grouped_at maker g (MakeMemory slot had) c f can told queues local = makes c queues slot had (memory_made c.settings (memories_asked f.asked) (length f.granted.items) g.limiter had) (in_phase (MakeMemory slot had) f) local
+  grouped_at maker g (MakeMemory slot had) c f can told queues local = makes c queues slot had (memory_made c.settings (memories_wanted f.asked) (length f.granted.items) g.limiter had) (in_phase (MakeMemory slot had) f) local
   grouped_at maker g (CountMemory lease) c f can told queues local = allocates (counting_memories (c.counters.memories + 1) c) queues (record f { granted = with_item lease f.granted; phase = CountMemory lease }) local
   grouped_at maker g (PutUnknown slot had after) c f can told queues local = groups _ queues _ _ local
   grouped_at maker g (FreeUnknown slot after) c f can told queues local =
       let j : ℕ = shard_of c.settings slot in
-      was_freed_groups (with_shard j (after_free (local_of c.settings slot) 0 (shard_at j c.shards)) c) queues after (in_phase (FreeUnknown slot after) f) local
+      was_freed_groups (with_shard j (after_free (local_of c.settings slot) 0 (nth_shard j c.shards)) c) queues after (in_phase (FreeUnknown slot after) f) local
   grouped_at maker g UncountMemory c f can told queues local = gives_back (counting_memories (c.counters.memories - 1) c) queues f.returning.items (in_phase UncountMemory f) local
   grouped_at maker g (Reset lease) c f can told queues local =
       let settled = can.frame.shape.0 in
@@ -143,14 +143,14 @@ module _ {P : Type 0} where
       either g.fault _ _ (groups c queues _ _ local) (either _ _ _ (groups c queues _ _ reset) (groups c queues _ _ reset))
   grouped_at maker g Merge c f can told queues local =
       let i : ℕ = queue_tried 0 c f in
-      let q : QueueState = joined (queue_at i c.queues) f.local in
-      let both : IsGrouped q = grouped_joined (queue_at i c.queues) f.local (queues i (tried_is_queue maker 0 c f can.core)) local in
-      either _ _ _ (groups (with_queue i (after_take q) c) (grouped_set c.queues i (after_take q) queues (omega arith)) _ _ both) (groups (with_queue i q c) (grouped_set c.queues i q queues both) _ _ (omega arith))
+      let q : QueueState = after_append (nth_queue i c.queues) f.local in
+      let both : IsGrouped q = grouped_joined (nth_queue i c.queues) f.local (queues i (tried_is_queue maker 0 c f can.core)) local in
+      either _ _ _ (groups (with_queue i (drained q) c) (grouped_set c.queues i (drained q) queues (omega arith)) _ _ both) (groups (with_queue i q c) (grouped_set c.queues i q queues both) _ _ (omega arith))
   grouped_at maker g (Decommit after) c f can told queues local = groups c queues _ _ (grouped_decommitted g.fault f.local g.queue told local)
   grouped_at maker g (PutRegion after) c f can told queues local = puts_back c queues after f.local.memories (in_phase (PutRegion after) f) can.frame.shape.1 local
   grouped_at maker g (Free after) c f can told queues local =
       let j : ℕ = first_shard c.settings f.freed.items in
-      let d : PoolCore P = with_shard j (after_frees c.settings (freed_of c.settings j f.freed.items) (shard_at j c.shards)) c in
+      let d : PoolCore P = with_shard j (after_frees c.settings (freed_of c.settings j f.freed.items) (nth_shard j c.shards)) c in
       freed d queues after (record f { freed = record f.freed { items = freed_elsewhere c.settings j f.freed.items }; phase = Free after }) local
   grouped_at maker g UncountInstance c f can told queues local = groups _ queues _ _ local
 

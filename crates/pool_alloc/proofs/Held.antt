@@ -1,21 +1,19 @@
 -- What follows for a slot, and for a region, that a frame has, where the frame fits the pool.
-use Rattle.std.proofs.Common.{◌≡◌, ℕ, ◌+◌, ◌<◌, ◌≤◌, Bool, true, false, length, refl, arith, inl, inr, sym, ◌∙◌}
+use Rattle.std.proofs.Common.{◌≡◌, ℕ, ◌+◌, ◌<◌, ◌≤◌, Bool, true, false, length, refl, arith}
 use Rattle.std.specs.Prelude.{nat_lt}
-use Rattle.std.proofs.lemmas.Bool.{cases_lt, ltb-true, lt-ltb, le-ltb, true_from_ne_false, false_from_ne_true}
+use Rattle.std.proofs.lemmas.Bool.{ltb-true, true_from_ne_false, false_from_ne_true}
 use Rattle.std.proofs.lemmas.List.Sums.{get_or-le-sum_by}
 use Rattle.pool_hall.specs.declared.unit_name.SlotKind.TheVariants.{Memory as memory_kind}
 use Rattle.pool_pages.specs.MakerTold.{MakerTold}
 use Rattle.pool_index.specs.Shard.{fresh_shard, one_if, is_used}
 use Rattle.pool_slots.specs.Cells.{is_taken}
-use Rattle.pool_slots.specs.Queues.{QueueState, holds, empty_queue}
-use Rattle.pool_alloc.specs.Places.{Thing, slot_of, region_of, shard_count, cells_count, queued_count, kept_count, frame_count, made_count}
-use Rattle.pool_alloc.specs.Steps.{shard_at, queue_at, cell_at, shard_of, local_of}
-use Rattle.pool_alloc.specs.Sound.{IsCore, Fits}
+use Rattle.pool_alloc.specs.Places.{Thing, right_to, region_of, free_count, cells_count, kept_count, frame_count, made_count}
+use Rattle.pool_alloc.specs.Steps.{nth_shard, nth_cell, shard_of, local_of}
+use Rattle.pool_alloc.specs.Sound.{IsCore, FitsCore}
 use Rattle.pool_alloc.specs.declared.pool_core.PoolCore.{PoolCore}
 use Rattle.pool_alloc.specs.declared.frame.Frame.{Frame}
 use Rattle.pool_alloc.proofs.Frees.{HasPlace, used_by_count}
 use Rattle.pool_alloc.proofs.KeptCounts.{kept_slots, kept_regions}
-use Rattle.pool_alloc.proofs.QueueCounts.{not_held}
 use Rattle.pool_alloc.proofs.RegionCounts.{cell_counted, cell_uncounted}
 
 one_at_most : (b : Bool) → one_if b ≤ 1
@@ -28,22 +26,15 @@ one_true false some = absurd (omega arith)
 
 -- each thing is made once, or not at all
 pub made_once : (t : Thing) (total : ℕ) → made_count t total ≤ 1
-made_once (slot_of k) total = one_at_most (nat_lt k total)
+made_once (right_to k) total = one_at_most (nat_lt k total)
 made_once (region_of k) total = one_at_most (nat_lt k total)
 
-pub made_inside : (k total : ℕ) → 1 ≤ made_count (slot_of k) total → k < total
+pub made_inside : (k total : ℕ) → 1 ≤ made_count (right_to k) total → k < total
 made_inside k total some = ltb-true k total (one_true (nat_lt k total) some)
-
-cell_is : (b : Bool) (n : ℕ) → (n ≡ 0 → b ≡ false) → (1 ≤ n → b ≡ true) → b ≡ nat_lt 0 n
-cell_is b n home away =
-    elim (cases_lt 0 n) [
-      | inl some ↦ away some ∙ sym (lt-ltb 0 n some)
-      | inr none ↦ home (omega arith) ∙ sym (le-ltb 0 n none)
-    ]
 
 module _ {P : Type 0} where
   -- A slot of the pool is one of its shard.
-  pub place_of : (maker : MakerTold) (c : PoolCore P) (slot : ℕ) → IsCore maker c → slot < length c.cells → HasPlace c.settings (shard_at (shard_of c.settings slot) c.shards) slot
+  pub place_of : (maker : MakerTold) (c : PoolCore P) (slot : ℕ) → IsCore maker c → slot < length c.cells → HasPlace c.settings (nth_shard (shard_of c.settings slot) c.shards) slot
   place_of maker c slot core below =
       let here = core.layout.inside slot below in
       record {
@@ -52,57 +43,34 @@ module _ {P : Type 0} where
       }
 
   -- What the frame has, the pool's parts haven't.
-  pub not_kept : (t : Thing) (c : PoolCore P) (f : Frame P) → Fits c f → 1 ≤ frame_count t f → (frame_count t f ≡ 1) × (kept_count t c ≡ 0)
+  pub not_kept : (t : Thing) (c : PoolCore P) (f : Frame P) → FitsCore c f → 1 ≤ frame_count t f → (frame_count t f ≡ 1) × (kept_count t c ≡ 0)
   not_kept t c f fits some =
       let once = fits.once t in
       let made = made_once t (length c.cells) in
       (omega arith, omega arith)
 
   -- A slot that the frame has is one of the pool,
-  pub held_is_inside : (k : ℕ) (c : PoolCore P) (f : Frame P) → Fits c f → 1 ≤ frame_count (slot_of k) f → k < length c.cells
-  held_is_inside k c f fits some = made_inside k (length c.cells) (omega (arith, fits.once (slot_of k)))
+  pub held_is_inside : (k : ℕ) (c : PoolCore P) (f : Frame P) → FitsCore c f → 1 ≤ frame_count (right_to k) f → k < length c.cells
+  held_is_inside k c f fits some = made_inside k (length c.cells) (omega (arith, fits.once (right_to k)))
 
   -- it is used in its shard,
-  pub held_is_used : (maker : MakerTold) (k : ℕ) (c : PoolCore P) (f : Frame P) → IsCore maker c → Fits c f → 1 ≤ frame_count (slot_of k) f → is_used (shard_at (shard_of c.settings k) c.shards) (local_of c.settings k).0 ≡ true
+  pub held_is_used : (maker : MakerTold) (k : ℕ) (c : PoolCore P) (f : Frame P) → IsCore maker c → FitsCore c f → 1 ≤ frame_count (right_to k) f → is_used (nth_shard (shard_of c.settings k) c.shards) (local_of c.settings k).0 ≡ true
   held_is_used maker k c f core fits some =
       let below : k < length c.cells = held_is_inside k c f fits some in
-      let none : shard_count (slot_of k) (shard_at (shard_of c.settings k) c.shards) ≡ 0 =
-      omega (arith, (not_kept (slot_of k) c f fits some).1, kept_slots k c, get_or-le-sum_by (shard_count (slot_of k)) c.shards (shard_of c.settings k) (fresh_shard memory_kind 0 1 0 0) (core.layout.inside k below).0) in
-      used_by_count c.settings (shard_at (shard_of c.settings k) c.shards) k (place_of maker c k core below) none
-
-  -- it is in no queue of the pool,
-  pub held_is_not_queued : (k i : ℕ) (c : PoolCore P) (f : Frame P) → Fits c f → 1 ≤ frame_count (slot_of k) f → i < length c.queues → holds k (queue_at i c.queues).memories ≡ false
-  held_is_not_queued k i c f fits some below =
-      not_held k (queue_at i c.queues).memories
-      (omega (arith, (not_kept (slot_of k) c f fits some).1, kept_slots k c, get_or-le-sum_by (λ (q : QueueState). queued_count (slot_of k) q.memories) c.queues i (empty_queue 0 0) below))
+      let none : free_count (right_to k) (nth_shard (shard_of c.settings k) c.shards) ≡ 0 =
+      omega (arith, (not_kept (right_to k) c f fits some).1, kept_slots k c, get_or-le-sum_by (free_count (right_to k)) c.shards (shard_of c.settings k) (fresh_shard memory_kind 0 1 0 0) (core.layout.inside k below).0) in
+      used_by_count c.settings (nth_shard (shard_of c.settings k) c.shards) k (place_of maker c k core below) none
 
   -- its cell has its region where the frame hasn't,
-  pub region_is_home : (k : ℕ) (c : PoolCore P) (f : Frame P) → Fits c f → 1 ≤ frame_count (slot_of k) f → frame_count (region_of k) f ≡ 0 → is_taken (cell_at k c.cells) ≡ false
+  pub region_is_home : (k : ℕ) (c : PoolCore P) (f : Frame P) → FitsCore c f → 1 ≤ frame_count (right_to k) f → frame_count (region_of k) f ≡ 0 → is_taken (nth_cell k c.cells) ≡ false
   region_is_home k c f fits some without =
-      false_from_ne_true (is_taken (cell_at k c.cells)) (λ away.
+      false_from_ne_true (is_taken (nth_cell k c.cells)) (λ away.
       let none : cells_count (region_of k) 0 c.cells ≡ 0 = cell_uncounted k 0 c.cells k (omega arith) away in
       let home : 0 < kept_count (region_of k) c + frame_count (region_of k) f = fits.home k (omega arith) in
-      omega (arith, (not_kept (slot_of k) c f fits some).1, kept_slots k c, kept_regions k c))
+      omega (arith, (not_kept (right_to k) c f fits some).1, kept_slots k c, kept_regions k c))
 
   -- and is taken where the frame has it.
-  pub region_is_away : (k : ℕ) (c : PoolCore P) (f : Frame P) → Fits c f → 1 ≤ frame_count (region_of k) f → is_taken (cell_at k c.cells) ≡ true
+  pub region_is_away : (k : ℕ) (c : PoolCore P) (f : Frame P) → FitsCore c f → 1 ≤ frame_count (region_of k) f → is_taken (nth_cell k c.cells) ≡ true
   region_is_away k c f fits some =
-      true_from_ne_false (is_taken (cell_at k c.cells)) (λ has.
+      true_from_ne_false (is_taken (nth_cell k c.cells)) (λ has.
       omega (arith, cell_counted k 0 c.cells k (omega arith) has, (not_kept (region_of k) c f fits some).1, kept_regions k c))
-
-  -- All this of a slot that a frame has: it has it once.
-  pub record IsHeldSlot (k : ℕ) (c : PoolCore P) (f : Frame P) : Type 0 where
-    pub inside : k < length c.cells
-    pub once : frame_count (slot_of k) f ≡ 1
-    pub used : is_used (shard_at (shard_of c.settings k) c.shards) (local_of c.settings k).0 ≡ true
-    pub cell : is_taken (cell_at k c.cells) ≡ nat_lt 0 (frame_count (region_of k) f)
-    pub not_queued : (i : ℕ) → i < length c.queues → holds k (queue_at i c.queues).memories ≡ false
-
-  pub held_slot : (maker : MakerTold) (k : ℕ) (c : PoolCore P) (f : Frame P) → IsCore maker c → Fits c f → 1 ≤ frame_count (slot_of k) f → IsHeldSlot k c f
-  held_slot maker k c f core fits some = record {
-    inside = held_is_inside k c f fits some;
-    once = (not_kept (slot_of k) c f fits some).0;
-    used = held_is_used maker k c f core fits some;
-    cell = cell_is (is_taken (cell_at k c.cells)) (frame_count (region_of k) f) (λ without. region_is_home k c f fits some without) (λ has. region_is_away k c f fits has);
-    not_queued = λ i below. held_is_not_queued k i c f fits some below;
-  }

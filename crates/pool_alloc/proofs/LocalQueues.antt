@@ -7,15 +7,15 @@ use Rattle.std.proofs.lemmas.Bool.{eq-eqb, or_left}
 use Rattle.std.proofs.lemmas.List.Elements.{All-nil, All-cons, All-append, All-rest, length_all_zip}
 use Rattle.pool_pages.specs.MakerTold.{MakerTold}
 use Rattle.pool_pages.specs.declared.pages.DecommitBehavior.{DecommitBehavior}
+use Rattle.pool_pages.specs.declared.pages.DecommitBehavior.TheVariants.{Zero, RestoreOriginalMapping}
 use Rattle.pool_images.specs.declared.ranges.ByteRange.{ByteRange}
-use Rattle.pool_images.specs.Slots.{Slot, Fits, IsClean, IsPart, size_of, kept_bytes, left_ranges, reset_slot, decommitted_all}
+use Rattle.pool_images.specs.Slots.{Slot, IsSlot, IsClean, IsPart, size_of, kept_bytes, left_ranges, reset_slot, decommitted_all}
 use Rattle.pool_images.proofs.Resets.{kept_at_most}
-use Rattle.pool_slots.specs.Cells.{IsSlotOf}
 use Rattle.pool_slots.specs.declared.queued_range.QueueKind.TheVariants.{Memory}
 use Rattle.pool_slots.specs.declared.queued_range.QueuedRange.{QueuedRange}
-use Rattle.pool_slots.specs.Queues.{QueueState, QueuedMemory, empty_queue, with_ranges, AreDistinct, AreApart, LeavesClean, IsLeftBy, holds, is_held, with_memory, after_take, taken_into, emptied, joined, first_slot, after_run}
+use Rattle.pool_slots.specs.Queues.{QueueState, QueuedMemory, empty_queue, with_ranges, AreDistinct, AreApart, LeavesClean, IsLeftBy, holds, is_held, with_memory, after_take, taken_into, drained, after_append, first_slot, after_run}
 use Rattle.pool_alloc.specs.Answers.{Decommits, Resets}
-use Rattle.pool_alloc.specs.Sound.{IsSettings, IsShared, IsLocal, IsQueuedOf}
+use Rattle.pool_alloc.specs.Sound.{IsPoolSlot, IsSettings, IsShared, IsLocal, IsQueuedOf}
 use Rattle.pool_alloc.proofs.Relying.{IsResetLocal}
 use Rattle.pool_alloc.specs.declared.pool_core.Settings.{Settings}
 use Rattle.pool_alloc.proofs.SlotIdentity.{queued_after_run, length_after_run, queued_faulted}
@@ -23,9 +23,9 @@ use Rattle.pool_slots.proofs.QueueChanges.{leaves_clean, queue_joined, owned_joi
 use Rattle.pool_slots.proofs.QueueRuns.{faulted_owned}
 use Rattle.pool_alloc.proofs.QueueRuns.{run_queue, run_owners, faulted_queue, rest_queue}
 
--- a queue once it was taken
-pub taken_shared : (maker : MakerTold) (s : Settings) (q : QueueState) → IsSettings s → q.range_room ≡ 2 * s.batch → q.slot_room ≡ 2 * s.batch → IsShared maker s (after_take q)
-taken_shared maker s q settings range_room slot_room =
+-- a queue once it gave its ranges and slots away, by a take or without
+pub drained_shared : (maker : MakerTold) (s : Settings) (q : QueueState) → IsSettings s → q.range_room ≡ 2 * s.batch → q.slot_room ≡ 2 * s.batch → IsShared maker s (drained q)
+drained_shared maker s q settings range_room slot_room =
     record {
       owners = tt;
       short = omega (arith, settings.batch.0);
@@ -35,6 +35,9 @@ taken_shared maker s q settings range_room slot_room =
       regions = All-nil (IsQueuedOf maker s.behaviour s.max_memory_size);
       queue = record { range_room = omega arith; slot_room = omega arith; distinct = tt; each = tt };
     }
+
+pub taken_shared : (maker : MakerTold) (s : Settings) (q : QueueState) → IsSettings s → q.range_room ≡ 2 * s.batch → q.slot_room ≡ 2 * s.batch → IsShared maker s (after_take q)
+taken_shared maker s q settings range_room slot_room = drained_shared maker s (record q { takes = (after_take q).takes }) settings range_room slot_room
 
 pub local_of_shared : (maker : MakerTold) (s : Settings) (q : QueueState) → IsShared maker s q → IsLocal maker s q
 local_of_shared maker s q shared = record { owners = shared.owners; range_room = shared.range_room; slot_room = shared.slot_room; regions = shared.regions; queue = shared.queue }
@@ -55,8 +58,8 @@ taken_local maker s spare q had local =
       };
     }
 
-pub emptied_local : (maker : MakerTold) (s : Settings) (q : QueueState) → q.range_room ≡ 2 * s.batch → q.slot_room ≡ 2 * s.batch → IsLocal maker s (emptied q)
-emptied_local maker s q range_room slot_room =
+pub drained_local : (maker : MakerTold) (s : Settings) (q : QueueState) → q.range_room ≡ 2 * s.batch → q.slot_room ≡ 2 * s.batch → IsLocal maker s (drained q)
+drained_local maker s q range_room slot_room =
     record {
       owners = tt;
       range_room = range_room;
@@ -66,7 +69,7 @@ emptied_local maker s q range_room slot_room =
     }
 
 -- A queue that a local one was appended to. The two are apart.
-pub joined_local : (maker : MakerTold) (s : Settings) (q more : QueueState) → IsShared maker s q → IsLocal maker s more → AreApart q.memories more.memories → length more.memories ≡ 1 → length more.ranges + 1 ≤ s.batch → IsLocal maker s (joined q more)
+pub joined_local : (maker : MakerTold) (s : Settings) (q more : QueueState) → IsShared maker s q → IsLocal maker s more → AreApart q.memories more.memories → length more.memories ≡ 1 → length more.ranges + 1 ≤ s.batch → IsLocal maker s (after_append q more)
 joined_local maker s q more shared local apart one short =
     record {
       owners = owned_joined q more shared.owners local.owners;
@@ -76,7 +79,7 @@ joined_local maker s q more shared local apart one short =
       queue = queue_joined q more shared.queue local.queue (omega (arith, shared.range_room, shared.short)) (omega (arith, shared.slot_room, shared.short, shared.slots)) shared.owners local.owners apart;
     }
 
-pub joined_shared : (maker : MakerTold) (s : Settings) (q more : QueueState) → IsShared maker s q → IsLocal maker s (joined q more) → length more.memories ≡ 1 → 0 < length more.ranges → length (q.ranges ++ more.ranges) < s.batch → IsShared maker s (joined q more)
+pub joined_shared : (maker : MakerTold) (s : Settings) (q more : QueueState) → IsShared maker s q → IsLocal maker s (after_append q more) → length more.memories ≡ 1 → 0 < length more.ranges → length (q.ranges ++ more.ranges) < s.batch → IsShared maker s (after_append q more)
 joined_shared maker s q more shared local one some short =
     record {
       owners = local.owners;
@@ -163,7 +166,7 @@ one_slot_local maker s ranges m q range_room slot_room some few of is holds_it l
     }
 
 -- The local queue after a reset of a slot that it is told of: the ranges are few, and all of that slot.
-pub reset_local : (maker : MakerTold) (s : Settings) (ranges : List ByteRange) (m : QueuedMemory) (q : QueueState) → IsSettings s → IsLocal maker s q → q.ranges ≡ [] → q.memories ≡ [] → length ranges ≤ 2 * s.batch → IsSlotOf maker s.behaviour s.max_memory_size m.index m.slot → LeavesClean (map (λ r. record { kind = Memory; slot = record { 0 = m.index }; range = r }) ranges) m → IsResetLocal maker s (with_memory m (record q { ranges = q.ranges ++ map (λ r. record { kind = Memory; slot = record { 0 = m.index }; range = r }) ranges }))
+pub reset_local : (maker : MakerTold) (s : Settings) (ranges : List ByteRange) (m : QueuedMemory) (q : QueueState) → IsSettings s → IsLocal maker s q → q.ranges ≡ [] → q.memories ≡ [] → length ranges ≤ 2 * s.batch → IsPoolSlot maker s.behaviour s.max_memory_size m.index m.slot → LeavesClean (map (λ r. record { kind = Memory; slot = record { 0 = m.index }; range = r }) ranges) m → IsResetLocal maker s (with_memory m (record q { ranges = q.ranges ++ map (λ r. record { kind = Memory; slot = record { 0 = m.index }; range = r }) ranges }))
 reset_local maker s ranges m q settings local none no_slots few of leaves =
     let listed : List QueuedRange = map (λ r. record { kind = Memory; slot = record { 0 = m.index }; range = r }) ranges in
     let q' : QueueState = with_memory m (record q { ranges = q.ranges ++ listed }) in
@@ -176,15 +179,20 @@ reset_local maker s ranges m q settings local none no_slots few of leaves =
     }
 
 -- A slot that was reset, pushed behind its ranges into an empty queue, leaves clean,
-pub pushed_leaves : (keep accessible : ℕ) (b : DecommitBehavior) (m : QueuedMemory) (ranges : List ByteRange) (q : QueueState) → q.ranges ≡ [] → q.memories ≡ [] → keep ≤ 2 ^ 32 → m.bytes ≡ kept_bytes b keep accessible → Fits m.slot → All (IsPart m.slot.region.page (size_of m.slot)) ranges → IsClean (decommitted_all ranges m.slot) → LeavesClean (with_ranges m.index ranges q).ranges m
+pub pushed_leaves : (keep accessible : ℕ) (b : DecommitBehavior) (m : QueuedMemory) (ranges : List ByteRange) (q : QueueState) → q.ranges ≡ [] → q.memories ≡ [] → keep ≤ 2 ^ 32 → m.bytes ≡ kept_bytes b keep accessible → IsSlot m.slot → All (IsPart m.slot.region.page (size_of m.slot)) ranges → IsClean (decommitted_all ranges m.slot) → LeavesClean (with_ranges m.index ranges q).ranges m
 pushed_leaves keep accessible b m ranges q none no_slots small kept fits parts clean =
     let O : List QueuedRange → Type 0 = λ rs. AllByRecursion (λ r. is_held r.kind r.slot.0 q.memories ≡ true) rs in
     leaves_clean m ranges q (subst O (sym none) tt) (ap (holds m.index) no_slots) fits parts clean (omega (arith, small, kept, kept_at_most b keep accessible))
 
 -- and is what the step may be told.
-pub reset_told : (keep index bytes : ℕ) (slot new : Slot) (ranges : List ByteRange) → keep ≤ 2 ^ 32 → new ≡ reset_slot slot.region.behaviour keep slot → bytes ≡ kept_bytes slot.region.behaviour keep slot.accessible.bytes → ranges ≡ left_ranges slot.region.behaviour keep slot.accessible.bytes → Fits new → All (IsPart new.region.page (size_of new)) ranges → IsClean (decommitted_all ranges new) → Resets false keep index slot new
+pub reset_told : (keep index bytes : ℕ) (slot new : Slot) (ranges : List ByteRange) → keep ≤ 2 ^ 32 → new ≡ reset_slot slot.region.behaviour keep slot → bytes ≡ kept_bytes slot.region.behaviour keep slot.accessible.bytes → ranges ≡ left_ranges slot.region.behaviour keep slot.accessible.bytes → IsSlot new → All (IsPart new.region.page (size_of new)) ranges → IsClean (decommitted_all ranges new) → Resets false keep index slot new
 reset_told keep index bytes slot new ranges small is kept left fits parts clean =
     let b : DecommitBehavior = slot.region.behaviour in
     let L : List ByteRange → Slot → ℕ → Type 0 = λ rs s n. LeavesClean (with_ranges index rs (empty_queue 0 0)).ranges (record { index = index; slot = s; known = true; bytes = n }) in
     let leaves : L ranges new bytes = pushed_leaves keep slot.accessible.bytes b (record { index = index; slot = new; known = true; bytes = bytes }) ranges (empty_queue 0 0) refl refl small kept fits parts clean in
     (is, subst (λ (n : ℕ). L (left_ranges b keep slot.accessible.bytes) (reset_slot b keep slot) n) kept (subst (λ (s : Slot). L (left_ranges b keep slot.accessible.bytes) s bytes) is (subst (λ (rs : List ByteRange). L rs new bytes) left leaves)))
+
+-- A reset fails only where pages go back to zeros.
+pub zeros_of : (b : DecommitBehavior) (ok : Bool) → (b ≡ RestoreOriginalMapping → ok ≡ true) → ok ≡ false → b ≡ Zero
+zeros_of RestoreOriginalMapping ok restores failed = let e : true ≡ false = sym (restores refl) ∙ failed in absurd cc
+zeros_of Zero ok restores failed = refl

@@ -1,7 +1,5 @@
 -- A pool as it is made is sound, and nothing of it is used.
-use Rattle.std.proofs.Common.{◌≡◌, ℕ, zero, suc, ◌+◌, ◌-◌, ◌*◌, ◌/◌, ◌%◌, ◌^◌, ◌<◌, ◌≤◌, List, [], ◌∷◌, length, get_or, replicate, max, refl, sym, ap, subst, ◌∙◌, inl, inr, arith, Option, None}
-use Rattle.std.proofs.lemmas.Bool.{cases_lt}
-use Rattle.std.proofs.lemmas.List.{length-replicate, get_or-replicate, get_or_past}
+use Rattle.std.proofs.Common.{◌≡◌, ℕ, zero, suc, ◌+◌, ◌*◌, ◌/◌, ◌%◌, ◌^◌, ◌<◌, ◌≤◌, List, [], ◌∷◌, length, max, refl, sym, ap, subst, ◌∙◌, arith, None}
 use Rattle.std.proofs.lemmas.List.Elements.{All-nil}
 use Rattle.std.proofs.Math.Nat.{mod-eq_of_lt, div-eq_of_lt}
 use Rattle.pool_pages.specs.Count.{IsPageSize}
@@ -12,18 +10,18 @@ use Rattle.pool_pages.specs.declared.offered.Offered.{Offered}
 use Rattle.pool_pages.specs.declared.module_types.Tunables.{Tunables}
 use Rattle.pool_hall.specs.declared.unit_name.SlotKind.TheVariants.{Memory as memory_kind}
 use Rattle.pool_index.specs.Shard.{ShardState, IsShard, fresh_shard, use_of, slot_number}
-use Rattle.pool_index.specs.declared.ids.MemoryInModule.{MemoryInModule}
-use Rattle.pool_slots.specs.Cells.{Cell, IsCell, is_taken}
+use Rattle.pool_slots.specs.Cells.{Cell, is_taken}
 use Rattle.pool_slots.specs.Queues.{QueueState, empty_queue}
 use Rattle.pool_slots.proofs.PageSizes.{rounded_within, rounded_leaves}
 use Rattle.pool_alloc.specs.Made.{settings_of, IsMadeCore}
-use Rattle.pool_alloc.specs.Steps.{shard_at, queue_at, shard_of, local_of}
-use Rattle.pool_alloc.specs.Sound.{IsSettings, IsLaidOut, IsShared, IsQueuedOf, IsCore}
+use Rattle.pool_alloc.specs.Steps.{nth_shard, nth_queue, shard_of, local_of}
+use Rattle.pool_alloc.specs.Sound.{IsPoolCell, IsSettings, IsLaidOut, IsShared, IsQueuedOf, IsCore}
 use Rattle.pool_alloc.specs.Whole.{IsUntouched}
 use Rattle.pool_alloc.specs.declared.pool_core.PoolCore.{PoolCore}
 use Rattle.pool_alloc.specs.declared.pool_core.Counters.{Counters}
 use Rattle.pool_alloc.specs.declared.pool_core.Settings.{Settings}
 use Rattle.pool_alloc.proofs.Rounding.{rounded_is_whole}
+use Rattle.pool_alloc.proofs.Telling.{replicated}
 
 settings_sound : (page : ℕ) (config : PoolingAllocationConfig) (tunables : Tunables) (offered : Offered) → IsPageSize page → IsWithinLimits config → config.limits.max_memory_size + page ≤ 2 ^ 64 → IsSettings (settings_of page config tunables offered)
 settings_sound page config tunables offered paged within small =
@@ -40,8 +38,8 @@ settings_sound page config tunables offered paged within small =
     }
 
 -- all slots are one shard's
-one_back : (s : Settings) (total warm j k : ℕ) → ((k : ℕ) → k < total → k / s.slots_per_shard ≡ 0) → ((k : ℕ) → k < total → k % s.slots_per_shard ≡ k) → j < 1 → k < (shard_at j (fresh_shard memory_kind 0 1 total warm ∷ [])).capacity
-    → (slot_number (shard_at j (fresh_shard memory_kind 0 1 total warm ∷ [])) k < total) × (shard_of s (slot_number (shard_at j (fresh_shard memory_kind 0 1 total warm ∷ [])) k) ≡ j) × ((local_of s (slot_number (shard_at j (fresh_shard memory_kind 0 1 total warm ∷ [])) k)).0 ≡ k)
+one_back : (s : Settings) (total warm j k : ℕ) → ((k : ℕ) → k < total → k / s.slots_per_shard ≡ 0) → ((k : ℕ) → k < total → k % s.slots_per_shard ≡ k) → j < 1 → k < (nth_shard j (fresh_shard memory_kind 0 1 total warm ∷ [])).capacity
+    → (slot_number (nth_shard j (fresh_shard memory_kind 0 1 total warm ∷ [])) k < total) × (shard_of s (slot_number (nth_shard j (fresh_shard memory_kind 0 1 total warm ∷ [])) k) ≡ j) × ((local_of s (slot_number (nth_shard j (fresh_shard memory_kind 0 1 total warm ∷ [])) k)).0 ≡ k)
 one_back s total warm zero k first same one below =
     let e : 0 + k * 1 ≡ k = omega arith in
     (omega arith, ap (λ (n : ℕ). n / s.slots_per_shard) e ∙ first k below, ap (λ (n : ℕ). n % s.slots_per_shard) e ∙ same k below)
@@ -58,11 +56,11 @@ laid_out s total warm slots =
       back = λ j k under below. one_back s total warm j k first same under below;
     }
 
-one_shard : (total warm j : ℕ) → IsShard (fresh_shard memory_kind 0 1 total warm) → j < 1 → IsShard (shard_at j (fresh_shard memory_kind 0 1 total warm ∷ []))
+one_shard : (total warm j : ℕ) → IsShard (fresh_shard memory_kind 0 1 total warm) → j < 1 → IsShard (nth_shard j (fresh_shard memory_kind 0 1 total warm ∷ []))
 one_shard total warm zero sound one = sound
 one_shard total warm (suc j) sound one = absurd (omega arith)
 
-empty_shared : (maker : MakerTold) (s : Settings) (i : ℕ) → 1 ≤ s.batch → i < 1 → IsShared maker s (queue_at i (empty_queue (2 * s.batch) (2 * s.batch) ∷ []))
+empty_shared : (maker : MakerTold) (s : Settings) (i : ℕ) → 1 ≤ s.batch → i < 1 → IsShared maker s (nth_queue i (empty_queue (2 * s.batch) (2 * s.batch) ∷ []))
 empty_shared maker s zero some one = record {
   owners = tt;
   short = omega arith;
@@ -74,18 +72,11 @@ empty_shared maker s zero some one = record {
 }
 empty_shared maker s (suc i) some one = absurd (omega arith)
 
-none_used : (total k : ℕ) → get_or (replicate {A = Option (Option MemoryInModule)} total None) k None ≡ None
-none_used total k =
-    elim (cases_lt k total) [
-      | inl inside ↦ get_or-replicate {A = Option (Option MemoryInModule)} total k None None inside
-      | inr past ↦ get_or_past (replicate {A = Option (Option MemoryInModule)} total None) k None (omega (arith, length-replicate {A = Option (Option MemoryInModule)} total None))
-    ]
-
-one_unused : (total warm j k : ℕ) → j < 1 → use_of (shard_at j (fresh_shard memory_kind 0 1 total warm ∷ [])) k ≡ None
-one_unused total warm zero k one = none_used total k
+one_unused : (total warm j k : ℕ) → j < 1 → use_of (nth_shard j (fresh_shard memory_kind 0 1 total warm ∷ [])) k ≡ None
+one_unused total warm zero k one = replicated total k None
 one_unused total warm (suc j) k one = absurd (omega arith)
 
-none_queued : (ranges slots i : ℕ) → i < 1 → (queue_at i (empty_queue ranges slots ∷ [])).memories ≡ []
+none_queued : (ranges slots i : ℕ) → i < 1 → (nth_queue i (empty_queue ranges slots ∷ [])).memories ≡ []
 none_queued ranges slots zero one = refl
 none_queued ranges slots (suc i) one = absurd (omega arith)
 
@@ -96,9 +87,9 @@ module _ {P : Type 0} where
       let batch : c.settings.batch ≡ config.decommit_batch_size = ap (λ (s : Settings). s.batch) made.settings in
       let room : empty_queue (2 * config.decommit_batch_size) (2 * config.decommit_batch_size) ≡ empty_queue (2 * c.settings.batch) (2 * c.settings.batch) = ap (λ (n : ℕ). empty_queue (2 * n) (2 * n)) (sym batch) in
       let I : Settings → Type 0 = λ s. IsSettings s in
-      let S : List ShardState → Type 0 = λ xs. (j : ℕ) → j < length xs → IsShard (shard_at j xs) in
+      let S : List ShardState → Type 0 = λ xs. (j : ℕ) → j < length xs → IsShard (nth_shard j xs) in
       let L : List ShardState → Type 0 = λ xs. IsLaidOut c.settings total xs in
-      let Q : List QueueState → Type 0 = λ qs. (i : ℕ) → i < length qs → IsShared maker c.settings (queue_at i qs) in
+      let Q : List QueueState → Type 0 = λ qs. (i : ℕ) → i < length qs → IsShared maker c.settings (nth_queue i qs) in
       record {
         settings = subst I (sym made.settings) (settings_sound maker.page config tunables offered paged within small);
         page = ap (λ (s : Settings). s.page) made.settings;
@@ -106,7 +97,7 @@ module _ {P : Type 0} where
         layout = rw made.cells.number (subst L (sym made.shards) (laid_out c.settings total config.max_unused_warm_slots (ap (λ (s : Settings). s.slots_per_shard) made.settings)));
         small = omega (arith, made.cells.number, within.memories);
         cells = λ i below.
-            let C : Cell → Type 0 = λ x. IsCell maker c.settings.behaviour c.settings.max_memory_size i x in
+            let C : Cell → Type 0 = λ x. IsPoolCell maker c.settings.behaviour c.settings.max_memory_size i x in
             subst C (sym (made.cells.each i (rw made.cells.number at below))) refl;
         queues_some = omega (arith, ap length made.queues);
         queues = subst Q (sym (made.queues ∙ ap (λ (q : QueueState). q ∷ []) room)) (λ i below. empty_shared maker c.settings i (omega (arith, batch, within.batch_at_least)) below);
@@ -114,8 +105,8 @@ module _ {P : Type 0} where
 
   pub made_untouched : (maker : MakerTold) (config : PoolingAllocationConfig) (tunables : Tunables) (offered : Offered) (c : PoolCore P) → IsMadeCore maker config tunables offered c → IsUntouched c
   made_untouched maker config tunables offered c made =
-      let U : List ShardState → Type 0 = λ xs. (j k : ℕ) → j < length xs → use_of (shard_at j xs) k ≡ None in
-      let Q : List QueueState → Type 0 = λ qs. (i : ℕ) → i < length qs → (queue_at i qs).memories ≡ [] in
+      let U : List ShardState → Type 0 = λ xs. (j k : ℕ) → j < length xs → use_of (nth_shard j xs) k ≡ None in
+      let Q : List QueueState → Type 0 = λ qs. (i : ℕ) → i < length qs → (nth_queue i qs).memories ≡ [] in
       record {
         unused = subst U (sym made.shards) (λ j k below. one_unused config.limits.total_memories config.max_unused_warm_slots j k below);
         home = λ i below. ap is_taken (made.cells.each i (rw made.cells.number at below));

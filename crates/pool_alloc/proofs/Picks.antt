@@ -1,5 +1,5 @@
 -- What a pick leaves is a shard with the same slots, and the slot that it gives is one of them.
-use Rattle.std.proofs.Common.{◌≡◌, ℕ, ◌+◌, ◌%◌, ◌^◌, ◌<◌, Bool, true, false, List, [], ◌∷◌, length, refl, arith, Option, Some, None}
+use Rattle.std.proofs.Common.{◌≡◌, ℕ, ◌+◌, ◌^◌, ◌<◌, Bool, true, false, List, [], ◌∷◌, length, refl, arith, Option, Some, None}
 use Rattle.std.specs.Prelude.{IfSome, option_map, nat_lt, if◌then◌else◌}
 use Rattle.std.specs.Option.{option_or, option_map_or}
 use Rattle.std.proofs.lemmas.Bool.{ltb-true}
@@ -20,7 +20,7 @@ last_inside p [] = tt
 last_inside p (x ∷ xs) = place_inside x xs (p x) (last_position p xs) (last_inside p xs)
 
 -- the choice is a slot that can be taken
-abbrev IsChoice : ShardState → Choice → Type 0
+abbrev pub IsChoice : ShardState → Choice → Type 0
 IsChoice s (warm_at i) = i < length s.warm
 IsChoice s next_cold = s.cold < s.capacity
 
@@ -44,7 +44,7 @@ one_taken : (s : ShardState) (b : Bool) (x y : Option Choice) → IfSome x (IsCh
 one_taken s true x y g h = g
 one_taken s false x y g h = h
 
-choice_taken : (want : Option MemoryInModule) (s : ShardState) → IfSome (choice want s) (IsChoice s)
+pub choice_taken : (want : Option MemoryInModule) (s : ShardState) → IfSome (choice want s) (IsChoice s)
 choice_taken want s =
     let warm : IfSome (warm_choice s) (IsChoice s) = if_taken s (warm_at 0) (nat_lt 0 (length s.warm)) (λ e. ltb-true 0 (length s.warm) e) in
     let cold : IfSome (cold_choice s) (IsChoice s) = if_taken s next_cold (nat_lt s.cold s.capacity) (λ e. ltb-true s.cold s.capacity e) in
@@ -52,9 +52,6 @@ choice_taken want s =
     (one_taken s (nat_lt (length s.warm) s.budget) (option_or (cold_choice s) (warm_choice s)) (option_or (warm_choice s) (cold_choice s))
     (either_taken s (cold_choice s) (warm_choice s) cold warm)
     (either_taken s (warm_choice s) (cold_choice s) warm cold))
-
-mod_below : (n m : ℕ) → 0 < m → n % m < m
-mod_below n m some = mod-lt n some
 
 full_sound : (s : ShardState) → IsShard s → IsShard (after_full s)
 full_sound s sound =
@@ -66,7 +63,7 @@ full_sound s sound =
       bytes = sound.bytes;
       numbers = sound.numbers;
       small = sound.small;
-      counts = (mod_below (s.full_answers + 1) (2 ^ 64) (omega arith), sound.counts.1, sound.counts.2);
+      counts = (mod-lt (s.full_answers + 1) {m = 2 ^ 64} (omega arith), sound.counts.1, sound.counts.2);
     }
 
 choice_sound : (want : Option MemoryInModule) (s : ShardState) (o : Option Choice) → IsShard s → IfSome o (IsChoice s) → IsShard (option_map_or (after_choice want s) o (after_full s))

@@ -6,9 +6,9 @@ use Rattle.std.proofs.lemmas.Bool.{cases_eq, or_from}
 use Rattle.std.proofs.lemmas.Bool.Decides.{nat_tests}
 use Rattle.std.proofs.lemmas.List.Sums.{sum_by-cons, sum_by-append, sum_by_push}
 use Rattle.std.proofs.lemmas.List.Filters.{sum_by-filter_both}
-use Rattle.pool_slots.specs.Queues.{QueueState, QueuedMemory, holds, AreDistinct, AreApart, after_run, IsLeftBy, IsFaulted, first_slot}
+use Rattle.pool_slots.specs.Queues.{QueueState, QueuedMemory, holds, AreApart, after_run, IsLeftBy, IsFaulted, first_slot}
 use Rattle.pool_alloc.specs.Leases.{Lease}
-use Rattle.pool_alloc.specs.Places.{Thing, slot_of, region_of, slot_count, both_count, queued_count, leased_count, freed_count}
+use Rattle.pool_alloc.specs.Places.{Thing, right_to, region_of, slot_count, both_count, queued_count, leased_count, freed_count}
 use Rattle.pool_alloc.specs.declared.frame.FreedSlot.{FreedSlot}
 use Rattle.pool_alloc.proofs.SlotCounts.{slot_once}
 
@@ -22,11 +22,11 @@ sum_by_none f none [] = refl
 sum_by_none f none (x ∷ xs) = omega (arith, sum_by-cons f x xs, none x, sum_by_none f none xs)
 
 -- a slot in a queue, and that of a lease, has its region
-pub queued_regions : (k : ℕ) (ms : List QueuedMemory) → queued_count (region_of k) ms ≡ queued_count (slot_of k) ms
-queued_regions k ms = sum_by_agree (λ (m : QueuedMemory). both_count (region_of k) m.index) (λ (m : QueuedMemory). both_count (slot_of k) m.index) (λ m. omega arith) ms
+pub queued_regions : (k : ℕ) (ms : List QueuedMemory) → queued_count (region_of k) ms ≡ queued_count (right_to k) ms
+queued_regions k ms = sum_by_agree (λ (m : QueuedMemory). both_count (region_of k) m.index) (λ (m : QueuedMemory). both_count (right_to k) m.index) (λ m. omega arith) ms
 
-pub leased_regions : (k : ℕ) (ls : List Lease) → leased_count (region_of k) ls ≡ leased_count (slot_of k) ls
-leased_regions k ls = sum_by_agree (λ (l : Lease). both_count (region_of k) l.index) (λ (l : Lease). both_count (slot_of k) l.index) (λ l. omega arith) ls
+pub leased_regions : (k : ℕ) (ls : List Lease) → leased_count (region_of k) ls ≡ leased_count (right_to k) ls
+leased_regions k ls = sum_by_agree (λ (l : Lease). both_count (region_of k) l.index) (λ (l : Lease). both_count (right_to k) l.index) (λ l. omega arith) ls
 
 -- a freed slot hasn't
 pub freed_regions : (k : ℕ) (xs : List FreedSlot) → freed_count (region_of k) xs ≡ 0
@@ -87,29 +87,21 @@ pub faulted_counts : (t : Thing) (old new : QueueState) → IsFaulted old new �
 faulted_counts t old new faulted = queued_zip t (IsLeftBy (first_slot old.ranges)) (λ a b left. left.index) old.memories new.memories faulted.memories
 
 -- a slot that isn't counted isn't held
-pub not_held : (k : ℕ) (ms : List QueuedMemory) → queued_count (slot_of k) ms ≡ 0 → holds k ms ≡ false
+pub not_held : (k : ℕ) (ms : List QueuedMemory) → queued_count (right_to k) ms ≡ 0 → holds k ms ≡ false
 not_held k [] none = refl
 not_held k (m ∷ ms) none =
-    let first = queued_first (slot_of k) m ms in
+    let first = queued_first (right_to k) m ms in
     elim (cases_eq k m.index) [
       | inl e ↦
-          let one : slot_count (slot_of k) m.index ≡ 1 = ap (slot_count (slot_of k)) (sym e) ∙ slot_once k in
+          let one : slot_count (right_to k) m.index ≡ 1 = ap (slot_count (right_to k)) (sym e) ∙ slot_once k in
           absurd (omega arith)
       | inr other ↦ or_from _ (holds k ms) (grind (arith, nat_tests)) (not_held k ms (omega arith))
     ]
 
 -- two queues that have no slot both hold no slot both
-pub apart_by_count : (these those : List QueuedMemory) → ((k : ℕ) → queued_count (slot_of k) these + queued_count (slot_of k) those ≤ 1) → AreApart these those
+pub apart_by_count : (these those : List QueuedMemory) → ((k : ℕ) → queued_count (right_to k) these + queued_count (right_to k) those ≤ 1) → AreApart these those
 apart_by_count [] those once = tt
 apart_by_count (m ∷ ms) those once = (
-  not_held m.index those (omega (arith, once m.index, queued_first (slot_of m.index) m ms, slot_once m.index)),
-  apart_by_count ms those (λ k. omega (arith, once k, queued_first (slot_of k) m ms)),
-)
-
--- and slots that are counted once are distinct
-pub distinct_by_count : (ms : List QueuedMemory) → ((k : ℕ) → queued_count (slot_of k) ms ≤ 1) → AreDistinct ms
-distinct_by_count [] once = tt
-distinct_by_count (m ∷ ms) once = (
-  not_held m.index ms (omega (arith, once m.index, queued_first (slot_of m.index) m ms, slot_once m.index)),
-  distinct_by_count ms (λ k. omega (arith, once k, queued_first (slot_of k) m ms)),
+  not_held m.index those (omega (arith, once m.index, queued_first (right_to m.index) m ms, slot_once m.index)),
+  apart_by_count ms those (λ k. omega (arith, once k, queued_first (right_to k) m ms)),
 )

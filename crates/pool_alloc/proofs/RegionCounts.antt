@@ -4,7 +4,7 @@ use Rattle.std.specs.Prelude.{slice_index_or, slice_set, if◌then◌else◌}
 use Rattle.std.proofs.lemmas.Bool.{eq-eqb, ne_eqb}
 use Rattle.pool_index.specs.Shard.{one_if}
 use Rattle.pool_slots.specs.Cells.{Cell, unmapped, unknown, previously_used, taken, is_taken}
-use Rattle.pool_alloc.specs.Places.{Thing, slot_of, region_of, region_count, cells_count}
+use Rattle.pool_alloc.specs.Places.{Thing, right_to, region_of, region_count, cells_count}
 
 -- a region is itself, and none but itself
 pub region_once : (i : ℕ) → region_count (region_of i) i ≡ 1
@@ -37,7 +37,7 @@ cells_more t n (c ∷ cells) (suc i) cell below none has =
     omega (arith, cells_more t (n + 1) cells i cell (omega (arith, below)) none has)
 
 -- cells have no right to a slot
-pub cells_slots : (k n : ℕ) (cells : List Cell) → cells_count (slot_of k) n cells ≡ 0
+pub cells_slots : (k n : ℕ) (cells : List Cell) → cells_count (right_to k) n cells ≡ 0
 cells_slots k n [] = refl
 cells_slots k n (unmapped region ∷ cells) = omega (arith, cells_slots k (n + 1) cells)
 cells_slots k n (unknown slot ∷ cells) = omega (arith, cells_slots k (n + 1) cells)

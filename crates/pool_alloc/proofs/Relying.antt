@@ -4,7 +4,7 @@ use Rattle.pool_pages.specs.MakerTold.{MakerTold}
 use Rattle.pool_index.specs.Shard.{use_of}
 use Rattle.pool_slots.specs.Cells.{is_taken}
 use Rattle.pool_slots.specs.Queues.{QueueState, AreApart}
-use Rattle.pool_alloc.specs.Steps.{shard_at, cell_at, queue_at, shard_of, local_of, freed_of, first_shard, queue_tried}
+use Rattle.pool_alloc.specs.Steps.{nth_shard, nth_cell, nth_queue, shard_of, local_of, freed_of, first_shard, queue_tried}
 use Rattle.pool_alloc.specs.Sound.{IsLocal}
 use Rattle.pool_alloc.specs.Freeing.{AreUsedInTurn}
 use Rattle.pool_alloc.specs.declared.pool_core.PoolCore.{PoolCore}
@@ -23,9 +23,9 @@ module _ {P : Type 0} where
   -- picked is in its cell, a slot that is freed is used, what is given back is in slots of the pool, and no shared queue
   -- has a slot of the local one.
   abbrev pub FitsAt : Phase P → PoolCore P → Frame P → Type 0
-  FitsAt (TakeRegion slot) c f = is_taken (cell_at slot c.cells) ≡ false
-  FitsAt (FreeUnknown slot after) c f = IsSome (use_of (shard_at (shard_of c.settings slot) c.shards) (local_of c.settings slot).0)
+  FitsAt (TakeRegion slot) c f = is_taken (nth_cell slot c.cells) ≡ false
+  FitsAt (FreeUnknown slot after) c f = IsSome (use_of (nth_shard (shard_of c.settings slot) c.shards) (local_of c.settings slot).0)
   FitsAt UncountMemory c f = All (λ l. l.index < length c.cells) f.returning.items
-  FitsAt Merge c f = AreApart (queue_at (queue_tried 0 c f) c.queues).memories f.local.memories
-  FitsAt (Free after) c f = AreUsedInTurn c.settings (freed_of c.settings (first_shard c.settings f.freed.items) f.freed.items) (shard_at (first_shard c.settings f.freed.items) c.shards)
+  FitsAt Merge c f = AreApart (nth_queue (queue_tried 0 c f) c.queues).memories f.local.memories
+  FitsAt (Free after) c f = AreUsedInTurn c.settings (freed_of c.settings (first_shard c.settings f.freed.items) f.freed.items) (nth_shard (first_shard c.settings f.freed.items) c.shards)
   FitsAt _ c f = Unit {0}

@@ -7,7 +7,7 @@ use Rattle.pool_images.specs.declared.ranges.ByteRange.{ByteRange}
 use Rattle.pool_slots.specs.declared.queued_range.QueueKind.{QueueKind}
 use Rattle.pool_slots.specs.declared.queued_range.QueueKind.TheVariants.{Memory, Table, Stack}
 use Rattle.pool_slots.specs.declared.queued_range.QueuedRange.{QueuedRange}
-use Rattle.pool_slots.specs.Queues.{QueueState, QueuedMemory, same_kind, is_held, is_of, first_slot, behind, joined}
+use Rattle.pool_slots.specs.Queues.{QueueState, QueuedMemory, same_kind, is_held, is_of, first_slot, behind, after_append}
 use Rattle.pool_slots.proofs.QueueLists.{AreOwned}
 use Rattle.pool_slots.proofs.QueueRuns.{of_slot, of_kind}
 use Rattle.pool_images.specs.Slots.{Slot, left_ranges}
@@ -73,7 +73,7 @@ one_run slot [] = omega arith
 one_run slot (r ∷ rs) = omega (arith, one_run_after slot rs)
 
 -- So the ranges of each slot lie together in a queue to which another was appended,
-pub grouped_joined : (q more : QueueState) → IsGrouped q → IsGrouped more → IsGrouped (joined q more)
+pub grouped_joined : (q more : QueueState) → IsGrouped q → IsGrouped more → IsGrouped (after_append q more)
 grouped_joined q more first second = omega (arith, runs_joined q.ranges more.ranges, length-append q.memories more.memories)
 
 -- in one after a run of ranges was decommitted, or that failed,

@@ -1,153 +1,58 @@
 -- A slot stays that of its region, whatever calls were made on it.
-use Rattle.std.proofs.Common.{◌≡◌, ℕ, ◌+◌, ◌-◌, ◌^◌, ◌≤◌, Bool, true, false, List, [], ◌∷◌, length, refl, ap, ◌∙◌, sym, subst, arith, Option, Some, None, All, replicate, slice_range, min}
-use Rattle.std.specs.Prelude.{IfSome, is_some, option_map, map, if◌then◌else◌}
+use Rattle.std.proofs.Common.{◌≡◌, ℕ, ◌+◌, ◌-◌, ◌/◌, ◌^◌, ◌≤◌, Bool, true, false, List, [], ◌∷◌, length, refl, ap, ◌∙◌, sym, subst, arith, Option, Some, None, All, replicate, slice_range}
+use Rattle.std.specs.Prelude.{IfSome, map, if◌then◌else◌}
 use Rattle.std.specs.List.{AllZip}
 use Rattle.std.proofs.lemmas.List.{length-map, length-replicate}
 use Rattle.std.proofs.lemmas.List.Elements.{All-nil, All-cons, All-head, All-tail}
 use Rattle.pool_pages.specs.Count.{count, rounded_up}
 use Rattle.pool_pages.specs.Contents.{Contents, CanReach}
-use Rattle.pool_pages.specs.Told.{Told, PageCall, decommitting}
+use Rattle.pool_pages.specs.Told.{Told, PageCall, erasing, recolouring, decommitting}
 use Rattle.pool_pages.specs.MakerTold.{MakerTold, fresh}
 use Rattle.pool_pages.specs.declared.pages.DecommitBehavior.{DecommitBehavior}
 use Rattle.pool_pages.specs.declared.pages.DecommitBehavior.TheVariants.{Zero, RestoreOriginalMapping}
 use Rattle.pool_images.specs.declared.ranges.ByteRange.{ByteRange}
-use Rattle.pool_images.specs.Slots.{Slot, IsFresh, IsClean, IsReady, IsLeft, IsSized, Holds, size_of, called, cleared, emptied, reset_slot, decommitted_all}
+use Rattle.pool_images.specs.Slots.{Slot, IsFresh, IsClean, IsReady, Holds, HasColour, identity, size_of, called, coloured, wiped, reset_slot, decommitted_all}
+use Rattle.pool_images.proofs.Identity.{told_same, same_called}
 use Rattle.pool_images.proofs.Marks.{range-zeros}
-use Rattle.pool_slots.specs.Cells.{IsSlotOf, region_made}
+use Rattle.pool_slots.specs.Cells.{region_made}
 use Rattle.pool_slots.specs.Queues.{QueueState, QueuedMemory, IsLeftBy, IsSlotLeft, is_of, front, first_slot, change_at, after_run}
 use Rattle.pool_slots.specs.declared.queued_range.QueueKind.TheVariants.{Memory}
 use Rattle.pool_alloc.specs.Own.{image_made}
-use Rattle.pool_alloc.specs.Sound.{IsQueuedOf}
+use Rattle.pool_alloc.specs.Sound.{IsPoolSlot, IsQueuedOf}
+use Rattle.pool_alloc.proofs.Telling.{replicated, told_weaker}
 
 -- it is the slot of the same region
-pub record IsOneSlot (old new : Slot) : Type 0 where
-  pub base : new.base ≡ old.base
-  pub static_size : new.static_size ≡ old.static_size
-  pub colour : new.colour ≡ old.colour
-  pub name : new.region.name ≡ old.region.name
-  pub page : new.region.page ≡ old.region.page
-  pub len : new.region.len ≡ old.region.len
-  pub behaviour : new.region.behaviour ≡ old.region.behaviour
-  pub plan : new.region.plan ≡ old.region.plan
-  pub tells : is_some new.region.contents ≡ is_some old.region.contents
+abbrev pub IsOneSlot : Slot → Slot → Type 0
+IsOneSlot old new = identity new ≡ identity old
 
-pub one_slot : (s : Slot) → IsOneSlot s s
-one_slot s = record { base = refl; static_size = refl; colour = refl; name = refl; page = refl; len = refl; behaviour = refl; plan = refl; tells = refl }
+one_coloured : (colour : Option ℕ) (start len : ℕ) (s : Slot) → IsOneSlot s (record s { region = coloured colour start len s.region })
+one_coloured None start len s = refl
+one_coloured (Some number) start len s = same_called (recolouring start len number) s
 
-tells_still : (f : Contents → Contents) (o : Option Contents) → is_some (option_map f o) ≡ is_some o
-tells_still f None = refl
-tells_still f (Some c) = refl
+pub one_wiped : (s : Slot) → IsOneSlot s (wiped s)
+one_wiped s =
+    let call : PageCall = erasing s.base.bytes (size_of s) in
+    one_coloured s.colour s.base.bytes (size_of s) (called call s) ∙ same_called call s
 
-pub one_called : (s t : Slot) (call : PageCall) → IsOneSlot s t → IsOneSlot s (called call t)
-one_called s t call one =
-    record {
-      base = one.base;
-      static_size = one.static_size;
-      colour = one.colour;
-      name = one.name;
-      page = one.page;
-      len = one.len;
-      behaviour = one.behaviour;
-      plan = one.plan;
-      tells = tells_still call.change t.region.contents ∙ one.tells;
-    }
-
-pub one_left : (old new : Slot) → IsLeft old new → IsOneSlot old new
-one_left old new left =
-    record {
-      base = left.base;
-      static_size = left.static_size;
-      colour = left.colour;
-      name = left.name;
-      page = left.page;
-      len = left.len;
-      behaviour = left.behaviour;
-      plan = left.plan;
-      tells = left.tells;
-    }
-
-pub one_sized : (initial : ℕ) (hide : Bool) (old new : Slot) → IsSized initial hide old new → IsOneSlot old new
-one_sized initial hide old new sized =
-    record {
-      base = sized.base;
-      static_size = sized.static_size;
-      colour = sized.colour;
-      name = sized.name;
-      page = sized.page;
-      len = sized.len;
-      behaviour = sized.behaviour;
-      plan = sized.plan;
-      tells = sized.tells;
-    }
-
-pub one_emptied : (s : Slot) → IsOneSlot s (emptied s)
-one_emptied s =
-    record {
-      base = refl;
-      static_size = refl;
-      colour = refl;
-      name = refl;
-      page = refl;
-      len = refl;
-      behaviour = refl;
-      plan = refl;
-      tells = tells_still _ s.region.contents;
-    }
-
-pub one_decommitted : (s t : Slot) (ranges : List ByteRange) → IsOneSlot s t → IsOneSlot s (decommitted_all ranges t)
-one_decommitted s t [] one = one
-one_decommitted s t (r ∷ rs) one = one_decommitted s (called (decommitting (t.base.bytes + r.start) r.len) t) rs (one_called s t (decommitting (t.base.bytes + r.start) r.len) one)
-
-one_cleared : (kept : ℕ) (s : Slot) → IsOneSlot s (cleared kept s)
-one_cleared kept s =
-    record {
-      base = refl;
-      static_size = refl;
-      colour = refl;
-      name = refl;
-      page = refl;
-      len = refl;
-      behaviour = refl;
-      plan = refl;
-      tells = tells_still _ s.region.contents;
-    }
+one_decommitted : (s : Slot) (ranges : List ByteRange) → IsOneSlot s (decommitted_all ranges s)
+one_decommitted s [] = refl
+one_decommitted s (r ∷ rs) =
+    let call : PageCall = decommitting (s.base.bytes + r.start) r.len in
+    one_decommitted (called call s) rs ∙ same_called call s
 
 pub one_reset : (b : DecommitBehavior) (keep : ℕ) (s : Slot) → IsOneSlot s (reset_slot b keep s)
-one_reset RestoreOriginalMapping keep s = one_cleared (min keep s.accessible.bytes) s
-one_reset Zero keep s = one_emptied s
+one_reset RestoreOriginalMapping keep s = ap (λ (b : Bool). record (identity s) { tells = b }) (told_same _ s.region.contents)
+one_reset Zero keep s = one_wiped s
 
 -- the slot of one region stays that
-pub slot_of_one : (maker : MakerTold) (behaviour : DecommitBehavior) (static_size i : ℕ) (old new : Slot) → IsOneSlot old new → IsSlotOf maker behaviour static_size i old → IsSlotOf maker behaviour static_size i new
-slot_of_one maker behaviour static_size i old new one of =
-    record {
-      region = record {
-        name = one.name ∙ of.region.name;
-        page = one.page ∙ of.region.page;
-        len = one.len ∙ of.region.len;
-        behaves = one.behaviour ∙ of.region.behaves;
-        plan = one.plan ∙ of.region.plan;
-        tells = one.tells ∙ of.region.tells;
-      };
-      base = one.base ∙ of.base;
-      same_size = one.static_size ∙ of.same_size;
-      colour = one.colour ∙ of.colour;
-    }
+pub slot_of_one : (maker : MakerTold) (behaviour : DecommitBehavior) (static_size i : ℕ) (old new : Slot) → IsOneSlot old new → IsPoolSlot maker behaviour static_size i old → IsPoolSlot maker behaviour static_size i new
+slot_of_one maker behaviour static_size i old new one of = record { same = one ∙ of.same }
 
 -- A region as it was made, and the image slot that is made of it: it is clean.
-tells_as : (page len : ℕ) (tells : Bool) → is_some (if tells then Some (fresh page 0 len) else None) ≡ tells
-tells_as page len true = refl
-tells_as page len false = refl
-
-pub slot_made : (maker : MakerTold) (behaviour : DecommitBehavior) (page static_size i : ℕ) (region : Told) → page ≡ maker.page → region ≡ region_made maker behaviour static_size i → IsSlotOf maker behaviour static_size i (image_made page static_size region)
+pub slot_made : (maker : MakerTold) (behaviour : DecommitBehavior) (page static_size i : ℕ) (region : Told) → page ≡ maker.page → region ≡ region_made maker behaviour static_size i → IsPoolSlot maker behaviour static_size i (image_made page static_size region)
 slot_made maker behaviour page static_size i region paged is =
-    let P : ℕ → Told → Type 0 = λ n t. IsSlotOf maker behaviour static_size i (image_made n static_size t) in
-    let made : P maker.page (region_made maker behaviour static_size i) =
-    record {
-      region = record { name = refl; page = refl; len = refl; behaves = refl; plan = refl; tells = tells_as maker.page (rounded_up maker.page static_size) maker.tells };
-      base = refl;
-      same_size = refl;
-      colour = refl;
-    } in
+    let P : ℕ → Told → Type 0 = λ n t. IsPoolSlot maker behaviour static_size i (image_made n static_size t) in
+    let made : P maker.page (region_made maker behaviour static_size i) = record { same = refl } in
     subst (λ (n : ℕ). P n region) (sym paged) (subst (P maker.page) (sym is) made)
 
 made_told : (page static_size len : ℕ) (tells : Bool) (region : Told) → IfSome (if tells then Some (fresh page 0 len) else None) (λ c. IsReady (image_made page static_size region) c × Holds (image_made page static_size region) 0 (size_of (image_made page static_size region)) c)
@@ -157,42 +62,41 @@ made_told page static_size len true region =
         reach = λ k from below. absurd (omega arith);
         origin = rw all refl;
         beyond = refl;
+        colour = λ k inside. replicated (len / page) k 0;
       },
       refl,
     )
 made_told page static_size len false region = tt
-
-parts_told : (P Q : Contents → Type 0) (o : Option Contents) → IfSome o (λ c. P c × Q c) → IfSome o P × IfSome o Q
-parts_told P Q None h = (h, h)
-parts_told P Q (Some c) h = (h.0, h.1)
 
 pub clean_made : (maker : MakerTold) (behaviour : DecommitBehavior) (page static_size i : ℕ) (region : Told) → page ≡ maker.page → region ≡ region_made maker behaviour static_size i → IsClean (image_made page static_size region)
 clean_made maker behaviour page static_size i region paged is =
     let P : ℕ → Told → Type 0 = λ n t. IsClean (image_made n static_size t) in
     let fresh_region : Told = region_made maker behaviour static_size i in
     let s : Slot = image_made maker.page static_size fresh_region in
-    let told = parts_told (IsReady s) (Holds s 0 (size_of s)) fresh_region.contents (made_told maker.page static_size (rounded_up maker.page static_size) maker.tells fresh_region) in
-    let made : P maker.page (region_made maker behaviour static_size i) = record { not_dirty = refl; image = refl; ready = told.0; holds = told.1 } in
+    let T : Contents → Type 0 = λ c. IsReady s c × Holds s 0 (size_of s) c in
+    let told : IfSome fresh_region.contents T = made_told maker.page static_size (rounded_up maker.page static_size) maker.tells fresh_region in
+    let made : P maker.page (region_made maker behaviour static_size i) = record {
+      not_dirty = refl;
+      image = refl;
+      ready = told_weaker T (IsReady s) fresh_region.contents (λ c h. h.0) told;
+      holds = told_weaker T (Holds s 0 (size_of s)) fresh_region.contents (λ c h. h.1) told;
+    } in
     subst (λ (n : ℕ). P n region) (sym paged) (subst (P maker.page) (sym is) made)
 
 -- and the image slot can be made of it
-fresh_told : (page len : ℕ) (tells : Bool) → IfSome (if tells then Some (fresh page 0 len) else None) (λ c. (c.origin ≡ replicate len 0) × (slice_range c.bytes 0 (0 + len) ≡ replicate len 0) × CanReach 0 0 c)
+fresh_told : (page len : ℕ) (tells : Bool) → IfSome (if tells then Some (fresh page 0 len) else None) (λ c. (c.origin ≡ replicate len 0) × (slice_range c.bytes 0 (0 + len) ≡ replicate len 0) × CanReach 0 0 c × HasColour 0 len None c)
 fresh_told page len true =
     let all : 0 + len - 0 ≡ len = omega arith in
-    (refl, range-zeros len 0 (0 + len) (omega arith) ∙ ap (λ (n : ℕ). replicate {A = ℕ} n 0) all, λ k from below. absurd (omega arith))
+    (refl, range-zeros len 0 (0 + len) (omega arith) ∙ ap (λ (n : ℕ). replicate {A = ℕ} n 0) all, λ k from below. absurd (omega arith), λ k inside. replicated (len / page) k 0)
 fresh_told page len false = tt
 
-weaker : (P Q : Contents → Type 0) (o : Option Contents) → ((c : Contents) → P c → Q c) → IfSome o P → IfSome o Q
-weaker P Q None step h = h
-weaker P Q (Some c) step h = step c h
-
-pub fresh_made : (maker : MakerTold) (behaviour : DecommitBehavior) (page static_size i : ℕ) (region : Told) → page ≡ maker.page → static_size + page ≤ 2 ^ 64 → region ≡ region_made maker behaviour static_size i → IsFresh (count page 0) (count page 0) static_size region
+pub fresh_made : (maker : MakerTold) (behaviour : DecommitBehavior) (page static_size i : ℕ) (region : Told) → page ≡ maker.page → static_size + page ≤ 2 ^ 64 → region ≡ region_made maker behaviour static_size i → IsFresh (count page 0) (count page 0) static_size None region
 fresh_made maker behaviour page static_size i region paged bounded is =
-    let P : ℕ → Told → Type 0 = λ n t. IsFresh (count n 0) (count n 0) static_size t in
+    let P : ℕ → Told → Type 0 = λ n t. IsFresh (count n 0) (count n 0) static_size None t in
     let B : ℕ → Type 0 = λ n. static_size + n ≤ 2 ^ 64 in
     let t : Told = region_made maker behaviour static_size i in
     let len : ℕ = rounded_up maker.page static_size in
-    let T : Contents → Type 0 = λ c. (c.origin ≡ replicate len 0) × (slice_range c.bytes 0 (0 + len) ≡ replicate len 0) × CanReach 0 0 c in
+    let T : Contents → Type 0 = λ c. (c.origin ≡ replicate len 0) × (slice_range c.bytes 0 (0 + len) ≡ replicate len 0) × CanReach 0 0 c × HasColour 0 len None c in
     let told : IfSome t.contents T = fresh_told maker.page len maker.tells in
     let made : P maker.page t =
     record {
@@ -201,9 +105,10 @@ fresh_made maker behaviour page static_size i region paged bounded is =
       inside = omega arith;
       bounded = subst B paged bounded;
       within = omega arith;
-      origin = weaker T (λ c. c.origin ≡ replicate len 0) t.contents (λ c h. h.0) told;
-      zeros = weaker T (λ c. slice_range c.bytes 0 (0 + len) ≡ replicate len 0) t.contents (λ c h. h.1) told;
-      reach = weaker T (CanReach 0 0) t.contents (λ c h. h.2) told;
+      origin = told_weaker T (λ c. c.origin ≡ replicate len 0) t.contents (λ c h. h.0) told;
+      zeros = told_weaker T (λ c. slice_range c.bytes 0 (0 + len) ≡ replicate len 0) t.contents (λ c h. h.1) told;
+      reach = told_weaker T (CanReach 0 0) t.contents (λ c h. h.2) told;
+      has_colour = told_weaker T (HasColour 0 len None) t.contents (λ c h. h.3) told;
     } in
     subst (λ (n : ℕ). P n region) (sym paged) (subst (P maker.page) (sym is) made)
 
@@ -217,7 +122,7 @@ queued_changed maker behaviour static_size slot ranges [] of = All-nil (IsQueued
 queued_changed maker behaviour static_size slot ranges (m ∷ ms) of =
     let P : QueuedMemory → Type 0 = IsQueuedOf maker behaviour static_size in
     All-cons P (change_at slot (decommitted_all ranges) m) (map (change_at slot (decommitted_all ranges)) ms)
-    (changed_if maker behaviour static_size (decommitted_all ranges) m _ (λ s. one_decommitted s s ranges (one_slot s)) (All-head P m ms of))
+    (changed_if maker behaviour static_size (decommitted_all ranges) m _ (λ s. one_decommitted s ranges) (All-head P m ms of))
     (queued_changed maker behaviour static_size slot ranges ms (All-tail P m ms of))
 
 pub queued_after_run : (maker : MakerTold) (behaviour : DecommitBehavior) (static_size : ℕ) (q : QueueState) → All (IsQueuedOf maker behaviour static_size) q.memories → All (IsQueuedOf maker behaviour static_size) (after_run q).memories
@@ -228,12 +133,12 @@ length_after_run q = length-map q.memories (change_at (first_slot q.ranges) (dec
 
 -- and where a call on one failed
 left_if : (b : Bool) (old new : Slot) → IsSlotLeft b old new → IsOneSlot old new
-left_if true old new left = one_left old new left
-left_if false old new same = rw same (one_slot old)
+left_if true old new left = left.same
+left_if false old new same = ap (λ (s : Slot). identity s) same
 
 queued_left : (maker : MakerTold) (behaviour : DecommitBehavior) (static_size faulted : ℕ) (old new : QueuedMemory) → IsLeftBy faulted old new → IsQueuedOf maker behaviour static_size old → IsQueuedOf maker behaviour static_size new
 queued_left maker behaviour static_size faulted old new left of =
-    let I : ℕ → Type 0 = λ i. IsSlotOf maker behaviour static_size i new.slot in
+    let I : ℕ → Type 0 = λ i. IsPoolSlot maker behaviour static_size i new.slot in
     record { slot = subst I (sym left.index) (slot_of_one maker behaviour static_size old.index old.slot new.slot (left_if _ old.slot new.slot left.slot) of.slot) }
 
 pub queued_faulted : (maker : MakerTold) (behaviour : DecommitBehavior) (static_size faulted : ℕ) (olds news : List QueuedMemory) → AllZip (IsLeftBy faulted) olds news → All (IsQueuedOf maker behaviour static_size) olds → All (IsQueuedOf maker behaviour static_size) news

@@ -1,30 +1,29 @@
 -- What a frame that can make its next step may rely on, phase by phase.
-use Rattle.std.proofs.Common.{◌≡◌, ℕ, ◌+◌, ◌<◌, ◌≤◌, true, false, List, [], ◌∷◌, length, refl, sym, ap, subst, ◌∙◌, arith}
+use Rattle.std.proofs.Common.{◌≡◌, ℕ, ◌+◌, ◌<◌, ◌≤◌, true, false, List, [], ◌∷◌, length, sym, ap, ◌∙◌, arith}
 use Rattle.std.specs.Prelude.{slice_index_or}
 use Rattle.std.proofs.lemmas.List.Sums.{get_or-le-sum_by}
 use Rattle.pool_pages.specs.MakerTold.{MakerTold}
 use Rattle.pool_images.specs.Slots.{Slot}
 use Rattle.pool_index.specs.Shard.{is_used}
 use Rattle.pool_slots.specs.Cells.{is_taken}
-use Rattle.pool_slots.specs.Queues.{QueueState, QueuedMemory, empty_queue, holds, AreDistinct, AreApart, joined, emptied, IsSpareOf}
+use Rattle.pool_slots.specs.Queues.{QueueState, QueuedMemory, empty_queue, AreApart, IsSpareOf}
 use Rattle.pool_alloc.specs.Freeing.{AreUsedInTurn}
 use Rattle.pool_alloc.specs.Leases.{Lease}
-use Rattle.pool_alloc.specs.Places.{Thing, slot_of, region_of, slot_count, both_count, queued_count, freed_count, frame_count}
-use Rattle.pool_alloc.specs.Sound.{IsCore, IsFrame, Fits}
-use Rattle.pool_alloc.specs.Steps.{shard_at, queue_at, cell_at, shard_of, local_of, freed_of, first_shard, shard_tried, queue_tried}
+use Rattle.pool_alloc.specs.Places.{Thing, right_to, region_of, both_count, queued_count, frame_count}
+use Rattle.pool_alloc.specs.Sound.{IsCore, IsFrame, FitsCore}
+use Rattle.pool_alloc.specs.Steps.{nth_shard, nth_queue, nth_cell, shard_of, local_of, freed_of, first_shard, shard_tried, queue_tried}
 use Rattle.pool_alloc.specs.Stepping.{CanStep}
 use Rattle.pool_alloc.specs.declared.pool_core.PoolCore.{PoolCore}
 use Rattle.pool_alloc.specs.declared.frame.AfterFlush.{AfterFlush}
 use Rattle.pool_alloc.specs.declared.frame.AfterFree.{AfterFree}
 use Rattle.pool_alloc.specs.declared.frame.Frame.{Frame}
 use Rattle.pool_alloc.specs.declared.frame.FreedSlot.{FreedSlot}
-use Rattle.pool_alloc.specs.declared.frame.Phase.{Phase}
-use Rattle.pool_alloc.specs.declared.frame.Phase.TheVariants.{Idle, TakeRegion, PutUnknown, FreeUnknown, Reset, Merge, PutRegion, Free}
+use Rattle.pool_alloc.specs.declared.frame.Phase.TheVariants.{Idle, TakeRegion, PutUnknown, FreeUnknown, Merge, PutRegion, Free}
 use Rattle.pool_alloc.proofs.Balances.{in_phase}
 use Rattle.pool_alloc.proofs.FreedSlots.{first_is_shard, freed_in_turn}
 use Rattle.pool_alloc.proofs.Held.{made_once, not_kept, held_is_inside, held_is_used, region_is_home, region_is_away}
 use Rattle.pool_alloc.proofs.KeptCounts.{frame_regions, kept_slots}
-use Rattle.pool_alloc.proofs.QueueCounts.{queued_first, apart_by_count, distinct_by_count}
+use Rattle.pool_alloc.proofs.QueueCounts.{queued_first, apart_by_count}
 use Rattle.pool_alloc.proofs.RegionCounts.{region_once}
 use Rattle.pool_alloc.proofs.SlotCounts.{slot_once}
 
@@ -34,32 +33,10 @@ pub record HasRoomFor (q more : QueueState) : Type 0 where
   pub slots : length q.memories + length more.memories ≤ q.slot_room
 
 module _ {P : Type 0} where
-  -- the frame is in this phase
-  pub at_phase : (maker : MakerTold) (c : PoolCore P) (f : Frame P) (phase : Phase P) → f.phase ≡ phase → CanStep maker c f → CanStep maker c (in_phase phase f)
-  at_phase maker c f phase is can =
-      let Can : Phase P → Type 0 = λ p. CanStep maker c (in_phase p f) in
-      subst Can is can
-
-  -- A slot in one of the lists is one that the frame has.
-  pub granted_is_held : (i : ℕ) (d : Lease) (f : Frame P) → i < length f.granted.items → 1 ≤ frame_count (slot_of (slice_index_or f.granted.items i d).index) f
-  granted_is_held i d f below =
-      let k : ℕ = (slice_index_or f.granted.items i d).index in
-      omega (arith, get_or-le-sum_by (λ (l : Lease). both_count (slot_of k) l.index) f.granted.items i d below, slot_once k)
-
-  pub returning_is_held : (i : ℕ) (d : Lease) (f : Frame P) → i < length f.returning.items → 1 ≤ frame_count (slot_of (slice_index_or f.returning.items i d).index) f
+  pub returning_is_held : (i : ℕ) (d : Lease) (f : Frame P) → i < length f.returning.items → 1 ≤ frame_count (right_to (slice_index_or f.returning.items i d).index) f
   returning_is_held i d f below =
       let k : ℕ = (slice_index_or f.returning.items i d).index in
-      omega (arith, get_or-le-sum_by (λ (l : Lease). both_count (slot_of k) l.index) f.returning.items i d below, slot_once k)
-
-  pub local_is_held : (i : ℕ) (d : QueuedMemory) (f : Frame P) → i < length f.local.memories → 1 ≤ frame_count (slot_of (slice_index_or f.local.memories i d).index) f
-  local_is_held i d f below =
-      let k : ℕ = (slice_index_or f.local.memories i d).index in
-      omega (arith, get_or-le-sum_by (λ (m : QueuedMemory). both_count (slot_of k) m.index) f.local.memories i d below, slot_once k)
-
-  pub freed_is_held : (i : ℕ) (d : FreedSlot) (f : Frame P) → i < length f.freed.items → 1 ≤ frame_count (slot_of (slice_index_or f.freed.items i d).slot) f
-  freed_is_held i d f below =
-      let k : ℕ = (slice_index_or f.freed.items i d).slot in
-      omega (arith, get_or-le-sum_by (λ (x : FreedSlot). slot_count (slot_of k) x.slot) f.freed.items i d below, slot_once k)
+      omega (arith, get_or-le-sum_by (λ (l : Lease). both_count (right_to k) l.index) f.returning.items i d below, slot_once k)
 
   -- The shard that is tried, and the queue, is one of the pool.
   pub tried_is_shard : (maker : MakerTold) (tried : ℕ) (c : PoolCore P) (f : Frame P) → IsCore maker c → shard_tried tried c f < length c.shards
@@ -69,7 +46,7 @@ module _ {P : Type 0} where
   tried_is_queue maker queues c f core = omega (arith, core.queues_some)
 
   -- An empty local queue has the room of the shared ones.
-  pub local_is_spare : (maker : MakerTold) (i : ℕ) (c : PoolCore P) (f : Frame P) → IsCore maker c → IsFrame maker c f → i < length c.queues → f.local.ranges ≡ [] → f.local.memories ≡ [] → IsSpareOf (queue_at i c.queues) f.local
+  pub local_is_spare : (maker : MakerTold) (i : ℕ) (c : PoolCore P) (f : Frame P) → IsCore maker c → IsFrame maker c f → i < length c.queues → f.local.ranges ≡ [] → f.local.memories ≡ [] → IsSpareOf (nth_queue i c.queues) f.local
   local_is_spare maker i c f core frame below no_ranges no_slots =
       let shared = core.queues i below in
       record {
@@ -80,43 +57,28 @@ module _ {P : Type 0} where
       }
 
   -- The region of a slot that was picked is in its cell.
-  pub picked_is_home : (slot : ℕ) (c : PoolCore P) (f : Frame P) → Fits c (in_phase (TakeRegion slot) f) → is_taken (cell_at slot c.cells) ≡ false
+  pub picked_is_home : (slot : ℕ) (c : PoolCore P) (f : Frame P) → FitsCore c (in_phase (TakeRegion slot) f) → is_taken (nth_cell slot c.cells) ≡ false
   picked_is_home slot c f fits =
-      let some : 1 ≤ frame_count (slot_of slot) (in_phase (TakeRegion slot) f) = omega (arith, slot_once slot) in
+      let some : 1 ≤ frame_count (right_to slot) (in_phase (TakeRegion slot) f) = omega (arith, slot_once slot) in
       region_is_home slot c (in_phase (TakeRegion slot) f) fits some
-      (omega (arith, slot_once slot, (not_kept (slot_of slot) c (in_phase (TakeRegion slot) f) fits some).0, frame_regions slot (in_phase Idle f)))
+      (omega (arith, slot_once slot, (not_kept (right_to slot) c (in_phase (TakeRegion slot) f) fits some).0, frame_regions slot (in_phase Idle f)))
 
   -- The region of a slot of which nothing is known isn't.
-  pub unknown_is_away : (slot : ℕ) (held : Slot) (after : AfterFree) (c : PoolCore P) (f : Frame P) → Fits c (in_phase (PutUnknown slot held after) f) → is_taken (cell_at slot c.cells) ≡ true
+  pub unknown_is_away : (slot : ℕ) (held : Slot) (after : AfterFree) (c : PoolCore P) (f : Frame P) → FitsCore c (in_phase (PutUnknown slot held after) f) → is_taken (nth_cell slot c.cells) ≡ true
   unknown_is_away slot held after c f fits = region_is_away slot c (in_phase (PutUnknown slot held after) f) fits (omega (arith, region_once slot))
 
   -- The slot is used.
-  pub unknown_is_used : (maker : MakerTold) (slot : ℕ) (after : AfterFree) (c : PoolCore P) (f : Frame P) → CanStep maker c (in_phase (FreeUnknown slot after) f) → is_used (shard_at (shard_of c.settings slot) c.shards) (local_of c.settings slot).0 ≡ true
+  pub unknown_is_used : (maker : MakerTold) (slot : ℕ) (after : AfterFree) (c : PoolCore P) (f : Frame P) → CanStep maker c (in_phase (FreeUnknown slot after) f) → is_used (nth_shard (shard_of c.settings slot) c.shards) (local_of c.settings slot).0 ≡ true
   unknown_is_used maker slot after c f can = held_is_used maker slot c (in_phase (FreeUnknown slot after) f) can.core can.fits (omega (arith, slot_once slot))
 
-  -- A memory that is reset isn't in the local queue, and no range of that is one of its slot.
-  pub reset_is_not_queued : (maker : MakerTold) (lease : Lease) (c : PoolCore P) (f : Frame P) → CanStep maker c (in_phase (Reset lease) f) → (f.local.ranges ≡ []) × (holds lease.index f.local.memories ≡ false)
-  reset_is_not_queued maker lease c f can =
-      let settled = can.frame.shape.0 in
-      (settled.no_ranges, ap (holds lease.index) settled.no_slots)
-
   -- No slot is in a queue of the pool and in the local one.
-  pub local_is_apart : (i : ℕ) (c : PoolCore P) (f : Frame P) → Fits c f → i < length c.queues → AreApart (queue_at i c.queues).memories f.local.memories
+  pub local_is_apart : (i : ℕ) (c : PoolCore P) (f : Frame P) → FitsCore c f → i < length c.queues → AreApart (nth_queue i c.queues).memories f.local.memories
   local_is_apart i c f fits below =
-      apart_by_count (queue_at i c.queues).memories f.local.memories
-      (λ k. omega (arith, fits.once (slot_of k), made_once (slot_of k) (length c.cells), kept_slots k c, get_or-le-sum_by (λ (q : QueueState). queued_count (slot_of k) q.memories) c.queues i (empty_queue 0 0) below))
+      apart_by_count (nth_queue i c.queues).memories f.local.memories
+      (λ k. omega (arith, fits.once (right_to k), made_once (right_to k) (length c.cells), kept_slots k c, get_or-le-sum_by (λ (q : QueueState). queued_count (right_to k) q.memories) c.queues i (empty_queue 0 0) below))
 
-  pub queue_is_apart : (i : ℕ) (c : PoolCore P) (f : Frame P) → Fits c f → i < length c.queues → AreApart f.local.memories (queue_at i c.queues).memories
-  queue_is_apart i c f fits below =
-      apart_by_count f.local.memories (queue_at i c.queues).memories
-      (λ k. omega (arith, fits.once (slot_of k), made_once (slot_of k) (length c.cells), kept_slots k c, get_or-le-sum_by (λ (q : QueueState). queued_count (slot_of k) q.memories) c.queues i (empty_queue 0 0) below))
-
-  -- No slot is in the local queue twice.
-  pub local_is_distinct : (c : PoolCore P) (f : Frame P) → Fits c f → AreDistinct f.local.memories
-  local_is_distinct c f fits = distinct_by_count f.local.memories (λ k. omega (arith, fits.once (slot_of k), made_once (slot_of k) (length c.cells)))
-
-  -- The home queue has room for the local one,
-  pub home_has_room : (maker : MakerTold) (c : PoolCore P) (f : Frame P) → CanStep maker c (in_phase Merge f) → HasRoomFor (queue_at (queue_tried 0 c f) c.queues) f.local
+  -- The home queue has room for the local one.
+  pub home_has_room : (maker : MakerTold) (c : PoolCore P) (f : Frame P) → CanStep maker c (in_phase Merge f) → HasRoomFor (nth_queue (queue_tried 0 c f) c.queues) f.local
   home_has_room maker c f can =
       let shared = can.core.queues (queue_tried 0 c f) (tried_is_queue maker 0 c f can.core) in
       let shape = can.frame.shape in
@@ -125,38 +87,23 @@ module _ {P : Type 0} where
         slots = omega (arith, shared.slots, shared.short, shared.slot_room, shape.2, shape.4);
       }
 
-  -- and what is left of the local one has the room of both.
-  pub merged_is_spare : (maker : MakerTold) (i : ℕ) (c : PoolCore P) (f : Frame P) → IsCore maker c → IsFrame maker c f → i < length c.queues → IsSpareOf (joined (queue_at i c.queues) f.local) (emptied f.local)
-  merged_is_spare maker i c f core frame below =
-      let shared = core.queues i below in
-      record {
-        no_ranges = refl;
-        no_slots = refl;
-        range_room = frame.queue.range_room ∙ sym shared.range_room;
-        slot_room = frame.queue.slot_room ∙ sym shared.slot_room;
-      }
-
   -- The slot whose region is put back is one of the pool, and its cell is empty.
   pub record CanPutBack (c : PoolCore P) (m : QueuedMemory) : Type 0 where
     pub inside : m.index < length c.cells
-    pub away : is_taken (cell_at m.index c.cells) ≡ true
+    pub away : is_taken (nth_cell m.index c.cells) ≡ true
 
-  pub first_can_be_put : (after : AfterFlush) (c : PoolCore P) (f : Frame P) (m : QueuedMemory) (rest : List QueuedMemory) → Fits c (in_phase (PutRegion after) f) → f.local.memories ≡ m ∷ rest → CanPutBack c m
+  pub first_can_be_put : (after : AfterFlush) (c : PoolCore P) (f : Frame P) (m : QueuedMemory) (rest : List QueuedMemory) → FitsCore c (in_phase (PutRegion after) f) → f.local.memories ≡ m ∷ rest → CanPutBack c m
   first_can_be_put after c f m rest fits is =
       let first : (t : Thing) → queued_count t f.local.memories ≡ both_count t m.index + queued_count t rest = λ t. ap (queued_count t) is ∙ queued_first t m rest in
       record {
-        inside = held_is_inside m.index c (in_phase (PutRegion after) f) fits (omega (arith, first (slot_of m.index), slot_once m.index));
+        inside = held_is_inside m.index c (in_phase (PutRegion after) f) fits (omega (arith, first (right_to m.index), slot_once m.index));
         away = region_is_away m.index c (in_phase (PutRegion after) f) fits (omega (arith, first (region_of m.index), region_once m.index));
       }
-
-  -- The slots that are freed differ.
-  pub freed_differ : (k : ℕ) (c : PoolCore P) (f : Frame P) → Fits c f → freed_count (slot_of k) f.freed.items ≤ 1
-  freed_differ k c f fits = omega (arith, fits.once (slot_of k), made_once (slot_of k) (length c.cells))
 
   -- The shard of those that are freed next is one of the pool, and each of them is used there when its turn comes.
   pub record CanFree (c : PoolCore P) (slots : List FreedSlot) (j : ℕ) : Type 0 where
     pub shard : j < length c.shards
-    pub used : AreUsedInTurn c.settings (freed_of c.settings j slots) (shard_at j c.shards)
+    pub used : AreUsedInTurn c.settings (freed_of c.settings j slots) (nth_shard j c.shards)
 
   pub first_can_be_freed : (maker : MakerTold) (after : AfterFlush) (c : PoolCore P) (f : Frame P) → CanStep maker c (in_phase (Free after) f) → CanFree c f.freed.items (first_shard c.settings f.freed.items)
   first_can_be_freed maker after c f can =

@@ -14,18 +14,18 @@ use Rattle.pool_index.specs.declared.ids.SlotId.{SlotId}
 use Rattle.pool_limits.specs.LimiterTold.{LimiterTold}
 use Rattle.pool_memory.specs.Memories.{MemoryState, slot_of as image_slot_of}
 use Rattle.pool_slots.specs.Cells.{Cell, unmapped, unknown, previously_used, taken}
-use Rattle.pool_slots.specs.Queues.{QueueState, QueuedMemory, empty_queue, joined, after_take, taken_into, emptied, first_slot, IsLeftBy, HasOwners}
+use Rattle.pool_slots.specs.Queues.{QueueState, QueuedMemory, empty_queue, after_append, after_take, taken_into, drained, first_slot, IsLeftBy, HasOwners}
 use Rattle.pool_slots.specs.declared.queued_range.QueuedRange.{QueuedRange}
-use Rattle.pool_slots.specs.declared.request.AllocError.{AllocError}
+use Rattle.pool_slots.specs.declared.errors.AllocError.{AllocError}
 use Rattle.pool_alloc.specs.Answers.{MayBeTold, Decommits}
 use Rattle.pool_alloc.specs.Bounds.{PoolSizes, flush_bound, allocation_bound, give_back_bound, return_bound, runs, IsGrouped, AreGrouped, HasGroups, pool_sizes, bound_of, flush_left, returns_left, memories_left, queues_left, picks_left, left_after_flush, left_after_free, steps_at, steps_left}
 use Rattle.pool_alloc.specs.Calls.{IsIdle, begun_call}
 use Rattle.pool_alloc.specs.Leases.{Lease}
 use Rattle.pool_alloc.specs.Own.{memory_made, slot_ended, reset_into}
-use Rattle.pool_alloc.specs.Places.{slot_of, queued_count}
+use Rattle.pool_alloc.specs.Places.{right_to, queued_count}
 use Rattle.pool_alloc.specs.Refusals.{memories_refused}
 use Rattle.pool_alloc.specs.Reserved.{Reserved, with_item, no_room}
-use Rattle.pool_alloc.specs.Steps.{Given, After, memories_asked, shard_at, cell_at, queue_at, shard_of, local_of, freed_of, freed_elsewhere, first_shard, after_frees, with_shard, with_cell, with_queue, counting_instances, counting_memories, goes, give_back_next, refuses, allocate_next, was_freed, flushes, after_flush, no_slot, were_freed, validated, shard_tried, queue_tried, picked, wanted, holds_region, made, returns, cell_returned, puts, row_of, row}
+use Rattle.pool_alloc.specs.Steps.{StepGiven, After, memories_wanted, nth_shard, nth_cell, nth_queue, shard_of, local_of, freed_of, freed_elsewhere, first_shard, after_frees, with_shard, with_cell, with_queue, counting_instances, counting_memories, goes, give_back_next, refuses, allocate_next, was_freed, flushes, after_flush, none_picked, were_freed, validated, shard_tried, queue_tried, picked, wanted, holds_region, was_made, returns, cell_returned, puts, row_of, row}
 use Rattle.pool_alloc.specs.Stepping.{CanStep, StepsTo, IsSameSize, is_idle}
 use Rattle.pool_alloc.specs.declared.pool_core.PoolCore.{PoolCore}
 use Rattle.pool_alloc.specs.declared.pool_core.Settings.{Settings}
@@ -82,9 +82,9 @@ first_left z asked some =
     )
 
 -- another memory is granted, and there is a next one
-next_memory : (z : PoolSizes) (asked : Option ModuleCall) (lease : Lease) (granted : Reserved Lease) → length (granted.items ++ lease ∷ []) < length (memories_asked asked) → picks_left z 0 0 asked (with_item lease granted) ≤ memories_left z asked granted
+next_memory : (z : PoolSizes) (asked : Option ModuleCall) (lease : Lease) (granted : Reserved Lease) → length (granted.items ++ lease ∷ []) < length (memories_wanted asked) → picks_left z 0 0 asked (with_item lease granted) ≤ memories_left z asked granted
 next_memory z asked lease granted more =
-    let k : ℕ = length (memories_asked asked) in
+    let k : ℕ = length (memories_wanted asked) in
     let n : ℕ = length granted.items in
     let long : length (granted.items ++ lease ∷ []) ≡ n + 1 = length_push granted.items lease in
     let L : ℕ → Type 0 = λ i. rounds_of z + (6 + left_of z k i) ≤ left_of z k n in
@@ -92,9 +92,9 @@ next_memory z asked lease granted more =
     omega (arith, there)
 
 -- the first memory is allocated
-first_memory : (z : PoolSizes) (asked : Option ModuleCall) (granted : Reserved Lease) → granted.items ≡ [] → 0 < length (memories_asked asked) → picks_left z 0 0 asked granted + 1 ≤ 2 + length (memories_asked asked) * (allocation_bound z + give_back_bound z)
+first_memory : (z : PoolSizes) (asked : Option ModuleCall) (granted : Reserved Lease) → granted.items ≡ [] → 0 < length (memories_wanted asked) → picks_left z 0 0 asked granted + 1 ≤ 2 + length (memories_wanted asked) * (allocation_bound z + give_back_bound z)
 first_memory z asked granted none some =
-    let k : ℕ = length (memories_asked asked) in
+    let k : ℕ = length (memories_wanted asked) in
     let L : ℕ → Type 0 = λ i. rounds_of z + (6 + left_of z k i) + 1 ≤ 2 + k * (allocation_bound z + give_back_bound z) in
     let there : L (length granted.items) = subst L (sym (ap length none)) (first_left z k some) in
     omega (arith, there)
@@ -175,13 +175,13 @@ module _ {P : Type 0} where
     refused : (f : Frame P) (e : AllocError) → Leaves z (return_bound z (length f.granted.items)) (refuses d f e)
     refused f e = gives_back (record f { granted = no_room; returning = f.granted; ending = ending.Refused e })
 
-    allocates : (f : Frame P) (n : ℕ) → (length f.granted.items < length (memories_asked f.asked) → picks_left z 0 0 f.asked f.granted ≤ n) → Leaves z n (allocate_next d f)
+    allocates : (f : Frame P) (n : ℕ) → (length f.granted.items < length (memories_wanted f.asked) → picks_left z 0 0 f.asked f.granted ≤ n) → Leaves z n (allocate_next d f)
     allocates f n more =
-        either z n (nat_lt (length f.granted.items) (length (memories_asked f.asked))) _ _
-        (λ e. record { most = more (ltb-true (length f.granted.items) (length (memories_asked f.asked)) e) })
+        either z n (nat_lt (length f.granted.items) (length (memories_wanted f.asked))) _ _
+        (λ e. record { most = more (ltb-true (length f.granted.items) (length (memories_wanted f.asked)) e) })
         (λ e. record { most = omega arith })
 
-    finds_none : (queues : ℕ) (f : Frame P) → Leaves z (queues_left z queues f.asked f.granted) (no_slot queues d f)
+    finds_none : (queues : ℕ) (f : Frame P) → Leaves z (queues_left z queues f.asked f.granted) (none_picked queues d f)
     finds_none queues f =
         let n : ℕ = queues_left z queues f.asked f.granted in
         either z n (nat_lt queues (length d.queues)) _ _
@@ -214,7 +214,7 @@ module _ {P : Type 0} where
         (λ e. weaker z (left_after_flush z after f.asked f.granted f.returning) n _ (omega arith) (flushed after f))
         (λ e. record { most = omega arith })
 
-    validates : (o : Option Unsupported) (wants : Bool) (f : Frame P) → Leaves z (2 + length (memories_asked f.asked) * (allocation_bound z + give_back_bound z)) (validated o wants d f)
+    validates : (o : Option Unsupported) (wants : Bool) (f : Frame P) → Leaves z (2 + length (memories_wanted f.asked) * (allocation_bound z + give_back_bound z)) (validated o wants d f)
     validates (Some rule) wants f = record { most = omega arith }
     validates None wants f = either z _ wants _ _ (λ e. record { most = omega arith }) (λ e. record { most = omega arith })
 
@@ -224,7 +224,7 @@ module _ {P : Type 0} where
     takes slot (previously_used had) f = record { most = omega arith }
     takes slot taken f = record { most = omega arith }
 
-    makes : (slot : ℕ) (had : Slot) (r : Result MemoryState AllocError) (f : Frame P) → Leaves z (2 + memories_left z f.asked f.granted) (made slot had r d f)
+    makes : (slot : ℕ) (had : Slot) (r : Result MemoryState AllocError) (f : Frame P) → Leaves z (2 + memories_left z f.asked f.granted) (was_made slot had r d f)
     makes slot had (Ok memory) f = record { most = omega arith }
     makes slot had (Err e) f = record { most = omega arith }
 
@@ -245,33 +245,33 @@ module _ {P : Type 0} where
   fewer z n m a leaves less = omega (arith, leaves.most)
 
   -- The pool has as many slots as a queue, and as many as one and what a call appends to it.
-  few_in_queue : (maker : MakerTold) (i : ℕ) (c : PoolCore P) (f : Frame P) → CanStep maker c f → i < length c.queues → length (queue_at i c.queues).memories ≤ length c.cells
+  few_in_queue : (maker : MakerTold) (i : ℕ) (c : PoolCore P) (f : Frame P) → CanStep maker c f → i < length c.queues → length (nth_queue i c.queues).memories ≤ length c.cells
   few_in_queue maker i c f can below =
-      few_queued (length c.cells) (queue_at i c.queues).memories
-      (λ k. omega (arith, can.fits.once (slot_of k), kept_slots k c, get_or-le-sum_by (λ (q : QueueState). queued_count (slot_of k) q.memories) c.queues i (empty_queue 0 0) below))
+      few_queued (length c.cells) (nth_queue i c.queues).memories
+      (λ k. omega (arith, can.fits.once (right_to k), kept_slots k c, get_or-le-sum_by (λ (q : QueueState). queued_count (right_to k) q.memories) c.queues i (empty_queue 0 0) below))
 
-  few_in_both : (maker : MakerTold) (i : ℕ) (c : PoolCore P) (f : Frame P) → CanStep maker c f → i < length c.queues → length (joined (queue_at i c.queues) f.local).memories ≤ length c.cells
+  few_in_both : (maker : MakerTold) (i : ℕ) (c : PoolCore P) (f : Frame P) → CanStep maker c f → i < length c.queues → length (after_append (nth_queue i c.queues) f.local).memories ≤ length c.cells
   few_in_both maker i c f can below =
-      few_queued (length c.cells) (joined (queue_at i c.queues) f.local).memories
+      few_queued (length c.cells) (after_append (nth_queue i c.queues) f.local).memories
       (λ k. omega (
         arith,
-        queued_joined (slot_of k) (queue_at i c.queues).memories f.local.memories,
-        can.fits.once (slot_of k),
+        queued_joined (right_to k) (nth_queue i c.queues).memories f.local.memories,
+        can.fits.once (right_to k),
         kept_slots k c,
-        get_or-le-sum_by (λ (q : QueueState). queued_count (slot_of k) q.memories) c.queues i (empty_queue 0 0) below,
+        get_or-le-sum_by (λ (q : QueueState). queued_count (right_to k) q.memories) c.queues i (empty_queue 0 0) below,
       ))
 
-  fewer_at : (maker : MakerTold) (g : Given) (next : Phase P) (c : PoolCore P) (f : Frame P) → is_idle next ≡ false → CanStep maker c (in_phase next f) → MayBeTold c.settings g next (in_phase next f) → AreGrouped c.queues → IsGrouped f.local → steps_at (pool_sizes c) (row_of g next c (in_phase next f)).frame.phase (row_of g next c (in_phase next f)).frame + 1 ≤ steps_at (pool_sizes c) next (in_phase next f)
+  fewer_at : (maker : MakerTold) (g : StepGiven) (next : Phase P) (c : PoolCore P) (f : Frame P) → is_idle next ≡ false → CanStep maker c (in_phase next f) → MayBeTold c.settings g next (in_phase next f) → AreGrouped c.queues → IsGrouped f.local → steps_at (pool_sizes c) (row_of g next c (in_phase next f)).frame.phase (row_of g next c (in_phase next f)).frame + 1 ≤ steps_at (pool_sizes c) next (in_phase next f)
   fewer_at maker g Idle c f on can told queues local = absurd cc
   fewer_at maker g Key c f on can told queues local = omega arith
   fewer_at maker g Validate c f on can told queues local =
       let z : PoolSizes = pool_sizes c in
-      fewer z _ _ _ (validates z c (memories_refused c.settings (memories_asked f.asked)) g.wants (in_phase Validate f)) (omega arith)
+      fewer z _ _ _ (validates z c (memories_refused c.settings (memories_wanted f.asked)) g.wants (in_phase Validate f)) (omega arith)
   fewer_at maker g CountInstance c f on can told queues local =
       let z : PoolSizes = pool_sizes c in
       let none : f.granted.items ≡ [] = can.frame.shape.0.none_granted in
       let d : PoolCore P = counting_instances (c.counters.core_instances + 1) c in
-      let n : ℕ = 1 + length (memories_asked f.asked) * (allocation_bound z + give_back_bound z) in
+      let n : ℕ = 1 + length (memories_wanted f.asked) * (allocation_bound z + give_back_bound z) in
       fewer z n _ _
       (either z n (nat_lt c.counters.core_instances c.settings.max_core_instances) _ _
       (λ e. allocates z d (in_phase CountInstance f) n (λ more. omega (arith, first_memory z f.asked f.granted none (omega (arith, more, ap length none)))))
@@ -279,14 +279,14 @@ module _ {P : Type 0} where
       (omega arith)
   fewer_at maker g (Pick n tried) c f on can told queues local =
       let z : PoolSizes = pool_sizes c in
-      let shard : ShardState = shard_at (shard_tried tried c f) c.shards in
+      let shard : ShardState = nth_shard (shard_tried tried c f) c.shards in
       fewer z (picks_left z n (tried + 1) f.asked f.granted) _ _
       (picks z (with_shard (shard_tried tried c f) (after_pick (wanted f) shard) c) (pick_answer (wanted f) shard) shard n tried (in_phase (Pick n tried) f))
       (omega (arith, can.frame.shape.3))
   fewer_at maker g (TakeQueue n) c f on can told queues local =
       let z : PoolSizes = pool_sizes c in
       let i : ℕ = queue_tried n c f in
-      let q : QueueState = queue_at i c.queues in
+      let q : QueueState = nth_queue i c.queues in
       let below : i < length c.queues = tried_is_queue maker n c f can.core in
       let d : PoolCore P = with_queue i (after_take q) c in
       let took : Frame P = record f { local = taken_into f.local q; phase = TakeQueue n } in
@@ -300,7 +300,7 @@ module _ {P : Type 0} where
       (omega (arith, next_queue z n flush (6 + memories_left z f.asked f.granted) can.frame.shape.2 few))
   fewer_at maker g (TakeRegion slot) c f on can told queues local =
       let z : PoolSizes = pool_sizes c in
-      fewer z (5 + memories_left z f.asked f.granted) _ _ (takes z (with_cell slot taken c) slot (cell_at slot c.cells) (in_phase (TakeRegion slot) f)) (omega arith)
+      fewer z (5 + memories_left z f.asked f.granted) _ _ (takes z (with_cell slot taken c) slot (nth_cell slot c.cells) (in_phase (TakeRegion slot) f)) (omega arith)
   fewer_at maker g (Empty slot had) c f on can told queues local =
       let z : PoolSizes = pool_sizes c in
       fewer z (4 + memories_left z f.asked f.granted) _ _ (one_phase z c (in_phase (Empty slot had) f) g.fault (PutUnknown slot g.slot _) (Instantiate slot g.slot) _ (omega arith) (omega arith)) (omega arith)
@@ -309,7 +309,7 @@ module _ {P : Type 0} where
       fewer z (3 + memories_left z f.asked f.granted) _ _ (one_phase z c (in_phase (Instantiate slot had) f) g.fault (PutUnknown slot g.slot _) (MakeMemory slot g.slot) _ (omega arith) (omega arith)) (omega arith)
   fewer_at maker g (MakeMemory slot had) c f on can told queues local =
       let z : PoolSizes = pool_sizes c in
-      fewer z (2 + memories_left z f.asked f.granted) _ _ (makes z c slot had (memory_made c.settings (memories_asked f.asked) (length f.granted.items) g.limiter had) (in_phase (MakeMemory slot had) f)) (omega arith)
+      fewer z (2 + memories_left z f.asked f.granted) _ _ (makes z c slot had (memory_made c.settings (memories_wanted f.asked) (length f.granted.items) g.limiter had) (in_phase (MakeMemory slot had) f)) (omega arith)
   fewer_at maker g (CountMemory lease) c f on can told queues local =
       let z : PoolSizes = pool_sizes c in
       fewer z (memories_left z f.asked f.granted) _ _
@@ -318,7 +318,7 @@ module _ {P : Type 0} where
   fewer_at maker g (PutUnknown slot had after) c f on can told queues local = omega arith
   fewer_at maker g (FreeUnknown slot after) c f on can told queues local =
       let z : PoolSizes = pool_sizes c in
-      fewer z (left_after_free z after f.asked f.granted f.returning) _ _ (freed_unknown z (with_shard (shard_of c.settings slot) (after_free (local_of c.settings slot) 0 (shard_at (shard_of c.settings slot) c.shards)) c) after (in_phase (FreeUnknown slot after) f)) (omega arith)
+      fewer z (left_after_free z after f.asked f.granted f.returning) _ _ (freed_unknown z (with_shard (shard_of c.settings slot) (after_free (local_of c.settings slot) 0 (nth_shard (shard_of c.settings slot) c.shards)) c) after (in_phase (FreeUnknown slot after) f)) (omega arith)
   fewer_at maker g UncountMemory c f on can told queues local =
       let z : PoolSizes = pool_sizes c in
       fewer z (length f.returning.items * give_back_bound z) _ _ (returned z (counting_memories (c.counters.memories - 1) c) f.returning.items (in_phase UncountMemory f) refl can.frame.shape.2) (omega arith)
@@ -343,15 +343,15 @@ module _ {P : Type 0} where
       let z : PoolSizes = pool_sizes c in
       let i : ℕ = queue_tried 0 c f in
       let below : i < length c.queues = tried_is_queue maker 0 c f can.core in
-      let q : QueueState = joined (queue_at i c.queues) f.local in
-      let merging : Frame P = record f { local = emptied f.local; phase = Merge } in
+      let q : QueueState = after_append (nth_queue i c.queues) f.local in
+      let merging : Frame P = record f { local = drained f.local; phase = Merge } in
       let took : Frame P = record merging { local = taken_into merging.local q } in
       let few : flush_left took.local f.freed ≤ 3 * length c.cells =
-      flush_few (length c.cells) took.local f.freed (grouped_joined (queue_at i c.queues) f.local (queues i below) local) (few_in_both maker i c (in_phase Merge f) can below) can.frame.shape.1 in
+      flush_few (length c.cells) took.local f.freed (grouped_joined (nth_queue i c.queues) f.local (queues i below) local) (few_in_both maker i c (in_phase Merge f) can below) can.frame.shape.1 in
       let n : ℕ = 3 * length c.cells + returns_left z f.returning in
       fewer z n _ _
       (either z n (nat_le c.settings.batch (length q.ranges)) _ _
-      (λ e. weaker z (flush_left took.local f.freed + returns_left z f.returning) n _ (omega (arith, few)) (begins_flush z (with_queue i (after_take q) c) GiveBackNext took))
+      (λ e. weaker z (flush_left took.local f.freed + returns_left z f.returning) n _ (omega (arith, few)) (begins_flush z (with_queue i (drained q) c) GiveBackNext took))
       (λ e. weaker z (returns_left z f.returning) n _ (omega arith) (gives_back z (with_queue i q c) merging)))
       (omega arith)
   fewer_at maker g (Decommit after) c f on can told queues local =
@@ -367,7 +367,7 @@ module _ {P : Type 0} where
   fewer_at maker g (Free after) c f on can told queues local =
       let z : PoolSizes = pool_sizes c in
       let j : ℕ = first_shard c.settings f.freed.items in
-      let d : PoolCore P = with_shard j (after_frees c.settings (freed_of c.settings j f.freed.items) (shard_at j c.shards)) c in
+      let d : PoolCore P = with_shard j (after_frees c.settings (freed_of c.settings j f.freed.items) (nth_shard j c.shards)) c in
       let left : Frame P = record f { freed = record f.freed { items = freed_elsewhere c.settings j f.freed.items }; phase = Free after } in
       fewer z (flush_left f.local left.freed + left_after_flush z after f.asked f.granted f.returning) _ _ (freed z d after left)
       (omega (arith, fewer_elsewhere c.settings f.freed.items can.frame.shape.3))
@@ -381,7 +381,7 @@ module _ {P : Type 0} where
       ∙ ap (λ n. steps_at (record { shards = length c.shards; all_shards = length c.shards; queues = length c.queues; slots = n }) f.phase f) same.cells
 
   -- A step of a call that is under way leaves it fewer steps,
-  pub steps_fewer : (maker : MakerTold) (g : Given) (c : PoolCore P) (f : Frame P) → CanStep maker c f → MayBeTold c.settings g f.phase f → HasGroups c f → is_idle f.phase ≡ false → steps_left (row g c f).core (row g c f).frame + 1 ≤ steps_left c f
+  pub steps_fewer : (maker : MakerTold) (g : StepGiven) (c : PoolCore P) (f : Frame P) → CanStep maker c f → MayBeTold c.settings g f.phase f → HasGroups c f → is_idle f.phase ≡ false → steps_left (row g c f).core (row g c f).frame + 1 ≤ steps_left c f
   steps_fewer maker g c f can told has on =
       omega (arith, steps_left_same c (row g c f).core (row g c f).frame (size_kept maker g c f can told), fewer_at maker g f.phase c f on can told has.queues has.local)
 

@@ -8,12 +8,13 @@ use Rattle.pool_pages.specs.declared.module_types.MemoryType.{MemoryType}
 use Rattle.pool_pages.specs.declared.unsupported.Unsupported.{Unsupported}
 use Rattle.pool_images.specs.Images.{Image}
 use Rattle.pool_images.specs.Slots.{FitsInto}
-use Rattle.pool_alloc.specs.Refusals.{or_else, first_refused, offset_refused, number_refused, memory_refused, memories_refused}
+use Rattle.std.specs.Option.{option_or}
+use Rattle.pool_alloc.specs.Refusals.{first_refused, offset_refused, number_refused, memory_refused, memories_refused}
 use Rattle.pool_alloc.specs.Sound.{IsSupported, AreSupported, AreImagesOf}
 use Rattle.pool_alloc.specs.declared.pool_core.Settings.{Settings}
 use Rattle.pool_alloc.proofs.Telling.{told_both}
 
-no_refusal : (a b : Option Unsupported) → or_else a b ≡ None → (a ≡ None) × (b ≡ None)
+no_refusal : (a b : Option Unsupported) → option_or a b ≡ None → (a ≡ None) × (b ≡ None)
 no_refusal None b e = (refl, e)
 no_refusal (Some rule) b e = absurd cc
 
@@ -41,8 +42,8 @@ pub supported : (s : Settings) (decls : List MemoryDecl) (images : List (Option 
 supported s decls images small of e =
     let limits : Option Unsupported = first_refused (λ d. refused_limits d.ty.limits) decls in
     let slots : Option Unsupported = first_refused (λ d. memory_refused s d.ty) decls in
-    let after_offsets = (no_refusal (first_refused (λ d. offset_refused s.page d.image) decls) (or_else limits (or_else (number_refused s (length decls)) slots)) e).1 in
-    let by_limits = no_refusal limits (or_else (number_refused s (length decls)) slots) after_offsets in
+    let after_offsets = (no_refusal (first_refused (λ d. offset_refused s.page d.image) decls) (option_or limits (option_or (number_refused s (length decls)) slots)) e).1 in
+    let by_limits = no_refusal limits (option_or (number_refused s (length decls)) slots) after_offsets in
     let by_number = no_refusal (number_refused s (length decls)) slots by_limits.1 in
     record {
       few = omega (arith, few_enough s (length decls) by_number.0);

@@ -1,11 +1,16 @@
 -- What is told where something is there.
-use Rattle.std.proofs.Common.{ℕ, zero, suc, ◌%◌, ◌<◌, List, [], ◌∷◌, length, arith, Option, Some, None}
+use Rattle.std.proofs.Common.{◌≡◌, get_or, replicate, inl, inr, ℕ, zero, suc, ◌<◌, List, [], ◌∷◌, length, arith, Option, Some, None}
 use Rattle.std.specs.Prelude.{IfSome, slice_get}
-use Rattle.std.proofs.Math.Nat.{mod-lt}
+use Rattle.std.proofs.lemmas.Bool.{cases_lt}
+use Rattle.std.proofs.lemmas.List.{length-replicate, get_or-replicate, get_or_past}
 
--- a remainder is below what divides
-pub mod_below : (n m : ℕ) → 0 < m → n % m < m
-mod_below n m some = mod-lt n some
+-- each element of a list of one thing is that thing, also past the end
+pub replicated : {X : Type 0} (n k : ℕ) (x : X) → get_or (replicate {A = X} n x) k x ≡ x
+replicated {X} n k x =
+    elim (cases_lt k n) [
+      | inl inside ↦ get_or-replicate {A = X} n k x x inside
+      | inr past ↦ get_or_past (replicate {A = X} n x) k x (omega (arith, length-replicate {A = X} n x))
+    ]
 
 -- what is told of two things holds of what follows of them
 pub told_both : {X : Type 0} (A B C : X → Type 0) (o : Option X) → ((x : X) → A x → B x → C x) → IfSome o A → IfSome o B → IfSome o C

@@ -1,23 +1,24 @@
 -- What a step may be told: how its page calls on what the party holds end, and what they leave.
-use Rattle.std.specs.Prelude.{◌≡◌, ℕ, Bool, true, false, not, Option, IfSome, option_map, Result}
+use Rattle.std.specs.Prelude.{◌≡◌, ◌⊎◌, ℕ, List, [], ◌∷◌, Bool, true, false, not, Option, IfSome, option_map, Result}
 use Rattle.pool_pages.specs.Count.{rounded_up}
 use Rattle.pool_pages.specs.MemoryTypes.{minimum_byte_size}
 use Rattle.pool_pages.specs.declared.module_types.MemoryDecl.{MemoryDecl}
 use Rattle.pool_pages.specs.declared.pages.DecommitBehavior.TheVariants.{Zero}
 use Rattle.pool_images.specs.Images.{Image}
-use Rattle.pool_images.specs.Orders.{Follows, resizing, replacing, emptying, resetting, set_by_hand}
-use Rattle.pool_images.specs.Slots.{Slot, IsClean, IsLeft, IsBegun, IsSized, HasImage, emptied, reused, replaced, name_of, hides}
+use Rattle.pool_images.specs.Orders.{Follows, resizing, replacing, wiping, resetting, set_by_hand}
+use Rattle.pool_images.specs.Slots.{Slot, IsClean, IsLeft, IsBegun, IsSized, HasImage, wiped, reused, replaced, name_of, hides}
 use Rattle.pool_limits.specs.Growth.{memory_answer}
-use Rattle.pool_limits.specs.LimiterTold.{LimiterTold, answered}
+use Rattle.pool_limits.specs.Exchanges.{Exchange, may_grow}
+use Rattle.pool_limits.specs.LimiterTold.{LimiterTold, after_answer}
 use Rattle.pool_limits.specs.declared.errors.LimiterError.{LimiterError}
-use Rattle.pool_memory.specs.Making.{minimum_asked, maximum_asked}
+use Rattle.pool_memory.specs.Making.{minimum_asked, maximum_asked, minimum_question}
 use Rattle.pool_memory.specs.Static.{CanHold}
 use Rattle.pool_slots.specs.Queues.{QueueState, LeavesClean, after_run, first_slot, IsFaulted}
 use Rattle.pool_slots.specs.QueueOrders.{run_of, AreInOrder}
 use Rattle.pool_memory.specs.Memories.{slot_of}
 use Rattle.pool_alloc.specs.Modules.{IfAllocated}
 use Rattle.pool_alloc.specs.Own.{slot_ended, reset_listed}
-use Rattle.pool_alloc.specs.Steps.{Given, image_wanted}
+use Rattle.pool_alloc.specs.Steps.{StepGiven, image_wanted}
 use Rattle.pool_alloc.specs.declared.pool_core.Settings.{Settings}
 use Rattle.pool_alloc.specs.declared.frame.Frame.{Frame}
 use Rattle.pool_alloc.specs.declared.frame.Phase.{Phase}
@@ -26,13 +27,20 @@ use Rattle.pool_alloc.specs.declared.frame.Phase.TheVariants.{Empty, Instantiate
 -- a slot is emptied, and clean then, or a call on its region failed
 abbrev pub Empties : Bool → Slot → Slot → Type 0
 Empties true old new = IsLeft old new
-Empties false old new = (new ≡ emptied old) × IsClean new
+Empties false old new = (new ≡ wiped old) × IsClean new
 
 -- A slot that was in use is reset, and is clean once what that leaves is decommitted, or a call on its region failed. None
 -- does where pages go back to a mapped image.
 abbrev pub Resets : Bool → ℕ → ℕ → Slot → Slot → Type 0
 Resets true keep index old new = (old.region.behaviour ≡ Zero) × IsLeft old new
 Resets false keep index old new = (new ≡ (slot_ended keep index old).slot) × LeavesClean (reset_listed keep index old) (slot_ended keep index old)
+
+-- What is so of an instantiation where the slot has the wanted image already, or what where it hasn't. Where its pages
+-- aren't told it is one of both.
+pub record ByImage (image : Option Image) (old : Slot) (Has Hasnt : Type 0) : Type 0 where
+  pub either : Has ⊎ Hasnt
+  pub has : IfSome old.region.contents (λ c. HasImage old image c → Has)
+  pub hasnt : IfSome old.region.contents (λ c. (HasImage old image c → ⊥) → Hasnt)
 
 -- The slot is instantiated: in use, with so much accessible, and its first bytes are the image and zeros. An image that
 -- it has already isn't mapped again.
@@ -41,8 +49,7 @@ pub record IsInstantiated (initial : ℕ) (hide : Bool) (image : Option Image) (
   pub holds : CanHold initial new
   pub sizes : IsSized initial hide old new
   pub named : new.image ≡ option_map name_of image
-  pub reused : IfSome old.region.contents (λ c. HasImage old image c → new ≡ reused (rounded_up old.region.page initial) hide old)
-  pub replaced : IfSome old.region.contents (λ c. (HasImage old image c → ⊥) → new ≡ replaced (rounded_up old.region.page initial) hide image old)
+  pub slot : ByImage image old (new ≡ reused (rounded_up old.region.page initial) hide old) (new ≡ replaced (rounded_up old.region.page initial) hide image old)
 
 abbrev pub InstantiatesAs : Bool → ℕ → Bool → Option Image → Slot → Slot → Type 0
 InstantiatesAs true initial hide image old new = IsLeft old new
@@ -53,20 +60,22 @@ abbrev pub InstantiatesFor : Settings → MemoryDecl → Bool → Option Image �
 InstantiatesFor s decl fault image old new = InstantiatesAs fault (minimum_byte_size decl.ty) (hides decl.ty s.tunables old.region.page) image old new
 
 -- The limiter is asked for a memory: it answers by its rule where it tells one, and counts what it doesn't grant.
-pub record Asks (given : Result Bool LimiterError) (old new : LimiterTold) (decl : MemoryDecl) : Type 0 where
+pub record AsksForMemory (given : Result Bool LimiterError) (old new : LimiterTold) (decl : MemoryDecl) : Type 0 where
   pub answer : given ≡ memory_answer old.rule given (minimum_asked decl.ty) (maximum_asked decl.ty)
-  pub left : new ≡ answered given old
+  pub left : new ≡ after_answer given old
 
 -- the next ranges of one slot are decommitted, or a decommit failed
 abbrev pub Decommits : Bool → QueueState → QueueState → Type 0
 Decommits true old new = IsFaulted old new
 Decommits false old new = new ≡ after_run old
 
--- The page calls of an instantiation, where pages are told: those that a slot with the wanted image needs, or those that
--- another one does. Where the region tells its plan, they were made in their order, and ended so.
-pub record FollowsPlan (initial : ℕ) (hide : Bool) (image : Option Image) (fault : Bool) (old new : Slot) : Type 0 where
-  pub reuse : IfSome old.region.contents (λ c. HasImage old image c → Follows (resizing (rounded_up old.region.page initial) hide old) (not fault) old.region new.region)
-  pub replace : IfSome old.region.contents (λ c. (HasImage old image c → ⊥) → Follows (replacing (rounded_up old.region.page initial) hide image old) (not fault) old.region new.region)
+-- The page calls of an instantiation: those that a slot with the wanted image needs, or those that another one does.
+-- Where the region tells its plan, they were made in their order, and ended so.
+abbrev pub FollowsPlan : ℕ → Bool → Option Image → Bool → Slot → Slot → Type 0
+FollowsPlan initial hide image fault old new =
+    ByImage image old
+    (Follows (resizing (rounded_up old.region.page initial) hide old) (not fault) old.region new.region)
+    (Follows (replacing (rounded_up old.region.page initial) hide image old) (not fault) old.region new.region)
 
 abbrev pub FollowsPlanFor : Settings → MemoryDecl → Bool → Option Image → Slot → Slot → Type 0
 FollowsPlanFor s decl fault image old new = FollowsPlan (minimum_byte_size decl.ty) (hides decl.ty s.tunables old.region.page) image fault old new
@@ -81,7 +90,7 @@ FollowsRun fault old new = AreInOrder (first_slot old.ranges) (run_of (first_slo
 
 module _ {P : Type 0} where
   -- the given answers may come in this phase
-  abbrev pub MayBeTold : Settings → Given → Phase P → Frame P → Type 0
+  abbrev pub MayBeTold : Settings → StepGiven → Phase P → Frame P → Type 0
   MayBeTold s g (Empty slot held) f = Empties g.fault held g.slot
   MayBeTold s g (Instantiate slot held) f = IfAllocated f (λ decl. InstantiatesFor s decl g.fault (image_wanted f) held g.slot)
   MayBeTold s g (Reset lease) f = Resets g.fault s.keep_resident.bytes lease.index (slot_of lease.memory) g.slot
@@ -89,13 +98,19 @@ module _ {P : Type 0} where
   MayBeTold s g _ f = Unit {0}
 
   -- what the step makes of the limiter: only the making of a memory asks it
-  abbrev pub AsksOf : LimiterTold → LimiterTold → Given → Phase P → Frame P → Type 0
-  AsksOf old new g (MakeMemory slot held) f = IfAllocated f (Asks g.limiter old new)
+  abbrev pub AsksOf : LimiterTold → LimiterTold → StepGiven → Phase P → Frame P → Type 0
+  AsksOf old new g (MakeMemory slot held) f = IfAllocated f (AsksForMemory g.limiter old new)
   AsksOf old new g _ f = new ≡ old
 
+  -- What passes between the step and the limiter, of which this is told: the making of a memory asks it once, and no
+  -- other step speaks to it.
+  abbrev pub LimiterHears : (List Exchange → Type 0) → StepGiven → Phase P → Frame P → Type 0
+  LimiterHears Passes g (MakeMemory slot held) f = IfAllocated f (λ decl. Passes (may_grow (minimum_question decl.ty) g.limiter ∷ []))
+  LimiterHears Passes g _ f = Passes []
+
   -- whether a page call of the step failed is as the regions' plans say, where they are told
-  abbrev pub IsPlanned : Settings → Given → Phase P → Frame P → Type 0
-  IsPlanned s g (Empty slot held) f = Follows (emptying held) (not g.fault) held.region g.slot.region
+  abbrev pub IsPlanned : Settings → StepGiven → Phase P → Frame P → Type 0
+  IsPlanned s g (Empty slot held) f = Follows (wiping held) (not g.fault) held.region g.slot.region
   IsPlanned s g (Instantiate slot held) f = IfAllocated f (λ decl. FollowsPlanFor s decl g.fault (image_wanted f) held g.slot)
   IsPlanned s g (Reset lease) f = FollowsReset s.keep_resident.bytes g.fault (slot_of lease.memory) g.slot
   IsPlanned s g (Decommit after) f = FollowsRun g.fault f.local g.queue

@@ -5,7 +5,8 @@ use Rattle.pool_slots.specs.declared.queued_range.QueueKind.{QueueKind}
 use Rattle.pool_slots.specs.declared.queued_range.QueuedRange.{QueuedRange}
 use Rattle.pool_alloc.specs.Leases.{Lease}
 use Rattle.pool_alloc.specs.Reserved.{Reserved}
-use Rattle.pool_alloc.specs.Steps.{memories_asked, queue_at}
+use Rattle.pool_alloc.specs.Steps.{memories_wanted, nth_queue}
+use Rattle.pool_alloc.specs.Stepping.{grant_memories}
 use Rattle.pool_alloc.specs.declared.pool_core.PoolCore.{PoolCore}
 use Rattle.pool_alloc.specs.declared.frame.AfterFree.{AfterFree}
 use Rattle.pool_alloc.specs.declared.frame.AfterFree.TheVariants.{Refuse, ReturnNext}
@@ -15,8 +16,6 @@ use Rattle.pool_alloc.specs.declared.frame.Call.{Call}
 use Rattle.pool_alloc.specs.declared.frame.Call.TheVariants as call
 use Rattle.pool_alloc.specs.declared.frame.Frame.{Frame}
 use Rattle.pool_alloc.specs.declared.frame.FreedSlot.{FreedSlot}
-use Rattle.pool_alloc.specs.declared.frame.Grant.{Grant}
-use Rattle.pool_alloc.specs.declared.frame.Grant.TheVariants.{Instance}
 use Rattle.pool_alloc.specs.declared.frame.ModuleCall.{ModuleCall}
 use Rattle.pool_alloc.specs.declared.frame.Phase.{Phase}
 use Rattle.pool_alloc.specs.declared.frame.Phase.TheVariants.{Idle, Key, Validate, CountInstance, Pick, TakeQueue, TakeRegion, Empty, Instantiate, MakeMemory, CountMemory, PutUnknown, FreeUnknown, UncountMemory, Reset, Merge, Decommit, PutRegion, Free, UncountInstance}
@@ -63,7 +62,7 @@ abbrev pub IsGrouped : QueueState → Type 0
 IsGrouped q = runs q.ranges ≤ length q.memories
 
 abbrev pub AreGrouped : List QueueState → Type 0
-AreGrouped queues = (i : ℕ) → i < length queues → IsGrouped (queue_at i queues)
+AreGrouped queues = (i : ℕ) → i < length queues → IsGrouped (nth_queue i queues)
 
 -- what is left of a flush: each run of ranges, and of each slot that its region is put back and that it is freed
 abbrev pub flush_left : QueueState → Reserved FreedSlot → ℕ
@@ -76,7 +75,7 @@ returns_left z returning = return_bound z (length returning.items)
 -- What is left once the memory that is allocated is granted or refused: the module's other memories, and that all which
 -- are granted until then may be given back.
 abbrev pub memories_left : PoolSizes → Option ModuleCall → Reserved Lease → ℕ
-memories_left z asked granted = (length (memories_asked asked) - (length granted.items + 1)) * (allocation_bound z + give_back_bound z) + return_bound z (length granted.items + 1)
+memories_left z asked granted = (length (memories_wanted asked) - (length granted.items + 1)) * (allocation_bound z + give_back_bound z) + return_bound z (length granted.items + 1)
 
 -- what is left of an allocation where so many queues were gone through: their flushes with the rounds of picks after them,
 -- and six steps with the slot
@@ -101,15 +100,11 @@ module _ {P : Type 0} where
   abbrev pub pool_sizes : PoolCore P → PoolSizes
   pool_sizes c = record { shards = length c.shards; all_shards = length c.shards; queues = length c.queues; slots = length c.cells }
 
-  -- how many memories a grant has
-  abbrev pub memories_in : Grant P → ℕ
-  memories_in (Instance lease) = length lease.memories.items
-
   -- at most how many steps a call makes, on a pool of these sizes and on this one
   abbrev pub bound_of_call : PoolSizes → Call P → ℕ
   bound_of_call z call.Key = 1
-  bound_of_call z (call.Module m) = instance_bound z (length (memories_asked (Some m)))
-  bound_of_call z (call.GiveBack grant) = return_bound z (memories_in grant)
+  bound_of_call z (call.Module m) = instance_bound z (length (memories_wanted (Some m)))
+  bound_of_call z (call.GiveBack grant) = return_bound z (grant_memories grant)
 
   abbrev pub bound_of : PoolCore P → Call P → ℕ
   bound_of c call = bound_of_call (pool_sizes c) call
@@ -118,8 +113,8 @@ module _ {P : Type 0} where
   abbrev pub steps_at : PoolSizes → Phase P → Frame P → ℕ
   steps_at z Idle f = 0
   steps_at z Key f = 1
-  steps_at z Validate f = instance_bound z (length (memories_asked f.asked))
-  steps_at z CountInstance f = 2 + length (memories_asked f.asked) * (allocation_bound z + give_back_bound z)
+  steps_at z Validate f = instance_bound z (length (memories_wanted f.asked))
+  steps_at z CountInstance f = 2 + length (memories_wanted f.asked) * (allocation_bound z + give_back_bound z)
   steps_at z (Pick queues tried) f = picks_left z queues tried f.asked f.granted
   steps_at z (TakeQueue queues) f = queues_left z queues f.asked f.granted
   steps_at z (TakeRegion slot) f = 6 + memories_left z f.asked f.granted

@@ -4,7 +4,7 @@ use Rattle.pool_pages.specs.MakerTold.{MakerTold}
 use Rattle.pool_pages.specs.declared.module_types.MemoryDecl.{MemoryDecl}
 use Rattle.pool_slots.specs.Queues.{empty_queue}
 use Rattle.pool_alloc.specs.Reserved.{no_room}
-use Rattle.pool_alloc.specs.Steps.{memories_asked, images_asked}
+use Rattle.pool_alloc.specs.Steps.{memories_wanted, images_wanted}
 use Rattle.pool_alloc.specs.Sound.{IsLeaseOf, AreImagesOf}
 use Rattle.pool_alloc.specs.Modules.{HasImages}
 use Rattle.pool_alloc.specs.declared.pool_core.Settings.{Settings}
@@ -54,7 +54,7 @@ module _ {P : Type 0} where
   -- of the pool.
   abbrev pub MayBegin : MakerTold → Settings → Call P → Frame P → Type 0
   MayBegin maker s call.Key f = IsIdle f
-  MayBegin maker s (call.Module m) f = IsIdle f × AreImagesOf s (memories_asked (Some m)) (images_asked (Some m)) × HasImages (Some m)
+  MayBegin maker s (call.Module m) f = IsIdle f × AreImagesOf s (memories_wanted (Some m)) (images_wanted (Some m)) × HasImages (Some m)
   MayBegin maker s (call.GiveBack grant) f = IsIdle f × IsGrant maker s grant
 
   -- the memories of a grant are given back in order, and then the instance
@@ -70,9 +70,3 @@ module _ {P : Type 0} where
   begun_call call.Key f = record f { phase = Key }
   begun_call (call.Module m) f = record f { asked = Some m; phase = Validate }
   begun_call (call.GiveBack grant) f = gives_back grant f
-
-  -- how often a call brings a thing along, and how many instances and memories that are counted
-  abbrev pub call_has : (Grant P → ℕ) → Call P → ℕ
-  call_has of call.Key = 0
-  call_has of (call.Module m) = 0
-  call_has of (call.GiveBack grant) = of grant

@@ -14,7 +14,7 @@ use Rattle.pool_slots.specs.Queues.{QueueState, QueuedMemory, HasOwners, AreApar
 use Rattle.pool_alloc.specs.Freeing.{AreUsedInTurn}
 use Rattle.pool_alloc.specs.Modules.{HasImages, IfAllocated}
 use Rattle.pool_alloc.specs.Reserved.{Reserved}
-use Rattle.pool_alloc.specs.Steps.{memories_asked, image_wanted, shard_at, cell_at, queue_at, shard_of, local_of, freed_of, first_shard, queue_tried}
+use Rattle.pool_alloc.specs.Steps.{memories_wanted, image_wanted, nth_shard, nth_cell, nth_queue, shard_of, local_of, freed_of, first_shard, queue_tried}
 use Rattle.pool_alloc.specs.declared.pool_core.PoolCore.{PoolCore}
 use Rattle.pool_alloc.specs.declared.pool_core.Settings.{Settings}
 use Rattle.pool_alloc.specs.declared.frame.Frame.{Frame}
@@ -30,15 +30,15 @@ CanValidate decls = (k : ℕ) → IfSome (slice_get decls k) (λ decl. decl.ty.p
 -- the region lies in its cell; one that was never used is as it was made
 pub record CanTakeRegion (slot : ℕ) (cells : List Cell) (s : Settings) : Type 0 where
   pub inside : slot < length cells
-  pub there : is_taken (cell_at slot cells) ≡ false
-  pub fresh : (region : Told) → cell_at slot cells ≡ unmapped region → IsFresh (count s.page 0) (count s.page 0) s.max_memory_size region
+  pub there : is_taken (nth_cell slot cells) ≡ false
+  pub fresh : (region : Told) → nth_cell slot cells ≡ unmapped region → IsFresh (count s.page 0) (count s.page 0) s.max_memory_size None region
 
 -- a memory of the module is the next one
 pub record HasNext (call : Option ModuleCall) (granted : ℕ) : Type 0 where
   pub asked : IsSome call
   pub images : HasImages call
   pub small : granted < 2 ^ 32
-  pub more : granted < length (memories_asked call)
+  pub more : granted < length (memories_wanted call)
 
 -- the memory and its image fit the slot
 pub record CanBegin (held : Slot) (image : Option Image) (decl : MemoryDecl) : Type 0 where
@@ -58,7 +58,7 @@ pub record CanMake (s : Settings) (held : Slot) (decl : MemoryDecl) : Type 0 whe
 pub record CanFreeOne (slot : ℕ) (s : Settings) (shards : List ShardState) : Type 0 where
   pub slots : 0 < s.slots_per_shard
   pub inside : shard_of s slot < length shards
-  pub used : IsSome (use_of (shard_at (shard_of s slot) shards) (local_of s slot).0)
+  pub used : IsSome (use_of (nth_shard (shard_of s slot) shards) (local_of s slot).0)
 
 -- the local queue is empty, and has room
 pub record CanReset (s : Settings) (held : Slot) (local : QueueState) : Type 0 where
@@ -80,7 +80,7 @@ pub record CanMerge (queue local : QueueState) : Type 0 where
   pub slot_room : local.slot_room ≡ queue.slot_room
 
 -- the first slot of the queue has a cell, and there is room among those to be freed
-pub record CanPut (slots : ℕ) (local : QueueState) (freed : Reserved FreedSlot) : Type 0 where
+pub record CanPutNext (slots : ℕ) (local : QueueState) (freed : Reserved FreedSlot) : Type 0 where
   pub no_ranges : local.ranges ≡ []
   pub some : 0 < length local.memories
   pub inside : (m : QueuedMemory) (rest : List QueuedMemory) → local.memories ≡ m ∷ rest → m.index < slots
@@ -90,7 +90,7 @@ pub record CanPut (slots : ℕ) (local : QueueState) (freed : Reserved FreedSlot
 pub record CanFree (s : Settings) (freed : List FreedSlot) (shards : List ShardState) : Type 0 where
   pub slots : 0 < s.slots_per_shard
   pub inside : first_shard s freed < length shards
-  pub used : AreUsedInTurn s (freed_of s (first_shard s freed) freed) (shard_at (first_shard s freed) shards)
+  pub used : AreUsedInTurn s (freed_of s (first_shard s freed) freed) (nth_shard (first_shard s freed) shards)
   pub bytes : All (λ x. x.bytes ≤ 2 ^ 32) freed
 
 module _ {P : Type 0} where
@@ -98,10 +98,10 @@ module _ {P : Type 0} where
   abbrev pub CanStepAt : Phase P → PoolCore P → Frame P → Type 0
   CanStepAt Idle c f = Unit {0}
   CanStepAt Key c f = 0 < c.settings.stripes
-  CanStepAt Validate c f = CanValidate (memories_asked f.asked)
+  CanStepAt Validate c f = CanValidate (memories_wanted f.asked)
   CanStepAt CountInstance c f = c.counters.core_instances + 1 < 2 ^ 64
   CanStepAt (Pick queues tried) c f = (tried < length c.shards) × (length f.granted.items < 2 ^ 32)
-  CanStepAt (TakeQueue queues) c f = (queues < length c.queues) × IsSpareOf (queue_at (queue_tried queues c f) c.queues) f.local
+  CanStepAt (TakeQueue queues) c f = (queues < length c.queues) × IsSpareOf (nth_queue (queue_tried queues c f) c.queues) f.local
   CanStepAt (TakeRegion slot) c f = CanTakeRegion slot c.cells c.settings
   CanStepAt (Empty slot held) c f = Unit {0}
   CanStepAt (Instantiate slot held) c f = HasNext f.asked (length f.granted.items) × IsClean held × IfAllocated f (CanBegin held (image_wanted f))
@@ -111,8 +111,8 @@ module _ {P : Type 0} where
   CanStepAt (FreeUnknown slot after) c f = CanFreeOne slot c.settings c.shards
   CanStepAt UncountMemory c f = (0 < c.counters.memories) × (0 < length f.returning.items)
   CanStepAt (Reset lease) c f = CanReset c.settings (slot_of lease.memory) f.local
-  CanStepAt Merge c f = (0 < length c.queues) × CanMerge (queue_at (queue_tried 0 c f) c.queues) f.local
+  CanStepAt Merge c f = (0 < length c.queues) × CanMerge (nth_queue (queue_tried 0 c f) c.queues) f.local
   CanStepAt (Decommit after) c f = (0 < length f.local.ranges) × HasOwners f.local
-  CanStepAt (PutRegion after) c f = CanPut (length c.cells) f.local f.freed
+  CanStepAt (PutRegion after) c f = CanPutNext (length c.cells) f.local f.freed
   CanStepAt (Free after) c f = CanFree c.settings f.freed.items c.shards
   CanStepAt UncountInstance c f = 0 < c.counters.core_instances

@@ -1,10 +1,11 @@
 -- What is granted, and how a lease is changed.
-use Rattle.std.specs.Prelude.{◌≡◌, ℕ, ◌+◌, ◌≤◌, List, length, slice_index_or, slice_set, false, Option, Result, OnOk, OnErr}
+use Rattle.std.specs.Prelude.{◌≡◌, ℕ, ◌+◌, ◌≤◌, List, length, slice_index_or, slice_set, false, Option, Some, Result, OnOk, OnErr}
 use Rattle.pool_images.specs.Slots.{IsInUse}
+use Rattle.pool_limits.specs.Exchanges.{Exchange}
 use Rattle.pool_limits.specs.LimiterTold.{LimiterTold}
 use Rattle.pool_limits.specs.declared.errors.GrowFault.{GrowFault}
 use Rattle.pool_limits.specs.declared.errors.Trap.{Trap}
-use Rattle.pool_memory.specs.Growing.{IsGrowth}
+use Rattle.pool_memory.specs.Growing.{GrowsAsking}
 use Rattle.pool_memory.specs.Memories.{MemoryState, slot_of, memory_written, access_answer}
 use Rattle.pool_alloc.specs.Reserved.{Reserved}
 
@@ -14,7 +15,7 @@ pub record Lease : Type 0 where
   pub memory : MemoryState
 
 -- the memory can be read and written, is no larger than it may be, and stays where it is
-pub record IsMemory (m : MemoryState) : Type 0 where
+pub record IsUsable (m : MemoryState) : Type 0 where
   pub within : m.linear.size ≤ m.linear.capacity
   pub in_use : IsInUse (slot_of m)
   pub inside : m.linear.size ≤ (slot_of m).accessible.bytes
@@ -26,13 +27,14 @@ pub record IsWritten (at : ℕ) (bytes : List ℕ) (old new : Lease) (result : R
   pub answer : result ≡ access_answer (at + length bytes) old.memory.linear.size
   pub written : OnOk result (new.memory ≡ memory_written at bytes old.memory)
   pub same : OnErr result (new.memory ≡ old.memory)
-  pub memory : IsMemory new.memory
+  pub memory : IsUsable new.memory
 
--- The memory was asked to grow by so many of its pages, and this was the answer. The limiter was as told, and is left so.
-pub record IsGrown (pages : ℕ) (old new : Lease) (asked left : LimiterTold) (answer : Result (Option ℕ) GrowFault) : Type 0 where
+-- The memory was asked to grow by so many of its pages, and this was the answer. The limiter was in the first of these
+-- states, and is left in the other.
+pub record IsGrown {R : Type 0} (told : R → LimiterTold) (leads : R → Exchange → R → Type 0) (pages : ℕ) (old new : Lease) (before after : R) (answer : Result (Option ℕ) GrowFault) : Type 0 where
   pub index : new.index ≡ old.index
-  pub growth : IsGrowth pages old.memory.linear.size old.memory new.memory asked left answer
-  pub memory : IsMemory new.memory
+  pub growth : GrowsAsking told leads pages old.memory.linear.size old.memory new.memory (Some before) (Some after) answer
+  pub memory : IsUsable new.memory
 
 -- the lease at this place was so changed, and the others stay
 pub record IsChanged (Change : Lease → Lease → Type 0) (place : ℕ) (old new : Reserved Lease) : Type 0 where

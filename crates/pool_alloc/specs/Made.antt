@@ -1,7 +1,9 @@
 -- A pool as it is made.
-use Rattle.std.specs.Prelude.{◌≡◌, ℕ, ◌*◌, ◌<◌, List, [], ◌∷◌, length, max}
+use Rattle.std.specs.Prelude.{◌≡◌, ◌⊎◌, ℕ, ◌*◌, ◌<◌, List, [], ◌∷◌, length, max, Bool, true, Option, Some, None}
 use Rattle.pool_pages.specs.Count.{count, rounded_up}
 use Rattle.pool_pages.specs.MakerTold.{MakerTold}
+use Rattle.pool_pages.specs.Told.{Rose}
+use Rattle.pool_pages.specs.declared.bad_config.BadConfig.{BadConfig}
 use Rattle.pool_pages.specs.declared.config.PoolingAllocationConfig.{PoolingAllocationConfig}
 use Rattle.pool_pages.specs.declared.module_types.Tunables.{Tunables}
 use Rattle.pool_pages.specs.declared.module_types.MemoryKind.TheVariants.{LinearMemory}
@@ -11,7 +13,9 @@ use Rattle.pool_hall.specs.declared.unit_name.SlotKind.TheVariants.{Memory as me
 use Rattle.pool_index.specs.Shard.{fresh_shard}
 use Rattle.pool_slots.specs.Cells.{Cell, unmapped, region_made}
 use Rattle.pool_slots.specs.Queues.{empty_queue}
-use Rattle.pool_alloc.specs.Steps.{cell_at}
+use Rattle.pool_slots.specs.declared.errors.PoolNewError.{PoolNewError}
+use Rattle.pool_slots.specs.declared.errors.PoolNewError.TheVariants as refused
+use Rattle.pool_alloc.specs.Steps.{nth_cell}
 use Rattle.pool_alloc.specs.declared.pool_core.PoolCore.{PoolCore}
 use Rattle.pool_alloc.specs.declared.pool_core.Settings.{Settings}
 
@@ -34,7 +38,7 @@ settings_of page config tunables offered = record {
 -- each slot has a cell with its region, which was never used
 pub record HasMadeCells (maker : MakerTold) (behaviour : DecommitBehavior) (max_memory_size total : ℕ) (cells : List Cell) : Type 0 where
   pub number : length cells ≡ total
-  pub each : (i : ℕ) → i < total → cell_at i cells ≡ unmapped (region_made maker behaviour max_memory_size i)
+  pub each : (i : ℕ) → i < total → nth_cell i cells ≡ unmapped (region_made maker behaviour max_memory_size i)
 
 -- Every slot is cold and has its region in its cell, the one queue is empty, and nothing is counted.
 pub record IsMadeCore {P : Type 0} (maker : MakerTold) (config : PoolingAllocationConfig) (tunables : Tunables) (offered : Offered) (c : PoolCore P) : Type 0 where
@@ -43,3 +47,24 @@ pub record IsMadeCore {P : Type 0} (maker : MakerTold) (config : PoolingAllocati
   pub cells : HasMadeCells maker c.settings.behaviour c.settings.max_memory_size config.limits.total_memories c.cells
   pub queues : c.queues ≡ empty_queue (2 * config.decommit_batch_size) (2 * config.decommit_batch_size) ∷ []
   pub counters : c.counters ≡ record { key = 0; core_instances = 0; memories = 0 }
+
+-- No pool is made where a rule of the settings is broken, and then the refusal names the first.
+abbrev pub IsRefusedFor : Option BadConfig → PoolNewError → Type 0
+IsRefusedFor broken (refused.BadConfig rule) = broken ≡ Some rule
+IsRefusedFor broken _ = broken ≡ None
+
+-- of the refusals, only a page fault raises the maker's count of faults
+abbrev pub CountsFault : ℕ → ℕ → PoolNewError → Type 0
+CountsFault old new refused.PageFault = Rose old new
+CountsFault old new _ = new ≡ old
+
+-- It comes only where the maker's own list has the making of a region, or the maker behind it failed, of which it
+-- raises the count.
+abbrev pub NeedsFault : Bool → ℕ → ℕ → PoolNewError → Type 0
+NeedsFault listed old new refused.PageFault = (listed ≡ true) ⊎ Rose old new
+NeedsFault listed old new _ = new ≡ old
+
+-- under a told plan, only where that lists the making of a region as one that fails
+abbrev pub NeedsListed : Bool → PoolNewError → Type 0
+NeedsListed listed refused.PageFault = listed ≡ true
+NeedsListed listed _ = Unit {0}

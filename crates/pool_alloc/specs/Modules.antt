@@ -2,7 +2,7 @@
 use Rattle.std.specs.Prelude.{◌≡◌, length, slice_get, Option, IfSome}
 use Rattle.std.specs.Arc.{arc_value}
 use Rattle.pool_pages.specs.declared.module_types.MemoryDecl.{MemoryDecl}
-use Rattle.pool_alloc.specs.Steps.{memories_asked}
+use Rattle.pool_alloc.specs.Steps.{memories_wanted}
 use Rattle.pool_alloc.specs.declared.frame.Frame.{Frame}
 use Rattle.pool_alloc.specs.declared.frame.ModuleCall.{ModuleCall}
 
@@ -13,4 +13,4 @@ HasImages asked = IfSome asked (λ m. IfSome m.images (λ images. length (arc_va
 module _ {P : Type 0} where
   -- the memory that is allocated
   abbrev pub IfAllocated : Frame P → (MemoryDecl → Type 0) → Type 0
-  IfAllocated f Q = IfSome (slice_get (memories_asked f.asked) (length f.granted.items)) Q
+  IfAllocated f Q = IfSome (slice_get (memories_wanted f.asked) (length f.granted.items)) Q

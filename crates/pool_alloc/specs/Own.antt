@@ -15,8 +15,8 @@ use Rattle.pool_memory.specs.declared.memory_error.MemoryError.TheVariants as un
 use Rattle.pool_slots.specs.Queues.{QueueState, QueuedMemory, with_memory}
 use Rattle.pool_slots.specs.declared.queued_range.QueuedRange.{QueuedRange}
 use Rattle.pool_slots.specs.declared.queued_range.QueueKind.TheVariants as queued
-use Rattle.pool_slots.specs.declared.request.AllocError.{AllocError}
-use Rattle.pool_slots.specs.declared.request.AllocError.TheVariants as refusal
+use Rattle.pool_slots.specs.declared.errors.AllocError.{AllocError}
+use Rattle.pool_slots.specs.declared.errors.AllocError.TheVariants as refusal
 use Rattle.pool_alloc.specs.declared.pool_core.Settings.{Settings}
 
 -- the image slot that is made of a region that was never used
@@ -62,13 +62,13 @@ made_of ty (Ok m) = Ok (fixed_in ty m)
 made_of ty (Err refused) = Err (refusal.Unsupported refused.1)
 
 -- the memory that begins with so many bytes and may have so many, or why there is none
-abbrev pub made_with : Result (ℕ × Option ℕ) MemoryError → MemoryType → ℕ → Slot → Result MemoryState AllocError
-made_with (Err e) ty room slot = Err (refusal_of e)
-made_with (Ok limits) ty room slot = made_of ty (made_static room limits.0 limits.1 slot)
+abbrev pub made_of_limits : Result (ℕ × Option ℕ) MemoryError → MemoryType → ℕ → Slot → Result MemoryState AllocError
+made_of_limits (Err e) ty room slot = Err (refusal_of e)
+made_of_limits (Ok limits) ty room slot = made_of ty (made_static room limits.0 limits.1 slot)
 
 abbrev pub made_for : ℕ → Result Bool LimiterError → Slot → Option MemoryDecl → Result MemoryState AllocError
 made_for room answer slot None = Err refusal.Memory
-made_for room answer slot (Some decl) = made_with (limits_answer answer decl.ty) decl.ty room slot
+made_for room answer slot (Some decl) = made_of_limits (limits_answer answer decl.ty) decl.ty room slot
 
 -- memory k of the module, made in a slot where the limiter gave this answer, or why it isn't
 abbrev pub memory_made : Settings → List MemoryDecl → ℕ → Result Bool LimiterError → Slot → Result MemoryState AllocError

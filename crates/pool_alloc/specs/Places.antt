@@ -13,16 +13,16 @@ use Rattle.pool_alloc.specs.declared.frame.Phase.TheVariants.{Idle, Key, Validat
 
 -- the right to use a memory slot, and the region of a memory slot
 pub data Thing : Type 0 where
-  slot_of : ℕ → Thing
+  right_to : ℕ → Thing
   region_of : ℕ → Thing
 
 -- how often these are the thing: the slot i, the region of slot i, and both
 abbrev pub slot_count : Thing → ℕ → ℕ
-slot_count (slot_of k) i = one_if (k == i)
+slot_count (right_to k) i = one_if (k == i)
 slot_count (region_of k) i = 0
 
 abbrev pub region_count : Thing → ℕ → ℕ
-region_count (slot_of k) i = 0
+region_count (right_to k) i = 0
 region_count (region_of k) i = one_if (k == i)
 
 abbrev pub both_count : Thing → ℕ → ℕ
@@ -33,8 +33,8 @@ abbrev pub unused_count : Thing → ℕ → ℕ → List (Option (Option MemoryI
 unused_count t first step [] = 0
 unused_count t first step (u ∷ uses) = (if is_some u then 0 else slot_count t first) + unused_count t (first + step) step uses
 
-abbrev pub shard_count : Thing → ShardState → ℕ
-shard_count t s = unused_count t s.first s.step s.used
+abbrev pub free_count : Thing → ShardState → ℕ
+free_count t s = unused_count t s.first s.step s.used
 
 -- cells have the regions that nobody took: the first of these is slot i's
 abbrev pub cells_count : Thing → ℕ → List Cell → ℕ
@@ -54,13 +54,13 @@ freed_count t slots = sum_by (λ x. slot_count t x.slot) slots
 
 -- what is made: so many slots, each with its region
 abbrev pub made_count : Thing → ℕ → ℕ
-made_count (slot_of k) total = one_if (nat_lt k total)
+made_count (right_to k) total = one_if (nat_lt k total)
 made_count (region_of k) total = one_if (nat_lt k total)
 
 module _ {P : Type 0} where
   -- what the parts of the pool have
   abbrev pub kept_count : Thing → PoolCore P → ℕ
-  kept_count t c = sum_by (shard_count t) c.shards + cells_count t 0 c.cells + sum_by (λ q. queued_count t q.memories) c.queues
+  kept_count t c = sum_by (free_count t) c.shards + cells_count t 0 c.cells + sum_by (λ q. queued_count t q.memories) c.queues
 
   -- what a call has taken for its next step
   abbrev pub phase_count : Thing → Phase P → ℕ

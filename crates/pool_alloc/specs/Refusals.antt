@@ -1,5 +1,6 @@
 -- Which modules the pool refuses, and for which of the rules that they break.
 use Rattle.std.specs.Prelude.{ℕ, ◌%◌, ◌^◌, ◌==◌, List, [], ◌∷◌, length, nat_le, nat_lt, if◌then◌else◌, Option, Some, None}
+use Rattle.std.specs.Option.{option_or}
 use Rattle.pool_pages.specs.MemoryTypes.{minimum_byte_size, refused_limits}
 use Rattle.pool_pages.specs.declared.module_types.ImageDecl.{ImageDecl}
 use Rattle.pool_pages.specs.declared.module_types.MemoryDecl.{MemoryDecl}
@@ -8,15 +9,10 @@ use Rattle.pool_pages.specs.declared.unsupported.Unsupported.{Unsupported}
 use Rattle.pool_pages.specs.declared.unsupported.Unsupported.TheVariants.{ImageOffset, MemoriesPerModule, MemoryUnrepresentable, MemoryExceedsSlot, MemoryShared}
 use Rattle.pool_alloc.specs.declared.pool_core.Settings.{Settings}
 
--- the first refusal, if there is one, and else the other
-abbrev pub or_else : Option Unsupported → Option Unsupported → Option Unsupported
-or_else (Some u) other = Some u
-or_else None other = other
-
 -- the refusal of the first memory of which a rule is broken
 abbrev pub first_refused : (MemoryDecl → Option Unsupported) → List MemoryDecl → Option Unsupported
 first_refused rule [] = None
-first_refused rule (decl ∷ decls) = or_else (rule decl) (first_refused rule decls)
+first_refused rule (decl ∷ decls) = option_or (rule decl) (first_refused rule decls)
 
 -- an image begins with a page
 abbrev pub offset_refused : ℕ → Option ImageDecl → Option Unsupported
@@ -41,7 +37,7 @@ memory_refused s ty =
 -- The first rule that a module with these memories breaks: each rule is tested for all memories before the next is.
 abbrev pub memories_refused : Settings → List MemoryDecl → Option Unsupported
 memories_refused s decls =
-    or_else (first_refused (λ d. offset_refused s.page d.image) decls)
-    (or_else (first_refused (λ d. refused_limits d.ty.limits) decls)
-    (or_else (number_refused s (length decls))
+    option_or (first_refused (λ d. offset_refused s.page d.image) decls)
+    (option_or (first_refused (λ d. refused_limits d.ty.limits) decls)
+    (option_or (number_refused s (length decls))
     (first_refused (λ d. memory_refused s d.ty) decls)))

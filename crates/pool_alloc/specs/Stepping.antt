@@ -1,11 +1,12 @@
 -- A step: a row of the table under answers that may come, and what it keeps.
-use Rattle.std.specs.Prelude.{◌≡◌, ℕ, ◌+◌, ◌^◌, ◌<◌, ◌≤◌, ◌&&◌, length, Bool, true, false, not, Option, Some, None, is_some}
+use Rattle.std.specs.Prelude.{◌≡◌, ℕ, ◌+◌, ◌^◌, ◌<◌, ◌≤◌, ◌&&◌, length, List, Bool, true, false, not, Option, Some, None, is_some}
 use Rattle.pool_pages.specs.MakerTold.{MakerTold}
+use Rattle.pool_limits.specs.Exchanges.{Exchange}
 use Rattle.pool_limits.specs.LimiterTold.{LimiterTold}
-use Rattle.pool_alloc.specs.Steps.{Given, After, row}
-use Rattle.pool_alloc.specs.Answers.{MayBeTold, IsPlanned, AsksOf}
+use Rattle.pool_alloc.specs.Steps.{StepGiven, After, row}
+use Rattle.pool_alloc.specs.Answers.{MayBeTold, IsPlanned, AsksOf, LimiterHears}
 use Rattle.pool_alloc.specs.Places.{Thing, kept_count, frame_count, leased_count, phase_instances, frame_memories}
-use Rattle.pool_alloc.specs.Sound.{IsCore, IsFrame, Fits}
+use Rattle.pool_alloc.specs.Sound.{IsCore, IsFrame, FitsCore}
 use Rattle.pool_alloc.specs.declared.pool_core.PoolCore.{PoolCore}
 use Rattle.pool_alloc.specs.declared.frame.Frame.{Frame}
 use Rattle.pool_alloc.specs.declared.frame.Phase.{Phase}
@@ -27,15 +28,15 @@ module _ {P : Type 0} where
   grant_memories (Instance lease) = length lease.memories.items
 
   -- the number that an answer has of what grants have
-  abbrev pub granted : (Grant P → ℕ) → Option (Outcome P) → ℕ
-  granted of (Some (Granted grant)) = of grant
-  granted of (Some Key) = 0
-  granted of (Some Returned) = 0
-  granted of (Some (Refused e)) = 0
-  granted of None = 0
+  abbrev pub count_granted : (Grant P → ℕ) → Option (Outcome P) → ℕ
+  count_granted of (Some (Granted grant)) = of grant
+  count_granted of (Some Key) = 0
+  count_granted of (Some Returned) = 0
+  count_granted of (Some (Refused e)) = 0
+  count_granted of None = 0
 
   -- the answers are ones that may come, of the pages by their plans and of the limiter too, and the row is taken
-  pub record Takes (old new : LimiterTold) (g : Given) (c : PoolCore P) (f : Frame P) (a : After P) : Type 0 where
+  pub record Takes (old new : LimiterTold) (g : StepGiven) (c : PoolCore P) (f : Frame P) (a : After P) : Type 0 where
     pub told : MayBeTold c.settings g f.phase f
     pub planned : IsPlanned c.settings g f.phase f
     pub limiter : AsksOf old new g f.phase f
@@ -43,14 +44,18 @@ module _ {P : Type 0} where
 
   -- the step is a row of the table, over a limiter
   abbrev pub StepsTo : LimiterTold → LimiterTold → PoolCore P → Frame P → After P → Type 0
-  StepsTo old new c f a = (g : Given) × Takes old new g c f a
+  StepsTo old new c f a = (g : StepGiven) × Takes old new g c f a
+
+  -- the same, with what passed between the step and the limiter: that and no more
+  abbrev pub StepsAsking : (List Exchange → Type 0) → LimiterTold → LimiterTold → PoolCore P → Frame P → After P → Type 0
+  StepsAsking Passes old new c f a = (g : StepGiven) × (Takes old new g c f a × LimiterHears Passes g f.phase f)
 
   -- Nothing is lost or made: what the step takes from the pool's parts comes into the frame or the grant, and the other
   -- way round. Counters change as what is counted.
   pub record Conserves (c : PoolCore P) (f : Frame P) (a : After P) : Type 0 where
-    pub places : (t : Thing) → kept_count t a.core + (frame_count t a.frame + granted (grant_count t) a.outcome) ≡ kept_count t c + frame_count t f
-    pub instances : a.core.counters.core_instances + phase_instances f.phase ≡ c.counters.core_instances + (phase_instances a.frame.phase + granted grant_instances a.outcome)
-    pub memories : a.core.counters.memories + frame_memories f ≡ c.counters.memories + (frame_memories a.frame + granted grant_memories a.outcome)
+    pub places : (t : Thing) → kept_count t a.core + (frame_count t a.frame + count_granted (grant_count t) a.outcome) ≡ kept_count t c + frame_count t f
+    pub instances : a.core.counters.core_instances + phase_instances f.phase ≡ c.counters.core_instances + (phase_instances a.frame.phase + count_granted grant_instances a.outcome)
+    pub memories : a.core.counters.memories + frame_memories f ≡ c.counters.memories + (frame_memories a.frame + count_granted grant_memories a.outcome)
 
   -- What no step changes: the settings, and how many slots, shards and queues there are.
   pub record IsSameSize (old new : PoolCore P) : Type 0 where
@@ -79,4 +84,4 @@ module _ {P : Type 0} where
   pub record CanStep (maker : MakerTold) (c : PoolCore P) (f : Frame P) : Type 0 where
     pub core : IsCore maker c
     pub frame : IsFrame maker c f
-    pub fits : Fits c f
+    pub fits : FitsCore c f

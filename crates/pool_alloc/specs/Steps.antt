@@ -1,5 +1,5 @@
 -- The step table: what each step of a call does to the pool, of which it changes one part, and to the party's frame.
-use Rattle.std.specs.Prelude.{ℕ, ◌+◌, ◌-◌, ◌/◌, ◌%◌, ◌^◌, ◌==◌, ◌||◌, List, [], ◌∷◌, length, filter, min, slice_index_or, slice_set, Bool, true, false, not, nat_lt, nat_le, if◌then◌else◌, Option, Some, None, Result, Ok, Err}
+use Rattle.std.specs.Prelude.{ℕ, ◌+◌, ◌-◌, ◌/◌, ◌%◌, ◌^◌, ◌==◌, ◌||◌, List, [], ◌∷◌, length, filter, min, slice_index_or, slice_set, Bool, not, nat_lt, nat_le, if◌then◌else◌, Option, Some, None, Result, Ok, Err}
 use Rattle.std.specs.Arc.{arc_value}
 use Rattle.std.specs.declared.sync.Arc.{Arc}
 use Rattle.std.specs.declared.alloc.Global.{Global}
@@ -12,16 +12,15 @@ use Rattle.pool_index.specs.declared.ids.MemoryInModule.{MemoryInModule}
 use Rattle.pool_index.specs.declared.ids.SlotId.{SlotId}
 use Rattle.pool_hall.specs.declared.unit_name.SlotKind.TheVariants.{Memory as memory_kind}
 use Rattle.pool_limits.specs.declared.errors.LimiterError.{LimiterError}
-use Rattle.pool_memory.specs.Linear.{no_slot as no_image_slot}
 use Rattle.pool_memory.specs.Memories.{MemoryState, slot_of}
 use Rattle.pool_memory.specs.MemoryStates.{state_of}
 use Rattle.pool_memory.specs.declared.memory.Memory.{Memory}
 use Rattle.pool_memory.specs.declared.memory_error.MemoryError.{MemoryError}
 use Rattle.pool_slots.specs.Cells.{Cell, unmapped, unknown, previously_used, taken}
-use Rattle.pool_slots.specs.Queues.{QueueState, QueuedMemory, empty_queue, joined, after_take, taken_into, emptied}
-use Rattle.pool_slots.specs.declared.request.AllocError.{AllocError}
-use Rattle.pool_slots.specs.declared.request.AllocError.TheVariants as refusal
-use Rattle.pool_slots.specs.declared.request.ConcurrencyKind.TheVariants.{MemoryStripe, CoreInstances}
+use Rattle.pool_slots.specs.Queues.{QueueState, QueuedMemory, empty_queue, after_append, after_take, taken_into, drained}
+use Rattle.pool_slots.specs.declared.errors.AllocError.{AllocError}
+use Rattle.pool_slots.specs.declared.errors.AllocError.TheVariants as refusal
+use Rattle.pool_slots.specs.declared.errors.ConcurrencyKind.TheVariants.{MemoryStripe, CoreInstances}
 use Rattle.pool_alloc.specs.Reserved.{no_room, with_item}
 use Rattle.pool_alloc.specs.Leases.{Lease}
 use Rattle.pool_alloc.specs.Own.{image_made, reset_into, refusal_of, memory_made}
@@ -45,16 +44,12 @@ use Rattle.pool_alloc.specs.declared.frame.Outcome.TheVariants as answer
 
 -- What a step is told from outside the table: whether memory was wanting, whether a page call of the step failed, what
 -- the slot or the local queue is after the step's page calls, and what the limiter answered.
-pub record Given : Type 0 where
+pub record StepGiven : Type 0 where
   pub wants : Bool
   pub fault : Bool
   pub slot : Slot
   pub queue : QueueState
   pub limiter : Result Bool LimiterError
-
--- what a step is told that is told nothing
-abbrev pub nothing_told : Given
-nothing_told = record { wants = false; fault = false; slot = no_image_slot; queue = empty_queue 0 0; limiter = Ok true }
 
 -- what a step leaves, and the answer to the call where it ends with this step
 pub record After (P : Type 0) : Type 0 where
@@ -63,27 +58,27 @@ pub record After (P : Type 0) : Type 0 where
   pub outcome : Option (Outcome P)
 
 -- the memories of the module that is asked for, and their images
-abbrev pub memories_asked : Option ModuleCall → List MemoryDecl
-memories_asked None = []
-memories_asked (Some m) = (arc_value m.info).memories
+abbrev pub memories_wanted : Option ModuleCall → List MemoryDecl
+memories_wanted None = []
+memories_wanted (Some m) = (arc_value m.info).memories
 
 abbrev pub images_made : Option (Arc (List (Option Image)) Global) → List (Option Image)
 images_made None = []
 images_made (Some images) = arc_value images
 
-abbrev pub images_asked : Option ModuleCall → List (Option Image)
-images_asked None = []
-images_asked (Some m) = images_made m.images
+abbrev pub images_wanted : Option ModuleCall → List (Option Image)
+images_wanted None = []
+images_wanted (Some m) = images_made m.images
 
 -- shard j, and queue i; past the end it doesn't matter which
-abbrev pub shard_at : ℕ → List ShardState → ShardState
-shard_at j shards = slice_index_or shards j (fresh_shard memory_kind 0 1 0 0)
+abbrev pub nth_shard : ℕ → List ShardState → ShardState
+nth_shard j shards = slice_index_or shards j (fresh_shard memory_kind 0 1 0 0)
 
-abbrev pub queue_at : ℕ → List QueueState → QueueState
-queue_at i queues = slice_index_or queues i (empty_queue 0 0)
+abbrev pub nth_queue : ℕ → List QueueState → QueueState
+nth_queue i queues = slice_index_or queues i (empty_queue 0 0)
 
-abbrev pub cell_at : ℕ → List Cell → Cell
-cell_at i cells = slice_index_or cells i taken
+abbrev pub nth_cell : ℕ → List Cell → Cell
+nth_cell i cells = slice_index_or cells i taken
 
 -- the shard that has a slot of the pool, and the slot's number there
 abbrev pub shard_of : Settings → ℕ → ℕ
@@ -156,7 +151,7 @@ module _ {P : Type 0} where
   -- the next memory of the instance is picked a slot for, or the instance is whole
   abbrev pub allocate_next : PoolCore P → Frame P → After P
   allocate_next c f =
-      if nat_lt (length f.granted.items) (length (memories_asked f.asked))
+      if nat_lt (length f.granted.items) (length (memories_wanted f.asked))
       then goes c f (Pick 0 0)
       else ends c (record f { granted = no_room }) (answer.Granted (Instance (record { memories = f.granted })))
 
@@ -169,8 +164,8 @@ module _ {P : Type 0} where
   after_flush GiveBackNext c f = give_back_next c f
 
   -- The round found no slot: the next queue is taken, or the memory is refused after the last.
-  abbrev pub no_slot : ℕ → PoolCore P → Frame P → After P
-  no_slot queues c f =
+  abbrev pub none_picked : ℕ → PoolCore P → Frame P → After P
+  none_picked queues c f =
       if nat_lt queues (length c.queues)
       then goes c f (TakeQueue queues)
       else refuses c f (refusal.Limit (record { limit = length c.cells; kind = MemoryStripe f.stripe }))
@@ -184,11 +179,11 @@ module _ {P : Type 0} where
   validated None wants c f =
       if wants
       then ends c f (answer.Refused refusal.Memory)
-      else goes c (record f { granted = record { items = []; room = length (memories_asked f.asked) } }) CountInstance
+      else goes c (record f { granted = record { items = []; room = length (memories_wanted f.asked) } }) CountInstance
 
   -- The module is tested, and the list of its memories reserved.
   abbrev pub validate_row : Bool → PoolCore P → Frame P → After P
-  validate_row wants c f = validated (memories_refused c.settings (memories_asked f.asked)) wants c f
+  validate_row wants c f = validated (memories_refused c.settings (memories_wanted f.asked)) wants c f
 
   abbrev pub count_instance_row : PoolCore P → Frame P → After P
   count_instance_row c f =
@@ -201,7 +196,7 @@ module _ {P : Type 0} where
   wanted f = wanted_of f.asked (length f.granted.items)
 
   abbrev pub image_wanted : Frame P → Option Image
-  image_wanted f = slice_index_or (images_asked f.asked) (length f.granted.items) None
+  image_wanted f = slice_index_or (images_wanted f.asked) (length f.granted.items) None
 
   -- the shard that is so many after the home shard, and the queue that is so many after the home queue
   abbrev pub shard_tried : ℕ → PoolCore P → Frame P → ℕ
@@ -212,7 +207,7 @@ module _ {P : Type 0} where
 
   -- the shard gave a slot, or the next shard is tried
   abbrev pub pick_next : ℕ → ℕ → PoolCore P → Frame P → After P
-  pick_next queues tried c f = if nat_lt (tried + 1) (length c.shards) then goes c f (Pick queues (tried + 1)) else no_slot queues c f
+  pick_next queues tried c f = if nat_lt (tried + 1) (length c.shards) then goes c f (Pick queues (tried + 1)) else none_picked queues c f
 
   abbrev pub picked : Option (SlotId × ℕ) → ShardState → ℕ → ℕ → PoolCore P → Frame P → After P
   picked (Some p) shard queues tried c f = goes c f (TakeRegion (slot_number shard p.0.0))
@@ -221,23 +216,23 @@ module _ {P : Type 0} where
   abbrev pub pick_row : ℕ → ℕ → PoolCore P → Frame P → After P
   pick_row queues tried c f =
       picked
-      (pick_answer (wanted f) (shard_at (shard_tried tried c f) c.shards))
-      (shard_at (shard_tried tried c f) c.shards)
+      (pick_answer (wanted f) (nth_shard (shard_tried tried c f) c.shards))
+      (nth_shard (shard_tried tried c f) c.shards)
       queues
       tried
-      (with_shard (shard_tried tried c f) (after_pick (wanted f) (shard_at (shard_tried tried c f) c.shards)) c)
+      (with_shard (shard_tried tried c f) (after_pick (wanted f) (nth_shard (shard_tried tried c f) c.shards)) c)
       f
 
-  abbrev pub took : ℕ → PoolCore P → Frame P → After P
-  took queues c f = if length f.local.memories == 0 then no_slot (queues + 1) c f else flushes (PickAgain (queues + 1)) c f
+  abbrev pub queue_taken : ℕ → PoolCore P → Frame P → After P
+  queue_taken queues c f = if length f.local.memories == 0 then none_picked (queues + 1) c f else flushes (PickAgain (queues + 1)) c f
 
   -- The queue is taken whole. It is flushed where it holds something.
   abbrev pub take_queue_row : ℕ → PoolCore P → Frame P → After P
   take_queue_row queues c f =
-      took
+      queue_taken
       queues
-      (with_queue (queue_tried queues c f) (after_take (queue_at (queue_tried queues c f) c.queues)) c)
-      (record f { local = taken_into f.local (queue_at (queue_tried queues c f) c.queues) })
+      (with_queue (queue_tried queues c f) (after_take (nth_queue (queue_tried queues c f) c.queues)) c)
+      (record f { local = taken_into f.local (nth_queue (queue_tried queues c f) c.queues) })
 
   abbrev pub holds_region : ℕ → Cell → PoolCore P → Frame P → After P
   holds_region slot (unmapped region) c f = goes c f (Instantiate slot (image_made c.settings.page c.settings.max_memory_size region))
@@ -247,7 +242,7 @@ module _ {P : Type 0} where
 
   -- The region leaves its cell. An image slot is made of a region that was never used.
   abbrev pub take_region_row : ℕ → PoolCore P → Frame P → After P
-  take_region_row slot c f = holds_region slot (cell_at slot c.cells) (with_cell slot taken c) f
+  take_region_row slot c f = holds_region slot (nth_cell slot c.cells) (with_cell slot taken c) f
 
   abbrev pub empty_row : Bool → Slot → ℕ → PoolCore P → Frame P → After P
   empty_row fault held slot c f = goes c f (if fault then PutUnknown slot held (Refuse refusal.PageFault) else Instantiate slot held)
@@ -255,9 +250,9 @@ module _ {P : Type 0} where
   abbrev pub instantiate_row : Bool → Slot → ℕ → PoolCore P → Frame P → After P
   instantiate_row fault held slot c f = goes c f (if fault then PutUnknown slot held (Refuse refusal.PageFault) else MakeMemory slot held)
 
-  abbrev pub made : ℕ → Slot → Result MemoryState AllocError → PoolCore P → Frame P → After P
-  made slot held (Ok memory) c f = goes c f (CountMemory (record { index = slot; memory = memory }))
-  made slot held (Err e) c f = goes c f (PutUnknown slot held (Refuse e))
+  abbrev pub was_made : ℕ → Slot → Result MemoryState AllocError → PoolCore P → Frame P → After P
+  was_made slot held (Ok memory) c f = goes c f (CountMemory (record { index = slot; memory = memory }))
+  was_made slot held (Err e) c f = goes c f (PutUnknown slot held (Refuse e))
 
   -- the same of what the code's making answers
   abbrev pub phase_made : {M L : Type 0} → ℕ → Result (Memory M L) (Slot × MemoryError) → Phase P
@@ -266,7 +261,7 @@ module _ {P : Type 0} where
 
   -- The limiter is asked, and the memory made.
   abbrev pub make_memory_row : Result Bool LimiterError → ℕ → Slot → PoolCore P → Frame P → After P
-  make_memory_row answer slot held c f = made slot held (memory_made c.settings (memories_asked f.asked) (length f.granted.items) answer held) c f
+  make_memory_row answer slot held c f = was_made slot held (memory_made c.settings (memories_wanted f.asked) (length f.granted.items) answer held) c f
 
   abbrev pub count_memory_row : Lease → PoolCore P → Frame P → After P
   count_memory_row lease c f = allocate_next (counting_memories (c.counters.memories + 1) c) (record f { granted = with_item lease f.granted })
@@ -280,7 +275,7 @@ module _ {P : Type 0} where
   was_freed ReturnNext c f = give_back_next c f
 
   abbrev pub free_unknown_row : ℕ → AfterFree → PoolCore P → Frame P → After P
-  free_unknown_row slot after c f = was_freed after (with_shard (shard_of c.settings slot) (after_free (local_of c.settings slot) 0 (shard_at (shard_of c.settings slot) c.shards)) c) f
+  free_unknown_row slot after c f = was_freed after (with_shard (shard_of c.settings slot) (after_free (local_of c.settings slot) 0 (nth_shard (shard_of c.settings slot) c.shards)) c) f
 
   abbrev pub returns : List Lease → PoolCore P → Frame P → After P
   returns [] c f = goes c f Idle
@@ -307,12 +302,13 @@ module _ {P : Type 0} where
   abbrev pub merged : QueueState → PoolCore P → Frame P → After P
   merged queue c f =
       if nat_le c.settings.batch (length queue.ranges)
-      then flushes GiveBackNext (with_queue (queue_tried 0 c f) (after_take queue) c) (record f { local = taken_into f.local queue })
+      then flushes GiveBackNext (with_queue (queue_tried 0 c f) (drained queue) c) (record f { local = taken_into f.local queue })
       else give_back_next (with_queue (queue_tried 0 c f) queue c) f
 
-  -- The local queue is appended. Where there are as many ranges as a batch then, the whole queue is taken, and flushed.
+  -- The local queue is appended. Where there are as many ranges as a batch then, the whole queue comes into the local one
+  -- and is flushed. That is no take of the queue.
   abbrev pub merge_row : PoolCore P → Frame P → After P
-  merge_row c f = merged (joined (queue_at (queue_tried 0 c f) c.queues) f.local) c (record f { local = emptied f.local })
+  merge_row c f = merged (after_append (nth_queue (queue_tried 0 c f) c.queues) f.local) c (record f { local = drained f.local })
 
   -- The next ranges of one slot are decommitted.
   abbrev pub decommit_row : QueueState → AfterFlush → PoolCore P → Frame P → After P
@@ -337,7 +333,7 @@ module _ {P : Type 0} where
   frees after j c f =
       were_freed
       after
-      (with_shard j (after_frees c.settings (freed_of c.settings j f.freed.items) (shard_at j c.shards)) c)
+      (with_shard j (after_frees c.settings (freed_of c.settings j f.freed.items) (nth_shard j c.shards)) c)
       (record f { freed = record f.freed { items = freed_elsewhere c.settings j f.freed.items } })
 
   -- The slots of one shard are freed.
@@ -352,7 +348,7 @@ module _ {P : Type 0} where
   uncount_instance_row c f = ends (counting_instances (c.counters.core_instances - 1) c) f (answer_of f.ending)
 
   -- the table
-  abbrev pub row_of : Given → Phase P → PoolCore P → Frame P → After P
+  abbrev pub row_of : StepGiven → Phase P → PoolCore P → Frame P → After P
   row_of g Idle c f = record { core = c; frame = f; outcome = None }
   row_of g Key c f = key_row c f
   row_of g Validate c f = validate_row g.wants c f
@@ -374,5 +370,5 @@ module _ {P : Type 0} where
   row_of g (Free after) c f = free_row after c f
   row_of g UncountInstance c f = uncount_instance_row c f
 
-  abbrev pub row : Given → PoolCore P → Frame P → After P
+  abbrev pub row : StepGiven → PoolCore P → Frame P → After P
   row g c f = row_of g f.phase c f

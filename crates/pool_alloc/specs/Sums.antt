@@ -5,7 +5,8 @@ use Rattle.pool_pages.specs.declared.pages.PageCalls.{PageCalls}
 use Rattle.pool_index.specs.Shard.{ShardState, resident_bytes}
 use Rattle.pool_memory.specs.Memories.{slot_of}
 use Rattle.pool_pages.specs.MakerTold.{no_calls}
-use Rattle.pool_slots.specs.Cells.{unknown, calls_of_all, added}
+use Rattle.pool_pages.specs.CallSums.{added}
+use Rattle.pool_slots.specs.Cells.{all_calls, calls_of_all}
 use Rattle.pool_slots.specs.Queues.{QueueState, calls_held}
 use Rattle.pool_alloc.specs.Leases.{Lease}
 use Rattle.pool_alloc.specs.declared.pool_core.PoolCore.{PoolCore}
@@ -27,7 +28,7 @@ calls_of_queues queues = calls_held (flat_map (λ q. q.memories) queues)
 
 -- the calls on the regions of memories, together
 abbrev pub calls_of_leases : List Lease → PageCalls
-calls_of_leases leases = calls_of_all (map (λ l. unknown (slot_of l.memory)) leases)
+calls_of_leases leases = all_calls (map (λ l. (slot_of l.memory).region.calls) leases)
 
 module _ {P : Type 0} where
   -- the calls on the regions in the pool's parts, together

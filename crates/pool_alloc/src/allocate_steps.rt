@@ -1,7 +1,7 @@
 ghost use Rattle.std.specs.Prelude.{◌≡◌, ◌+◌, ◌<◌, ◌≤◌, ◌^◌, length, false, true, IsSome, None, Some};
 ghost use Rattle.pool_index.specs.Shard.{use_of};
 ghost use Rattle.pool_slots.specs.Cells.{is_taken};
-ghost use Rattle.pool_alloc.specs.Steps.{After, memories_asked, shard_at, cell_at, shard_of, local_of, wanted, allocate_next, give_back_next, refuses, no_slot, key_row, count_instance_row, pick_row, pick_next, take_region_row, count_memory_row, put_unknown_row, was_freed, free_unknown_row};
+ghost use Rattle.pool_alloc.specs.Steps.{After, memories_wanted, nth_shard, nth_cell, shard_of, local_of, wanted, allocate_next, give_back_next, refuses, none_picked, key_row, count_instance_row, pick_row, pick_next, take_region_row, count_memory_row, put_unknown_row, was_freed, free_unknown_row};
 
 use crate::frame::{AfterFree, Ending, Frame, Grant, Outcome, Phase};
 use crate::frame_calls::next_return;
@@ -20,7 +20,7 @@ impl<P: Pages> PoolCore<P> {
     fn allocate_next(&mut self, alloc: Global, frame: &mut Frame<P>) -> Option<Outcome<P>>
         ensures { ◌≡◌ {A = After P} (record { core = self.new; frame = frame.new; outcome = result }) (allocate_next self.old frame.old) }
     {
-        if frame.granted.len() < frame.memories_asked() {
+        if frame.granted.len() < frame.memories_wanted() {
             frame.phase = Phase::Pick(0, 0);
             return None;
         }
@@ -53,13 +53,13 @@ impl<P: Pages> PoolCore<P> {
     }
 
     // No shard had a slot: the next queue is taken, or the memory is refused after the last.
-    pub(crate) fn no_slot(
+    pub(crate) fn none_picked(
         &mut self,
         alloc: Global,
         frame: &mut Frame<P>,
         queues: usize,
     ) -> Option<Outcome<P>>
-        ensures { ◌≡◌ {A = After P} (record { core = self.new; frame = frame.new; outcome = result }) (no_slot queues self.old frame.old) }
+        ensures { ◌≡◌ {A = After P} (record { core = self.new; frame = frame.new; outcome = result }) (none_picked queues self.old frame.old) }
     {
         if queues < self.queues.len() {
             frame.phase = Phase::TakeQueue(queues);
@@ -145,7 +145,7 @@ impl<P: Pages> PoolCore<P> {
             frame.phase = Phase::Pick(queues, next);
             return None;
         }
-        self.no_slot(alloc, frame, queues)
+        self.none_picked(alloc, frame, queues)
     }
 
     pub(crate) fn count_memory(
@@ -188,7 +188,7 @@ impl<P: Pages> PoolCore<P> {
     ) -> Option<Outcome<P>>
         requires shards { 0 < self.old.settings.slots_per_shard }
         requires inside { shard_of self.old.settings slot < length self.old.shards }
-        requires used { IsSome (use_of (shard_at (shard_of self.old.settings slot) self.old.shards) (local_of self.old.settings slot).0) }
+        requires used { IsSome (use_of (nth_shard (shard_of self.old.settings slot) self.old.shards) (local_of self.old.settings slot).0) }
         ensures { ◌≡◌ {A = After P} (record { core = self.new; frame = frame.new; outcome = result }) (free_unknown_row slot after self.old frame.old) }
     {
         let slots = self.settings.slots_per_shard;

@@ -1,9 +1,10 @@
 ghost use Rattle.std.specs.Prelude.{◌≡◌, ◌<◌, ◌≤◌, ◌^◌, length, Bool};
 ghost use Rattle.pool_slots.specs.CellOf.{cell_of};
-ghost use Rattle.pool_slots.specs.Queues.{QueueState, HasOwners, IsSpareOf};
+ghost use Rattle.pool_slots.specs.Cells.{IsCleanOnceUsed};
+ghost use Rattle.pool_slots.specs.Queues.{QueueState, HasOwners, IsSpareOf, IsSettled};
 ghost use Rattle.pool_alloc.specs.Answers.{Decommits, FollowsRun};
-ghost use Rattle.pool_alloc.specs.CanStep.{CanMerge, CanPut, CanFree};
-ghost use Rattle.pool_alloc.specs.Steps.{After, queue_at, queue_tried, flushes, after_flush, take_queue_row, merge_row, decommit_row, put_region_row, free_row, cell_returned};
+ghost use Rattle.pool_alloc.specs.CanStep.{CanMerge, CanPutNext, CanFree};
+ghost use Rattle.pool_alloc.specs.Steps.{After, nth_queue, queue_tried, flushes, after_flush, take_queue_row, merge_row, decommit_row, put_region_row, free_row, cell_returned};
 
 use crate::frame::{AfterFlush, Frame, FreedSlot, Outcome, Phase};
 use crate::freeing::first_shard;
@@ -45,14 +46,14 @@ impl<P: Pages> PoolCore<P> {
         queues: usize,
     ) -> Option<Outcome<P>>
         requires inside { queues < length self.old.queues }
-        requires spare { IsSpareOf (queue_at (queue_tried queues self.old frame.old) self.old.queues) frame.old.local }
+        requires spare { IsSpareOf (nth_queue (queue_tried queues self.old frame.old) self.old.queues) frame.old.local }
         ensures { ◌≡◌ {A = After P} (record { core = self.new; frame = frame.new; outcome = result }) (take_queue_row queues self.old frame.old) }
     {
         let queue = self.queue_tried(frame, queues);
         self.queues.take(queue, &mut frame.local);
         let next = queues + 1;
         if frame.local.is_empty() {
-            self.no_slot(alloc, frame, next)
+            self.none_picked(alloc, frame, next)
         } else {
             self.flush(frame, AfterFlush::PickAgain(next))
         }
@@ -61,7 +62,7 @@ impl<P: Pages> PoolCore<P> {
     // Appends the local queue to the home queue. The whole queue is taken where it has as many ranges as a batch then.
     pub(crate) fn merge(&mut self, frame: &mut Frame<P>) -> Option<Outcome<P>>
         requires some { 0 < length self.old.queues }
-        requires can { CanMerge (queue_at (queue_tried 0 self.old frame.old) self.old.queues) frame.old.local }
+        requires can { CanMerge (nth_queue (queue_tried 0 self.old frame.old) self.old.queues) frame.old.local }
         ensures { ◌≡◌ {A = After P} (record { core = self.new; frame = frame.new; outcome = result }) (merge_row self.old frame.old) }
     {
         let queue = self.queue_tried(frame, 0);
@@ -89,7 +90,7 @@ impl<P: Pages> PoolCore<P> {
         frame: &mut Frame<P>,
         after: AfterFlush,
     ) -> Option<Outcome<P>>
-        requires { CanPut (length self.old.cells) frame.old.local frame.old.freed }
+        requires { CanPutNext (length self.old.cells) frame.old.local frame.old.freed }
         ensures { ◌≡◌ {A = After P} (record { core = self.new; frame = frame.new; outcome = result }) (put_region_row after self.old frame.old) }
     {
         let Some(item) = frame.local.pop_memory() else {
@@ -138,7 +139,9 @@ impl<P: Pages> PoolCore<P> {
 
 // What a region's cell holds once its memory is given back.
 fn cell_returned<P: Pages>(item: MemoryItem<P>) -> ImageSlot<P>
-    ensures { cell_of result ≡ cell_returned item }
+    requires { IsSettled item }
+    ensures value { cell_of result ≡ cell_returned item }
+    ensures clean { IsCleanOnceUsed (cell_of result) }
 {
     if item.known {
         ImageSlot::PreviouslyUsed(item.slot)

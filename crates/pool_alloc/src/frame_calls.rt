@@ -4,14 +4,13 @@ ghost use Rattle.pool_alloc.specs.Calls.{IsIdle, MayBegin, begun_call, gives_bac
 ghost use Rattle.pool_alloc.specs.Sound.{IsFrame};
 ghost use Rattle.pool_alloc.specs.declared.pool_core.PoolCore.{PoolCore};
 ghost use Rattle.pool_alloc.specs.Sums.{calls_in_frame, calls_in_phase};
-ghost use Rattle.pool_alloc.specs.Steps.{memories_asked, wanted};
+ghost use Rattle.pool_alloc.specs.Steps.{memories_wanted, wanted};
 
 use crate::frame::{Call, Ending, Frame, Grant, Phase};
 use crate::lease::{MemoryLease, calls_of};
 use crate::reserved::ReservedList;
 use pool_index::MemoryInModule;
 use pool_pages::{DefinedMemoryIndex, PageCalls, Pages};
-use pool_slots::{add_calls, no_calls};
 
 impl<P: Pages> Frame<P> {
     /// Begins a call. Takes no memory.
@@ -47,16 +46,14 @@ impl<P: Pages> Frame<P> {
     pub fn page_calls(&self) -> PageCalls
         ensures { result ≡ calls_in_frame self.now }
     {
-        let leased = add_calls(calls_of(&self.granted), calls_of(&self.returning));
-        add_calls(
-            leased,
-            add_calls(self.local.page_calls(), self.phase.page_calls()),
-        )
+        let leased = calls_of(&self.granted).plus(calls_of(&self.returning));
+        let waiting = self.local.page_calls().plus(self.phase.page_calls());
+        leased.plus(waiting)
     }
 
     // How many memories the module has that is asked for.
-    pub(crate) fn memories_asked(&self) -> usize
-        ensures { result ≡ length (memories_asked self.now.asked) }
+    pub(crate) fn memories_wanted(&self) -> usize
+        ensures { result ≡ length (memories_wanted self.now.asked) }
     {
         match &self.asked {
             None => 0,
@@ -100,7 +97,7 @@ impl<P: Pages> Phase<P> {
             Phase::PutUnknown(_, held, _) => held.region().calls(),
             Phase::CountMemory(lease) => lease.page_calls(),
             Phase::Reset(lease) => lease.page_calls(),
-            _ => no_calls(),
+            _ => PageCalls::none(),
         }
     }
 }

@@ -1,6 +1,6 @@
 ghost use Rattle.std.specs.Prelude.{◌≡◌, ◌^◌, ◌<◌, ◌≤◌, length, slice_set, All};
 ghost use Rattle.pool_alloc.specs.Freeing.{AreUsedInTurn, CanFreeNext, shards_after_next, freed_after_next};
-ghost use Rattle.pool_alloc.specs.Steps.{shard_at, shard_of, freed_of, freed_elsewhere, first_shard, after_frees};
+ghost use Rattle.pool_alloc.specs.Steps.{nth_shard, shard_of, freed_of, freed_elsewhere, first_shard, after_frees};
 
 use crate::frame::FreedSlot;
 use crate::parts::Shards;
@@ -42,9 +42,9 @@ impl Shards {
     )
         requires slots { 0 < settings.now.slots_per_shard }
         requires inside { shard < length self.old }
-        requires used { AreUsedInTurn settings.now (freed_of settings.now shard freed.old.items) (shard_at shard self.old) }
+        requires used { AreUsedInTurn settings.now (freed_of settings.now shard freed.old.items) (nth_shard shard self.old) }
         requires bytes { All (λ x. x.bytes ≤ 2 ^ 32) freed.old.items }
-        ensures shards { self.new ≡ slice_set self.old shard (after_frees settings.now (freed_of settings.now shard freed.old.items) (shard_at shard self.old)) }
+        ensures shards { self.new ≡ slice_set self.old shard (after_frees settings.now (freed_of settings.now shard freed.old.items) (nth_shard shard self.old)) }
         ensures others { freed.new ≡ record freed.old { items = freed_elsewhere settings.now shard freed.old.items } }
     {
         for _ in 0..freed.len() {
@@ -56,7 +56,7 @@ impl Shards {
     fn free_next(&mut self, settings: &Settings, shard: usize, freed: &mut ReservedList<FreedSlot>)
         requires slots { 0 < settings.now.slots_per_shard }
         requires inside { shard < length self.old }
-        requires next { CanFreeNext settings.now shard freed.old.items (shard_at shard self.old) }
+        requires next { CanFreeNext settings.now shard freed.old.items (nth_shard shard self.old) }
         ensures shards { self.new ≡ shards_after_next settings.now shard freed.old.items self.old }
         ensures freed { freed.new ≡ record freed.old { items = freed_after_next settings.now shard freed.old.items } }
     {

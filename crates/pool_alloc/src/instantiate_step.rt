@@ -3,7 +3,7 @@ ghost use Rattle.std.specs.Arc.{arc_value};
 ghost use Rattle.pool_pages.specs.MemoryTypes.{minimum_byte_size};
 ghost use Rattle.pool_images.specs.Slots.{Slot, IsClean, FitsInto, hides};
 ghost use Rattle.pool_alloc.specs.Answers.{InstantiatesAs, InstantiatesFor, FollowsPlan, FollowsPlanFor};
-ghost use Rattle.pool_alloc.specs.Steps.{After, memories_asked, images_asked, image_wanted, instantiate_row};
+ghost use Rattle.pool_alloc.specs.Steps.{After, memories_wanted, images_wanted, image_wanted, instantiate_row};
 ghost use Rattle.pool_alloc.specs.CanStep.{HasNext, CanBegin};
 ghost use Rattle.pool_alloc.specs.Modules.{IfAllocated};
 
@@ -19,7 +19,7 @@ impl ModuleCall {
     fn image(&self, memory: usize) -> Option<&Arc<MemoryImage>>
         requires small { memory < 2 ^ 32 }
         requires inside { IfSome self.now.images (λ images. memory < length (arc_value images)) }
-        ensures { option_map (λ image. arc_value image.now) result ≡ slice_index_or (images_asked (Some self.now)) memory None }
+        ensures { option_map (λ image. arc_value image.now) result ≡ slice_index_or (images_wanted (Some self.now)) memory None }
     {
         match &self.images {
             None => None,

@@ -7,7 +7,7 @@ use crate::reserved::ReservedList;
 use pool_limits::{GrowFault, ResourceLimiter, Trap};
 use pool_memory::{Memory, StaticMemory};
 use pool_pages::{PageCalls, Pages};
-use pool_slots::{MemoryAllocationIndex, add_calls, no_calls};
+use pool_slots::MemoryAllocationIndex;
 use std::marker::Model;
 
 /// A memory that was granted, and its slot. It must be given back, or its slot stays used for good.
@@ -60,7 +60,7 @@ impl<P: Pages> MemoryLease<P> {
         delta_pages: u64,
         limiter: &mut R,
     ) -> Result<Option<usize>, GrowFault>
-        ensures { IsGrown delta_pages self.old self.new (R.told limiter.old) (R.told limiter.new) result }
+        ensures { IsGrown R.told R.leads delta_pages self.old self.new limiter.old limiter.new result }
     {
         let result = self.memory.grow(&mut (), delta_pages, Some(limiter));
         let _slot = self.memory.slot();
@@ -96,7 +96,7 @@ impl<P: Pages> ReservedList<MemoryLease<P>> {
         limiter: &mut R,
     ) -> Result<Option<usize>, GrowFault>
         requires { place < length self.old.items }
-        ensures { IsChanged (λ l new. IsGrown delta_pages l new (R.told limiter.old) (R.told limiter.new) result) place self.old self.new }
+        ensures { IsChanged (λ l new. IsGrown R.told R.leads delta_pages l new limiter.old limiter.new result) place self.old self.new }
     {
         let lease = &mut self.items[place];
         lease.grow(delta_pages, limiter)
@@ -122,9 +122,9 @@ impl<P: Pages> InstanceLease<P> {
 pub(crate) fn calls_of<P: Pages>(leases: &ReservedList<MemoryLease<P>>) -> PageCalls
     ensures { result ≡ calls_of_leases leases.now.items }
 {
-    let mut calls = no_calls();
+    let mut calls = PageCalls::none();
     for at in 0..leases.len() {
-        calls = add_calls(calls, leases.get(at).page_calls());
+        calls = calls.plus(leases.get(at).page_calls());
     }
     calls
 }

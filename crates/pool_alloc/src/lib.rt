@@ -6,6 +6,7 @@ mod flush_steps;
 mod frame;
 mod frame_calls;
 mod freeing;
+mod holders;
 mod instantiate_step;
 mod lease;
 mod make_step;
@@ -19,11 +20,8 @@ mod reset_step;
 mod step;
 mod validate_step;
 
-pub use frame::{
-    AfterFlush, AfterFree, Call, Ending, Frame, FreedSlot, Grant, ModuleCall, Outcome, Phase,
-};
+pub use frame::{Call, Frame, Grant, ModuleCall, Outcome, Phase};
 pub use lease::{InstanceLease, MemoryLease};
 pub use metrics::Metrics;
-pub use parts::{Cells, Queues, Shards};
 pub use pool_core::{Counters, PoolCore, Settings};
 pub use reserved::ReservedList;

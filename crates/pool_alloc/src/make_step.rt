@@ -1,12 +1,13 @@
-ghost use Rattle.std.specs.Prelude.{◌≡◌, ◌^◌, ◌<◌, ◌≤◌, length, Bool, Result, Some, None};
+ghost use Rattle.std.specs.Prelude.{◌≡◌, ◌^◌, ◌<◌, ◌≤◌, [], ◌∷◌, length, Bool, Result, Some, None};
 ghost use Rattle.pool_pages.specs.Count.{rounded_up};
 ghost use Rattle.pool_pages.specs.MemoryTypes.{minimum_byte_size, refused_limits};
 ghost use Rattle.pool_limits.specs.Growth.{memory_answer};
-ghost use Rattle.pool_limits.specs.LimiterTold.{answered};
+ghost use Rattle.pool_limits.specs.LimiterTold.{after_answer};
+ghost use Rattle.pool_limits.specs.Exchanges.{Exchanged, may_grow};
 ghost use Rattle.pool_limits.specs.declared.errors.LimiterError.{LimiterError};
-ghost use Rattle.pool_memory.specs.Making.{minimum_asked, maximum_asked, static_answer, static_limiter_answer};
+ghost use Rattle.pool_memory.specs.Making.{minimum_asked, maximum_asked, minimum_question, static_answer, static_limiter_answer};
 ghost use Rattle.pool_memory.specs.Static.{CanHold};
-ghost use Rattle.pool_alloc.specs.Answers.{Asks};
+ghost use Rattle.pool_alloc.specs.Answers.{AsksForMemory};
 ghost use Rattle.pool_alloc.specs.CanStep.{HasNext, CanMake};
 ghost use Rattle.pool_alloc.specs.Modules.{IfAllocated};
 ghost use Rattle.pool_alloc.specs.Own.{refusal_of};
@@ -35,7 +36,7 @@ impl<P: Pages> PoolCore<P> {
     ) -> Option<Outcome<P>>
         requires next { HasNext frame.old.asked (length frame.old.granted.items) }
         requires can { IfAllocated frame.old (CanMake self.old.settings held) }
-        ensures { (answer : Result Bool LimiterError) × IfAllocated frame.old (Asks answer (L.told limiter.old) (L.told limiter.new)) × (◌≡◌ {A = After P} (record { core = self.new; frame = frame.new; outcome = result }) (make_memory_row answer slot held self.old frame.old)) }
+        ensures { (answer : Result Bool LimiterError) × IfAllocated frame.old (AsksForMemory answer (L.told limiter.old) (L.told limiter.new)) × IfAllocated frame.old (λ decl. Exchanged L.leads (may_grow (minimum_question decl.ty) answer ∷ []) limiter.old limiter.new) × (◌≡◌ {A = After P} (record { core = self.new; frame = frame.new; outcome = result }) (make_memory_row answer slot held self.old frame.old)) }
     {
         let making = self.make(frame, held, limiter);
         frame.phase = phase_made(slot, making);
@@ -51,7 +52,8 @@ impl<P: Pages> PoolCore<P> {
     ) -> Making<P>
         requires next { HasNext frame.now.asked (length frame.now.granted.items) }
         requires can { IfAllocated frame.now (CanMake self.now.settings held) }
-        ensures asked { IfAllocated frame.now (Asks (static_limiter_answer result) (L.told limiter.old) (L.told limiter.new)) }
+        ensures asked { IfAllocated frame.now (AsksForMemory (static_limiter_answer result) (L.told limiter.old) (L.told limiter.new)) }
+        ensures exchanged { IfAllocated frame.now (λ decl. Exchanged L.leads (may_grow (minimum_question decl.ty) (static_limiter_answer result) ∷ []) limiter.old limiter.new) }
         ensures value { IfAllocated frame.now (λ decl. result ≡ static_answer (static_limiter_answer result) decl.ty self.now.settings.max_memory_size held) }
     {
         let memory = frame.granted.len();
@@ -76,7 +78,8 @@ fn make_memory<P: Pages, L: ResourceLimiter>(
     requires slot { minimum_byte_size ty.now < 2 ^ 64 → CanHold (minimum_byte_size ty.now) held }
     requires room { rounded_up held.region.page settings.now.max_memory_size ≤ held.static_size }
     ensures answer { static_limiter_answer result ≡ memory_answer (L.told limiter.old).rule (static_limiter_answer result) (minimum_asked ty.now) (maximum_asked ty.now) }
-    ensures limiter { L.told limiter.new ≡ answered (static_limiter_answer result) (L.told limiter.old) }
+    ensures limiter { L.told limiter.new ≡ after_answer (static_limiter_answer result) (L.told limiter.old) }
+    ensures exchanged { Exchanged L.leads (may_grow (minimum_question ty.now) (static_limiter_answer result) ∷ []) limiter.old limiter.new }
     ensures value { result ≡ static_answer (static_limiter_answer result) ty.now settings.now.max_memory_size held }
 {
     Memory::new_static(

@@ -1,12 +1,13 @@
-ghost use Rattle.std.specs.Prelude.{◌≡◌, ◌+◌, ◌*◌, ◌^◌, ◌<◌, ◌≤◌, [], ◌∷◌, false, IfOk, IfErr, IfSome, MatchResult};
+ghost use Rattle.std.specs.Prelude.{◌≡◌, ◌+◌, ◌*◌, ◌^◌, ◌<◌, ◌≤◌, [], ◌∷◌, false, None, IfOk, IfErr, IfSome, OnOk, MatchResult};
 ghost use Rattle.pool_hall.specs.declared.unit_name.SlotKind.TheVariants.{Memory as memory_kind};
 ghost use Rattle.pool_pages.specs.ConfigLimits.{IsWithinLimits};
 ghost use Rattle.pool_pages.specs.MakerTold.{MakerTold};
+ghost use Rattle.pool_pages.specs.SettingsRules.{first_broken_rule};
 ghost use Rattle.pool_index.specs.Shard.{IsShard, fresh_shard};
-ghost use Rattle.pool_slots.specs.Makings.{RaisesFaults, makes_listed, IsListed};
+ghost use Rattle.pool_slots.specs.Makings.{RaisesPoolFaults, RaisesPoolBehind, makes_listed_regions, IsListedPoolFault};
 ghost use Rattle.pool_slots.specs.Queues.{empty_queue};
 ghost use Rattle.pool_alloc.specs.Calls.{frame_made};
-ghost use Rattle.pool_alloc.specs.Made.{settings_of, IsMadeCore, HasMadeCells};
+ghost use Rattle.pool_alloc.specs.Made.{settings_of, IsMadeCore, HasMadeCells, IsRefusedFor, CountsFault, NeedsFault, NeedsListed};
 ghost use Rattle.pool_alloc.specs.Sound.{IsCore, IsFrame};
 ghost use Rattle.pool_alloc.specs.Whole.{IsUntouched};
 
@@ -23,25 +24,59 @@ use pool_slots::{DecommitQueue, PoolNewError, make_cells};
 use std::alloc::{AllocError, Global};
 
 impl<P: Pages> PoolCore<P> {
-    /// Makes a pool with the regions of its memory slots, none of which is accessible, of the behaviour that is offered. All memory that its steps need is
-    /// taken now, but for the list of what an instance is granted.
+    /// Makes a pool with the regions of its memory slots, none of which is accessible, of the behaviour that is offered.
+    /// The page is the maker's. Tests the rules of the settings first, so that nothing is made where one is broken. As
+    /// yet every pool has one shard, one queue, one stripe and plain resets: also where 2 to 16 shards are asked for, and
+    /// where protection keys or dirty pages are offered. All memory that its steps need is taken now, but for the list of
+    /// what an instance is granted.
     pub fn new<M: PageMaker<Region = P>>(
         alloc: Global,
         config: &PoolingAllocationConfig,
         tunables: &Tunables,
+        page: PageSize,
+        shards: u32,
         offered: &Offered,
         maker: &mut M,
     ) -> Result<Self, PoolNewError>
-        requires within { IsWithinLimits config.now }
-        requires size { config.now.limits.max_memory_size + (M.told maker.old).page ≤ 2 ^ 64 }
+        requires page { page ≡ (M.told maker.old).page }
         ensures made { IfOk result (IsMadeCore (M.told maker.old) config.now tunables.now offered.now) }
         ensures core { IfOk result (IsCore (M.told maker.old)) }
         ensures untouched { IfOk result IsUntouched }
-        ensures maker { M.told maker.new ≡ record (M.told maker.old) { faults = (M.told maker.new).faults } }
-        ensures faults { MatchResult result (λ _. (M.told maker.new).faults ≡ (M.told maker.old).faults) (RaisesFaults (M.told maker.old).faults (M.told maker.new).faults) }
-        ensures planned { MatchResult result (λ _. IfSome (M.told maker.old).plan (λ plan. makes_listed plan config.now.limits.total_memories ≡ false)) (λ e. IfSome (M.told maker.old).plan (λ plan. IsListed (makes_listed plan config.now.limits.total_memories) e)) }
+        ensures rules { OnOk result (first_broken_rule config.now tunables.now page shards offered.now ≡ None) }
+        ensures refused { IfErr result (IsRefusedFor (first_broken_rule config.now tunables.now page shards offered.now)) }
+        ensures maker { M.told maker.new ≡ record (M.told maker.old) { behind = (M.told maker.new).behind; faults = (M.told maker.new).faults } }
+        ensures faults { MatchResult result (λ _. (M.told maker.new).faults ≡ (M.told maker.old).faults) (CountsFault (M.told maker.old).faults (M.told maker.new).faults) }
+        ensures listed { IfOk result (λ _. makes_listed_regions (M.told maker.old).listed config.now.limits.total_memories ≡ false) }
+        ensures behind { MatchResult result (λ _. (M.told maker.new).behind ≡ (M.told maker.old).behind) (NeedsFault (makes_listed_regions (M.told maker.old).listed config.now.limits.total_memories) (M.told maker.old).behind (M.told maker.new).behind) }
+        ensures planned { MatchResult result (λ _. IfSome (M.told maker.old).plan (λ plan. makes_listed_regions plan config.now.limits.total_memories ≡ false)) (λ e. IfSome (M.told maker.old).plan (λ plan. NeedsListed (makes_listed_regions plan config.now.limits.total_memories) e)) }
     {
-        let page = maker.page();
+        if let Err(rule) = config.check_rules(tunables, page.get(), shards, offered) {
+            return Err(PoolNewError::BadConfig(rule));
+        }
+        PoolCore::within_rules(alloc, config, tunables, page, offered, maker)
+    }
+
+    // The same, where no rule is broken.
+    fn within_rules<M: PageMaker<Region = P>>(
+        alloc: Global,
+        config: &PoolingAllocationConfig,
+        tunables: &Tunables,
+        page: PageSize,
+        offered: &Offered,
+        maker: &mut M,
+    ) -> Result<Self, PoolNewError>
+        requires page { page ≡ (M.told maker.old).page }
+        requires within { IsWithinLimits config.now }
+        requires size { config.now.limits.max_memory_size + page ≤ 2 ^ 64 }
+        ensures made { IfOk result (IsMadeCore (M.told maker.old) config.now tunables.now offered.now) }
+        ensures core { IfOk result (IsCore (M.told maker.old)) }
+        ensures untouched { IfOk result IsUntouched }
+        ensures maker { M.told maker.new ≡ record (M.told maker.old) { behind = (M.told maker.new).behind; faults = (M.told maker.new).faults } }
+        ensures faults { MatchResult result (λ _. (M.told maker.new).faults ≡ (M.told maker.old).faults) (RaisesPoolFaults (M.told maker.old).faults (M.told maker.new).faults) }
+        ensures listed { IfOk result (λ _. makes_listed_regions (M.told maker.old).listed config.now.limits.total_memories ≡ false) }
+        ensures behind { MatchResult result (λ _. (M.told maker.new).behind ≡ (M.told maker.old).behind) (RaisesPoolBehind (makes_listed_regions (M.told maker.old).listed config.now.limits.total_memories) (M.told maker.old).behind (M.told maker.new).behind) }
+        ensures planned { MatchResult result (λ _. IfSome (M.told maker.old).plan (λ plan. makes_listed_regions plan config.now.limits.total_memories ≡ false)) (λ e. IfSome (M.told maker.old).plan (λ plan. IsListedPoolFault (makes_listed_regions plan config.now.limits.total_memories) e)) }
+    {
         let _bytes = page.get();
         let settings = settings_of(page, config, tunables, offered);
         let total = config.limits.total_memories;

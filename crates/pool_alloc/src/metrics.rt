@@ -1,10 +1,9 @@
 ghost use Rattle.std.specs.Prelude.{◌≡◌};
-ghost use Rattle.pool_slots.specs.Cells.{added};
+ghost use Rattle.pool_pages.specs.CallSums.{added};
 ghost use Rattle.pool_alloc.specs.Sums.{metrics_of, calls_kept};
 
 use crate::pool_core::PoolCore;
 use pool_pages::{PageCalls, Pages};
-use pool_slots::add_calls;
 
 /// The numbers of a pool: how many of each thing are live, how many free slots were used before, and how many bytes
 /// those keep resident.
@@ -50,6 +49,6 @@ impl<P: Pages> PoolCore<P> {
     pub fn page_calls(&self) -> PageCalls
         ensures { result ≡ calls_kept self.now }
     {
-        add_calls(self.cells.page_calls(), self.queues.page_calls())
+        self.cells.page_calls().plus(self.queues.page_calls())
     }
 }

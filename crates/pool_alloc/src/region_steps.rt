@@ -1,11 +1,11 @@
 ghost use Rattle.std.specs.Prelude.{◌≡◌, ◌+◌, ◌<◌, ◌≤◌, ◌^◌, ◌-◌, length, false, true, not, Bool, None, Some};
 ghost use Rattle.pool_pages.specs.Count.{count};
-ghost use Rattle.pool_images.specs.Orders.{Follows, emptying};
+ghost use Rattle.pool_images.specs.Orders.{Follows, wiping};
 ghost use Rattle.pool_images.specs.Slots.{Slot, IsFresh};
 ghost use Rattle.pool_slots.specs.Cells.{is_taken, unmapped};
 ghost use Rattle.pool_alloc.specs.Answers.{Empties};
 ghost use Rattle.pool_alloc.specs.Own.{image_made};
-ghost use Rattle.pool_alloc.specs.Steps.{After, cell_at, take_region_row, empty_row, uncount_memory_row, uncount_instance_row, answer_of};
+ghost use Rattle.pool_alloc.specs.Steps.{After, nth_cell, take_region_row, empty_row, uncount_memory_row, uncount_instance_row, answer_of};
 
 use crate::frame::{AfterFree, Ending, Frame, Outcome, Phase};
 use crate::pool_core::PoolCore;
@@ -17,8 +17,8 @@ impl<P: Pages> PoolCore<P> {
     // Takes the region of a slot out of its cell. An image slot is made of a region that was never used.
     pub(crate) fn take_region(&mut self, frame: &mut Frame<P>, slot: u32) -> Option<Outcome<P>>
         requires inside { slot < length self.old.cells }
-        requires there { is_taken (cell_at slot self.old.cells) ≡ false }
-        requires fresh { (region : _) → cell_at slot self.old.cells ≡ unmapped region → IsFresh (count self.old.settings.page 0) (count self.old.settings.page 0) self.old.settings.max_memory_size region }
+        requires there { is_taken (nth_cell slot self.old.cells) ≡ false }
+        requires fresh { (region : _) → nth_cell slot self.old.cells ≡ unmapped region → IsFresh (count self.old.settings.page 0) (count self.old.settings.page 0) self.old.settings.max_memory_size None region }
         ensures { ◌≡◌ {A = After P} (record { core = self.new; frame = frame.new; outcome = result }) (take_region_row slot self.old frame.old) }
     {
         frame.phase = match self.cells.take(slot) {
@@ -32,7 +32,7 @@ impl<P: Pages> PoolCore<P> {
 
     // The image slot of a region that was never used.
     fn image_slot_of(&self, region: PageRegion<P>) -> MemoryImageSlot<P>
-        requires { IsFresh (count self.now.settings.page 0) (count self.now.settings.page 0) self.now.settings.max_memory_size region }
+        requires { IsFresh (count self.now.settings.page 0) (count self.now.settings.page 0) self.now.settings.max_memory_size None region }
         ensures { result ≡ image_made self.now.settings.page self.now.settings.max_memory_size region }
     {
         let none = self.settings.page.zero();
@@ -52,7 +52,7 @@ impl<P: Pages> PoolCore<P> {
         slot: u32,
         held: MemoryImageSlot<P>,
     ) -> Option<Outcome<P>>
-        ensures { (fault : Bool) × (after : Slot) × Empties fault held after × Follows (emptying held) (not fault) held.region after.region × (◌≡◌ {A = After P} (record { core = self.new; frame = frame.new; outcome = result }) (empty_row fault after slot self.old frame.old)) }
+        ensures { (fault : Bool) × (after : Slot) × Empties fault held after × Follows (wiping held) (not fault) held.region after.region × (◌≡◌ {A = After P} (record { core = self.new; frame = frame.new; outcome = result }) (empty_row fault after slot self.old frame.old)) }
     {
         let mut held = held;
         frame.phase = match held.reset_with_anon_memory() {

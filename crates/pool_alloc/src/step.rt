@@ -2,11 +2,12 @@ ghost use Rattle.std.specs.Prelude.{◌≡◌, ◌+◌, ◌≤◌, false};
 ghost use Rattle.std.specs.Option.{option_copied_mut};
 ghost use Rattle.pool_pages.specs.MakerTold.{MakerTold};
 ghost use Rattle.pool_limits.specs.LimiterTold.{limiter_told, option_left};
+ghost use Rattle.pool_limits.specs.Exchanges.{Exchanged, IfExchanged};
 ghost use Rattle.pool_alloc.specs.Bounds.{HasGroups, steps_left};
 ghost use Rattle.pool_alloc.specs.Calls.{IsGrantOf, IfGranted};
 ghost use Rattle.pool_alloc.specs.CanStep.{CanStepAt};
-ghost use Rattle.pool_alloc.specs.Steps.{memories_asked};
-ghost use Rattle.pool_alloc.specs.Stepping.{CanStep, CanCount, StepsTo, Conserves, EndsWith, IsSameSize, is_idle};
+ghost use Rattle.pool_alloc.specs.Steps.{memories_wanted};
+ghost use Rattle.pool_alloc.specs.Stepping.{CanStep, CanCount, StepsTo, StepsAsking, Conserves, EndsWith, IsSameSize, is_idle};
 
 use crate::frame::{Frame, Outcome, Phase};
 use crate::pool_core::PoolCore;
@@ -31,10 +32,11 @@ impl<P: Pages> PoolCore<P> {
         requires can { CanStep maker self.old frame.old }
         requires counts { CanCount self.old }
         ensures row { StepsTo (limiter_told R.told (option_copied_mut limiter.entry)) (limiter_told R.told (option_left limiter.exit)) self.old frame.old (record { core = self.new; frame = frame.new; outcome = result }) }
+        ensures asks { StepsAsking (λ passed. IfExchanged R.leads passed (option_copied_mut limiter.entry) (option_left limiter.exit)) (limiter_told R.told (option_copied_mut limiter.entry)) (limiter_told R.told (option_left limiter.exit)) self.old frame.old (record { core = self.new; frame = frame.new; outcome = result }) }
         ensures heaps { heaps.new ≡ heaps.old }
         ensures can { CanStep maker self.new frame.new }
         ensures conserves { Conserves self.old frame.old (record { core = self.new; frame = frame.new; outcome = result }) }
-        ensures granted { IfGranted (IsGrantOf maker self.old.settings (memories_asked frame.old.asked)) result }
+        ensures granted { IfGranted (IsGrantOf maker self.old.settings (memories_wanted frame.old.asked)) result }
         ensures ended { EndsWith self.old frame.old (record { core = self.new; frame = frame.new; outcome = result }) }
         ensures size { IsSameSize self.old self.new }
         ensures groups { HasGroups self.old frame.old → HasGroups self.new frame.new }
@@ -54,7 +56,7 @@ impl<P: Pages> PoolCore<P> {
         limiter: &mut L,
     ) -> Option<Outcome<P>>
         requires { CanStepAt frame.old.phase self.old frame.old }
-        ensures { StepsTo (L.told limiter.old) (L.told limiter.new) self.old frame.old (record { core = self.new; frame = frame.new; outcome = result }) }
+        ensures { StepsAsking (λ passed. Exchanged L.leads passed limiter.old limiter.new) (L.told limiter.old) (L.told limiter.new) self.old frame.old (record { core = self.new; frame = frame.new; outcome = result }) }
     {
         match mem::replace(&mut frame.phase, Phase::Idle) {
             Phase::Idle => None,

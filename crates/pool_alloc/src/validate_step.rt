@@ -1,10 +1,10 @@
 ghost use Rattle.std.specs.Prelude.{◌≡◌, ◌<◌, ◌%◌, ◌==◌, Bool, Some, None, if◌then◌else◌};
 ghost use Rattle.pool_pages.specs.MemoryTypes.{refused_limits};
-ghost use Rattle.pool_slots.specs.declared.request.AllocError.TheVariants as refusal;
+ghost use Rattle.pool_slots.specs.declared.errors.AllocError.TheVariants as refusal;
 ghost use Rattle.pool_alloc.specs.declared.frame.Outcome.TheVariants as answer;
 ghost use Rattle.pool_alloc.specs.CanStep.{CanValidate};
 ghost use Rattle.pool_alloc.specs.Refusals.{first_refused, offset_refused, number_refused, memory_refused, memories_refused};
-ghost use Rattle.pool_alloc.specs.Steps.{After, memories_asked, ends, validated, validate_row};
+ghost use Rattle.pool_alloc.specs.Steps.{After, memories_wanted, ends, validated, validate_row};
 
 use crate::frame::{Frame, Outcome, Phase};
 use crate::pool_core::{PoolCore, Settings};
@@ -16,7 +16,7 @@ use std::alloc::Global;
 impl<P: Pages> PoolCore<P> {
     // Tests the module, and reserves the list of the memories that are to be granted.
     pub(crate) fn validate(&mut self, alloc: Global, frame: &mut Frame<P>) -> Option<Outcome<P>>
-        requires { CanValidate (memories_asked frame.old.asked) }
+        requires { CanValidate (memories_wanted frame.old.asked) }
         ensures { (wants : Bool) × (◌≡◌ {A = After P} (record { core = self.new; frame = frame.new; outcome = result }) (validate_row wants self.old frame.old)) }
     {
         match self.module_refused(frame) {
@@ -36,7 +36,7 @@ impl<P: Pages> PoolCore<P> {
     fn reserve_grants(&mut self, alloc: Global, frame: &mut Frame<P>) -> Option<Outcome<P>>
         ensures { (wants : Bool) × (◌≡◌ {A = After P} (record { core = self.new; frame = frame.new; outcome = result }) (validated None wants self.old frame.old)) }
     {
-        match ReservedList::with_room(alloc, frame.memories_asked()) {
+        match ReservedList::with_room(alloc, frame.memories_wanted()) {
             Ok(granted) => {
                 frame.granted = granted;
                 frame.phase = Phase::CountInstance;
@@ -52,8 +52,8 @@ impl<P: Pages> PoolCore<P> {
 
     // The first rule that the module breaks.
     fn module_refused(&self, frame: &Frame<P>) -> Option<Unsupported>
-        requires { CanValidate (memories_asked frame.now.asked) }
-        ensures { result ≡ memories_refused self.now.settings (memories_asked frame.now.asked) }
+        requires { CanValidate (memories_wanted frame.now.asked) }
+        ensures { result ≡ memories_refused self.now.settings (memories_wanted frame.now.asked) }
     {
         match &frame.asked {
             None => memories_refused(&self.settings, &[]),

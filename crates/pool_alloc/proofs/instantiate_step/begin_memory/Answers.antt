@@ -12,8 +12,8 @@ returns-clause-begun g c =
     rw (c.is_err-fault.ensures.value, ← c.minimum_of.ensures)
     (instantiates_as c.instantiate.result _ _ _ _ _ i.begun
     (holds_as c.instantiate.result _ _ _ _ _ c.accessible-accessible.ensures.fits (rw c.minimum_of.ensures ends) (rw c.minimum_of.ensures c.requires.minimum) i.begun i.sizes)
-    i.sizes i.image i.reused i.replaced i.fault)
+    i.sizes i.image i.either i.reused i.replaced i.fault)
 
 pub returns-clause-planned : goal.returns-clause-planned
 returns-clause-planned g c =
-    rw (c.is_err-fault.ensures.value, ← c.minimum_of.ensures) (follows_as c.instantiate.result _ _ _ _ _ c.instantiate.ensures.reuse_order c.instantiate.ensures.replace_order)
+    rw (c.is_err-fault.ensures.value, ← c.minimum_of.ensures) (follows_as c.instantiate.result _ _ _ c.args.held.now c.instantiate.new.self c.instantiate.ensures.either_order c.instantiate.ensures.reuse_order c.instantiate.ensures.replace_order)

@@ -1,7 +1,7 @@
 use Rattle.std.proofs.Common.{◌<◌, length, take, ap, ◌∙◌, arith}
 use Rattle.pool_pages.specs.declared.pages.PageCalls.{PageCalls}
 use Rattle.pool_memory.specs.Memories.{slot_of}
-use Rattle.pool_slots.specs.Cells.{added}
+use Rattle.pool_pages.specs.CallSums.{added}
 use Rattle.pool_alloc.specs.Leases.{Lease}
 use Rattle.pool_alloc.specs.Sums.{calls_of_leases}
 use Rattle.pool_alloc.proofs.Totals.{leases_more}
@@ -14,7 +14,7 @@ loop-at-preserved g c =
     let inside : i < length xs = omega (arith, c.loop-at.invariant.all, c.loop-at-test.true) in
     record {
       calls =
-          c.add_calls-calls.ensures
+          c.plus-calls.ensures
           ∙ ap (λ (a : PageCalls). added a c.page_calls.result) c.loop-at.invariant.calls
           ∙ ap (λ (b : PageCalls). added (calls_of_leases (take i xs)) b) (c.page_calls.ensures ∙ ap (λ (l : Lease). (slot_of l.memory).region.calls) c.get.ensures)
           ∙ leases_more xs i c.get.result.now inside;

@@ -1,3 +1,4 @@
+use Rattle.pool_alloc.proofs.Advancing.{without_limiter}
 use Rattle.pool_alloc.proofs.Endings.{step_ends}
 use Rattle.pool_alloc.proofs.Fitting.{step_conserves, step_keeps_size}
 use Rattle.pool_alloc.proofs.Grouping.{step_grouped}
@@ -12,46 +13,55 @@ pub advance-requires-in-None-after_bounds : goal.advance-requires-in-None-after_
 advance-requires-in-None-after_bounds g c κs within = can_step_at g.maker c.args.self.now c.args.frame.now c.requires.1.1.1.1.1.1.0 c.requires.1.1.1.1.1.1.1
 
 pub returns-in-Some-clause-row : goal.returns-in-Some-clause-row
-returns-in-Some-clause-row g c = rw c.in-Some.is c.advance.ensures
+returns-in-Some-clause-row g c = rw c.in-Some.is (c.advance.ensures.0, c.advance.ensures.1.0)
+
+pub returns-in-Some-clause-asks : goal.returns-in-Some-clause-asks
+returns-in-Some-clause-asks g c = rw c.in-Some.is c.advance.ensures
+
+pub returns-in-None-clause-row : goal.returns-in-None-clause-row
+returns-in-None-clause-row g c = rw c.in-None.is (c.advance-in-None.ensures.0, c.advance-in-None.ensures.1.0)
+
+pub returns-in-None-clause-asks : goal.returns-in-None-clause-asks
+returns-in-None-clause-asks g c = rw c.in-None.is (without_limiter c.args.self.now c.args.frame.now _ (c.advance-in-None.ensures.0, c.advance-in-None.ensures.1.0))
 
 pub returns-in-Some-clause-can : goal.returns-in-Some-clause-can
-returns-in-Some-clause-can g c = can_still g.maker _ _ c.args.self.now c.args.frame.now _ c.requires.1.1.1.1.1.1.0 c.advance.ensures
+returns-in-Some-clause-can g c = can_still g.maker _ _ c.args.self.now c.args.frame.now _ c.requires.1.1.1.1.1.1.0 (c.advance.ensures.0, c.advance.ensures.1.0)
 
 pub returns-in-Some-clause-conserves : goal.returns-in-Some-clause-conserves
-returns-in-Some-clause-conserves g c = step_conserves g.maker _ _ c.args.self.now c.args.frame.now _ c.requires.1.1.1.1.1.1.0 c.advance.ensures
+returns-in-Some-clause-conserves g c = step_conserves g.maker _ _ c.args.self.now c.args.frame.now _ c.requires.1.1.1.1.1.1.0 (c.advance.ensures.0, c.advance.ensures.1.0)
 
 pub returns-in-Some-clause-granted : goal.returns-in-Some-clause-granted
-returns-in-Some-clause-granted g c = step_grants g.maker _ _ c.args.self.now c.args.frame.now _ c.requires.1.1.1.1.1.1.0 c.advance.ensures
+returns-in-Some-clause-granted g c = step_grants g.maker _ _ c.args.self.now c.args.frame.now _ c.requires.1.1.1.1.1.1.0 (c.advance.ensures.0, c.advance.ensures.1.0)
 
 pub returns-in-Some-clause-ended : goal.returns-in-Some-clause-ended
-returns-in-Some-clause-ended g c = step_ends g.maker _ _ c.args.self.now c.args.frame.now _ c.requires.1.1.1.1.1.1.0 c.advance.ensures
+returns-in-Some-clause-ended g c = step_ends g.maker _ _ c.args.self.now c.args.frame.now _ c.requires.1.1.1.1.1.1.0 (c.advance.ensures.0, c.advance.ensures.1.0)
 
 pub returns-in-Some-clause-size : goal.returns-in-Some-clause-size
-returns-in-Some-clause-size g c = step_keeps_size g.maker _ _ c.args.self.now c.args.frame.now _ c.requires.1.1.1.1.1.1.0 c.advance.ensures
+returns-in-Some-clause-size g c = step_keeps_size g.maker _ _ c.args.self.now c.args.frame.now _ c.requires.1.1.1.1.1.1.0 (c.advance.ensures.0, c.advance.ensures.1.0)
 
 pub returns-in-None-clause-can : goal.returns-in-None-clause-can
-returns-in-None-clause-can g c = can_still g.maker _ _ c.args.self.now c.args.frame.now _ c.requires.1.1.1.1.1.1.0 c.advance-in-None.ensures
+returns-in-None-clause-can g c = can_still g.maker _ _ c.args.self.now c.args.frame.now _ c.requires.1.1.1.1.1.1.0 (c.advance-in-None.ensures.0, c.advance-in-None.ensures.1.0)
 
 pub returns-in-None-clause-conserves : goal.returns-in-None-clause-conserves
-returns-in-None-clause-conserves g c = step_conserves g.maker _ _ c.args.self.now c.args.frame.now _ c.requires.1.1.1.1.1.1.0 c.advance-in-None.ensures
+returns-in-None-clause-conserves g c = step_conserves g.maker _ _ c.args.self.now c.args.frame.now _ c.requires.1.1.1.1.1.1.0 (c.advance-in-None.ensures.0, c.advance-in-None.ensures.1.0)
 
 pub returns-in-None-clause-granted : goal.returns-in-None-clause-granted
-returns-in-None-clause-granted g c = step_grants g.maker _ _ c.args.self.now c.args.frame.now _ c.requires.1.1.1.1.1.1.0 c.advance-in-None.ensures
+returns-in-None-clause-granted g c = step_grants g.maker _ _ c.args.self.now c.args.frame.now _ c.requires.1.1.1.1.1.1.0 (c.advance-in-None.ensures.0, c.advance-in-None.ensures.1.0)
 
 pub returns-in-None-clause-ended : goal.returns-in-None-clause-ended
-returns-in-None-clause-ended g c = step_ends g.maker _ _ c.args.self.now c.args.frame.now _ c.requires.1.1.1.1.1.1.0 c.advance-in-None.ensures
+returns-in-None-clause-ended g c = step_ends g.maker _ _ c.args.self.now c.args.frame.now _ c.requires.1.1.1.1.1.1.0 (c.advance-in-None.ensures.0, c.advance-in-None.ensures.1.0)
 
 pub returns-in-None-clause-size : goal.returns-in-None-clause-size
-returns-in-None-clause-size g c = step_keeps_size g.maker _ _ c.args.self.now c.args.frame.now _ c.requires.1.1.1.1.1.1.0 c.advance-in-None.ensures
+returns-in-None-clause-size g c = step_keeps_size g.maker _ _ c.args.self.now c.args.frame.now _ c.requires.1.1.1.1.1.1.0 (c.advance-in-None.ensures.0, c.advance-in-None.ensures.1.0)
 
 pub returns-in-Some-clause-groups : goal.returns-in-Some-clause-groups
-returns-in-Some-clause-groups g c = λ has. step_grouped g.maker _ _ c.args.self.now c.args.frame.now _ c.requires.1.1.1.1.1.1.0 c.advance.ensures has
+returns-in-Some-clause-groups g c = λ has. step_grouped g.maker _ _ c.args.self.now c.args.frame.now _ c.requires.1.1.1.1.1.1.0 (c.advance.ensures.0, c.advance.ensures.1.0) has
 
 pub returns-in-Some-clause-fewer : goal.returns-in-Some-clause-fewer
-returns-in-Some-clause-fewer g c = λ has on. step_fewer g.maker _ _ c.args.self.now c.args.frame.now _ c.requires.1.1.1.1.1.1.0 c.advance.ensures has on
+returns-in-Some-clause-fewer g c = λ has on. step_fewer g.maker _ _ c.args.self.now c.args.frame.now _ c.requires.1.1.1.1.1.1.0 (c.advance.ensures.0, c.advance.ensures.1.0) has on
 
 pub returns-in-None-clause-groups : goal.returns-in-None-clause-groups
-returns-in-None-clause-groups g c = λ has. step_grouped g.maker _ _ c.args.self.now c.args.frame.now _ c.requires.1.1.1.1.1.1.0 c.advance-in-None.ensures has
+returns-in-None-clause-groups g c = λ has. step_grouped g.maker _ _ c.args.self.now c.args.frame.now _ c.requires.1.1.1.1.1.1.0 (c.advance-in-None.ensures.0, c.advance-in-None.ensures.1.0) has
 
 pub returns-in-None-clause-fewer : goal.returns-in-None-clause-fewer
-returns-in-None-clause-fewer g c = λ has on. step_fewer g.maker _ _ c.args.self.now c.args.frame.now _ c.requires.1.1.1.1.1.1.0 c.advance-in-None.ensures has on
+returns-in-None-clause-fewer g c = λ has on. step_fewer g.maker _ _ c.args.self.now c.args.frame.now _ c.requires.1.1.1.1.1.1.0 (c.advance-in-None.ensures.0, c.advance-in-None.ensures.1.0) has on

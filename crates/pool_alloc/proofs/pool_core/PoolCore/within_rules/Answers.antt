@@ -6,16 +6,15 @@ use Rattle.pool_slots.specs.Queues.{empty_queue}
 use Rattle.pool_slots.proofs.Fresh.{cells_made}
 use Rattle.pool_slots.proofs.PageSizes.{rounded_leaves}
 use Rattle.pool_alloc.specs.Made.{settings_of}
-use Rattle.pool_alloc.specs.Steps.{cell_at}
+use Rattle.pool_alloc.specs.Steps.{nth_cell}
 use Rattle.pool_alloc.specs.declared.pool_core.Settings.{Settings}
 use Rattle.pool_alloc.proofs.MadePools.{made_core, made_untouched}
-use Rattle.pool_alloc.proofs.pool_core.PoolCore.new.Goals as goal
+use Rattle.pool_alloc.proofs.pool_core.PoolCore.within_rules.Goals as goal
 
 pub rounded_up_unchecked-len-requires : goal.rounded_up_unchecked-len-requires
 rounded_up_unchecked-len-requires g c =
-    let size : c.settings_of-settings.result.max_memory_size ≡ rounded_up c.page-page.result c.args.config.now.limits.max_memory_size = ap (λ (s : Settings). s.max_memory_size) c.settings_of-settings.ensures in
-    let room : c.args.config.now.limits.max_memory_size + c.page-page.result ≤ 2 ^ 64 = omega (arith, c.requires.size, c.page-page.ensures) in
-    omega (arith, size, rounded_leaves c.page-page.result c.args.config.now.limits.max_memory_size c.get-bytes.ensures.valid room, c.get-bytes.ensures.valid.at_least)
+    let size : c.settings_of-settings.result.max_memory_size ≡ rounded_up c.args.page c.args.config.now.limits.max_memory_size = ap (λ (s : Settings). s.max_memory_size) c.settings_of-settings.ensures in
+    omega (arith, size, rounded_leaves c.args.page c.args.config.now.limits.max_memory_size c.get-bytes.ensures.valid c.requires.size, c.get-bytes.ensures.valid.at_least)
 
 pub returns-clause-made : goal.returns-clause-made
 returns-clause-made g c =
@@ -25,14 +24,14 @@ returns-clause-made g c =
     let total : ℕ = config.limits.total_memories in
     let made = c.in_ok-cells.ensures.cells in
     record {
-      settings = c.settings_of-settings.ensures ∙ ap (λ (n : ℕ). settings_of n config c.args.tunables.now c.args.offered.now) c.page-page.ensures;
+      settings = c.settings_of-settings.ensures ∙ ap (λ (n : ℕ). settings_of n config c.args.tunables.now c.args.offered.now) c.requires.page;
       shards = c.in_ok-shards.ensures.made;
       cells = record {
         number = ap length c.new.ensures ∙ made.count;
         each = λ i below.
-            let C : DecommitBehavior → List Cell → Type 0 = λ b xs. cell_at i xs ≡ unmapped (region_made (g.M.PageMaker.told c.args.maker.now) b settings.max_memory_size i) in
+            let C : DecommitBehavior → List Cell → Type 0 = λ b xs. nth_cell i xs ≡ unmapped (region_made (g.M.PageMaker.told c.args.maker.now) b settings.max_memory_size i) in
             let behaves : settings.behaviour ≡ c.args.offered.now.behaviour = ap (λ (s : Settings). s.behaviour) c.settings_of-settings.ensures in
-            subst (C settings.behaviour) (sym c.new.ensures) (subst (λ (b : DecommitBehavior). C b c.in_ok-cells.cells.items) (sym behaves) (cells_made (g.M.PageMaker.told c.args.maker.now) c.args.offered.now.behaviour c.page-page.result settings.max_memory_size total c.rounded_up_unchecked-len.result c.in_ok-cells.cells.items c.page-page.ensures c.rounded_up_unchecked-len.ensures made i below));
+            subst (C settings.behaviour) (sym c.new.ensures) (subst (λ (b : DecommitBehavior). C b c.in_ok-cells.cells.items) (sym behaves) (cells_made (g.M.PageMaker.told c.args.maker.now) c.args.offered.now.behaviour c.args.page settings.max_memory_size total c.rounded_up_unchecked-len.result c.in_ok-cells.cells.items c.requires.page c.rounded_up_unchecked-len.ensures made i below));
       };
       queues = c.in_ok-queues.ensures.made ∙ ap (λ (n : ℕ). empty_queue (2 * n) (2 * n) ∷ []) batch;
       counters = refl;
@@ -40,8 +39,9 @@ returns-clause-made g c =
 
 pub returns-clause-core : goal.returns-clause-core
 returns-clause-core g c =
-    let paged : IsPageSize (g.M.PageMaker.told c.args.maker.now).page = rw c.page-page.ensures at c.get-bytes.ensures.valid in
-    made_core (g.M.PageMaker.told c.args.maker.now) c.args.config.now c.args.tunables.now c.args.offered.now _ paged c.requires.within c.requires.size c.in_ok-shards.ensures.sound (returns-clause-made g c)
+    let paged : IsPageSize (g.M.PageMaker.told c.args.maker.now).page = rw c.requires.page at c.get-bytes.ensures.valid in
+    let size : c.args.config.now.limits.max_memory_size + (g.M.PageMaker.told c.args.maker.now).page ≤ 2 ^ 64 = rw c.requires.page at c.requires.size in
+    made_core (g.M.PageMaker.told c.args.maker.now) c.args.config.now c.args.tunables.now c.args.offered.now _ paged c.requires.within size c.in_ok-shards.ensures.sound (returns-clause-made g c)
 
 pub returns-clause-untouched : goal.returns-clause-untouched
 returns-clause-untouched g c = made_untouched (g.M.PageMaker.told c.args.maker.now) c.args.config.now c.args.tunables.now c.args.offered.now _ (returns-clause-made g c)
