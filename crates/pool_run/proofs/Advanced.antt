@@ -6,7 +6,7 @@ use Rattle.std.proofs.lemmas.Option.{slice_get_within, slice_get-get_or}
 use Rattle.pool_pages.specs.MakerTold.{MakerTold}
 use Rattle.pool_pages.specs.declared.module_types.ModuleInfo.{ModuleInfo}
 use Rattle.pool_index.specs.Shard.{one_if}
-use Rattle.pool_slots.specs.declared.request.AllocError.TheVariants as alloc
+use Rattle.pool_slots.specs.declared.errors.AllocError.TheVariants as alloc
 use Rattle.pool_alloc.specs.Bounds.{HasGroups, instance_bound, pool_sizes, bound_of, steps_left}
 use Rattle.pool_alloc.specs.Calls.{IsIdle, begun_call}
 use Rattle.pool_alloc.specs.Steps.{After}
@@ -24,13 +24,14 @@ use Rattle.pool_alloc.specs.declared.frame.Phase.TheVariants.{UncountMemory, Unc
 use Rattle.pool_alloc.proofs.Endings.{step_ends}
 use Rattle.pool_alloc.proofs.Grouping.{step_grouped, begun_grouped}
 use Rattle.pool_alloc.proofs.StepBounds.{step_fewer, idle_left, begun_bounded}
-use Rattle.pool_memory.specs.Memories.{MemoryState}
+use Rattle.pool_alloc.specs.Leases.{Lease}
 use Rattle.pool_run.specs.PartyRules.{rule_of}
-use Rattle.pool_run.specs.Private.{World, PrivateMemory, IsRead, IsSize}
+use Rattle.pool_run.specs.Private.{IsRead, IsSize, Looks}
+use Rattle.pool_run.specs.Rooms.{World}
 use Rattle.pool_run.specs.Progress.{begun_by, begins_by, bound_asked, bound_returned, bound_begun, bound_keyed, bound_by}
 use Rattle.pool_run.specs.RunsMade.{draws_stripe}
 use Rattle.pool_run.specs.Ties.{CanTurn}
-use Rattle.pool_run.specs.Turns.{Turned, MemoryWrites, MemoryGrows, replies, answered, Steps, Returns, LooksAt, with_lease, MovesIn, Asks, Begins, BeginsKeyed, TurnsAt, Turns}
+use Rattle.pool_run.specs.Turns.{Turned, private_memory, MemoryWrites, MemoryGrows, LeaseMoves, ended_with, answered, Steps, Returns, MovesLive, Asks, Begins, BeginsKeyed, TurnsAt, Turns}
 use Rattle.pool_run.specs.Worlds.{IsCallFor, AreCallsFor}
 use Rattle.pool_run.specs.declared.command.Command.{Command}
 use Rattle.pool_run.specs.declared.command.Command.TheVariants as command
@@ -39,7 +40,6 @@ use Rattle.pool_run.specs.declared.reply.Reply.TheVariants.{Refused}
 use Rattle.pool_run.specs.declared.reply.Refusal.TheVariants.{NoSuchGrant, Alloc}
 use Rattle.pool_run.specs.declared.running_party.RunningParty.{RunningParty}
 use Rattle.pool_run.proofs.Beginning.{idle_is}
-use Rattle.pool_run.proofs.Moves.{looked, moved}
 use Rattle.pool_run.proofs.Keyless.{is_key, IsKeyless, step_keyless}
 use Rattle.pool_run.proofs.Parties.{can_step, called_key, called_module, called_back}
 use Rattle.pool_run.proofs.Shares.{share_for}
@@ -146,7 +146,7 @@ module _ {P : Type 0} (maker : MakerTold) (c : PoolCore P) (p : RunningParty P) 
   none_left = omega (arith, idle_left c p.frame idle)
 
   -- a command that ends at once
-  replies_advanced : (q : RunningParty P) (reply : Reply) (t : Turned P) → q.frame ≡ p.frame → q.keyed ≡ p.keyed → q.done ≡ p.done → t ≡ replies reply c q → HasAdvanced 1 1 c p t
+  replies_advanced : (q : RunningParty P) (reply : Reply) (t : Turned P) → q.frame ≡ p.frame → q.keyed ≡ p.keyed → q.done ≡ p.done → t ≡ ended_with reply c q → HasAdvanced 1 1 c p t
   replies_advanced q reply t frame keyed done same =
       let R : Frame P → Type 0 = λ f. IsReady c f in
       let idles : one_if (not (is_idle q.frame.phase)) ≡ one_if (not (is_idle p.frame.phase)) = ap (λ (f : Frame P). one_if (not (is_idle f.phase))) frame in
@@ -154,7 +154,7 @@ module _ {P : Type 0} (maker : MakerTold) (c : PoolCore P) (p : RunningParty P) 
       let L : Frame P → Type 0 = λ f. steps_left c f + 1 ≤ 1 in
       subst (HasAdvanced 1 1 c p) (sym same) (record { ready = subst R (sym frame) ready; fewer = λ busy. never busy; bounded = λ idles. subst L (sym frame) none_left; begun = omega (arith, idles, drawn, done) })
 
-  at_once : (reply : Reply) (t : Turned P) → t ≡ replies reply c p → HasAdvanced 1 1 c p t
+  at_once : (reply : Reply) (t : Turned P) → t ≡ ended_with reply c p → HasAdvanced 1 1 c p t
   at_once reply t same = replies_advanced p reply t refl refl refl same
 
   -- a call that begins, and makes its first step
@@ -165,16 +165,9 @@ module _ {P : Type 0} (maker : MakerTold) (c : PoolCore P) (p : RunningParty P) 
       let drawn : one_if q.keyed ≡ one_if p.keyed = ap one_if keyed in
       record { ready = on.ready; fewer = λ busy. never busy; bounded = λ idles. omega (arith, on.fewer busy, most); begun = omega (arith, on.begun, one, not_busy, drawn, done) }
 
-  -- a command that looks at a memory, and one that moves it
-  looks_on : (Looks : PrivateMemory → Reply → Type 0) (k : ℕ) (x : Option (Grant P)) (t : Turned P) → LooksAt Looks x k c p t → HasAdvanced 1 1 c p t
-  looks_on Looks k x t looks = let seen = looked c p Looks k x t looks in at_once seen.0 t seen.1
-
-  moves_on : (Moves : MemoryState → MemoryState → Reply → Type 0) (of k : ℕ) (x : Option (Grant P)) (t : Turned P) → MovesIn Moves x of k c p t → HasAdvanced 1 1 c p t
-  moves_on Moves of k x t moves =
-      elim (moved c p Moves of k x t moves) [
-        | inl same ↦ at_once same.0 t same.1
-        | inr m ↦ replies_advanced (record p { live = slice_set p.live of (Some (with_lease k m.new (instance m.lease))) }) m.reply t refl refl refl m.is
-      ]
+  -- a command on a memory
+  moves_on : (Move : Lease → Lease → Reply → Type 0) (of k : ℕ) (t : Turned P) → MovesLive Move of k c p t → HasAdvanced 1 1 c p t
+  moves_on Move of k t is = replies_advanced (record p { live = is.1 }) is.0 t refl refl refl is.3
 
   -- a give-back
   returns_on : (of : ℕ) (x : Option (Grant P)) (t : Turned P) → slice_index_or p.live of None ≡ x → Returns x of c p t → HasAdvanced 1 (bound_returned c x) c p t
@@ -186,28 +179,28 @@ module _ {P : Type 0} (maker : MakerTold) (c : PoolCore P) (p : RunningParty P) 
       (begun_bounded c (call.GiveBack grant) p.frame) steps
 
   -- a request for an instance
-  asks_on : (w : World) (number : ℕ) (o : Option ModuleCall) (t : Turned P) → IfSome o (IsCallFor w c.settings number) → Asks o c p t → p.done < length p.live → HasAdvanced 1 (bound_asked c o) c p t
+  asks_on : (w : World) (number : ℕ) (o : Option ModuleCall) (t : Turned P) → IfSome o (IsCallFor w.terms c.settings number) → Asks o c p t → p.done < length p.live → HasAdvanced 1 (bound_asked c o) c p t
   asks_on w number None t for asked room = absurd asked
   asks_on w number (Some kept) t for asked room =
       elim asked [
         | inl refused ↦ looser 1 1 (bound_of c (call.Module kept)) c p t (omega arith) (at_once (Refused (Alloc alloc.Memory)) t refused)
         | inr steps ↦
             let m : ModuleCall = steps.0 in
-            let call_for : IsCallFor w c.settings number m = share_for w c.settings number kept m steps.1 for in
+            let call_for : IsCallFor w.terms c.settings number m = share_for w.terms c.settings number kept m steps.1 for in
             let same : bound_of c (call.Module m) ≡ bound_of c (call.Module kept) = ap (λ (i : ModuleInfo). instance_bound (pool_sizes c) (length i.memories)) steps.1.info in
-            begins_step (bound_of c (call.Module kept)) (record p { frame = begun_call (call.Module m) p.frame }) t (called_module maker m c p can idle call_for.images call_for.places room)
+            begins_step (bound_of c (call.Module kept)) (record p { frame = begun_call (call.Module m) p.frame }) t (called_module maker m c p can idle call_for.fit.images call_for.fit.places room)
             (record { groups = begun_groups c (call.Module m) p.frame ready.groups; drawn = refl })
             refl refl refl
             (omega (arith, begun_bounded c (call.Module m) p.frame, same)) steps.2
       ]
 
-  begins_on : (w : World) (modules : List ModuleCall) (command : Command) (t : Turned P) → AreCallsFor w c.settings modules → Begins modules command c p t → p.done < length p.live → HasAdvanced 1 (bound_begun modules command c p) c p t
+  begins_on : (w : World) (modules : List ModuleCall) (command : Command) (t : Turned P) → AreCallsFor w.terms c.settings modules → Begins modules command c p t → p.done < length p.live → HasAdvanced 1 (bound_begun modules command c p) c p t
   begins_on w modules (command.Instantiate number) t calls begins room = asks_on w number (slice_get modules number) t (calls number) begins room
-  begins_on w modules (command.Read of k i len) t calls begins room = looks_on (λ m. IsRead m i len) k (slice_index_or p.live of None) t begins
-  begins_on w modules (command.Write of k i bytes) t calls begins room = moves_on (MemoryWrites i bytes) of k (slice_index_or p.live of None) t begins
-  begins_on w modules (command.Fill of k i len byte) t calls begins room = moves_on (MemoryWrites i (replicate len byte)) of k (slice_index_or p.live of None) t begins
-  begins_on w modules (command.Grow of k pages) t calls begins room = moves_on (MemoryGrows (rule_of p.limits) pages) of k (slice_index_or p.live of None) t begins
-  begins_on w modules (command.Size of k) t calls begins room = looks_on IsSize k (slice_index_or p.live of None) t begins
+  begins_on w modules (command.Read of k i len) t calls begins room = moves_on (Looks (λ l. IsRead (private_memory l) i len)) of k t begins
+  begins_on w modules (command.Write of k i bytes) t calls begins room = moves_on (LeaseMoves (MemoryWrites i bytes)) of k t begins
+  begins_on w modules (command.Fill of k i len byte) t calls begins room = moves_on (LeaseMoves (MemoryWrites i (replicate len byte))) of k t begins
+  begins_on w modules (command.Grow of k pages) t calls begins room = moves_on (LeaseMoves (MemoryGrows (rule_of p.limits) pages)) of k t begins
+  begins_on w modules (command.Size of k) t calls begins room = moves_on (Looks (λ l. IsSize (private_memory l))) of k t begins
   begins_on w modules (command.Drop of) t calls begins room = returns_on of (slice_index_or p.live of None) t refl begins
 
   -- The stripe is drawn in one turn.
@@ -243,19 +236,19 @@ module _ {P : Type 0} (maker : MakerTold) (c : PoolCore P) (p : RunningParty P) 
       let B : Bool → Bool = λ v. v && nat_lt p.done (length commands) in
       ap (λ (v : Bool). one_if (B v)) is ∙ ap one_if (has_next commands next there)
 
-  keyed_on : (w : World) (commands : List Command) (keyed : Bool) (modules : List ModuleCall) (next : Option Command) (t : Turned P) → AreCallsFor w c.settings modules → slice_get commands p.done ≡ next → p.keyed ≡ keyed → length commands ≤ length p.live → BeginsKeyed keyed modules next c p t → HasAdvanced (one_if (is_some next)) (bound_keyed keyed modules next c p) c p t
+  keyed_on : (w : World) (commands : List Command) (keyed : Bool) (modules : List ModuleCall) (next : Option Command) (t : Turned P) → AreCallsFor w.terms c.settings modules → slice_get commands p.done ≡ next → p.keyed ≡ keyed → length commands ≤ length p.live → BeginsKeyed keyed modules next c p t → HasAdvanced (one_if (is_some next)) (bound_keyed keyed modules next c p) c p t
   keyed_on w commands false modules None t calls next keyed room begins = nothing_on t begins
   keyed_on w commands true modules None t calls next keyed room begins = nothing_on t begins
   keyed_on w commands false modules (Some command) t calls next keyed room steps = drawn_on t keyed steps
   keyed_on w commands true modules (Some command) t calls next keyed room begins = begins_on w modules command t calls begins (omega (arith, room, slice_get_within commands p.done command next))
 
-  idle_on : (w : World) (commands : List Command) (modules : List ModuleCall) (t : Turned P) → AreCallsFor w c.settings modules → length commands ≤ length p.live → BeginsKeyed p.keyed modules (slice_get commands p.done) c p t → HasAdvanced (one_if (begins_by (length commands) p)) (bound_by modules commands c p) c p t
+  idle_on : (w : World) (commands : List Command) (modules : List ModuleCall) (t : Turned P) → AreCallsFor w.terms c.settings modules → length commands ≤ length p.live → BeginsKeyed p.keyed modules (slice_get commands p.done) c p t → HasAdvanced (one_if (begins_by (length commands) p)) (bound_by modules commands c p) c p t
   idle_on w commands modules t calls room begins =
       let A : ℕ → Type 0 = λ n. HasAdvanced n (bound_by modules commands c p) c p t in
       subst A (sym (counts_next commands (slice_get commands p.done) refl)) (keyed_on w commands p.keyed modules (slice_get commands p.done) t calls refl refl room begins)
 
 module _ {P : Type 0} where
-  advanced_at : (w : World) (modules : List ModuleCall) (commands : List Command) (c : PoolCore P) (p : RunningParty P) (t : Turned P) (b : Bool) → is_idle p.frame.phase ≡ b → AreCallsFor w c.settings modules → CanTurn w.maker c p → IsReady c p.frame → length commands ≤ length p.live → TurnsAt b modules commands c p t → HasAdvanced (one_if (begins_by (length commands) p)) (bound_by modules commands c p) c p t
+  advanced_at : (w : World) (modules : List ModuleCall) (commands : List Command) (c : PoolCore P) (p : RunningParty P) (t : Turned P) (b : Bool) → is_idle p.frame.phase ≡ b → AreCallsFor w.terms c.settings modules → CanTurn w.maker c p → IsReady c p.frame → length commands ≤ length p.live → TurnsAt b modules commands c p t → HasAdvanced (one_if (begins_by (length commands) p)) (bound_by modules commands c p) c p t
   advanced_at w modules commands c p t true idle calls can ready room turns = idle_on w.maker c p can ready idle w commands modules t calls room turns
   advanced_at w modules commands c p t false busy calls can ready room turns =
       let A : ℕ → Type 0 = λ n. HasAdvanced n (bound_by modules commands c p) c p t in
@@ -263,5 +256,5 @@ module _ {P : Type 0} where
       subst A (sym none) (step_advanced w.maker (bound_by modules commands c p) c p t can ready busy turns)
 
   -- How far each turn of a party takes it.
-  pub has_advanced : (w : World) (modules : List ModuleCall) (commands : List Command) (c : PoolCore P) (p : RunningParty P) (t : Turned P) → AreCallsFor w c.settings modules → CanTurn w.maker c p → IsReady c p.frame → length commands ≤ length p.live → Turns modules commands c p t → HasAdvanced (one_if (begins_by (length commands) p)) (bound_by modules commands c p) c p t
+  pub has_advanced : (w : World) (modules : List ModuleCall) (commands : List Command) (c : PoolCore P) (p : RunningParty P) (t : Turned P) → AreCallsFor w.terms c.settings modules → CanTurn w.maker c p → IsReady c p.frame → length commands ≤ length p.live → Turns modules commands c p t → HasAdvanced (one_if (begins_by (length commands) p)) (bound_by modules commands c p) c p t
   has_advanced w modules commands c p t calls can ready room turns = advanced_at w modules commands c p t (is_idle p.frame.phase) refl calls can ready room turns

@@ -14,7 +14,7 @@ use Rattle.pool_slots.specs.declared.queued_range.QueueKind.TheVariants.{Memory,
 use Rattle.pool_slots.specs.declared.queued_range.QueuedRange.{QueuedRange}
 use Rattle.pool_alloc.specs.Bounds.{runs, AreGrouped}
 use Rattle.pool_alloc.specs.Sound.{IsCore}
-use Rattle.pool_alloc.specs.Steps.{queue_at}
+use Rattle.pool_alloc.specs.Steps.{nth_queue}
 use Rattle.pool_alloc.specs.Stepping.{IsSameSize, is_idle}
 use Rattle.pool_alloc.specs.Whole.{IsUntouched}
 use Rattle.pool_alloc.specs.declared.pool_core.PoolCore.{PoolCore}
@@ -55,7 +55,7 @@ module _ {P : Type 0} where
   -- Nothing is queued in a pool that nobody touched.
   pub untouched_grouped : (maker : MakerTold) (c : PoolCore P) → IsCore maker c → IsUntouched c → AreGrouped c.queues
   untouched_grouped maker c core untouched i below =
-      let q : QueueState = queue_at i c.queues in
+      let q : QueueState = nth_queue i c.queues in
       omega (arith, unowned q.ranges q.memories (untouched.none_queued i below) (core.queues i below).owners)
 
   pub made_between : (home n : ℕ) (limits : Option PartyLimits) (s : Settings) → IsBetweenTurns (party_made {P = P} home limits s n)

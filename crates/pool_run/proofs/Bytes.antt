@@ -1,25 +1,24 @@
 -- The bytes of a memory as the party sees them: as it begins, and once they are written.
-use Rattle.std.proofs.Common.{◌≡◌, ℕ, ◌+◌, ◌≤◌, List, length, take, replicate, Option, Some, None, Bool, refl, sym, ap, ◌∙◌, subst, arith, if◌then◌else◌, is_some}
+use Rattle.std.proofs.Common.{◌≡◌, ℕ, ◌+◌, ◌≤◌, List, length, take, replicate, Option, Some, None, Bool, true, false, refl, sym, ap, ◌∙◌, subst, arith, if◌then◌else◌, is_some}
 use Rattle.std.specs.Prelude.{IfSome, option_map, slice_range}
 use Rattle.std.proofs.lemmas.List.{same_lists, places, take-replicate}
-use Rattle.pool_pages.specs.Count.{Count}
 use Rattle.pool_pages.specs.Contents.{Contents, put, written}
 use Rattle.pool_pages.specs.MemoryTypes.{minimum_byte_size}
 use Rattle.pool_pages.specs.declared.module_types.MemoryDecl.{MemoryDecl}
+use Rattle.pool_pages.specs.declared.pages.RegionName.TheVariants.{Memory as memory_region, OnDemand}
 use Rattle.pool_pages.specs.declared.pages.DecommitBehavior.{DecommitBehavior}
 use Rattle.pool_pages.specs.declared.module_types.MemoryType.{MemoryType}
 use Rattle.pool_images.specs.Images.{Image, start}
-use Rattle.pool_images.specs.Slots.{FitsInto}
-use Rattle.pool_slots.specs.Cells.{IsSlotOf}
-use Rattle.pool_images.specs.Slots.{IsBegun}
+use Rattle.pool_images.specs.Slots.{SlotIdentity, FitsInto, IsBegun}
 use Rattle.pool_memory.specs.Linear.{Storage, in_slot, stored, slot_in, first_bytes, storage_written}
 use Rattle.pool_memory.specs.Making.{maximum_asked}
 use Rattle.pool_memory.specs.Memories.{slot_of as image_slot_of, memory_written as state_written}
-use Rattle.pool_memory.specs.Static.{capacity_of}
+use Rattle.pool_memory.specs.Static.{static_capacity}
 use Rattle.pool_alloc.specs.Leases.{Lease}
-use Rattle.pool_alloc.specs.Sound.{IsNew, IsSupported}
+use Rattle.pool_alloc.specs.Sound.{IsNew, IsPoolSlot, IsSupported}
 use Rattle.pool_alloc.specs.declared.pool_core.Settings.{Settings}
-use Rattle.pool_run.specs.Private.{World, PrivateMemory, image_at, begun_memory, memory_written}
+use Rattle.pool_pages.specs.MakerTold.{MakerTold}
+use Rattle.pool_run.specs.Private.{Terms, PrivateMemory, image_at, begun_memory, private_written}
 use Rattle.pool_run.specs.Turns.{seen_as, private_memory}
 
 -- what is written into the first n elements is written into a list's first n
@@ -43,7 +42,7 @@ storage_seen i size new (stored len None) base within = refl
 storage_seen i size new (stored len (Some bytes)) base within = ap Some (take_put i size new bytes within)
 
 -- a memory that is written is to the party what its private bytes are once they are written
-pub written_seen : (i : ℕ) (new : List ℕ) (l : Lease) → (image_slot_of l.memory).base.bytes ≡ 0 → i + length new ≤ l.memory.linear.size → seen_as l.index (state_written i new l.memory) ≡ memory_written i new (private_memory l)
+pub written_seen : (i : ℕ) (new : List ℕ) (l : Lease) → (image_slot_of l.memory).base.bytes ≡ 0 → i + length new ≤ l.memory.linear.size → seen_as l.index (state_written i new l.memory) ≡ private_written i new (private_memory l)
 written_seen i new l base within =
     ap (λ (b : Option (List ℕ)). record (private_memory l) { bytes = b }) (storage_seen i l.memory.linear.size new l.memory.linear.storage base within)
 
@@ -72,21 +71,26 @@ fits_of : (page m : ℕ) (image : Option Image) → IfSome image (FitsInto page 
 fits_of page m None fits = fits
 fits_of page m (Some i) fits = fits.inside
 
+told_if : {X : Type 0} (b : Bool) (x : X) → is_some (if b then Some x else None) ≡ b
+told_if true x = refl
+told_if false x = refl
+
 -- the bytes of one that began in a slot of the pool
-storage_begun : (w : World) (behaviour : DecommitBehavior) (static_size i least : ℕ) (image : Option Image) (s : Storage) → IsSlotOf w.maker behaviour static_size i (slot_in s) → IsBegun image (slot_in s) → least ≤ static_size → IfSome image (λ m. m.offset + length m.bytes ≤ least) → first_bytes least s ≡ (if w.maker.tells then Some (start image least) else None)
-storage_begun w behaviour static_size i least image (stored len bytes) of begun le fits = absurd cc
-storage_begun w behaviour static_size i least image (in_slot s) of begun le fits =
-    begun_bytes s.region.contents image least s.static_size s.base.bytes w.maker.tells of.region.tells (ap (λ (c : Count). c.bytes) of.base) (omega (arith, le, of.same_size)) fits begun.reads
+storage_begun : (maker : MakerTold) (behaviour : DecommitBehavior) (static_size i least : ℕ) (image : Option Image) (s : Storage) → IsPoolSlot maker behaviour static_size i (slot_in s) → IsBegun image (slot_in s) → least ≤ static_size → IfSome image (λ m. m.offset + length m.bytes ≤ least) → first_bytes least s ≡ (if maker.tells then Some (start image least) else None)
+storage_begun maker behaviour static_size i least image (stored len bytes) of begun le fits = let wrong : OnDemand 0 ≡ memory_region i = ap (λ (z : SlotIdentity). z.name) of.same in absurd cc
+storage_begun maker behaviour static_size i least image (in_slot s) of begun le fits =
+    begun_bytes s.region.contents image least s.static_size s.base.bytes maker.tells (ap (λ (z : SlotIdentity). z.tells) of.same ∙ told_if maker.tells _) (ap (λ (z : SlotIdentity). z.base.bytes) of.same) (omega (arith, le, ap (λ (z : SlotIdentity). z.static_size) of.same)) fits begun.reads
 
 -- a memory that is new is to the party as private ones begin
-pub begun_seen : (w : World) (s : Settings) (number k : ℕ) (decl : MemoryDecl) (l : Lease) → w.settings ≡ s → IsSlotOf w.maker s.behaviour s.max_memory_size l.index (image_slot_of l.memory) → IsNew s.max_memory_size (image_at w number k decl) l.memory decl → IsSupported s decl (image_at w number k decl) → private_memory l ≡ begun_memory w number k decl l.index
-begun_seen w s number k decl l same of new supported =
-    let image : Option Image = image_at w number k decl in
+pub begun_seen : (t : Terms) (maker : MakerTold) (s : Settings) (number k : ℕ) (decl : MemoryDecl) (l : Lease) → t.tells ≡ maker.tells → t.settings ≡ s → IsPoolSlot maker s.behaviour s.max_memory_size l.index (image_slot_of l.memory) → IsNew s.max_memory_size (image_at t number k decl) l.memory decl → IsSupported s decl (image_at t number k decl) → private_memory l ≡ begun_memory t number k decl l.index
+begun_seen t maker s number k decl l tells same of new supported =
+    let image : Option Image = image_at t number k decl in
     let least : ℕ = minimum_byte_size decl.ty in
-    let bytes = storage_begun w s.behaviour s.max_memory_size l.index least image l.memory.linear.storage of new.slot.begun supported.minimum (fits_of s.page least image supported.image_fits) in
-    let started : Option (List ℕ) = if w.maker.tells then Some (start image least) else None in
-    let roomy : ℕ = capacity_of w.settings.max_memory_size (maximum_asked decl.ty) in
+    let Tells : Bool → Type 0 = λ b. first_bytes least l.memory.linear.storage ≡ (if b then Some (start image least) else None) in
+    let bytes : Tells t.tells = subst Tells (sym tells) (storage_begun maker s.behaviour s.max_memory_size l.index least image l.memory.linear.storage of new.slot.begun supported.minimum (fits_of s.page least image supported.image_fits)) in
+    let started : Option (List ℕ) = if t.tells then Some (start image least) else None in
+    let roomy : ℕ = static_capacity t.settings.max_memory_size (maximum_asked decl.ty) in
     let Parts : MemoryType → ℕ → Option (List ℕ) → PrivateMemory = λ ty n b. record { slot = l.index; ty = ty; size = least; capacity = n; bytes = b } in
-    let room : l.memory.linear.capacity ≡ roomy = new.made.capacity ∙ ap (λ (x : Settings). capacity_of x.max_memory_size (maximum_asked decl.ty)) (sym same) in
-    let Q : ℕ → Type 0 = λ n. ◌≡◌ {A = PrivateMemory} (record { slot = l.index; ty = l.memory.ty; size = n; capacity = l.memory.linear.capacity; bytes = first_bytes n l.memory.linear.storage }) (begun_memory w number k decl l.index) in
+    let room : l.memory.linear.capacity ≡ roomy = new.made.capacity ∙ ap (λ (x : Settings). static_capacity x.max_memory_size (maximum_asked decl.ty)) (sym same) in
+    let Q : ℕ → Type 0 = λ n. ◌≡◌ {A = PrivateMemory} (record { slot = l.index; ty = l.memory.ty; size = n; capacity = l.memory.linear.capacity; bytes = first_bytes n l.memory.linear.storage }) (begun_memory t number k decl l.index) in
     subst Q (sym new.made.size) (ap (Parts l.memory.ty l.memory.linear.capacity) bytes ∙ ap (λ (n : ℕ). Parts l.memory.ty n started) room ∙ ap (λ (ty : MemoryType). Parts ty roomy started) new.made.ty)

@@ -2,67 +2,89 @@
 use Rattle.std.proofs.Common.{true, false, Bool, ◌+◌, ◌^◌, ◌≤◌, ◌≡◌, ℕ, zero, suc, ◌<◌, List, [], ◌∷◌, length, Option, Some, None, Result, Ok, Err, refl, sym, ap, ◌∙◌, subst, inl, inr, arith}
 use Rattle.std.specs.Prelude.{IfSome, is_some, slice_get, nat_le, nat_lt, if◌then◌else◌}
 use Rattle.std.proofs.lemmas.Bool.{le-leb}
+use Rattle.std.proofs.lemmas.Option.{same_Some}
 use Rattle.pool_pages.specs.MemoryTypes.{minimum_byte_size, allow_growth_to}
 use Rattle.pool_pages.specs.declared.module_types.MemoryDecl.{MemoryDecl}
 use Rattle.pool_pages.specs.declared.module_types.MemoryType.{MemoryType}
 use Rattle.pool_pages.specs.declared.unsupported.Unsupported.{Unsupported}
 use Rattle.pool_pages.specs.declared.unsupported.Unsupported.TheVariants.{InitialSize, AddressSpace, MemoryMinimum}
 use Rattle.pool_pages.specs.declared.pages.DecommitBehavior.{DecommitBehavior}
-use Rattle.pool_images.specs.Slots.{Slot, IsLeft}
+use Rattle.pool_images.specs.Slots.{Slot, SlotIdentity, IsLeft}
 use Rattle.pool_limits.specs.Growth.{GrowthRule, memory_answer}
 use Rattle.pool_limits.specs.declared.errors.LimiterError.{LimiterError}
 use Rattle.pool_memory.specs.Making.{minimum_asked, maximum_asked, limits_answer}
 use Rattle.pool_memory.specs.Memories.{MemoryState}
-use Rattle.pool_memory.specs.Static.{Static, capacity_of}
+use Rattle.pool_memory.specs.Static.{Static, static_capacity}
 use Rattle.pool_memory.specs.declared.memory_error.MemoryError.{MemoryError}
 use Rattle.pool_memory.specs.declared.memory_error.MemoryError.TheVariants as unmade
-use Rattle.pool_slots.specs.Cells.{IsSlotOf}
-use Rattle.pool_slots.specs.declared.request.AllocError.{AllocError}
-use Rattle.pool_slots.specs.declared.request.AllocError.TheVariants as alloc
-use Rattle.pool_slots.specs.declared.request.ConcurrencyKind.TheVariants.{MemoryStripe, CoreInstances}
-use Rattle.pool_slots.specs.declared.request.PoolConcurrencyLimitError.{PoolConcurrencyLimitError}
-use Rattle.pool_alloc.specs.Own.{made_of, made_with}
-use Rattle.pool_run.specs.Private.{World, Grants, memories_of, live_count, instance_count, refused_by, own_refusal, first_refusal, slots_asked, IsLimit, IsGiven, IsRefused, rule_broken, IsCause, SomeMayFault}
-use Rattle.pool_run.specs.declared.reply.Refusal.TheVariants.{Alloc}
+use Rattle.pool_slots.specs.declared.errors.AllocError.{AllocError}
+use Rattle.pool_slots.specs.declared.errors.AllocError.TheVariants as alloc
+use Rattle.pool_slots.specs.declared.errors.ConcurrencyKind.TheVariants.{MemoryStripe, CoreInstances}
+use Rattle.pool_alloc.specs.Sound.{IsPoolSlot}
+use Rattle.pool_alloc.specs.Own.{made_of, made_of_limits}
+use Rattle.pool_run.specs.Private.{Grants, Terms, memories_of, refused_by, own_refusal, first_refusal, slots_asked, no_memory, no_instance, no_slot, page_fault, IsGiven, IsRefused, rule_broken}
+use Rattle.pool_run.specs.Rooms.{World, live_count, instance_count, SomeMayFault, IsForRoom}
+use Rattle.pool_run.specs.Ties.{HasCause}
 
--- no slot is free
-pub limit_of_slots : (w : World) (number : ℕ) (told : Grants) (total stripe stripes : ℕ) → w.total ≡ total → stripe < stripes → stripes ≡ 1 → (w.alone ≡ true → w.total < live_count told + slots_asked w.rule (memories_of w number)) → IsLimit w number told (record { limit = total; kind = MemoryStripe stripe })
-limit_of_slots w number told total stripe stripes is under one full =
+-- what comes from elsewhere, and what it tells of room
+abbrev pub ComesFor : World → ℕ → Grants → AllocError → Type 0
+ComesFor w number told e = IsGiven w.terms number e × IsForRoom w number told e
+
+-- no slot is free for memory k
+pub slots_given : (w : World) (number : ℕ) (told : Grants) (total stripe stripes k : ℕ) → w.terms.slots ≡ total → stripe < stripes → stripes ≡ 1 → k < slots_asked w.terms.rule (memories_of w.terms number) → (w.alone ≡ true → w.terms.slots ≤ live_count told + k) → ComesFor w number told (alloc.Limit (record { limit = total; kind = MemoryStripe stripe }))
+slots_given w number told total stripe stripes k is under one asked full =
     let first : stripe ≡ 0 = omega (arith, under, one) in
-    let E : ℕ → ℕ → PoolConcurrencyLimitError = λ n i. record { limit = n; kind = MemoryStripe i } in
-    inl (ap (λ (i : ℕ). E total i) first ∙ ap (λ (n : ℕ). E n 0) (sym is), full)
+    let E : ℕ → ℕ → AllocError = λ n i. alloc.Limit (record { limit = n; kind = MemoryStripe i }) in
+    ((no_slot k, ap (λ (i : ℕ). E total i) first ∙ ap (λ (n : ℕ). E n 0) (sym is), asked), λ alone. (k, asked, full alone))
 
 -- as many instances are granted as there may be
-pub limit_of_instances : (w : World) (number : ℕ) (told : Grants) (most : ℕ) → w.most_instances ≡ most → (w.alone ≡ true → w.most_instances ≤ instance_count told) → IsLimit w number told (record { limit = most; kind = CoreInstances })
-limit_of_instances w number told most is full =
-    let E : ℕ → PoolConcurrencyLimitError = λ n. record { limit = n; kind = CoreInstances } in
-    inr (ap E (sym is), full)
+pub instances_given : (w : World) (number : ℕ) (told : Grants) (most : ℕ) → w.terms.settings.max_core_instances ≡ most → (w.alone ≡ true → w.terms.settings.max_core_instances ≤ instance_count told) → ComesFor w number told (alloc.Limit (record { limit = most; kind = CoreInstances }))
+instances_given w number told most is full =
+    let E : ℕ → AllocError = λ n. alloc.Limit (record { limit = n; kind = CoreInstances }) in
+    ((no_instance, ap E (sym is), tt), full)
 
--- a call on the region of a slot of the pool failed
-pub fault_of_slot : (w : World) (behaviour : DecommitBehavior) (static_size total slot : ℕ) (held new : Slot) → w.total ≡ total → slot < total → IsSlotOf w.maker behaviour static_size slot held → IsLeft held new → SomeMayFault w
+-- a call on the pages of memory k's slot failed
+pub fault_given : (w : World) (number : ℕ) (told : Grants) (k : ℕ) → k < slots_asked w.terms.rule (memories_of w.terms number) → SomeMayFault w → live_count told < w.terms.slots → ComesFor w number told alloc.PageFault
+fault_given w number told k asked some free = ((page_fault k, refl, asked), (some, free))
+
+-- it was one on the region of a slot of the pool
+pub fault_of_slot : (w : World) (behaviour : DecommitBehavior) (static_size total slot : ℕ) (held new : Slot) → w.terms.slots ≡ total → slot < total → IsPoolSlot w.maker behaviour static_size slot held → IsLeft held new → SomeMayFault w
 fault_of_slot w behaviour static_size total slot held new is inside of left =
     let Q : Option (List ℕ) → Type 0 = λ t. IfSome t (λ p. 0 < length p) in
-    (slot, omega (arith, is, inside), subst Q of.region.plan left.listed)
+    (slot, omega (arith, is, inside), subst Q (ap (λ (z : SlotIdentity). z.plan) of.same) left.listed)
 
 -- A refusal that is given, of a module that breaks no rule.
-pub given_cause : (w : World) (number : ℕ) (told : Grants) (e : AllocError) → rule_broken w number ≡ None → IsGiven w number told e → IsCause w number told (Alloc e)
-given_cause w number told e supported given = let R : Option Unsupported → Type 0 = λ o. IsRefused o w number told e in subst R (sym supported) (inr given)
+pub given_cause : (w : World) (number : ℕ) (told : Grants) (e : AllocError) → rule_broken w.terms number ≡ None → ComesFor w number told e → HasCause w number told e
+given_cause w number told e supported comes = let R : Option Unsupported → Type 0 = λ o. IsRefused o w.terms number e in (subst R (sym supported) (inr comes.0), comes.1)
 
--- Its first own refusal.
-pub own_cause : (w : World) (number : ℕ) (told : Grants) (e : AllocError) → rule_broken w number ≡ None → first_refusal w.rule (memories_of w number) ≡ Some e → IsCause w number told (Alloc e)
-own_cause w number told e supported first = let R : Option Unsupported → Type 0 = λ o. IsRefused o w number told e in subst R (sym supported) (inl first)
+-- an own refusal is none for room
+own_by : (w : World) (number : ℕ) (told : Grants) (ty : MemoryType) (represented allowed : Bool) (e : AllocError) → refused_by {X = ℕ × Option ℕ} (if represented then (if allowed then Ok (minimum_byte_size ty, maximum_asked ty) else Err (unmade.Unsupported AddressSpace)) else Err (unmade.Unsupported (MemoryMinimum ty.limits.min))) ≡ Some e → IsForRoom w number told e
+own_by w number told ty true true e is = absurd cc
+own_by w number told ty true false e is = let R : AllocError → Type 0 = IsForRoom w number told in subst R (same_Some (alloc.Unsupported AddressSpace) e is) tt
+own_by w number told ty false allowed e is = let R : AllocError → Type 0 = IsForRoom w number told in subst R (same_Some (alloc.Unsupported (MemoryMinimum ty.limits.min)) e is) tt
+
+pub own_for_room : (w : World) (number : ℕ) (told : Grants) (answer : Result Bool LimiterError) (ty : MemoryType) (e : AllocError) → refused_by (limits_answer answer ty) ≡ Some e → IsForRoom w number told e
+own_for_room w number told (Err x) ty e is = let R : AllocError → Type 0 = IsForRoom w number told in subst R (same_Some (alloc.LimiterFault x) e is) tt
+own_for_room w number told (Ok false) ty e is = let R : AllocError → Type 0 = IsForRoom w number told in subst R (same_Some (alloc.LimiterDenied false ty.limits.min) e is) tt
+own_for_room w number told (Ok true) ty e is = own_by w number told ty (nat_lt (minimum_byte_size ty) (2 ^ 64)) (allow_growth_to ty (minimum_byte_size ty)) e is
+
+-- Its first own refusal, which is that of this memory.
+pub own_cause : (w : World) (number : ℕ) (told : Grants) (ty : MemoryType) (e : AllocError) → rule_broken w.terms number ≡ None → own_refusal w.terms.rule ty ≡ Some e → first_refusal w.terms.rule (memories_of w.terms number) ≡ Some e → HasCause w number told e
+own_cause w number told ty e supported own first =
+    let R : Option Unsupported → Type 0 = λ o. IsRefused o w.terms number e in
+    (subst R (sym supported) (inl first), own_for_room w number told (memory_answer (Some w.terms.rule) (Ok true) (minimum_asked ty) (maximum_asked ty)) ty e own)
 
 -- The rule that it breaks.
-pub broken_cause : (w : World) (number : ℕ) (told : Grants) (rule : Unsupported) → rule_broken w number ≡ Some rule → IsCause w number told (Alloc (alloc.Unsupported rule))
-broken_cause w number told rule broken = let R : Option Unsupported → Type 0 = λ o. IsRefused o w number told (alloc.Unsupported rule) in subst R (sym broken) (inl refl)
+pub broken_cause : (w : World) (number : ℕ) (told : Grants) (rule : Unsupported) → rule_broken w.terms number ≡ Some rule → HasCause w number told (alloc.Unsupported rule)
+broken_cause w number told rule broken = let R : Option Unsupported → Type 0 = λ o. IsRefused o w.terms number (alloc.Unsupported rule) in (subst R (sym broken) (inl refl), tt)
 
 -- Want of memory.
-memory_given : (o : Option Unsupported) (w : World) (number : ℕ) (told : Grants) → IsRefused o w number told alloc.Memory
-memory_given None w number told = inr tt
-memory_given (Some rule) w number told = inr refl
+memory_given : (o : Option Unsupported) (t : Terms) (number : ℕ) → IsRefused o t number alloc.Memory
+memory_given None t number = inr (no_memory, refl, tt)
+memory_given (Some rule) t number = inr refl
 
-pub memory_cause : (w : World) (number : ℕ) (told : Grants) → IsCause w number told (Alloc alloc.Memory)
-memory_cause w number told = memory_given (rule_broken w number) w number told
+pub memory_cause : (w : World) (number : ℕ) (told : Grants) → HasCause w number told alloc.Memory
+memory_cause w number told = (memory_given (rule_broken w.terms number) w.terms number, tt)
 
 -- memory k has no refusal of its own
 abbrev pub HasNone : GrowthRule → List MemoryDecl → ℕ → Type 0
@@ -108,18 +130,18 @@ made_goes true ty m held u fits = refl
 made_goes false ty m held u fits = absurd cc
 
 limits_go : (b allowed : Bool) (ty : MemoryType) (room : ℕ) (held : Slot) → minimum_byte_size ty ≤ room
-    → (let limits : Result (ℕ × Option ℕ) MemoryError = if b then (if allowed then Ok (minimum_byte_size ty, maximum_asked ty) else Err (unmade.Unsupported AddressSpace)) else Err (unmade.Unsupported (MemoryMinimum ty.limits.min)) in GoesWith (refused_by limits) (made_with limits ty room held))
-limits_go true true ty room held fits = made_goes (nat_le (minimum_byte_size ty) room) ty (record { slot = held; size = minimum_byte_size ty; capacity = capacity_of room (maximum_asked ty) }) held InitialSize (le-leb (minimum_byte_size ty) room fits)
+    → (let limits : Result (ℕ × Option ℕ) MemoryError = if b then (if allowed then Ok (minimum_byte_size ty, maximum_asked ty) else Err (unmade.Unsupported AddressSpace)) else Err (unmade.Unsupported (MemoryMinimum ty.limits.min)) in GoesWith (refused_by limits) (made_of_limits limits ty room held))
+limits_go true true ty room held fits = made_goes (nat_le (minimum_byte_size ty) room) ty (record { slot = held; size = minimum_byte_size ty; capacity = static_capacity room (maximum_asked ty) }) held InitialSize (le-leb (minimum_byte_size ty) room fits)
 limits_go true false ty room held fits = refl
 limits_go false allowed ty room held fits = refl
 
-answer_goes : (answer : Result Bool LimiterError) (ty : MemoryType) (room : ℕ) (held : Slot) → minimum_byte_size ty ≤ room → GoesWith (refused_by (limits_answer answer ty)) (made_with (limits_answer answer ty) ty room held)
+answer_goes : (answer : Result Bool LimiterError) (ty : MemoryType) (room : ℕ) (held : Slot) → minimum_byte_size ty ≤ room → GoesWith (refused_by (limits_answer answer ty)) (made_of_limits (limits_answer answer ty) ty room held)
 answer_goes (Err e) ty room held fits = refl
 answer_goes (Ok false) ty room held fits = refl
 answer_goes (Ok true) ty room held fits = limits_go (nat_lt (minimum_byte_size ty) (2 ^ 64)) (allow_growth_to ty (minimum_byte_size ty)) ty room held fits
 
 -- A memory is made, or refused with its own refusal, where it fits the slot.
-pub own_goes : (rule : GrowthRule) (answer : Result Bool LimiterError) (ty : MemoryType) (room : ℕ) (held : Slot) → answer ≡ memory_answer (Some rule) (Ok true) (minimum_asked ty) (maximum_asked ty) → minimum_byte_size ty ≤ room → GoesWith (own_refusal rule ty) (made_with (limits_answer answer ty) ty room held)
+pub own_goes : (rule : GrowthRule) (answer : Result Bool LimiterError) (ty : MemoryType) (room : ℕ) (held : Slot) → answer ≡ memory_answer (Some rule) (Ok true) (minimum_asked ty) (maximum_asked ty) → minimum_byte_size ty ≤ room → GoesWith (own_refusal rule ty) (made_of_limits (limits_answer answer ty) ty room held)
 own_goes rule answer ty room held is fits =
-    let G : Result Bool LimiterError → Type 0 = λ a. GoesWith (refused_by (limits_answer a ty)) (made_with (limits_answer answer ty) ty room held) in
+    let G : Result Bool LimiterError → Type 0 = λ a. GoesWith (refused_by (limits_answer a ty)) (made_of_limits (limits_answer answer ty) ty room held) in
     subst G is (answer_goes answer ty room held fits)

@@ -1,103 +1,63 @@
 -- No counter of a run comes to its end: there are no more instances than commands, and no more memories than slots.
-use Rattle.std.proofs.Common.{◌≡◌, ℕ, zero, suc, ◌+◌, ◌^◌, ◌<◌, ◌≤◌, List, [], ◌∷◌, length, Option, Some, None, refl, ap, subst, inl, inr, arith}
+use Rattle.std.proofs.Common.{◌≡◌, ℕ, ◌+◌, ◌^◌, ◌<◌, ◌≤◌, List, length, Option, Some, None, refl, ap, inl, inr, arith}
 use Rattle.std.specs.Prelude.{sum_by}
 use Rattle.std.proofs.lemmas.Bool.{cases_lt, le-ltb}
-use Rattle.std.proofs.lemmas.List.Sums.{sum_by-cons, sum_by-le-sum_by}
+use Rattle.std.proofs.lemmas.List.Sums.{sum_by-le-sum_by}
 use Rattle.pool_pages.specs.MakerTold.{MakerTold}
 use Rattle.pool_index.specs.Shard.{one_if}
 use Rattle.pool_alloc.specs.Leases.{Lease}
-use Rattle.pool_alloc.specs.Places.{slot_of, both_count, leased_count, made_count, phase_instances}
+use Rattle.pool_alloc.specs.Places.{right_to, both_count, leased_count, made_count, phase_instances}
 use Rattle.pool_alloc.specs.Stepping.{CanCount, grant_count, grant_instances, grant_memories}
 use Rattle.pool_alloc.specs.declared.pool_core.PoolCore.{PoolCore}
 use Rattle.pool_alloc.specs.declared.frame.Grant.{Grant}
 use Rattle.pool_alloc.specs.declared.frame.Grant.TheVariants.{Instance as instance}
 use Rattle.pool_alloc.specs.declared.frame.Phase.{Phase}
 use Rattle.pool_alloc.specs.declared.frame.Phase.TheVariants.{Idle, Key, Validate, CountInstance, Pick, TakeQueue, TakeRegion, Empty, Instantiate, MakeMemory, CountMemory, PutUnknown, FreeUnknown, UncountMemory, Reset, Merge, Decommit, PutRegion, Free, UncountInstance}
+use Rattle.pool_alloc.proofs.Below.{below, below_sum, below_le, below_most, below_one, sum_below, ones}
 use Rattle.pool_alloc.proofs.Held.{made_once}
 use Rattle.pool_alloc.proofs.SlotCounts.{slot_once}
 use Rattle.pool_run.specs.Ties.{granted_to, held_by_party, IsRunning}
 use Rattle.pool_run.specs.declared.running_party.RunningParty.{RunningParty}
 
--- the sum of f over the numbers below n
-abbrev pub below : (ℕ → ℕ) → ℕ → ℕ
-below f zero = 0
-below f (suc n) = below f n + f n
-
-pub below_sum : (f g h : ℕ → ℕ) → ((k : ℕ) → h k ≡ f k + g k) → (n : ℕ) → below h n ≡ below f n + below g n
-below_sum f g h each zero = refl
-below_sum f g h each (suc n) = omega (arith, each n, below_sum f g h each n)
-
-pub below_le : (f g : ℕ → ℕ) → ((k : ℕ) → f k ≤ g k) → (n : ℕ) → below f n ≤ below g n
-below_le f g each zero = omega arith
-below_le f g each (suc n) = omega (arith, each n, below_le f g each n)
-
-pub below_most : (f : ℕ → ℕ) → ((k : ℕ) → f k ≤ 1) → (n : ℕ) → below f n ≤ n
-below_most f each zero = omega arith
-below_most f each (suc n) = omega (arith, each n, below_most f each n)
-
-pub below_one : (f : ℕ → ℕ) (i n : ℕ) → i < n → f i ≡ 1 → 1 ≤ below f n
-below_one f i zero inside one = absurd (omega arith)
-below_one f i (suc n) inside one =
-    elim (cases_lt i n) [
-      | inl before ↦ omega (arith, below_one f i n before one)
-      | inr past ↦ let last : f n ≡ 1 = subst (λ (k : ℕ). f k ≡ 1) {x = i} {y = n} (omega (arith, inside, past)) one in omega arith
-    ]
-
--- things that are counted at numbers below n alone are no more than all counts together
-pub sum_below : {X : Type 0} (of : ℕ → X → ℕ) (size : X → ℕ) (n : ℕ) (xs : List X) → ((x : X) → ((k : ℕ) → n ≤ k → of k x ≡ 0) → size x ≤ below (λ k. of k x) n) → ((k : ℕ) → n ≤ k → sum_by (of k) xs ≡ 0) → sum_by size xs ≤ below (λ k. sum_by (of k) xs) n
-sum_below of size n [] each none = omega arith
-sum_below of size n (x ∷ xs) each none =
-    omega (
-      arith,
-      sum_by-cons size x xs,
-      below_sum (λ k. of k x) (λ k. sum_by (of k) xs) (λ k. sum_by (of k) (x ∷ xs)) (λ k. sum_by-cons (of k) x xs) n,
-      each x (λ k past. omega (arith, none k past, sum_by-cons (of k) x xs)),
-      sum_below of size n xs each (λ k past. omega (arith, none k past, sum_by-cons (of k) x xs)),
-    )
-
-pub ones : {X : Type 0} (xs : List X) → sum_by (λ x. 1) xs ≡ length xs
-ones [] = refl
-ones (x ∷ xs) = omega (arith, sum_by-cons (λ y. 1) x xs, ones xs)
-
-lease_below : (n : ℕ) (l : Lease) → ((k : ℕ) → n ≤ k → both_count (slot_of k) l.index ≡ 0) → 1 ≤ below (λ k. both_count (slot_of k) l.index) n
+lease_below : (n : ℕ) (l : Lease) → ((k : ℕ) → n ≤ k → both_count (right_to k) l.index ≡ 0) → 1 ≤ below (λ k. both_count (right_to k) l.index) n
 lease_below n l none =
-    let one : both_count (slot_of l.index) l.index ≡ 1 = omega (arith, slot_once l.index) in
+    let one : both_count (right_to l.index) l.index ≡ 1 = omega (arith, slot_once l.index) in
     elim (cases_lt l.index n) [
-      | inl inside ↦ below_one (λ k. both_count (slot_of k) l.index) l.index n inside one
+      | inl inside ↦ below_one (λ k. both_count (right_to k) l.index) l.index n inside one
       | inr past ↦ absurd (omega (arith, one, none l.index past))
     ]
 
-pub leases_below : (n : ℕ) (leases : List Lease) → ((k : ℕ) → n ≤ k → leased_count (slot_of k) leases ≡ 0) → length leases ≤ below (λ k. leased_count (slot_of k) leases) n
-leases_below n leases none = omega (arith, ones leases, sum_below (λ k (l : Lease). both_count (slot_of k) l.index) (λ l. 1) n leases (lease_below n) none)
+pub leases_below : (n : ℕ) (leases : List Lease) → ((k : ℕ) → n ≤ k → leased_count (right_to k) leases ≡ 0) → length leases ≤ below (λ k. leased_count (right_to k) leases) n
+leases_below n leases none = omega (arith, ones leases, sum_below (λ k (l : Lease). both_count (right_to k) l.index) (λ l. 1) n leases (lease_below n) none)
 
 module _ {P : Type 0} where
-  pub grant_below : (n : ℕ) (o : Option (Grant P)) → ((k : ℕ) → n ≤ k → granted_to (grant_count (slot_of k)) o ≡ 0) → granted_to grant_memories o ≤ below (λ k. granted_to (grant_count (slot_of k)) o) n
+  pub grant_below : (n : ℕ) (o : Option (Grant P)) → ((k : ℕ) → n ≤ k → granted_to (grant_count (right_to k)) o ≡ 0) → granted_to grant_memories o ≤ below (λ k. granted_to (grant_count (right_to k)) o) n
   grant_below n None none = omega arith
   grant_below n (Some (instance lease)) none = leases_below n lease.memories.items none
 
-  party_below : (n : ℕ) (p : RunningParty P) → ((k : ℕ) → n ≤ k → (held_by_party p).places (slot_of k) ≡ 0) → (held_by_party p).memories ≤ below (λ k. (held_by_party p).places (slot_of k)) n
+  party_below : (n : ℕ) (p : RunningParty P) → ((k : ℕ) → n ≤ k → (held_by_party p).places (right_to k) ≡ 0) → (held_by_party p).memories ≤ below (λ k. (held_by_party p).places (right_to k)) n
   party_below n p none =
-      let granted : ℕ → ℕ = λ k. leased_count (slot_of k) p.frame.granted.items in
-      let returning : ℕ → ℕ = λ k. leased_count (slot_of k) p.frame.returning.items in
-      let live : ℕ → ℕ = λ k. sum_by (granted_to (grant_count (slot_of k))) p.live in
+      let granted : ℕ → ℕ = λ k. leased_count (right_to k) p.frame.granted.items in
+      let returning : ℕ → ℕ = λ k. leased_count (right_to k) p.frame.returning.items in
+      let live : ℕ → ℕ = λ k. sum_by (granted_to (grant_count (right_to k))) p.live in
       let first = leases_below n p.frame.granted.items (λ k past. omega (arith, none k past)) in
       let second = leases_below n p.frame.returning.items (λ k past. omega (arith, none k past)) in
-      let third = sum_below (λ k o. granted_to (grant_count (slot_of k)) o) (granted_to grant_memories) n p.live (grant_below n) (λ k past. omega (arith, none k past)) in
+      let third = sum_below (λ k o. granted_to (grant_count (right_to k)) o) (granted_to grant_memories) n p.live (grant_below n) (λ k past. omega (arith, none k past)) in
       let two = below_sum granted returning (λ k. granted k + returning k) (λ k. refl) n in
       let three = below_sum (λ k. granted k + returning k) live (λ k. granted k + returning k + live k) (λ k. refl) n in
-      let all = below_le (λ k. granted k + returning k + live k) (λ k. (held_by_party p).places (slot_of k)) (λ k. omega arith) n in
+      let all = below_le (λ k. granted k + returning k + live k) (λ k. (held_by_party p).places (right_to k)) (λ k. omega arith) n in
       omega (arith, first, second, third, two, three, all)
 
   -- There are no more memories than slots.
   pub few_memories : (maker : MakerTold) (c : PoolCore P) (parties : List (RunningParty P)) → IsRunning maker c parties → c.counters.memories ≤ length c.cells
   few_memories maker c parties running =
       let n : ℕ = length c.cells in
-      let outside : (k : ℕ) → n ≤ k → made_count (slot_of k) n ≡ 0 = λ k past. ap one_if (le-ltb k n past) in
+      let outside : (k : ℕ) → n ≤ k → made_count (right_to k) n ≡ 0 = λ k past. ap one_if (le-ltb k n past) in
       omega (
         arith,
         running.whole.memories,
-        sum_below (λ k p. (held_by_party p).places (slot_of k)) (λ p. (held_by_party p).memories) n parties (party_below n) (λ k past. omega (arith, running.whole.places (slot_of k), outside k past)),
-        below_most (λ k. sum_by (λ p. (held_by_party p).places (slot_of k)) parties) (λ k. omega (arith, running.whole.places (slot_of k), made_once (slot_of k) n)) n,
+        sum_below (λ k p. (held_by_party p).places (right_to k)) (λ p. (held_by_party p).memories) n parties (party_below n) (λ k past. omega (arith, running.whole.places (right_to k), outside k past)),
+        below_most (λ k. sum_by (λ p. (held_by_party p).places (right_to k)) parties) (λ k. omega (arith, running.whole.places (right_to k), made_once (right_to k) n)) n,
       )
 
   phase_counts_one : (phase : Phase P) → phase_instances phase ≤ 1

@@ -6,31 +6,32 @@ use Rattle.std.proofs.lemmas.Option.{slice_get-get_or}
 use Rattle.pool_pages.specs.MakerTold.{MakerTold}
 use Rattle.pool_alloc.specs.declared.frame.ModuleCall.{ModuleCall}
 use Rattle.pool_run.specs.PartyRules.{rule_of}
-use Rattle.pool_run.specs.Private.{World, Grants, PrivateRun, no_grants, under}
+use Rattle.pool_run.specs.Private.{PrivateState, StepsBy, with_grants, no_grants}
+use Rattle.pool_run.specs.Rooms.{World, PooledStep, under}
 use Rattle.pool_run.specs.Folds.{RunState, commands_of, replies_to, party_by_party, TurnsIf, Folds, HasNothingLeft, IsFinished, Runs, IsRunTo, IsUnderWay}
 use Rattle.pool_run.specs.declared.command.Command.{Command}
 use Rattle.pool_run.specs.declared.reply.Reply.{Reply}
 use Rattle.pool_run.specs.declared.running_party.RunningParty.{RunningParty}
 
 -- there are no more replies than commands
-pub no_more_replies : (w : World) (n : ℕ) (commands : List Command) (replies : List Reply) (start end : Grants) → PrivateRun w n commands replies start end → length replies ≤ length commands
-no_more_replies w n commands [] start end run = omega arith
-no_more_replies w n [] (r ∷ replies) start end run = absurd run
-no_more_replies w n (c ∷ commands) (r ∷ replies) start end run = omega (arith, no_more_replies w (n + 1) commands replies run.0 end run.2)
+pub no_more_replies : (Step : ℕ → PrivateState → Command → Reply → PrivateState → Type 0) (n : ℕ) (commands : List Command) (replies : List Reply) (start end : PrivateState) → StepsBy Step n commands replies start end → length replies ≤ length commands
+no_more_replies Step n commands [] start end run = omega arith
+no_more_replies Step n [] (r ∷ replies) start end run = absurd run
+no_more_replies Step n (c ∷ commands) (r ∷ replies) start end run = omega (arith, no_more_replies Step (n + 1) commands replies run.0 end run.2)
 
 module _ {P : Type 0} where
   -- so that they have places
   pub few_told : (w : World) (commands : List Command) (replies : List Reply) (p : RunningParty P) → IsRunTo w commands replies p → length replies ≤ length p.live
-  few_told w commands replies p to = omega (arith, no_more_replies (under (rule_of p.limits) w) 0 commands replies (no_grants commands) to.private.grants to.private.run, to.room)
+  few_told w commands replies p to = omega (arith, no_more_replies (PooledStep (under (rule_of p.limits) w)) 0 commands replies (with_grants (no_grants commands)) (with_grants to.private.grants) to.private.run, to.room)
 
-  turned_count : (maker : MakerTold) (modules : List ModuleCall) (commands : List Command) (i : ℕ) (o : Option (RunningParty P)) (s new : RunState P) → TurnsIf maker modules commands i o s new → length new.parties ≡ length s.parties
-  turned_count maker modules commands i None s new turns = ap (λ (x : RunState P). length x.parties) turns
-  turned_count maker modules commands i (Some p) s new turns = ap (λ (x : RunState P). length x.parties) turns.3 ∙ length-set s.parties i turns.0.party
+  turned_count : (modules : List ModuleCall) (commands : List Command) (i : ℕ) (o : Option (RunningParty P)) (s new : RunState P) → TurnsIf modules commands i o s new → length new.parties ≡ length s.parties
+  turned_count modules commands i None s new turns = ap (λ (x : RunState P). length x.parties) turns
+  turned_count modules commands i (Some p) s new turns = ap (λ (x : RunState P). length x.parties) turns.2 ∙ length-set s.parties i turns.0.party
 
   -- No party comes or goes.
   pub folds_count : (maker : MakerTold) (modules : List ModuleCall) (inputs : List (List Command)) (schedule : List ℕ) (s end : RunState P) → Folds maker modules inputs schedule s end → length end.parties ≡ length s.parties
   folds_count maker modules inputs [] s end folds = ap (λ (x : RunState P). length x.parties) folds
-  folds_count maker modules inputs (i ∷ schedule) s end folds = folds_count maker modules inputs schedule folds.0 end folds.2 ∙ turned_count maker modules (commands_of inputs i) i (slice_get s.parties i) s folds.0 folds.1
+  folds_count maker modules inputs (i ∷ schedule) s end folds = folds_count maker modules inputs schedule folds.0 end folds.2 ∙ turned_count modules (commands_of inputs i) i (slice_get s.parties i) s folds.0 folds.1.0
 
   pub run_count : (maker : MakerTold) (modules : List ModuleCall) (inputs : List (List Command)) (schedule : List ℕ) (s end : RunState P) → Runs maker modules inputs schedule s end → length end.parties ≡ length s.parties
   run_count maker modules inputs schedule s end runs =
@@ -42,4 +43,4 @@ module _ {P : Type 0} where
       let to = way.each i d below in
       let Left : Option (RunningParty P) → Type 0 = λ o. IfSome o (HasNothingLeft (commands_of inputs i)) in
       let none : HasNothingLeft (commands_of inputs i) (slice_index_or s.parties i d) = subst Left (slice_get-get_or s.parties i d below) (finished i) in
-      omega (arith, none.all, to.private.count, no_more_replies (under (rule_of (slice_index_or s.parties i d).limits) w) 0 (commands_of inputs i) (replies_to i s.replies) (no_grants (commands_of inputs i)) to.private.grants to.private.run)
+      omega (arith, none.all, to.private.count, no_more_replies (PooledStep (under (rule_of (slice_index_or s.parties i d).limits) w)) 0 (commands_of inputs i) (replies_to i s.replies) (with_grants (no_grants (commands_of inputs i))) (with_grants to.private.grants) to.private.run)

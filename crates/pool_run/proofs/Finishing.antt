@@ -8,7 +8,7 @@ use Rattle.pool_pages.specs.MakerTold.{MakerTold}
 use Rattle.pool_index.specs.Shard.{one_if}
 use Rattle.pool_alloc.specs.Stepping.{is_idle}
 use Rattle.pool_alloc.specs.declared.frame.ModuleCall.{ModuleCall}
-use Rattle.pool_run.specs.Folds.{RunState, commands_of, party_by_party, TurnsIf, TurnsOf, Folds, HasNothingLeft, Finishes}
+use Rattle.pool_run.specs.Folds.{RunState, commands_of, party_by_party, TurnsIf, TurnsOf, Folds, HasNothingLeft, FinishesRun}
 use Rattle.pool_run.specs.Progress.{is_busy, commands_done, calls_begun, begins_call, TurnsSome}
 use Rattle.pool_run.specs.declared.command.Command.{Command}
 use Rattle.pool_run.specs.declared.running_party.RunningParty.{RunningParty}
@@ -51,13 +51,13 @@ module _ {P : Type 0} where
       }
 
   -- The other parties stay as they are.
-  turned_others : (maker : MakerTold) (modules : List ModuleCall) (commands : List Command) (i k : ℕ) (o : Option (RunningParty P)) (s new : RunState P) → k ≢ i → TurnsIf maker modules commands i o s new → slice_get new.parties k ≡ slice_get s.parties k
-  turned_others maker modules commands i k None s new other turns = ap (λ (x : RunState P). slice_get x.parties k) turns
-  turned_others maker modules commands i k (Some p) s new other turns = ap (λ (x : RunState P). slice_get x.parties k) turns.3 ∙ set_other s.parties i k turns.0.party other
+  turned_others : (modules : List ModuleCall) (commands : List Command) (i k : ℕ) (o : Option (RunningParty P)) (s new : RunState P) → k ≢ i → TurnsIf modules commands i o s new → slice_get new.parties k ≡ slice_get s.parties k
+  turned_others modules commands i k None s new other turns = ap (λ (x : RunState P). slice_get x.parties k) turns
+  turned_others modules commands i k (Some p) s new other turns = ap (λ (x : RunState P). slice_get x.parties k) turns.2 ∙ set_other s.parties i k turns.0.party other
 
   folds_others : (maker : MakerTold) (modules : List ModuleCall) (inputs : List (List Command)) (i k n : ℕ) (s end : RunState P) → k ≢ i → Folds maker modules inputs (replicate n i) s end → slice_get end.parties k ≡ slice_get s.parties k
   folds_others maker modules inputs i k zero s end other folds = ap (λ (x : RunState P). slice_get x.parties k) folds
-  folds_others maker modules inputs i k (suc n) s end other folds = folds_others maker modules inputs i k n folds.0 end other folds.2 ∙ turned_others maker modules (commands_of inputs i) i k (slice_get s.parties i) s folds.0 other folds.1
+  folds_others maker modules inputs i k (suc n) s end other folds = folds_others maker modules inputs i k n folds.0 end other folds.2 ∙ turned_others modules (commands_of inputs i) i k (slice_get s.parties i) s folds.0 other folds.1.0
 
   -- A party without a call that has all its replies has nothing left.
   pub nothing_is_left : (commands : List Command) (o : Option (RunningParty P)) → is_busy o ≡ false → length commands ≤ commands_done o → IfSome o (HasNothingLeft commands)
@@ -118,7 +118,7 @@ module _ {P : Type 0} where
       }
 
   -- All of them have.
-  pub finishes_all : (maker : MakerTold) (modules : List ModuleCall) (inputs : List (List Command)) (i : ℕ) (s end : RunState P) → FinishesBelow maker modules inputs i s end → i ≡ length s.parties → length end.parties ≡ length s.parties → Finishes maker modules inputs s end
+  pub finishes_all : (maker : MakerTold) (modules : List ModuleCall) (inputs : List (List Command)) (i : ℕ) (s end : RunState P) → FinishesBelow maker modules inputs i s end → i ≡ length s.parties → length end.parties ≡ length s.parties → FinishesRun maker modules inputs s end
   finishes_all maker modules inputs i s end below all same = record {
     counts = below.counts;
     parties = below.parties ∙ all;

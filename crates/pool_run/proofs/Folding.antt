@@ -1,11 +1,10 @@
 -- A run of several parties stays what it is through all its turns, so the replies to each party are a private run.
-use Rattle.std.proofs.Common.{◌≡◌, ℕ, ◌<◌, ◌≤◌, Bool, true, false, List, [], ◌∷◌, ◌++◌, length, map, Option, Some, None, refl, sym, ap, ◌∙◌, subst, inl, inr, arith}
+use Rattle.std.proofs.Common.{◌≡◌, ℕ, ◌<◌, true, List, [], ◌∷◌, ◌++◌, length, map, Option, Some, None, refl, sym, ap, ◌∙◌, subst, inl, inr, arith}
 use Rattle.std.specs.Prelude.{slice_get, slice_set, slice_index_or}
 use Rattle.std.proofs.lemmas.Bool.{cases_eq}
 use Rattle.std.proofs.lemmas.List.{length-set, map-set, get_or-map, set-get_or, get_or-set_same, get_or-set_other}
-use Rattle.std.proofs.lemmas.Option.{slice_get_past, slice_get_within, get_or_from_slice_get}
+use Rattle.std.proofs.lemmas.Option.{slice_get_within, get_or_from_slice_get}
 use Rattle.pool_pages.specs.MakerTold.{MakerTold}
-use Rattle.pool_alloc.specs.Stepping.{is_idle}
 use Rattle.pool_alloc.specs.Stepping.{IsSameSize}
 use Rattle.pool_alloc.specs.declared.pool_core.PoolCore.{PoolCore}
 use Rattle.pool_alloc.specs.declared.pool_core.Settings.{Settings}
@@ -16,40 +15,42 @@ use Rattle.pool_limits.specs.Growth.{GrowthRule, always}
 use Rattle.pool_alloc.proofs.Telling.{told_weaker}
 use Rattle.pool_run.specs.PartyRules.{rule_of}
 use Rattle.pool_run.specs.declared.input.PartyLimits.{PartyLimits}
-use Rattle.pool_run.specs.Private.{World, under, world_at, IsPrivateRun, no_grants}
-use Rattle.pool_run.specs.Turns.{Turned, Turns, TurnsAt, BeginsKeyed, with_reply}
-use Rattle.pool_run.specs.Ties.{IsPrivate, CanTurn, IsSoundTurn}
+use Rattle.pool_run.specs.Private.{IsPrivateRun, no_grants, with_grants}
+use Rattle.pool_run.specs.Rooms.{World, under, world_at, IsPooledRun}
+use Rattle.pool_run.specs.Turns.{Turned, Turns, with_reply}
+use Rattle.pool_run.specs.Ties.{IsPrivate, CanTurn}
 use Rattle.pool_run.specs.Worlds.{IsWorldOf, IsCallFor, AreCallsFor}
-use Rattle.pool_run.specs.Folds.{RunState, commands_of, replies_to, party_by_party, with_turn, TurnsIf, TurnsOf, Folds, HasNothingLeft, Runs, IsRunTo, IsUnderWay}
+use Rattle.pool_run.specs.Folds.{RunState, commands_of, replies_to, party_by_party, with_turn, HoldsBetween, TurnsIf, TurnsOf, Folds, Runs, IsRunTo, IsUnderWay}
 use Rattle.pool_run.specs.declared.command.Command.{Command}
 use Rattle.pool_run.specs.declared.reply.Reply.{Reply}
 use Rattle.pool_run.specs.declared.running_party.RunningParty.{RunningParty}
 use Rattle.pool_run.proofs.Beginning.{turn_private}
-use Rattle.pool_run.proofs.Running.{can_turn, turned_running}
+use Rattle.pool_run.proofs.Grants.{pooled_private}
+use Rattle.pool_run.proofs.Running.{can_turn}
 use Rattle.pool_run.proofs.Turned.{HasTurned, has_turned}
 
 module _ {P : Type 0} where
   -- The world stays that of the pool.
   world_over : (w : World) (c d : PoolCore P) → IsSameSize c d → IsWorldOf w c → IsWorldOf w d
-  world_over w c d size world = record { settings = world.settings ∙ sym size.settings; total = world.total ∙ sym size.cells; most_instances = world.most_instances; stripes = world.stripes }
+  world_over w c d size world = record { tells = world.tells; settings = world.settings ∙ sym size.settings; slots = world.slots ∙ sym size.cells; stripes = world.stripes }
 
   -- The world is the pool's whatever the rule of a party.
   world_under : (rule : GrowthRule) (w : World) (c : PoolCore P) → IsWorldOf w c → IsWorldOf (under rule w) c
-  world_under rule w c world = record { settings = world.settings; total = world.total; most_instances = world.most_instances; stripes = world.stripes }
+  world_under rule w c world = record { tells = world.tells; settings = world.settings; slots = world.slots; stripes = world.stripes }
 
-calls_under : (rule : GrowthRule) (w : World) (s : Settings) (modules : List ModuleCall) → AreCallsFor w s modules → AreCallsFor (under rule w) s modules
+calls_under : (rule : GrowthRule) (w : World) (s : Settings) (modules : List ModuleCall) → AreCallsFor w.terms s modules → AreCallsFor (under rule w).terms s modules
 calls_under rule w s modules calls number =
-    told_weaker (IsCallFor w s number) (IsCallFor (under rule w) s number) (slice_get modules number)
-    (λ m for. record { asked = record { some = for.asked.some; memories = for.asked.memories; images = for.asked.images }; images = for.images; places = for.places }) (calls number)
+    told_weaker (IsCallFor w.terms s number) (IsCallFor (under rule w).terms s number) (slice_get modules number)
+    (λ m for. record { asked = record { some = for.asked.some; module_of = for.asked.module_of; images = for.asked.images }; fit = for.fit }) (calls number)
 
 module _ {P : Type 0} where
-  calls_over : (w : World) (modules : List ModuleCall) (c d : PoolCore P) → IsSameSize c d → AreCallsFor w c.settings modules → AreCallsFor w d.settings modules
+  calls_over : (w : World) (modules : List ModuleCall) (c d : PoolCore P) → IsSameSize c d → AreCallsFor w.terms c.settings modules → AreCallsFor w.terms d.settings modules
   calls_over w modules c d size calls =
-      let Calls : Settings → Type 0 = λ s. AreCallsFor w s modules in
+      let Calls : Settings → Type 0 = λ s. AreCallsFor w.terms s modules in
       subst Calls (sym size.settings) calls
 
   -- One party's turn.
-  run_to : (w : World) (modules : List ModuleCall) (commands : List Command) (replies : List Reply) (c : PoolCore P) (p : RunningParty P) (t : Turned P) → IsWorldOf w c → AreCallsFor w c.settings modules → CanTurn w.maker c p → (w.alone ≡ true → IsAlone c p.frame p.live) → IsRunTo w commands replies p → Turns modules commands c p t → HasTurned c p t → IsRunTo w commands (with_reply t.reply replies) t.party
+  run_to : (w : World) (modules : List ModuleCall) (commands : List Command) (replies : List Reply) (c : PoolCore P) (p : RunningParty P) (t : Turned P) → IsWorldOf w c → AreCallsFor w.terms c.settings modules → CanTurn w.maker c p → (w.alone ≡ true → IsAlone c p.frame p.live) → IsRunTo w commands replies p → Turns modules commands c p t → HasTurned c p t → IsRunTo w commands (with_reply t.reply replies) t.party
   run_to w modules commands replies c p t world calls can alone to turns turned = record {
     room = turned.room ∙ to.room;
     private =
@@ -66,15 +67,14 @@ module _ {P : Type 0} where
     searched = turned.searched alone.searched;
   }
 
-  turned_some : (w : World) (modules : List ModuleCall) (inputs : List (List Command)) (i : ℕ) (p : RunningParty P) (s : RunState P) (t : Turned P) → slice_get s.parties i ≡ Some p → IsUnderWay w modules inputs s → Turns modules (commands_of inputs i) s.core p t → IsSoundTurn w.maker t → IsUnderWay w modules inputs (with_turn i t s)
-  turned_some w modules inputs i p s t there way turns sound =
+  turned_some : (w : World) (modules : List ModuleCall) (inputs : List (List Command)) (i : ℕ) (p : RunningParty P) (s : RunState P) (t : Turned P) → slice_get s.parties i ≡ Some p → IsUnderWay w modules inputs s → Turns modules (commands_of inputs i) s.core p t → HoldsBetween w.maker (with_turn i t s) → IsUnderWay w modules inputs (with_turn i t s)
+  turned_some w modules inputs i p s t there way turns holds =
       let below : i < length s.parties = slice_get_within s.parties i p there in
       let here : slice_index_or s.parties i p ≡ p = get_or_from_slice_get s.parties i p p there in
       let To : RunningParty P → Type 0 = λ q. IsRunTo w (commands_of inputs i) (replies_to i s.replies) q in
       let Can : RunningParty P → Type 0 = λ q. CanTurn w.maker s.core q in
-      let Has : RunningParty P → Type 0 = λ q. HasTurned s.core q t in
       let to : IsRunTo w (commands_of inputs i) (replies_to i s.replies) p = subst To here (way.each i p below) in
-      let can : CanTurn w.maker s.core p = subst Can here (can_turn w.maker s.core s.parties i p way.running below) in
+      let can : CanTurn w.maker s.core p = subst Can here (can_turn w.maker s.core s.parties i p way.holds.running below) in
       let turned : HasTurned s.core p t = has_turned w modules (commands_of inputs i) s.core p t way.calls can (omega (arith, to.room)) turns in
       let alone : w.alone ≡ true → IsAlone s.core p.frame p.live =
       λ e.
@@ -85,7 +85,7 @@ module _ {P : Type 0} where
       let now : IsRunTo w (commands_of inputs i) (with_reply t.reply (replies_to i s.replies)) t.party = run_to w modules (commands_of inputs i) (replies_to i s.replies) s.core p t way.world way.calls can alone to turns turned in
       let replies : List Reply = with_reply t.reply (replies_to i s.replies) in
       record {
-        running = turned_running w.maker s.core s.parties i p t way.running below (subst Has (sym here) turned) sound;
+        holds = holds;
         given = way.given;
         world = world_over w s.core t.core turned.size way.world;
         calls = calls_over w modules s.core t.core turned.size way.calls;
@@ -120,13 +120,13 @@ module _ {P : Type 0} where
             ];
       }
 
-  turned_if : (w : World) (modules : List ModuleCall) (inputs : List (List Command)) (i : ℕ) (o : Option (RunningParty P)) (s new : RunState P) → slice_get s.parties i ≡ o → IsUnderWay w modules inputs s → TurnsIf w.maker modules (commands_of inputs i) i o s new → IsUnderWay w modules inputs new
-  turned_if w modules inputs i None s new there way turns = subst (IsUnderWay w modules inputs) (sym turns) way
-  turned_if w modules inputs i (Some p) s new there way turns = subst (IsUnderWay w modules inputs) (sym turns.3) (turned_some w modules inputs i p s turns.0 there way turns.1 turns.2)
+  turned_if : (w : World) (modules : List ModuleCall) (inputs : List (List Command)) (i : ℕ) (o : Option (RunningParty P)) (s new : RunState P) → slice_get s.parties i ≡ o → IsUnderWay w modules inputs s → TurnsIf modules (commands_of inputs i) i o s new → HoldsBetween w.maker new → IsUnderWay w modules inputs new
+  turned_if w modules inputs i None s new there way turns holds = subst (IsUnderWay w modules inputs) (sym turns) way
+  turned_if w modules inputs i (Some p) s new there way turns holds = subst (IsUnderWay w modules inputs) (sym turns.2) (turned_some w modules inputs i p s turns.0 there way turns.1 (subst (HoldsBetween w.maker) turns.2 holds))
 
   -- A turn of one of the parties.
   pub run_turned : (w : World) (modules : List ModuleCall) (inputs : List (List Command)) (i : ℕ) (s new : RunState P) → IsUnderWay w modules inputs s → TurnsOf w.maker modules inputs i s new → IsUnderWay w modules inputs new
-  run_turned w modules inputs i s new way turns = turned_if w modules inputs i (slice_get s.parties i) s new refl way turns
+  run_turned w modules inputs i s new way turns = turned_if w modules inputs i (slice_get s.parties i) s new refl way turns.0 turns.1
 
   -- Turns in any order.
   pub folds_under_way : (w : World) (modules : List ModuleCall) (inputs : List (List Command)) (schedule : List ℕ) (s end : RunState P) → IsUnderWay w modules inputs s → Folds w.maker modules inputs schedule s end → IsUnderWay w modules inputs end
@@ -140,14 +140,17 @@ module _ {P : Type 0} where
       (folds_under_way w modules inputs schedule s runs.scheduled way runs.folds)
       runs.finishes.folds
 
-  -- The replies to each party are a private run of its commands.
-  pub replies_private : (w : World) (modules : List ModuleCall) (inputs : List (List Command)) (s : RunState P) (i : ℕ) (d : RunningParty P) → IsUnderWay w modules inputs s → i < length s.parties → IsPrivateRun (world_at w i) (commands_of inputs i) (replies_to i s.replies)
-  replies_private w modules inputs s i d way below =
+  -- The replies to each party are a private run of its commands, and tell of the pool.
+  pub replies_pooled : (w : World) (modules : List ModuleCall) (inputs : List (List Command)) (s : RunState P) (i : ℕ) (d : RunningParty P) → IsUnderWay w modules inputs s → i < length s.parties → IsPooledRun (world_at w i) (commands_of inputs i) (replies_to i s.replies)
+  replies_pooled w modules inputs s i d way below =
       let to = way.each i d below in
       let rule : RunningParty P → GrowthRule = λ q. rule_of q.limits in
       let same : rule (slice_index_or s.parties i d) ≡ slice_index_or w.rules i always = sym (get_or-map rule s.parties i d always below) ∙ ap (λ (rs : List GrowthRule). slice_index_or rs i always) way.rules in
-      let By : GrowthRule → Type 0 = λ r. IsPrivateRun (under r w) (commands_of inputs i) (replies_to i s.replies) in
-      subst By same (to.private.grants, to.private.run)
+      let By : GrowthRule → Type 0 = λ r. IsPooledRun (under r w) (commands_of inputs i) (replies_to i s.replies) in
+      subst By same (with_grants to.private.grants, to.private.run)
+
+  pub replies_private : (w : World) (modules : List ModuleCall) (inputs : List (List Command)) (s : RunState P) (i : ℕ) (d : RunningParty P) → IsUnderWay w modules inputs s → i < length s.parties → IsPrivateRun (world_at w i).terms (commands_of inputs i) (replies_to i s.replies)
+  replies_private w modules inputs s i d way below = pooled_private (world_at w i) (commands_of inputs i) (replies_to i s.replies) (replies_pooled w modules inputs s i d way below)
 
   -- Turns that follow others.
   pub folds_on : (maker : MakerTold) (modules : List ModuleCall) (inputs : List (List Command)) (first second : List ℕ) (s mid end : RunState P) → Folds maker modules inputs first s mid → Folds maker modules inputs second mid end → Folds maker modules inputs (first ++ second) s end
@@ -158,21 +161,3 @@ module _ {P : Type 0} where
 
   pub folds_more : (maker : MakerTold) (modules : List ModuleCall) (inputs : List (List Command)) (schedule : List ℕ) (i : ℕ) (s mid end : RunState P) → Folds maker modules inputs schedule s mid → TurnsOf maker modules inputs i mid end → Folds maker modules inputs (schedule ++ i ∷ []) s end
   folds_more maker modules inputs schedule i s mid end folds turns = folds_on maker modules inputs schedule (i ∷ []) s mid end folds (end, turns, refl)
-
-  -- A turn of a party that has nothing left changes nothing.
-  nothing_begins : (keyed : Bool) (modules : List ModuleCall) (o : Option Command) (c : PoolCore P) (p : RunningParty P) (t : Turned P) → o ≡ None → BeginsKeyed keyed modules o c p t → t ≡ record { core = c; party = p; reply = None }
-  nothing_begins false modules None c p t none is = is
-  nothing_begins true modules None c p t none is = is
-  nothing_begins keyed modules (Some command) c p t none is = absurd cc
-
-  nothing_turns : (modules : List ModuleCall) (commands : List Command) (c : PoolCore P) (p : RunningParty P) (t : Turned P) (b : Bool) → b ≡ true → length commands ≤ p.done → TurnsAt b modules commands c p t → t ≡ record { core = c; party = p; reply = None }
-  nothing_turns modules commands c p t true idle all turns = nothing_begins p.keyed modules (slice_get commands p.done) c p t (slice_get_past commands p.done all) turns
-  nothing_turns modules commands c p t false idle all turns = absurd cc
-
-  pub nothing_left : (maker : MakerTold) (modules : List ModuleCall) (commands : List Command) (i : ℕ) (p : RunningParty P) (s new : RunState P) → slice_get s.parties i ≡ Some p → HasNothingLeft commands p → TurnsIf maker modules commands i (Some p) s new → new ≡ s
-  nothing_left maker modules commands i p s new there none turns =
-      let same : turns.0 ≡ record { core = s.core; party = p; reply = None } = nothing_turns modules commands s.core p turns.0 (is_idle p.frame.phase) none.idle none.all turns.1 in
-      let parties : slice_set s.parties i p ≡ s.parties = ap (λ (q : RunningParty P). slice_set s.parties i q) (sym (get_or_from_slice_get s.parties i p p there)) ∙ set-get_or s.parties i p in
-      turns.3 ∙ ap (λ (t : Turned P). with_turn i t s) same
-      ∙ ap (λ (ps : List (RunningParty P)). record { core = s.core; modules = s.modules; parties = ps; replies = slice_set s.replies i (replies_to i s.replies) }) parties
-      ∙ ap (λ (rs : List (List Reply)). record { core = s.core; modules = s.modules; parties = s.parties; replies = rs }) (set-get_or s.replies i [])

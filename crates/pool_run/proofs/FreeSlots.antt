@@ -6,27 +6,28 @@ use Rattle.std.proofs.lemmas.List.{length-map, get_or-map}
 use Rattle.std.proofs.lemmas.List.Elements.{All-map}
 use Rattle.std.proofs.lemmas.List.Sums.{sum_by-cons, get_or-le-sum_by}
 use Rattle.pool_alloc.specs.Leases.{Lease}
-use Rattle.pool_alloc.specs.Places.{slot_of, both_count, leased_count, made_count}
+use Rattle.pool_alloc.specs.Places.{right_to, both_count, leased_count, made_count}
 use Rattle.pool_alloc.specs.Stepping.{grant_count}
 use Rattle.pool_alloc.specs.declared.frame.Grant.{Grant}
 use Rattle.pool_alloc.specs.declared.frame.Grant.TheVariants.{Instance}
 use Rattle.pool_alloc.proofs.Held.{made_once, made_inside}
 use Rattle.pool_alloc.proofs.SlotCounts.{slot_once}
 use Rattle.pool_alloc.proofs.Wholes.{two_of_sum}
-use Rattle.pool_run.specs.Private.{PrivateMemory, PrivateInstance, Grants, AllDiffer, IsFree}
+use Rattle.pool_run.specs.Private.{PrivateMemory, PrivateInstance, Grants}
+use Rattle.pool_run.specs.Rooms.{AllDiffer, IsOfNoGrant}
 use Rattle.pool_run.specs.Turns.{private_memory, private_grant, grants_of}
 use Rattle.pool_run.specs.Ties.{granted_to}
 use Rattle.pool_run.proofs.Grants.{told_at}
 use Rattle.pool_run.proofs.NewMemories.{slots_of}
 
 -- a lease has its slot
-lease_counted : (leases : List Lease) (i : ℕ) (d : Lease) → i < length leases → 1 ≤ leased_count (slot_of (get_or leases i d).index) leases
+lease_counted : (leases : List Lease) (i : ℕ) (d : Lease) → i < length leases → 1 ≤ leased_count (right_to (get_or leases i d).index) leases
 lease_counted leases i d below =
     let k : ℕ = (get_or leases i d).index in
-    omega (arith, get_or-le-sum_by (λ (l : Lease). both_count (slot_of k) l.index) leases i d below, slot_once k)
+    omega (arith, get_or-le-sum_by (λ (l : Lease). both_count (right_to k) l.index) leases i d below, slot_once k)
 
 -- no two leases have one slot
-slots_differ : (leases : List Lease) → ((k : ℕ) → leased_count (slot_of k) leases ≤ 1) → AllDiffer (slots_of leases)
+slots_differ : (leases : List Lease) → ((k : ℕ) → leased_count (right_to k) leases ≤ 1) → AllDiffer (slots_of leases)
 slots_differ [] once i j below also same = absurd (omega arith)
 slots_differ (x ∷ xs) once i j below also same =
     let leases : List Lease = x ∷ xs in
@@ -40,18 +41,18 @@ slots_differ (x ∷ xs) once i j below also same =
     elim (cases_eq i j) [
       | inl is ↦ is
       | inr other ↦
-          let both = two_of_sum (λ (l : Lease). both_count (slot_of k) l.index) leases i j x i_inside j_inside other in
-          let other_one : both_count (slot_of k) (get_or leases j x).index ≡ both_count (slot_of k) k = ap (both_count (slot_of k)) one in
+          let both = two_of_sum (λ (l : Lease). both_count (right_to k) l.index) leases i j x i_inside j_inside other in
+          let other_one : both_count (right_to k) (get_or leases j x).index ≡ both_count (right_to k) k = ap (both_count (right_to k)) one in
           absurd (omega (arith, both, other_one, slot_once k, once k))
     ]
 
 -- leases that haven't the slot are no memories in it
-others_free : (slot : ℕ) (others : List Lease) → leased_count (slot_of slot) others ≡ 0 → All (λ m. m.slot ≢ slot) (map private_memory others)
+others_free : (slot : ℕ) (others : List Lease) → leased_count (right_to slot) others ≡ 0 → All (λ m. m.slot ≢ slot) (map private_memory others)
 others_free slot others none =
     All-map (λ (m : PrivateMemory). m.slot ≢ slot) private_memory others
     (λ n d below same.
-    let some : 1 ≤ leased_count (slot_of (get_or others n d).index) others = lease_counted others n d below in
-    let there : leased_count (slot_of (get_or others n d).index) others ≡ leased_count (slot_of slot) others = ap (λ (k : ℕ). leased_count (slot_of k) others) same in
+    let some : 1 ≤ leased_count (right_to (get_or others n d).index) others = lease_counted others n d below in
+    let there : leased_count (right_to (get_or others n d).index) others ≡ leased_count (right_to slot) others = ap (λ (k : ℕ). leased_count (right_to k) others) same in
     omega (arith, some, there, none))
 
 module _ {P : Type 0} where
@@ -65,7 +66,7 @@ module _ {P : Type 0} where
 
   -- the leases and the live grants have no slot together, and no slot that isn't one of the pool
   abbrev pub AreApart : List Lease → List (Option (Grant P)) → ℕ → Type 0
-  AreApart leases live total = (k : ℕ) → leased_count (slot_of k) leases + sum_by (granted_to (grant_count (slot_of k))) live ≤ made_count (slot_of k) total
+  AreApart leases live total = (k : ℕ) → leased_count (right_to k) leases + sum_by (granted_to (grant_count (right_to k))) live ≤ made_count (right_to k) total
 
   pub slots_inside : (leases : List Lease) (live : List (Option (Grant P))) (total : ℕ) → AreApart leases live total → All (λ slot. slot < total) (slots_of leases)
   slots_inside leases live total apart =
@@ -73,18 +74,18 @@ module _ {P : Type 0} where
       (λ i d below. made_inside (get_or leases i d).index total (omega (arith, lease_counted leases i d below, apart (get_or leases i d).index)))
 
   pub slots_apart : (leases : List Lease) (live : List (Option (Grant P))) (total : ℕ) → AreApart leases live total → AllDiffer (slots_of leases)
-  slots_apart leases live total apart = slots_differ leases (λ k. omega (arith, apart k, made_once (slot_of k) total))
+  slots_apart leases live total apart = slots_differ leases (λ k. omega (arith, apart k, made_once (right_to k) total))
 
-  grant_free : (slot : ℕ) (live : List (Option (Grant P))) (j : ℕ) (x : Option (Grant P)) → slice_index_or live j None ≡ x → sum_by (granted_to (grant_count (slot_of slot))) live ≡ 0 → IfSome (option_map private_grant x) (λ g. All (λ m. m.slot ≢ slot) g.memories)
+  grant_free : (slot : ℕ) (live : List (Option (Grant P))) (j : ℕ) (x : Option (Grant P)) → slice_index_or live j None ≡ x → sum_by (granted_to (grant_count (right_to slot))) live ≡ 0 → IfSome (option_map private_grant x) (λ g. All (λ m. m.slot ≢ slot) g.memories)
   grant_free slot live j None is none = tt
   grant_free slot live j (Some (Instance lease)) is none =
-      others_free slot lease.memories.items (omega (arith, grant_counted (grant_count (slot_of slot)) live j (Instance lease) is, none))
+      others_free slot lease.memories.items (omega (arith, grant_counted (grant_count (right_to slot)) live j (Instance lease) is, none))
 
-  pub slots_free : (leases : List Lease) (live : List (Option (Grant P))) (told : Grants) (total : ℕ) → grants_of live ≡ told → AreApart leases live total → All (λ slot. IsFree slot told) (slots_of leases)
+  pub slots_free : (leases : List Lease) (live : List (Option (Grant P))) (told : Grants) (total : ℕ) → grants_of live ≡ told → AreApart leases live total → All (λ slot. IsOfNoGrant slot told) (slots_of leases)
   slots_free leases live told total is apart =
-      All-map (λ slot. IsFree slot told) (λ (l : Lease). l.index) leases
+      All-map (λ slot. IsOfNoGrant slot told) (λ (l : Lease). l.index) leases
       (λ i d below j.
       let slot : ℕ = (get_or leases i d).index in
       let Free : Option PrivateInstance → Type 0 = λ o. IfSome o (λ g. All (λ m. m.slot ≢ slot) g.memories) in
       subst Free (sym (told_at live told j (slice_index_or live j None) is refl))
-      (grant_free slot live j (slice_index_or live j None) refl (omega (arith, lease_counted leases i d below, apart slot, made_once (slot_of slot) total))))
+      (grant_free slot live j (slice_index_or live j None) refl (omega (arith, lease_counted leases i d below, apart slot, made_once (right_to slot) total))))

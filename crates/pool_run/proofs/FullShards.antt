@@ -10,8 +10,8 @@ use Rattle.pool_index.specs.Shard.{ShardState, warm_at, next_cold, IsShard, choi
 use Rattle.pool_index.specs.declared.ids.MemoryInModule.{MemoryInModule}
 use Rattle.pool_index.specs.declared.warm_slot.WarmSlot.{WarmSlot}
 use Rattle.pool_slots.specs.Queues.{QueueState, empty_queue}
-use Rattle.pool_alloc.specs.Places.{slot_of, unused_count, shard_count, queued_count, kept_count}
-use Rattle.pool_alloc.specs.Steps.{shard_at, queue_at}
+use Rattle.pool_alloc.specs.Places.{right_to, unused_count, free_count, queued_count, kept_count}
+use Rattle.pool_alloc.specs.Steps.{nth_shard, nth_queue}
 use Rattle.pool_alloc.specs.declared.pool_core.PoolCore.{PoolCore}
 use Rattle.pool_alloc.specs.declared.frame.Frame.{Frame}
 use Rattle.pool_alloc.proofs.KeptCounts.{kept_slots}
@@ -48,7 +48,7 @@ none_chosen want s e =
       cold = ltb-false s.cold s.capacity (if_none (nat_lt s.cold s.capacity) next_cold two.0);
     }
 
-all_used : (k first step : ℕ) (uses : List (Option (Option MemoryInModule))) → ((l : ℕ) → l < length uses → is_some (slice_index_or uses l None) ≡ true) → unused_count (slot_of k) first step uses ≡ 0
+all_used : (k first step : ℕ) (uses : List (Option (Option MemoryInModule))) → ((l : ℕ) → l < length uses → is_some (slice_index_or uses l None) ≡ true) → unused_count (right_to k) first step uses ≡ 0
 all_used k first step [] used = refl
 all_used k first step (None ∷ uses) used = let no : false ≡ true = used 0 (omega arith) in absurd cc
 all_used k first step (Some u ∷ uses) used = omega (arith, all_used k (first + step) step uses (λ l below. used (suc l) (omega (arith, below))))
@@ -88,18 +88,18 @@ sum_none of (x ∷ xs) d none = omega (arith, sum_by-cons of x xs, none 0 (omega
 
 module _ {P : Type 0} where
   -- Where all shards were tried, and all queues taken, the pool has no slot.
-  pub nothing_kept : (c : PoolCore P) (f : Frame P) → AreEmpty (length c.queues) c f → AreFull (length c.shards) c f → (k : ℕ) → kept_count (slot_of k) c ≡ 0
+  pub nothing_kept : (c : PoolCore P) (f : Frame P) → AreEmpty (length c.queues) c f → AreFull (length c.shards) c f → (k : ℕ) → kept_count (right_to k) c ≡ 0
   nothing_kept c f empty full k =
-      let shards : sum_by (shard_count (slot_of k)) c.shards ≡ 0 =
-      sum_none (shard_count (slot_of k)) c.shards (shard_at 0 [])
+      let shards : sum_by (free_count (right_to k)) c.shards ≡ 0 =
+      sum_none (free_count (right_to k)) c.shards (nth_shard 0 [])
       (λ i below.
       let place = around f.home i (length c.shards) below in
-      let S : ℕ → Type 0 = λ n. shard_count (slot_of k) (shard_at n c.shards) ≡ 0 in
+      let S : ℕ → Type 0 = λ n. free_count (right_to k) (nth_shard n c.shards) ≡ 0 in
       subst S place.2 (full place.0 place.1 k)) in
-      let queues : sum_by (λ q. queued_count (slot_of k) q.memories) c.queues ≡ 0 =
-      sum_none (λ (q : QueueState). queued_count (slot_of k) q.memories) c.queues (empty_queue 0 0)
+      let queues : sum_by (λ q. queued_count (right_to k) q.memories) c.queues ≡ 0 =
+      sum_none (λ (q : QueueState). queued_count (right_to k) q.memories) c.queues (empty_queue 0 0)
       (λ i below.
       let place = around f.home i (length c.queues) below in
-      let S : ℕ → Type 0 = λ n. (queue_at n c.queues).memories ≡ [] in
-      ap (queued_count (slot_of k)) (subst S place.2 (empty place.0 place.1))) in
+      let S : ℕ → Type 0 = λ n. (nth_queue n c.queues).memories ≡ [] in
+      ap (queued_count (right_to k)) (subst S place.2 (empty place.0 place.1))) in
       omega (arith, kept_slots k c, shards, queues)

@@ -7,7 +7,6 @@ use Rattle.std.proofs.lemmas.List.Sums.{sum_by-cons}
 use Rattle.std.proofs.lemmas.Option.{slice_get-get_or}
 use Rattle.pool_pages.specs.MakerTold.{MakerTold}
 use Rattle.pool_pages.specs.declared.module_types.ModuleInfo.{ModuleInfo}
-use Rattle.pool_alloc.specs.Made.{IsMadeCore}
 use Rattle.pool_alloc.specs.Sound.{IsCore}
 use Rattle.pool_alloc.specs.Sums.{metrics_of}
 use Rattle.pool_alloc.specs.Whole.{IsUntouched}
@@ -17,14 +16,14 @@ use Rattle.pool_limits.specs.Growth.{GrowthRule}
 use Rattle.pool_alloc.specs.declared.pool_core.PoolCore.{PoolCore}
 use Rattle.pool_alloc.specs.declared.pool_core.Settings.{Settings}
 use Rattle.pool_run.specs.Built.{is_built}
-use Rattle.pool_run.specs.Folds.{RunParts, RunState, IsUnderWay, commands_of, replies_to, state_of}
+use Rattle.pool_run.specs.Folds.{RunParts, RunState, HoldsBetween, IsUnderWay, commands_of, replies_to, told_state}
 use Rattle.pool_run.specs.Made.{AreMadeCalls}
 use Rattle.pool_run.specs.Numbers.{calls_of_run}
 use Rattle.pool_run.specs.PartyRules.{rule_of}
-use Rattle.pool_run.specs.Private.{World, world_at}
+use Rattle.pool_run.specs.Rooms.{World, world_at, IsPooledRun}
 use Rattle.pool_run.specs.Progress.{IsRunOf}
 use Rattle.pool_run.specs.Runs.{Performs, IsToldBy, IsMadeRun, IsRun, world_of}
-use Rattle.pool_run.specs.RunsMade.{Background, IsKept, commands_in, party_made, party_made_for, parties_made, run_made, places_in}
+use Rattle.pool_run.specs.RunsMade.{Background, commands_in, party_made, party_made_for, parties_made, nothing_told, places_in}
 use Rattle.pool_run.specs.Schedules.{turns_of}
 use Rattle.pool_run.specs.Validity.{is_valid, is_valid_after, are_valid_after, most_commands}
 use Rattle.pool_run.specs.Worlds.{IsWorldOf, AreCallsFor, NamesModule, NameModules}
@@ -37,7 +36,7 @@ use Rattle.pool_run.specs.declared.output.RunOutput.{RunOutput}
 use Rattle.pool_run.specs.declared.reply.Reply.{Reply}
 use Rattle.pool_run.specs.declared.running_party.RunningParty.{RunningParty}
 use Rattle.pool_run.proofs.Ended.{folds_count, run_count, all_replied}
-use Rattle.pool_run.proofs.Folding.{folds_under_way, run_under_way, replies_private}
+use Rattle.pool_run.proofs.Folding.{folds_under_way, run_under_way, replies_pooled, replies_private}
 use Rattle.pool_run.proofs.RunMade.{are_made}
 use Rattle.pool_run.proofs.Started.{run_started}
 use Rattle.pool_run.proofs.Tests.{first, second}
@@ -104,7 +103,7 @@ module _ {P : Type 0} where
       (omega (arith, valid_parties input valid, places_below P c.settings input.parties (λ k d below. few_commands input k (get_or input.parties k d) valid (slice_get-get_or input.parties k d below))))
 
   -- The run as it is made is under way.
-  under_way : (input : Input) (maker : MakerTold) (c : PoolCore P) (modules : List ModuleCall) → IsCore maker c → IsUntouched c → IsWorldOf (world_of input maker) c → AreCallsFor (world_of input maker) c.settings modules → IsUnderWay (world_of input maker) modules (commands_in input.parties) (run_made c modules input.parties)
+  under_way : (input : Input) (maker : MakerTold) (c : PoolCore P) (modules : List ModuleCall) → IsCore maker c → IsUntouched c → IsWorldOf (world_of input maker) c → AreCallsFor (world_of input maker).terms c.settings modules → IsUnderWay (world_of input maker) modules (commands_in input.parties) (record { core = c; modules = modules; parties = parties_made c.settings input.parties; replies = nothing_told input.parties })
   under_way input maker c modules core untouched world calls =
       let w : World = world_of input maker in
       let parties : List (RunningParty P) = map (party_made_for {P = P} c.settings) input.parties in
@@ -112,38 +111,43 @@ module _ {P : Type 0} where
       let Way : ℕ → Type 0 = λ n. IsUnderWay w modules (commands_in input.parties) (record { core = c; modules = modules; parties = parties; replies = replicate n [] }) in
       subst Way count (run_started w modules (commands_in input.parties) c parties core untouched world calls (are_made c.settings input.parties) (rules_made P c.settings input.parties) (λ alone. count ∙ eqb-true (length input.parties) 1 alone))
 
-  calls_there : (input : Input) (maker : MakerTold) (c : PoolCore P) (modules : List ModuleCall) → is_built input ≡ true → IsCore maker c → AreMadeCalls maker.page input.modules modules → AreCallsFor (world_of input maker) c.settings modules
-  calls_there input maker c modules built core calls = are_calls_for (world_of input maker) c.settings modules (built_modules input built) core.page (omega (arith, core.settings.page.at_least)) calls
+  calls_there : (input : Input) (maker : MakerTold) (c : PoolCore P) (modules : List ModuleCall) → is_built input ≡ true → IsCore maker c → AreMadeCalls input.tunables maker.page input.modules modules → AreCallsFor (world_of input maker).terms c.settings modules
+  calls_there input maker c modules built core calls = are_calls_for (world_of input maker).terms c.settings modules (built_modules input built) core.page (omega (arith, core.settings.page.at_least)) calls
 
-  made_under_way : (input : Input) (maker : MakerTold) (c : PoolCore P) (modules : List ModuleCall) → is_built input ≡ true → IsMadeCore maker input.config input.tunables input.offered c → IsCore maker c → IsUntouched c → AreMadeCalls maker.page input.modules modules → IsUnderWay (world_of input maker) modules (commands_in input.parties) (run_made c modules input.parties)
-  made_under_way input maker c modules built made core untouched calls =
-      under_way input maker c modules core untouched (is_world input maker c made) (calls_there input maker c modules built core calls)
+  made_under_way : (input : Input) (maker : MakerTold) (run : RunParts P) → is_built input ≡ true → IsMadeRun input maker run → IsUnderWay (world_of input maker) run.modules (commands_in input.parties) (told_state run (nothing_told input.parties))
+  made_under_way input maker run built made =
+      let Way : List (RunningParty P) → Type 0 = λ ps. IsUnderWay (world_of input maker) run.modules (commands_in input.parties) (record { core = run.core; modules = run.modules; parties = ps; replies = nothing_told input.parties }) in
+      subst Way (sym made.parties) (under_way input maker run.core run.modules made.core made.untouched (is_world input maker run.core made.made) (calls_there input maker run.core run.modules built made.core made.calls))
 
-  made_count : (c : PoolCore P) (parties : List Party) → length (parties_made {P = P} c.settings parties) ≡ length parties
-  made_count c parties = length-map parties (party_made_for {P = P} c.settings)
+  made_count : (input : Input) (maker : MakerTold) (run : RunParts P) → IsMadeRun input maker run → length run.parties ≡ length input.parties
+  made_count input maker run made = ap (length {A = RunningParty P}) made.parties ∙ length-map input.parties (party_made_for {P = P} run.core.settings)
 
   -- The run as it is made, once the lists of its replies are there.
-  pub made_run : (input : Input) (maker : MakerTold) (run : RunParts P) (parties : List Party) (s : RunState P) → IsMadeRun input maker run → parties ≡ input.parties → s ≡ state_of run (replicate (length parties) []) → s ≡ run_made run.core run.modules input.parties
-  made_run input maker run parties s made same is =
-      is ∙ ap (λ (ps : List Party). state_of run (replicate (length ps) [])) same ∙ ap (λ (ps : List (RunningParty P)). record { core = run.core; modules = run.modules; parties = ps; replies = replicate (length input.parties) [] }) made.parties
+  pub made_run : (input : Input) (run : RunParts P) (parties : List Party) (s : RunState P) → parties ≡ input.parties → s ≡ told_state run (nothing_told parties) → s ≡ told_state run (nothing_told input.parties)
+  made_run input run parties s same is = is ∙ ap (λ (ps : List Party). told_state run (nothing_told ps)) same
 
   -- what the run is of
   abbrev pub background : Input → MakerTold → RunState P → Background
   background input maker s = record { world = world_of input maker; modules = s.modules; inputs = commands_in input.parties }
 
-  pub is_run_of : (input : Input) (maker : MakerTold) (run : RunParts P) (s : RunState P) → is_built input ≡ true → is_valid input ≡ true → IsMadeRun input maker run → s ≡ run_made run.core run.modules input.parties → IsRunOf (background input maker s) input.parties s
+  pub is_run_of : (input : Input) (maker : MakerTold) (run : RunParts P) (s : RunState P) → is_built input ≡ true → is_valid input ≡ true → IsMadeRun input maker run → s ≡ told_state run (nothing_told input.parties) → IsRunOf (background input maker s) input.parties s
   is_run_of input maker run s built valid made is =
       let Of : RunState P → Type 0 = λ x. IsRunOf (background input maker x) input.parties x in
       subst Of (sym is)
       (record {
-        way = made_under_way input maker run.core run.modules built made.made made.core made.untouched made.calls;
+        way = made_under_way input maker run built made;
         inputs = refl;
-        parties = made_count run.core input.parties;
+        parties = made_count input maker run made;
         named = parties_name input input.parties (length run.modules) refl made.calls.number valid;
       })
 
+  -- The run is under way at its end, and has as many parties.
+  performed_under_way : (finish : Bool) (w : World) (modules : List ModuleCall) (inputs : List (List Command)) (schedule : List ℕ) (s end : RunState P) → IsUnderWay w modules inputs s → Performs finish w.maker modules inputs schedule s end → IsUnderWay w modules inputs end × (length end.parties ≡ length s.parties)
+  performed_under_way true w modules inputs schedule s end way runs = (run_under_way w modules inputs schedule s end way runs, run_count w.maker modules inputs schedule s end runs)
+  performed_under_way false w modules inputs schedule s end way folds = (folds_under_way w modules inputs schedule s end way folds, folds_count w.maker modules inputs schedule s end folds)
+
   -- What the parties were told at the end of a run.
-  told_by : (finish : Bool) (w : World) (modules : List ModuleCall) (inputs : List (List Command)) (schedule : List ℕ) (s end : RunState P) (i : ℕ) (d : RunningParty P) → IsUnderWay w modules inputs s → Performs finish w.maker modules inputs schedule s end → i < length s.parties → IsToldBy finish (world_at w i) (commands_of inputs i) (replies_to i end.replies)
+  told_by : (finish : Bool) (w : World) (modules : List ModuleCall) (inputs : List (List Command)) (schedule : List ℕ) (s end : RunState P) (i : ℕ) (d : RunningParty P) → IsUnderWay w modules inputs s → Performs finish w.maker modules inputs schedule s end → i < length s.parties → IsToldBy finish (world_at w i).terms (commands_of inputs i) (replies_to i end.replies)
   told_by true w modules inputs schedule s end i d way runs below =
       let ended : IsUnderWay w modules inputs end = run_under_way w modules inputs schedule s end way runs in
       let inside : i < length end.parties = omega (arith, below, run_count w.maker modules inputs schedule s end runs) in
@@ -153,27 +157,27 @@ module _ {P : Type 0} where
       replies_private w modules inputs end i d ended (omega (arith, below, folds_count w.maker modules inputs schedule s end folds))
 
   -- So the output of its end is that of a run of the input.
-  pub is_run : (input : Input) (maker : MakerTold) (run : RunParts P) (s end : RunState P) (output : RunOutput) → is_built input ≡ true → IsMadeRun input maker run → s ≡ run_made run.core run.modules input.parties
-      → Performs input.finish maker s.modules (commands_in input.parties) (turns_of input.schedule) s end → IsKept end.core end.parties
+  pub is_run : (input : Input) (maker : MakerTold) (run : RunParts P) (s end : RunState P) (output : RunOutput) → is_built input ≡ true → IsMadeRun input maker run → s ≡ told_state run (nothing_told input.parties)
+      → Performs input.finish maker s.modules (commands_in input.parties) (turns_of input.schedule) s end → HoldsBetween maker end
       → output.replies ≡ end.replies → output.metrics ≡ metrics_of end.core → output.calls ≡ calls_of_run end.core end.parties → IsRun P input maker output
-  is_run input maker run s end output built made is performs kept replies metrics numbers =
-      let c : PoolCore P = run.core in
+  is_run input maker run s end output built made is performs holds replies metrics numbers =
       let w : World = world_of input maker in
-      let way = made_under_way input maker c run.modules built made.made made.core made.untouched made.calls in
       let From : RunState P → Type 0 = λ x. Performs input.finish maker x.modules (commands_in input.parties) (turns_of input.schedule) x end in
-      let performed : From (run_made c run.modules input.parties) = subst From is performs in
+      let performed : From (told_state run (nothing_told input.parties)) = subst From is performs in
       record {
-        core = c;
-        made = made.made;
-        modules = run.modules;
-        calls = calls_there input maker c run.modules built made.core made.calls;
+        start = run;
+        made = made;
         end = end;
         performed = performed;
-        kept = kept;
+        holds = holds;
         replies = replies;
         told = λ i below.
-            let Told : List (List Reply) → Type 0 = λ rs. IsToldBy input.finish (world_at w i) (commands_of (commands_in input.parties) i) (replies_to i rs) in
-            subst Told (sym replies) (told_by input.finish w run.modules (commands_in input.parties) (turns_of input.schedule) (run_made c run.modules input.parties) end i (party_made 0 None c.settings 0) way performed (omega (arith, below, made_count c input.parties)));
+            let Told : List (List Reply) → Type 0 = λ rs. IsToldBy input.finish (world_at w i).terms (commands_of (commands_in input.parties) i) (replies_to i rs) in
+            subst Told (sym replies) (told_by input.finish w run.modules (commands_in input.parties) (turns_of input.schedule) (told_state run (nothing_told input.parties)) end i (party_made 0 None run.core.settings 0) (made_under_way input maker run built made) performed (omega (arith, below, made_count input maker run made)));
+        room = λ i below.
+            let ended = performed_under_way input.finish w run.modules (commands_in input.parties) (turns_of input.schedule) (told_state run (nothing_told input.parties)) end (made_under_way input maker run built made) performed in
+            let Told : List (List Reply) → Type 0 = λ rs. IsPooledRun (world_at w i) (commands_of (commands_in input.parties) i) (replies_to i rs) in
+            subst Told (sym replies) (replies_pooled w run.modules (commands_in input.parties) end i (party_made 0 None run.core.settings 0) ended.0 (omega (arith, below, made_count input maker run made, ended.1)));
         metrics = metrics;
         calls_made = numbers;
       }

@@ -1,12 +1,14 @@
 -- What a change of a lease is as a move of its memory.
-use Rattle.std.proofs.Common.{◌≡◌, ℕ, ◌+◌, Bool, true, false, List, length, Option, Result, Ok, Err, refl, ap, ◌∙◌, subst}
+use Rattle.std.proofs.Common.{◌≡◌, ℕ, ◌+◌, Bool, true, false, List, length, Option, Some, Result, Ok, Err, refl, ap, ◌∙◌, subst}
 use Rattle.std.specs.Prelude.{nat_le, slice_index_or, if◌then◌else◌, OnOk, OnErr}
+use Rattle.pool_limits.specs.Exchanges.{Exchange}
+use Rattle.pool_limits.specs.LimiterTold.{LimiterTold}
 use Rattle.pool_limits.specs.Growth.{GrowthRule}
 use Rattle.pool_limits.specs.declared.errors.GrowFault.{GrowFault}
 use Rattle.pool_limits.specs.declared.errors.Trap.{Trap}
 use Rattle.pool_limits.specs.declared.errors.Trap.TheVariants.{MemoryOutOfBounds}
 use Rattle.pool_memory.specs.Memories.{MemoryState, memory_written}
-use Rattle.pool_alloc.specs.Leases.{Lease, IsWritten, IsChanged}
+use Rattle.pool_alloc.specs.Leases.{Lease, IsWritten, IsChanged, IsGrown}
 use Rattle.pool_alloc.specs.Reserved.{Reserved}
 use Rattle.pool_run.specs.Turns.{MemoryWrites, MemoryGrows, GrowsUnder, LeaseMoves, write_reply, growth_reply}
 use Rattle.pool_run.specs.declared.reply.Reply.{Reply}
@@ -33,5 +35,9 @@ written_by i bytes l n result false answer is =
 pub write_moves : (i : ℕ) (bytes : List ℕ) (l n : Lease) (result : Result (Unit {0}) Trap) → IsWritten i bytes l n result → LeaseMoves (MemoryWrites i bytes) l n (write_reply result)
 write_moves i bytes l n result is = record { index = is.index; memory = is.memory; move = written_by i bytes l n result (nat_le (i + length bytes) l.memory.linear.size) is.answer is }
 
+-- a growth of it, over a limiter that tells this rule
+pub grown_under : {R : Type 0} (told : R → LimiterTold) (leads : R → Exchange → R → Type 0) (rule : GrowthRule) (pages : ℕ) (l n : Lease) (before after : R) (answer : Result (Option ℕ) GrowFault) → IsGrown told leads pages l n before after answer → (told before).rule ≡ Some rule → GrowsUnder rule pages l n answer
+grown_under told leads rule pages l n before after answer is ruled = record { index = is.index; memory = is.memory; growth = (is.growth.0, told before, told after, ruled, is.growth.1.0) }
+
 pub growth_moves : (rule : GrowthRule) (pages : ℕ) (l n : Lease) (answer : Result (Option ℕ) GrowFault) → GrowsUnder rule pages l n answer → LeaseMoves (MemoryGrows rule pages) l n (growth_reply answer)
-growth_moves rule pages l n answer is = record { index = is.3.index; memory = is.3.memory; move = (is.0, is.1, answer, is.2, is.3.growth, refl) }
+growth_moves rule pages l n answer is = record { index = is.index; memory = is.memory; move = (is.growth.0, is.growth.1, is.growth.2, answer, is.growth.3, is.growth.4, refl) }

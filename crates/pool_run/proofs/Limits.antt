@@ -1,19 +1,19 @@
 -- No turn of a party takes more instances than there may be: a request is admitted only where fewer are counted.
-use Rattle.std.proofs.Common.{◌≡◌, ℕ, ◌+◌, ◌≤◌, Bool, true, false, List, length, Option, Some, None, refl, sym, ap, subst, inl, inr, arith}
+use Rattle.std.proofs.Common.{◌≡◌, ℕ, ◌+◌, ◌≤◌, Bool, true, false, List, length, Option, Some, None, refl, sym, ap, ◌∙◌, subst, inl, inr, arith}
 use Rattle.std.specs.Prelude.{◌==◌, nat_lt, if◌then◌else◌, replicate, sum_by, slice_get, slice_set, slice_index_or}
 use Rattle.std.proofs.lemmas.Bool.{ltb-true, cases_lt}
 use Rattle.std.proofs.lemmas.List.{set_past, get_or_past}
 use Rattle.std.proofs.lemmas.List.Sums.{sum_by-set}
 use Rattle.pool_pages.specs.declared.unsupported.Unsupported.{Unsupported}
-use Rattle.pool_slots.specs.declared.request.AllocError.{AllocError}
-use Rattle.pool_slots.specs.declared.request.AllocError.TheVariants as alloc
-use Rattle.pool_slots.specs.declared.request.ConcurrencyKind.TheVariants.{CoreInstances}
+use Rattle.pool_slots.specs.declared.errors.AllocError.{AllocError}
+use Rattle.pool_slots.specs.declared.errors.AllocError.TheVariants as alloc
+use Rattle.pool_slots.specs.declared.errors.ConcurrencyKind.TheVariants.{CoreInstances}
 use Rattle.pool_alloc.specs.Calls.{begun_call}
 use Rattle.pool_alloc.specs.Places.{phase_instances}
 use Rattle.pool_alloc.specs.Refusals.{memories_refused}
 use Rattle.pool_alloc.specs.Reserved.{no_room}
-use Rattle.pool_alloc.specs.Steps.{Given, After, memories_asked, counting_instances, goes, ends, refuses, allocate_next, validated, row_of}
-use Rattle.pool_alloc.specs.Stepping.{granted, grant_instances, is_idle}
+use Rattle.pool_alloc.specs.Steps.{StepGiven, After, memories_wanted, counting_instances, goes, ends, refuses, allocate_next, validated, row_of}
+use Rattle.pool_alloc.specs.Stepping.{count_granted, grant_instances, is_idle}
 use Rattle.pool_alloc.specs.declared.pool_core.PoolCore.{PoolCore}
 use Rattle.pool_alloc.specs.declared.frame.Call.TheVariants as call
 use Rattle.pool_alloc.specs.declared.frame.Ending.{Ending}
@@ -27,19 +27,19 @@ use Rattle.pool_alloc.specs.declared.frame.Outcome.TheVariants as answer
 use Rattle.pool_alloc.specs.declared.frame.Phase.{Phase}
 use Rattle.pool_alloc.specs.declared.frame.Phase.TheVariants.{Idle, Key, Validate, CountInstance, Pick, UncountMemory, UncountInstance}
 use Rattle.pool_alloc.proofs.Balances.{in_phase}
-use Rattle.pool_memory.specs.Memories.{MemoryState}
+use Rattle.pool_alloc.specs.Leases.{Lease}
 use Rattle.pool_run.specs.Limits.{admitted_as, admitted_by, admitted}
 use Rattle.pool_run.specs.Ties.{Stage, no_call, asks, ends_as, stage_of, granted_to, held_by_party}
 use Rattle.pool_run.specs.PartyRules.{rule_of}
-use Rattle.pool_run.specs.Private.{PrivateMemory, IsRead, IsSize}
-use Rattle.pool_run.specs.Turns.{Turned, MemoryWrites, MemoryGrows, replies, answered, Steps, Returns, LooksAt, with_lease, MovesIn, Asks, Begins, BeginsKeyed, TurnsAt, Turns}
+use Rattle.pool_run.specs.Private.{IsRead, IsSize, Looks}
+use Rattle.pool_run.specs.Turns.{Turned, private_memory, MemoryWrites, MemoryGrows, LeaseMoves, ended_with, answered, Steps, Returns, with_lease, MovesLive, Asks, Begins, BeginsKeyed, TurnsAt, Turns}
 use Rattle.pool_run.specs.declared.command.Command.{Command}
 use Rattle.pool_run.specs.declared.command.Command.TheVariants as command
 use Rattle.pool_run.specs.declared.reply.Reply.{Reply}
 use Rattle.pool_run.specs.declared.reply.Reply.TheVariants.{Refused}
 use Rattle.pool_run.specs.declared.reply.Refusal.TheVariants.{NoSuchGrant, Alloc}
 use Rattle.pool_run.specs.declared.running_party.RunningParty.{RunningParty}
-use Rattle.pool_run.proofs.Moves.{looked, moved}
+use Rattle.pool_run.proofs.Named.{KeepsIndex, looks_index, moves_index, moved}
 use Rattle.pool_run.proofs.Placed.{PlacedAs, placed_as, PlacedBy, placed_at}
 
 -- a call is admitted for no more than it has counted
@@ -48,13 +48,13 @@ admitted_is_counted no_call counted = omega arith
 admitted_is_counted asks counted = omega arith
 admitted_is_counted (ends_as e) counted = omega arith
 
--- A call that asks for an instance may be granted the one that it has counted.
+-- A call that asks for an instance may be count_granted the one that it has counted.
 asked_for_one : (s : Stage) (others counted most : ℕ) → (s ≡ asks → counted ≡ 1) → others + admitted_as s counted ≤ most → s ≡ asks → others + 1 ≤ most
 asked_for_one s others counted most one within is =
     let all : admitted_as s counted ≡ counted = ap (λ (x : Stage). admitted_as x counted) is in
     omega (arith, within, all, one is)
 
--- One instance more may be granted where the call goes on asking.
+-- One instance more may be count_granted where the call goes on asking.
 one_asked : (s : Stage) (others counted most : ℕ) → counted ≤ 1 → others ≤ most → PlacedAs (others + 1 ≤ most) s → others + admitted_as s counted ≤ most
 one_asked no_call others counted most one few placed = omega (arith, few)
 one_asked asks others counted most one few placed = omega (arith, one, placed)
@@ -93,14 +93,14 @@ module _ {P : Type 0} where
 module _ {P : Type 0} (others most : ℕ) where
   -- what a step leaves the call admitted for, or grants, is within that
   record Admits (a : After P) : Type 0 where
-    within : others + (admitted_by a.frame.phase a.frame.ending + granted grant_instances a.outcome) ≤ most
+    within : others + (admitted_by a.frame.phase a.frame.ending + count_granted grant_instances a.outcome) ≤ most
 
   either : (b : Bool) (x y : After P) → (b ≡ true → Admits x) → (b ≡ false → Admits y) → Admits (if b then x else y)
   either true x y one other = one refl
   either false x y one other = other refl
 
   -- so where a step has gone as it may from there
-  by_placing : (o : Option (Outcome P)) (f : Frame P) → others ≤ most → PlacedBy (λ asked. others + 1 ≤ most) o f → others + (admitted_by f.phase f.ending + granted grant_instances o) ≤ most
+  by_placing : (o : Option (Outcome P)) (f : Frame P) → others ≤ most → PlacedBy (λ asked. others + 1 ≤ most) o f → others + (admitted_by f.phase f.ending + count_granted grant_instances o) ≤ most
   by_placing None f few placed = omega (arith, one_asked (stage_of f.phase f.ending) others (phase_instances f.phase) most (counts_once f.phase) few placed)
   by_placing (Some answer.Key) f few placed = settles (stage_of f.phase f.ending) others (phase_instances f.phase) 0 most placed (omega (arith, few))
   by_placing (Some (answer.Granted (instance lease))) f few placed = settles (stage_of f.phase f.ending) others (phase_instances f.phase) 1 most placed.0 placed.2
@@ -108,20 +108,20 @@ module _ {P : Type 0} (others most : ℕ) where
   by_placing (Some (answer.Refused e)) f few placed = settles (stage_of f.phase f.ending) others (phase_instances f.phase) 0 most placed (omega (arith, few))
 
   -- A call that has counted its instance goes on with it.
-  goes_on : (g : Given) (phase : Phase P) (c : PoolCore P) (f : Frame P) → (stage_of phase f.ending ≡ asks → phase_instances phase ≡ 1) → others + admitted_by phase f.ending ≤ most → Admits (row_of g phase c (in_phase phase f))
+  goes_on : (g : StepGiven) (phase : Phase P) (c : PoolCore P) (f : Frame P) → (stage_of phase f.ending ≡ asks → phase_instances phase ≡ 1) → others + admitted_by phase f.ending ≤ most → Admits (row_of g phase c (in_phase phase f))
   goes_on g phase c f one within =
       let a : After P = row_of g phase c (in_phase phase f) in
       let place : PlacedAs (others + 1 ≤ most) (stage_of phase f.ending) = placed_as (others + 1 ≤ most) (stage_of phase f.ending) (asked_for_one (stage_of phase f.ending) others (phase_instances phase) most one within) in
       record { within = by_placing a.outcome a.frame (omega (arith, within)) (placed_at (λ asked. others + 1 ≤ most) g phase c f place).placed }
 
   -- It has counted none yet.
-  validates : (g : Given) (o : Option Unsupported) (c : PoolCore P) (f : Frame P) → others ≤ most → Admits (validated o g.wants c f)
+  validates : (g : StepGiven) (o : Option Unsupported) (c : PoolCore P) (f : Frame P) → others ≤ most → Admits (validated o g.wants c f)
   validates g (Some rule) c f few = record { within = omega (arith, few) }
   validates g None c f few = either g.wants _ _ (λ e. record { within = omega (arith, few) }) (λ e. record { within = omega (arith, few) })
 
   allocates : (c : PoolCore P) (f : Frame P) → others + 1 ≤ most → Admits (allocate_next c f)
   allocates c f room =
-      either (nat_lt (length f.granted.items) (length (memories_asked f.asked))) (goes c f (Pick 0 0)) (ends c (record f { granted = no_room }) (answer.Granted (instance (record { memories = f.granted }))))
+      either (nat_lt (length f.granted.items) (length (memories_wanted f.asked))) (goes c f (Pick 0 0)) (ends c (record f { granted = no_room }) (answer.Granted (instance (record { memories = f.granted }))))
       (λ e. record { within = omega (arith, room) }) (λ e. record { within = omega (arith, room) })
 
   back_either : (b : Bool) (c : PoolCore P) (f : Frame P) → others ≤ most → Admits (goes c f (if b then UncountInstance else UncountMemory))
@@ -132,7 +132,7 @@ module _ {P : Type 0} (others most : ℕ) where
   refused c f e few = back_either (length f.granted.items == 0) c (record f { granted = no_room; returning = f.granted; ending = ending.Refused e }) few
 
   -- what the party's live instances and its call are then
-  answered_within : (c : PoolCore P) (p : RunningParty P) (f : Frame P) (o : Option (Outcome P)) → others + sum_by (granted_to grant_instances) p.live + (admitted_by f.phase f.ending + granted grant_instances o) ≤ most → others + admitted (answered o c (record p { frame = f })).party ≤ most
+  answered_within : (c : PoolCore P) (p : RunningParty P) (f : Frame P) (o : Option (Outcome P)) → others + sum_by (granted_to grant_instances) p.live + (admitted_by f.phase f.ending + count_granted grant_instances o) ≤ most → others + admitted (answered o c (record p { frame = f })).party ≤ most
   answered_within c p f None within = omega (arith, within)
   answered_within c p f (Some answer.Key) within = omega (arith, within)
   answered_within c p f (Some (answer.Granted grant)) within = omega (arith, within, replaced grant_instances p.live p.done (Some grant))
@@ -141,10 +141,10 @@ module _ {P : Type 0} (others most : ℕ) where
 
 module _ {P : Type 0} where
   -- Each step of a call, where all that is admitted is counted.
-  admits_at : (others : ℕ) (g : Given) (phase : Phase P) (c : PoolCore P) (f : Frame P) → others + admitted_by phase f.ending ≤ c.settings.max_core_instances → others ≤ c.counters.core_instances → Admits others c.settings.max_core_instances (row_of g phase c (in_phase phase f))
+  admits_at : (others : ℕ) (g : StepGiven) (phase : Phase P) (c : PoolCore P) (f : Frame P) → others + admitted_by phase f.ending ≤ c.settings.max_core_instances → others ≤ c.counters.core_instances → Admits others c.settings.max_core_instances (row_of g phase c (in_phase phase f))
   admits_at others g Idle c f within counted = goes_on others c.settings.max_core_instances g Idle c f (λ is. absurd cc) within
   admits_at others g Key c f within counted = goes_on others c.settings.max_core_instances g Key c f (λ is. absurd cc) within
-  admits_at others g Validate c f within counted = validates others c.settings.max_core_instances g (memories_refused c.settings (memories_asked f.asked)) c (in_phase Validate f) (omega (arith, within))
+  admits_at others g Validate c f within counted = validates others c.settings.max_core_instances g (memories_refused c.settings (memories_wanted f.asked)) c (in_phase Validate f) (omega (arith, within))
   admits_at others g CountInstance c f within counted =
       let most : ℕ = c.settings.max_core_instances in
       let one_more : PoolCore P = counting_instances (c.counters.core_instances + 1) c in
@@ -172,25 +172,23 @@ module _ {P : Type 0} (others : ℕ) (c : PoolCore P) (p : RunningParty P) (with
   abbrev pub StaysWithin : Turned P → Type 0
   StaysWithin t = others + admitted t.party ≤ c.settings.max_core_instances
 
-  at_once : (reply : Reply) (t : Turned P) → t ≡ replies reply c p → StaysWithin t
+  at_once : (reply : Reply) (t : Turned P) → t ≡ ended_with reply c p → StaysWithin t
   at_once reply t is = subst StaysWithin (sym is) within
 
   -- a step of a call that begins
   begun : (q : RunningParty P) (t : Turned P) → admitted q ≤ admitted p → Steps c q t → StaysWithin t
   begun q t less steps = step_within others c q t steps (omega (arith, less, within)) (omega (arith, less, counted))
 
-  looks : (Looks : PrivateMemory → Reply → Type 0) (k : ℕ) (x : Option (Grant P)) (t : Turned P) → LooksAt Looks x k c p t → StaysWithin t
-  looks Looks k x t is = let seen = looked c p Looks k x t is in at_once seen.0 t seen.1
-
   -- A grant of which a memory moved stays one.
-  moves : (Moves : MemoryState → MemoryState → Reply → Type 0) (of k : ℕ) (t : Turned P) → MovesIn Moves (slice_index_or p.live of None) of k c p t → StaysWithin t
-  moves Moves of k t is =
-      elim (moved c p Moves of k (slice_index_or p.live of None) t is) [
-        | inl same ↦ at_once same.0 t same.1
+  moves : (Move : Lease → Lease → Reply → Type 0) → KeepsIndex Move → (of k : ℕ) (t : Turned P) → MovesLive Move of k c p t → StaysWithin t
+  moves Move keeps of k t is =
+      let With : List (Option (Grant P)) → Turned P = λ live. ended_with is.0 c (record p { live = live }) in
+      elim (moved Move keeps of k p.live is.1 is.0 is.2) [
+        | inl same ↦ at_once is.0 t (is.3 ∙ ap With same)
         | inr m ↦
             let one : granted_to grant_instances (slice_index_or p.live of None) ≡ 1 = ap (granted_to grant_instances) m.granted in
-            let new : Grant P = with_lease k m.new (instance m.lease) in
-            subst StaysWithin (sym m.is) (omega (arith, within, one, replaced grant_instances p.live of (Some new)))
+            let new : Grant P = with_lease k m.changed (instance m.lease) in
+            subst StaysWithin (sym (is.3 ∙ ap With m.is)) (omega (arith, within, one, replaced grant_instances p.live of (Some new)))
       ]
 
   -- A grant that is given back isn't one any more.
@@ -211,11 +209,11 @@ module _ {P : Type 0} (others : ℕ) (c : PoolCore P) (p : RunningParty P) (with
 
   begins : (modules : List ModuleCall) (command : Command) (t : Turned P) → Begins modules command c p t → StaysWithin t
   begins modules (command.Instantiate number) t is = asks_for (slice_get modules number) t is
-  begins modules (command.Read of k i len) t is = looks (λ m. IsRead m i len) k (slice_index_or p.live of None) t is
-  begins modules (command.Write of k i bytes) t is = moves (MemoryWrites i bytes) of k t is
-  begins modules (command.Fill of k i len byte) t is = moves (MemoryWrites i (replicate len byte)) of k t is
-  begins modules (command.Grow of k pages) t is = moves (MemoryGrows (rule_of p.limits) pages) of k t is
-  begins modules (command.Size of k) t is = looks IsSize k (slice_index_or p.live of None) t is
+  begins modules (command.Read of k i len) t is = moves (Looks (λ l. IsRead (private_memory l) i len)) (looks_index (λ l. IsRead (private_memory l) i len)) of k t is
+  begins modules (command.Write of k i bytes) t is = moves (LeaseMoves (MemoryWrites i bytes)) (moves_index (MemoryWrites i bytes)) of k t is
+  begins modules (command.Fill of k i len byte) t is = moves (LeaseMoves (MemoryWrites i (replicate len byte))) (moves_index (MemoryWrites i (replicate len byte))) of k t is
+  begins modules (command.Grow of k pages) t is = moves (LeaseMoves (MemoryGrows (rule_of p.limits) pages)) (moves_index (MemoryGrows (rule_of p.limits) pages)) of k t is
+  begins modules (command.Size of k) t is = moves (Looks (λ l. IsSize (private_memory l))) (looks_index (λ l. IsSize (private_memory l))) of k t is
   begins modules (command.Drop of) t is = returns of (slice_index_or p.live of None) t is
 
   begins_keyed : (keyed : Bool) (modules : List ModuleCall) (next : Option Command) (t : Turned P) → BeginsKeyed keyed modules next c p t → StaysWithin t

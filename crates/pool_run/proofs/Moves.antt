@@ -1,144 +1,111 @@
 -- What a move makes of a memory is what it makes of the private one, and the memory stays in its slot.
-use Rattle.std.proofs.Common.{◌≡◌, ℕ, ◌+◌, ◌-◌, ◌<◌, ◌≤◌, Bool, true, false, List, length, ◌++◌, replicate, Option, Some, None, Result, Ok, Err, ◌⊎◌, inl, inr, refl, sym, ap, ◌∙◌, subst}
-use Rattle.std.specs.Prelude.{◌==◌, ◌||◌, ◌&&◌, not, nat_le, nat_lt, if◌then◌else◌, IfSome, is_some, option_map, slice_get, slice_set}
+use Rattle.std.proofs.Common.{◌≡◌, ℕ, ◌+◌, ◌-◌, ◌<◌, ◌≤◌, Bool, true, false, List, length, ◌++◌, replicate, Option, Some, None, Result, Ok, Err, refl, sym, ap, ◌∙◌, subst}
+use Rattle.std.specs.Prelude.{◌==◌, ◌||◌, ◌&&◌, not, nat_le, nat_lt, if◌then◌else◌, IfSome, option_map}
 use Rattle.std.proofs.lemmas.Bool.{leb-true, leb-false, ltb-false}
-use Rattle.pool_pages.specs.Contents.{Contents, written}
-use Rattle.pool_pages.specs.Count.{Count, rounded_up}
+use Rattle.pool_pages.specs.Contents.{written}
+use Rattle.pool_pages.specs.Count.{rounded_up}
 use Rattle.pool_pages.specs.MakerTold.{MakerTold, plan_for}
 use Rattle.pool_pages.specs.MemoryTypes.{allow_growth_to}
-use Rattle.pool_pages.specs.Told.{Told, PageCall, MayChangePartly}
 use Rattle.pool_pages.specs.declared.pages.DecommitBehavior.{DecommitBehavior}
-use Rattle.pool_pages.specs.declared.pages.RegionName.TheVariants.{Memory as memory_region}
-use Rattle.pool_images.specs.Slots.{Slot, called, raising, raised, limited}
+use Rattle.pool_pages.specs.declared.pages.RegionName.TheVariants.{Memory as memory_region, OnDemand}
+use Rattle.pool_images.specs.Slots.{Slot, SlotIdentity, identity, raising, raised, limited}
 use Rattle.pool_limits.specs.Growth.{GrowthRule, always, limited_by, memory_answer, memory_failure}
 use Rattle.pool_limits.specs.LimiterTold.{LimiterTold}
+use Rattle.pool_limits.specs.Growing.{GrowthGiven, is_want_of_memory, report_result, result_by, pages_result, answer_result}
 use Rattle.pool_limits.specs.declared.errors.GrowError.{GrowError}
 use Rattle.pool_limits.specs.declared.errors.GrowError.TheVariants as failed
 use Rattle.pool_limits.specs.declared.errors.GrowFault.{GrowFault}
 use Rattle.pool_limits.specs.declared.errors.LimiterError.{LimiterError}
 use Rattle.pool_limits.specs.declared.errors.Trap.TheVariants.{MemoryOutOfBounds}
-use Rattle.pool_memory.specs.Growing.{InPlace, FailsInPlace, grown_size, exceeds, past_room, Given, IsGrowth, is_memory, report_reply, reply_by, pages_reply, answer_reply, PagesLeave, AnswerLeaves, LeavesBy}
-use Rattle.pool_memory.specs.Linear.{Storage, in_slot, stored, slot_in, no_slot, storage_written, Linear, linear_bytes}
+use Rattle.pool_memory.specs.Growing.{InPlace, FailsInPlace, grown_size, exceeds, past_room, IsGrowth, PagesLeave, AnswerLeaves, LeavesBy}
+use Rattle.pool_memory.specs.Linear.{Storage, in_slot, stored, slot_in, storage_written, Linear, linear_bytes}
 use Rattle.pool_memory.specs.Making.{maximum_asked}
 use Rattle.pool_memory.specs.Memories.{MemoryState, slot_of, memory_written as state_written}
-use Rattle.pool_slots.specs.Cells.{IsSlotOf}
 use Rattle.pool_alloc.specs.Leases.{Lease}
-use Rattle.pool_alloc.specs.Sound.{IsLeaseOf}
-use Rattle.pool_alloc.specs.declared.pool_core.PoolCore.{PoolCore}
+use Rattle.pool_alloc.specs.Sound.{IsLeaseOf, IsPoolSlot}
 use Rattle.pool_alloc.specs.declared.pool_core.Settings.{Settings}
-use Rattle.pool_alloc.specs.declared.frame.Grant.{Grant}
-use Rattle.pool_alloc.specs.declared.frame.Grant.TheVariants.{Instance as instance}
-use Rattle.pool_alloc.specs.declared.lease.InstanceLease.{InstanceLease}
-use Rattle.pool_alloc.proofs.SlotIdentity.{IsOneSlot, one_slot, one_called, slot_of_one}
-use Rattle.pool_run.specs.Private.{World, PrivateMemory, Writes, Grows, memory_grown, grown_by, reported, if_allowed}
-use Rattle.pool_run.specs.Turns.{Turned, seen_as, private_memory, MemoryWrites, MemoryGrows, LeaseMoves, growth_reply, leases_of, replies, LooksAtLease, LooksAt, with_lease, MovesLease, MovesIn}
+use Rattle.pool_images.proofs.Identity.{told_same, same_called, same_faulted}
+use Rattle.pool_alloc.proofs.SlotIdentity.{IsOneSlot, slot_of_one}
+use Rattle.pool_run.specs.Private.{PrivateMemory, Writes, memory_grown, grown_by, reported, if_allowed}
+use Rattle.pool_run.specs.Turns.{seen_as, private_memory, MemoryWrites, MemoryGrows, LeaseMoves, growth_reply}
 use Rattle.pool_run.specs.declared.reply.Reply.{Reply}
-use Rattle.pool_run.specs.declared.reply.Reply.TheVariants.{Done, Grown, Refused, Trap}
-use Rattle.pool_run.specs.declared.reply.Refusal.TheVariants.{NoSuchGrant}
-use Rattle.pool_run.specs.declared.running_party.RunningParty.{RunningParty}
+use Rattle.pool_run.specs.declared.reply.Reply.TheVariants.{Done, Grown, Trap}
 use Rattle.pool_run.proofs.Bytes.{written_seen}
 
 -- a move leaves the memory in its slot
 abbrev pub KeepsSlot : MakerTold → Settings → (MemoryState → MemoryState → Reply → Type 0) → Type 0
-KeepsSlot maker s Moves = (l : Lease) (new : MemoryState) (reply : Reply) → IsLeaseOf maker s l → Moves l.memory new reply → IsSlotOf maker s.behaviour s.max_memory_size l.index (slot_of new)
+KeepsSlot maker s Moves = (l : Lease) (new : MemoryState) (reply : Reply) → IsLeaseOf maker s l → Moves l.memory new reply → IsPoolSlot maker s.behaviour s.max_memory_size l.index (slot_of new)
 
 -- and is one of the private memory
-abbrev pub IsSeen : World → Settings → (MemoryState → MemoryState → Reply → Type 0) → (PrivateMemory → PrivateMemory → Reply → Type 0) → Type 0
-IsSeen w s Moves Sees = (l : Lease) (new : MemoryState) (reply : Reply) → IsLeaseOf w.maker s l → Moves l.memory new reply → Sees (private_memory l) (seen_as l.index new) reply
+abbrev pub IsSeen : MakerTold → Settings → (MemoryState → MemoryState → Reply → Type 0) → (PrivateMemory → PrivateMemory → Reply → Type 0) → Type 0
+IsSeen maker s Moves Sees = (l : Lease) (new : MemoryState) (reply : Reply) → IsLeaseOf maker s l → Moves l.memory new reply → Sees (private_memory l) (seen_as l.index new) reply
 
 -- A lease that moved stays one of the pool.
 pub lease_still : (maker : MakerTold) (s : Settings) (Moves : MemoryState → MemoryState → Reply → Type 0) (l new : Lease) (reply : Reply) → KeepsSlot maker s Moves → IsLeaseOf maker s l → LeaseMoves Moves l new reply → IsLeaseOf maker s new
 lease_still maker s Moves l new reply keeps of moves =
-    let S : ℕ → Type 0 = λ k. IsSlotOf maker s.behaviour s.max_memory_size k (slot_of new.memory) in
+    let S : ℕ → Type 0 = λ k. IsPoolSlot maker s.behaviour s.max_memory_size k (slot_of new.memory) in
     record { slot = subst S (sym moves.index) (keeps l new.memory reply of moves.move); memory = moves.memory }
-
-tells_still : (f : Contents → Contents) (o : Option Contents) → is_some (option_map f o) ≡ is_some o
-tells_still f None = refl
-tells_still f (Some c) = refl
 
 -- a write leaves the slot
 written_still : (i : ℕ) (new : List ℕ) (st : Storage) → IsOneSlot (slot_in st) (slot_in (storage_written i new st))
-written_still i new (stored len bytes) = one_slot no_slot
-written_still i new (in_slot s) = record { base = refl; static_size = refl; colour = refl; name = refl; page = refl; len = refl; behaviour = refl; plan = refl; tells = tells_still (written (s.base.bytes + i) new) s.region.contents }
+written_still i new (stored len bytes) = refl
+written_still i new (in_slot s) = ap (λ (b : Bool). record (identity s) { tells = b }) (told_same (written (s.base.bytes + i) new) s.region.contents)
 
-writes_by : (maker : MakerTold) (behaviour : DecommitBehavior) (room i : ℕ) (bytes : List ℕ) (l : Lease) (new : MemoryState) (reply : Reply) (b : Bool) → IsSlotOf maker behaviour room l.index (slot_of l.memory) → nat_le (i + length bytes) l.memory.linear.size ≡ b → ◌≡◌ {A = MemoryState × Reply} (new, reply) (if b then (state_written i bytes l.memory, Done) else (l.memory, Trap MemoryOutOfBounds))
-    → IsSlotOf maker behaviour room l.index (slot_of new) × Writes i bytes (private_memory l) (seen_as l.index new) reply
+writes_by : (maker : MakerTold) (behaviour : DecommitBehavior) (room i : ℕ) (bytes : List ℕ) (l : Lease) (new : MemoryState) (reply : Reply) (b : Bool) → IsPoolSlot maker behaviour room l.index (slot_of l.memory) → nat_le (i + length bytes) l.memory.linear.size ≡ b → ◌≡◌ {A = MemoryState × Reply} (new, reply) (if b then (state_written i bytes l.memory, Done) else (l.memory, Trap MemoryOutOfBounds))
+    → IsPoolSlot maker behaviour room l.index (slot_of new) × Writes i bytes (private_memory l) (seen_as l.index new) reply
 writes_by maker behaviour room i bytes l new reply true of fits is =
-    let W : MemoryState × Reply → Type 0 = λ p. IsSlotOf maker behaviour room l.index (slot_of p.0) × Writes i bytes (private_memory l) (seen_as l.index p.0) p.1 in
+    let W : MemoryState × Reply → Type 0 = λ p. IsPoolSlot maker behaviour room l.index (slot_of p.0) × Writes i bytes (private_memory l) (seen_as l.index p.0) p.1 in
     let within : i + length bytes ≤ l.memory.linear.size = leb-true (i + length bytes) l.memory.linear.size fits in
     subst W (sym is) (
       slot_of_one maker behaviour room l.index (slot_of l.memory) (slot_of (state_written i bytes l.memory)) (written_still i bytes l.memory.linear.storage) of,
-      (within, written_seen i bytes l (ap (λ (n : Count). n.bytes) of.base) within),
+      (within, written_seen i bytes l (ap (λ (z : SlotIdentity). z.base.bytes) of.same) within),
     )
 writes_by maker behaviour room i bytes l new reply false of past is =
-    let W : MemoryState × Reply → Type 0 = λ p. IsSlotOf maker behaviour room l.index (slot_of p.0) × Writes i bytes (private_memory l) (seen_as l.index p.0) p.1 in
+    let W : MemoryState × Reply → Type 0 = λ p. IsPoolSlot maker behaviour room l.index (slot_of p.0) × Writes i bytes (private_memory l) (seen_as l.index p.0) p.1 in
     subst W (sym is) (of, (refl, leb-false (i + length bytes) l.memory.linear.size past, refl))
 
 pub writes_stay : (maker : MakerTold) (s : Settings) (i : ℕ) (bytes : List ℕ) → KeepsSlot maker s (MemoryWrites i bytes)
 writes_stay maker s i bytes l new reply of is = (writes_by maker s.behaviour s.max_memory_size i bytes l new reply (nat_le (i + length bytes) l.memory.linear.size) of.slot refl is).0
 
-pub writes_seen : (w : World) (s : Settings) (i : ℕ) (bytes : List ℕ) → IsSeen w s (MemoryWrites i bytes) (Writes i bytes)
-writes_seen w s i bytes l new reply of is = (writes_by w.maker s.behaviour s.max_memory_size i bytes l new reply (nat_le (i + length bytes) l.memory.linear.size) of.slot refl is).1
+pub writes_seen : (maker : MakerTold) (s : Settings) (i : ℕ) (bytes : List ℕ) → IsSeen maker s (MemoryWrites i bytes) (Writes i bytes)
+writes_seen maker s i bytes l new reply of is = (writes_by maker s.behaviour s.max_memory_size i bytes l new reply (nat_le (i + length bytes) l.memory.linear.size) of.slot refl is).1
 
 -- a growth in its place
 one_raised : (size : ℕ) (s : Slot) → IsOneSlot s (raised size s)
-one_raised size s =
-    let one : IsOneSlot s (called (raising size s) s) = one_called s s (raising size s) (one_slot s) in
-    record { base = one.base; static_size = one.static_size; colour = one.colour; name = one.name; page = one.page; len = one.len; behaviour = one.behaviour; plan = one.plan; tells = one.tells }
+one_raised size s = same_called (raising size s) s
 
 one_limited : (size : ℕ) (s : Slot) (b : Bool) → IsOneSlot s (if b then raised size s else s)
 one_limited size s true = one_raised size s
-one_limited size s false = one_slot s
-
-partly_tells : (call : PageCall) (old new : Option Contents) → MayChangePartly call old new → is_some new ≡ is_some old
-partly_tells call None None is = refl
-partly_tells call None (Some c) is = absurd is
-partly_tells call (Some c) None is = absurd is
-partly_tells call (Some c) (Some d) is = refl
+one_limited size s false = refl
 
 module _ (maker : MakerTold) (behaviour : DecommitBehavior) (room i : ℕ) where
-  in_place : (size : ℕ) (st : Storage) (old new : Linear) → IsSlotOf maker behaviour room i (slot_in st) → InPlace size st old new → IsSlotOf maker behaviour room i (slot_in new.storage) × (new.capacity ≡ old.capacity)
-  in_place size (stored len bytes) old new of is = absurd cc
+  in_place : (size : ℕ) (st : Storage) (old new : Linear) → IsPoolSlot maker behaviour room i (slot_in st) → InPlace size st old new → IsPoolSlot maker behaviour room i (slot_in new.storage) × (new.capacity ≡ old.capacity)
+  in_place size (stored len bytes) old new of is = let wrong : OnDemand 0 ≡ memory_region i = ap (λ (z : SlotIdentity). z.name) of.same in absurd cc
   in_place size (in_slot s) old new of is =
-      let S : Linear → Type 0 = λ l. IsSlotOf maker behaviour room i (slot_in l.storage) × (l.capacity ≡ old.capacity) in
+      let S : Linear → Type 0 = λ l. IsPoolSlot maker behaviour room i (slot_in l.storage) × (l.capacity ≡ old.capacity) in
       subst S (sym is) (slot_of_one maker behaviour room i s (limited size s) (one_limited (rounded_up s.region.page size) s (nat_lt s.accessible.bytes (rounded_up s.region.page size))) of, refl)
 
   -- one that fails does so by a call on the slot's region
-  faulted : (e : GrowError) (size : ℕ) (st left : Storage) → IsSlotOf maker behaviour room i (slot_in st) → FailsInPlace e size st left → (e ≡ failed.PageFault) × IsSlotOf maker behaviour room i (slot_in left) × IfSome (plan_for (memory_region i) maker) (λ plan. 0 < length plan)
-  faulted e size (stored len bytes) left of is = absurd cc
+  faulted : (e : GrowError) (size : ℕ) (st left : Storage) → IsPoolSlot maker behaviour room i (slot_in st) → FailsInPlace e size st left → (e ≡ failed.PageFault) × IsPoolSlot maker behaviour room i (slot_in left) × IfSome (plan_for (memory_region i) maker) (λ plan. 0 < length plan)
+  faulted e size (stored len bytes) left of is = let wrong : OnDemand 0 ≡ memory_region i = ap (λ (z : SlotIdentity). z.name) of.same in absurd cc
   faulted e size (in_slot s) (stored len bytes) of is = absurd is
   faulted e size (in_slot s) (in_slot t) of is =
-      let slot : t ≡ record s { region = t.region } = is.1.same in
-      let region = is.1.region in
-      let Q : Option (List ℕ) → Type 0 = λ o. IfSome o (λ plan. 0 < length plan) in (
-        is.0,
-        slot_of_one maker behaviour room i s t (record {
-          base = ap (λ (x : Slot). x.base) slot;
-          static_size = ap (λ (x : Slot). x.static_size) slot;
-          colour = ap (λ (x : Slot). x.colour) slot;
-          name = ap (λ (x : Told). x.name) region.same;
-          page = ap (λ (x : Told). x.page) region.same;
-          len = ap (λ (x : Told). x.len) region.same;
-          behaviour = ap (λ (x : Told). x.behaviour) region.same;
-          plan = ap (λ (x : Told). x.plan) region.same;
-          tells = partly_tells (raising (rounded_up s.region.page size) s) s.region.contents t.region.contents region.partly;
-        }) of,
-        subst Q of.region.plan region.listed,
-      )
+      let Q : Option (List ℕ) → Type 0 = λ o. IfSome o (λ plan. 0 < length plan) in
+      (is.0, slot_of_one maker behaviour room i s t (same_faulted (raising (rounded_up s.region.page size) s) s t is.1) of, subst Q (ap (λ (z : SlotIdentity). z.plan) of.same) is.1.region.listed)
 
-reported_seen : (r : Result (Unit {0}) LimiterError) → growth_reply (report_reply false r) ≡ reported r
+reported_seen : (r : Result (Unit {0}) LimiterError) → growth_reply (report_result false r) ≡ reported r
 reported_seen (Ok u) = refl
 reported_seen (Err e) = refl
 
 -- a growth of this memory leaves this, if a call on pages failed or not
 record IsGrownAs (maker : MakerTold) (behaviour : DecommitBehavior) (room : ℕ) (l : Lease) (new : MemoryState) (reply : Reply) (outcome : Bool → PrivateMemory × Reply) : Type 0 where
-  still : IsSlotOf maker behaviour room l.index (slot_of new)
+  still : IsPoolSlot maker behaviour room l.index (slot_of new)
   fault : Bool
   may : fault ≡ true → IfSome (plan_for (memory_region l.index) maker) (λ plan. 0 < length plan)
   is : (seen_as l.index new, reply) ≡ outcome fault
 
 -- the lease of a memory in its slot, which is left with this
-module _ (maker : MakerTold) (behaviour : DecommitBehavior) (room size : ℕ) (l : Lease) (new : Linear) (of : IsSlotOf maker behaviour room l.index (slot_of l.memory)) where
+module _ (maker : MakerTold) (behaviour : DecommitBehavior) (room size : ℕ) (l : Lease) (new : Linear) (of : IsPoolSlot maker behaviour room l.index (slot_of l.memory)) where
   abbrev left_as : MemoryState
   left_as = record l.memory { linear = new }
 
@@ -156,7 +123,7 @@ module _ (maker : MakerTold) (behaviour : DecommitBehavior) (room size : ℕ) (l
   abbrev with_parts : ℕ → ℕ → Option (List ℕ) → PrivateMemory
   with_parts n capacity bytes = record { slot = l.index; ty = l.memory.ty; size = n; capacity = capacity; bytes = bytes }
 
-  pages_seen : (failure : Option GrowError) (report : Result (Unit {0}) LimiterError) → size ≤ l.memory.linear.capacity → PagesLeave failure size l.memory.linear new → IsGrownAs maker behaviour room l left_as (growth_reply (pages_reply l.memory.linear.size failure report)) (λ fault. if false || fault then failing report else growing)
+  pages_seen : (failure : Option GrowError) (report : Result (Unit {0}) LimiterError) → size ≤ l.memory.linear.capacity → PagesLeave failure size l.memory.linear new → IsGrownAs maker behaviour room l left_as (growth_reply (pages_result l.memory.linear.size failure report)) (λ fault. if false || fault then failing report else growing)
   pages_seen None report within grows =
       let kept = in_place maker behaviour room l.index size l.memory.linear.storage l.memory.linear new of (grows.in_place within) in
       let bytes : linear_bytes new ≡ option_map (λ b. b ++ replicate {A = ℕ} (size - l.memory.linear.size) 0) (linear_bytes l.memory.linear) = sym grows.bytes in
@@ -167,19 +134,19 @@ module _ (maker : MakerTold) (behaviour : DecommitBehavior) (room size : ℕ) (l
       let fault = faulted maker behaviour room l.index e size l.memory.linear.storage new.storage of (fails.in_place within) in
       let seen : seen_as l.index left_as ≡ private_memory l =
       ap (λ (n : ℕ). with_parts n new.capacity (linear_bytes new)) fails.same_size ∙ ap (λ (n : ℕ). with_parts l.memory.linear.size n (linear_bytes new)) fails.capacity ∙ ap (λ (b : Option (List ℕ)). with_parts l.memory.linear.size l.memory.linear.capacity b) fails.bytes in
-      let Answer : Bool → Reply = λ b. growth_reply (report_reply b report) in
-      let reply : growth_reply (report_reply (is_memory e) report) ≡ reported report = ap (λ (x : GrowError). Answer (is_memory x)) fault.0 ∙ reported_seen report in
-      record { still = fault.1; fault = true; may = λ yes. fault.2; is = ap (λ (m : PrivateMemory). (m, growth_reply (report_reply (is_memory e) report))) seen ∙ ap (λ (r : Reply). (private_memory l, r)) reply }
+      let Answer : Bool → Reply = λ b. growth_reply (report_result b report) in
+      let reply : growth_reply (report_result (is_want_of_memory e) report) ≡ reported report = ap (λ (x : GrowError). Answer (is_want_of_memory x)) fault.0 ∙ reported_seen report in
+      record { still = fault.1; fault = true; may = λ yes. fault.2; is = ap (λ (m : PrivateMemory). (m, growth_reply (report_result (is_want_of_memory e) report))) seen ∙ ap (λ (r : Reply). (private_memory l, r)) reply }
 
   allowed_seen : (past : Bool) (answer : Result Bool LimiterError) (failure : Option GrowError) (report : Result (Unit {0}) LimiterError) → (past ≡ false → size ≤ l.memory.linear.capacity) → AnswerLeaves past answer failure size l.memory.linear new
-      → IsGrownAs maker behaviour room l left_as (growth_reply (answer_reply l.memory.linear.size past answer failure report)) (λ fault. if_allowed answer (private_memory l) (if past || fault then failing report else growing))
+      → IsGrownAs maker behaviour room l left_as (growth_reply (answer_result l.memory.linear.size past answer failure report)) (λ fault. if_allowed answer (private_memory l) (if past || fault then failing report else growing))
   allowed_seen past (Err e) failure report within same = unchanged _ (λ fault. if_allowed (Err e) (private_memory l) (if past || fault then failing report else growing)) refl same
   allowed_seen past (Ok false) failure report within same = unchanged _ (λ fault. if_allowed (Ok false) (private_memory l) (if past || fault then failing report else growing)) refl same
   allowed_seen true (Ok true) failure report within same = unchanged _ (λ fault. failing report) (ap (λ (r : Reply). (private_memory l, r)) (reported_seen report)) same
   allowed_seen false (Ok true) failure report within leaves = pages_seen failure report (within refl) leaves
 
-  growth_seen : (nothing past_type past : Bool) (g : Given) → (past ≡ false → size ≤ l.memory.linear.capacity) → LeavesBy nothing past_type past g size l.memory.linear new
-      → IsGrownAs maker behaviour room l left_as (growth_reply (reply_by l.memory.linear.size nothing past_type past g))
+  growth_seen : (nothing past_type past : Bool) (g : GrowthGiven) → (past ≡ false → size ≤ l.memory.linear.capacity) → LeavesBy nothing past_type past g size l.memory.linear new
+      → IsGrownAs maker behaviour room l left_as (growth_reply (result_by l.memory.linear.size nothing past_type past g))
       (λ fault. if nothing then (private_memory l, Grown (Some l.memory.linear.size)) else (if past_type then failing g.report else if_allowed g.answer (private_memory l) (if past || fault then failing g.report else growing)))
   growth_seen true past_type past g within same = unchanged _ (λ fault. (private_memory l, Grown (Some l.memory.linear.size))) refl same
   growth_seen false true past g within same = unchanged _ (λ fault. failing g.report) (ap (λ (r : Reply). (private_memory l, r)) (reported_seen g.report)) same
@@ -199,25 +166,24 @@ right_of true b is = absurd cc
 right_of false b is = is
 
 -- A growth over a limiter that tells this rule.
-grown_as : (maker : MakerTold) (behaviour : DecommitBehavior) (room pages : ℕ) (rule : GrowthRule) (l : Lease) (new : MemoryState) (asked left : LimiterTold) (answer : Result (Option ℕ) GrowFault) → IsSlotOf maker behaviour room l.index (slot_of l.memory) → l.memory.may_move ≡ false → asked.rule ≡ Some rule → IsGrowth pages l.memory.linear.size l.memory new asked left answer
+grown_as : (maker : MakerTold) (behaviour : DecommitBehavior) (room pages : ℕ) (rule : GrowthRule) (l : Lease) (new : MemoryState) (g : GrowthGiven) (asked left : LimiterTold) (answer : Result (Option ℕ) GrowFault) → IsPoolSlot maker behaviour room l.index (slot_of l.memory) → l.memory.may_move ≡ false → asked.rule ≡ Some rule → IsGrowth g pages l.memory.linear.size l.memory new asked left answer
     → IsGrownAs maker behaviour room l new (growth_reply answer) (λ fault. grown_by rule fault pages (private_memory l))
-grown_as maker behaviour room pages rule l new asked left answer of fixed told growth =
+grown_as maker behaviour room pages rule l new g asked left answer of fixed told growth =
     let m : MemoryState = l.memory in
     let size : ℕ = grown_size pages m in
     let most : Option ℕ = maximum_asked m.ty in
     let past : Bool = exceeds most size || nat_lt m.linear.capacity size in
-    let g : Given = growth.given in
     let nothing : Bool = pages == 0 in
     let past_type : Bool = not (allow_growth_to m.ty size) in
     let here : past_room size m ≡ past = ap (λ (b : Bool). exceeds most size || (not b && nat_lt m.linear.capacity size)) fixed in
     let Leaves : Bool → Type 0 = λ b. LeavesBy nothing past_type b g size m.linear new.linear in
     let within : past ≡ false → size ≤ m.linear.capacity = λ no. ltb-false m.linear.capacity size (right_of (exceeds most size) (nat_lt m.linear.capacity size) no) in
     let seen = growth_seen maker behaviour room size l new.linear of nothing past_type past g within (subst Leaves here growth.linear) in
-    let replies : answer ≡ reply_by m.linear.size nothing past_type past g = growth.replies ∙ ap (λ (b : Bool). reply_by m.linear.size nothing past_type b g) here in
+    let replies : answer ≡ result_by m.linear.size nothing past_type past g = growth.ruled.replies ∙ ap (λ (b : Bool). result_by m.linear.size nothing past_type b g) here in
     let Outcome : Result Bool LimiterError → Result (Unit {0}) LimiterError → Bool → PrivateMemory × Reply =
     λ a r fault. if nothing then (private_memory l, Grown (Some m.linear.size)) else (if past_type then (private_memory l, reported r) else if_allowed a (private_memory l) (if past || fault then (private_memory l, reported r) else (memory_grown size (private_memory l), Grown (Some m.linear.size)))) in
-    let told_answer : g.answer ≡ memory_answer (Some rule) (Ok true) size most = answer_told rule asked.rule g.answer size most told growth.answer in
-    let told_report : g.report ≡ memory_failure (Some rule) (Ok tt) = failure_told rule asked.rule g.report told growth.report in
+    let told_answer : g.answer ≡ memory_answer (Some rule) (Ok true) size most = answer_told rule asked.rule g.answer size most told growth.ruled.answer in
+    let told_report : g.report ≡ memory_failure (Some rule) (Ok tt) = failure_told rule asked.rule g.report told growth.ruled.report in
     let G : MemoryState → Type 0 = λ x. IsGrownAs maker behaviour room l x (growth_reply answer) (λ fault. grown_by rule fault pages (private_memory l)) in
     let R : Result (Option ℕ) GrowFault → Type 0 = λ r. IsGrownAs maker behaviour room l (record m { linear = new.linear }) (growth_reply r) (λ fault. grown_by rule fault pages (private_memory l)) in
     subst G (sym growth.memory) (subst R (sym replies) (record {
@@ -228,40 +194,14 @@ grown_as maker behaviour room pages rule l new asked left answer of fixed told g
     }))
 
 pub grows_stay : (maker : MakerTold) (s : Settings) (rule : GrowthRule) (pages : ℕ) → KeepsSlot maker s (MemoryGrows rule pages)
-grows_stay maker s rule pages l new reply of is = (grown_as maker s.behaviour s.max_memory_size pages rule l new is.0 is.1 is.2 of.slot of.memory.fixed is.3 is.4).still
+grows_stay maker s rule pages l new reply of is = (grown_as maker s.behaviour s.max_memory_size pages rule l new is.0 is.1 is.2 is.3 of.slot of.memory.fixed is.4 is.5).still
 
-pub grows_seen : (w : World) (s : Settings) (rule : GrowthRule) (pages : ℕ) → rule ≡ w.rule → IsSeen w s (MemoryGrows rule pages) (Grows w pages)
-grows_seen w s rule pages ruled l new reply of is =
-    let grown = grown_as w.maker s.behaviour s.max_memory_size pages w.rule l new is.0 is.1 is.2 of.slot of.memory.fixed (is.3 ∙ ap (λ (r : GrowthRule). Some r) ruled) is.4 in
-    let M : Reply → Type 0 = λ r. Grows w pages (private_memory l) (seen_as l.index new) r in
-    subst M (sym is.5) (grown.fault, grown.may, grown.is)
+-- a growth as it is seen, in which a call fails only where the plan of the slot's region lists one
+abbrev pub GrowsSeen : MakerTold → GrowthRule → ℕ → PrivateMemory → PrivateMemory → Reply → Type 0
+GrowsSeen maker rule pages m new reply = (fault : Bool) × ((new, reply) ≡ grown_by rule fault pages m) × (fault ≡ true → IfSome (plan_for (memory_region m.slot) maker) (λ plan. 0 < length plan))
 
--- what a turn leaves that begins with such a command
-module _ {P : Type 0} (c : PoolCore P) (p : RunningParty P) where
-  lease_looked : (Looks : PrivateMemory → Reply → Type 0) (y : Option Lease) (t : Turned P) → LooksAtLease Looks y c p t → (reply : Reply) × (t ≡ replies reply c p)
-  lease_looked Looks None t is = (Refused NoSuchGrant, is)
-  lease_looked Looks (Some l) t is = (is.0, is.2)
-
-  -- nothing but the reply
-  pub looked : (Looks : PrivateMemory → Reply → Type 0) (k : ℕ) (x : Option (Grant P)) (t : Turned P) → LooksAt Looks x k c p t → (reply : Reply) × (t ≡ replies reply c p)
-  looked Looks k None t is = (Refused NoSuchGrant, is)
-  looked Looks k (Some grant) t is = lease_looked Looks (slice_get (leases_of grant) k) t is
-
-  -- or another lease in the place of one
-  pub record IsMoved (x : Option (Grant P)) (of k : ℕ) (t : Turned P) : Type 0 where
-    pub lease : InstanceLease P
-    pub old : Lease
-    pub new : Lease
-    pub reply : Reply
-    pub granted : x ≡ Some (instance lease)
-    pub there : slice_get lease.memories.items k ≡ Some old
-    pub index : new.index ≡ old.index
-    pub is : t ≡ replies reply c (record p { live = slice_set p.live of (Some (with_lease k new (instance lease))) })
-
-  lease_moved : (Moves : MemoryState → MemoryState → Reply → Type 0) (of k : ℕ) (lease : InstanceLease P) (y : Option Lease) (t : Turned P) → slice_get lease.memories.items k ≡ y → MovesLease Moves y of (instance lease) k c p t → ((reply : Reply) × (t ≡ replies reply c p)) ⊎ IsMoved (Some (instance lease)) of k t
-  lease_moved Moves of k lease None t there is = inl (Refused NoSuchGrant, is)
-  lease_moved Moves of k lease (Some l) t there is = inr (record { lease = lease; old = l; new = is.0; reply = is.1; granted = refl; there = there; index = is.2.index; is = is.3 })
-
-  pub moved : (Moves : MemoryState → MemoryState → Reply → Type 0) (of k : ℕ) (x : Option (Grant P)) (t : Turned P) → MovesIn Moves x of k c p t → ((reply : Reply) × (t ≡ replies reply c p)) ⊎ IsMoved x of k t
-  moved Moves of k None t is = inl (Refused NoSuchGrant, is)
-  moved Moves of k (Some (instance lease)) t is = lease_moved Moves of k lease (slice_get lease.memories.items k) t refl is
+pub grows_seen : (maker : MakerTold) (s : Settings) (rule own : GrowthRule) (pages : ℕ) → rule ≡ own → IsSeen maker s (MemoryGrows rule pages) (GrowsSeen maker own pages)
+grows_seen maker s rule own pages ruled l new reply of is =
+    let grown = grown_as maker s.behaviour s.max_memory_size pages own l new is.0 is.1 is.2 is.3 of.slot of.memory.fixed (is.4 ∙ ap (λ (r : GrowthRule). Some r) ruled) is.5 in
+    let M : Reply → Type 0 = λ r. GrowsSeen maker own pages (private_memory l) (seen_as l.index new) r in
+    subst M (sym is.6) (grown.fault, grown.is, grown.may)

@@ -4,14 +4,15 @@ use Rattle.std.specs.Prelude.{◌==◌, if◌then◌else◌, IfSome, sum_by, sli
 use Rattle.std.proofs.lemmas.List.Elements.{All-set, All-get_or}
 use Rattle.std.proofs.lemmas.List.Sums.{sum_by-set}
 use Rattle.pool_pages.specs.MakerTold.{MakerTold}
-use Rattle.pool_alloc.specs.Places.{Thing, slot_of, region_of}
+use Rattle.pool_alloc.specs.Places.{Thing, right_to, region_of}
 use Rattle.pool_alloc.specs.Sound.{IsFrame, AreImagesOf}
 use Rattle.pool_alloc.specs.Modules.{HasImages}
-use Rattle.pool_alloc.specs.Calls.{IsIdle, IsGrant, MayBegin, begun_call, call_has}
+use Rattle.pool_alloc.specs.Calls.{IsIdle, IsGrant, MayBegin, begun_call}
+use Rattle.pool_alloc.proofs.BegunCalls.{call_has}
 use Rattle.pool_alloc.specs.Stepping.{CanStep, grant_count, grant_instances, grant_memories}
 use Rattle.pool_alloc.specs.declared.pool_core.PoolCore.{PoolCore}
 use Rattle.pool_alloc.specs.declared.pool_core.Settings.{Settings}
-use Rattle.pool_alloc.specs.Steps.{memories_asked, images_asked}
+use Rattle.pool_alloc.specs.Steps.{memories_wanted, images_wanted}
 use Rattle.pool_alloc.specs.declared.frame.ModuleCall.{ModuleCall}
 use Rattle.pool_alloc.specs.declared.frame.Ending.{Ending}
 use Rattle.pool_alloc.specs.declared.frame.Ending.TheVariants.{Returned as returned}
@@ -33,13 +34,13 @@ no_asks P true e is = absurd cc
 no_asks P false e is = absurd cc
 
 module _ {P : Type 0} where
-  grant_regions : (k : ℕ) (o : Option (Grant P)) → granted_to (grant_count (region_of k)) o ≡ granted_to (grant_count (slot_of k)) o
+  grant_regions : (k : ℕ) (o : Option (Grant P)) → granted_to (grant_count (region_of k)) o ≡ granted_to (grant_count (right_to k)) o
   grant_regions k None = refl
   grant_regions k (Some (instance lease)) = leased_regions k lease.memories.items
 
   -- The live grants have the region of each of their slots.
-  pub live_regions : (k : ℕ) (live : List (Option (Grant P))) → sum_by (granted_to (grant_count (region_of k))) live ≡ sum_by (granted_to (grant_count (slot_of k))) live
-  live_regions k live = sum_by_agree (granted_to (grant_count (region_of k))) (granted_to (grant_count (slot_of k))) (grant_regions k) live
+  pub live_regions : (k : ℕ) (live : List (Option (Grant P))) → sum_by (granted_to (grant_count (region_of k))) live ≡ sum_by (granted_to (grant_count (right_to k))) live
+  live_regions k live = sum_by_agree (granted_to (grant_count (region_of k))) (granted_to (grant_count (right_to k))) (grant_regions k) live
 
   -- The party's call can make its next step.
   pub can_step : (maker : MakerTold) (c : PoolCore P) (p : RunningParty P) → CanTurn maker c p → CanStep maker c p.frame
@@ -48,7 +49,7 @@ module _ {P : Type 0} where
     frame = can.party.sound.frame;
     fits = record {
       once = λ t. omega (arith, can.fits.once t);
-      home = λ k some. omega (arith, can.fits.home k (omega arith), can.fits.once (slot_of k), made_once (slot_of k) (length c.cells), live_regions k p.live);
+      home = λ k some. omega (arith, can.fits.home k (omega arith), can.fits.once (right_to k), made_once (right_to k) (length c.cells), live_regions k p.live);
       instances = omega (arith, can.fits.instances);
       memories = omega (arith, can.fits.memories);
     };
@@ -63,7 +64,7 @@ module _ {P : Type 0} where
   pub fits_same : (c : PoolCore P) (p q : RunningParty P) → HaveSame p q → FitsParty c p → FitsParty c q
   fits_same c p q same fits = record {
     once = λ t. omega (arith, fits.once t, same.places t);
-    home = λ k some. omega (arith, fits.home k (omega (arith, same.places (slot_of k))), same.places (region_of k));
+    home = λ k some. omega (arith, fits.home k (omega (arith, same.places (right_to k))), same.places (region_of k));
     instances = omega (arith, fits.instances, same.instances);
     memories = omega (arith, fits.memories, same.memories);
   }
@@ -133,7 +134,7 @@ module _ {P : Type 0} where
   pub called_key : (maker : MakerTold) (c : PoolCore P) (p : RunningParty P) → CanTurn maker c p → IsIdle p.frame → CanTurn maker c (record p { frame = begun_call call.Key p.frame })
   called_key maker c p can idle = called maker call.Key p.live c p can idle (brings_key p.live) can.party.sound.grants can.party.to_come (λ is. absurd cc)
 
-  pub called_module : (maker : MakerTold) (m : ModuleCall) (c : PoolCore P) (p : RunningParty P) → CanTurn maker c p → IsIdle p.frame → AreImagesOf c.settings (memories_asked (Some m)) (images_asked (Some m)) → HasImages (Some m) → p.done < length p.live → CanTurn maker c (record p { frame = begun_call (call.Module m) p.frame })
+  pub called_module : (maker : MakerTold) (m : ModuleCall) (c : PoolCore P) (p : RunningParty P) → CanTurn maker c p → IsIdle p.frame → AreImagesOf c.settings (memories_wanted (Some m)) (images_wanted (Some m)) → HasImages (Some m) → p.done < length p.live → CanTurn maker c (record p { frame = begun_call (call.Module m) p.frame })
   called_module maker m c p can idle images each room = called maker (call.Module m) p.live c p can (idle, images, each) (brings_module m p.live) can.party.sound.grants can.party.to_come (λ is. room)
 
   pub returned_asks : (grant : Grant P) (f : Frame P) → stage_of (begun_call (call.GiveBack grant) f).phase (begun_call (call.GiveBack grant) f).ending ≡ asks → ⊥

@@ -8,15 +8,15 @@ use Rattle.pool_index.specs.Shard.{ShardState, after_pick, pick_answer, after_fr
 use Rattle.pool_index.specs.declared.ids.SlotId.{SlotId}
 use Rattle.pool_memory.specs.Memories.{MemoryState, slot_of as image_slot_of}
 use Rattle.pool_slots.specs.Cells.{Cell, unmapped, unknown, previously_used, taken}
-use Rattle.pool_slots.specs.Queues.{QueueState, QueuedMemory, after_take, taken_into, joined, emptied}
-use Rattle.pool_slots.specs.declared.request.AllocError.{AllocError}
-use Rattle.pool_slots.specs.declared.request.AllocError.TheVariants as refusal
-use Rattle.pool_slots.specs.declared.request.ConcurrencyKind.TheVariants.{MemoryStripe, CoreInstances}
+use Rattle.pool_slots.specs.Queues.{QueueState, QueuedMemory, after_take, taken_into, after_append, drained}
+use Rattle.pool_slots.specs.declared.errors.AllocError.{AllocError}
+use Rattle.pool_slots.specs.declared.errors.AllocError.TheVariants as refusal
+use Rattle.pool_slots.specs.declared.errors.ConcurrencyKind.TheVariants.{MemoryStripe, CoreInstances}
 use Rattle.pool_alloc.specs.Reserved.{no_room, with_item}
 use Rattle.pool_alloc.specs.Leases.{Lease}
 use Rattle.pool_alloc.specs.Own.{memory_made, reset_into}
 use Rattle.pool_alloc.specs.Refusals.{memories_refused}
-use Rattle.pool_alloc.specs.Steps.{Given, After, memories_asked, wanted, shard_at, cell_at, queue_at, shard_of, local_of, freed_elsewhere, first_shard, cell_returned, with_shard, with_cell, with_queue, counting_instances, counting_memories, goes, ends, give_back_next, refuses, allocate_next, flushes, after_flush, no_slot, answer_of, shard_tried, queue_tried, validated, picked, holds_region, made, returns, was_reset, merged, puts, were_freed, row_of}
+use Rattle.pool_alloc.specs.Steps.{StepGiven, After, memories_wanted, wanted, nth_shard, nth_cell, nth_queue, shard_of, local_of, freed_elsewhere, first_shard, cell_returned, with_shard, with_cell, with_queue, counting_instances, counting_memories, goes, ends, give_back_next, refuses, allocate_next, flushes, after_flush, none_picked, answer_of, shard_tried, queue_tried, validated, picked, holds_region, was_made, returns, was_reset, merged, puts, were_freed, row_of}
 use Rattle.pool_alloc.specs.declared.pool_core.PoolCore.{PoolCore}
 use Rattle.pool_alloc.specs.declared.frame.AfterFree.TheVariants.{Refuse, ReturnNext}
 use Rattle.pool_alloc.specs.declared.frame.AfterFlush.{AfterFlush}
@@ -75,7 +75,7 @@ module _ {P : Type 0} (Q : Option ModuleCall → Type 0) where
   refused : (c : PoolCore P) (f : Frame P) (e : AllocError) → IsPlaced (refuses c f e)
   refused c f e = gives_back c (record f { granted = no_room; returning = f.granted; ending = ending.Refused e })
 
-  no_slot_left : (queues : ℕ) (c : PoolCore P) (f : Frame P) → Q f.asked → IsPlaced (no_slot queues c f)
+  no_slot_left : (queues : ℕ) (c : PoolCore P) (f : Frame P) → Q f.asked → IsPlaced (none_picked queues c f)
   no_slot_left queues c f q =
       let e : AllocError = refusal.Limit (record { limit = length c.cells; kind = MemoryStripe f.stripe }) in
       either (nat_lt queues (length c.queues)) (goes c f (TakeQueue queues)) (refuses c f e) (record { placed = q }) (refused c f e)
@@ -92,18 +92,18 @@ module _ {P : Type 0} (Q : Option ModuleCall → Type 0) where
 
   allocates : (c : PoolCore P) (f : Frame P) → Q f.asked → IsPlaced (allocate_next c f)
   allocates c f q =
-      either (nat_lt (length f.granted.items) (length (memories_asked f.asked))) (goes c f (Pick 0 0)) (ends c (record f { granted = no_room }) (answer.Granted (instance (record { memories = f.granted }))))
+      either (nat_lt (length f.granted.items) (length (memories_wanted f.asked))) (goes c f (Pick 0 0)) (ends c (record f { granted = no_room }) (answer.Granted (instance (record { memories = f.granted }))))
       (record { placed = q }) (record { placed = (refl, f.asked, q) })
 
-  validated_placed : (g : Given) (o : Option Unsupported) (c : PoolCore P) (f : Frame P) → Q f.asked → IsPlaced (validated o g.wants c f)
+  validated_placed : (g : StepGiven) (o : Option Unsupported) (c : PoolCore P) (f : Frame P) → Q f.asked → IsPlaced (validated o g.wants c f)
   validated_placed g (Some rule) c f q = record { placed = refl }
   validated_placed g None c f q =
-      either g.wants (ends c f (answer.Refused refusal.Memory)) (goes c (record f { granted = record { items = []; room = length (memories_asked f.asked) } }) CountInstance)
+      either g.wants (ends c f (answer.Refused refusal.Memory)) (goes c (record f { granted = record { items = []; room = length (memories_wanted f.asked) } }) CountInstance)
       (record { placed = refl }) (record { placed = q })
 
   picked_placed : (o : Option (SlotId × ℕ)) (shard : ShardState) (queues tried : ℕ) (c : PoolCore P) (f : Frame P) → Q f.asked → IsPlaced (picked o shard queues tried c f)
   picked_placed (Some p) shard queues tried c f q = record { placed = q }
-  picked_placed None shard queues tried c f q = either (nat_lt (tried + 1) (length c.shards)) (goes c f (Pick queues (tried + 1))) (no_slot queues c f) (record { placed = q }) (no_slot_left queues c f q)
+  picked_placed None shard queues tried c f q = either (nat_lt (tried + 1) (length c.shards)) (goes c f (Pick queues (tried + 1))) (none_picked queues c f) (record { placed = q }) (no_slot_left queues c f q)
 
   holds_placed : (slot : ℕ) (cell : Cell) (c : PoolCore P) (f : Frame P) → Q f.asked → IsPlaced (holds_region slot cell c f)
   holds_placed slot (unmapped region) c f q = record { placed = q }
@@ -111,7 +111,7 @@ module _ {P : Type 0} (Q : Option ModuleCall → Type 0) where
   holds_placed slot (previously_used held) c f q = record { placed = q }
   holds_placed slot taken c f q = record { placed = tt }
 
-  made_placed : (slot : ℕ) (held : Slot) (r : Result MemoryState AllocError) (c : PoolCore P) (f : Frame P) → Q f.asked → IsPlaced (made slot held r c f)
+  made_placed : (slot : ℕ) (held : Slot) (r : Result MemoryState AllocError) (c : PoolCore P) (f : Frame P) → Q f.asked → IsPlaced (was_made slot held r c f)
   made_placed slot held (Ok memory) c f q = record { placed = q }
   made_placed slot held (Err e) c f q = record { placed = q }
 
@@ -134,14 +134,14 @@ module _ {P : Type 0} (Q : Option ModuleCall → Type 0) where
 
   merged_placed : (queue : QueueState) (c : PoolCore P) (f : Frame P) → IsPlaced (merged queue c f)
   merged_placed queue c f =
-      either (nat_le c.settings.batch (length queue.ranges)) (flushes GiveBackNext (with_queue (queue_tried 0 c f) (after_take queue) c) (record f { local = taken_into f.local queue })) (give_back_next (with_queue (queue_tried 0 c f) queue c) f)
-      (flush_of_give_back (with_queue (queue_tried 0 c f) (after_take queue) c) (record f { local = taken_into f.local queue }))
+      either (nat_le c.settings.batch (length queue.ranges)) (flushes GiveBackNext (with_queue (queue_tried 0 c f) (drained queue) c) (record f { local = taken_into f.local queue })) (give_back_next (with_queue (queue_tried 0 c f) queue c) f)
+      (flush_of_give_back (with_queue (queue_tried 0 c f) (drained queue) c) (record f { local = taken_into f.local queue }))
       (gives_back (with_queue (queue_tried 0 c f) queue c) f)
 
-  pub placed_at : (g : Given) (phase : Phase P) (c : PoolCore P) (f : Frame P) → PlacedAs (Q f.asked) (stage_of phase f.ending) → IsPlaced (row_of g phase c (in_phase phase f))
+  pub placed_at : (g : StepGiven) (phase : Phase P) (c : PoolCore P) (f : Frame P) → PlacedAs (Q f.asked) (stage_of phase f.ending) → IsPlaced (row_of g phase c (in_phase phase f))
   placed_at g Idle c f q = record { placed = tt }
   placed_at g Key c f q = record { placed = refl }
-  placed_at g Validate c f q = validated_placed g (memories_refused c.settings (memories_asked f.asked)) c (in_phase Validate f) q
+  placed_at g Validate c f q = validated_placed g (memories_refused c.settings (memories_wanted f.asked)) c (in_phase Validate f) q
   placed_at g CountInstance c f q =
       let counted : PoolCore P = counting_instances (c.counters.core_instances + 1) c in
       let has : Frame P = in_phase CountInstance f in
@@ -149,29 +149,29 @@ module _ {P : Type 0} (Q : Option ModuleCall → Type 0) where
       either (nat_lt c.counters.core_instances c.settings.max_core_instances) (allocate_next counted has) (refuses counted has e) (allocates counted has q) (refused counted has e)
   placed_at g (Pick queues tried) c f q =
       let has : Frame P = in_phase (Pick queues tried) f in
-      let shard : ShardState = shard_at (shard_tried tried c has) c.shards in
+      let shard : ShardState = nth_shard (shard_tried tried c has) c.shards in
       picked_placed (pick_answer (wanted has) shard) shard queues tried (with_shard (shard_tried tried c has) (after_pick (wanted has) shard) c) has q
   placed_at g (TakeQueue queues) c f q =
       let has : Frame P = in_phase (TakeQueue queues) f in
-      let queue : QueueState = queue_at (queue_tried queues c has) c.queues in
+      let queue : QueueState = nth_queue (queue_tried queues c has) c.queues in
       let left : PoolCore P = with_queue (queue_tried queues c has) (after_take queue) c in
       let took_it : Frame P = record has { local = taken_into f.local queue } in
-      either (length queue.memories == 0) (no_slot (queues + 1) left took_it) (flushes (PickAgain (queues + 1)) left took_it) (no_slot_left (queues + 1) left took_it q) (flush_of_request (queues + 1) left took_it q)
-  placed_at g (TakeRegion slot) c f q = holds_placed slot (cell_at slot c.cells) (with_cell slot taken c) (in_phase (TakeRegion slot) f) q
+      either (length queue.memories == 0) (none_picked (queues + 1) left took_it) (flushes (PickAgain (queues + 1)) left took_it) (no_slot_left (queues + 1) left took_it q) (flush_of_request (queues + 1) left took_it q)
+  placed_at g (TakeRegion slot) c f q = holds_placed slot (nth_cell slot c.cells) (with_cell slot taken c) (in_phase (TakeRegion slot) f) q
   placed_at g (Empty slot had) c f q = goes_either c (in_phase (Empty slot had) f) g.fault (PutUnknown slot g.slot (Refuse refusal.PageFault)) (Instantiate slot g.slot) (record { placed = q }) (record { placed = q })
   placed_at g (Instantiate slot had) c f q = goes_either c (in_phase (Instantiate slot had) f) g.fault (PutUnknown slot g.slot (Refuse refusal.PageFault)) (MakeMemory slot g.slot) (record { placed = q }) (record { placed = q })
-  placed_at g (MakeMemory slot had) c f q = made_placed slot had (memory_made c.settings (memories_asked f.asked) (length f.granted.items) g.limiter had) c (in_phase (MakeMemory slot had) f) q
+  placed_at g (MakeMemory slot had) c f q = made_placed slot had (memory_made c.settings (memories_wanted f.asked) (length f.granted.items) g.limiter had) c (in_phase (MakeMemory slot had) f) q
   placed_at g (CountMemory lease) c f q = allocates (counting_memories (c.counters.memories + 1) c) (record (in_phase (CountMemory lease) f) { granted = with_item lease f.granted }) q
   placed_at g (PutUnknown slot had (Refuse e)) c f q = record { placed = q }
   placed_at g (PutUnknown slot had ReturnNext) c f q = record { placed = tt }
-  placed_at g (FreeUnknown slot (Refuse e)) c f q = refused (with_shard (shard_of c.settings slot) (after_free (local_of c.settings slot) 0 (shard_at (shard_of c.settings slot) c.shards)) c) (in_phase (FreeUnknown slot (Refuse e)) f) e
-  placed_at g (FreeUnknown slot ReturnNext) c f q = gives_back (with_shard (shard_of c.settings slot) (after_free (local_of c.settings slot) 0 (shard_at (shard_of c.settings slot) c.shards)) c) (in_phase (FreeUnknown slot ReturnNext) f)
+  placed_at g (FreeUnknown slot (Refuse e)) c f q = refused (with_shard (shard_of c.settings slot) (after_free (local_of c.settings slot) 0 (nth_shard (shard_of c.settings slot) c.shards)) c) (in_phase (FreeUnknown slot (Refuse e)) f) e
+  placed_at g (FreeUnknown slot ReturnNext) c f q = gives_back (with_shard (shard_of c.settings slot) (after_free (local_of c.settings slot) 0 (nth_shard (shard_of c.settings slot) c.shards)) c) (in_phase (FreeUnknown slot ReturnNext) f)
   placed_at g UncountMemory c f q = returns_placed f.returning.items (counting_memories (c.counters.memories - 1) c) (in_phase UncountMemory f)
   placed_at g (Reset lease) c f q =
       let reset : Frame P = record (in_phase (Reset lease) f) { local = reset_into c.settings.keep_resident.bytes lease.index (image_slot_of lease.memory) f.local } in
       either g.fault (goes c (in_phase (Reset lease) f) (PutUnknown lease.index g.slot ReturnNext)) (was_reset c reset) (record { placed = tt })
       (either ((length reset.local.ranges == 0) || nat_le c.settings.batch (length reset.local.ranges)) (flushes GiveBackNext c reset) (goes c reset Merge) (flush_of_give_back c reset) (record { placed = tt }))
-  placed_at g Merge c f q = merged_placed (joined (queue_at (queue_tried 0 c (in_phase Merge f)) c.queues) f.local) c (record (in_phase Merge f) { local = emptied f.local })
+  placed_at g Merge c f q = merged_placed (after_append (nth_queue (queue_tried 0 c (in_phase Merge f)) c.queues) f.local) c (record (in_phase Merge f) { local = drained f.local })
   placed_at g (Decommit (PickAgain queues)) c f q = flush_of_request queues c (record (in_phase (Decommit (PickAgain queues)) f) { local = g.queue }) q
   placed_at g (Decommit GiveBackNext) c f q = flush_of_give_back c (record (in_phase (Decommit GiveBackNext) f) { local = g.queue })
   placed_at g (PutRegion after) c f q = put_placed after f.local.memories c (in_phase (PutRegion after) f) q

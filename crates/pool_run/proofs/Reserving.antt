@@ -5,11 +5,10 @@ use Rattle.std.proofs.lemmas.Bool.{cases_eq}
 use Rattle.std.proofs.lemmas.List.{length-map, length-replicate, length-set, get_or-map, get_or-replicate, get_or-set_same, get_or-set_other}
 use Rattle.pool_pages.specs.MakerTold.{MakerTold}
 use Rattle.pool_pages.specs.declared.module_types.MemoryDecl.{MemoryDecl}
-use Rattle.pool_pages.specs.declared.module_types.ModuleInfo.{ModuleInfo}
 use Rattle.pool_limits.specs.LimiterTold.{LimiterTold}
 use Rattle.pool_alloc.specs.Calls.{IsGrantOf, IfGranted, begun_call}
 use Rattle.pool_alloc.specs.Reserved.{Reserved, no_room}
-use Rattle.pool_alloc.specs.Steps.{After, memories_asked}
+use Rattle.pool_alloc.specs.Steps.{After, memories_wanted}
 use Rattle.pool_alloc.specs.Stepping.{StepsTo}
 use Rattle.pool_alloc.specs.declared.pool_core.PoolCore.{PoolCore}
 use Rattle.pool_alloc.specs.declared.pool_core.Settings.{Settings}
@@ -17,12 +16,11 @@ use Rattle.pool_alloc.specs.declared.frame.Call.TheVariants as call
 use Rattle.pool_alloc.specs.declared.frame.Frame.{Frame}
 use Rattle.pool_alloc.specs.declared.frame.Grant.{Grant}
 use Rattle.pool_alloc.specs.declared.frame.Grant.TheVariants.{Instance as instance}
-use Rattle.pool_alloc.specs.declared.frame.ModuleCall.{ModuleCall}
 use Rattle.pool_alloc.specs.declared.frame.Outcome.{Outcome}
 use Rattle.pool_alloc.specs.declared.frame.Outcome.TheVariants as answer
 use Rattle.pool_run.specs.RunsMade.{AreReserved, party_made_for, parties_made}
 use Rattle.pool_run.specs.Ties.{IsReserved, stage_of}
-use Rattle.pool_run.specs.Turns.{Turned, IsShareOf, leases_of, answered, slots_after}
+use Rattle.pool_run.specs.Turns.{Turned, leases_of, answered, slots_after}
 use Rattle.pool_run.specs.declared.input.Party.{Party}
 use Rattle.pool_run.specs.declared.reply.Reply.{Reply}
 use Rattle.pool_run.specs.declared.running_party.RunningParty.{RunningParty}
@@ -31,16 +29,6 @@ use Rattle.pool_run.proofs.Placed.{PlacedBy, has_place, placed_by}
 use Rattle.pool_run.proofs.Turned.{no_call_no_place}
 
 module _ {P : Type 0} where
-  -- A request begins with such a list.
-  pub asked_reserved : (kept m : ModuleCall) (f : Frame P) (slots : Reserved ℕ) → IsShareOf kept m → slots ≡ record { items = []; room = length (memories_asked (Some kept)) } → IsReserved (begun_call (call.Module m) f) slots
-  asked_reserved kept m f slots share is = record {
-    empty = ap (λ (l : Reserved ℕ). l.items) is;
-    room = λ asking. omega (arith, ap (λ (l : Reserved ℕ). l.room) is, ap (λ (info : ModuleInfo). length info.memories) share.info);
-  }
-
-  pub key_reserved : (f : Frame P) (slots : Reserved ℕ) → IsReserved f slots → IsReserved (begun_call call.Key f) slots
-  key_reserved f slots reserved = record { empty = reserved.empty; room = λ asking. absurd cc }
-
   pub back_reserved : (grant : Grant P) (f : Frame P) (slots : Reserved ℕ) → IsReserved f slots → IsReserved (begun_call (call.GiveBack grant) f) slots
   back_reserved grant f slots reserved = record { empty = reserved.empty; room = λ asking. absurd (returned_asks grant f asking) }
 
@@ -52,11 +40,11 @@ module _ {P : Type 0} where
   granted_room maker s decls room (Some (answer.Refused e)) f placed is = tt
 
   -- It has room for what is granted.
-  pub room_granted : {old new : LimiterTold} (maker : MakerTold) (s : Settings) (c : PoolCore P) (f : Frame P) (a : After P) (slots : Reserved ℕ) → IsReserved f slots → StepsTo old new c f a → IfGranted (IsGrantOf maker s (memories_asked f.asked)) a.outcome → IfGranted (λ g. length (leases_of g) ≤ slots.room) a.outcome
-  room_granted maker s c f a slots reserved by is = granted_room maker s (memories_asked f.asked) slots.room a.outcome a.frame (placed_by (λ asked. length (memories_asked f.asked) ≤ slots.room) c f a by reserved.room) is
+  pub room_granted : {old new : LimiterTold} (maker : MakerTold) (s : Settings) (c : PoolCore P) (f : Frame P) (a : After P) (slots : Reserved ℕ) → IsReserved f slots → StepsTo old new c f a → IfGranted (IsGrantOf maker s (memories_wanted f.asked)) a.outcome → IfGranted (λ g. length (leases_of g) ≤ slots.room) a.outcome
+  room_granted maker s c f a slots reserved by is = granted_room maker s (memories_wanted f.asked) slots.room a.outcome a.frame (placed_by (λ asked. length (memories_wanted f.asked) ≤ slots.room) c f a by reserved.room) is
 
-  after_reserved : (o : Option (Outcome P)) (f : Frame P) (slots : Reserved ℕ) → slots.items ≡ [] → PlacedBy (λ asked. length (memories_asked asked) ≤ slots.room) o f → IsReserved f (slots_after o slots)
-  after_reserved None f slots empty placed = record { empty = empty; room = has_place (length (memories_asked f.asked) ≤ slots.room) (stage_of f.phase f.ending) placed }
+  after_reserved : (o : Option (Outcome P)) (f : Frame P) (slots : Reserved ℕ) → slots.items ≡ [] → PlacedBy (λ asked. length (memories_wanted asked) ≤ slots.room) o f → IsReserved f (slots_after o slots)
+  after_reserved None f slots empty placed = record { empty = empty; room = has_place (length (memories_wanted f.asked) ≤ slots.room) (stage_of f.phase f.ending) placed }
   after_reserved (Some answer.Key) f slots empty placed = record { empty = empty; room = no_call_no_place (stage_of f.phase f.ending) placed }
   after_reserved (Some (answer.Granted grant)) f slots empty placed = record { empty = refl; room = no_call_no_place (stage_of f.phase f.ending) placed.0 }
   after_reserved (Some answer.Returned) f slots empty placed = record { empty = empty; room = no_call_no_place (stage_of f.phase f.ending) placed }
@@ -65,7 +53,7 @@ module _ {P : Type 0} where
   -- A step leaves it, or the reply takes it.
   pub step_reserved : {old new : LimiterTold} (c : PoolCore P) (f : Frame P) (a : After P) (slots left : Reserved ℕ) → IsReserved f slots → StepsTo old new c f a → left ≡ slots_after a.outcome slots → IsReserved a.frame left
   step_reserved c f a slots left reserved by is =
-      subst (IsReserved a.frame) (sym is) (after_reserved a.outcome a.frame slots reserved.empty (placed_by (λ asked. length (memories_asked asked) ≤ slots.room) c f a by reserved.room))
+      subst (IsReserved a.frame) (sym is) (after_reserved a.outcome a.frame slots reserved.empty (placed_by (λ asked. length (memories_wanted asked) ≤ slots.room) c f a by reserved.room))
 
   answered_frame : (o : Option (Outcome P)) (c : PoolCore P) (p : RunningParty P) → (answered o c p).party.frame ≡ p.frame
   answered_frame None c p = refl

@@ -12,15 +12,16 @@ use Rattle.pool_alloc.specs.Stepping.{CanCount}
 use Rattle.pool_alloc.specs.declared.pool_core.PoolCore.{PoolCore}
 use Rattle.pool_run.specs.Folds.{RunState, TurnsOf, TurnsIf, with_turn, commands_of, replies_to}
 use Rattle.pool_alloc.specs.Sound.{IsCore}
-use Rattle.pool_alloc.specs.Whole.{IsUntouched, IsWhole}
-use Rattle.pool_run.specs.Folds.{Folds, IsMadeParty}
+use Rattle.pool_alloc.specs.Whole.{IsUntouched, IsPartitioned}
+use Rattle.pool_run.specs.Folds.{Folds, HoldsBetween}
 use Rattle.pool_run.specs.Progress.{begins_by, bound_by, Advances, IsRunOf}
 use Rattle.pool_run.specs.RunsMade.{Background, IsBetweenTurns, IsKept, places_in, commands_in, party_made_for, parties_made}
 use Rattle.pool_run.specs.declared.input.Party.{Party}
+use Rattle.pool_run.specs.Limits.{IsWithinCounts}
 use Rattle.pool_run.specs.Ties.{CanTurn, IsSoundTurn, held_by_party}
 use Rattle.pool_run.specs.Turns.{Turned, Turns}
 use Rattle.pool_run.specs.Worlds.{IsFit, AreFit, AreCallsFor, IsCallFor, NameModules}
-use Rattle.pool_run.specs.Private.{World}
+use Rattle.pool_run.specs.Rooms.{World}
 use Rattle.pool_run.specs.declared.command.Command.{Command}
 use Rattle.pool_run.specs.declared.running_party.RunningParty.{RunningParty}
 use Rattle.pool_alloc.specs.declared.pool_core.Settings.{Settings}
@@ -30,17 +31,17 @@ use Rattle.pool_run.proofs.Counters.{can_count}
 use Rattle.pool_run.proofs.Ended.{few_told, folds_count}
 use Rattle.pool_run.proofs.Folding.{run_turned, folds_more}
 use Rattle.pool_run.proofs.Following.{commands_there}
-use Rattle.pool_run.proofs.Started.{AreMade, started_running}
-use Rattle.pool_run.proofs.LimitsOfRuns.{made_within, turns_of_within}
-use Rattle.pool_run.proofs.Running.{can_turn}
-use Rattle.pool_run.proofs.Turned.{has_turned}
+use Rattle.pool_run.proofs.Started.{IsMadeParty, AreMade, started_running}
+use Rattle.pool_run.proofs.LimitsOfRuns.{made_within, turn_within, live_within}
+use Rattle.pool_run.proofs.Running.{can_turn, turned_running}
+use Rattle.pool_run.proofs.Turned.{HasTurned, has_turned}
 
-one_fits : (w : World) (s : Settings) (number : ℕ) (o : Option ModuleCall) → IfSome o (IsCallFor w s number) → IfSome o (IsFit s)
+one_fits : (w : World) (s : Settings) (number : ℕ) (o : Option ModuleCall) → IfSome o (IsCallFor w.terms s number) → IfSome o (IsFit s)
 one_fits w s number None call = tt
-one_fits w s number (Some m) call = record { images = call.images; places = call.places }
+one_fits w s number (Some m) call = call.fit
 
 -- a call for a module is fit
-pub are_fit : (w : World) (s : Settings) (modules : List ModuleCall) → AreCallsFor w s modules → AreFit s modules
+pub are_fit : (w : World) (s : Settings) (modules : List ModuleCall) → AreCallsFor w.terms s modules → AreFit s modules
 are_fit w s modules calls number = one_fits w s number (slice_get modules number) (calls number)
 
 -- what is made of one element more
@@ -58,11 +59,11 @@ nobody = record { home = 0; limits = None; commands = [] }
 
 module _ {P : Type 0} where
   -- a turn that was made is one of the run
-  turn_taken : (maker : MakerTold) (modules : List ModuleCall) (inputs : List (List Command)) (commands : List Command) (i : ℕ) (p : RunningParty P) (s : RunState P) (t : Turned P) → slice_get s.parties i ≡ Some p → commands ≡ commands_of inputs i → Turns modules commands s.core p t → IsSoundTurn maker t → TurnsOf maker modules inputs i s (with_turn i t s)
-  turn_taken maker modules inputs commands i p s t there same turns sound =
-      let If : Option (RunningParty P) → Type 0 = λ o. TurnsIf maker modules (commands_of inputs i) i o s (with_turn i t s) in
+  turn_taken : (maker : MakerTold) (modules : List ModuleCall) (inputs : List (List Command)) (commands : List Command) (i : ℕ) (p : RunningParty P) (s : RunState P) (t : Turned P) → slice_get s.parties i ≡ Some p → commands ≡ commands_of inputs i → Turns modules commands s.core p t → HoldsBetween maker (with_turn i t s) → TurnsOf maker modules inputs i s (with_turn i t s)
+  turn_taken maker modules inputs commands i p s t there same turns holds =
+      let If : Option (RunningParty P) → Type 0 = λ o. TurnsIf modules (commands_of inputs i) i o s (with_turn i t s) in
       let T : List Command → Type 0 = λ cs. Turns modules cs s.core p t in
-      subst If (sym there) (t, subst T same turns, sound, refl)
+      (subst If (sym there) (t, subst T same turns, refl), holds)
 
   -- A run goes on with a turn, over the same parties.
   run_goes_on : (of : Background) (given : List Party) (i : ℕ) (s new : RunState P) → IsRunOf of given s → TurnsOf of.world.maker of.modules of.inputs i s new → IsRunOf of given new
@@ -99,8 +100,8 @@ module _ {P : Type 0} where
       let N : List ModuleCall → List Command → Type 0 = λ modules cs. NameModules (length modules) cs in
       let named : N of.modules commands = subst (N of.modules) (commands_there of.inputs given i nobody run.inputs inside ∙ sym same) (run.named i nobody inside) in
       record {
-        can = subst Can here (can_turn w.maker s.core s.parties i p way.running below);
-        counts = can_count w.maker s.core s.parties way.running kept.few;
+        can = subst Can here (can_turn w.maker s.core s.parties i p way.holds.running below);
+        counts = can_count w.maker s.core s.parties way.holds.running kept.few;
         calls = subst (AreFit s.core.settings) (sym way.given) (are_fit w s.core.settings of.modules way.calls);
         named = subst (λ modules. N modules commands) (sym way.given) named;
         places = omega (arith, to.room, long, live);
@@ -120,8 +121,6 @@ module _ {P : Type 0} where
       let way = run.way in
       let T : List ModuleCall → List Command → Type 0 = λ modules cs. Turns modules cs s.core p t in
       let turned_so : T of.modules (commands_of of.inputs i) = subst (T of.modules) same (subst (λ modules. T modules commands) way.given turns) in
-      let turn : TurnsOf w.maker of.modules of.inputs i s (with_turn i t s) = turn_taken w.maker of.modules of.inputs (commands_of of.inputs i) i p s t there refl turned_so sound in
-      let on : IsRunOf of given (with_turn i t s) = run_goes_on of given i s (with_turn i t s) run turn in
       let below : i < length s.parties = slice_get_within s.parties i p there in
       let inside : i < length (slice_set s.parties i t.party) = omega (arith, below, length-set s.parties i t.party) in
       let places : RunningParty P → ℕ = λ q. 1 + length q.live in
@@ -132,13 +131,24 @@ module _ {P : Type 0} where
       let count : ℕ = length (commands_of of.inputs i) in
       let turned : HasAdvanced (one_if (begins_by count p)) (bound_by of.modules (commands_of of.inputs i) s.core p) s.core p t =
       has_advanced w of.modules (commands_of of.inputs i) s.core p t way.calls take.can (ready_there s i p kept.queues kept.between there) room turned_so in
+      let here : slice_index_or s.parties i p ≡ p = get_or_from_slice_get s.parties i p p there in
+      let Now : RunningParty P → Type 0 = λ q. Turns of.modules (commands_of of.inputs i) s.core q t in
+      let Has : RunningParty P → Type 0 = λ q. HasTurned s.core q t in
+      let has : HasTurned s.core p t = has_turned w of.modules (commands_of of.inputs i) s.core p t way.calls take.can room turned_so in
+      let within : IsWithinCounts t.core (slice_set s.parties i t.party) = turn_within w of.modules (commands_of of.inputs i) s.core s.parties i p t way.calls way.holds.running below (omega (arith, (way.each i p below).room)) (subst Now (sym here) turned_so) kept.within in
+      let holds : HoldsBetween w.maker (with_turn i t s) = record {
+        running = turned_running w.maker s.core s.parties i p t way.holds.running below (subst Has (sym here) has) sound;
+        instances = live_within t.core (slice_set s.parties i t.party) within;
+      } in
+      let turn : TurnsOf w.maker of.modules of.inputs i s (with_turn i t s) = turn_taken w.maker of.modules of.inputs (commands_of of.inputs i) i p s t there refl turned_so holds in
+      let on : IsRunOf of given (with_turn i t s) = run_goes_on of given i s (with_turn i t s) run turn in
       record {
         turn = turn;
         run = on;
-        advances = advances of.modules (commands_of of.inputs i) s i p t there (has_turned w of.modules (commands_of of.inputs i) s.core p t way.calls take.can room turned_so).size turned;
+        advances = advances of.modules (commands_of of.inputs i) s i p t there has.size turned;
         kept = record {
-          whole = on.way.running.whole;
-          within = turns_of_within w of.modules of.inputs i s (with_turn i t s) way turn kept.within;
+          whole = on.way.holds.running.whole;
+          within = within;
           few = omega (arith, kept.few, sum_by-set places s.parties i t.party p below, (way.each i p below).room, (on.way.each i p inside).room, live);
           queues = turned.ready.groups.queues;
           between = still_between s i (one_if (begins_by count p)) (bound_by of.modules (commands_of of.inputs i) s.core p) p t kept.between turned;
@@ -167,7 +177,7 @@ module _ {P : Type 0} where
   -- A run keeps what it promises from its start on.
   pub kept_at_start : (maker : MakerTold) (c : PoolCore P) (parties : List Party) → IsCore maker c → IsUntouched c → places_in (parties_made {P = P} c.settings parties) + 1 < 2 ^ 64 → IsKept c (parties_made c.settings parties)
   kept_at_start maker c parties core untouched few =
-      let whole : IsWhole held_by_party c (parties_made c.settings parties) = (started_running maker c (commands_in parties) (parties_made c.settings parties) core untouched (are_made c.settings parties)).whole in
+      let whole : IsPartitioned held_by_party c (parties_made c.settings parties) = (started_running maker c (commands_in parties) (parties_made c.settings parties) core untouched (are_made c.settings parties)).whole in
       record {
         whole = whole;
         within = made_within c (parties_made c.settings parties) untouched whole;

@@ -4,45 +4,41 @@ use Rattle.std.specs.Prelude.{IfSome, remove, sum_by, slice_set, slice_index_or}
 use Rattle.std.proofs.lemmas.List.Elements.{All-set, All-get_or}
 use Rattle.std.proofs.lemmas.List.Sums.{sum_by-set, sum_by-remove, sum_by-le-sum_by, get_or-le-sum_by}
 use Rattle.pool_pages.specs.MakerTold.{MakerTold}
-use Rattle.pool_alloc.specs.Places.{slot_of, region_of, made_count}
+use Rattle.pool_alloc.specs.Places.{right_to, region_of, made_count}
 use Rattle.pool_alloc.specs.Calls.{IsGrant}
 use Rattle.pool_alloc.specs.Stepping.{IsSameSize}
-use Rattle.pool_alloc.specs.Whole.{HasSlots, IsWhole}
+use Rattle.pool_alloc.specs.Whole.{HasSlots, IsPartitioned}
 use Rattle.pool_alloc.specs.declared.pool_core.PoolCore.{PoolCore}
 use Rattle.pool_alloc.specs.declared.pool_core.Settings.{Settings}
-use Rattle.pool_alloc.specs.declared.frame.ModuleCall.{ModuleCall}
 use Rattle.pool_alloc.proofs.KeptCounts.{frame_regions}
 use Rattle.pool_alloc.proofs.Fitting.{frame_stays}
-use Rattle.pool_run.specs.Turns.{Turned, Turns}
+use Rattle.pool_run.specs.Turns.{Turned}
 use Rattle.pool_run.specs.Ties.{held_by_party, IsParty, FitsParty, CanTurn, IsSoundTurn, IsRunning}
-use Rattle.pool_run.specs.Worlds.{AreCallsFor}
-use Rattle.pool_run.specs.Private.{World}
-use Rattle.pool_run.specs.declared.command.Command.{Command}
 use Rattle.pool_run.specs.declared.running_party.RunningParty.{RunningParty}
 use Rattle.pool_run.proofs.Parties.{live_regions}
-use Rattle.pool_run.proofs.Turned.{HasTurned, has_turned}
+use Rattle.pool_run.proofs.Turned.{HasTurned}
 
 module _ {P : Type 0} where
   -- A party has no region without its slot.
   party_has_slots : (p : RunningParty P) → HasSlots (held_by_party p)
   party_has_slots p k = omega (arith, frame_regions k p.frame, live_regions k p.live)
 
-  others_have_slots : (parties : List (RunningParty P)) (i k : ℕ) (d : RunningParty P) → i < length parties → sum_by (λ p. (held_by_party p).places (region_of k)) parties + (held_by_party (slice_index_or parties i d)).places (slot_of k) ≤ sum_by (λ p. (held_by_party p).places (slot_of k)) parties + (held_by_party (slice_index_or parties i d)).places (region_of k)
+  others_have_slots : (parties : List (RunningParty P)) (i k : ℕ) (d : RunningParty P) → i < length parties → sum_by (λ p. (held_by_party p).places (region_of k)) parties + (held_by_party (slice_index_or parties i d)).places (right_to k) ≤ sum_by (λ p. (held_by_party p).places (right_to k)) parties + (held_by_party (slice_index_or parties i d)).places (region_of k)
   others_have_slots parties i k d below =
       omega (
         arith,
         sum_by-remove (λ p. (held_by_party p).places (region_of k)) parties i d below,
-        sum_by-remove (λ p. (held_by_party p).places (slot_of k)) parties i d below,
-        sum_by-le-sum_by (λ p. (held_by_party p).places (region_of k)) (λ p. (held_by_party p).places (slot_of k)) (remove parties i) (λ p. party_has_slots p k),
+        sum_by-remove (λ p. (held_by_party p).places (right_to k)) parties i d below,
+        sum_by-le-sum_by (λ p. (held_by_party p).places (region_of k)) (λ p. (held_by_party p).places (right_to k)) (remove parties i) (λ p. party_has_slots p k),
       )
 
   -- What each of the parties has fits what the pool has.
-  pub fits_party : (c : PoolCore P) (parties : List (RunningParty P)) (i : ℕ) (d : RunningParty P) → IsWhole held_by_party c parties → i < length parties → FitsParty c (slice_index_or parties i d)
+  pub fits_party : (c : PoolCore P) (parties : List (RunningParty P)) (i : ℕ) (d : RunningParty P) → IsPartitioned held_by_party c parties → i < length parties → FitsParty c (slice_index_or parties i d)
   fits_party c parties i d whole below = record {
     once = λ t. omega (arith, whole.places t, get_or-le-sum_by (λ p. (held_by_party p).places t) parties i d below);
     home = λ k some.
-        let both : made_count (region_of k) (length c.cells) ≡ made_count (slot_of k) (length c.cells) = refl in
-        omega (arith, some, both, whole.places (slot_of k), whole.places (region_of k), others_have_slots parties i k d below, get_or-le-sum_by (λ p. (held_by_party p).places (slot_of k)) parties i d below);
+        let both : made_count (region_of k) (length c.cells) ≡ made_count (right_to k) (length c.cells) = refl in
+        omega (arith, some, both, whole.places (right_to k), whole.places (region_of k), others_have_slots parties i k d below, get_or-le-sum_by (λ p. (held_by_party p).places (right_to k)) parties i d below);
     instances = omega (arith, whole.instances, get_or-le-sum_by (λ p. (held_by_party p).instances) parties i d below);
     memories = omega (arith, whole.memories, get_or-le-sum_by (λ p. (held_by_party p).memories) parties i d below);
   }
@@ -55,7 +51,7 @@ module _ {P : Type 0} where
     fits = fits_party c parties i d running.whole below;
   }
 
-  whole_turned : (c : PoolCore P) (parties : List (RunningParty P)) (i : ℕ) (d : RunningParty P) (t : Turned P) → IsWhole held_by_party c parties → i < length parties → HasTurned c (slice_index_or parties i d) t → IsWhole held_by_party t.core (slice_set parties i t.party)
+  whole_turned : (c : PoolCore P) (parties : List (RunningParty P)) (i : ℕ) (d : RunningParty P) (t : Turned P) → IsPartitioned held_by_party c parties → i < length parties → HasTurned c (slice_index_or parties i d) t → IsPartitioned held_by_party t.core (slice_set parties i t.party)
   whole_turned c parties i d t whole below turned = record {
     places = λ x. omega (arith, ap (made_count x) turned.size.cells, whole.places x, turned.places x, sum_by-set (λ p. (held_by_party p).places x) parties i t.party d below);
     instances = omega (arith, whole.instances, turned.instances, sum_by-set (λ p. (held_by_party p).instances) parties i t.party d below);
@@ -82,7 +78,3 @@ module _ {P : Type 0} where
         (λ k e inside. party_over maker c t.core (get_or parties k e) turned.size (All-get_or (IsParty maker c) parties k e inside running.each));
     whole = whole_turned c parties i d t running.whole below turned;
   }
-
-  pub turn_running : (w : World) (modules : List ModuleCall) (commands : List Command) (c : PoolCore P) (parties : List (RunningParty P)) (i : ℕ) (d : RunningParty P) (t : Turned P) → AreCallsFor w c.settings modules → IsRunning w.maker c parties → i < length parties → length commands ≤ length (slice_index_or parties i d).live → Turns modules commands c (slice_index_or parties i d) t → IsSoundTurn w.maker t → IsRunning w.maker t.core (slice_set parties i t.party)
-  turn_running w modules commands c parties i d t calls running below room turns sound =
-      turned_running w.maker c parties i d t running below (has_turned w modules commands c (slice_index_or parties i d) t calls (can_turn w.maker c parties i d running below) room turns) sound

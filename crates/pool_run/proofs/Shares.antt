@@ -1,18 +1,20 @@
 -- A share of a call for a module is a call for that module.
-use Rattle.std.proofs.Common.{◌≡◌, ℕ, List, length, Option, Some, None, refl, sym, ap, ◌∙◌, subst}
-use Rattle.std.specs.Prelude.{IfSome, option_map, slice_get, slice_index_or}
+use Rattle.std.proofs.Common.{◌≡◌, ℕ, List, [], length, Option, Some, None, refl, sym, ap, ◌∙◌, subst}
+use Rattle.std.specs.Prelude.{IfSome, IsSome, option_map, slice_get, slice_index_or}
 use Rattle.std.specs.Arc.{arc_value}
+use Rattle.std.specs.Option.{option_map_or}
 use Rattle.std.specs.declared.sync.Arc.{Arc}
 use Rattle.std.specs.declared.alloc.Global.{Global}
 use Rattle.pool_pages.specs.declared.module_types.MemoryDecl.{MemoryDecl}
 use Rattle.pool_pages.specs.declared.module_types.ModuleInfo.{ModuleInfo}
 use Rattle.pool_images.specs.Images.{Image}
-use Rattle.pool_alloc.specs.Steps.{memories_asked, images_asked, images_made}
+use Rattle.pool_alloc.specs.Steps.{memories_wanted, images_wanted, images_made}
 use Rattle.pool_alloc.specs.Sound.{AreImagesOf}
 use Rattle.pool_alloc.specs.Modules.{HasImages}
 use Rattle.pool_alloc.specs.declared.pool_core.Settings.{Settings}
 use Rattle.pool_alloc.specs.declared.frame.ModuleCall.{ModuleCall}
-use Rattle.pool_run.specs.Private.{World, memories_of, image_at}
+use Rattle.pool_run.specs.Private.{Terms, memories_of, image_at}
+use Rattle.pool_run.specs.Ties.{IsAskedFor}
 use Rattle.pool_run.specs.Turns.{IsShareOf}
 use Rattle.pool_run.specs.Worlds.{IsCallFor}
 
@@ -41,14 +43,21 @@ places_same kept m share has =
     let number : length (arc_value kept.info).memories ≡ length (arc_value m.info).memories = ap (λ (i : ModuleInfo). length i.memories) (sym share.info) in
     places_at (length (arc_value m.info).memories) m.images (subst Number number (subst Images (sym share.images) (places_of (length (arc_value kept.info).memories) kept.images has)))
 
-pub share_for : (w : World) (s : Settings) (number : ℕ) (kept m : ModuleCall) → IsShareOf kept m → IsCallFor w s number kept → IsCallFor w s number m
-share_for w s number kept m share call =
-    let memories : memories_asked (Some m) ≡ memories_asked (Some kept) = ap (λ (i : ModuleInfo). i.memories) share.info in
-    let images : images_asked (Some m) ≡ images_asked (Some kept) = images_same m.images kept.images share.images in
+-- a call for a module asks for that module's memories
+pub asked_memories : (t : Terms) (number : ℕ) (asked : Option ModuleCall) → IsAskedFor t number asked → memories_wanted asked ≡ memories_of t number
+asked_memories t number None for = let some : IsSome {T = ModuleCall} None = for.some in absurd cc
+asked_memories t number (Some m) for = ap (λ (o : Option ModuleInfo). option_map_or (λ x. x.memories) o []) for.module_of
+
+pub share_for : (t : Terms) (s : Settings) (number : ℕ) (kept m : ModuleCall) → IsShareOf kept m → IsCallFor t s number kept → IsCallFor t s number m
+share_for t s number kept m share call =
+    let memories : memories_wanted (Some m) ≡ memories_wanted (Some kept) = ap (λ (i : ModuleInfo). i.memories) share.info in
+    let images : images_wanted (Some m) ≡ images_wanted (Some kept) = images_same m.images kept.images share.images in
     let Images : List MemoryDecl → List (Option Image) → Type 0 = λ decls is. AreImagesOf s decls is in
-    let Begin : List (Option Image) → Type 0 = λ is. (k : ℕ) → IfSome (slice_get (memories_of w number) k) (λ decl. slice_index_or is k None ≡ image_at w number k decl) in
+    let Begin : List (Option Image) → Type 0 = λ is. (k : ℕ) → IfSome (slice_get (memories_of t number) k) (λ decl. slice_index_or is k None ≡ image_at t number k decl) in
     record {
-      asked = record { some = refl; memories = memories ∙ call.asked.memories; images = subst Begin (sym images) call.asked.images };
-      images = subst (λ (is : List (Option Image)). Images (memories_asked (Some m)) is) (sym images) (subst (λ (ds : List MemoryDecl). Images ds (images_asked (Some kept))) (sym memories) call.images);
-      places = places_same kept m share call.places;
+      asked = record { some = refl; module_of = ap Some share.info ∙ call.asked.module_of; images = subst Begin (sym images) call.asked.images };
+      fit = record {
+        images = subst (λ (is : List (Option Image)). Images (memories_wanted (Some m)) is) (sym images) (subst (λ (ds : List MemoryDecl). Images ds (images_wanted (Some kept))) (sym memories) call.fit.images);
+        places = places_same kept m share call.fit.places;
+      };
     }

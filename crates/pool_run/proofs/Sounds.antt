@@ -5,7 +5,6 @@ use Rattle.std.proofs.lemmas.List.Elements.{All-set, All-get_or}
 use Rattle.std.proofs.lemmas.Option.{slice_get_within, get_or_from_slice_get}
 use Rattle.pool_pages.specs.MakerTold.{MakerTold}
 use Rattle.pool_pages.specs.declared.module_types.MemoryDecl.{MemoryDecl}
-use Rattle.pool_pages.specs.declared.pages.DecommitBehavior.{DecommitBehavior}
 use Rattle.pool_alloc.specs.Calls.{IsGrant, IsGrantOf, IfGranted}
 use Rattle.pool_alloc.specs.Leases.{Lease}
 use Rattle.pool_alloc.specs.Sound.{IsCore, IsFrame, IsLeaseOf}
@@ -18,7 +17,7 @@ use Rattle.pool_alloc.specs.declared.frame.Grant.TheVariants.{Instance as instan
 use Rattle.pool_alloc.specs.declared.frame.Outcome.{Outcome}
 use Rattle.pool_alloc.specs.declared.frame.Outcome.TheVariants as answer
 use Rattle.pool_alloc.specs.declared.lease.InstanceLease.{InstanceLease}
-use Rattle.pool_run.specs.Turns.{with_lease, replies, answered, after_step}
+use Rattle.pool_run.specs.Turns.{with_lease, ended_with, answered, after_step}
 use Rattle.pool_run.specs.Ties.{IsSoundParty, IsSoundTurn}
 use Rattle.pool_run.specs.declared.reply.Reply.{Reply}
 use Rattle.pool_run.specs.declared.running_party.RunningParty.{RunningParty}
@@ -47,7 +46,7 @@ module _ {P : Type 0} where
       answered_sound maker c p a.core a.frame a.outcome (subst Grants (sym size.settings) sound.grants) core frame granted
 
   -- So does a command that ends at once,
-  pub reply_sound : (maker : MakerTold) (c : PoolCore P) (p : RunningParty P) (reply : Reply) → IsCore maker c → IsSoundParty maker c p → IsSoundTurn maker (replies reply c p)
+  pub reply_sound : (maker : MakerTold) (c : PoolCore P) (p : RunningParty P) (reply : Reply) → IsCore maker c → IsSoundParty maker c p → IsSoundTurn maker (ended_with reply c p)
   reply_sound maker c p reply core sound = record { core = core; party = record { frame = sound.frame; grants = sound.grants } }
 
   -- and a move of a memory that stays one of the pool.
@@ -64,7 +63,3 @@ module _ {P : Type 0} where
       let items : List Lease = lease.memories.items in
       let L : Lease → Type 0 = IsLeaseOf maker c.settings in
       subst L (get_or_from_slice_get items k l l there) (All-get_or L items k l (slice_get_within items k l there) (live_grant maker c.settings p.live of (instance lease) sound.grants has))
-
-  -- A grant that is given back leaves the others.
-  pub return_sound : (maker : MakerTold) (c : PoolCore P) (p : RunningParty P) (of : ℕ) → IsSoundParty maker c p → All (λ g. IfSome g (IsGrant maker c.settings)) (slice_set p.live of None)
-  return_sound maker c p of sound = All-set (λ g. IfSome g (IsGrant maker c.settings)) p.live of None tt sound.grants

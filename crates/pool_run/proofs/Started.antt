@@ -8,7 +8,8 @@ use Rattle.pool_pages.specs.MakerTold.{MakerTold}
 use Rattle.pool_alloc.specs.Calls.{frame_made, IsGrant}
 use Rattle.pool_alloc.specs.Sound.{IsCore}
 use Rattle.pool_alloc.specs.Stepping.{grant_count, grant_instances, grant_memories}
-use Rattle.pool_alloc.specs.Whole.{HasNothing, IsUntouched}
+use Rattle.pool_alloc.specs.Whole.{IsUntouched}
+use Rattle.pool_alloc.proofs.Untouched.{HasNothing}
 use Rattle.pool_alloc.specs.declared.pool_core.PoolCore.{PoolCore}
 use Rattle.pool_alloc.specs.declared.pool_core.Settings.{Settings}
 use Rattle.pool_alloc.specs.declared.frame.Frame.{Frame}
@@ -18,16 +19,18 @@ use Rattle.pool_alloc.proofs.BegunCalls.{made_frame, made_count, made_instances,
 use Rattle.pool_alloc.proofs.Untouched.{untouched_is_whole, untouched_has_all}
 use Rattle.pool_run.specs.Searches.{IsAlone}
 use Rattle.pool_run.specs.PartyRules.{rule_of}
-use Rattle.pool_run.specs.Private.{World, under, Grants, no_grants}
+use Rattle.pool_run.specs.Private.{Grants, no_grants}
+use Rattle.pool_run.specs.Rooms.{World, under}
 use Rattle.pool_run.specs.declared.input.PartyLimits.{PartyLimits}
 use Rattle.pool_run.specs.Turns.{grants_of}
 use Rattle.pool_run.specs.Ties.{granted_to, held_by_party, IsParty, IsPrivate, IsRunning}
 use Rattle.pool_run.specs.Worlds.{IsWorldOf, AreCallsFor}
-use Rattle.pool_run.specs.Folds.{commands_of, IsMadeParty, IsRunTo, IsUnderWay}
+use Rattle.pool_run.specs.Folds.{commands_of, IsRunTo, IsUnderWay}
 use Rattle.pool_run.specs.RunsMade.{party_made}
 use Rattle.pool_run.specs.declared.command.Command.{Command}
 use Rattle.pool_run.specs.declared.reply.Reply.{Reply}
 use Rattle.pool_run.specs.declared.running_party.RunningParty.{RunningParty}
+use Rattle.pool_run.proofs.LimitsOfRuns.{made_within, live_within}
 
 none_at : {X : Type 0} (n k : ℕ) → slice_index_or (replicate {A = Option X} n None) k None ≡ None
 none_at zero k = refl
@@ -40,6 +43,16 @@ empty_at (suc n) zero = refl
 empty_at (suc n) (suc k) = empty_at n k
 
 module _ {P : Type 0} where
+  -- a party as it is made, with places for so many commands
+  pub record IsMadeParty (s : Settings) (places : ℕ) (p : RunningParty P) : Type 0 where
+    pub home : ℕ
+    pub frame : p.frame ≡ frame_made home s
+    pub limits : Option PartyLimits
+    pub limited : p.limits ≡ limits
+    pub keyed : p.keyed ≡ false
+    pub done : p.done ≡ 0
+    pub live : p.live ≡ replicate places None
+
   pub is_party_made : (s : Settings) (places : ℕ) (p : RunningParty P) (made : IsMadeParty s places p) → p ≡ party_made made.home made.limits s places
   is_party_made s places p made =
       let Q : Frame P → Option PartyLimits → Bool → ℕ → List (Option (Grant P)) → RunningParty P = λ f limits keyed done live. record { frame = f; limits = limits; keyed = keyed; done = done; live = live } in
@@ -111,9 +124,11 @@ module _ {P : Type 0} where
       let first : To (party_made made.home made.limits s (length commands)) = record { room = length-replicate {A = Option (Grant P)} (length commands) None; private = party_is_private P (under (rule_of made.limits) w) commands made.home made.limits s } in
       subst To (sym (is_party_made s (length commands) p made)) first
 
-  pub run_started : (w : World) (modules : List ModuleCall) (inputs : List (List Command)) (c : PoolCore P) (parties : List (RunningParty P)) → IsCore w.maker c → IsUntouched c → IsWorldOf w c → AreCallsFor w c.settings modules → AreMade c.settings inputs parties → map (λ p. rule_of p.limits) parties ≡ w.rules → (w.alone ≡ true → length parties ≡ 1) → IsUnderWay w modules inputs (record { core = c; modules = modules; parties = parties; replies = replicate (length parties) [] })
+  pub run_started : (w : World) (modules : List ModuleCall) (inputs : List (List Command)) (c : PoolCore P) (parties : List (RunningParty P)) → IsCore w.maker c → IsUntouched c → IsWorldOf w c → AreCallsFor w.terms c.settings modules → AreMade c.settings inputs parties → map (λ p. rule_of p.limits) parties ≡ w.rules → (w.alone ≡ true → length parties ≡ 1) → IsUnderWay w modules inputs (record { core = c; modules = modules; parties = parties; replies = replicate (length parties) [] })
   run_started w modules inputs c parties core untouched world calls made rules alone = record {
-    running = started_running w.maker c inputs parties core untouched made;
+    holds =
+        let running : IsRunning w.maker c parties = started_running w.maker c inputs parties core untouched made in
+        record { running = running; instances = live_within c parties (made_within c parties untouched running.whole) };
     given = refl;
     world = world;
     calls = calls;

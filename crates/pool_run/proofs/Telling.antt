@@ -6,7 +6,7 @@ use Rattle.std.proofs.lemmas.List.{length-map, length-replicate, length-set, len
 use Rattle.pool_alloc.specs.Reserved.{Reserved, no_room}
 use Rattle.pool_alloc.specs.declared.frame.Grant.{Grant}
 use Rattle.pool_alloc.specs.declared.pool_core.Settings.{Settings}
-use Rattle.pool_run.specs.Folds.{RunParts, commands_of, replies_to, state_of, told_after}
+use Rattle.pool_run.specs.Folds.{RunParts, commands_of, replies_to, told_state, replies_after}
 use Rattle.pool_run.specs.Progress.{IsRunOf}
 use Rattle.pool_run.specs.RunsMade.{Background, HaveRoom, party_made, party_made_for, parties_made, room_for, with_told}
 use Rattle.pool_run.specs.Turns.{with_reply}
@@ -27,7 +27,7 @@ same_room None l = refl
 same_room (Some reply) l = refl
 
 -- the lists after a turn
-pub told_more : (i : ℕ) (reply : Option Reply) (told : List (Reserved Reply)) → i < length told → lists_of (slice_set told i (with_told reply (slice_index_or told i no_room))) ≡ told_after i reply (lists_of told)
+pub told_more : (i : ℕ) (reply : Option Reply) (told : List (Reserved Reply)) → i < length told → lists_of (slice_set told i (with_told reply (slice_index_or told i no_room))) ≡ replies_after i reply (lists_of told)
 told_more i reply told below =
     map-set (λ (l : Reserved Reply). l.items) told i (with_told reply (slice_index_or told i no_room))
     ∙ ap (slice_set (lists_of told) i) (items_more reply (slice_index_or told i no_room) ∙ ap (with_reply reply) (sym (get_or-map (λ (l : Reserved Reply). l.items) told i no_room [] below)))
@@ -57,7 +57,7 @@ module _ {P : Type 0} where
       subst (λ ps. R ps told) (sym same) (subst (R (parties_made s parties)) (sym is) first)
 
 -- a turn of party i of a run, after which it goes on
-module _ {P : Type 0} (of : Background) (given : List Party) (i : ℕ) (reply : Option Reply) (run new : RunParts P) (told : List (Reserved Reply)) (before : List (List Reply)) (same : before ≡ lists_of told) (room : HaveRoom run.parties told) (was : IsRunOf of given (state_of run before)) (is : IsRunOf of given (state_of new (told_after i reply before))) (inside : i < length given) where
+module _ {P : Type 0} (of : Background) (given : List Party) (i : ℕ) (reply : Option Reply) (run new : RunParts P) (told : List (Reserved Reply)) (before : List (List Reply)) (same : before ≡ lists_of told) (room : HaveRoom run.parties told) (was : IsRunOf of given (told_state run before)) (is : IsRunOf of given (told_state new (replies_after i reply before))) (inside : i < length given) where
   below : i < length told
   below = omega (arith, inside, room.count, was.parties)
 
@@ -70,9 +70,9 @@ module _ {P : Type 0} (of : Background) (given : List Party) (i : ℕ) (reply : 
   room_for_reply (Some r) some =
       let d : RunningParty P = party_made 0 None run.core.settings 0 in
       let items : List Reply = (slice_index_or told i no_room).items in
-      let few = few_told of.world (commands_of of.inputs i) (replies_to i (told_after i reply before)) (slice_index_or new.parties i d) (is.way.each i d (omega (arith, inside, is.parties))) in
+      let few = few_told of.world (commands_of of.inputs i) (replies_to i (replies_after i reply before)) (slice_index_or new.parties i d) (is.way.each i d (omega (arith, inside, is.parties))) in
       let long : i < length before = omega (arith, below, ap (length {A = List Reply}) same, length-map told (λ (l : Reserved Reply). l.items)) in
-      let one : replies_to i (told_after i reply before) ≡ items ++ r ∷ [] = get_or-set_same before i (with_reply reply (replies_to i before)) [] long ∙ ap (λ (o : Option Reply). with_reply o (replies_to i before)) some ∙ ap (λ (rs : List Reply). rs ++ r ∷ []) (ap (replies_to i) same ∙ get_or-map (λ (l : Reserved Reply). l.items) told i no_room [] below) in
+      let one : replies_to i (replies_after i reply before) ≡ items ++ r ∷ [] = get_or-set_same before i (with_reply reply (replies_to i before)) [] long ∙ ap (λ (o : Option Reply). with_reply o (replies_to i before)) some ∙ ap (λ (rs : List Reply). rs ++ r ∷ []) (ap (replies_to i) same ∙ get_or-map (λ (l : Reserved Reply). l.items) told i no_room [] below) in
       omega (arith, few, ap (length {A = Reply}) one, length_push items r, places_same i d inside, room.each i d no_room (omega (arith, inside, was.parties)))
 
   -- There is room for the reply,

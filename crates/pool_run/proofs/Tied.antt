@@ -4,12 +4,12 @@ use Rattle.std.specs.Prelude.{◌==◌, nat_lt, if◌then◌else◌, slice_get, 
 use Rattle.std.proofs.lemmas.Bool.{ltb-false}
 use Rattle.std.proofs.lemmas.List.{length-map}
 use Rattle.pool_pages.specs.declared.module_types.MemoryDecl.{MemoryDecl}
-use Rattle.pool_slots.specs.declared.request.AllocError.{AllocError}
-use Rattle.pool_slots.specs.declared.request.AllocError.TheVariants as refusal
-use Rattle.pool_slots.specs.declared.request.ConcurrencyKind.TheVariants.{MemoryStripe}
+use Rattle.pool_slots.specs.declared.errors.AllocError.{AllocError}
+use Rattle.pool_slots.specs.declared.errors.AllocError.TheVariants as refusal
+use Rattle.pool_slots.specs.declared.errors.ConcurrencyKind.TheVariants.{MemoryStripe}
 use Rattle.pool_alloc.specs.Reserved.{no_room}
 use Rattle.pool_alloc.specs.Leases.{Lease}
-use Rattle.pool_alloc.specs.Steps.{After, memories_asked, goes, ends, give_back_next, refuses, allocate_next, flushes, no_slot, answer_of}
+use Rattle.pool_alloc.specs.Steps.{After, memories_wanted, goes, ends, give_back_next, refuses, allocate_next, flushes, none_picked, answer_of}
 use Rattle.pool_alloc.specs.declared.pool_core.PoolCore.{PoolCore}
 use Rattle.pool_alloc.specs.declared.frame.AfterFlush.TheVariants.{PickAgain, GiveBackNext}
 use Rattle.pool_alloc.specs.declared.frame.Ending.{Ending}
@@ -21,18 +21,20 @@ use Rattle.pool_alloc.specs.declared.frame.Outcome.{Outcome}
 use Rattle.pool_alloc.specs.declared.frame.Outcome.TheVariants as answer
 use Rattle.pool_alloc.specs.declared.frame.Phase.{Phase}
 use Rattle.pool_alloc.specs.declared.frame.Phase.TheVariants.{Pick, TakeQueue, UncountMemory, UncountInstance, Decommit, PutRegion}
-use Rattle.pool_run.specs.Private.{World, PrivateMemory, PrivateInstance, Grants, memories_of, begun_memories, IsCause, IsLimit, PrivateStep, Drops, grant_at}
+use Rattle.pool_run.specs.Private.{PrivateMemory, PrivateInstance, Grants, memories_of, begun_memories, MovesGrants, Drops, grant_at}
+use Rattle.pool_run.specs.Rooms.{World, TellsOfPool, instance_count}
 use Rattle.pool_run.specs.Turns.{private_grant, grants_of, granted_reply}
-use Rattle.pool_run.specs.Ties.{no_call, stage_of, IsAsking, EndsAs, TiedAs}
+use Rattle.pool_run.specs.Ties.{no_call, stage_of, HasCause, IsAsking, EndsAs, TiedAs}
 use Rattle.pool_run.specs.declared.command.Command.{Command}
 use Rattle.pool_run.specs.declared.command.Command.TheVariants as command
 use Rattle.pool_run.specs.declared.reply.Reply.{Reply}
 use Rattle.pool_run.specs.declared.reply.Reply.TheVariants.{Returned, Refused}
 use Rattle.pool_run.specs.declared.reply.Refusal.TheVariants.{Alloc}
-use Rattle.pool_run.proofs.Causes.{given_cause, none_first}
+use Rattle.pool_run.proofs.Causes.{ComesFor, given_cause, none_first}
 use Rattle.pool_run.proofs.Exhausted.{live_told, room_for}
 use Rattle.pool_run.proofs.FreeSlots.{AreApart, slots_inside, slots_apart, slots_free}
 use Rattle.pool_run.proofs.Grants.{grants_set}
+use Rattle.pool_run.proofs.Shares.{asked_memories}
 use Rattle.pool_run.proofs.NewMemories.{slots_of}
 
 -- a grant that is there ends
@@ -47,7 +49,8 @@ module _ {P : Type 0} (w : World) (commands : List Command) (live : List (Option
     pub settled : stage_of f.phase f.ending ≡ no_call
     pub command : Command
     pub next : slice_get commands done ≡ Some command
-    pub step : PrivateStep w done told command reply (grants_of new)
+    pub moves : MovesGrants w.terms done told command reply (grants_of new)
+    pub pool : TellsOfPool w told command reply
 
   -- what the party has after a step with this outcome fits what it was told
   abbrev pub TiedBy : Option (Outcome P) → Frame P → Type 0
@@ -71,34 +74,34 @@ module _ {P : Type 0} (w : World) (commands : List Command) (live : List (Option
   pub gives_back : (c : PoolCore P) (f : Frame P) → EndsAs w f.ending commands done live told → IsTied (give_back_next c f)
   gives_back c f end = goes_either c f (length f.returning.items == 0) UncountInstance UncountMemory (λ e. record { tied = end }) (λ e. record { tied = end })
 
-  pub refused : (c : PoolCore P) (f : Frame P) (e : AllocError) → grants_of live ≡ told → (asking : IsAsking w commands done f.asked f.granted.items) → IsCause w asking.number told (Alloc e) → IsTied (refuses c f e)
+  pub refused : (c : PoolCore P) (f : Frame P) (e : AllocError) → grants_of live ≡ told → (asking : IsAsking w.terms commands done f.asked f.granted.items) → HasCause w asking.number told e → IsTied (refuses c f e)
   refused c f e is asking cause = gives_back c (record f { granted = no_room; returning = f.granted; ending = ending.Refused e }) (is, asking.number, asking.command, cause)
 
-  pub no_slot_left : (queues : ℕ) (c : PoolCore P) (f : Frame P) → grants_of live ≡ told → (asking : IsAsking w commands done f.asked f.granted.items) → (length c.queues ≤ queues → IsLimit w asking.number told (record { limit = length c.cells; kind = MemoryStripe f.stripe })) → IsTied (no_slot queues c f)
-  no_slot_left queues c f is asking limit =
+  pub no_slot_left : (queues : ℕ) (c : PoolCore P) (f : Frame P) → instance_count told < w.terms.settings.max_core_instances → grants_of live ≡ told → (asking : IsAsking w.terms commands done f.asked f.granted.items) → (length c.queues ≤ queues → ComesFor w asking.number told (refusal.Limit (record { limit = length c.cells; kind = MemoryStripe f.stripe }))) → IsTied (none_picked queues c f)
+  no_slot_left queues c f counted is asking limit =
       let e : AllocError = refusal.Limit (record { limit = length c.cells; kind = MemoryStripe f.stripe }) in
-      either (nat_lt queues (length c.queues)) (goes c f (TakeQueue queues)) (refuses c f e) (λ more. record { tied = (is, (asking, tt)) }) (λ last. refused c f e is asking (given_cause w asking.number told e asking.supported (limit (ltb-false queues (length c.queues) last))))
+      either (nat_lt queues (length c.queues)) (goes c f (TakeQueue queues)) (refuses c f e) (λ more. record { tied = (is, (asking, counted, tt)) }) (λ last. refused c f e is asking (given_cause w asking.number told e asking.supported (limit (ltb-false queues (length c.queues) last))))
 
-  pub flush_of_request : (queues : ℕ) (c : PoolCore P) (f : Frame P) → grants_of live ≡ told → IsAsking w commands done f.asked f.granted.items → IsTied (flushes (PickAgain queues) c f)
-  flush_of_request queues c f is asking = goes_either c f (length f.local.ranges == 0) (PutRegion (PickAgain queues)) (Decommit (PickAgain queues)) (λ e. record { tied = (is, (asking, tt)) }) (λ e. record { tied = (is, (asking, tt)) })
+  pub flush_of_request : (queues : ℕ) (c : PoolCore P) (f : Frame P) → instance_count told < w.terms.settings.max_core_instances → grants_of live ≡ told → IsAsking w.terms commands done f.asked f.granted.items → IsTied (flushes (PickAgain queues) c f)
+  flush_of_request queues c f counted is asking = goes_either c f (length f.local.ranges == 0) (PutRegion (PickAgain queues)) (Decommit (PickAgain queues)) (λ e. record { tied = (is, (asking, counted, tt)) }) (λ e. record { tied = (is, (asking, counted, tt)) })
 
   pub flush_of_give_back : (c : PoolCore P) (f : Frame P) → EndsAs w f.ending commands done live told → IsTied (flushes GiveBackNext c f)
   flush_of_give_back c f end = goes_either c f (length f.local.ranges == 0) (PutRegion GiveBackNext) (Decommit GiveBackNext) (λ e. record { tied = end }) (λ e. record { tied = end })
 
   -- A call ends as it is to end.
   pub ends_with : (e : Ending) (c : PoolCore P) (f : Frame P) → EndsAs w e commands done live told → IsTied (ends c f (answer_of e))
-  ends_with (ending.Refused e) c f end = record { tied = record { settled = refl; command = command.Instantiate end.1; next = end.2; step = (end.3, end.0) } }
-  ends_with ending.Returned c f end = record { tied = record { settled = refl; command = command.Drop end.0; next = end.1; step = dropped (grant_at told end.0) told (grants_of live) end.0 end.2 end.3 } }
+  ends_with (ending.Refused e) c f end = record { tied = record { settled = refl; command = command.Instantiate end.1; next = end.2; moves = (end.3.0, end.0); pool = end.3.1 } }
+  ends_with ending.Returned c f end = record { tied = record { settled = refl; command = command.Drop end.0; next = end.1; moves = dropped (grant_at told end.0) told (grants_of live) end.0 end.2 end.3; pool = tt } }
 
   -- The instance is whole, and granted.
-  grants_it : (c : PoolCore P) (f : Frame P) (total : ℕ) → w.total ≡ total → grants_of live ≡ told → IsAsking w commands done f.asked f.granted.items → length (memories_asked f.asked) ≤ length f.granted.items → AreApart f.granted.items live total → IsTied (ends c (record f { granted = no_room }) (answer.Granted (instance (record { memories = f.granted }))))
-  grants_it c f total whole is asking all apart =
+  grants_it : (c : PoolCore P) (f : Frame P) (total : ℕ) → w.terms.slots ≡ total → instance_count told < w.terms.settings.max_core_instances → grants_of live ≡ told → IsAsking w.terms commands done f.asked f.granted.items → length (memories_wanted f.asked) ≤ length f.granted.items → AreApart f.granted.items live total → IsTied (ends c (record f { granted = no_room }) (answer.Granted (instance (record { memories = f.granted }))))
+  grants_it c f total whole counted is asking all apart =
       let items : List Lease = f.granted.items in
       let grant : Grant P = instance (record { memories = f.granted }) in
-      let decls : ℕ = length (memories_of w asking.number) in
-      let count : length (slots_of items) ≡ decls = omega (arith, length-map items (λ (l : Lease). l.index), all, asking.new.few, ap (length {A = MemoryDecl}) asking.asked_for.memories) in
+      let decls : ℕ = length (memories_of w.terms asking.number) in
+      let count : length (slots_of items) ≡ decls = omega (arith, length-map items (λ (l : Lease). l.index), all, asking.new.few, ap (length {A = MemoryDecl}) (asked_memories w.terms asking.number f.asked asking.asked_for)) in
       let Inside : ℕ → Type 0 = λ n. All (λ slot. slot < n) (slots_of items) in
-      let begun : List PrivateMemory = begun_memories w asking.number 0 (memories_of w asking.number) (slots_of items) in
+      let begun : List PrivateMemory = begun_memories w.terms asking.number 0 (memories_of w.terms asking.number) (slots_of items) in
       let grants : grants_of (slice_set live done (Some grant)) ≡ slice_set told done (Some (record { memories = begun })) =
       grants_set live done (Some grant) ∙ ap (λ (g : Grants). slice_set g done (Some (private_grant grant))) is ∙ ap (λ (ms : List PrivateMemory). slice_set told done (Some (record { memories = ms }))) asking.new.begun in
       record {
@@ -106,26 +109,29 @@ module _ {P : Type 0} (w : World) (commands : List Command) (live : List (Option
           settled = refl;
           command = command.Instantiate asking.number;
           next = asking.command;
-          step = (
+          moves = (
             record {
               supported = asking.supported;
-              allowed = none_first w.rule (memories_of w asking.number) (λ k below. asking.new.allowed k (omega (arith, below, all, asking.new.few, ap (length {A = MemoryDecl}) asking.asked_for.memories)));
+              allowed = none_first w.terms.rule (memories_of w.terms asking.number) (λ k below. asking.new.allowed k (omega (arith, below, all, asking.new.few, ap (length {A = MemoryDecl}) (asked_memories w.terms asking.number f.asked asking.asked_for))));
               count = count;
-              inside = subst Inside (sym whole) (slots_inside items live total apart);
-              free = slots_free items live told total is apart;
-              differ = slots_apart items live total apart;
-              room = omega (arith, whole, live_told live told is, room_for total items live apart, all, asking.new.few, ap (length {A = MemoryDecl}) asking.asked_for.memories);
             },
             refl,
             grants,
           );
+          pool = record {
+            inside = subst Inside (sym whole) (slots_inside items live total apart);
+            free = slots_free items live told total is apart;
+            differ = slots_apart items live total apart;
+            instances = counted;
+            memories = omega (arith, whole, live_told live told is, room_for total items live apart, all, asking.new.few, ap (length {A = MemoryDecl}) (asked_memories w.terms asking.number f.asked asking.asked_for));
+          };
         };
       }
 
-  pub allocates : (c : PoolCore P) (f : Frame P) (total : ℕ) → w.total ≡ total → grants_of live ≡ told → IsAsking w commands done f.asked f.granted.items → AreApart f.granted.items live total → IsTied (allocate_next c f)
-  allocates c f total whole is asking apart =
+  pub allocates : (c : PoolCore P) (f : Frame P) (total : ℕ) → w.terms.slots ≡ total → instance_count told < w.terms.settings.max_core_instances → grants_of live ≡ told → IsAsking w.terms commands done f.asked f.granted.items → AreApart f.granted.items live total → IsTied (allocate_next c f)
+  allocates c f total whole counted is asking apart =
       let some : ℕ = length f.granted.items in
-      let all : ℕ = length (memories_asked f.asked) in
+      let all : ℕ = length (memories_wanted f.asked) in
       either (nat_lt some all) (goes c f (Pick 0 0)) (ends c (record f { granted = no_room }) (answer.Granted (instance (record { memories = f.granted }))))
-      (λ more. record { tied = (is, (asking, tt)) })
-      (λ last. grants_it c f total whole is asking (ltb-false some all last) apart)
+      (λ more. record { tied = (is, (asking, counted, tt)) })
+      (λ last. grants_it c f total whole counted is asking (ltb-false some all last) apart)

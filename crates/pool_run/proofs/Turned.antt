@@ -3,7 +3,7 @@ use Rattle.std.proofs.Common.{◌≡◌, ◌≢◌, ℕ, ◌+◌, ◌<◌, ◌�
 use Rattle.std.specs.Prelude.{IfSome, replicate, slice_get, slice_set, slice_index_or, sum_by}
 use Rattle.std.proofs.lemmas.Option.{slice_get_within, get_or_from_slice_get}
 use Rattle.pool_pages.specs.MakerTold.{MakerTold}
-use Rattle.pool_slots.specs.declared.request.AllocError.TheVariants as alloc
+use Rattle.pool_slots.specs.declared.errors.AllocError.TheVariants as alloc
 use Rattle.pool_alloc.specs.Leases.{Lease}
 use Rattle.pool_alloc.specs.Calls.{IsIdle, begun_call}
 use Rattle.pool_alloc.specs.Steps.{After}
@@ -17,13 +17,13 @@ use Rattle.pool_alloc.specs.declared.frame.Grant.TheVariants.{Instance as instan
 use Rattle.pool_alloc.specs.declared.frame.Outcome.{Outcome}
 use Rattle.pool_alloc.specs.declared.frame.Outcome.TheVariants as answer
 use Rattle.pool_alloc.specs.declared.frame.Phase.{Phase}
-use Rattle.pool_run.proofs.Moves.{looked, moved}
+use Rattle.pool_run.proofs.Named.{KeepsIndex, looks_index, moves_index, moved}
 use Rattle.pool_run.proofs.Searching.{IsSearched, searched_at}
 use Rattle.pool_run.specs.Searches.{IsSearchedAt}
-use Rattle.pool_memory.specs.Memories.{MemoryState}
 use Rattle.pool_run.specs.PartyRules.{rule_of}
-use Rattle.pool_run.specs.Private.{World, PrivateMemory, IsRead, IsSize}
-use Rattle.pool_run.specs.Turns.{Turned, MemoryWrites, MemoryGrows, replies, answered, Steps, Returns, LooksAt, with_lease, MovesIn, Asks, Begins, BeginsKeyed, TurnsAt, Turns}
+use Rattle.pool_run.specs.Private.{IsRead, IsSize, Looks}
+use Rattle.pool_run.specs.Rooms.{World}
+use Rattle.pool_run.specs.Turns.{Turned, private_memory, MemoryWrites, MemoryGrows, LeaseMoves, ended_with, answered, Steps, Returns, with_lease, MovesLive, Asks, Begins, BeginsKeyed, TurnsAt, Turns}
 use Rattle.pool_run.specs.Ties.{Stage, no_call, ends_as, stage_of, CanTurn}
 use Rattle.pool_run.specs.Worlds.{IsCallFor, AreCallsFor}
 use Rattle.pool_run.specs.declared.command.Command.{Command}
@@ -72,7 +72,7 @@ module _ {P : Type 0} where
   stayed c p to_come place = record { places = λ x. refl; instances = refl; memories = refl; size = same_size c; room = refl; limits = refl; to_come = to_come; place = place; searched = λ s. s }
 
   -- A command ended at once, and the party has the same of the pool.
-  ended : (c : PoolCore P) (p q : RunningParty P) (reply : Reply) → HaveSame p q → length q.live ≡ length p.live → q.limits ≡ p.limits → q.done ≡ p.done → ((k : ℕ) → p.done ≤ k → slice_index_or q.live k None ≡ None) → stage_of q.frame.phase q.frame.ending ≡ no_call → q.frame ≡ p.frame → HasTurned c p (replies reply c q)
+  ended : (c : PoolCore P) (p q : RunningParty P) (reply : Reply) → HaveSame p q → length q.live ≡ length p.live → q.limits ≡ p.limits → q.done ≡ p.done → ((k : ℕ) → p.done ≤ k → slice_index_or q.live k None ≡ None) → stage_of q.frame.phase q.frame.ending ≡ no_call → q.frame ≡ p.frame → HasTurned c p (ended_with reply c q)
   ended c p q reply same room limits done to_come settled frame = record {
     places = λ x. omega (arith, same.places x);
     instances = omega (arith, same.instances);
@@ -182,11 +182,8 @@ module _ {P : Type 0} (maker : MakerTold) (c : PoolCore P) (p : RunningParty P) 
   same_now : HaveSame p p
   same_now = record { places = λ x. refl; instances = refl; memories = refl }
 
-  at_once : (reply : Reply) (t : Turned P) → t ≡ replies reply c p → HasTurned c p t
+  at_once : (reply : Reply) (t : Turned P) → t ≡ ended_with reply c p → HasTurned c p t
   at_once reply t is = subst (HasTurned c p) (sym is) (ended c p p reply same_now refl refl refl can.party.to_come settled_now refl)
-
-  looks : (Looks : PrivateMemory → Reply → Type 0) (k : ℕ) (x : Option (Grant P)) (t : Turned P) → LooksAt Looks x k c p t → HasTurned c p t
-  looks Looks k x t is = let seen = looked c p Looks k x t is in at_once seen.0 t seen.1
 
   -- a move: the grant has the same slots
   lease_same : (x : Thing) (k : ℕ) (items : List Lease) (l new : Lease) → slice_get items k ≡ Some l → new.index ≡ l.index → leased_count x (slice_set items k new) ≡ leased_count x items
@@ -205,22 +202,23 @@ module _ {P : Type 0} (maker : MakerTold) (c : PoolCore P) (p : RunningParty P) 
       let apart : k ≢ j = λ e. let both : slice_index_or live j None ≡ None = subst (λ (n : ℕ). slice_index_or live n None ≡ None) e none in cc in
       get_or-set_other live j k (Some new) None apart ∙ none
 
-  moves : (Moves : MemoryState → MemoryState → Reply → Type 0) (of k : ℕ) (t : Turned P) → MovesIn Moves (slice_index_or p.live of None) of k c p t → HasTurned c p t
-  moves Moves of k t is =
-      elim (moved c p Moves of k (slice_index_or p.live of None) t is) [
-        | inl same ↦ at_once same.0 t same.1
+  moves : (Move : Lease → Lease → Reply → Type 0) → KeepsIndex Move → (of k : ℕ) (t : Turned P) → MovesLive Move of k c p t → HasTurned c p t
+  moves Move keeps of k t is =
+      let With : List (Option (Grant P)) → Turned P = λ live. ended_with is.0 c (record p { live = live }) in
+      elim (moved Move keeps of k p.live is.1 is.0 is.2) [
+        | inl same ↦ at_once is.0 t (is.3 ∙ ap With same)
         | inr m ↦
-            let new : Grant P = with_lease k m.new (instance m.lease) in
+            let new : Grant P = with_lease k m.changed (instance m.lease) in
             let live : List (Option (Grant P)) = slice_set p.live of (Some new) in
             let q : RunningParty P = record p { live = live } in
             let same : HaveSame p q =
             record {
-              places = λ x. omega (arith, swapped (grant_count x) p.live of (instance m.lease) new m.granted (lease_same x k m.lease.memories.items m.old m.new m.there m.index));
+              places = λ x. omega (arith, swapped (grant_count x) p.live of (instance m.lease) new m.granted (lease_same x k m.lease.memories.items m.old m.changed m.there m.index));
               instances = omega (arith, swapped grant_instances p.live of (instance m.lease) new m.granted refl);
-              memories = omega (arith, swapped grant_memories p.live of (instance m.lease) new m.granted (length-set m.lease.memories.items k m.new));
+              memories = omega (arith, swapped grant_memories p.live of (instance m.lease) new m.granted (length-set m.lease.memories.items k m.changed));
             } in
-            subst (HasTurned c p) (sym m.is)
-            (ended c p q m.reply same (length-set p.live of (Some new)) refl refl (λ n behind. other_place p.live of n (instance m.lease) new m.granted (can.party.to_come n behind)) settled_now refl)
+            subst (HasTurned c p) (sym (is.3 ∙ ap With m.is))
+            (ended c p q is.0 same (length-set p.live of (Some new)) refl refl (λ n behind. other_place p.live of n (instance m.lease) new m.granted (can.party.to_come n behind)) settled_now refl)
       ]
 
   -- a give-back
@@ -234,7 +232,7 @@ module _ {P : Type 0} (maker : MakerTold) (c : PoolCore P) (p : RunningParty P) 
       (length-set p.live of None) refl (returned_searched grant c p.frame) (step_turned maker c q t (called_back maker of grant c p can idle has) steps)
 
   -- a request for an instance
-  asks_for : (w : World) (number : ℕ) (o : Option ModuleCall) (t : Turned P) → IfSome o (IsCallFor w c.settings number) → Asks o c p t → p.done < length p.live → HasTurned c p t
+  asks_for : (w : World) (number : ℕ) (o : Option ModuleCall) (t : Turned P) → IfSome o (IsCallFor w.terms c.settings number) → Asks o c p t → p.done < length p.live → HasTurned c p t
   asks_for w number None t for asked room = absurd asked
   asks_for w number (Some kept) t for asked room =
       elim asked [
@@ -242,21 +240,21 @@ module _ {P : Type 0} (maker : MakerTold) (c : PoolCore P) (p : RunningParty P) 
         | inr steps ↦
             let m : ModuleCall = steps.0 in
             let q : RunningParty P = record p { frame = begun_call (call.Module m) p.frame } in
-            let call_for : IsCallFor w c.settings number m = share_for w c.settings number kept m steps.1 for in
-            turned_from c p q t (has_call maker (call.Module m) p.live c p can.party.sound.frame (idle, call_for.images, call_for.places) (brings_module m p.live)) refl refl tt
-            (step_turned maker c q t (called_module maker m c p can idle call_for.images call_for.places room) steps.2)
+            let call_for : IsCallFor w.terms c.settings number m = share_for w.terms c.settings number kept m steps.1 for in
+            turned_from c p q t (has_call maker (call.Module m) p.live c p can.party.sound.frame (idle, call_for.fit.images, call_for.fit.places) (brings_module m p.live)) refl refl tt
+            (step_turned maker c q t (called_module maker m c p can idle call_for.fit.images call_for.fit.places room) steps.2)
       ]
 
-  begins : (w : World) (modules : List ModuleCall) (command : Command) (t : Turned P) → AreCallsFor w c.settings modules → Begins modules command c p t → p.done < length p.live → HasTurned c p t
+  begins : (w : World) (modules : List ModuleCall) (command : Command) (t : Turned P) → AreCallsFor w.terms c.settings modules → Begins modules command c p t → p.done < length p.live → HasTurned c p t
   begins w modules (command.Instantiate number) t calls is room = asks_for w number (slice_get modules number) t (calls number) is room
-  begins w modules (command.Read of k i len) t calls is room = looks (λ m. IsRead m i len) k (slice_index_or p.live of None) t is
-  begins w modules (command.Write of k i bytes) t calls is room = moves (MemoryWrites i bytes) of k t is
-  begins w modules (command.Fill of k i len byte) t calls is room = moves (MemoryWrites i (replicate len byte)) of k t is
-  begins w modules (command.Grow of k pages) t calls is room = moves (MemoryGrows (rule_of p.limits) pages) of k t is
-  begins w modules (command.Size of k) t calls is room = looks IsSize k (slice_index_or p.live of None) t is
+  begins w modules (command.Read of k i len) t calls is room = moves (Looks (λ l. IsRead (private_memory l) i len)) (looks_index (λ l. IsRead (private_memory l) i len)) of k t is
+  begins w modules (command.Write of k i bytes) t calls is room = moves (LeaseMoves (MemoryWrites i bytes)) (moves_index (MemoryWrites i bytes)) of k t is
+  begins w modules (command.Fill of k i len byte) t calls is room = moves (LeaseMoves (MemoryWrites i (replicate len byte))) (moves_index (MemoryWrites i (replicate len byte))) of k t is
+  begins w modules (command.Grow of k pages) t calls is room = moves (LeaseMoves (MemoryGrows (rule_of p.limits) pages)) (moves_index (MemoryGrows (rule_of p.limits) pages)) of k t is
+  begins w modules (command.Size of k) t calls is room = moves (Looks (λ l. IsSize (private_memory l))) (looks_index (λ l. IsSize (private_memory l))) of k t is
   begins w modules (command.Drop of) t calls is room = returns of (slice_index_or p.live of None) t refl is
 
-  begins_keyed : (w : World) (commands : List Command) (keyed : Bool) (modules : List ModuleCall) (next : Option Command) (t : Turned P) → AreCallsFor w c.settings modules → slice_get commands p.done ≡ next → length commands ≤ length p.live → BeginsKeyed keyed modules next c p t → HasTurned c p t
+  begins_keyed : (w : World) (commands : List Command) (keyed : Bool) (modules : List ModuleCall) (next : Option Command) (t : Turned P) → AreCallsFor w.terms c.settings modules → slice_get commands p.done ≡ next → length commands ≤ length p.live → BeginsKeyed keyed modules next c p t → HasTurned c p t
   begins_keyed w commands false modules None t calls next room is = subst (HasTurned c p) (sym is) (stayed c p can.party.to_come can.party.place)
   begins_keyed w commands true modules None t calls next room is = subst (HasTurned c p) (sym is) (stayed c p can.party.to_come can.party.place)
   begins_keyed w commands false modules (Some command) t calls next room steps =
@@ -265,10 +263,10 @@ module _ {P : Type 0} (maker : MakerTold) (c : PoolCore P) (p : RunningParty P) 
   begins_keyed w commands true modules (Some command) t calls next room is = begins w modules command t calls is (omega (arith, slice_get_within commands p.done command next))
 
 module _ {P : Type 0} where
-  turned_at : (w : World) (modules : List ModuleCall) (commands : List Command) (c : PoolCore P) (p : RunningParty P) (t : Turned P) (b : Bool) → is_idle p.frame.phase ≡ b → AreCallsFor w c.settings modules → CanTurn w.maker c p → length commands ≤ length p.live → TurnsAt b modules commands c p t → HasTurned c p t
+  turned_at : (w : World) (modules : List ModuleCall) (commands : List Command) (c : PoolCore P) (p : RunningParty P) (t : Turned P) (b : Bool) → is_idle p.frame.phase ≡ b → AreCallsFor w.terms c.settings modules → CanTurn w.maker c p → length commands ≤ length p.live → TurnsAt b modules commands c p t → HasTurned c p t
   turned_at w modules commands c p t true idle calls can room turns = begins_keyed w.maker c p can (idle_is p.frame.phase idle) w commands p.keyed modules (slice_get commands p.done) t calls refl room turns
   turned_at w modules commands c p t false busy calls can room turns = step_turned w.maker c p t can turns
 
   -- What each turn of a party leaves.
-  pub has_turned : (w : World) (modules : List ModuleCall) (commands : List Command) (c : PoolCore P) (p : RunningParty P) (t : Turned P) → AreCallsFor w c.settings modules → CanTurn w.maker c p → length commands ≤ length p.live → Turns modules commands c p t → HasTurned c p t
+  pub has_turned : (w : World) (modules : List ModuleCall) (commands : List Command) (c : PoolCore P) (p : RunningParty P) (t : Turned P) → AreCallsFor w.terms c.settings modules → CanTurn w.maker c p → length commands ≤ length p.live → Turns modules commands c p t → HasTurned c p t
   has_turned w modules commands c p t calls can room turns = turned_at w modules commands c p t (is_idle p.frame.phase) refl calls can room turns

@@ -39,10 +39,7 @@ valid_commands input i p valid is = second (nat_le (length p.commands) most_comm
 valid_schedule : (input : Input) → is_valid input ≡ true → is_valid_schedule (length input.parties) input.schedule ≡ true
 valid_schedule input valid = first (is_valid_schedule (length input.parties) input.schedule) (list_all (is_valid_party input.modules) input.parties) (valid_turns input valid)
 
--- the schedule has not too many steps, each of a party that there is
-pub few_steps : (input : Input) → is_valid input ≡ true → length (turns_of input.schedule) ≤ most_steps
-few_steps input valid = leb-true (length (turns_of input.schedule)) most_steps (first (nat_le (length (turns_of input.schedule)) most_steps) (list_all (λ entry. nat_lt entry.party (length input.parties)) input.schedule) (valid_schedule input valid))
-
+-- each entry of the schedule is of a party that there is
 pub valid_entry : (input : Input) (i : ℕ) (entry : ScheduleEntry) → is_valid input ≡ true → slice_get input.schedule i ≡ Some entry → entry.party < length input.parties
 valid_entry input i entry valid is =
     let named : (e : ScheduleEntry) → Bool = λ e. nat_lt e.party (length input.parties) in

@@ -27,7 +27,7 @@ use Rattle.pool_alloc.specs.declared.pool_core.Settings.{Settings}
 use Rattle.pool_alloc.specs.declared.frame.ModuleCall.{ModuleCall}
 use Rattle.pool_run.specs.Built.{is_built_memory, is_built_module}
 use Rattle.pool_run.specs.Made.{images_of_module, IsMadeCall, AreMadeCalls}
-use Rattle.pool_run.specs.Private.{World, memories_of, has_images}
+use Rattle.pool_run.specs.Private.{Terms, memories_of, has_images}
 use Rattle.pool_run.specs.Runs.{world_of}
 use Rattle.pool_run.specs.Worlds.{IsWorldOf, IsCallFor, AreCallsFor}
 use Rattle.pool_run.specs.declared.input.Input.{Input}
@@ -42,7 +42,7 @@ if_some (Some x) Q all = all x refl
 module _ {P : Type 0} where
   -- The pool as it is made has the sizes of the world.
   pub is_world : (input : Input) (maker : MakerTold) (c : PoolCore P) → IsMadeCore maker input.config input.tunables input.offered c → IsWorldOf (world_of input maker) c
-  is_world input maker c made = record { settings = sym made.settings; total = sym made.cells.number; most_instances = refl; stripes = refl }
+  is_world input maker c made = record { tells = refl; settings = sym made.settings; slots = sym made.cells.number; stripes = refl }
 
 -- the image of a module's memory, among those of the module
 image_from : (id : CompiledModuleId) (page n : ℕ) (decls : List MemoryDecl) (k : ℕ) (d : MemoryDecl) → slice_get decls k ≡ Some d → slice_index_or (images_from id page n decls) k None ≡ option_map (image_of id page (n + k)) d.image
@@ -93,47 +93,49 @@ fits_if false id page k d some ends = tt
 fits_if true id page k d some ends = fits_of id page k d d.image some (ends refl)
 
 -- A call that is made for a module is one for it.
-is_call_for : (w : World) (s : Settings) (number : ℕ) (m : ModuleInfo) (call : ModuleCall) → slice_get w.modules number ≡ Some m → is_built_module m ≡ true → s.page ≡ w.maker.page → 0 < s.page → IsMadeCall w.maker.page number m call → IsCallFor w s number call
-is_call_for w s number m call there built page some made =
+is_call_for : (t : Terms) (s : Settings) (number : ℕ) (m : ModuleInfo) (call : ModuleCall) → slice_get t.modules number ≡ Some m → is_built_module m ≡ true → s.page ≡ t.settings.page → 0 < s.page → IsMadeCall t.settings.tunables.tunables t.settings.page number m call → IsCallFor t s number call
+is_call_for t s number m call there built page some made =
     let id : CompiledModuleId = record { 0 = number } in
-    let all : Bool = has_images w.maker.page m.memories in
-    let memories : m.memories ≡ memories_of w number = ap (λ (o : Option ModuleInfo). option_map_or (λ x. x.memories) o []) (sym there) in
-    let asked : images_made call.images ≡ unwrap_or (images_of_module w.maker.page number m) [] = asked_images call.images ∙ ap (λ (o : Option (List (Option Image))). unwrap_or o []) made.images in
-    let image : (k : ℕ) (d : MemoryDecl) → slice_get m.memories k ≡ Some d → slice_index_or (images_made call.images) k None ≡ (if all then option_map (image_of id w.maker.page k) d.image else None) =
-    λ k d at. ap (λ (xs : List (Option Image)). slice_index_or xs k None) asked ∙ image_there all id w.maker.page m.memories k d at in
-    let Images : List MemoryDecl → Type 0 = λ decls. (k : ℕ) → IfSome (slice_get decls k) (λ d. slice_index_or (images_made call.images) k None ≡ (if has_images w.maker.page decls then option_map (image_of id w.maker.page k) d.image else None)) in
+    let all : Bool = has_images t.settings.tunables.tunables t.settings.page m.memories in
+    let memories : m.memories ≡ memories_of t number = ap (λ (o : Option ModuleInfo). option_map_or (λ x. x.memories) o []) (sym there) in
+    let asked : images_made call.images ≡ unwrap_or (images_of_module t.settings.tunables.tunables t.settings.page number m) [] = asked_images call.images ∙ ap (λ (o : Option (List (Option Image))). unwrap_or o []) made.images in
+    let image : (k : ℕ) (d : MemoryDecl) → slice_get m.memories k ≡ Some d → slice_index_or (images_made call.images) k None ≡ (if all then option_map (image_of id t.settings.page k) d.image else None) =
+    λ k d at. ap (λ (xs : List (Option Image)). slice_index_or xs k None) asked ∙ image_there all id t.settings.page m.memories k d at in
+    let Images : List MemoryDecl → Type 0 = λ decls. (k : ℕ) → IfSome (slice_get decls k) (λ d. slice_index_or (images_made call.images) k None ≡ (if has_images t.settings.tunables.tunables t.settings.page decls then option_map (image_of id t.settings.page k) d.image else None)) in
     let Fit : ModuleInfo → Type 0 = λ info. AreImagesOf s info.memories (images_made call.images) in
     let Places : ModuleInfo → Type 0 = λ info. IfSome call.images (λ images. length (arc_value images) ≡ length info.memories) in
     let here : List MemoryDecl → ℕ → MemoryDecl → Type 0 = λ decls k d. slice_get decls k ≡ Some d in
     record {
       asked = record {
         some = refl;
-        memories = ap (λ (info : ModuleInfo). info.memories) made.info ∙ memories;
-        images = subst Images memories (λ k. if_some (slice_get m.memories k) (λ d. slice_index_or (images_made call.images) k None ≡ (if all then option_map (image_of id w.maker.page k) d.image else None)) (image k));
+        module_of = ap Some made.info ∙ sym there;
+        images = subst Images memories (λ k. if_some (slice_get m.memories k) (λ d. slice_index_or (images_made call.images) k None ≡ (if all then option_map (image_of id t.settings.page k) d.image else None)) (image k));
       };
-      images = subst Fit (sym made.info) (record {
-        each = λ k.
-            if_some (slice_get m.memories k) (λ d. (d.ty.page_size_log2 < 64) × IfSome (slice_index_or (images_made call.images) k None) (FitsInto s.page (minimum_byte_size d.ty)))
-            (λ d at.
-            let If : Option Image → Type 0 = λ o. IfSome o (FitsInto s.page (minimum_byte_size d.ty)) in
-            let On : ℕ → Type 0 = λ p. IfSome (if all then option_map (image_of id w.maker.page k) d.image else None) (FitsInto p (minimum_byte_size d.ty)) in
-            let some_page : 0 < w.maker.page = omega (arith, page, some) in
-            (omega (arith, small_pages d (of_all is_built_memory m.memories k d (built_memories m built) at)), subst If (sym (image k d at)) (subst On (sym page) (fits_if all id w.maker.page k d some_page (λ has. of_all (ends_in_minimum w.maker.page) m.memories k d (second (not (is_some (first_misplaced w.maker.page m.memories))) _ has) at)))));
-      });
-      places = subst Places (sym made.info) (place_for_each all id w.maker.page m.memories call.images made.images);
+      fit = record {
+        images = subst Fit (sym made.info) (record {
+          each = λ k.
+              if_some (slice_get m.memories k) (λ d. (d.ty.page_size_log2 < 64) × IfSome (slice_index_or (images_made call.images) k None) (FitsInto s.page (minimum_byte_size d.ty)))
+              (λ d at.
+              let If : Option Image → Type 0 = λ o. IfSome o (FitsInto s.page (minimum_byte_size d.ty)) in
+              let On : ℕ → Type 0 = λ p. IfSome (if all then option_map (image_of id t.settings.page k) d.image else None) (FitsInto p (minimum_byte_size d.ty)) in
+              let some_page : 0 < t.settings.page = omega (arith, page, some) in
+              (omega (arith, small_pages d (of_all is_built_memory m.memories k d (built_memories m built) at)), subst If (sym (image k d at)) (subst On (sym page) (fits_if all id t.settings.page k d some_page (λ has. of_all (ends_in_minimum t.settings.page) m.memories k d (second (not (is_some (first_misplaced t.settings.page m.memories))) _ (second t.settings.tunables.tunables.memory_init_cow _ has)) at)))));
+        });
+        places = subst Places (sym made.info) (place_for_each all id t.settings.page m.memories call.images made.images);
+      };
     }
 
 nothing_known : ModuleInfo
-nothing_known = record { memories = [] }
+nothing_known = record { memories = []; tables = []; state_bytes = 0; parts = [] }
 
 -- So are all the calls that are made.
-pub are_calls_for : (w : World) (s : Settings) (calls : List ModuleCall) → list_all is_built_module w.modules ≡ true → s.page ≡ w.maker.page → 0 < s.page → AreMadeCalls w.maker.page w.modules calls → AreCallsFor w s calls
-are_calls_for w s calls built page some made number =
-    if_some (slice_get calls number) (IsCallFor w s number)
+pub are_calls_for : (t : Terms) (s : Settings) (calls : List ModuleCall) → list_all is_built_module t.modules ≡ true → s.page ≡ t.settings.page → 0 < s.page → AreMadeCalls t.settings.tunables.tunables t.settings.page t.modules calls → AreCallsFor t s calls
+are_calls_for t s calls built page some made number =
+    if_some (slice_get calls number) (IsCallFor t s number)
     (λ call at.
-    let below : number < length w.modules = omega (arith, slice_get_within calls number call at, made.number) in
-    let m : ModuleInfo = get_or w.modules number nothing_known in
-    let there : slice_get w.modules number ≡ Some m = slice_get-get_or w.modules number nothing_known below in
-    let Call : Option ModuleCall → Type 0 = λ o. IfSome o (λ c. IfSome (slice_get w.modules number) (λ info. IsMadeCall w.maker.page number info c)) in
-    let Info : Option ModuleInfo → Type 0 = λ o. IfSome o (λ info. IsMadeCall w.maker.page number info call) in
-    is_call_for w s number m call there (of_all is_built_module w.modules number m built there) page some (subst Info there (subst Call at (made.each number))))
+    let below : number < length t.modules = omega (arith, slice_get_within calls number call at, made.number) in
+    let m : ModuleInfo = get_or t.modules number nothing_known in
+    let there : slice_get t.modules number ≡ Some m = slice_get-get_or t.modules number nothing_known below in
+    let Call : Option ModuleCall → Type 0 = λ o. IfSome o (λ c. IfSome (slice_get t.modules number) (λ info. IsMadeCall t.settings.tunables.tunables t.settings.page number info c)) in
+    let Info : Option ModuleInfo → Type 0 = λ o. IfSome o (λ info. IsMadeCall t.settings.tunables.tunables t.settings.page number info call) in
+    is_call_for t s number m call there (of_all is_built_module t.modules number m built there) page some (subst Info there (subst Call at (made.each number))))

@@ -1,17 +1,16 @@
 -- A run of several parties, turn by turn: in the order of the schedule, and then party by party until none has anything
 -- left.
-use Rattle.std.specs.Prelude.{◌≡◌, ℕ, ◌+◌, ◌<◌, ◌≤◌, List, [], ◌∷◌, ◌++◌, length, map, replicate, slice_get, slice_index_or, slice_set, true, false, Option, Some, None, IfSome}
+use Rattle.std.specs.Prelude.{◌≡◌, ℕ, ◌+◌, ◌<◌, ◌≤◌, List, [], ◌∷◌, ◌++◌, length, map, replicate, slice_get, slice_index_or, slice_set, sum_by, true, Option, Some, None, IfSome}
 use Rattle.pool_pages.specs.MakerTold.{MakerTold}
-use Rattle.pool_alloc.specs.Calls.{frame_made}
 use Rattle.pool_alloc.specs.declared.pool_core.PoolCore.{PoolCore}
-use Rattle.pool_alloc.specs.declared.pool_core.Settings.{Settings}
 use Rattle.pool_alloc.specs.declared.frame.ModuleCall.{ModuleCall}
 use Rattle.pool_run.specs.PartyRules.{rule_of}
-use Rattle.pool_run.specs.Private.{World, under, no_grants}
-use Rattle.pool_run.specs.declared.input.PartyLimits.{PartyLimits}
+use Rattle.pool_run.specs.Private.{no_grants}
+use Rattle.pool_run.specs.Rooms.{World, under}
 use Rattle.pool_run.specs.Turns.{Turned, Turns, with_reply}
 use Rattle.pool_alloc.specs.Stepping.{is_idle}
-use Rattle.pool_run.specs.Ties.{IsPrivate, IsSoundTurn, IsRunning}
+use Rattle.pool_run.specs.Ties.{IsPrivate, IsRunning}
+use Rattle.pool_run.specs.Limits.{live_instances}
 use Rattle.pool_run.specs.Searches.{IsAlone}
 use Rattle.pool_run.specs.Worlds.{IsWorldOf, AreCallsFor}
 use Rattle.pool_run.specs.declared.command.Command.{Command}
@@ -39,8 +38,8 @@ abbrev pub replies_to : ℕ → List (List Reply) → List Reply
 replies_to i replies = slice_index_or replies i []
 
 -- the replies after a turn of party i, with one more if a command ended with it
-abbrev pub told_after : ℕ → Option Reply → List (List Reply) → List (List Reply)
-told_after i reply told = slice_set told i (with_reply reply (replies_to i told))
+abbrev pub replies_after : ℕ → Option Reply → List (List Reply) → List (List Reply)
+replies_after i reply told = slice_set told i (with_reply reply (replies_to i told))
 
 -- so many turns of each party, party by party
 abbrev pub party_by_party : ℕ → List ℕ → List ℕ
@@ -48,8 +47,8 @@ party_by_party i [] = []
 party_by_party i (n ∷ counts) = replicate n i ++ party_by_party (i + 1) counts
 
 module _ {P : Type 0} where
-  abbrev pub state_of : RunParts P → List (List Reply) → RunState P
-  state_of run told = record { core = run.core; modules = run.modules; parties = run.parties; replies = told }
+  abbrev pub told_state : RunParts P → List (List Reply) → RunState P
+  told_state run told = record { core = run.core; modules = run.modules; parties = run.parties; replies = told }
 
   -- after a turn of party i
   abbrev pub with_turn : ℕ → Turned P → RunState P → RunState P
@@ -57,16 +56,23 @@ module _ {P : Type 0} where
     core = t.core;
     modules = s.modules;
     parties = slice_set s.parties i t.party;
-    replies = told_after i t.reply s.replies;
+    replies = replies_after i t.reply s.replies;
   }
 
-  abbrev pub TurnsIf : MakerTold → List ModuleCall → List Command → ℕ → Option (RunningParty P) → RunState P → RunState P → Type 0
-  TurnsIf maker modules commands i None s new = new ≡ s
-  TurnsIf maker modules commands i (Some p) s new = (t : Turned P) × Turns modules commands s.core p t × IsSoundTurn maker t × (new ≡ with_turn i t s)
+  -- What holds between turns: the pool and what the parties have of it are sound, each slot and each region is in one
+  -- place, and no more instances are granted than there may be.
+  pub record HoldsBetween (maker : MakerTold) (s : RunState P) : Type 0 where
+    pub running : IsRunning maker s.core s.parties
+    pub instances : sum_by live_instances s.parties ≤ s.core.settings.max_core_instances
 
-  -- a turn of party i, if there is one; it leaves what is sound
+  -- a turn of party i, if there is one
+  abbrev pub TurnsIf : List ModuleCall → List Command → ℕ → Option (RunningParty P) → RunState P → RunState P → Type 0
+  TurnsIf modules commands i None s new = new ≡ s
+  TurnsIf modules commands i (Some p) s new = (t : Turned P) × Turns modules commands s.core p t × (new ≡ with_turn i t s)
+
+  -- and what holds after it
   abbrev pub TurnsOf : MakerTold → List ModuleCall → List (List Command) → ℕ → RunState P → RunState P → Type 0
-  TurnsOf maker modules inputs i s new = TurnsIf maker modules (commands_of inputs i) i (slice_get s.parties i) s new
+  TurnsOf maker modules inputs i s new = TurnsIf modules (commands_of inputs i) i (slice_get s.parties i) s new × HoldsBetween maker new
 
   -- turns of these parties, in order
   abbrev pub Folds : MakerTold → List ModuleCall → List (List Command) → List ℕ → RunState P → RunState P → Type 0
@@ -82,7 +88,7 @@ module _ {P : Type 0} where
   IsFinished inputs s = (i : ℕ) → IfSome (slice_get s.parties i) (HasNothingLeft (commands_of inputs i))
 
   -- party 0 turns until it has nothing left, then party 1, and so on
-  pub record Finishes (maker : MakerTold) (modules : List ModuleCall) (inputs : List (List Command)) (s end : RunState P) : Type 0 where
+  pub record FinishesRun (maker : MakerTold) (modules : List ModuleCall) (inputs : List (List Command)) (s end : RunState P) : Type 0 where
     pub counts : List ℕ
     pub parties : length counts ≡ length s.parties
     pub folds : Folds maker modules inputs (party_by_party 0 counts) s end
@@ -92,17 +98,7 @@ module _ {P : Type 0} where
   pub record Runs (maker : MakerTold) (modules : List ModuleCall) (inputs : List (List Command)) (schedule : List ℕ) (s end : RunState P) : Type 0 where
     pub scheduled : RunState P
     pub folds : Folds maker modules inputs schedule s scheduled
-    pub finishes : Finishes maker modules inputs scheduled end
-
-  -- a party as it is made, with places for so many commands
-  pub record IsMadeParty (s : Settings) (places : ℕ) (p : RunningParty P) : Type 0 where
-    pub home : ℕ
-    pub frame : p.frame ≡ frame_made home s
-    pub limits : Option PartyLimits
-    pub limited : p.limits ≡ limits
-    pub keyed : p.keyed ≡ false
-    pub done : p.done ≡ 0
-    pub live : p.live ≡ replicate places None
+    pub finishes : FinishesRun maker modules inputs scheduled end
 
   -- how far a party is: its replies are a private run of its commands under its limits, and it has a place for each of
   -- these
@@ -117,10 +113,10 @@ module _ {P : Type 0} where
 
   -- What holds at each moment of a run.
   pub record IsUnderWay (w : World) (modules : List ModuleCall) (inputs : List (List Command)) (s : RunState P) : Type 0 where
-    pub running : IsRunning w.maker s.core s.parties
+    pub holds : HoldsBetween w.maker s
     pub given : s.modules ≡ modules
     pub world : IsWorldOf w s.core
-    pub calls : AreCallsFor w s.core.settings modules
+    pub calls : AreCallsFor w.terms s.core.settings modules
     pub rules : map (λ p. rule_of p.limits) s.parties ≡ w.rules
     pub alone : w.alone ≡ true → IsOfOne s
     pub told : length s.replies ≡ length s.parties

@@ -7,6 +7,7 @@ pub mod Numbers
 pub mod PartyRules
 pub mod Private
 pub mod Progress
+pub mod Rooms
 pub mod Runs
 pub mod RunsMade
 pub mod Schedules

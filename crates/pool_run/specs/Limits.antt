@@ -16,13 +16,17 @@ admitted_as asks counted = counted
 admitted_as (ends_as e) counted = 0
 
 module _ {P : Type 0} where
+  -- how many instances of a party are live
+  abbrev pub live_instances : RunningParty P → ℕ
+  live_instances p = sum_by (granted_to grant_instances) p.live
+
   -- what a call was admitted for: an instance, from where it was counted below the limit until it is granted or refused
   abbrev pub admitted_by : Phase P → Ending → ℕ
   admitted_by phase ending = admitted_as (stage_of phase ending) (phase_instances phase)
 
   -- a party's live instances, and what its call was admitted for
   abbrev pub admitted : RunningParty P → ℕ
-  admitted p = admitted_by p.frame.phase p.frame.ending + sum_by (granted_to grant_instances) p.live
+  admitted p = admitted_by p.frame.phase p.frame.ending + live_instances p
 
   -- At no time are more instances granted than there may be, nor can the requests on their way exceed that. The counter
   -- itself may stand above the limit while a request is refused there.

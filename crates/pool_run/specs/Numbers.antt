@@ -1,7 +1,7 @@
 -- The numbers of a run: the calls on all regions, wherever they are.
 use Rattle.std.specs.Prelude.{List, fold, Option, Some, None}
 use Rattle.pool_pages.specs.declared.pages.PageCalls.{PageCalls}
-use Rattle.pool_slots.specs.Cells.{added}
+use Rattle.pool_pages.specs.CallSums.{added}
 use Rattle.pool_alloc.specs.Sums.{calls_of_leases, calls_kept, calls_in_frame}
 use Rattle.pool_alloc.specs.declared.pool_core.PoolCore.{PoolCore}
 use Rattle.pool_alloc.specs.declared.frame.Grant.{Grant}

@@ -1,27 +1,25 @@
 -- What a party may see: its grants as private lists of bytes, which its commands read and write, and no pool.
-use Rattle.std.specs.Prelude.{◌≡◌, ◌≢◌, ℕ, ◌+◌, ◌-◌, ◌*◌, ◌^◌, ◌<◌, ◌≤◌, ◌==◌, ◌||◌, ◌&&◌, List, [], ◌∷◌, ◌++◌, length, sum_by, slice_get, slice_index_or, slice_range, slice_set, All, replicate, min, ◌⊎◌, Bool, true, false, not, nat_lt, if◌then◌else◌, Option, Some, None, IfSome, is_some, option_map, Result, Ok, Err}
-use Rattle.std.specs.Option.{option_map_or}
+use Rattle.std.specs.Prelude.{◌≡◌, ℕ, ◌+◌, ◌-◌, ◌*◌, ◌^◌, ◌<◌, ◌≤◌, ◌==◌, ◌||◌, ◌&&◌, List, [], ◌∷◌, ◌++◌, length, slice_get, slice_index_or, slice_range, slice_set, replicate, min, ◌⊎◌, Bool, true, false, not, nat_lt, if◌then◌else◌, Option, Some, None, IfSome, is_some, option_map, Result, Ok, Err}
+use Rattle.std.specs.Option.{option_and_then, option_map_or}
 use Rattle.std.specs.List.{list_all}
 use Rattle.pool_pages.specs.Contents.{put}
 use Rattle.pool_pages.specs.MemoryTypes.{minimum_byte_size, page_size, allow_growth_to}
-use Rattle.pool_pages.specs.MakerTold.{MakerTold, plan_for}
-use Rattle.pool_pages.specs.declared.pages.RegionName.TheVariants.{Memory as memory_region}
 use Rattle.pool_pages.specs.declared.module_types.MemoryDecl.{MemoryDecl}
 use Rattle.pool_pages.specs.declared.module_types.ModuleInfo.{ModuleInfo}
 use Rattle.pool_pages.specs.declared.module_types.MemoryType.{MemoryType}
+use Rattle.pool_pages.specs.declared.module_types.Tunables.{Tunables}
 use Rattle.pool_pages.specs.declared.unsupported.Unsupported.{Unsupported}
-use Rattle.pool_limits.specs.Growth.{GrowthRule, always, memory_answer, memory_failure}
+use Rattle.pool_limits.specs.Growth.{GrowthRule, memory_answer, memory_failure}
 use Rattle.pool_limits.specs.declared.errors.LimiterError.{LimiterError}
 use Rattle.pool_limits.specs.declared.errors.Trap.TheVariants.{MemoryOutOfBounds}
 use Rattle.pool_images.specs.Images.{Image, image_of, start, first_misplaced, ends_in_minimum}
 use Rattle.pool_memory.specs.Growing.{exceeds}
 use Rattle.pool_memory.specs.Making.{minimum_asked, maximum_asked, limits_answer}
-use Rattle.pool_memory.specs.Static.{capacity_of}
+use Rattle.pool_memory.specs.Static.{static_capacity}
 use Rattle.pool_memory.specs.declared.memory_error.MemoryError.{MemoryError}
-use Rattle.pool_slots.specs.declared.request.AllocError.{AllocError}
-use Rattle.pool_slots.specs.declared.request.AllocError.TheVariants as alloc
-use Rattle.pool_slots.specs.declared.request.ConcurrencyKind.TheVariants.{MemoryStripe, CoreInstances}
-use Rattle.pool_slots.specs.declared.request.PoolConcurrencyLimitError.{PoolConcurrencyLimitError}
+use Rattle.pool_slots.specs.declared.errors.AllocError.{AllocError}
+use Rattle.pool_slots.specs.declared.errors.AllocError.TheVariants as alloc
+use Rattle.pool_slots.specs.declared.errors.ConcurrencyKind.TheVariants.{MemoryStripe, CoreInstances}
 use Rattle.pool_alloc.specs.Own.{refusal_of}
 use Rattle.pool_alloc.specs.Refusals.{memories_refused}
 use Rattle.pool_alloc.specs.declared.pool_core.Settings.{Settings}
@@ -53,82 +51,44 @@ Grants = List (Option PrivateInstance)
 abbrev pub grant_at : Grants → ℕ → Option PrivateInstance
 grant_at grants of = slice_index_or grants of None
 
--- how many memories are live
-abbrev pub memories_in : Option PrivateInstance → ℕ
-memories_in None = 0
-memories_in (Some g) = length g.memories
-
-abbrev pub live_count : Grants → ℕ
-live_count grants = sum_by memories_in grants
-
--- and how many instances
-abbrev pub instances_in : Option PrivateInstance → ℕ
-instances_in None = 0
-instances_in (Some g) = 1
-
-abbrev pub instance_count : Grants → ℕ
-instance_count grants = sum_by instances_in grants
-
--- what is the same for the whole run: whether pages are told, the page of their maker and its plan, the modules, the
--- pool's settings, how many slots and how many instances there may be, by which rule the growth of each party's memories
--- is decided, and whether there is one party alone; and the rule of the party that is spoken of
-pub record World : Type 0 where
-  pub maker : MakerTold
+-- What a party's replies depend on beside its commands: whether pages are told, the modules, the pool's settings and how
+-- many memory slots it has, and the rule by which the growth of the party's memories is decided.
+pub record Terms : Type 0 where
+  pub tells : Bool
   pub modules : List ModuleInfo
   pub settings : Settings
-  pub total : ℕ
-  pub most_instances : ℕ
-  pub rules : List GrowthRule
-  pub alone : Bool
+  pub slots : ℕ
   pub rule : GrowthRule
 
--- the world of a party with this rule, and that of party i
-abbrev pub under : GrowthRule → World → World
-under rule w = record w { rule = rule }
-
-abbrev pub world_at : World → ℕ → World
-world_at w i = under (slice_index_or w.rules i always) w
-
 -- the memories that the module of this number defines
-abbrev pub memories_of : World → ℕ → List MemoryDecl
-memories_of w number = option_map_or (λ m. m.memories) (slice_get w.modules number) []
+abbrev pub memories_of : Terms → ℕ → List MemoryDecl
+memories_of t number = option_map_or (λ m. m.memories) (slice_get t.modules number) []
 
--- images can be made for these memories: each begins with a page and, padded, ends within its memory's minimum
-abbrev pub has_images : ℕ → List MemoryDecl → Bool
-has_images page decls = not (is_some (first_misplaced page decls)) && list_all (ends_in_minimum page) decls
+-- Images are made for these memories: where memories begin as images at all, and each of them begins with a page and,
+-- padded, ends within its memory's minimum.
+abbrev pub has_images : Tunables → ℕ → List MemoryDecl → Bool
+has_images tunables page decls = tunables.memory_init_cow && (not (is_some (first_misplaced page decls)) && list_all (ends_in_minimum page) decls)
 
 -- The image that memory k of a module begins with, padded to whole pages: none where the module has no images.
-abbrev pub image_at : World → ℕ → ℕ → MemoryDecl → Option Image
-image_at w number k decl = if has_images w.maker.page (memories_of w number) then option_map (image_of (record { 0 = number }) w.maker.page k) decl.image else None
+abbrev pub image_at : Terms → ℕ → ℕ → MemoryDecl → Option Image
+image_at t number k decl = if has_images t.settings.tunables.tunables t.settings.page (memories_of t number) then option_map (image_of (record { 0 = number }) t.settings.page k) decl.image else None
 
 -- A memory as it begins: its minimum of bytes, which are its image at its offset and zeros elsewhere. It can become as
 -- large as a slot of the pool, or as its type allows if that is less.
-abbrev pub begun_memory : World → ℕ → ℕ → MemoryDecl → ℕ → PrivateMemory
-begun_memory w number k decl slot = record {
+abbrev pub begun_memory : Terms → ℕ → ℕ → MemoryDecl → ℕ → PrivateMemory
+begun_memory t number k decl slot = record {
   slot = slot;
   ty = decl.ty;
   size = minimum_byte_size decl.ty;
-  capacity = capacity_of w.settings.max_memory_size (maximum_asked decl.ty);
-  bytes = if w.maker.tells then Some (start (image_at w number k decl) (minimum_byte_size decl.ty)) else None;
+  capacity = static_capacity t.settings.max_memory_size (maximum_asked decl.ty);
+  bytes = if t.tells then Some (start (image_at t number k decl) (minimum_byte_size decl.ty)) else None;
 }
 
 -- the memories of a module from memory k on, in these slots
-abbrev pub begun_memories : World → ℕ → ℕ → List MemoryDecl → List ℕ → List PrivateMemory
-begun_memories w number k [] slots = []
-begun_memories w number k (decl ∷ decls) [] = []
-begun_memories w number k (decl ∷ decls) (slot ∷ slots) = begun_memory w number k decl slot ∷ begun_memories w number (k + 1) decls slots
-
--- no live memory is in this slot
-abbrev pub IsFree : ℕ → Grants → Type 0
-IsFree slot grants = (i : ℕ) → IfSome (grant_at grants i) (λ g. All (λ m. m.slot ≢ slot) g.memories)
-
--- the plan that the region of this slot is made with, where it is told, lists a call on it
-abbrev pub MayFault : World → ℕ → Type 0
-MayFault w slot = IfSome (plan_for (memory_region slot) w.maker) (λ plan. 0 < length plan)
-
--- that of some slot does
-abbrev pub SomeMayFault : World → Type 0
-SomeMayFault w = (i : ℕ) × (i < w.total) × MayFault w i
+abbrev pub begun_memories : Terms → ℕ → ℕ → List MemoryDecl → List ℕ → List PrivateMemory
+begun_memories t number k [] slots = []
+begun_memories t number k (decl ∷ decls) [] = []
+begun_memories t number k (decl ∷ decls) (slot ∷ slots) = begun_memory t number k decl slot ∷ begun_memories t number (k + 1) decls slots
 
 -- the refusal in an answer, if it is one
 abbrev pub refused_by : {X : Type 0} → Result X MemoryError → Option AllocError
@@ -150,60 +110,61 @@ abbrev pub slots_asked : GrowthRule → List MemoryDecl → ℕ
 slots_asked rule [] = 0
 slots_asked rule (decl ∷ decls) = 1 + (if is_some (own_refusal rule decl.ty) then 0 else slots_asked rule decls)
 
--- A refusal for room of a request for the module of this number: no slot is free for one of its memories, or as many
--- instances are granted as there may be. A party that is alone has all these itself.
-abbrev pub IsLimit : World → ℕ → Grants → PoolConcurrencyLimitError → Type 0
-IsLimit w number grants e =
-    ((e ≡ record { limit = w.total; kind = MemoryStripe 0 }) × (w.alone ≡ true → w.total < live_count grants + slots_asked w.rule (memories_of w number)))
-    ⊎ ((e ≡ record { limit = w.most_instances; kind = CoreInstances }) × (w.alone ≡ true → w.most_instances ≤ instance_count grants))
+-- What a request may meet whatever its module is: there is no memory for it, as many instances are granted as there may
+-- be, no slot is free for the memory of this number, or a call on the pages of that memory's slot failed.
+pub data GivenRefusal : Type 0 where
+  no_memory : GivenRefusal
+  no_instance : GivenRefusal
+  no_slot : ℕ → GivenRefusal
+  page_fault : ℕ → GivenRefusal
 
--- a refusal that comes from elsewhere: for want of memory, for room, or by a call on pages, which fails only on those of
--- a slot that is free
-abbrev pub IsGiven : World → ℕ → Grants → AllocError → Type 0
-IsGiven w number grants (alloc.Memory) = Unit {0}
-IsGiven w number grants (alloc.Limit e) = IsLimit w number grants e
-IsGiven w number grants (alloc.PageFault) = SomeMayFault w × (live_count grants < w.total)
-IsGiven w number grants _ = ⊥
+-- how it is refused then
+abbrev pub refused_as : Terms → GivenRefusal → AllocError
+refused_as t no_memory = alloc.Memory
+refused_as t no_instance = alloc.Limit (record { limit = t.settings.max_core_instances; kind = CoreInstances })
+refused_as t (no_slot i) = alloc.Limit (record { limit = t.slots; kind = MemoryStripe 0 })
+refused_as t (page_fault i) = alloc.PageFault
 
--- Why such a request is refused: where the module breaks a rule of the pool, for that, or for want of memory; otherwise
--- with the first own refusal of its memories, or with one that is given.
-abbrev pub IsRefused : Option Unsupported → World → ℕ → Grants → AllocError → Type 0
-IsRefused (Some rule) w number grants e = (e ≡ alloc.Unsupported rule) ⊎ (e ≡ alloc.Memory)
-IsRefused None w number grants e = (first_refusal w.rule (memories_of w number) ≡ Some e) ⊎ IsGiven w number grants e
+-- a slot is asked for each memory up to the first that has an own refusal
+abbrev pub IsInTime : ℕ → GivenRefusal → Type 0
+IsInTime slots no_memory = Unit {0}
+IsInTime slots no_instance = Unit {0}
+IsInTime slots (no_slot i) = i < slots
+IsInTime slots (page_fault i) = i < slots
+
+abbrev pub IsGiven : Terms → ℕ → AllocError → Type 0
+IsGiven t number e = (given : GivenRefusal) × (e ≡ refused_as t given) × IsInTime (slots_asked t.rule (memories_of t number)) given
+
+-- Why a request is refused: where the module breaks a rule of the pool, for that, or for want of memory; otherwise with
+-- the first own refusal of its memories, or with one that is given.
+abbrev pub IsRefused : Option Unsupported → Terms → ℕ → AllocError → Type 0
+IsRefused (Some rule) t number e = (e ≡ alloc.Unsupported rule) ⊎ (e ≡ alloc.Memory)
+IsRefused None t number e = (first_refusal t.rule (memories_of t number) ≡ Some e) ⊎ IsGiven t number e
 
 -- the first rule of the pool that the module of this number breaks
-abbrev pub rule_broken : World → ℕ → Option Unsupported
-rule_broken w number = memories_refused w.settings (memories_of w number)
+abbrev pub rule_broken : Terms → ℕ → Option Unsupported
+rule_broken t number = memories_refused t.settings (memories_of t number)
 
-abbrev pub IsCause : World → ℕ → Grants → Refusal → Type 0
-IsCause w number grants NoSuchGrant = ⊥
-IsCause w number grants (Alloc e) = IsRefused (rule_broken w number) w number grants e
+abbrev pub IsCause : Terms → ℕ → Refusal → Type 0
+IsCause t number NoSuchGrant = ⊥
+IsCause t number (Alloc e) = IsRefused (rule_broken t number) t number e
 
--- no slot is named twice
-abbrev pub AllDiffer : List ℕ → Type 0
-AllDiffer slots = (i j : ℕ) → i < length slots → j < length slots → slice_index_or slots i 0 ≡ slice_index_or slots j 0 → i ≡ j
-
--- the memories of an instance that is granted: none is refused, and there is one for each of the module's, in slots of
--- the pool that are free and differ
-pub record AreGranted (w : World) (number : ℕ) (grants : Grants) (slots : List ℕ) : Type 0 where
-  pub supported : rule_broken w number ≡ None
-  pub allowed : first_refusal w.rule (memories_of w number) ≡ None
-  pub count : length slots ≡ length (memories_of w number)
-  pub inside : All (λ slot. slot < w.total) slots
-  pub free : All (λ slot. IsFree slot grants) slots
-  pub differ : AllDiffer slots
-  pub room : live_count grants + length (memories_of w number) ≤ w.total
+-- an instance is granted: nothing of its module is refused, and each of its memories has a slot
+pub record IsGranted (t : Terms) (number : ℕ) (slots : List ℕ) : Type 0 where
+  pub supported : rule_broken t number ≡ None
+  pub allowed : first_refusal t.rule (memories_of t number) ≡ None
+  pub count : length slots ≡ length (memories_of t number)
 
 -- the reply to command n, a request for an instance of the module of this number
-abbrev pub Instantiates : World → ℕ → ℕ → Grants → Reply → Grants → Type 0
-Instantiates w n number grants (Instance memories tables) new =
-    AreGranted w number grants memories × (tables ≡ []) × (new ≡ slice_set grants n (Some (record { memories = begun_memories w number 0 (memories_of w number) memories })))
-Instantiates w n number grants (Refused refusal) new = IsCause w number grants refusal × (new ≡ grants)
-Instantiates w n number grants _ new = ⊥
+abbrev pub Instantiates : Terms → ℕ → ℕ → Grants → Reply → Grants → Type 0
+Instantiates t n number grants (Instance memories tables) new =
+    IsGranted t number memories × (tables ≡ []) × (new ≡ slice_set grants n (Some (record { memories = begun_memories t number 0 (memories_of t number) memories })))
+Instantiates t n number grants (Refused refusal) new = IsCause t number refusal × (new ≡ grants)
+Instantiates t n number grants _ new = ⊥
 
--- the reply to a read of a live memory
+-- the reply to a read of a live memory: so many bytes, which are its own, where those are told
 abbrev pub IsRead : PrivateMemory → ℕ → ℕ → Reply → Type 0
-IsRead m at len (Bytes bytes) = (at + len ≤ m.size) × IfSome m.bytes (λ b. bytes ≡ slice_range b at (at + len))
+IsRead m at len (Bytes bytes) = (at + len ≤ m.size) × (length bytes ≡ len) × IfSome m.bytes (λ b. bytes ≡ slice_range b at (at + len))
 IsRead m at len (Trap trap) = (trap ≡ MemoryOutOfBounds) × (m.size < at + len)
 IsRead m at len (Refused refusal) = refusal ≡ Alloc alloc.Memory
 IsRead m at len _ = ⊥
@@ -213,12 +174,12 @@ abbrev pub IsSize : PrivateMemory → Reply → Type 0
 IsSize m reply = reply ≡ Size m.size
 
 -- the memory with bytes of it written
-abbrev pub memory_written : ℕ → List ℕ → PrivateMemory → PrivateMemory
-memory_written at new m = record m { bytes = option_map (put at new) m.bytes }
+abbrev pub private_written : ℕ → List ℕ → PrivateMemory → PrivateMemory
+private_written at new m = record m { bytes = option_map (put at new) m.bytes }
 
 -- the memory after a write of these bytes, and the reply
 abbrev pub Writes : ℕ → List ℕ → PrivateMemory → PrivateMemory → Reply → Type 0
-Writes at bytes m new Done = (at + length bytes ≤ m.size) × (new ≡ memory_written at bytes m)
+Writes at bytes m new Done = (at + length bytes ≤ m.size) × (new ≡ private_written at bytes m)
 Writes at bytes m new (Trap trap) = (trap ≡ MemoryOutOfBounds) × (m.size < at + length bytes) × (new ≡ m)
 Writes at bytes m new _ = ⊥
 
@@ -260,67 +221,77 @@ grown_by rule fault pages m =
     else (memory_grown (size_wanted pages m) m, Grown (Some m.size)))
     )
 
--- a call on the pages fails only where their plan, if it is told, lists one
-abbrev pub Grows : World → ℕ → PrivateMemory → PrivateMemory → Reply → Type 0
-Grows w pages m new reply = (fault : Bool) × (fault ≡ true → MayFault w m.slot) × ((new, reply) ≡ grown_by w.rule fault pages m)
+-- whether a call on the pages fails is given
+abbrev pub Grows : GrowthRule → ℕ → PrivateMemory → PrivateMemory → Reply → Type 0
+Grows rule pages m new reply = (fault : Bool) × ((new, reply) ≡ grown_by rule fault pages m)
 
--- the grants with a memory of one of them changed
-abbrev pub with_memory : Grants → ℕ → PrivateInstance → ℕ → PrivateMemory → Grants
-with_memory grants of g k m = slice_set grants of (Some (record { memories = slice_set g.memories k m }))
+-- What a command makes of what it names. Where that isn't there, the command is refused and changes nothing; where it is,
+-- a move of it gives the reply, and what is there then is put in its place.
+abbrev pub MovesNamed : {X S : Type 0} → (X → X → Reply → Type 0) → Option X → (X → S → S) → S → Reply → S → Type 0
+MovesNamed Move None put old reply new = (reply ≡ Refused NoSuchGrant) × (new ≡ old)
+MovesNamed {X = X} Move (Some x) put old reply new = (moved : X) × Move x moved reply × (new ≡ put moved old)
 
--- a command on a grant that isn't live, or on a memory that it hasn't, is refused, and changes nothing
-abbrev pub HasNoGrant : Grants → Reply → Grants → Type 0
-HasNoGrant grants reply new = (reply ≡ Refused NoSuchGrant) × (new ≡ grants)
+-- a look is a move that changes nothing
+abbrev pub Looks : {X : Type 0} → (X → Reply → Type 0) → X → X → Reply → Type 0
+Looks Answers x new reply = Answers x reply × (new ≡ x)
 
--- a command that looks at memory k of a live grant, and answers so
-abbrev pub LooksAtMemory : (PrivateMemory → Reply → Type 0) → Option PrivateMemory → Grants → Reply → Grants → Type 0
-LooksAtMemory Looks None grants reply new = HasNoGrant grants reply new
-LooksAtMemory Looks (Some m) grants reply new = Looks m reply × (new ≡ grants)
+-- memory k of the live grant of command `of`, and the grants with it changed
+abbrev pub memory_at : ℕ → ℕ → Grants → Option PrivateMemory
+memory_at of k grants = option_and_then (λ g. slice_get g.memories k) (grant_at grants of)
 
-abbrev pub LooksAt : (PrivateMemory → Reply → Type 0) → Option PrivateInstance → Grants → ℕ → Reply → Grants → Type 0
-LooksAt Looks None grants k reply new = HasNoGrant grants reply new
-LooksAt Looks (Some g) grants k reply new = LooksAtMemory Looks (slice_get g.memories k) grants reply new
+abbrev pub with_private : ℕ → ℕ → PrivateMemory → Grants → Grants
+with_private of k m grants = slice_set grants of (option_map (λ g. record { memories = slice_set g.memories k m }) (grant_at grants of))
 
--- a command that moves memory k of a live grant, command `of`'s, and answers so
-abbrev pub MovesMemory : (PrivateMemory → PrivateMemory → Reply → Type 0) → Option PrivateMemory → Grants → ℕ → PrivateInstance → ℕ → Reply → Grants → Type 0
-MovesMemory Moves None grants of g k reply new = HasNoGrant grants reply new
-MovesMemory Moves (Some m) grants of g k reply new = (moved : PrivateMemory) × Moves m moved reply × (new ≡ with_memory grants of g k moved)
-
-abbrev pub MovesIn : (PrivateMemory → PrivateMemory → Reply → Type 0) → Option PrivateInstance → Grants → ℕ → ℕ → Reply → Grants → Type 0
-MovesIn Moves None grants of k reply new = HasNoGrant grants reply new
-MovesIn Moves (Some g) grants of k reply new = MovesMemory Moves (slice_get g.memories k) grants of g k reply new
+-- what a command on that memory makes of the grants, and its reply
+abbrev pub On : (PrivateMemory → PrivateMemory → Reply → Type 0) → Grants → ℕ → ℕ → Reply → Grants → Type 0
+On Move grants of k reply new = MovesNamed Move (memory_at of k grants) (with_private of k) grants reply new
 
 -- a grant is given back, and ends
 abbrev pub Drops : Option PrivateInstance → Grants → ℕ → Reply → Grants → Type 0
-Drops None grants of reply new = HasNoGrant grants reply new
+Drops None grants of reply new = (reply ≡ Refused NoSuchGrant) × (new ≡ grants)
 Drops (Some g) grants of reply new = (reply ≡ Returned) × (new ≡ slice_set grants of None)
 
 -- command n, its reply, and the grants before and after
-abbrev pub PrivateStep : World → ℕ → Grants → Command → Reply → Grants → Type 0
-PrivateStep w n grants (Instantiate number) reply new = Instantiates w n number grants reply new
-PrivateStep w n grants (Read of memory at len) reply new = LooksAt (λ m. IsRead m at len) (grant_at grants of) grants memory reply new
-PrivateStep w n grants (Write of memory at bytes) reply new = MovesIn (Writes at bytes) (grant_at grants of) grants of memory reply new
-PrivateStep w n grants (Fill of memory at len byte) reply new = MovesIn (Writes at (replicate len byte)) (grant_at grants of) grants of memory reply new
-PrivateStep w n grants (Grow of memory pages) reply new = MovesIn (Grows w pages) (grant_at grants of) grants of memory reply new
-PrivateStep w n grants (ask_size of memory) reply new = LooksAt IsSize (grant_at grants of) grants memory reply new
-PrivateStep w n grants (Drop of) reply new = Drops (grant_at grants of) grants of reply new
+abbrev pub MovesGrants : Terms → ℕ → Grants → Command → Reply → Grants → Type 0
+MovesGrants t n grants (Instantiate number) reply new = Instantiates t n number grants reply new
+MovesGrants t n grants (Read of memory at len) reply new = On (Looks (λ m. IsRead m at len)) grants of memory reply new
+MovesGrants t n grants (Write of memory at bytes) reply new = On (Writes at bytes) grants of memory reply new
+MovesGrants t n grants (Fill of memory at len byte) reply new = On (Writes at (replicate len byte)) grants of memory reply new
+MovesGrants t n grants (Grow of memory pages) reply new = On (Grows t.rule pages) grants of memory reply new
+MovesGrants t n grants (ask_size of memory) reply new = On (Looks IsSize) grants of memory reply new
+MovesGrants t n grants (Drop of) reply new = Drops (grant_at grants of) grants of reply new
 
--- A run of commands, the first of which is command n: each of the replies is to the next command, from the grants at the
--- start to those at the end. There may be fewer replies than commands.
-abbrev pub PrivateRun : World → ℕ → List Command → List Reply → Grants → Grants → Type 0
-PrivateRun w n commands [] grants end = end ≡ grants
-PrivateRun w n [] (reply ∷ replies) grants end = ⊥
-PrivateRun w n (command ∷ commands) (reply ∷ replies) grants end = (mid : Grants) × PrivateStep w n grants command reply mid × PrivateRun w (n + 1) commands replies mid end
+-- what a party may see: its live grants, and how often it called its store of objects and its maker of heaps
+pub record PrivateState : Type 0 where
+  pub grants : Grants
+  pub stores : ℕ
+  pub heaps : ℕ
 
--- a party of which no command was given yet has no grant
+-- neither a store nor a maker of heaps is called by a command on memories
+pub record PrivateStep (t : Terms) (n : ℕ) (s : PrivateState) (command : Command) (reply : Reply) (new : PrivateState) : Type 0 where
+  pub moves : MovesGrants t n s.grants command reply new.grants
+  pub stores : new.stores ≡ s.stores
+  pub heaps : new.heaps ≡ s.heaps
+
+-- Steps of commands, the first of which is command n: each of the replies is to the next command, from the state at the
+-- start to the one at the end. There may be fewer replies than commands.
+abbrev pub StepsBy : (ℕ → PrivateState → Command → Reply → PrivateState → Type 0) → ℕ → List Command → List Reply → PrivateState → PrivateState → Type 0
+StepsBy Step n commands [] s end = end ≡ s
+StepsBy Step n [] (reply ∷ replies) s end = ⊥
+StepsBy Step n (command ∷ commands) (reply ∷ replies) s end = (mid : PrivateState) × Step n s command reply mid × StepsBy Step (n + 1) commands replies mid end
+
+-- a party with these grants which called neither, and one of which no command was given yet
+abbrev pub with_grants : Grants → PrivateState
+with_grants grants = record { grants = grants; stores = 0; heaps = 0 }
+
 abbrev pub no_grants : List Command → Grants
 no_grants commands = replicate (length commands) None
 
--- the replies are those of a run from no grant, to whatever grants at its end
-abbrev pub IsPrivateRun : World → List Command → List Reply → Type 0
-IsPrivateRun w commands replies = (end : Grants) × PrivateRun w 0 commands replies (no_grants commands) end
+-- the replies are those of a run from no grant, to whatever state at its end
+abbrev pub IsPrivateRun : Terms → List Command → List Reply → Type 0
+IsPrivateRun t commands replies = (end : PrivateState) × StepsBy (PrivateStep t) 0 commands replies (with_grants (no_grants commands)) end
 
 -- and each command has its reply
-pub record IsWholeRun (w : World) (commands : List Command) (replies : List Reply) : Type 0 where
-  pub private : IsPrivateRun w commands replies
+pub record IsWholeRun (t : Terms) (commands : List Command) (replies : List Reply) : Type 0 where
+  pub private : IsPrivateRun t commands replies
   pub all : length replies ≡ length commands

@@ -1,31 +1,34 @@
 -- What a run of an input is: the turns of its schedule over a pool as it is made, and then of each party until it has
 -- nothing left; and the output, which tells each party a private run.
-use Rattle.std.specs.Prelude.{◌≡◌, ℕ, ◌<◌, ◌||◌, ◌==◌, List, [], ◌∷◌, ◌+◌, length, map, Bool, true, false, IfSome}
+use Rattle.std.specs.Prelude.{◌≡◌, ℕ, ◌<◌, ◌&&◌, ◌||◌, ◌==◌, List, [], ◌∷◌, ◌+◌, length, map, ◌⊎◌, Bool, true, false, Option, Some, None, IfSome}
+use Rattle.std.specs.List.{list_any, range_with_len}
 use Rattle.pool_pages.specs.FaultPlans.{failing_maker, planned_faults}
-use Rattle.pool_pages.specs.MakerTold.{MakerTold, Planned}
+use Rattle.pool_pages.specs.MakerTold.{MakerTold, Planned, calls_of}
 use Rattle.pool_pages.specs.Told.{Rose}
+use Rattle.pool_pages.specs.declared.bad_config.BadConfig.{BadConfig as BrokenRule}
+use Rattle.pool_pages.specs.declared.pages.RegionName.{RegionName}
+use Rattle.pool_pages.specs.declared.pages.RegionName.TheVariants.{Memory as memory_region}
 use Rattle.pool_pages.specs.declared.module_types.ModuleInfo.{ModuleInfo}
-use Rattle.pool_limits.specs.Growth.{always}
-use Rattle.pool_images.specs.Images.{makes_listed as makes_listed_images}
-use Rattle.pool_slots.specs.Makings.{makes_listed}
+use Rattle.pool_pages.specs.declared.module_types.Tunables.{Tunables}
+use Rattle.pool_limits.specs.Growth.{GrowthRule, always}
+use Rattle.pool_images.specs.Images.{makes_listed_images}
 use Rattle.pool_alloc.specs.Made.{IsMadeCore, settings_of}
 use Rattle.pool_alloc.specs.Sound.{IsCore}
 use Rattle.pool_alloc.specs.Sums.{metrics_of}
 use Rattle.pool_alloc.specs.Whole.{IsUntouched}
 use Rattle.pool_alloc.specs.declared.frame.ModuleCall.{ModuleCall}
-use Rattle.pool_alloc.specs.declared.pool_core.PoolCore.{PoolCore}
-use Rattle.pool_run.specs.Folds.{RunParts, RunState, Folds, Runs, commands_of, replies_to}
+use Rattle.pool_run.specs.Folds.{RunParts, RunState, HoldsBetween, Folds, Runs, commands_of, replies_to, told_state}
 use Rattle.pool_run.specs.Made.{AreMadeCalls}
 use Rattle.pool_run.specs.Numbers.{calls_of_run}
 use Rattle.pool_run.specs.PartyRules.{rule_of}
-use Rattle.pool_run.specs.Private.{World, world_at, IsPrivateRun, IsWholeRun}
-use Rattle.pool_run.specs.RunsMade.{IsKept, commands_in, parties_made, run_made}
+use Rattle.pool_run.specs.Private.{Terms, has_images, IsPrivateRun, IsWholeRun}
+use Rattle.pool_run.specs.Rooms.{World, world_at, IsPooledRun}
+use Rattle.pool_run.specs.RunsMade.{commands_in, nothing_told, parties_made}
 use Rattle.pool_run.specs.Schedules.{turns_of}
-use Rattle.pool_run.specs.Worlds.{AreCallsFor}
 use Rattle.pool_run.specs.declared.command.Command.{Command}
 use Rattle.pool_run.specs.declared.input.Input.{Input}
 use Rattle.pool_run.specs.declared.output.RunFault.{RunFault}
-use Rattle.pool_run.specs.declared.output.RunFault.TheVariants.{BadConfig, PageFault, Memory}
+use Rattle.pool_run.specs.declared.output.RunFault.TheVariants.{BadInput, BadConfig, PageFault, Memory}
 use Rattle.pool_run.specs.declared.output.RunOutput.{RunOutput}
 use Rattle.pool_run.specs.declared.reply.Reply.{Reply}
 
@@ -33,17 +36,23 @@ use Rattle.pool_run.specs.declared.reply.Reply.{Reply}
 abbrev pub with_faults : Input → MakerTold → MakerTold
 with_faults input maker = failing_maker maker input.page (planned_faults input.faults) maker.next maker.faults
 
--- what is the same for a whole run of this input over regions of this maker
+-- what the replies to a party of this input depend on, over regions of this maker, where its memories grow by this rule
+abbrev pub terms_of : Input → MakerTold → GrowthRule → Terms
+terms_of input maker rule = record {
+  tells = maker.tells;
+  modules = input.modules;
+  settings = settings_of maker.page input.config input.tunables input.offered;
+  slots = input.config.limits.total_memories;
+  rule = rule;
+}
+
+-- what is the same for a whole run of this input
 abbrev pub world_of : Input → MakerTold → World
 world_of input maker = record {
   maker = maker;
-  modules = input.modules;
-  settings = settings_of maker.page input.config input.tunables input.offered;
-  total = input.config.limits.total_memories;
-  most_instances = input.config.limits.total_core_instances;
   rules = map (λ p. rule_of p.limits) input.parties;
   alone = length input.parties == 1;
-  rule = always;
+  terms = terms_of input maker always;
 }
 
 -- the turns of the schedule, and with `finish` those of each party until it has nothing left
@@ -52,53 +61,95 @@ Performs true maker modules inputs schedule s end = Runs maker modules inputs sc
 Performs false maker modules inputs schedule s end = Folds maker modules inputs schedule s end
 
 -- what each party was told is a private run of its commands, and with `finish` each command has its reply
-abbrev pub IsToldBy : Bool → World → List Command → List Reply → Type 0
-IsToldBy true w commands replies = IsWholeRun w commands replies
-IsToldBy false w commands replies = IsPrivateRun w commands replies
+abbrev pub IsToldBy : Bool → Terms → List Command → List Reply → Type 0
+IsToldBy true t commands replies = IsWholeRun t commands replies
+IsToldBy false t commands replies = IsPrivateRun t commands replies
 
--- The run is as it is made of the input: its pool is, with a call for each module, and no party has done anything.
+-- a region that is made with the pool, and the numbers of the calls on it that make it, of which 0 is its making
+pub record Making : Type 0 where
+  pub region : RegionName
+  pub calls : List ℕ
+
+-- the regions of so many memory slots, each with its making alone
+abbrev pub makings_of : ℕ → List Making
+makings_of total = map (λ slot. record { region = memory_region slot; calls = 0 ∷ [] }) (range_with_len 0 total)
+
+-- one of the calls that make the region is listed as one that fails
+abbrev pub region_listed : List Planned → Making → Bool
+region_listed plan m = list_any (λ call. list_any (λ n. n == call) (calls_of m.region plan)) m.calls
+
+-- images of this module are made, and their making is listed as one that fails
+abbrev pub module_listed : Tunables → ℕ → ℕ → List Planned → ModuleInfo → Bool
+module_listed tunables page n plan m = has_images tunables page m.memories && makes_listed_images (record { 0 = n }) plan m.memories
+
+-- those of some module are, of which the first has this number
+abbrev pub images_listed : Tunables → ℕ → ℕ → List Planned → List ModuleInfo → Bool
+images_listed tunables page n plan [] = false
+images_listed tunables page n plan (m ∷ ms) = module_listed tunables page n plan m || images_listed tunables page (n + 1) plan ms
+
+-- a making of a region of the pool, or of an image, is listed as one that fails
+abbrev pub making_listed : Input → List Planned → Bool
+making_listed input plan = list_any (region_listed plan) (makings_of input.config.limits.total_memories) || images_listed input.tunables input.page 0 plan input.modules
+
+-- The run is as it is made of the input: its pool is, with a call for each module, and no party has done anything. No
+-- making for it is one that fails, by the maker's own list or by its plan.
 pub record IsMadeRun {P : Type 0} (input : Input) (maker : MakerTold) (run : RunParts P) : Type 0 where
   pub made : IsMadeCore maker input.config input.tunables input.offered run.core
   pub core : IsCore maker run.core
   pub untouched : IsUntouched run.core
-  pub calls : AreMadeCalls maker.page input.modules run.modules
+  pub calls : AreMadeCalls input.tunables maker.page input.modules run.modules
+  pub own : making_listed input maker.listed ≡ false
+  pub unlisted : IfSome maker.plan (λ plan. making_listed input plan ≡ false)
   pub parties : run.parties ≡ parties_made run.core.settings input.parties
 
--- The output is that of a run of the input: there is a pool as it is made, with a call for each module, and the turns
--- lead from there to an end, of which the output gives the replies and the numbers.
+-- The output is that of a run of the input: the turns lead from the run as it is made to an end, of which the output
+-- gives the replies and the numbers.
 pub record IsRun (P : Type 0) (input : Input) (maker : MakerTold) (output : RunOutput) : Type 0 where
-  pub core : PoolCore P
-  pub made : IsMadeCore maker input.config input.tunables input.offered core
-  pub modules : List ModuleCall
-  pub calls : AreCallsFor (world_of input maker) core.settings modules
+  pub start : RunParts P
+  pub made : IsMadeRun input maker start
   pub end : RunState P
-  pub performed : Performs input.finish maker modules (commands_in input.parties) (turns_of input.schedule) (run_made core modules input.parties) end
-  pub kept : IsKept end.core end.parties
+  pub performed : Performs input.finish maker start.modules (commands_in input.parties) (turns_of input.schedule) (told_state start (nothing_told input.parties)) end
+  pub holds : HoldsBetween maker end
   pub replies : output.replies ≡ end.replies
-  pub told : (i : ℕ) → i < length input.parties → IsToldBy input.finish (world_at (world_of input maker) i) (commands_of (commands_in input.parties) i) (replies_to i output.replies)
+  pub told : (i : ℕ) → i < length input.parties → IsToldBy input.finish (world_at (world_of input maker) i).terms (commands_of (commands_in input.parties) i) (replies_to i output.replies)
+  pub room : (i : ℕ) → i < length input.parties → IsPooledRun (world_at (world_of input maker) i) (commands_of (commands_in input.parties) i) (replies_to i output.replies)
   pub metrics : output.metrics ≡ metrics_of end.core
   pub calls_made : output.calls ≡ calls_of_run end.core end.parties
 
--- a rule of the settings is broken
-abbrev pub is_bad_config : RunFault → Bool
-is_bad_config (BadConfig e) = true
-is_bad_config PageFault = false
-is_bad_config Memory = false
+-- nothing is run for what the input says
+abbrev pub is_refused : RunFault → Bool
+is_refused BadInput = true
+is_refused (BadConfig e) = true
+is_refused PageFault = false
+is_refused Memory = false
 
--- each making of an image of a module, of which the first has this number, is listed as one that fails
-abbrev pub images_listed : ℕ → List Planned → List ModuleInfo → Bool
-images_listed n plan [] = false
-images_listed n plan (m ∷ ms) = makes_listed_images (record { 0 = n }) plan m.memories || images_listed (n + 1) plan ms
+-- a broken rule of the settings is named, and each other refusal comes where none is broken
+abbrev pub NamesRule : Option BrokenRule → RunFault → Type 0
+NamesRule broken BadInput = ⊥
+NamesRule broken (BadConfig e) = broken ≡ Some e
+NamesRule broken PageFault = broken ≡ None
+NamesRule broken Memory = broken ≡ None
 
--- the making of a region of the pool, or of an image of a module, is listed as one that fails
-abbrev pub making_listed : Input → List Planned → Bool
-making_listed input plan = makes_listed plan input.config.limits.total_memories || images_listed 0 plan input.modules
+-- No image of the module of this number, or of some module, could be made: the maker's count of faults rose. Its own list
+-- has that making, or the maker behind it failed; and where its plan is told, that lists it.
+pub record ModuleFaults (tunables : Tunables) (page n : ℕ) (m : ModuleInfo) (old new : MakerTold) : Type 0 where
+  pub rose : Rose old.faults new.faults
+  pub cause : (module_listed tunables page n old.listed m ≡ true) ⊎ Rose old.behind new.behind
+  pub planned : IfSome old.plan (λ plan. module_listed tunables page n plan m ≡ true)
 
--- no region or image could be made: the maker's count of faults rose, and where its plan is told, that lists a making
+pub record ModulesFault (tunables : Tunables) (page : ℕ) (ms : List ModuleInfo) (old new : MakerTold) : Type 0 where
+  pub rose : Rose old.faults new.faults
+  pub cause : (images_listed tunables page 0 old.listed ms ≡ true) ⊎ Rose old.behind new.behind
+  pub planned : IfSome old.plan (λ plan. images_listed tunables page 0 plan ms ≡ true)
+
+-- No region or image could be made: the maker's count of faults rose. Its own list has a making for the input, or the
+-- maker behind it failed; and where its plan is told, that lists one.
 pub record FaultsInMaking (input : Input) (old new : MakerTold) : Type 0 where
   pub rose : Rose old.faults new.faults
-  pub listed : IfSome old.plan (λ plan. making_listed input plan ≡ true)
+  pub cause : (making_listed input old.listed ≡ true) ⊎ Rose old.behind new.behind
+  pub planned : IfSome old.plan (λ plan. making_listed input plan ≡ true)
 
--- The same of a whole run, where the maker with the input's faults tells its plan.
+-- A run over this maker may fault in a making: where the maker with the input's faults before it tells its plan, that lists
+-- one.
 abbrev pub MayFaultInMaking : Input → MakerTold → Type 0
 MayFaultInMaking input maker = IfSome (with_faults input maker).plan (λ plan. making_listed input plan ≡ true)

@@ -3,14 +3,13 @@ use Rattle.std.specs.Prelude.{◌≡◌, ℕ, ◌+◌, ◌^◌, ◌<◌, ◌≤�
 use Rattle.pool_alloc.specs.Bounds.{IsGrouped, AreGrouped}
 use Rattle.pool_alloc.specs.Calls.{frame_made}
 use Rattle.pool_alloc.specs.Reserved.{Reserved, with_item}
-use Rattle.pool_alloc.specs.Whole.{IsWhole}
+use Rattle.pool_alloc.specs.Whole.{IsPartitioned}
 use Rattle.pool_alloc.specs.declared.pool_core.PoolCore.{PoolCore}
 use Rattle.pool_alloc.specs.declared.pool_core.Settings.{Settings}
 use Rattle.pool_alloc.specs.declared.frame.ModuleCall.{ModuleCall}
 use Rattle.pool_alloc.specs.declared.frame.Phase.{Phase}
 use Rattle.pool_alloc.specs.declared.frame.Phase.TheVariants.{Key}
-use Rattle.pool_run.specs.Folds.{RunState}
-use Rattle.pool_run.specs.Private.{World}
+use Rattle.pool_run.specs.Rooms.{World}
 use Rattle.pool_run.specs.Limits.{IsWithinCounts}
 use Rattle.pool_run.specs.Ties.{held_by_party, IsReserved}
 use Rattle.pool_run.specs.declared.command.Command.{Command}
@@ -22,6 +21,10 @@ use Rattle.pool_run.specs.declared.running_party.RunningParty.{RunningParty}
 -- the commands of each party
 abbrev pub commands_in : List Party → List (List Command)
 commands_in parties = map (λ p. p.commands) parties
+
+-- no party was told anything
+abbrev pub nothing_told : List Party → List (List Reply)
+nothing_told parties = replicate (length parties) []
 
 -- what a run is of: what stays the same for all of it, the calls for its modules, and the commands of each party
 pub record Background : Type 0 where
@@ -53,10 +56,6 @@ module _ {P : Type 0} where
   abbrev pub parties_made : Settings → List Party → List (RunningParty P)
   parties_made s parties = map (party_made_for s) parties
 
-  -- no party has done anything, nor was told anything
-  abbrev pub run_made : PoolCore P → List ModuleCall → List Party → RunState P
-  run_made c modules parties = record { core = c; modules = modules; parties = parties_made c.settings parties; replies = replicate (length parties) [] }
-
   -- how many instances parties may have counted at once
   abbrev pub places_in : List (RunningParty P) → ℕ
   places_in parties = sum_by (λ p. 1 + length p.live) parties
@@ -75,7 +74,7 @@ module _ {P : Type 0} where
   -- Each slot and each region is in one place, the counters count what is granted or under way, and can count on, and no
   -- more instances are granted than there may be. The ranges of each queued slot lie together.
   pub record IsKept (c : PoolCore P) (parties : List (RunningParty P)) : Type 0 where
-    pub whole : IsWhole held_by_party c parties
+    pub whole : IsPartitioned held_by_party c parties
     pub within : IsWithinCounts c parties
     pub few : places_in parties + 1 < 2 ^ 64
     pub queues : AreGrouped c.queues

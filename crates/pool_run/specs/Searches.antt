@@ -1,8 +1,8 @@
 -- How far a request has searched the pool for a slot, where no other party could free one meanwhile.
 use Rattle.std.specs.Prelude.{◌≡◌, ℕ, ◌+◌, ◌<◌, List, [], length, sum_by, Option}
 use Rattle.pool_index.specs.Shard.{ShardState}
-use Rattle.pool_alloc.specs.Places.{Thing, slot_of, shard_count, kept_count, frame_count, made_count, phase_instances}
-use Rattle.pool_alloc.specs.Steps.{shard_at, queue_at, shard_tried, queue_tried}
+use Rattle.pool_alloc.specs.Places.{Thing, right_to, free_count, kept_count, frame_count, made_count, phase_instances}
+use Rattle.pool_alloc.specs.Steps.{nth_shard, nth_queue, shard_tried, queue_tried}
 use Rattle.pool_alloc.specs.Stepping.{grant_count, grant_instances}
 use Rattle.pool_alloc.specs.declared.frame.Grant.{Grant}
 use Rattle.pool_alloc.specs.declared.pool_core.PoolCore.{PoolCore}
@@ -14,15 +14,15 @@ use Rattle.pool_run.specs.Ties.{granted_to}
 
 -- each slot of the shard is used
 abbrev pub HasNoSlot : ShardState → Type 0
-HasNoSlot s = (k : ℕ) → shard_count (slot_of k) s ≡ 0
+HasNoSlot s = (k : ℕ) → free_count (right_to k) s ≡ 0
 
 module _ {P : Type 0} where
   -- so it is of the first n shards that are tried, and the first n queues that are taken are empty
   abbrev pub AreFull : ℕ → PoolCore P → Frame P → Type 0
-  AreFull n c f = (j : ℕ) → j < n → HasNoSlot (shard_at (shard_tried j c f) c.shards)
+  AreFull n c f = (j : ℕ) → j < n → HasNoSlot (nth_shard (shard_tried j c f) c.shards)
 
   abbrev pub AreEmpty : ℕ → PoolCore P → Frame P → Type 0
-  AreEmpty n c f = (j : ℕ) → j < n → (queue_at (queue_tried j c f) c.queues).memories ≡ []
+  AreEmpty n c f = (j : ℕ) → j < n → (nth_queue (queue_tried j c f) c.queues).memories ≡ []
 
   -- Where the next shard is tried, those tried before are full, and the queues that were taken before are empty.
   abbrev pub IsSearchedAt : Phase P → PoolCore P → Frame P → Type 0

@@ -1,14 +1,16 @@
 -- A turn of a party in a run: the next step of its call, or the first step of its next command.
 use Rattle.std.specs.Prelude.{◌≡◌, ℕ, ◌+◌, List, [], ◌∷◌, ◌++◌, length, map, replicate, nat_le, slice_get, slice_index_or, slice_set, ◌⊎◌, Bool, true, false, if◌then◌else◌, Option, Some, None, option_map, Result, Ok, Err}
 use Rattle.std.specs.Arc.{arc_value}
+use Rattle.std.specs.Option.{option_and_then}
 use Rattle.pool_limits.specs.Growth.{GrowthRule}
+use Rattle.pool_limits.specs.Growing.{GrowthGiven}
 use Rattle.pool_limits.specs.LimiterTold.{LimiterTold}
 use Rattle.pool_limits.specs.declared.errors.GrowFault.{GrowFault}
 use Rattle.pool_limits.specs.declared.errors.GrowFault.TheVariants as fault
 use Rattle.pool_memory.specs.Growing.{IsGrowth}
 use Rattle.pool_memory.specs.Memories.{MemoryState, bytes_of, memory_written}
-use Rattle.pool_slots.specs.declared.request.AllocError.TheVariants as alloc
-use Rattle.pool_alloc.specs.Leases.{Lease, IsMemory, IsGrown}
+use Rattle.pool_slots.specs.declared.errors.AllocError.TheVariants as alloc
+use Rattle.pool_alloc.specs.Leases.{Lease, IsUsable}
 use Rattle.pool_alloc.specs.Reserved.{Reserved, no_room}
 use Rattle.pool_alloc.specs.Calls.{begun_call}
 use Rattle.pool_alloc.specs.Steps.{After}
@@ -22,7 +24,7 @@ use Rattle.pool_alloc.specs.declared.frame.Grant.TheVariants.{Instance as instan
 use Rattle.pool_alloc.specs.declared.frame.Outcome.{Outcome}
 use Rattle.pool_alloc.specs.declared.frame.Outcome.TheVariants as answer
 use Rattle.pool_run.specs.PartyRules.{rule_of}
-use Rattle.pool_run.specs.Private.{PrivateMemory, PrivateInstance, Grants, IsRead, IsSize}
+use Rattle.pool_run.specs.Private.{PrivateMemory, PrivateInstance, Grants, IsRead, IsSize, MovesNamed, Looks}
 use Rattle.pool_run.specs.declared.command.Command.{Command}
 use Rattle.pool_run.specs.declared.command.Command.TheVariants.{Instantiate, Read, Write, Fill, Grow, Size as ask_size, Drop}
 use Rattle.pool_run.specs.declared.reply.Reply.{Reply}
@@ -55,16 +57,20 @@ growth_reply (Err (fault.LimiterFault e)) = Refused (Alloc (alloc.LimiterFault e
 
 -- The memory after a growth by so many pages, where a limiter decides by this rule, and the reply.
 abbrev pub MemoryGrows : GrowthRule → ℕ → MemoryState → MemoryState → Reply → Type 0
-MemoryGrows rule pages old new reply = (asked : LimiterTold) × (left : LimiterTold) × (answer : Result (Option ℕ) GrowFault) × (asked.rule ≡ Some rule) × IsGrowth pages old.linear.size old new asked left answer × (reply ≡ growth_reply answer)
+MemoryGrows rule pages old new reply =
+    (given : GrowthGiven) × (asked : LimiterTold) × (left : LimiterTold) × (answer : Result (Option ℕ) GrowFault)
+    × (asked.rule ≡ Some rule) × IsGrowth given pages old.linear.size old new asked left answer × (reply ≡ growth_reply answer)
 
 -- a lease that a limiter with this rule let grow, or didn't
-abbrev pub GrowsUnder : GrowthRule → ℕ → Lease → Lease → Result (Option ℕ) GrowFault → Type 0
-GrowsUnder rule pages l new answer = (asked : LimiterTold) × (left : LimiterTold) × (asked.rule ≡ Some rule) × IsGrown pages l new asked left answer
+pub record GrowsUnder (rule : GrowthRule) (pages : ℕ) (l new : Lease) (answer : Result (Option ℕ) GrowFault) : Type 0 where
+  pub index : new.index ≡ l.index
+  pub memory : IsUsable new.memory
+  pub growth : (given : GrowthGiven) × (asked : LimiterTold) × (left : LimiterTold) × (asked.rule ≡ Some rule) × IsGrowth given pages l.memory.linear.size l.memory new.memory asked left answer
 
 -- a lease whose memory moved, which can still be used
 pub record LeaseMoves (Moves : MemoryState → MemoryState → Reply → Type 0) (l new : Lease) (reply : Reply) : Type 0 where
   pub index : new.index ≡ l.index
-  pub memory : IsMemory new.memory
+  pub memory : IsUsable new.memory
   pub move : Moves l.memory new.memory reply
 
 -- the replies so far, with one more if there is one
@@ -95,8 +101,8 @@ module _ {P : Type 0} where
   leases_of (instance lease) = lease.memories.items
 
   -- the command ends with this reply
-  abbrev pub replies : Reply → PoolCore P → RunningParty P → Turned P
-  replies reply c p = record { core = c; party = record p { done = p.done + 1 }; reply = Some reply }
+  abbrev pub ended_with : Reply → PoolCore P → RunningParty P → Turned P
+  ended_with reply c p = record { core = c; party = record p { done = p.done + 1 }; reply = Some reply }
 
   -- the reply to a request that was granted
   abbrev pub granted_reply : Grant P → Reply
@@ -106,9 +112,9 @@ module _ {P : Type 0} where
   abbrev pub answered : Option (Outcome P) → PoolCore P → RunningParty P → Turned P
   answered None c p = record { core = c; party = p; reply = None }
   answered (Some answer.Key) c p = record { core = c; party = record p { keyed = true }; reply = None }
-  answered (Some (answer.Granted grant)) c p = replies (granted_reply grant) c (record p { live = slice_set p.live p.done (Some grant) })
-  answered (Some answer.Returned) c p = replies Returned c p
-  answered (Some (answer.Refused e)) c p = replies (Refused (Alloc e)) c p
+  answered (Some (answer.Granted grant)) c p = ended_with (granted_reply grant) c (record p { live = slice_set p.live p.done (Some grant) })
+  answered (Some answer.Returned) c p = ended_with Returned c p
+  answered (Some (answer.Refused e)) c p = ended_with (Refused (Alloc e)) c p
 
   -- the list for the slots of what is asked for: its grant's reply takes it
   abbrev pub slots_after : Option (Outcome P) → Reserved ℕ → Reserved ℕ
@@ -128,46 +134,43 @@ module _ {P : Type 0} where
 
   -- a grant that the party gives back is no longer one of its live ones
   abbrev pub Returns : Option (Grant P) → ℕ → PoolCore P → RunningParty P → Turned P → Type 0
-  Returns None of c p t = t ≡ replies (Refused NoSuchGrant) c p
+  Returns None of c p t = t ≡ ended_with (Refused NoSuchGrant) c p
   Returns (Some grant) of c p t = Steps c (record p { live = slice_set p.live of None; frame = begun_call (call.GiveBack grant) p.frame }) t
 
-  -- a command that looks at memory k of a grant, which is refused where the grant hasn't so many
-  abbrev pub LooksAtLease : (PrivateMemory → Reply → Type 0) → Option Lease → PoolCore P → RunningParty P → Turned P → Type 0
-  LooksAtLease Looks None c p t = t ≡ replies (Refused NoSuchGrant) c p
-  LooksAtLease Looks (Some l) c p t = (reply : Reply) × Looks (private_memory l) reply × (t ≡ replies reply c p)
+  -- lease k of the live grant of command `of`, and the live grants with another in its place
+  abbrev pub lease_at : ℕ → ℕ → List (Option (Grant P)) → Option Lease
+  lease_at of k live = option_and_then (λ g. slice_get (leases_of g) k) (slice_index_or live of None)
 
-  abbrev pub LooksAt : (PrivateMemory → Reply → Type 0) → Option (Grant P) → ℕ → PoolCore P → RunningParty P → Turned P → Type 0
-  LooksAt Looks None k c p t = t ≡ replies (Refused NoSuchGrant) c p
-  LooksAt Looks (Some grant) k c p t = LooksAtLease Looks (slice_get (leases_of grant) k) c p t
-
-  -- one that moves it
   abbrev pub with_lease : ℕ → Lease → Grant P → Grant P
   with_lease k l (instance lease) = instance (record lease { memories = record lease.memories { items = slice_set lease.memories.items k l } })
 
-  abbrev pub MovesLease : (MemoryState → MemoryState → Reply → Type 0) → Option Lease → ℕ → Grant P → ℕ → PoolCore P → RunningParty P → Turned P → Type 0
-  MovesLease Moves None of grant k c p t = t ≡ replies (Refused NoSuchGrant) c p
-  MovesLease Moves (Some l) of grant k c p t = (new : Lease) × (reply : Reply) × LeaseMoves Moves l new reply × (t ≡ replies reply c (record p { live = slice_set p.live of (Some (with_lease k new grant)) }))
+  abbrev pub put_lease : ℕ → ℕ → Lease → List (Option (Grant P)) → List (Option (Grant P))
+  put_lease of k l live = slice_set live of (option_map (with_lease k l) (slice_index_or live of None))
 
-  abbrev pub MovesIn : (MemoryState → MemoryState → Reply → Type 0) → Option (Grant P) → ℕ → ℕ → PoolCore P → RunningParty P → Turned P → Type 0
-  MovesIn Moves None of k c p t = t ≡ replies (Refused NoSuchGrant) c p
-  MovesIn Moves (Some grant) of k c p t = MovesLease Moves (slice_get (leases_of grant) k) of grant k c p t
+  -- what a command on that lease makes of the live grants, and its reply
+  abbrev pub LiveMoves : (Lease → Lease → Reply → Type 0) → List (Option (Grant P)) → ℕ → ℕ → Reply → List (Option (Grant P)) → Type 0
+  LiveMoves Move live of k reply new = MovesNamed Move (lease_at of k live) (put_lease of k) live reply new
+
+  -- the command is the party's turn
+  abbrev pub MovesLive : (Lease → Lease → Reply → Type 0) → ℕ → ℕ → PoolCore P → RunningParty P → Turned P → Type 0
+  MovesLive Move of k c p t = (reply : Reply) × (live : List (Option (Grant P))) × LiveMoves Move p.live of k reply live × (t ≡ ended_with reply c (record p { live = live }))
 
   -- a request for an instance: the module and its images are shared, and the reply's lists reserved, or the command ends
   -- at once for want of memory
   abbrev pub Asks : Option ModuleCall → PoolCore P → RunningParty P → Turned P → Type 0
   Asks None c p t = ⊥
   Asks (Some kept) c p t =
-      (t ≡ replies (Refused (Alloc alloc.Memory)) c p)
+      (t ≡ ended_with (Refused (Alloc alloc.Memory)) c p)
       ⊎ ((m : ModuleCall) × IsShareOf kept m × Steps c (record p { frame = begun_call (call.Module m) p.frame }) t)
 
   -- the first step of a command, where these are the calls for the modules by number
   abbrev pub Begins : List ModuleCall → Command → PoolCore P → RunningParty P → Turned P → Type 0
   Begins modules (Instantiate number) c p t = Asks (slice_get modules number) c p t
-  Begins modules (Read of memory at len) c p t = LooksAt (λ m. IsRead m at len) (slice_index_or p.live of None) memory c p t
-  Begins modules (Write of memory at bytes) c p t = MovesIn (MemoryWrites at bytes) (slice_index_or p.live of None) of memory c p t
-  Begins modules (Fill of memory at len byte) c p t = MovesIn (MemoryWrites at (replicate len byte)) (slice_index_or p.live of None) of memory c p t
-  Begins modules (Grow of memory pages) c p t = MovesIn (MemoryGrows (rule_of p.limits) pages) (slice_index_or p.live of None) of memory c p t
-  Begins modules (ask_size of memory) c p t = LooksAt IsSize (slice_index_or p.live of None) memory c p t
+  Begins modules (Read of memory at len) c p t = MovesLive (Looks (λ l. IsRead (private_memory l) at len)) of memory c p t
+  Begins modules (Write of memory at bytes) c p t = MovesLive (LeaseMoves (MemoryWrites at bytes)) of memory c p t
+  Begins modules (Fill of memory at len byte) c p t = MovesLive (LeaseMoves (MemoryWrites at (replicate len byte))) of memory c p t
+  Begins modules (Grow of memory pages) c p t = MovesLive (LeaseMoves (MemoryGrows (rule_of p.limits) pages)) of memory c p t
+  Begins modules (ask_size of memory) c p t = MovesLive (Looks (λ l. IsSize (private_memory l))) of memory c p t
   Begins modules (Drop of) c p t = Returns (slice_index_or p.live of None) of c p t
 
   -- the first step of the next command, if there is one

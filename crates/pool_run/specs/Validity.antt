@@ -41,20 +41,20 @@ abbrev pub most_bytes : ℕ
 most_bytes = 1048576
 
 -- how many memories the module of this number has, where there is one
-abbrev pub memories_of : Option ModuleInfo → Option ℕ
-memories_of None = None
-memories_of (Some info) = Some (length info.memories)
+abbrev pub memory_count : Option ModuleInfo → Option ℕ
+memory_count None = None
+memory_count (Some info) = Some (length info.memories)
 
 -- how many memories the grant has that the command asks for, where it asks for one
-abbrev pub memories_asked : List ModuleInfo → Option Command → Option ℕ
-memories_asked modules None = None
-memories_asked modules (Some (Instantiate number)) = memories_of (slice_get modules number)
-memories_asked modules (Some (Read of memory at len)) = None
-memories_asked modules (Some (Write of memory at hex)) = None
-memories_asked modules (Some (Fill of memory at len byte)) = None
-memories_asked modules (Some (Grow of memory pages)) = None
-memories_asked modules (Some (Size of memory)) = None
-memories_asked modules (Some (Drop of)) = None
+abbrev pub memories_granted : List ModuleInfo → Option Command → Option ℕ
+memories_granted modules None = None
+memories_granted modules (Some (Instantiate number)) = memory_count (slice_get modules number)
+memories_granted modules (Some (Read of memory at len)) = None
+memories_granted modules (Some (Write of memory at hex)) = None
+memories_granted modules (Some (Fill of memory at len byte)) = None
+memories_granted modules (Some (Grow of memory pages)) = None
+memories_granted modules (Some (Size of memory)) = None
+memories_granted modules (Some (Drop of)) = None
 
 -- there is one with this number
 abbrev pub has : Option ℕ → ℕ → Bool
@@ -63,7 +63,7 @@ has (Some count) place = nat_lt place count
 
 -- command `of` of the earlier ones asks for a grant that has this memory
 abbrev pub names_memory : List ModuleInfo → List Command → ℕ → ℕ → Bool
-names_memory modules earlier of memory = has (memories_asked modules (slice_get earlier of)) memory
+names_memory modules earlier of memory = has (memories_granted modules (slice_get earlier of)) memory
 
 -- the command asks for a grant
 abbrev pub asks_for_grant : Option Command → Bool

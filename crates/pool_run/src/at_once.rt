@@ -1,10 +1,10 @@
-ghost use Rattle.std.specs.Prelude.{◌≡◌, ◌<◌, length, slice_get, slice_index_or, vec_len, None, Some, IfOk};
+ghost use Rattle.std.specs.Prelude.{◌≡◌, ◌<◌, length, slice_get, slice_set, vec_len, None, Some, IfOk};
 ghost use Rattle.pool_alloc.specs.Leases.{IsChanged};
 ghost use Rattle.pool_alloc.specs.declared.frame.Grant.TheVariants.{Instance as instance};
-ghost use Rattle.pool_run.specs.AtOnce.{AnswersMemory, AnswersGrant, GrantMoved, LeaseMoved, LiveMoved, moved_by};
+ghost use Rattle.pool_run.specs.AtOnce.{AnswersNamed, moved_by};
 ghost use Rattle.pool_run.specs.PartyRules.{rule_of};
-ghost use Rattle.pool_run.specs.Private.{IsRead, IsSize};
-ghost use Rattle.pool_run.specs.Turns.{GrowsUnder, LeaseMoves, private_memory, growth_reply, write_reply};
+ghost use Rattle.pool_run.specs.Private.{IsRead, IsSize, MovesNamed};
+ghost use Rattle.pool_run.specs.Turns.{GrowsUnder, LeaseMoves, LiveMoves, leases_of, lease_at, with_lease, private_memory, growth_reply, write_reply};
 
 use crate::input::PartyLimits;
 use crate::leases::Leases;
@@ -25,7 +25,7 @@ pub(crate) fn read<P: Pages>(
     at: u64,
     len: usize,
 ) -> Reply
-    ensures { AnswersGrant (λ m. IsRead m at len) (slice_index_or live.now of None) memory result }
+    ensures { AnswersNamed (λ l. IsRead (private_memory l) at len) (lease_at of memory live.now) result }
 {
     match live.get(of) {
         None => Reply::Refused(Refusal::NoSuchGrant),
@@ -40,7 +40,7 @@ fn read_instance<P: Pages>(
     at: u64,
     len: usize,
 ) -> Reply
-    ensures { AnswersMemory (λ m. IsRead m at len) (slice_get lease.now.memories.items memory) result }
+    ensures { AnswersNamed (λ l. IsRead (private_memory l) at len) (slice_get lease.now.memories.items memory) result }
 {
     if memory < lease.memories.len() {
         read_memory(alloc, lease.memories.get(memory), at, len)
@@ -70,7 +70,7 @@ fn zeros(alloc: Global, len: usize) -> Result<Vec<u8>, AllocError>
 
 /// The size of memory `memory` of the grant of command `of`.
 pub(crate) fn size<P: Pages>(live: &Leases<P>, of: usize, memory: usize) -> Reply
-    ensures { AnswersGrant IsSize (slice_index_or live.now of None) memory result }
+    ensures { AnswersNamed (λ l. IsSize (private_memory l)) (lease_at of memory live.now) result }
 {
     match live.get(of) {
         None => Reply::Refused(Refusal::NoSuchGrant),
@@ -79,7 +79,7 @@ pub(crate) fn size<P: Pages>(live: &Leases<P>, of: usize, memory: usize) -> Repl
 }
 
 fn size_in<P: Pages>(lease: &InstanceLease<P>, memory: usize) -> Reply
-    ensures { AnswersMemory IsSize (slice_get lease.now.memories.items memory) result }
+    ensures { AnswersNamed (λ l. IsSize (private_memory l)) (slice_get lease.now.memories.items memory) result }
 {
     if memory < lease.memories.len() {
         Reply::Size(lease.memories.get(memory).memory.byte_size() as u64)
@@ -114,7 +114,7 @@ pub(crate) fn make_move<P: Pages>(
     memory: usize,
     by: &Move,
 ) -> Reply
-    ensures { LiveMoved (moved_by by.now) (slice_index_or live.old of None) of memory live.old live.new result }
+    ensures { LiveMoves (LeaseMoves (moved_by by.now)) live.old of memory result live.new }
 {
     match live.take(of) {
         None => Reply::Refused(Refusal::NoSuchGrant),
@@ -131,7 +131,7 @@ fn move_taken<P: Pages>(
     by: &Move,
 ) -> Reply
     requires { of < length live.old }
-    ensures { LiveMoved (moved_by by.now) (Some grant) of memory live.old live.new result }
+    ensures { MovesNamed (LeaseMoves (moved_by by.now)) (slice_get (leases_of grant) memory) (λ l live. slice_set live of (Some (with_lease memory l grant))) (slice_set live.old of (Some grant)) result live.new }
 {
     let mut grant = grant;
     let reply = move_grant(&mut grant, memory, by);
@@ -140,7 +140,7 @@ fn move_taken<P: Pages>(
 }
 
 fn move_grant<P: Pages>(grant: &mut Grant<P>, memory: usize, by: &Move) -> Reply
-    ensures { GrantMoved (moved_by by.now) memory grant.old grant.new result }
+    ensures { MovesNamed (LeaseMoves (moved_by by.now)) (slice_get (leases_of grant.old) memory) (with_lease memory) grant.old result grant.new }
 {
     match grant {
         Grant::Instance(lease) => move_instance(lease, memory, by),
@@ -148,7 +148,7 @@ fn move_grant<P: Pages>(grant: &mut Grant<P>, memory: usize, by: &Move) -> Reply
 }
 
 fn move_instance<P: Pages>(lease: &mut InstanceLease<P>, memory: usize, by: &Move) -> Reply
-    ensures { LeaseMoved (moved_by by.now) (slice_get lease.old.memories.items memory) memory (instance lease.old) (instance lease.new) result }
+    ensures { MovesNamed (LeaseMoves (moved_by by.now)) (slice_get lease.old.memories.items memory) (with_lease memory) (instance lease.old) result (instance lease.new) }
 {
     if memory >= lease.memories.len() {
         return Reply::Refused(Refusal::NoSuchGrant);

@@ -2,17 +2,16 @@ ghost use Rattle.std.specs.Prelude.{◌≡◌, true, Err, false, IfOk, IfErr, If
 ghost use Rattle.std.specs.Arc.{arc_value};
 ghost use Rattle.std.specs.List.{list_all};
 ghost use Rattle.pool_pages.specs.Told.{Rose};
-ghost use Rattle.pool_images.specs.Images.{makes_listed};
 ghost use Rattle.pool_run.specs.Built.{is_built_module};
 ghost use Rattle.pool_run.specs.Made.{IsMadeCall, AreMadeCalls};
-ghost use Rattle.pool_run.specs.Runs.{images_listed, is_bad_config};
+ghost use Rattle.pool_run.specs.Runs.{ModuleFaults, ModulesFault, module_listed, images_listed, is_refused};
 
 use crate::copies::copy_of;
 use crate::images::make_images;
 use crate::output::RunFault;
 use pool_alloc::ModuleCall;
 use pool_images::ModuleMemoryImages;
-use pool_pages::{CompiledModuleId, ModuleInfo, PageMaker};
+use pool_pages::{CompiledModuleId, ModuleInfo, PageMaker, Tunables};
 use std::alloc::{AllocError, Global};
 use std::sync::Arc;
 
@@ -20,20 +19,23 @@ use std::sync::Arc;
 pub(crate) fn make_calls<M: PageMaker>(
     alloc: Global,
     maker: &mut M,
+    tunables: &Tunables,
     modules: &[ModuleInfo],
 ) -> Result<Vec<ModuleCall>, RunFault>
     requires { list_all is_built_module modules.now ≡ true }
-    ensures calls { IfOk result (λ v. AreMadeCalls (M.told maker.old).page modules.now v.items) }
+    ensures calls { IfOk result (λ v. AreMadeCalls tunables.now (M.told maker.old).page modules.now v.items) }
     ensures same { OnOk result (M.told maker.new ≡ M.told maker.old) }
-    ensures maker { M.told maker.new ≡ record (M.told maker.old) { faults = (M.told maker.new).faults } }
-    ensures fault { result ≡ Err RunFault.PageFault → Rose (M.told maker.old).faults (M.told maker.new).faults × IfSome (M.told maker.old).plan (λ plan. images_listed 0 plan modules.now ≡ true) }
-    ensures settings { IfErr result (λ fault. is_bad_config fault ≡ false) }
+    ensures maker { M.told maker.new ≡ record (M.told maker.old) { behind = (M.told maker.new).behind; faults = (M.told maker.new).faults } }
+    ensures fault { result ≡ Err RunFault.PageFault → ModulesFault tunables.now (M.told maker.old).page modules.now (M.told maker.old) (M.told maker.new) }
+    ensures own { OnOk result (images_listed tunables.now (M.told maker.old).page 0 (M.told maker.old).listed modules.now ≡ false) }
+    ensures unlisted { OnOk result (IfSome (M.told maker.old).plan (λ plan. images_listed tunables.now (M.told maker.old).page 0 plan modules.now ≡ false)) }
+    ensures accepted { IfErr result (λ fault. is_refused fault ≡ false) }
 {
     let Ok(mut calls) = Vec::with_capacity(alloc, modules.len()) else {
         return Err(RunFault::Memory);
     };
     for info in modules {
-        let call = match make_call(alloc, maker, calls.len() as u64, info) {
+        let call = match make_call(alloc, maker, tunables, calls.len() as u64, info) {
             Ok(call) => call,
             Err(fault) => return Err(fault),
         };
@@ -48,17 +50,20 @@ pub(crate) fn make_calls<M: PageMaker>(
 fn make_call<M: PageMaker>(
     alloc: Global,
     maker: &mut M,
+    tunables: &Tunables,
     number: u64,
     info: &ModuleInfo,
 ) -> Result<ModuleCall, RunFault>
     requires { is_built_module info.now ≡ true }
-    ensures call { IfOk result (IsMadeCall (M.told maker.old).page number info.now) }
+    ensures call { IfOk result (IsMadeCall tunables.now (M.told maker.old).page number info.now) }
     ensures same { OnOk result (M.told maker.new ≡ M.told maker.old) }
-    ensures maker { M.told maker.new ≡ record (M.told maker.old) { faults = (M.told maker.new).faults } }
-    ensures fault { result ≡ Err RunFault.PageFault → Rose (M.told maker.old).faults (M.told maker.new).faults × IfSome (M.told maker.old).plan (λ plan. makes_listed (record { 0 = number }) plan info.now.memories ≡ true) }
-    ensures settings { IfErr result (λ fault. is_bad_config fault ≡ false) }
+    ensures maker { M.told maker.new ≡ record (M.told maker.old) { behind = (M.told maker.new).behind; faults = (M.told maker.new).faults } }
+    ensures fault { result ≡ Err RunFault.PageFault → ModuleFaults tunables.now (M.told maker.old).page number info.now (M.told maker.old) (M.told maker.new) }
+    ensures own { OnOk result (module_listed tunables.now (M.told maker.old).page number (M.told maker.old).listed info.now ≡ false) }
+    ensures unlisted { OnOk result (IfSome (M.told maker.old).plan (λ plan. module_listed tunables.now (M.told maker.old).page number plan info.now ≡ false)) }
+    ensures accepted { IfErr result (λ fault. is_refused fault ≡ false) }
 {
-    match make_images(alloc, maker, number, info) {
+    match make_images(alloc, maker, tunables, number, info) {
         Ok(images) => match call_of(alloc, CompiledModuleId(number), info, images) {
             Ok(call) => Ok(call),
             Err(_) => Err(RunFault::Memory),

@@ -1,6 +1,6 @@
 ghost use Rattle.std.specs.Prelude.{◌≡◌, IfOk, option_map};
 
-use pool_pages::{ByteList, ImageDecl, MemoryDecl, ModuleInfo, PlainList};
+use pool_pages::{ByteList, ImageDecl, MemoryDecl, ModuleInfo, Part, PlainList, Text};
 use std::alloc::{AllocError, Global};
 
 /// A copy of what is known of a module.
@@ -9,6 +9,28 @@ pub(crate) fn copy_of(alloc: Global, info: &ModuleInfo) -> Result<ModuleInfo, Al
 {
     Ok(ModuleInfo {
         memories: copy_memories(alloc, info.memories.as_slice())?,
+        tables: PlainList::from_vec(Vec::from_slice(alloc, info.tables.as_slice())?),
+        state_bytes: info.state_bytes,
+        parts: copy_parts(alloc, info.parts.as_slice())?,
+    })
+}
+
+fn copy_parts(alloc: Global, parts: &[Part]) -> Result<PlainList<Part>, AllocError>
+    ensures { IfOk result (λ copies. copies ≡ parts.now) }
+{
+    let mut copies = Vec::with_capacity(alloc, parts.len())?;
+    for part in parts {
+        copies.push(copy_part(alloc, part)?)?;
+    }
+    Ok(PlainList::from_vec(copies))
+}
+
+fn copy_part(alloc: Global, part: &Part) -> Result<Part, AllocError>
+    ensures { IfOk result (λ copy. copy ≡ part.now) }
+{
+    Ok(Part {
+        name: Text::from_string(String::from_str(alloc, part.name.as_str())?),
+        bytes: part.bytes,
     })
 }
 

@@ -32,6 +32,8 @@ pub struct ScheduleEntry {
 pub struct Input {
     /// The size of the pool's pages, in bytes.
     pub page: usize,
+    /// Into how many shards each allocator of slots is split, and how many decommit queues there are.
+    pub shards: u32,
     pub config: PoolingAllocationConfig,
     pub tunables: Tunables,
     pub offered: Offered,

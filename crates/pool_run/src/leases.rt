@@ -3,7 +3,6 @@ ghost use Rattle.pool_run.specs.Numbers.{with_grant};
 
 use pool_alloc::Grant;
 use pool_pages::{PageCalls, Pages};
-use pool_slots::add_calls;
 use std::alloc::{AllocError, Global};
 use std::marker::Model;
 
@@ -87,6 +86,6 @@ fn with_grant<P: Pages>(calls: PageCalls, place: &Option<Grant<P>>) -> PageCalls
 {
     match place {
         None => calls,
-        Some(Grant::Instance(lease)) => add_calls(calls, lease.page_calls()),
+        Some(Grant::Instance(lease)) => calls.plus(lease.page_calls()),
     }
 }

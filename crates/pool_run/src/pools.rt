@@ -1,9 +1,10 @@
-ghost use Rattle.std.specs.Prelude.{◌≡◌, Err, false, IfOk, IfErr, OnOk};
-ghost use Rattle.pool_pages.specs.SettingsRules.{IsWithinRules};
+ghost use Rattle.std.specs.Prelude.{◌≡◌, Err, false, IfOk, IfErr, IfSome, OnOk};
+ghost use Rattle.std.specs.List.{list_any};
 ghost use Rattle.pool_alloc.specs.Made.{IsMadeCore};
 ghost use Rattle.pool_alloc.specs.Sound.{IsCore};
 ghost use Rattle.pool_alloc.specs.Whole.{IsUntouched};
-ghost use Rattle.pool_run.specs.Runs.{FaultsInMaking, is_bad_config};
+ghost use Rattle.pool_run.specs.Built.{broken_rule};
+ghost use Rattle.pool_run.specs.Runs.{FaultsInMaking, region_listed, makings_of, NamesRule};
 
 use crate::input::Input;
 use crate::output::RunFault;
@@ -12,25 +13,36 @@ use pool_pages::{PageMaker, Pages};
 use pool_slots::PoolNewError;
 use std::alloc::Global;
 
-/// Makes a pool of the input's settings, which break no rule.
+/// Makes a pool of the input's settings. Their rules are tested first.
 pub(crate) fn make_pool<P: Pages, M: PageMaker<Region = P>>(
     alloc: Global,
     input: &Input,
     pages: &mut M,
 ) -> Result<PoolCore<P>, RunFault>
     requires page { (M.told pages.old).page ≡ input.now.page }
-    requires within { IsWithinRules input.now.config input.now.tunables input.now.page }
     ensures made { IfOk result (IsMadeCore (M.told pages.old) input.now.config input.now.tunables input.now.offered) }
     ensures core { IfOk result (IsCore (M.told pages.old)) }
     ensures untouched { IfOk result IsUntouched }
     ensures same { OnOk result (M.told pages.new ≡ M.told pages.old) }
+    ensures own { OnOk result (list_any (region_listed (M.told pages.old).listed) (makings_of input.now.config.limits.total_memories) ≡ false) }
+    ensures unlisted { OnOk result (IfSome (M.told pages.old).plan (λ plan. list_any (region_listed plan) (makings_of input.now.config.limits.total_memories) ≡ false)) }
+    ensures rules { OnOk result (broken_rule input.now ≡ None) }
+    ensures refused { IfErr result (NamesRule (broken_rule input.now)) }
     ensures fault { result ≡ Err RunFault.PageFault → FaultsInMaking input.now (M.told pages.old) (M.told pages.new) }
-    ensures settings { IfErr result (λ fault. is_bad_config fault ≡ false) }
 {
-    match PoolCore::new(alloc, &input.config, &input.tunables, &input.offered, pages) {
+    let page = pages.page();
+    match PoolCore::new(
+        alloc,
+        &input.config,
+        &input.tunables,
+        page,
+        input.shards,
+        &input.offered,
+        pages,
+    ) {
         Ok(core) => Ok(core),
+        Err(PoolNewError::BadConfig(rule)) => Err(RunFault::BadConfig(rule)),
         Err(PoolNewError::PageFault) => Err(RunFault::PageFault),
         Err(PoolNewError::Memory) => Err(RunFault::Memory),
-        Err(PoolNewError::BadConfig(_)) => unreachable!(),
     }
 }

@@ -1,5 +1,4 @@
-ghost use Rattle.std.specs.Prelude.{◌≡◌, ◌↔◌, ℕ, ◌+◌, ◌^◌, ◌<◌, ◌≤◌, Err, Some, length, map, replicate, slice_get, slice_index_or, true, false, fold, IfOk, IfErr};
-ghost use Rattle.pool_pages.specs.SettingsRules.{IsWithinRules};
+ghost use Rattle.std.specs.Prelude.{◌≡◌, ◌↔◌, ℕ, ◌+◌, ◌^◌, ◌<◌, ◌≤◌, Err, Some, length, map, replicate, slice_get, slice_index_or, true, false, fold, None, IfOk, IfErr, OnOk};
 ghost use Rattle.pool_pages.specs.MakerTold.{MakerTold};
 ghost use Rattle.pool_pages.specs.declared.bad_config.BadConfig.{BadConfig};
 ghost use Rattle.pool_alloc.specs.Reserved.{no_room};
@@ -7,10 +6,10 @@ ghost use Rattle.pool_alloc.specs.Sound.{IsCore};
 ghost use Rattle.pool_alloc.specs.Sums.{metrics_of};
 ghost use Rattle.pool_alloc.specs.Whole.{IsUntouched};
 ghost use Rattle.pool_run.specs.Built.{broken_rule, is_built};
-ghost use Rattle.pool_run.specs.Folds.{TurnsOf, commands_of, state_of, told_after};
+ghost use Rattle.pool_run.specs.Folds.{TurnsOf, commands_of, told_state, replies_after};
 ghost use Rattle.pool_run.specs.Numbers.{with_party, calls_of_run};
 ghost use Rattle.pool_run.specs.Progress.{is_busy, commands_done, Advances, IsRunOf};
-ghost use Rattle.pool_run.specs.Runs.{IsMadeRun, FaultsInMaking, is_bad_config};
+ghost use Rattle.pool_run.specs.Runs.{IsMadeRun, FaultsInMaking, NamesRule};
 ghost use Rattle.pool_run.specs.RunsMade.{SoFar, IsKept, party_made_for, parties_made, places_in};
 ghost use Rattle.pool_run.specs.Validity.{is_valid};
 
@@ -23,9 +22,9 @@ use crate::reply::Reply;
 use crate::reserved_vec::ReservedVec;
 use crate::running_party::RunningParty;
 use crate::turn::{is_idle, turn_of};
+use crate::validity::is_valid;
 use pool_alloc::{Metrics, ModuleCall, PoolCore};
 use pool_pages::{PageCalls, PageMaker, Pages};
-use pool_slots::add_calls;
 use std::alloc::{AllocError, Global};
 use std::marker::Model;
 
@@ -52,7 +51,7 @@ impl<P: Pages> Model for Run<P> {
 
 impl<P: Pages> Run<P> {
     /// Makes a pool of the input's settings, the calls for its modules with their images, and the parties, each with a
-    /// place for each of its commands. A broken rule of the settings is found first.
+    /// place for each of its commands. The input is tested first, then its settings.
     pub fn new<M: PageMaker<Region = P>>(
         alloc: Global,
         input: &Input,
@@ -60,19 +59,20 @@ impl<P: Pages> Run<P> {
     ) -> Result<Self, RunFault>
         requires page { (M.told pages.old).page ≡ input.now.page }
         requires built { is_built input.now ≡ true }
-        requires valid { is_valid input.now ≡ true }
         ensures made { IfOk result (IsMadeRun input.now (M.told pages.old)) }
-        ensures bad_config { (e : BadConfig) → (result ≡ Err (RunFault.BadConfig e)) ↔ (broken_rule input.now ≡ Some e) }
+        ensures same { OnOk result (M.told pages.new ≡ M.told pages.old) }
+        ensures bad_input { (result ≡ Err RunFault.BadInput) ↔ (is_valid input.now ≡ false) }
+        ensures bad_config { (e : BadConfig) → (result ≡ Err (RunFault.BadConfig e)) ↔ ((is_valid input.now ≡ true) × (broken_rule input.now ≡ Some e)) }
         ensures fault { result ≡ Err RunFault.PageFault → FaultsInMaking input.now (M.told pages.old) (M.told pages.new) }
     {
-        match input.config.check_rules(&input.tunables, input.page) {
-            Ok(_) => Run::within(alloc, input, pages),
-            Err(error) => Err(RunFault::BadConfig(error)),
+        if !is_valid(input) {
+            return Err(RunFault::BadInput);
         }
+        Run::of_valid(alloc, input, pages)
     }
 
-    // The same by a maker that is as told. No rule of the settings is broken.
-    fn within<M: PageMaker<Region = P>>(
+    // The same by a maker that is as told, of a valid input.
+    pub(crate) fn of_valid<M: PageMaker<Region = P>>(
         alloc: Global,
         input: &Input,
         pages: &mut M,
@@ -82,16 +82,17 @@ impl<P: Pages> Run<P> {
         requires built { is_built input.now ≡ true }
         requires valid { is_valid input.now ≡ true }
         requires page { (M.told pages.old).page ≡ input.now.page }
-        requires within { IsWithinRules input.now.config input.now.tunables input.now.page }
         ensures made { IfOk result (IsMadeRun input.now maker) }
+        ensures same { OnOk result (M.told pages.new ≡ maker) }
+        ensures rules { OnOk result (broken_rule input.now ≡ None) }
+        ensures refused { IfErr result (NamesRule (broken_rule input.now)) }
         ensures fault { result ≡ Err RunFault.PageFault → FaultsInMaking input.now maker (M.told pages.new) }
-        ensures settings { IfErr result (λ fault. is_bad_config fault ≡ false) }
     {
         let core = match make_pool(alloc, input, pages) {
             Ok(core) => core,
             Err(fault) => return Err(fault),
         };
-        let calls = match make_calls(alloc, pages, input.modules.as_slice()) {
+        let calls = match make_calls(alloc, pages, &input.tunables, input.modules.as_slice()) {
             Ok(calls) => calls,
             Err(fault) => return Err(fault),
         };
@@ -130,11 +131,11 @@ impl<P: Pages> Run<P> {
     /// the list of its reply is reserved; where there is no memory for that the command ends at once.
     pub fn turn(&mut self, alloc: Global, input: &Input, party: usize) -> Option<Reply>
         ghost before: { SoFar }
-        requires run { IsRunOf before.of input.now.parties (state_of self.old before.told) }
+        requires run { IsRunOf before.of input.now.parties (told_state self.old before.told) }
         requires inside { party < length input.now.parties }
-        ensures turn { TurnsOf before.of.world.maker before.of.modules before.of.inputs party (state_of self.old before.told) (state_of self.new (told_after party result before.told)) }
-        ensures run { IsRunOf before.of input.now.parties (state_of self.new (told_after party result before.told)) }
-        ensures advances { Advances before.of.modules (commands_of before.of.inputs party) party (state_of self.old before.told) (state_of self.new (told_after party result before.told)) }
+        ensures turn { TurnsOf before.of.world.maker before.of.modules before.of.inputs party (told_state self.old before.told) (told_state self.new (replies_after party result before.told)) }
+        ensures run { IsRunOf before.of input.now.parties (told_state self.new (replies_after party result before.told)) }
+        ensures advances { Advances before.of.modules (commands_of before.of.inputs party) party (told_state self.old before.told) (told_state self.new (replies_after party result before.told)) }
     {
         let parties = input.parties.as_slice();
         let commands = parties[party].commands.as_slice();
@@ -196,9 +197,7 @@ fn add_parties<P: Pages>(calls: PageCalls, parties: &[RunningParty<P>]) -> PageC
 fn add_party<P: Pages>(calls: PageCalls, party: &RunningParty<P>) -> PageCalls
     ensures { result ≡ with_party calls party.now }
 {
-    party
-        .live
-        .page_calls(add_calls(calls, party.frame.page_calls()))
+    party.live.page_calls(calls.plus(party.frame.page_calls()))
 }
 
 fn make_parties<P: Pages>(

@@ -1,4 +1,4 @@
-ghost use Rattle.std.specs.Prelude.{◌≡◌, ◌↔◌, ◌≤◌, [], Err, Some, length, true, vec_capacity, IfOk, IfErr};
+ghost use Rattle.std.specs.Prelude.{◌≡◌, ◌↔◌, ◌≤◌, [], Err, Some, length, true, false, vec_capacity, None, IfOk, IfErr, OnOk};
 ghost use Rattle.pool_pages.specs.MakerTold.{MakerTold};
 ghost use Rattle.pool_pages.specs.declared.bad_config.BadConfig.{BadConfig};
 ghost use Rattle.pool_pages.specs.declared.failing.Failing.{Failing};
@@ -6,8 +6,8 @@ ghost use Rattle.pool_alloc.specs.Sums.{metrics_of};
 ghost use Rattle.pool_run.specs.Built.{broken_rule, is_built};
 ghost use Rattle.pool_run.specs.Numbers.{calls_of_run};
 ghost use Rattle.pool_run.specs.Progress.{IsRunOf};
-ghost use Rattle.pool_run.specs.Runs.{IsMadeRun, IsRun, Performs, FaultsInMaking, MayFaultInMaking, with_faults};
-ghost use Rattle.pool_run.specs.RunsMade.{Background, IsKept};
+ghost use Rattle.pool_run.specs.Runs.{IsMadeRun, IsRun, Performs, FaultsInMaking, MayFaultInMaking, with_faults, NamesRule};
+ghost use Rattle.pool_run.specs.RunsMade.{Background};
 ghost use Rattle.pool_run.specs.Schedules.{turns_of};
 ghost use Rattle.pool_run.specs.Validity.{is_valid};
 
@@ -17,7 +17,8 @@ use crate::reply::ReplyList;
 use crate::run::Run;
 use crate::schedule::{finish, follow};
 use crate::told_run::ToldRun;
-use pool_pages::{FailingMaker, PageMaker, Pages};
+use crate::validity::is_valid;
+use pool_pages::{FailingMaker, PageMaker, PageSize, Pages};
 use std::alloc::{AllocError, Global};
 
 // Makes the turns of the schedule, and where the input says so those of each party until it has nothing left.
@@ -41,7 +42,6 @@ fn output_of<P: Pages>(run: ToldRun<P>, lists: Vec<ReplyList>) -> RunOutput
     ensures replies { result.replies ≡ run.replies }
     ensures metrics { result.metrics ≡ metrics_of run.core }
     ensures calls { result.calls ≡ calls_of_run run.core run.parties }
-    ensures kept { IsKept run.core run.parties }
 {
     let metrics = run.metrics();
     let calls = run.page_calls();
@@ -94,10 +94,12 @@ fn run_by<P: Pages, M: PageMaker<Region = P>>(
     requires built { is_built input.now ≡ true }
     requires valid { is_valid input.now ≡ true }
     ensures ok { IfOk result (λ output. IsRun P input.now maker output) }
-    ensures bad_config { (e : BadConfig) → (result ≡ Err (RunFault.BadConfig e)) ↔ (broken_rule input.now ≡ Some e) }
+    ensures same { OnOk result (M.told pages.new ≡ maker) }
     ensures fault { result ≡ Err RunFault.PageFault → FaultsInMaking input.now maker (M.told pages.new) }
+    ensures rules { OnOk result (broken_rule input.now ≡ None) }
+    ensures refused { IfErr result (NamesRule (broken_rule input.now)) }
 {
-    match Run::new(alloc, input, pages) {
+    match Run::of_valid(alloc, input, pages) {
         Ok(run) => run_to_end(alloc, input, run),
         Err(fault) => Err(fault),
     }
@@ -113,8 +115,10 @@ fn run_with<P: Pages, M: PageMaker<Region = P>>(
     requires built { is_built input.now ≡ true }
     requires valid { is_valid input.now ≡ true }
     ensures ok { IfOk result (λ output. IsRun P input.now (M.told pages.old) output) }
-    ensures bad_config { (e : BadConfig) → (result ≡ Err (RunFault.BadConfig e)) ↔ (broken_rule input.now ≡ Some e) }
+    ensures same { OnOk result (M.told pages.new ≡ M.told pages.old) }
     ensures fault { result ≡ Err RunFault.PageFault → FaultsInMaking input.now (M.told pages.old) (M.told pages.new) }
+    ensures rules { OnOk result (broken_rule input.now ≡ None) }
+    ensures refused { IfErr result (NamesRule (broken_rule input.now)) }
 {
     run_by(alloc, input, pages)
 }
@@ -122,24 +126,27 @@ fn run_with<P: Pages, M: PageMaker<Region = P>>(
 /// Makes a pool of the input's settings and the images of its modules, and has the parties make their turns over them:
 /// those of the schedule first, and then, where the input says so, those of each party until each of its commands has
 /// its reply. The replies are in the order of the parties and of their commands. Makings and page calls fail where the
-/// input lists them. Nothing is run where a rule of the settings is broken, which is tested first, where a region or an
-/// image can't be made, or where there is no memory for the run and the lists of its replies.
+/// input lists them. Nothing is run where the input isn't valid, which is tested first, or a rule of its settings is
+/// broken, where a region or an image can't be made, or where there is no memory for the run and the lists of its replies.
 pub fn run_schedule<M: PageMaker>(
     alloc: Global,
     input: &Input,
     pages: &mut M,
 ) -> Result<RunOutput, RunFault>
     requires built { is_built input.now ≡ true }
-    requires valid { is_valid input.now ≡ true }
     ensures ok { IfOk result (IsRun (Failing M.Region) input.now (with_faults input.now (M.told pages.old))) }
-    ensures bad_config { (e : BadConfig) → (result ≡ Err (RunFault.BadConfig e)) ↔ (broken_rule input.now ≡ Some e) }
+    ensures bad_input { (result ≡ Err RunFault.BadInput) ↔ (is_valid input.now ≡ false) }
+    ensures bad_config { (e : BadConfig) → (result ≡ Err (RunFault.BadConfig e)) ↔ ((is_valid input.now ≡ true) × (broken_rule input.now ≡ Some e)) }
     ensures fault { result ≡ Err RunFault.PageFault → MayFaultInMaking input.now (M.told pages.old) }
 {
-    match input.config.check_rules(&input.tunables, input.page) {
+    if !is_valid(input) {
+        return Err(RunFault::BadInput);
+    }
+    match PageSize::new(input.page) {
         Ok(page) => {
             let mut maker = FailingMaker::new(pages, page, input.faults.as_slice());
             run_with(alloc, input, &mut maker)
         }
-        Err(error) => Err(RunFault::BadConfig(error)),
+        Err(rule) => Err(RunFault::BadConfig(rule)),
     }
 }

@@ -1,6 +1,6 @@
 ghost use Rattle.std.specs.Prelude.{◌≡◌, ℕ, ◌+◌, ◌<◌, length, replicate, slice_get, slice_index_or, false, IfSome};
 ghost use Rattle.pool_index.specs.Shard.{one_if};
-ghost use Rattle.pool_run.specs.Folds.{Folds, HasNothingLeft, Finishes, commands_of};
+ghost use Rattle.pool_run.specs.Folds.{Folds, HasNothingLeft, FinishesRun, commands_of};
 ghost use Rattle.pool_run.specs.Progress.{is_busy, calls_begun, begins_call, TurnsSome, IsRunOf};
 ghost use Rattle.pool_run.specs.RunsMade.{Background};
 ghost use Rattle.pool_run.specs.Schedules.{turns_of};
@@ -92,7 +92,7 @@ fn finish_party<P: Pages>(run: &mut ToldRun<P>, alloc: Global, input: &Input, i:
 pub(crate) fn finish<P: Pages>(run: &mut ToldRun<P>, alloc: Global, input: &Input)
     ghost of: { Background }
     requires run { IsRunOf of input.now.parties run.old }
-    ensures finishes { Finishes of.world.maker of.modules of.inputs run.old run.new }
+    ensures finishes { FinishesRun of.world.maker of.modules of.inputs run.old run.new }
     ensures run { IsRunOf of input.now.parties run.new }
 {
     for i in 0..input.parties.len() {

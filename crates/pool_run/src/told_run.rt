@@ -1,7 +1,7 @@
 ghost use Rattle.std.specs.Prelude.{◌≡◌, ℕ, ◌+◌, ◌<◌, ◌≤◌, [], length, map, replicate, slice_get, slice_set, slice_index_or, vec_capacity, Some, IfOk, IfSome};
 ghost use Rattle.pool_alloc.specs.Reserved.{no_room};
 ghost use Rattle.pool_alloc.specs.Sums.{metrics_of};
-ghost use Rattle.pool_run.specs.Folds.{TurnsOf, commands_of, state_of, told_after};
+ghost use Rattle.pool_run.specs.Folds.{TurnsOf, commands_of, told_state, replies_after};
 ghost use Rattle.pool_run.specs.Numbers.{calls_of_run};
 ghost use Rattle.pool_run.specs.Progress.{is_busy, commands_done, Advances, IsRunOf};
 ghost use Rattle.pool_run.specs.RunsMade.{SoFar, IsKept, parties_made, room_for, with_told};
@@ -24,12 +24,12 @@ pub(crate) struct ToldRun<P: Pages> {
 
 impl<P: Pages> Model for ToldRun<P> {
     ghost use Rattle.std.specs.Prelude.{map};
-    ghost use Rattle.pool_run.specs.Folds.{RunState, state_of};
+    ghost use Rattle.pool_run.specs.Folds.{RunState, told_state};
     ghost use Rattle.pool_run.specs.RunsMade.{HaveRoom};
 
     ghost Value = { RunState P };
 
-    ghost view = { λ r. state_of r.run (map (λ l. l.items) r.told.items) };
+    ghost view = { λ r. told_state r.run (map (λ l. l.items) r.told.items) };
 
     ghost invariant = { λ r. HaveRoom r.run.parties r.told.items };
 }
@@ -38,7 +38,7 @@ impl<P: Pages> ToldRun<P> {
     /// Reserves the replies to the parties of a run as it is made.
     pub(crate) fn new(alloc: Global, run: Run<P>, parties: &[Party]) -> Result<Self, AllocError>
         requires parties { run.parties ≡ parties_made run.core.settings parties.now }
-        ensures { IfOk result (λ told. told ≡ state_of run (replicate (length parties.now) [])) }
+        ensures { IfOk result (λ told. told ≡ told_state run (replicate (length parties.now) [])) }
     {
         let told = reserve_replies(alloc, parties)?;
         Ok(ToldRun { run, told })

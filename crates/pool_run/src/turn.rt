@@ -1,7 +1,7 @@
 ghost use Rattle.std.specs.Prelude.{◌≡◌, ◌+◌, ◌^◌, ◌<◌, ◌≤◌, [], length, map, slice_get, slice_index_or, IfOk, None, Some};
 ghost use Rattle.pool_pages.specs.MakerTold.{MakerTold};
 ghost use Rattle.pool_alloc.specs.Calls.{IsIdle, IsGrantOf, IfGranted, begun_call};
-ghost use Rattle.pool_alloc.specs.Steps.{memories_asked};
+ghost use Rattle.pool_alloc.specs.Steps.{memories_wanted};
 ghost use Rattle.pool_alloc.specs.Stepping.{CanStep, CanCount, IsSameSize, is_idle};
 ghost use Rattle.pool_run.specs.AtOnce.{Makes};
 ghost use Rattle.pool_run.specs.PartyRules.{rule_of};
@@ -92,7 +92,7 @@ fn step_under<P: Pages>(
     requires counts { CanCount core.old }
     ensures row { StepsUnder (rule_of limits) core.old frame.old (record { core = core.new; frame = frame.new; outcome = result }) }
     ensures can { CanStep maker core.new frame.new }
-    ensures granted { IfGranted (IsGrantOf maker core.old.settings (memories_asked frame.old.asked)) result }
+    ensures granted { IfGranted (IsGrantOf maker core.old.settings (memories_wanted frame.old.asked)) result }
     ensures size { IsSameSize core.old core.new }
 {
     let mut heaps = NoHeaps::new();
@@ -339,7 +339,7 @@ fn ask<P: Pages>(
 // The same call, and the list for the slots of its grant.
 fn prepare(alloc: Global, kept: &ModuleCall) -> Result<(ModuleCall, ReservedVec<u32>), AllocError>
     ensures share { IfOk result (λ r. IsShareOf kept.now r.0) }
-    ensures room { IfOk result (λ r. r.1 ≡ record { items = []; room = length (memories_asked (Some kept.now)) }) }
+    ensures room { IfOk result (λ r. r.1 ≡ record { items = []; room = length (memories_wanted (Some kept.now)) }) }
 {
     let call = share(kept)?;
     let slots = ReservedVec::with_room(alloc, kept.info.memories.len())?;

@@ -1,12 +1,15 @@
 use Rattle.std.proofs.Common.{◌≡◌, ℕ, vec_len}
 use Rattle.std.specs.Prelude.{IfSome, slice_get}
 use Rattle.pool_run.specs.Made.{IsMadeCall}
+use Rattle.pool_run.proofs.Makings.{AreUnlisted}
 use Rattle.pool_run.proofs.calls.make_calls.Given as goal
 
 -- there is a call for each module so far, by a maker that tells what it told
 abbrev pub invariant-loop-info : goal.invariant-loop-info
 invariant-loop-info g l = record {
   count : vec_len l.calls ≡ l.info-index;
-  each : (k : ℕ) → IfSome (slice_get l.calls.items k) (λ c. IfSome (slice_get l.modules k) (λ m. IsMadeCall (g.M.PageMaker.told l.fn.maker).page k m c));
+  each : (k : ℕ) → IfSome (slice_get l.calls.items k) (λ c. IfSome (slice_get l.modules k) (λ m. IsMadeCall l.tunables (g.M.PageMaker.told l.fn.maker).page k m c));
+  own : AreUnlisted l.tunables (g.M.PageMaker.told l.fn.maker).page l.modules l.info-index (g.M.PageMaker.told l.fn.maker).listed;
+  unlisted : IfSome (g.M.PageMaker.told l.fn.maker).plan (AreUnlisted l.tunables (g.M.PageMaker.told l.fn.maker).page l.modules l.info-index);
   maker : g.M.PageMaker.told l.maker ≡ g.M.PageMaker.told l.fn.maker;
 }

@@ -1,6 +1,6 @@
 use Rattle.std.proofs.Common.{rules, ◌≡◌, length, ap, ◌∙◌, sym, arith}
-use Rattle.pool_run.specs.Folds.{RunState}
-use Rattle.pool_run.specs.RunsMade.{parties_made, run_made}
+use Rattle.pool_run.specs.Folds.{RunState, told_state}
+use Rattle.pool_run.specs.RunsMade.{nothing_told, parties_made}
 use Rattle.pool_run.specs.declared.input.Party.{Party}
 use Rattle.pool_run.proofs.InputsRun.{made_run, is_run_of, is_run}
 use Rattle.pool_run.proofs.run_input.run_over.Goals as goal
@@ -14,7 +14,7 @@ pub perform-requires : goal.perform-requires
 perform-requires g c κs within =
     let P : Type 0 = g.row.P.Denot in
     let s : RunState P = c.in_ok-told.told in
-    let made : s ≡ run_made c.args.run.core c.args.run.modules c.args.input.now.parties = made_run c.args.input.now g.maker c.args.run c.as_slice-parties.result.now s c.requires.1.0 c.as_slice-parties.ensures c.in_ok-told.ensures in
+    let made : s ≡ told_state c.args.run (nothing_told c.args.input.now.parties) = made_run c.args.input.now c.args.run c.as_slice-parties.result.now s c.as_slice-parties.ensures c.in_ok-told.ensures in
     (search rules, (is_run_of c.args.input.now g.maker c.args.run s c.requires.1.1.0 c.requires.1.1.1 c.requires.1.0 made, c.requires.1.1.1))
 
 pub output_of-requires-clause-room : goal.output_of-requires-clause-room
@@ -24,5 +24,5 @@ pub returns : goal.returns
 returns g c =
     let P : Type 0 = g.row.P.Denot in
     let s : RunState P = c.in_ok-told.told in
-    let made : s ≡ run_made c.args.run.core c.args.run.modules c.args.input.now.parties = made_run c.args.input.now g.maker c.args.run c.as_slice-parties.result.now s c.requires.1.0 c.as_slice-parties.ensures c.in_ok-told.ensures in
-    is_run c.args.input.now g.maker c.args.run s c.perform.new.run c.output_of.result c.requires.1.1.0 c.requires.1.0 made c.perform.ensures.performs c.output_of.ensures.kept c.output_of.ensures.replies c.output_of.ensures.metrics c.output_of.ensures.calls
+    let made : s ≡ told_state c.args.run (nothing_told c.args.input.now.parties) = made_run c.args.input.now c.args.run c.as_slice-parties.result.now s c.as_slice-parties.ensures c.in_ok-told.ensures in
+    is_run c.args.input.now g.maker c.args.run s c.perform.new.run c.output_of.result c.requires.1.1.0 c.requires.1.0 made c.perform.ensures.performs c.perform.ensures.run.way.holds c.output_of.ensures.replies c.output_of.ensures.metrics c.output_of.ensures.calls

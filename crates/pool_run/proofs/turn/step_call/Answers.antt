@@ -1,5 +1,5 @@
 use Rattle.std.proofs.Common.{rules}
-use Rattle.pool_alloc.specs.Steps.{After, memories_asked}
+use Rattle.pool_alloc.specs.Steps.{After, memories_wanted}
 use Rattle.pool_run.specs.Turns.{Turned}
 use Rattle.pool_run.proofs.Parties.{can_step}
 use Rattle.pool_run.proofs.Reserving.{room_granted, step_reserved, reserved_there}
@@ -26,7 +26,7 @@ returns-clause-makes g c =
     let P : Type 0 = g.row.P.Denot in
     let a : After P = record { core = c.step_under-outcome.new.core; frame = c.step_under-outcome.new.frame; outcome = c.step_under-outcome.result } in
     let t : Turned P = record { core = c.step_under-outcome.new.core; party = c.answer.new.party; reply = c.answer.result } in
-    step_made g.maker (memories_asked c.args.party.now.frame.asked) c.args.core.now c.args.party.now a t c.requires.1.0 c.step_under-outcome.ensures.row c.step_under-outcome.ensures.can c.step_under-outcome.ensures.granted c.step_under-outcome.ensures.size (c.answer.ensures.answered a.core)
+    step_made g.maker (memories_wanted c.args.party.now.frame.asked) c.args.core.now c.args.party.now a t c.requires.1.0 c.step_under-outcome.ensures.row c.step_under-outcome.ensures.can c.step_under-outcome.ensures.granted c.step_under-outcome.ensures.size (c.answer.ensures.answered a.core)
 
 pub returns-clause-reserved : goal.returns-clause-reserved
 returns-clause-reserved g c =

@@ -1,0 +1,108 @@
+-- What the replies to a party tell of the pool beside its private run: the slots of its memories, and that a request is
+-- granted where there is room for it.
+use Rattle.std.specs.Prelude.{◌≡◌, ◌≢◌, ℕ, ◌+◌, ◌<◌, ◌≤◌, List, length, sum_by, slice_index_or, All, ◌⊎◌, Bool, true, false, Option, Some, None, IfSome}
+use Rattle.pool_pages.specs.MakerTold.{MakerTold, plan_for}
+use Rattle.pool_pages.specs.declared.pages.RegionName.TheVariants.{Memory as memory_region}
+use Rattle.pool_limits.specs.Growth.{GrowthRule, always}
+use Rattle.pool_slots.specs.declared.errors.AllocError.{AllocError}
+use Rattle.pool_slots.specs.declared.errors.AllocError.TheVariants as alloc
+use Rattle.pool_slots.specs.declared.errors.ConcurrencyKind.{ConcurrencyKind}
+use Rattle.pool_slots.specs.declared.errors.ConcurrencyKind.TheVariants.{MemoryStripe, CoreInstances}
+use Rattle.pool_run.specs.Private.{PrivateMemory, PrivateInstance, PrivateState, PrivateStep, Grants, Terms, grant_at, memory_at, memories_of, slots_asked, grown_by, StepsBy, with_grants, no_grants}
+use Rattle.pool_run.specs.declared.command.Command.{Command}
+use Rattle.pool_run.specs.declared.command.Command.TheVariants.{Instantiate, Grow}
+use Rattle.pool_run.specs.declared.reply.Reply.{Reply}
+use Rattle.pool_run.specs.declared.reply.Reply.TheVariants.{Instance, Refused}
+use Rattle.pool_run.specs.declared.reply.Refusal.TheVariants.{Alloc}
+
+-- how many memories are live
+abbrev pub memories_in : Option PrivateInstance → ℕ
+memories_in None = 0
+memories_in (Some g) = length g.memories
+
+abbrev pub live_count : Grants → ℕ
+live_count grants = sum_by memories_in grants
+
+-- and how many instances
+abbrev pub instances_in : Option PrivateInstance → ℕ
+instances_in None = 0
+instances_in (Some g) = 1
+
+abbrev pub instance_count : Grants → ℕ
+instance_count grants = sum_by instances_in grants
+
+-- what is the same for a whole run: the maker of the pool's regions, the rules by which the growth of each party's
+-- memories is decided, whether there is one party alone, and the terms of the party that is spoken of
+pub record World : Type 0 where
+  pub maker : MakerTold
+  pub rules : List GrowthRule
+  pub alone : Bool
+  pub terms : Terms
+
+-- the world of a party with this rule, and that of party i
+abbrev pub under : GrowthRule → World → World
+under rule w = record w { terms = record w.terms { rule = rule } }
+
+abbrev pub world_at : World → ℕ → World
+world_at w i = under (slice_index_or w.rules i always) w
+
+-- no live memory is in this slot
+abbrev pub IsOfNoGrant : ℕ → Grants → Type 0
+IsOfNoGrant slot grants = (i : ℕ) → IfSome (grant_at grants i) (λ g. All (λ m. m.slot ≢ slot) g.memories)
+
+-- no slot is named twice
+abbrev pub AllDiffer : List ℕ → Type 0
+AllDiffer slots = (i j : ℕ) → i < length slots → j < length slots → slice_index_or slots i 0 ≡ slice_index_or slots j 0 → i ≡ j
+
+-- An instance that is granted has slots of the pool, which are free and differ, and the party's own grants leave room for
+-- it.
+pub record HasRoom (w : World) (number : ℕ) (grants : Grants) (slots : List ℕ) : Type 0 where
+  pub inside : All (λ slot. slot < w.terms.slots) slots
+  pub free : All (λ slot. IsOfNoGrant slot grants) slots
+  pub differ : AllDiffer slots
+  pub memories : live_count grants + length (memories_of w.terms number) ≤ w.terms.slots
+  pub instances : instance_count grants < w.terms.settings.max_core_instances
+
+-- A party that is alone is refused for room only where all that there is of this kind is its own: instances, or the slots,
+-- with those of the memories of the request before the one for which none is free.
+abbrev pub IsFull : World → ℕ → Grants → ConcurrencyKind → Type 0
+IsFull w number grants CoreInstances = w.terms.settings.max_core_instances ≤ instance_count grants
+IsFull w number grants (MemoryStripe s) = (i : ℕ) × (i < slots_asked w.terms.rule (memories_of w.terms number)) × (w.terms.slots ≤ live_count grants + i)
+IsFull w number grants _ = ⊥
+
+-- the plan that this slot's region is made with, where it is told, lists a call on it
+abbrev pub MayFault : World → ℕ → Type 0
+MayFault w i = IfSome (plan_for (memory_region i) w.maker) (λ plan. 0 < length plan)
+
+abbrev pub SomeMayFault : World → Type 0
+SomeMayFault w = (i : ℕ) × (i < w.terms.slots) × MayFault w i
+
+-- A call on pages fails only on those of a slot that is free.
+abbrev pub IsForRoom : World → ℕ → Grants → AllocError → Type 0
+IsForRoom w number grants (alloc.Limit e) = w.alone ≡ true → IsFull w number grants e.kind
+IsForRoom w number grants (alloc.PageFault) = SomeMayFault w × (live_count grants < w.terms.slots)
+IsForRoom w number grants _ = Unit {0}
+
+-- what the reply to a request for an instance tells of room
+abbrev pub TellsRoom : World → ℕ → Grants → Reply → Type 0
+TellsRoom w number grants (Instance memories tables) = HasRoom w number grants memories
+TellsRoom w number grants (Refused (Alloc e)) = IsForRoom w number grants e
+TellsRoom w number grants _ = Unit {0}
+
+-- A growth ends as its rules alone would have it, or a call on the pages of its memory's slot failed.
+abbrev pub TellsGrowth : World → ℕ → PrivateMemory → Reply → Type 0
+TellsGrowth w pages m reply = (reply ≡ (grown_by w.terms.rule false pages m).1) ⊎ MayFault w m.slot
+
+abbrev pub TellsOfPool : World → Grants → Command → Reply → Type 0
+TellsOfPool w grants (Instantiate number) reply = TellsRoom w number grants reply
+TellsOfPool w grants (Grow of memory pages) reply = IfSome (memory_at of memory grants) (λ m. TellsGrowth w pages m reply)
+TellsOfPool w grants _ reply = Unit {0}
+
+-- a step of a private run that tells so of the pool
+pub record PooledStep (w : World) (n : ℕ) (s : PrivateState) (command : Command) (reply : Reply) (new : PrivateState) : Type 0 where
+  pub private : PrivateStep w.terms n s command reply new
+  pub pool : TellsOfPool w s.grants command reply
+
+-- the replies are those of a run of such steps
+abbrev pub IsPooledRun : World → List Command → List Reply → Type 0
+IsPooledRun w commands replies = (end : PrivateState) × StepsBy (PooledStep w) 0 commands replies (with_grants (no_grants commands)) end
