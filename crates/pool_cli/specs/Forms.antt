@@ -128,6 +128,7 @@ step_or_pair_form (Some items) value = pair_form items
 unfoldable pub schedule_entry_form : Data → Option ScheduleEntry
 schedule_entry_form value = step_or_pair_form (as_array value) value
 
+-- There is one shard so far.
 unfoldable pub input_form : Data → Option Input
 input_form value = do
   fields ← only (codes "page" ∷ codes "config" ∷ codes "tunables" ∷ codes "offered" ∷ codes "modules" ∷ codes "parties" ∷ codes "schedule" ∷ codes "finish" ∷ codes "faults" ∷ []) value
@@ -140,4 +141,4 @@ input_form value = do
   schedule ← optional [] (list_of schedule_entry_form) (get (codes "schedule") fields)
   finish ← optional true as_bool (get (codes "finish") fields)
   faults ← optional [] (list_of fault_form) (get (codes "faults") fields)
-  Some (record { page = page; config = config; tunables = tunables; offered = offered; modules = modules; parties = parties; schedule = schedule; finish = finish; faults = faults })
+  Some (record { page = page; shards = 1; config = config; tunables = tunables; offered = offered; modules = modules; parties = parties; schedule = schedule; finish = finish; faults = faults })

@@ -3,10 +3,10 @@ pub mod Forms
 pub mod Lines
 pub mod ModuleForms
 pub mod Output
-pub mod Preparing
 pub mod Ranges
 pub mod Reading
 pub mod SettingsForms
+pub mod Stages
 pub mod Statuses
 pub mod Streams
 pub mod Transfers

@@ -1,5 +1,5 @@
 -- The module that a JSON value is. `None` says that it has another form than those accepted so far.
-use Rattle.std.specs.Prelude.{ℕ, ◌==◌, ◌||◌, List, [], ◌∷◌, length, codes, nat_le, false, if◌then◌else◌, Option, Some, None}
+use Rattle.std.specs.Prelude.{ℕ, ◌==◌, ◌||◌, List, [], ◌∷◌, codes, false, if◌then◌else◌, Option, Some, None}
 use Rattle.std.specs.Str.{bytes_eq}
 use Rattle.serde_json.specs.Data.{Data}
 use Rattle.serde_json.specs.Find.{get, as_bool, as_str}
@@ -49,9 +49,9 @@ memory_form value = do
   image ← optional None (or_null image_form) (get (codes "image") fields)
   Some (record { ty = ty; image = image })
 
--- a module has one memory or none
+-- A module has no tables and no state so far.
 unfoldable pub module_form : Data → Option ModuleInfo
 module_form value = do
   fields ← only (codes "memories" ∷ []) value
   memories ← optional [] (list_of memory_form) (get (codes "memories") fields)
-  given (nat_le (length memories) 1) (record { memories = memories })
+  Some (record { memories = memories; tables = []; state_bytes = 0; parts = [] })

@@ -1,21 +1,26 @@
 -- The text of a run's output.
-use Rattle.std.specs.Prelude.{ℕ, ◌+◌, ◌==◌, if◌then◌else◌, List, [], ◌∷◌, ◌++◌, codes, Bool, true, false, Option, Some, None}
+use Rattle.std.specs.Prelude.{ℕ, ◌+◌, ◌==◌, if◌then◌else◌, List, [], ◌∷◌, ◌++◌, codes, Bool, true, false, Option, Some, None, slice_get}
 use Rattle.std.specs.Fmt.{decimal}
 use Rattle.hex.specs.Hex.{encode_lower}
-use Rattle.pool_pages.specs.UnsupportedTexts.{unsupported_text}
+use Rattle.pool_pages.specs.UnsupportedTexts.{whole_text}
+use Rattle.pool_pages.specs.declared.module_types.ModuleInfo.{ModuleInfo}
 use Rattle.pool_pages.specs.declared.pages.PageCalls.{PageCalls}
 use Rattle.pool_slots.specs.Texts.{limit_text}
-use Rattle.pool_slots.specs.declared.request.AllocError.{AllocError}
-use Rattle.pool_slots.specs.declared.request.AllocError.TheVariants.{Memory as NoMemory, Unsupported, Limit, LimiterDenied, LimiterFault, PageFault}
+use Rattle.pool_slots.specs.declared.errors.AllocError.{AllocError}
+use Rattle.pool_slots.specs.declared.errors.AllocError.TheVariants.{Memory as NoMemory, Unsupported, Limit, StacksDisabled, HeapsDisabled, LimiterDenied, LimiterFault, PageFault, HeapFault}
 use Rattle.pool_limits.specs.Texts.{limiter_text}
 use Rattle.pool_limits.specs.declared.errors.Trap.{Trap}
 use Rattle.pool_limits.specs.declared.errors.Trap.TheVariants.{MemoryOutOfBounds, TableOutOfBounds, HeapMisaligned, AtomicWaitNonSharedMemory}
 use Rattle.pool_alloc.specs.declared.metrics.Metrics.{Metrics}
+use Rattle.pool_run.specs.declared.command.Command.{Command}
+use Rattle.pool_run.specs.declared.command.Command.TheVariants.{Instantiate}
+use Rattle.pool_run.specs.declared.input.Input.{Input}
 use Rattle.pool_run.specs.declared.output.RunOutput.{RunOutput}
 use Rattle.pool_run.specs.declared.reply.Refusal.{Refusal}
 use Rattle.pool_run.specs.declared.reply.Refusal.TheVariants.{NoSuchGrant, Alloc}
 use Rattle.pool_run.specs.declared.reply.Reply.{Reply}
 use Rattle.pool_run.specs.declared.reply.Reply.TheVariants.{Instance, Bytes, Done, Size, Grown, Returned, Refused, Trap as Trapped}
+use Rattle.pool_cli.specs.Fields.{◌>>=◌}
 
 -- the end of a line
 abbrev pub line_feed : List ℕ
@@ -46,17 +51,21 @@ abbrev pub denied_text : Bool → ℕ → List ℕ
 denied_text false min = codes "memory minimum size of " ++ decimal min ++ codes " pages exceeds memory limits"
 denied_text true min = codes "table minimum size of " ++ decimal min ++ codes " elements exceeds table limits"
 
-abbrev pub alloc_error_text : AllocError → List ℕ
-alloc_error_text NoMemory = codes "NoMemory"
-alloc_error_text (Unsupported u) = codes "Unsupported: " ++ one_line (unsupported_text u)
-alloc_error_text (Limit e) = codes "PoolConcurrencyLimitError: " ++ limit_text e
-alloc_error_text (LimiterDenied table min) = codes "LimiterDenied: " ++ denied_text table min
-alloc_error_text (LimiterFault e) = codes "LimiterFault: " ++ limiter_text e
-alloc_error_text PageFault = codes "PageFault"
+-- why an allocation was refused; that a module is too large is told with its parts
+abbrev pub alloc_error_text : Option ModuleInfo → AllocError → List ℕ
+alloc_error_text info NoMemory = codes "NoMemory"
+alloc_error_text info (Unsupported u) = codes "Unsupported: " ++ one_line (whole_text u info)
+alloc_error_text info (Limit e) = codes "PoolConcurrencyLimitError: " ++ limit_text e
+alloc_error_text info StacksDisabled = codes "StacksDisabled: pooling allocator not configured to enable fiber stack allocation"
+alloc_error_text info HeapsDisabled = codes "HeapsDisabled: no GC collector is configured"
+alloc_error_text info (LimiterDenied table min) = codes "LimiterDenied: " ++ denied_text table min
+alloc_error_text info (LimiterFault e) = codes "LimiterFault: " ++ limiter_text e
+alloc_error_text info PageFault = codes "PageFault"
+alloc_error_text info HeapFault = codes "HeapFault"
 
-abbrev pub refusal_text : Refusal → List ℕ
-refusal_text NoSuchGrant = codes "NoSuchGrant"
-refusal_text (Alloc e) = alloc_error_text e
+abbrev pub refusal_text : Option ModuleInfo → Refusal → List ℕ
+refusal_text info NoSuchGrant = codes "NoSuchGrant"
+refusal_text info (Alloc e) = alloc_error_text info e
 
 abbrev pub trap_text : Trap → List ℕ
 trap_text MemoryOutOfBounds = codes "MemoryOutOfBounds"
@@ -69,29 +78,39 @@ abbrev pub grown_text : Option ℕ → List ℕ
 grown_text None = codes "grown none"
 grown_text (Some old) = codes "grown " ++ decimal old
 
-abbrev pub reply_text : Reply → List ℕ
-reply_text (Instance memories tables) = codes "granted memories " ++ numbers_text memories ++ codes " tables " ++ numbers_text tables
-reply_text (Bytes bytes) = codes "bytes " ++ bytes_text bytes
-reply_text Done = codes "done"
-reply_text (Size size) = codes "size " ++ decimal size
-reply_text (Grown old) = grown_text old
-reply_text Returned = codes "returned"
-reply_text (Refused refusal) = codes "refused " ++ refusal_text refusal
-reply_text (Trapped trap) = codes "trap " ++ trap_text trap
+-- a reply to a command that asks for an instance of this module, or for something else
+abbrev pub reply_text : Option ModuleInfo → Reply → List ℕ
+reply_text info (Instance memories tables) = codes "granted memories " ++ numbers_text memories ++ codes " tables " ++ numbers_text tables
+reply_text info (Bytes bytes) = codes "bytes " ++ bytes_text bytes
+reply_text info Done = codes "done"
+reply_text info (Size size) = codes "size " ++ decimal size
+reply_text info (Grown old) = grown_text old
+reply_text info Returned = codes "returned"
+reply_text info (Refused refusal) = codes "refused " ++ refusal_text info refusal
+reply_text info (Trapped trap) = codes "trap " ++ trap_text trap
+
+-- the module of which a command asks for an instance
+abbrev pub module_of : List ModuleInfo → Command → Option ModuleInfo
+module_of modules (Instantiate n) = slice_get modules n
+module_of modules _ = None
+
+-- that of the command with this number of the party with this number
+abbrev pub module_asked : Input → ℕ → ℕ → Option ModuleInfo
+module_asked input party command = slice_get input.parties party >>= (λ p. slice_get p.commands command >>= module_of input.modules)
 
 -- the line of the reply to a command of a party
-abbrev pub reply_line : ℕ → ℕ → Reply → List ℕ
-reply_line party command reply = decimal party ++ codes "." ++ decimal command ++ codes ": " ++ reply_text reply ++ line_feed
+abbrev pub reply_line : Input → ℕ → ℕ → Reply → List ℕ
+reply_line input party command reply = decimal party ++ codes "." ++ decimal command ++ codes ": " ++ reply_text (module_asked input party command) reply ++ line_feed
 
 -- the lines of a party's replies, of which the first is to this command
-abbrev pub reply_lines : ℕ → ℕ → List Reply → List ℕ
-reply_lines party command [] = []
-reply_lines party command (reply ∷ replies) = reply_line party command reply ++ reply_lines party (command + 1) replies
+abbrev pub reply_lines : Input → ℕ → ℕ → List Reply → List ℕ
+reply_lines input party command [] = []
+reply_lines input party command (reply ∷ replies) = reply_line input party command reply ++ reply_lines input party (command + 1) replies
 
 -- the lines of the parties, of which the first has this number
-abbrev pub party_lines : ℕ → List (List Reply) → List ℕ
-party_lines party [] = []
-party_lines party (replies ∷ parties) = reply_lines party 0 replies ++ party_lines (party + 1) parties
+abbrev pub party_lines : Input → ℕ → List (List Reply) → List ℕ
+party_lines input party [] = []
+party_lines input party (replies ∷ parties) = reply_lines input party 0 replies ++ party_lines input (party + 1) parties
 
 -- a number with its name before it
 unfoldable pub named : List ℕ → ℕ → List ℕ
@@ -136,6 +155,6 @@ pages_line c =
     ++ named (codes " decommit=") c.decommit
     ++ line_feed
 
--- a line for each reply, then the pool's numbers, then the calls on its regions
-abbrev pub output_text : RunOutput → List ℕ
-output_text output = party_lines 0 output.replies ++ metrics_line output.metrics ++ pages_line output.calls
+-- of a run of this input: a line for each reply, then the pool's numbers, then the calls on its regions
+abbrev pub output_text : Input → RunOutput → List ℕ
+output_text input output = party_lines input 0 output.replies ++ metrics_line output.metrics ++ pages_line output.calls

@@ -1,5 +1,5 @@
 -- The input that a text is.
-use Rattle.std.specs.Prelude.{◌≡◌, ℕ, List, Bool, ◌&&◌, if◌then◌else◌, Option, Some, None, Result, Ok, Err}
+use Rattle.std.specs.Prelude.{◌≡◌, ℕ, List, Bool, if◌then◌else◌, Option, Some, None, Result, Ok, Err}
 use Rattle.std.specs.Str.{is_utf8}
 use Rattle.serde_json.specs.Data.{Data}
 use Rattle.serde_json.specs.Read.{read}
@@ -18,10 +18,14 @@ pub data Reading : Type 0 where
   invalid : Reading
   accepted : Input → Reading
 
+-- of an input that is built, and whose numbers all fit their types
+abbrev pub reading_of_fit : Input → Reading
+reading_of_fit input = if is_valid input then accepted input else invalid
+
 -- of an input whose numbers all fit their types, or don't
 abbrev pub reading_of_input : Bool → Input → Reading
 reading_of_input fit input =
-    if is_built input then (if fit && is_valid input then accepted input else invalid)
+    if is_built input then (if fit then reading_of_fit input else invalid)
     else not_built
 
 abbrev pub reading_of_form : Bool → Option Input → Reading
@@ -37,9 +41,9 @@ reading_of_json (Some value) = reading_of_form (numbers_fit value) (input_form v
 unfoldable pub reading : List ℕ → Reading
 reading bytes = if is_utf8 bytes then reading_of_json (read bytes) else invalid
 
--- what was returned is this reading, unless memory ran out
-abbrev pub Reads : Reading → Result Input InputFault → Type 0
-Reads r (Ok input) = r ≡ accepted input
-Reads r (Err NotBuilt) = r ≡ not_built
-Reads r (Err Invalid) = r ≡ invalid
-Reads r (Err Memory) = Unit {0}
+-- This is the reading of what was returned, unless memory ran out. Whether an input is valid is left to whoever runs it.
+abbrev pub IsReadAs : Reading → Result Input InputFault → Type 0
+IsReadAs r (Ok input) = r ≡ reading_of_fit input
+IsReadAs r (Err NotBuilt) = r ≡ not_built
+IsReadAs r (Err Invalid) = r ≡ invalid
+IsReadAs r (Err Memory) = Unit {0}

@@ -3,7 +3,7 @@ use Rattle.std.specs.Prelude.{ℕ, ◌-◌, ◌^◌, List, [], ◌∷◌, codes,
 use Rattle.std.specs.Str.{bytes_eq}
 use Rattle.serde_json.specs.Data.{Data}
 use Rattle.serde_json.specs.Find.{get, as_bool, as_str}
-use Rattle.pool_pages.specs.Config.{default_config, default_limits, default_offered, default_tunables}
+use Rattle.pool_pages.specs.Config.{default_config, default_instance_limits, default_offered, default_tunables}
 use Rattle.pool_pages.specs.declared.config.PoolingAllocationConfig.{PoolingAllocationConfig}
 use Rattle.pool_pages.specs.declared.fault_plan.Fault.{Fault}
 use Rattle.pool_pages.specs.declared.fault_plan.FaultKind.{FaultKind}
@@ -24,7 +24,7 @@ config_form value = do
   size ← optional 65536 whole_number (get (codes "max_memory_size") fields)
   batch ← optional 1 whole_number (get (codes "decommit_batch_size") fields)
   resident ← optional 0 whole_number (get (codes "linear_memory_keep_resident") fields)
-  Some (record default_config { limits = record default_limits { total_memories = min total (2 ^ 32 - 1); max_memory_size = size }; decommit_batch_size = batch; linear_memory_keep_resident = resident })
+  Some (record default_config { limits = record default_instance_limits { total_memories = min total (2 ^ 32 - 1); max_memory_size = size }; decommit_batch_size = batch; linear_memory_keep_resident = resident })
 
 -- the settings of memories; those of GC heaps are the same
 unfoldable pub tunables_form : Data → Option Tunables

@@ -15,7 +15,7 @@ use Rattle.pool_cli.specs.Streams.{SourceTold, SinkTold, ReadWhole, ReadTooMuch,
 use Rattle.pool_cli.specs.declared.failure.Failure.{Failure}
 use Rattle.pool_cli.specs.declared.failure.Failure.TheVariants as failure
 use Rattle.pool_cli.specs.declared.status.Status.{Status}
-use Rattle.pool_cli.specs.declared.status.Status.TheVariants.{Ok as Success, BadUsage, BadInput, BadConfig as BadSettings, PageFault, ReadFault, WriteFault, NoMemory, TooLong, NotBuilt}
+use Rattle.pool_cli.specs.declared.status.Status.TheVariants.{Ok as Success, BadInput, BadConfig as BadSettings, PageFault, ReadFault, WriteFault, NoMemory, TooLong, NotBuilt}
 use Rattle.pool_cli.specs.declared.words.Task.{Task}
 use Rattle.pool_cli.specs.declared.words.Task.TheVariants.{Run, Later, Unknown}
 
@@ -33,7 +33,7 @@ pub record HasRun (P : Type 0) (text : List ℕ) (source_old source_new : Source
   pub read : HasRead (accepted input) source_old source_new
   pub limits : broken_rule input ≡ None
   pub run : IsRun (Failing P) input (with_faults input maker) output
-  pub text_is : text ≡ output_text output
+  pub text_is : text ≡ output_text input output
 
 -- The source was read to its end, and the bytes read are an input that can be run but for its settings: this is the
 -- first of their rules that is broken.
@@ -43,12 +43,12 @@ pub record HasBadConfig (error : BadConfig) (source_old source_new : SourceTold)
   pub broken : broken_rule input ≡ Some error
 
 -- The source was read to its end, the bytes read are an input that can be run, no rule of its settings is broken, and
--- a making or a call failed as its pool was made.
-pub record HasNoPool (source_old source_new : SourceTold) (maker : MakerTold) : Type 0 where
+-- a making failed as its pool was made: where the maker with the input's faults tells its plan, that lists one.
+pub record HasNoPool (source_old source_new : SourceTold) (maker_old maker_new : MakerTold) : Type 0 where
   pub input : Input
   pub read : HasRead (accepted input) source_old source_new
   pub limits : broken_rule input ≡ None
-  pub making : MayFaultInMaking input maker
+  pub making : MayFaultInMaking input maker_old
 
 -- nothing was read
 abbrev pub Unread : SourceTold → SourceTold → Type 0
@@ -60,21 +60,21 @@ abbrev pub AsksForMore : Task → SourceTold → SourceTold → Type 0
 AsksForMore task source_old source_new = ((task ≡ Later) × Unread source_old source_new) ⊎ ((task ≡ Run) × HasRead not_built source_old source_new)
 
 -- why there is no output
-abbrev pub Fails : Task → Failure → SourceTold → SourceTold → MakerTold → Type 0
-Fails task failure.BadUsage source_old source_new maker = (task ≡ Unknown) × Unread source_old source_new
-Fails task failure.BadInput source_old source_new maker = (task ≡ Run) × HasRead invalid source_old source_new
-Fails task (failure.BadConfig line) source_old source_new maker = (task ≡ Run) × ((error : BadConfig) × HasBadConfig error source_old source_new × (string_bytes line ≡ config_line error))
-Fails task failure.PageFault source_old source_new maker = (task ≡ Run) × HasNoPool source_old source_new maker
-Fails task failure.ReadFault source_old source_new maker = (task ≡ Run) × Rose source_old.faults source_new.faults
-Fails task failure.NoMemory source_old source_new maker = task ≡ Run
-Fails task failure.TooLong source_old source_new maker = (task ≡ Run) × ReadTooMuch source_old source_new
-Fails task failure.NotBuilt source_old source_new maker = AsksForMore task source_old source_new
+abbrev pub Fails : Task → Failure → SourceTold → SourceTold → MakerTold → MakerTold → Type 0
+Fails task failure.BadUsage source_old source_new maker_old maker_new = (task ≡ Unknown) × Unread source_old source_new
+Fails task failure.BadInput source_old source_new maker_old maker_new = (task ≡ Run) × HasRead invalid source_old source_new
+Fails task (failure.BadConfig line) source_old source_new maker_old maker_new = (task ≡ Run) × ((error : BadConfig) × HasBadConfig error source_old source_new × (string_bytes line ≡ config_line error))
+Fails task failure.PageFault source_old source_new maker_old maker_new = (task ≡ Run) × HasNoPool source_old source_new maker_old maker_new
+Fails task failure.ReadFault source_old source_new maker_old maker_new = (task ≡ Run) × Rose source_old.faults source_new.faults
+Fails task failure.NoMemory source_old source_new maker_old maker_new = task ≡ Run
+Fails task failure.TooLong source_old source_new maker_old maker_new = (task ≡ Run) × ReadTooMuch source_old source_new
+Fails task failure.NotBuilt source_old source_new maker_old maker_new = AsksForMore task source_old source_new
 
 -- what is to be written, and why: the text of an output, or the line of a failure
-abbrev pub IsToWrite : Type 0 → Task → List ℕ → SourceTold → SourceTold → MakerTold → Type 0
-IsToWrite P task text source_old source_new maker =
-    ((task ≡ Run) × HasRun P text source_old source_new maker)
-    ⊎ ((cause : Failure) × Fails task cause source_old source_new maker × (text ≡ line_of cause))
+abbrev pub IsToWrite : Type 0 → Task → List ℕ → SourceTold → SourceTold → MakerTold → MakerTold → Type 0
+IsToWrite P task text source_old source_new maker_old maker_new =
+    ((task ≡ Run) × HasRun P text source_old source_new maker_old)
+    ⊎ ((cause : Failure) × Fails task cause source_old source_new maker_old maker_new × (text ≡ line_of cause))
 
 -- the output of a run was written, all of it
 pub record WroteOutput (P : Type 0) (task : Task) (source_old source_new : SourceTold) (sink_old sink_new : SinkTold) (maker : MakerTold) : Type 0 where
@@ -90,29 +90,11 @@ pub record WroteBadConfig (task : Task) (source_old source_new : SourceTold) (si
   pub refused : HasBadConfig error source_old source_new
   pub wrote : Wrote (config_line error) sink_old sink_new
 
--- there is no output for this cause, and its line was written, all of it
-abbrev pub WroteLine : Task → Failure → SourceTold → SourceTold → SinkTold → SinkTold → MakerTold → Type 0
-WroteLine task cause source_old source_new sink_old sink_new maker =
-    Fails task cause source_old source_new maker × Wrote (line_of cause) sink_old sink_new
-
 -- a write failed, after a part of what was to be written
-pub record WroteLess (P : Type 0) (task : Task) (source_old source_new : SourceTold) (sink_old sink_new : SinkTold) (maker : MakerTold) : Type 0 where
+pub record WroteLess (P : Type 0) (task : Task) (source_old source_new : SourceTold) (sink_old sink_new : SinkTold) (maker_old maker_new : MakerTold) : Type 0 where
   pub text : List ℕ
-  pub intended : IsToWrite P task text source_old source_new maker
+  pub intended : IsToWrite P task text source_old source_new maker_old maker_new
   pub wrote : WrotePart text sink_old sink_new
-
--- how the program ends
-abbrev pub Ends : Type 0 → Task → Status → SourceTold → SourceTold → SinkTold → SinkTold → MakerTold → Type 0
-Ends P task Success source_old source_new sink_old sink_new maker = WroteOutput P task source_old source_new sink_old sink_new maker
-Ends P task WriteFault source_old source_new sink_old sink_new maker = WroteLess P task source_old source_new sink_old sink_new maker
-Ends P task BadSettings source_old source_new sink_old sink_new maker = WroteBadConfig task source_old source_new sink_old sink_new
-Ends P task BadUsage source_old source_new sink_old sink_new maker = WroteLine task failure.BadUsage source_old source_new sink_old sink_new maker
-Ends P task BadInput source_old source_new sink_old sink_new maker = WroteLine task failure.BadInput source_old source_new sink_old sink_new maker
-Ends P task PageFault source_old source_new sink_old sink_new maker = WroteLine task failure.PageFault source_old source_new sink_old sink_new maker
-Ends P task ReadFault source_old source_new sink_old sink_new maker = WroteLine task failure.ReadFault source_old source_new sink_old sink_new maker
-Ends P task NoMemory source_old source_new sink_old sink_new maker = WroteLine task failure.NoMemory source_old source_new sink_old sink_new maker
-Ends P task TooLong source_old source_new sink_old sink_new maker = WroteLine task failure.TooLong source_old source_new sink_old sink_new maker
-Ends P task NotBuilt source_old source_new sink_old sink_new maker = WroteLine task failure.NotBuilt source_old source_new sink_old sink_new maker
 
 -- a fault of the source, of the sink or of a making, or want of memory, stands in the way
 abbrev pub IsHindrance : Status → Type 0
@@ -133,9 +115,3 @@ status_of (accepted input) = status_of_limits (broken_rule input)
 pub record FollowsBytes (status : Status) (bytes : List ℕ) : Type 0 where
   pub short : length bytes ≤ most_input → (status ≡ status_of (reading bytes)) ⊎ IsHindrance status
   pub long : most_input < length bytes → (status ≡ TooLong) ⊎ IsHindrance status
-
--- no read, no write and no making failed
-pub record IsUnhindered (input : Input) (source_old source_new : SourceTold) (sink_old sink_new : SinkTold) (maker : MakerTold) : Type 0 where
-  pub reads : ¬ (Rose source_old.faults source_new.faults)
-  pub writes : ¬ (Rose sink_old.faults sink_new.faults)
-  pub making : ¬ (MayFaultInMaking input maker)

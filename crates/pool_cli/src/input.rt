@@ -130,6 +130,7 @@ impl FromJson for Input {
         let faults = list_or_empty(alloc, value.get("faults"))?;
         Ok(Input {
             page: page as usize,
+            shards: 1,
             config,
             tunables,
             offered,

@@ -2,15 +2,14 @@ ghost use Rattle.std.specs.Prelude.{◌≡◌, true, IfOk};
 ghost use Rattle.serde_json.specs.Read.{read};
 ghost use Rattle.serde_json.specs.View.{view};
 ghost use Rattle.pool_run.specs.Built.{is_built};
-ghost use Rattle.pool_run.specs.Validity.{is_valid};
 ghost use Rattle.pool_cli.specs.Forms.{input_form};
 ghost use Rattle.pool_cli.specs.Ranges.{numbers_fit};
-ghost use Rattle.pool_cli.specs.Reading.{reading, reading_of_input, reading_of_json, reading_of_form, Reads};
+ghost use Rattle.pool_cli.specs.Reading.{reading, reading_of_input, reading_of_json, reading_of_form, IsReadAs};
 
 use crate::form_fault::FormFault;
 use crate::from_json::FromJson;
 use crate::ranges::numbers_fit;
-use pool_run::{Input, is_built, is_valid};
+use pool_run::{Input, is_built};
 use serde_json::Value;
 use std::alloc::Global;
 
@@ -19,30 +18,28 @@ use std::alloc::Global;
 pub enum InputFault {
     /// It is JSON of a form that is not accepted so far, or an input that asks for what is not built yet.
     NotBuilt,
-    /// It is no JSON, or an input that breaks a limit or names what isn't there.
+    /// It is no JSON, or an input with a number that the type of its field can't hold.
     Invalid,
     Memory,
 }
 
-/// Only what is built is tested further. `fit` says whether all numbers fit their types.
+/// Whether the input is built, and then whether it fits: `fit` says whether all numbers fit their types.
 fn tested(input: Input, fit: bool) -> Result<Input, InputFault>
-    ensures reads { Reads (reading_of_input fit input) result }
+    ensures reads { IsReadAs (reading_of_input fit input) result }
     ensures ready { IfOk result (λ input. is_built input ≡ true) }
-    ensures valid { IfOk result (λ input. is_valid input ≡ true) }
 {
     if !is_built(&input) {
         return Err(InputFault::NotBuilt);
     }
-    if !fit || !is_valid(&input) {
+    if !fit {
         return Err(InputFault::Invalid);
     }
     Ok(input)
 }
 
 fn input_of(alloc: Global, value: &Value) -> Result<Input, InputFault>
-    ensures reads { Reads (reading_of_form (numbers_fit (view value.now)) (input_form (view value.now))) result }
+    ensures reads { IsReadAs (reading_of_form (numbers_fit (view value.now)) (input_form (view value.now))) result }
     ensures ready { IfOk result (λ input. is_built input ≡ true) }
-    ensures valid { IfOk result (λ input. is_valid input ≡ true) }
 {
     match Input::from_json(alloc, value) {
         Ok(input) => tested(input, numbers_fit(value)),
@@ -52,9 +49,8 @@ fn input_of(alloc: Global, value: &Value) -> Result<Input, InputFault>
 }
 
 fn read_text(alloc: Global, text: &str) -> Result<Input, InputFault>
-    ensures reads { Reads (reading_of_json (read text.now)) result }
+    ensures reads { IsReadAs (reading_of_json (read text.now)) result }
     ensures ready { IfOk result (λ input. is_built input ≡ true) }
-    ensures valid { IfOk result (λ input. is_valid input ≡ true) }
 {
     match Value::from_str(alloc, text) {
         Ok(value) => input_of(alloc, &value),
@@ -68,11 +64,10 @@ fn read_text(alloc: Global, text: &str) -> Result<Input, InputFault>
     }
 }
 
-/// Reads the input that the bytes are.
+/// Reads the input that the bytes are. Whether it is valid isn't tested.
 pub fn read_input(alloc: Global, bytes: &[u8]) -> Result<Input, InputFault>
-    ensures reads { Reads (reading bytes.now) result }
+    ensures reads { IsReadAs (reading bytes.now) result }
     ensures ready { IfOk result (λ input. is_built input ≡ true) }
-    ensures valid { IfOk result (λ input. is_valid input ≡ true) }
 {
     match str::from_utf8(bytes) {
         Ok(text) => read_text(alloc, text),

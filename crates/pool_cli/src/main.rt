@@ -13,6 +13,8 @@ mod modules;
 mod pool_main;
 mod print;
 mod ranges;
+#[cfg(test)]
+mod run_tests;
 mod settings;
 mod stages;
 mod standard_streams;

@@ -7,7 +7,7 @@ ghost use Rattle.pool_cli.specs.ModuleForms.{image_form, index_form, index_named
 use crate::fields::{bytes, flag_or, has_only, number, number_or, number_or_none};
 use crate::form_fault::FormFault;
 use crate::from_json::{FromJson, list_or_empty};
-use pool_pages::{ImageDecl, IndexType, Limits, MemoryDecl, MemoryType, ModuleInfo};
+use pool_pages::{ImageDecl, IndexType, Limits, MemoryDecl, MemoryType, ModuleInfo, PlainList};
 use serde_json::Value;
 use std::alloc::Global;
 
@@ -121,10 +121,11 @@ impl FromJson for ModuleInfo {
             return Err(FormFault::OtherForm);
         }
         let memories = list_or_empty(alloc, value.get("memories"))?;
-        if memories.len() <= 1 {
-            Ok(ModuleInfo { memories })
-        } else {
-            Err(FormFault::OtherForm)
-        }
+        Ok(ModuleInfo {
+            memories,
+            tables: PlainList::new(alloc),
+            state_bytes: 0,
+            parts: PlainList::new(alloc),
+        })
     }
 }

@@ -1,11 +1,11 @@
-ghost use Rattle.std.specs.Prelude.{◌≡◌, ◌≤◌, ◌⊎◌, length, IfSome};
+ghost use Rattle.std.specs.Prelude.{◌≡◌, ◌⊎◌, IfSome};
 ghost use Rattle.pool_pages.specs.Told.{Rose};
-ghost use Rattle.pool_run.specs.declared.input.Input.{Input};
 ghost use Rattle.pool_cli.specs.Lines.{line_of};
-ghost use Rattle.pool_cli.specs.Reading.{invalid, accepted, reading};
-ghost use Rattle.pool_cli.specs.Statuses.{AsksForMore, Ends, FollowsBytes, HasNoPool, HasRead, IsUnhindered, Unread, WroteBadConfig, WroteLess, WroteOutput, status_of};
+ghost use Rattle.pool_cli.specs.Reading.{invalid};
+ghost use Rattle.pool_cli.specs.Statuses.{AsksForMore, FollowsBytes, HasNoPool, HasRead, Unread, WroteBadConfig, WroteLess, WroteOutput};
+ghost use Rattle.pool_cli.specs.Stages.{Ends};
 ghost use Rattle.pool_cli.specs.declared.failure.Failure.TheVariants as failure;
-ghost use Rattle.pool_cli.specs.Streams.{ReadTooMuch, Wrote, most_input};
+ghost use Rattle.pool_cli.specs.Streams.{ReadTooMuch, Wrote};
 ghost use Rattle.pool_cli.specs.Words.{task_of};
 ghost use Rattle.pool_cli.specs.declared.words.Task.TheVariants.{Run, Later, Unknown};
 
@@ -22,7 +22,7 @@ fn go<S: Source, K: Sink, M: PageMaker>(
     sink: &mut K,
     pages: &mut M,
 ) -> Status
-    ensures { Ends M.Region (task_of words.now) result (S.told source.old) (S.told source.new) (K.told sink.old) (K.told sink.new) (M.told pages.old) }
+    ensures { Ends M.Region (task_of words.now) result (S.told source.old) (S.told source.new) (K.told sink.old) (K.told sink.new) (M.told pages.old) (M.told pages.new) }
 {
     match prepare(alloc, words, source, pages) {
         Ok(text) => finish(sink, text.as_str(), Status::Ok),
@@ -47,18 +47,18 @@ pub fn pool_main<S: Source, K: Sink, M: PageMaker>(
     ensures bad_input { result ≡ Status.BadInput → (task_of words.now ≡ Run) × HasRead invalid (S.told source.old) (S.told source.new) × Wrote (line_of failure.BadInput) (K.told sink.old) (K.told sink.new) }
     // The source was read to its end, the bytes read are an input that can be run but for its settings, and the line written says which of their rules is the first that is broken.
     ensures bad_config { result ≡ Status.BadConfig → WroteBadConfig (task_of words.now) (S.told source.old) (S.told source.new) (K.told sink.old) (K.told sink.new) }
-    ensures page_fault { result ≡ Status.PageFault → (task_of words.now ≡ Run) × HasNoPool (S.told source.old) (S.told source.new) (M.told pages.old) × Wrote (line_of failure.PageFault) (K.told sink.old) (K.told sink.new) }
+    ensures page_fault { result ≡ Status.PageFault → (task_of words.now ≡ Run) × HasNoPool (S.told source.old) (S.told source.new) (M.told pages.old) (M.told pages.new) × Wrote (line_of failure.PageFault) (K.told sink.old) (K.told sink.new) }
     ensures read_fault { result ≡ Status.ReadFault → (task_of words.now ≡ Run) × Rose (S.told source.old).faults (S.told source.new).faults × Wrote (line_of failure.ReadFault) (K.told sink.old) (K.told sink.new) }
-    ensures write_fault { result ≡ Status.WriteFault → WroteLess M.Region (task_of words.now) (S.told source.old) (S.told source.new) (K.told sink.old) (K.told sink.new) (M.told pages.old) }
+    ensures write_fault { result ≡ Status.WriteFault → WroteLess M.Region (task_of words.now) (S.told source.old) (S.told source.new) (K.told sink.old) (K.told sink.new) (M.told pages.old) (M.told pages.new) }
     ensures no_memory { result ≡ Status.NoMemory → (task_of words.now ≡ Run) × Wrote (line_of failure.NoMemory) (K.told sink.old) (K.told sink.new) }
     ensures too_long { result ≡ Status.TooLong → (task_of words.now ≡ Run) × ReadTooMuch (S.told source.old) (S.told source.new) × Wrote (line_of failure.TooLong) (K.told sink.old) (K.told sink.new) }
     ensures not_built { result ≡ Status.NotBuilt → AsksForMore (task_of words.now) (S.told source.old) (S.told source.new) × Wrote (line_of failure.NotBuilt) (K.told sink.old) (K.told sink.new) }
-    // The other way round: what the words and the bytes lead to, unless something stands in the way.
+    // The other way round: what the words and the bytes lead to, unless something stands in the way. A fault of the source or
+    // of the sink is one of theirs by the clauses above, and one of a making is listed where a plan is told; so without any the
+    // status is this one, or that of want of memory.
     ensures unknown_words { task_of words.now ≡ Unknown → (result ≡ Status.BadUsage) ⊎ (result ≡ Status.WriteFault) }
     ensures later_words { task_of words.now ≡ Later → (result ≡ Status.NotBuilt) ⊎ (result ≡ Status.WriteFault) }
     ensures by_bytes { task_of words.now ≡ Run → IfSome (S.told source.old).rest (FollowsBytes result) }
-    ensures unhindered { task_of words.now ≡ Run → IfSome (S.told source.old).rest (λ bytes. length bytes ≤ most_input → (input : Input) → reading bytes ≡ accepted input
-        → IsUnhindered input (S.told source.old) (S.told source.new) (K.told sink.old) (K.told sink.new) (M.told pages.old) → (result ≡ status_of (accepted input)) ⊎ (result ≡ Status.NoMemory)) }
 {
     go(alloc, words, source, sink, pages)
 }

@@ -1,11 +1,11 @@
-ghost use Rattle.std.specs.Prelude.{◌≡◌, ◌++◌, Some, codes, IfOk, OnOk, string_bytes};
-ghost use Rattle.pool_pages.specs.UnsupportedTexts.{unsupported_text};
-ghost use Rattle.pool_cli.specs.Output.{numbers_text, bytes_text, one_line, refusal_text, alloc_error_text, denied_text, trap_text, grown_text, reply_text, reply_line, reply_lines, party_lines, named, named_or_none, live_text, warm_text, metrics_line, pages_line, output_text};
+ghost use Rattle.std.specs.Prelude.{◌≡◌, ◌++◌, Some, codes, IfOk, OnOk, option_map, string_bytes};
+ghost use Rattle.pool_pages.specs.UnsupportedTexts.{whole_text};
+ghost use Rattle.pool_cli.specs.Output.{numbers_text, bytes_text, one_line, refusal_text, alloc_error_text, denied_text, trap_text, grown_text, reply_text, module_of, module_asked, reply_line, reply_lines, party_lines, named, named_or_none, live_text, warm_text, metrics_line, pages_line, output_text};
 
 use pool_alloc::Metrics;
 use pool_limits::Trap;
-use pool_pages::{PageCalls, Unsupported};
-use pool_run::{Refusal, Reply, ReplyList, RunOutput};
+use pool_pages::{ModuleInfo, PageCalls, Text, Unsupported};
+use pool_run::{Command, Input, Refusal, Reply, ReplyList, RunOutput};
 use pool_slots::AllocError as Refused;
 use std::alloc::{AllocError, Global};
 use std::fmt::Write;
@@ -35,12 +35,17 @@ fn push_bytes(alloc: Global, out: &mut String, bytes: &[u8]) -> Result<(), Alloc
     out.push_str(text.as_str())
 }
 
-fn push_refusal(alloc: Global, out: &mut String, refusal: Refusal) -> Result<(), AllocError>
-    ensures { OnOk result (string_bytes out.new ≡ string_bytes out.old ++ refusal_text refusal) }
+fn push_refusal(
+    alloc: Global,
+    out: &mut String,
+    info: Option<&ModuleInfo>,
+    refusal: Refusal,
+) -> Result<(), AllocError>
+    ensures { OnOk result (string_bytes out.new ≡ string_bytes out.old ++ refusal_text (option_map (λ i. i.now) info.entry) refusal) }
 {
     match refusal {
         Refusal::NoSuchGrant => out.push_str("NoSuchGrant"),
-        Refusal::Alloc(error) => push_alloc_error(alloc, out, error),
+        Refusal::Alloc(error) => push_alloc_error(alloc, out, info, error),
     }
 }
 
@@ -59,34 +64,68 @@ fn push_one_line(out: &mut String, text: &str) -> Result<(), AllocError>
     }
 }
 
-/// Adds the rule's text on one line.
-fn push_rule(alloc: Global, out: &mut String, rule: Unsupported) -> Result<(), AllocError>
-    ensures { OnOk result (string_bytes out.new ≡ string_bytes out.old ++ one_line (unsupported_text rule)) }
+/// The text of the rule, with the parts of the module where it tells them and the module is given.
+fn rule_text(
+    alloc: Global,
+    rule: Unsupported,
+    info: Option<&ModuleInfo>,
+) -> Result<Text, AllocError>
+    ensures { IfOk result (λ text. text ≡ whole_text rule (option_map (λ i. i.now) info.entry)) }
 {
-    let text = rule.to_string(alloc)?;
+    match info {
+        Some(info) => rule.text(alloc, Some(info)),
+        None => Ok(Text::from_string(rule.to_string(alloc)?)),
+    }
+}
+
+/// Adds the rule's text on one line.
+fn push_rule(
+    alloc: Global,
+    out: &mut String,
+    rule: Unsupported,
+    info: Option<&ModuleInfo>,
+) -> Result<(), AllocError>
+    ensures { OnOk result (string_bytes out.new ≡ string_bytes out.old ++ one_line (whole_text rule (option_map (λ i. i.now) info.entry))) }
+{
+    let text = rule_text(alloc, rule, info)?;
     push_one_line(out, text.as_str())
 }
 
-fn push_unsupported(alloc: Global, out: &mut String, rule: Unsupported) -> Result<(), AllocError>
-    ensures { OnOk result (string_bytes out.new ≡ string_bytes out.old ++ (codes "Unsupported: " ++ one_line (unsupported_text rule))) }
+fn push_unsupported(
+    alloc: Global,
+    out: &mut String,
+    rule: Unsupported,
+    info: Option<&ModuleInfo>,
+) -> Result<(), AllocError>
+    ensures { OnOk result (string_bytes out.new ≡ string_bytes out.old ++ (codes "Unsupported: " ++ one_line (whole_text rule (option_map (λ i. i.now) info.entry)))) }
 {
     out.push_str("Unsupported: ")?;
-    push_rule(alloc, out, rule)
+    push_rule(alloc, out, rule, info)
 }
 
-fn push_alloc_error(alloc: Global, out: &mut String, error: Refused) -> Result<(), AllocError>
-    ensures { OnOk result (string_bytes out.new ≡ string_bytes out.old ++ alloc_error_text error) }
+fn push_alloc_error(
+    alloc: Global,
+    out: &mut String,
+    info: Option<&ModuleInfo>,
+    error: Refused,
+) -> Result<(), AllocError>
+    ensures { OnOk result (string_bytes out.new ≡ string_bytes out.old ++ alloc_error_text (option_map (λ i. i.now) info.entry) error) }
 {
     match error {
         Refused::Memory => out.push_str("NoMemory"),
-        Refused::Unsupported(rule) => push_unsupported(alloc, out, rule),
+        Refused::Unsupported(rule) => push_unsupported(alloc, out, rule, info),
         Refused::Limit(limit) => write!(out, "PoolConcurrencyLimitError: {limit}"),
+        Refused::StacksDisabled => out.push_str(
+            "StacksDisabled: pooling allocator not configured to enable fiber stack allocation",
+        ),
+        Refused::HeapsDisabled => out.push_str("HeapsDisabled: no GC collector is configured"),
         Refused::LimiterDenied { table, min } => {
             out.push_str("LimiterDenied: ")?;
             push_denied(out, table, min)
         }
         Refused::LimiterFault(fault) => write!(out, "LimiterFault: {fault}"),
         Refused::PageFault => out.push_str("PageFault"),
+        Refused::HeapFault => out.push_str("HeapFault"),
     }
 }
 
@@ -126,8 +165,13 @@ fn push_grown(out: &mut String, old: Option<u64>) -> Result<(), AllocError>
     }
 }
 
-fn push_reply(alloc: Global, out: &mut String, reply: &Reply) -> Result<(), AllocError>
-    ensures { OnOk result (string_bytes out.new ≡ string_bytes out.old ++ reply_text reply.now) }
+fn push_reply(
+    alloc: Global,
+    out: &mut String,
+    info: Option<&ModuleInfo>,
+    reply: &Reply,
+) -> Result<(), AllocError>
+    ensures { OnOk result (string_bytes out.new ≡ string_bytes out.old ++ reply_text (option_map (λ i. i.now) info.entry) reply.now) }
 {
     match reply {
         Reply::Instance { memories, tables } => {
@@ -146,7 +190,7 @@ fn push_reply(alloc: Global, out: &mut String, reply: &Reply) -> Result<(), Allo
         Reply::Returned => out.push_str("returned"),
         Reply::Refused(refusal) => {
             out.push_str("refused ")?;
-            push_refusal(alloc, out, *refusal)
+            push_refusal(alloc, out, info, *refusal)
         }
         Reply::Trap(trap) => {
             out.push_str("trap ")?;
@@ -155,30 +199,51 @@ fn push_reply(alloc: Global, out: &mut String, reply: &Reply) -> Result<(), Allo
     }
 }
 
+/// The module of which the command asks for an instance.
+fn module_of<'a>(modules: &'a [ModuleInfo], command: &Command) -> Option<&'a ModuleInfo>
+    ensures { option_map (λ i. i.now) result ≡ module_of modules.now command.now }
+{
+    match command {
+        Command::Instantiate { module } => modules.get(*module),
+        _ => None,
+    }
+}
+
+/// That of the command with this number of the party with this number.
+fn module_asked(input: &Input, party: usize, command: usize) -> Option<&ModuleInfo>
+    ensures { option_map (λ i. i.now) result ≡ module_asked input.now party command }
+{
+    let party = input.parties.as_slice().get(party)?;
+    let command = party.commands.as_slice().get(command)?;
+    module_of(input.modules.as_slice(), command)
+}
+
 fn push_reply_line(
     alloc: Global,
     out: &mut String,
+    input: &Input,
     party: usize,
     command: usize,
     reply: &Reply,
 ) -> Result<(), AllocError>
-    ensures { OnOk result (string_bytes out.new ≡ string_bytes out.old ++ reply_line party command reply.now) }
+    ensures { OnOk result (string_bytes out.new ≡ string_bytes out.old ++ reply_line input.now party command reply.now) }
 {
     write!(out, "{party}.{command}: ")?;
-    push_reply(alloc, out, reply)?;
+    push_reply(alloc, out, module_asked(input, party, command), reply)?;
     out.push_str("\n")
 }
 
 fn push_reply_lines(
     alloc: Global,
     out: &mut String,
+    input: &Input,
     party: usize,
     replies: &ReplyList,
 ) -> Result<(), AllocError>
-    ensures { OnOk result (string_bytes out.new ≡ string_bytes out.old ++ reply_lines party 0 replies.now) }
+    ensures { OnOk result (string_bytes out.new ≡ string_bytes out.old ++ reply_lines input.now party 0 replies.now) }
 {
     for (command, reply) in replies.as_slice().iter().enumerate() {
-        push_reply_line(alloc, out, party, command, reply)?;
+        push_reply_line(alloc, out, input, party, command, reply)?;
     }
     Ok(())
 }
@@ -186,12 +251,13 @@ fn push_reply_lines(
 fn push_party_lines(
     alloc: Global,
     out: &mut String,
+    input: &Input,
     parties: &[ReplyList],
 ) -> Result<(), AllocError>
-    ensures { OnOk result (string_bytes out.new ≡ string_bytes out.old ++ party_lines 0 parties.now) }
+    ensures { OnOk result (string_bytes out.new ≡ string_bytes out.old ++ party_lines input.now 0 parties.now) }
 {
     for (party, replies) in parties.iter().enumerate() {
-        push_reply_lines(alloc, out, party, replies)?;
+        push_reply_lines(alloc, out, input, party, replies)?;
     }
     Ok(())
 }
@@ -266,12 +332,12 @@ fn push_pages(out: &mut String, calls: &PageCalls) -> Result<(), AllocError>
     out.push_str("\n")
 }
 
-/// The text of a run's output.
-pub fn output_text(alloc: Global, output: &RunOutput) -> Result<String, AllocError>
-    ensures { IfOk result (λ text. string_bytes text ≡ output_text output.now) }
+/// The text of the output of a run of this input.
+pub fn output_text(alloc: Global, input: &Input, output: &RunOutput) -> Result<String, AllocError>
+    ensures { IfOk result (λ text. string_bytes text ≡ output_text input.now output.now) }
 {
     let mut out = String::new(alloc);
-    push_party_lines(alloc, &mut out, output.replies.as_slice())?;
+    push_party_lines(alloc, &mut out, input, output.replies.as_slice())?;
     push_metrics(&mut out, &output.metrics)?;
     push_pages(&mut out, &output.calls)?;
     Ok(out)

@@ -1,9 +1,8 @@
 ghost use Rattle.std.specs.Prelude.{◌≡◌, true, IfOk};
 ghost use Rattle.pool_pages.specs.declared.bad_config.BadConfig.{BadConfig};
 ghost use Rattle.pool_run.specs.Built.{is_built};
-ghost use Rattle.pool_run.specs.Validity.{is_valid};
 ghost use Rattle.pool_cli.specs.Lines.{config_line};
-ghost use Rattle.pool_cli.specs.Preparing.{ReadsInput, Prepares, Finishes, Refuses};
+ghost use Rattle.pool_cli.specs.Stages.{ReadsInput, Prepares, WritesText, Refuses};
 ghost use Rattle.pool_cli.specs.Words.{task_of};
 ghost use Rattle.pool_cli.specs.declared.words.Task.TheVariants.{Run};
 
@@ -18,11 +17,10 @@ use pool_pages::{BadConfig, PageMaker};
 use pool_run::{Input, RunFault, run_schedule};
 use std::alloc::Global;
 
-/// Reads the input.
+/// Reads the input. Whether it is valid isn't tested.
 fn input_from<S: Source>(alloc: Global, source: &mut S) -> Result<Input, Failure>
     ensures reads { ReadsInput (S.told source.old) (S.told source.new) result }
     ensures ready { IfOk result (λ input. is_built input ≡ true) }
-    ensures valid { IfOk result (λ input. is_valid input ≡ true) }
 {
     let bytes = match read_all(alloc, source) {
         Ok(bytes) => bytes,
@@ -54,16 +52,17 @@ fn run<S: Source, M: PageMaker>(
     source: &mut S,
     pages: &mut M,
 ) -> Result<String, Failure>
-    ensures { Prepares M.Region Run (S.told source.old) (S.told source.new) (M.told pages.old) result }
+    ensures { Prepares M.Region Run (S.told source.old) (S.told source.new) (M.told pages.old) (M.told pages.new) result }
 {
     let input = input_from(alloc, source)?;
     let output = match run_schedule(alloc, &input, pages) {
         Ok(output) => output,
+        Err(RunFault::BadInput) => return Err(Failure::BadInput),
         Err(RunFault::BadConfig(error)) => return Err(refused(alloc, error)),
         Err(RunFault::PageFault) => return Err(Failure::PageFault),
         Err(RunFault::Memory) => return Err(Failure::NoMemory),
     };
-    match output_text(alloc, &output) {
+    match output_text(alloc, &input, &output) {
         Ok(text) => Ok(text),
         Err(_) => Err(Failure::NoMemory),
     }
@@ -76,7 +75,7 @@ pub fn prepare<S: Source, M: PageMaker>(
     source: &mut S,
     pages: &mut M,
 ) -> Result<String, Failure>
-    ensures { Prepares M.Region (task_of words.now) (S.told source.old) (S.told source.new) (M.told pages.old) result }
+    ensures { Prepares M.Region (task_of words.now) (S.told source.old) (S.told source.new) (M.told pages.old) (M.told pages.new) result }
 {
     match task_of(words) {
         Task::Run => run(alloc, source, pages),
@@ -87,7 +86,7 @@ pub fn prepare<S: Source, M: PageMaker>(
 
 /// Writes the text, and says how the program ended.
 pub fn finish<K: Sink>(sink: &mut K, text: &str, status: Status) -> Status
-    ensures { Finishes status text.now (K.told sink.old) (K.told sink.new) result }
+    ensures { WritesText status text.now (K.told sink.old) (K.told sink.new) result }
 {
     match write_all(sink, text.as_bytes()) {
         Ok(()) => status,

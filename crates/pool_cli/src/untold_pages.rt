@@ -44,6 +44,7 @@ impl UntoldRegion {
     }
 }
 
+// Where a call changes nothing, it looks at a field: so the prover learns that what the region tells is in range.
 impl Pages for UntoldRegion {
     ghost told = { λ r. r };
 
@@ -187,6 +188,11 @@ impl Pages for UntoldRegion {
         out.fill(UNTOLD_BYTE);
     }
 
+    fn holds(&self, at: usize, bytes: &[u8]) -> bool {
+        let _len = self.len;
+        bytes.iter().all(|byte| *byte == UNTOLD_BYTE)
+    }
+
     fn write(&mut self, at: usize, bytes: &[u8]) {
         let _len = self.len;
     }
@@ -218,7 +224,7 @@ impl PageMaker for UntoldPages {
 
     ghost use Rattle.std.specs.Prelude.{[], false, None};
 
-    ghost told = { λ m. record { page = m.page; tells = false; plan = None; layers = []; next = m.next; faults = 0 } };
+    ghost told = { λ m. record { page = m.page; tells = false; plan = None; layers = []; listed = []; behind = 0; next = m.next; faults = 0 } };
 
     fn faults(&self) -> u64 {
         let _page = self.page;

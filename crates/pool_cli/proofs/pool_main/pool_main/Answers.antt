@@ -1,9 +1,6 @@
 use Rattle.pool_cli.specs.Words.{task_of}
-use Rattle.pool_cli.proofs.Endings.{follows, unhindered}
+use Rattle.pool_cli.proofs.Endings.{follows}
 use Rattle.pool_cli.proofs.pool_main.pool_main.Goals as goal
 
 pub returns-clause-by_bytes : goal.returns-clause-by_bytes
-returns-clause-by_bytes g c asked = follows _ (task_of c.args.words.now) c.go.result _ _ _ _ _ c.go.ensures asked
-
-pub returns-clause-unhindered : goal.returns-clause-unhindered
-returns-clause-unhindered g c asked = unhindered _ (task_of c.args.words.now) c.go.result _ _ _ _ _ c.go.ensures asked
+returns-clause-by_bytes g c asked = follows _ (task_of c.args.words.now) c.go.result _ _ _ _ _ _ c.go.ensures asked
