@@ -1,0 +1,28 @@
+//! Tests of the crates below, in one crate on top of them all: each crate below is proved once, and a test sees no more of
+//! it than any caller does.
+#![tactic(auto)]
+
+#[cfg(test)]
+mod byte_count_tests;
+#[cfg(test)]
+mod failing_tests;
+#[cfg(test)]
+mod hall_tests;
+#[cfg(test)]
+mod index_tests;
+#[cfg(test)]
+mod limit_tests;
+#[cfg(test)]
+mod memory_tests;
+#[cfg(test)]
+mod queue_tests;
+#[cfg(test)]
+mod region_tests;
+#[cfg(test)]
+mod settings_tests;
+#[cfg(test)]
+mod slot_tests;
+#[cfg(test)]
+mod spot_tests;
+#[cfg(test)]
+mod table_tests;
