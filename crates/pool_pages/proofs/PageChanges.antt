@@ -269,10 +269,10 @@ same_part n start len c positive shaped fits k is =
     let end : k * c.page + c.page ≤ n = page_below k n c.page shaped.whole (omega (arith, is.below)) in
     let first : start + (k * c.page - start) ≡ k * c.page + (start - k * c.page) = omega arith in
     let last : start + min len (k * c.page + c.page - start) ≡ k * c.page + min c.page (start + len - k * c.page) = omega (arith, is.some, is.below, is.above) in
-    range_range c.origin start (start + len) (k * c.page - start) (min len (k * c.page + c.page - start)) (omega arith) (omega arith)
+    range_range c.origin start (start + len) (k * c.page - start) (min len (k * c.page + c.page - start)) (omega arith)
     ∙ ap (λ i. slice_range c.origin i (start + min len (k * c.page + c.page - start))) first
     ∙ ap (λ j. slice_range c.origin (k * c.page + (start - k * c.page)) j) last
-    ∙ sym (range_range c.origin (k * c.page) (k * c.page + c.page) (start - k * c.page) (min c.page (start + len - k * c.page)) (omega arith) (omega arith))
+    ∙ sym (range_range c.origin (k * c.page) (k * c.page + c.page) (start - k * c.page) (min c.page (start + len - k * c.page)) (omega arith))
 
 pub restore_law : RestoreChangesItsPages
 restore_law n start len c positive shaped fits =

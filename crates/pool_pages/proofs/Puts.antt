@@ -35,21 +35,18 @@ module _ {X : Type 0} where
   get_or-range xs a b k d below = get_or-take (b - a) (drop a xs) k d below ∙ get_or-drop a xs k d
 
   -- a range of a range
-  pub range_range : (xs : List X) (a b i j : ℕ) → b ≤ length xs → j ≤ b - a → slice_range (slice_range xs a b) i j ≡ slice_range xs (a + i) (a + j)
-  range_range xs a b i j ends inside =
-      let long : length (slice_range xs a b) ≡ b - a = length-range xs a b ends in
-      let left : length (slice_range (slice_range xs a b) i j) ≡ j - i = length-range (slice_range xs a b) i j (omega arith) in
-      let right : length (slice_range xs (a + i) (a + j)) ≡ a + j - (a + i) = elim (cases_lt a b) [
-        | inl some ↦ length-range xs (a + i) (a + j) (omega arith)
-        | inr none ↦ omega (arith, length-take (a + j - (a + i)) (drop (a + i) xs))
-      ] in
-      same_lists (slice_range (slice_range xs a b) i j) (slice_range xs (a + i) (a + j)) (omega arith)
+  pub range_range : (xs : List X) (a b i j : ℕ) → j ≤ b - a → slice_range (slice_range xs a b) i j ≡ slice_range xs (a + i) (a + j)
+  range_range xs a b i j inside =
+      let left = length-take (j - i) (drop i (slice_range xs a b)) in
+      let right = length-take (a + j - (a + i)) (drop (a + i) xs) in
+      same_lists (slice_range (slice_range xs a b) i j) (slice_range xs (a + i) (a + j))
+      (omega (arith, left, length-drop i (slice_range xs a b), length-take (b - a) (drop a xs), length-drop a xs, right, length-drop (a + i) xs))
       (λ k d below.
       let place : a + (i + k) ≡ a + i + k = omega arith in
-      get_or-range (slice_range xs a b) i j k d (omega arith)
-      ∙ get_or-range xs a b (i + k) d (omega arith)
+      get_or-range (slice_range xs a b) i j k d (omega (arith, below, left))
+      ∙ get_or-range xs a b (i + k) d (omega (arith, below, left))
       ∙ ap (λ n. get_or xs n d) place
-      ∙ sym (get_or-range xs (a + i) (a + j) k d (omega arith)))
+      ∙ sym (get_or-range xs (a + i) (a + j) k d (omega (arith, below, left))))
 
   -- two lists with the same elements from a to b have the same range there
   pub same_range : (xs ys : List X) (a b : ℕ) → b ≤ length xs → b ≤ length ys → ((k : ℕ) (d : X) → a ≤ k → k < b → get_or xs k d ≡ get_or ys k d) → slice_range xs a b ≡ slice_range ys a b

@@ -12,20 +12,20 @@ abbrev pub no_counts : CallCounts
 no_counts = record { made = 0; calls = no_calls; faults = 0 }
 
 -- one more call of a kind
-abbrev pub raised : CallKind → PageCalls → PageCalls
-raised Expose c = record c { expose = risen c.expose }
-raised Hide c = record c { hide = risen c.hide }
-raised MapImage c = record c { map_image = risen c.map_image }
-raised RemapZeros c = record c { remap_zeros = risen c.remap_zeros }
-raised Erase c = record c { erase = risen c.erase }
-raised Recolour c = record c { recolour = risen c.recolour }
-raised Decommit c = record c { decommit = risen c.decommit }
+abbrev pub one_more_call : CallKind → PageCalls → PageCalls
+one_more_call Expose c = record c { expose = risen c.expose }
+one_more_call Hide c = record c { hide = risen c.hide }
+one_more_call MapImage c = record c { map_image = risen c.map_image }
+one_more_call RemapZeros c = record c { remap_zeros = risen c.remap_zeros }
+one_more_call Erase c = record c { erase = risen c.erase }
+one_more_call Recolour c = record c { recolour = risen c.recolour }
+one_more_call Decommit c = record c { decommit = risen c.decommit }
 
 -- a call on a range of this length was made, and failed or not
-abbrev pub counts_after : CallKind → ℕ → Bool → CallCounts → CallCounts
-counts_after kind len failed c = record {
+abbrev pub counts_after_call : CallKind → ℕ → Bool → CallCounts → CallCounts
+counts_after_call kind len failed c = record {
   made = if len == 0 then c.made else risen c.made;
-  calls = if len == 0 then c.calls else raised kind c.calls;
+  calls = if len == 0 then c.calls else one_more_call kind c.calls;
   faults = if failed then risen c.faults else c.faults;
 }
 

@@ -2,7 +2,7 @@ ghost use Rattle.std.specs.Prelude.{◌≡◌};
 ghost use Rattle.pool_pages.specs.Told.{risen};
 ghost use Rattle.pool_pages.specs.CallSums.{added};
 ghost use Rattle.pool_pages.specs.MakerTold.{no_calls};
-ghost use Rattle.pool_pages.specs.FailingTold.{no_counts, raised, counts_after};
+ghost use Rattle.pool_pages.specs.FailingTold.{no_counts, one_more_call, counts_after_call};
 
 use crate::pages::PageCalls;
 
@@ -66,7 +66,7 @@ impl PageCalls {
 
     /// One more call of a kind.
     pub(crate) fn raised(self, kind: CallKind) -> PageCalls
-        ensures { result ≡ raised kind self }
+        ensures { result ≡ one_more_call kind self }
     {
         match kind {
             CallKind::Expose => PageCalls {
@@ -114,7 +114,7 @@ impl CallCounts {
 
     /// After a call on a range of this length, which failed or not.
     pub(crate) fn after(self, kind: CallKind, len: usize, failed: bool) -> CallCounts
-        ensures { result ≡ counts_after kind len failed self }
+        ensures { result ≡ counts_after_call kind len failed self }
     {
         let faults = if failed {
             risen(self.faults)

@@ -1,6 +1,6 @@
 ghost use Rattle.std.specs.Prelude.{◌≡◌};
 ghost use Rattle.pool_pages.specs.Told.{TellsShaped};
-ghost use Rattle.pool_pages.specs.FailingTold.{failing_told, lets_through, no_counts, counts_after};
+ghost use Rattle.pool_pages.specs.FailingTold.{failing_told, lets_through, no_counts, counts_after_call};
 
 use crate::byte_count::{HostAlignedByteCount, PageSize};
 use crate::call_counts::{CallCounts, CallKind, risen};
@@ -42,7 +42,7 @@ impl<R: Pages> Failing<R> {
     // Counts a call, made on the region behind or not. That what the region tells has its shape is known by
     // its length, which is asked for that alone.
     fn count(&mut self, kind: CallKind, len: usize, failed: bool)
-        ensures counted { self.new ≡ record self.old { counts = counts_after kind len failed self.old.counts } }
+        ensures counted { self.new ≡ record self.old { counts = counts_after_call kind len failed self.old.counts } }
         ensures shaped { TellsShaped (R.told self.new.region) }
     {
         let _len = self.region.len();

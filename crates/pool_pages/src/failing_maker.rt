@@ -28,7 +28,8 @@ impl<'a, M: PageMaker + Drop> FailingMaker<'a, M> {
     /// Owns the maker behind it, and borrows the list. `page` is that of a region that isn't given one.
     /// Takes no memory: the list is sorted, once, where the first region is made.
     pub fn new(maker: M, page: PageSize, plan: &'a [Fault]) -> Self
-        ensures { ⟦<FailingMaker<'a, M> as PageMaker>⟧.told result ≡ failing_maker (M.told maker) page (planned_faults plan.now) (M.told maker).next (M.told maker).faults }
+        ensures borrows { ⟦<FailingMaker<'a, M> as PageMaker>⟧.borrows result ≡ M.borrows maker }
+        ensures told { ⟦<FailingMaker<'a, M> as PageMaker>⟧.told result ≡ failing_maker (M.told maker) page (planned_faults plan.now) (M.told maker).next (M.told maker).faults }
     {
         let next = maker.next();
         let faults = maker.faults();
@@ -39,6 +40,14 @@ impl<'a, M: PageMaker + Drop> FailingMaker<'a, M> {
             next,
             faults,
         }
+    }
+
+    /// The maker behind it. One that was lent is given back so.
+    pub fn into_maker(self) -> M
+        ensures borrows { M.borrows result ≡ ⟦<FailingMaker<'a, M> as PageMaker>⟧.borrows self.entry }
+        ensures faults { (M.told result).faults ≡ (⟦<FailingMaker<'a, M> as PageMaker>⟧.told self.entry).behind }
+    {
+        self.maker
     }
 }
 
@@ -53,6 +62,8 @@ impl<'a, M: PageMaker + Drop> PageMaker for FailingMaker<'a, M> {
     type Region = Failing<M::Region>;
 
     ghost told = { λ m. failing_maker (M.told m.maker) m.page (planned_faults m.plan) m.next m.faults };
+
+    ghost borrows = { λ m. M.borrows m.maker };
 
     fn faults(&self) -> u64 {
         self.faults

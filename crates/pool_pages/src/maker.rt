@@ -1,4 +1,5 @@
-ghost use Rattle.std.specs.Prelude.{◌≡◌, ℕ, ◌≤◌, false, true, IfOk, IfSome, OnOk, MatchResult};
+ghost use Rattle.std.specs.Prelude.{◌≡◌, ℕ, ◌≤◌, List, [], ◌∷◌, false, true, IfOk, IfSome, OnOk, MatchResult};
+ghost use Rattle.std.specs.Borrow.{GName};
 ghost use Rattle.pool_pages.specs.MakeFaults.{RaisesFaults, RaisesBehind};
 ghost use Rattle.pool_pages.specs.MakerTold.{MakerTold, made_region, next_after, fails_making, fails_images};
 
@@ -23,6 +24,11 @@ pub trait PageMaker {
     type Region: Pages;
 
     ghost told: { Self → MakerTold };
+
+    // The `&mut` that it holds, outermost first, each by the name that proofs know it by; most makers hold none. No call
+    // exchanges one. So whoever lends his maker to another one knows that what is left there is left in his own, also
+    // after code that is written for every maker.
+    ghost borrows: { Self → List GName } = { λ _. [] };
 
     /// How many makings have failed. Never falls.
     fn faults(&self) -> u64
@@ -52,6 +58,7 @@ pub trait PageMaker {
         ensures faults { MatchResult result (λ _. (told self.new).faults ≡ (told self.old).faults) (RaisesFaults (told self.old).faults (told self.new).faults) }
         ensures listed { IfOk result (λ _. fails_making name (told self.old).listed ≡ false) }
         ensures behind { MatchResult result (λ _. (told self.new).behind ≡ (told self.old).behind) (RaisesBehind (fails_making name (told self.old).listed) (told self.old).behind (told self.new).behind) }
+        ensures borrows { borrows self.new ≡ borrows self.old }
         ensures planned { IfSome (told self.old).plan (λ plan. MatchResult result (λ _. fails_making name plan ≡ false) (λ e. e ≡ MakeFault.PageFault → fails_making name plan ≡ true)) };
 
     /// Stands for making the file behind the image of a memory of the module `id`. `len` is that of the image.
@@ -66,6 +73,7 @@ pub trait PageMaker {
         ensures faults { MatchResult result (λ _. (told self.new).faults ≡ (told self.old).faults) (RaisesFaults (told self.old).faults (told self.new).faults) }
         ensures listed { IfOk result (λ _. fails_images id (told self.old).listed ≡ false) }
         ensures behind { MatchResult result (λ _. (told self.new).behind ≡ (told self.old).behind) (RaisesBehind (fails_images id (told self.old).listed) (told self.old).behind (told self.new).behind) }
+        ensures borrows { borrows self.new ≡ borrows self.old }
         ensures planned { IfSome (told self.old).plan (λ plan. MatchResult result (λ _. fails_images id plan ≡ false) (λ e. e ≡ MakeFault.PageFault → fails_images id plan ≡ true)) };
 }
 
@@ -84,6 +92,8 @@ impl<M: PageMaker> PageMaker for &mut M {
     type Region = M::Region;
 
     ghost told = { λ m. M.told m.now };
+
+    ghost borrows = { λ m. m.ghost_name ∷ M.borrows m.now };
 
     fn faults(&self) -> u64 {
         (**self).faults()
