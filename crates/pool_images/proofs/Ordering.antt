@@ -5,7 +5,7 @@ use Rattle.std.specs.Prelude.{if◌then◌else◌, IfSome, is_ok, IsErr}
 use Rattle.pool_pages.specs.Told.{Told, PageCall, succeeded, passes, mapping}
 use Rattle.pool_images.specs.Images.{Image}
 use Rattle.pool_images.specs.Orders.{Follows, colouring, failed, outcome, removing, resizing, image_mapping, replacing}
-use Rattle.pool_images.specs.Slots.{Slot, SlotIdentity, resized, without, without_image}
+use Rattle.pool_images.specs.Slots.{Slot, SlotIdentity, resized, without_mapped, without_image}
 use Rattle.pool_images.specs.declared.image_slot.ImageName.{ImageName}
 use Rattle.pool_images.proofs.Identity.{IsLike}
 use Rattle.pool_images.proofs.Sizes.{like_resized, like_without}
@@ -34,7 +34,7 @@ follow_by (Some plan) m xs ys ok old mid new same first second =
 pub follows_then : (xs ys : List PageCall) (ok : Bool) (old mid new : Told) → mid.plan ≡ old.plan → Follows xs true old mid → Follows ys ok mid new → Follows (xs ++ ys) ok old new
 follows_then xs ys ok old mid new same first second = follow_by old.plan mid.plan xs ys ok old mid new same first second
 
-resizing_without : (size : ℕ) (hides : Bool) (image : Option ImageName) (s : Slot) → resizing size hides (without image s) ≡ resizing size hides s
+resizing_without : (size : ℕ) (hides : Bool) (image : Option ImageName) (s : Slot) → resizing size hides (without_mapped image s) ≡ resizing size hides s
 resizing_without size hides None s = refl
 resizing_without size hides (Some name) s = refl
 

@@ -6,7 +6,7 @@ use Rattle.pool_pages.specs.Count.{count, rounded_up}
 use Rattle.pool_pages.specs.Told.{exposing, hiding, mapping, remapping}
 use Rattle.pool_images.specs.Images.{Image}
 use Rattle.pool_images.specs.declared.image_slot.ImageName.{ImageName}
-use Rattle.pool_images.specs.Slots.{Slot, IsSlot, SlotIdentity, IsSized, resized, replaced, without, with_image, called, renewed}
+use Rattle.pool_images.specs.Slots.{Slot, IsSlot, SlotIdentity, IsSized, resized, replaced, without_mapped, with_image, called, renewed}
 use Rattle.pool_images.proofs.Colours.{like_renewed}
 use Rattle.pool_images.proofs.Identity.{IsLike, same_called, like_self, like_then}
 
@@ -37,7 +37,7 @@ like_resized size hide s =
     (record { same = same_called (hiding (s.base.bytes + size) (s.accessible.bytes - size)) s; faults = refl })
     (like_self s))
 
-pub like_without : (o : Option ImageName) (s : Slot) → IsLike s (without o s)
+pub like_without : (o : Option ImageName) (s : Slot) → IsLike s (without_mapped o s)
 like_without None s = like_self s
 like_without (Some name) s =
     let like : IsLike s (renewed (remapping (s.base.bytes + name.offset) name.len) s) = like_renewed (remapping (s.base.bytes + name.offset) name.len) s in
@@ -53,10 +53,10 @@ accessible_with : (o : Option Image) (s : Slot) → (with_image o s).accessible 
 accessible_with None s = refl
 accessible_with (Some i) s = refl
 
-accessible_without : (o : Option ImageName) (size : ℕ) (hide : Bool) (s : Slot) → (resized size hide (without o s)).accessible ≡ (resized size hide s).accessible
+accessible_without : (o : Option ImageName) (size : ℕ) (hide : Bool) (s : Slot) → (resized size hide (without_mapped o s)).accessible ≡ (resized size hide s).accessible
 accessible_without None size hide s = refl
 accessible_without (Some name) size hide s =
-    let t : Slot = without (Some name) s in
+    let t : Slot = without_mapped (Some name) s in
     let page : t.region.page ≡ s.region.page = ap (λ (k : SlotIdentity). k.page) (like_without (Some name) s).same in
     let counts : count t.region.page size ≡ count s.region.page size = ap (λ (p : ℕ). count p size) page in
     by_if_accessible (nat_lt s.accessible.bytes size)
@@ -73,7 +73,7 @@ accessible_without (Some name) size hide s =
 pub sized_replaced : (initial : ℕ) (hide : Bool) (image : Option Image) (s : Slot) → IsSized initial hide s (replaced (rounded_up s.region.page initial) hide image s)
 sized_replaced initial hide image s =
     let size : ℕ = rounded_up s.region.page initial in
-    let first : Slot = without s.image s in
+    let first : Slot = without_mapped s.image s in
     let second : Slot = resized size hide first in
     let third : Slot = with_image image second in
     let like : IsLike s third = like_then s second third (like_then s first second (like_without s.image s) (like_resized size hide first)) (like_with image second) in

@@ -7,7 +7,7 @@ use Rattle.pool_pages.specs.Contents.{Contents, put_all, remapped}
 use Rattle.pool_pages.specs.Told.{remapping}
 use Rattle.pool_pages.proofs.Puts.{length-put, length-range, range-put_both}
 use Rattle.pool_images.specs.declared.image_slot.ImageName.{ImageName}
-use Rattle.pool_images.specs.Slots.{Slot, IsSlot, IsPlaced, IsClean, Holds, size_of, image_bytes, placed, called, coloured, without}
+use Rattle.pool_images.specs.Slots.{Slot, IsSlot, IsPlaced, IsClean, Holds, size_of, image_bytes, placed, called, coloured, without_mapped}
 use Rattle.pool_images.proofs.Colours.{IsAlmost, all_coloured, colours_fit, coloured_clean, renewed_after}
 use Rattle.pool_images.proofs.Marks.{reach_marked, put-zeros}
 use Rattle.pool_images.proofs.Ready.{IsGood, good, lifted, page_inside}
@@ -42,7 +42,7 @@ started_without s name is fits at c g =
       holds = both 0 (size_of s) (omega arith) g.holds;
     }
 
-clean_of : (s : Slot) (name : ImageName) → s.image ≡ Some name → IsSlot s → IsPlaced s.region.page s.accessible.bytes name → IsClean s → IsClean (without (Some name) s)
+clean_of : (s : Slot) (name : ImageName) → s.image ≡ Some name → IsSlot s → IsPlaced s.region.page s.accessible.bytes name → IsClean s → IsClean (without_mapped (Some name) s)
 clean_of s name is fits at clean =
     let f : Contents → Contents = remapped (s.base.bytes + name.offset) name.len in
     let u : Slot = unmapped_slot name s in
@@ -50,13 +50,13 @@ clean_of s name is fits at clean =
     (lifted (IsGood s) (IsAlmost u (s.base.bytes + name.offset) name.len) f s.region.contents (λ c g. started_without s name is fits at c g) (good s fits clean))
 
 -- a clean slot's image is taken away
-pub clean_without : (s : Slot) (name : ImageName) → s.image ≡ Some name → IsSlot s → IsClean s → IsClean (without (Some name) s)
+pub clean_without : (s : Slot) (name : ImageName) → s.image ≡ Some name → IsSlot s → IsClean s → IsClean (without_mapped (Some name) s)
 clean_without s name is fits clean =
     let P : Option ImageName → Type 0 = λ o. IfSome o (IsPlaced s.region.page s.accessible.bytes) in
     clean_of s name is fits (subst P is fits.sizes.image) clean
 
 -- The same as the code says them.
-pub unmapped_is : (s mid end : Slot) (name : ImageName) (start len : Count) → mid ≡ called (remapping (s.base.bytes + start.bytes) len.bytes) s → end ≡ record mid { region = coloured mid.colour (mid.base.bytes + start.bytes) len.bytes mid.region } → start.bytes ≡ name.offset → len.bytes ≡ name.len → record end { image = None } ≡ without (Some name) s
+pub unmapped_is : (s mid end : Slot) (name : ImageName) (start len : Count) → mid ≡ called (remapping (s.base.bytes + start.bytes) len.bytes) s → end ≡ record mid { region = coloured mid.colour (mid.base.bytes + start.bytes) len.bytes mid.region } → start.bytes ≡ name.offset → len.bytes ≡ name.len → record end { image = None } ≡ without_mapped (Some name) s
 unmapped_is s mid end name start len first second at long =
     let place : s.base.bytes + start.bytes ≡ s.base.bytes + name.offset = omega arith in
     let done : mid ≡ called (remapping (s.base.bytes + name.offset) name.len) s =

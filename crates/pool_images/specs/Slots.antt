@@ -195,12 +195,12 @@ abbrev pub renewed : PageCall → Slot → Slot
 renewed call s = record s { region = coloured s.colour call.start call.len (succeeded call s.region) }
 
 -- the slot without its image, whose pages become zeros
-abbrev pub without : Option ImageName → Slot → Slot
-without None s = s
-without (Some name) s = record (renewed (remapping (s.base.bytes + name.offset) name.len) s) { image = None }
+abbrev pub without_mapped : Option ImageName → Slot → Slot
+without_mapped None s = s
+without_mapped (Some name) s = record (renewed (remapping (s.base.bytes + name.offset) name.len) s) { image = None }
 
 abbrev pub without_image : Slot → Slot
-without_image s = without s.image s
+without_image s = without_mapped s.image s
 
 -- the slot with an image mapped, if there is one
 abbrev pub with_image : Option Image → Slot → Slot

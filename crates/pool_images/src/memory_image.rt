@@ -67,6 +67,7 @@ impl MemoryImage {
         ensures ok { IfOk result (λ image. image ≡ record { id = id; memory = memory; page = page; offset = offset; bytes = bytes.now }) }
         ensures unsupported { (u : _) → (result ≡ Err (ImageError.Unsupported u)) ↔ (misaligned page offset (length bytes.now) ≡ Some u) }
         ensures maker { M.told maker.new ≡ record (M.told maker.old) { behind = (M.told maker.new).behind; faults = (M.told maker.new).faults } }
+        ensures borrows { M.borrows maker.new ≡ M.borrows maker.old }
         ensures faults { MatchResult result (λ _. (M.told maker.new).faults ≡ (M.told maker.old).faults) (RaisesImageFaults (M.told maker.old).faults (M.told maker.new).faults) }
         ensures planned { IfSome (M.told maker.old).plan (λ plan. MatchResult result (λ _. fails_images id.0 plan ≡ false) (IsListedImageFault (fails_images id.0 plan))) }
         ensures listed { IfOk result (λ _. fails_images id.0 (M.told maker.old).listed ≡ false) }
@@ -132,6 +133,7 @@ fn make_image<M: PageMaker>(
     ensures ok { IfOk result (λ image. image ≡ record { id = id; memory = memory; page = page; offset = offset; bytes = bytes }) }
     ensures supported { (u : _) → result ≢ Err (ImageError.Unsupported u) }
     ensures maker { M.told maker.new ≡ record (M.told maker.old) { behind = (M.told maker.new).behind; faults = (M.told maker.new).faults } }
+    ensures borrows { M.borrows maker.new ≡ M.borrows maker.old }
     ensures faults { MatchResult result (λ _. (M.told maker.new).faults ≡ (M.told maker.old).faults) (RaisesImageFaults (M.told maker.old).faults (M.told maker.new).faults) }
     ensures planned { IfSome (M.told maker.old).plan (λ plan. MatchResult result (λ _. fails_images id.0 plan ≡ false) (IsListedImageFault (fails_images id.0 plan))) }
     ensures listed { IfOk result (λ _. fails_images id.0 (M.told maker.old).listed ≡ false) }
@@ -185,6 +187,7 @@ impl ModuleMemoryImages {
         ensures page_fault { result ≡ Err ImageError.PageFault → (first_misplaced page module_info.now.memories ≡ None) × (list_all (ends_in_minimum page) module_info.now.memories ≡ true) }
         ensures offsets { (u : _) → result ≡ Err (ImageError.Unsupported u) → (n : ℕ) × (u ≡ Unsupported.ImageOffset n) }
         ensures maker { M.told maker.new ≡ record (M.told maker.old) { behind = (M.told maker.new).behind; faults = (M.told maker.new).faults } }
+        ensures borrows { M.borrows maker.new ≡ M.borrows maker.old }
         ensures faults { MatchResult result (λ _. (M.told maker.new).faults ≡ (M.told maker.old).faults) (RaisesImageFaults (M.told maker.old).faults (M.told maker.new).faults) }
         ensures planned { IfSome (M.told maker.old).plan (λ plan. MatchResult result (λ made. IsSome made → makes_listed_images id plan module_info.now.memories ≡ false) (IsListedImageFault (makes_listed_images id plan module_info.now.memories))) }
         ensures listed { IfOk result (λ made. IsSome made → makes_listed_images id (M.told maker.old).listed module_info.now.memories ≡ false) }
@@ -282,6 +285,7 @@ fn make_declared<M: PageMaker>(
     ensures ok { IfOk result (λ image. arc_value image ≡ image_of id page memory.0 decl.now) }
     ensures supported { (u : _) → result ≢ Err (ImageError.Unsupported u) }
     ensures maker { M.told maker.new ≡ record (M.told maker.old) { behind = (M.told maker.new).behind; faults = (M.told maker.new).faults } }
+    ensures borrows { M.borrows maker.new ≡ M.borrows maker.old }
     ensures faults { MatchResult result (λ _. (M.told maker.new).faults ≡ (M.told maker.old).faults) (RaisesImageFaults (M.told maker.old).faults (M.told maker.new).faults) }
     ensures planned { IfSome (M.told maker.old).plan (λ plan. MatchResult result (λ _. fails_images id.0 plan ≡ false) (IsListedImageFault (fails_images id.0 plan))) }
     ensures listed { IfOk result (λ _. fails_images id.0 (M.told maker.old).listed ≡ false) }
@@ -305,6 +309,7 @@ fn make_one<M: PageMaker>(
     ensures ok { IfOk result (λ image. option_map arc_value image ≡ option_map (image_of id page memory.0) decl.now.image) }
     ensures supported { (u : _) → result ≢ Err (ImageError.Unsupported u) }
     ensures maker { M.told maker.new ≡ record (M.told maker.old) { behind = (M.told maker.new).behind; faults = (M.told maker.new).faults } }
+    ensures borrows { M.borrows maker.new ≡ M.borrows maker.old }
     ensures faults { MatchResult result (λ _. (M.told maker.new).faults ≡ (M.told maker.old).faults) (RaisesImageFaults (M.told maker.old).faults (M.told maker.new).faults) }
     ensures planned { IfSome (M.told maker.old).plan (λ plan. MatchResult result (λ _. (is_some decl.now.image && fails_images id.0 plan) ≡ false) (IsListedImageFault (is_some decl.now.image && fails_images id.0 plan))) }
     ensures listed { IfOk result (λ _. (is_some decl.now.image && fails_images id.0 (M.told maker.old).listed) ≡ false) }
@@ -335,6 +340,7 @@ fn push_image<M: PageMaker>(
     ensures len { OnOk result (vec_len images.new ≡ vec_len images.old + 1) }
     ensures supported { (u : _) → result ≢ Err (ImageError.Unsupported u) }
     ensures maker { M.told maker.new ≡ record (M.told maker.old) { behind = (M.told maker.new).behind; faults = (M.told maker.new).faults } }
+    ensures borrows { M.borrows maker.new ≡ M.borrows maker.old }
     ensures faults { MatchResult result (λ _. (M.told maker.new).faults ≡ (M.told maker.old).faults) (RaisesImageFaults (M.told maker.old).faults (M.told maker.new).faults) }
     ensures planned { IfSome (M.told maker.old).plan (λ plan. MatchResult result (λ _. (is_some decl.now.image && fails_images id.0 plan) ≡ false) (IsListedImageFault (is_some decl.now.image && fails_images id.0 plan))) }
     ensures listed { IfOk result (λ _. (is_some decl.now.image && fails_images id.0 (M.told maker.old).listed) ≡ false) }
@@ -361,6 +367,7 @@ fn make_images<M: PageMaker>(
     ensures ok { IfOk result (λ images. map (option_map arc_value) images.items ≡ images_from id page 0 memories.now) }
     ensures supported { (u : _) → result ≢ Err (ImageError.Unsupported u) }
     ensures maker { M.told maker.new ≡ record (M.told maker.old) { behind = (M.told maker.new).behind; faults = (M.told maker.new).faults } }
+    ensures borrows { M.borrows maker.new ≡ M.borrows maker.old }
     ensures faults { MatchResult result (λ _. (M.told maker.new).faults ≡ (M.told maker.old).faults) (RaisesImageFaults (M.told maker.old).faults (M.told maker.new).faults) }
     ensures planned { IfSome (M.told maker.old).plan (λ plan. MatchResult result (λ _. makes_listed_images id plan memories.now ≡ false) (IsListedImageFault (makes_listed_images id plan memories.now))) }
     ensures listed { IfOk result (λ _. makes_listed_images id (M.told maker.old).listed memories.now ≡ false) }

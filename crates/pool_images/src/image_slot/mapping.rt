@@ -1,6 +1,6 @@
 ghost use Rattle.std.specs.Prelude.{◌≡◌, ◌↔◌, ◌+◌, ◌%◌, ◌≤◌, length, slice_range, true, None, Some, Ok, IsTrue, IfSome, is_ok, OnOk, OnErr, option_map};
 ghost use Rattle.pool_images.specs.Orders.{Follows, unmapping, removing, image_mapping};
-ghost use Rattle.pool_images.specs.Slots.{IsReady, IsClean, IsLeft, IsBegun, IsSlot, FitsInto, HasImage, name_of, without, without_image, with_image};
+ghost use Rattle.pool_images.specs.Slots.{IsReady, IsClean, IsLeft, IsBegun, IsSlot, FitsInto, HasImage, name_of, without_mapped, without_image, with_image};
 
 use crate::image_slot::{ImageName, MemoryImageSlot};
 use crate::memory_image::MemoryImage;
@@ -26,7 +26,7 @@ impl<P: Pages> MemoryImageSlot<P> {
         requires clean { IsClean self.old }
         requires fits { IsSlot self.old }
         requires image { self.old.image ≡ Some name }
-        ensures ok { OnOk result (self.new ≡ without (Some name) self.old) }
+        ensures ok { OnOk result (self.new ≡ without_mapped (Some name) self.old) }
         ensures clean { OnOk result (IsClean self.new) }
         ensures fault { OnErr result (IsLeft self.old self.new) }
         ensures order { Follows (unmapping self.old.base.bytes self.old.colour (Some name)) (is_ok result) self.old.region self.new.region }

@@ -1,8 +1,9 @@
 ghost use Rattle.std.specs.Prelude.{◌≡◌, ◌+◌, ◌≤◌, [], min, false, true, All, IfOk, IfSome, is_ok, OnOk, OnErr};
 ghost use Rattle.pool_pages.specs.Contents.{CanReach};
 ghost use Rattle.pool_pages.specs.Told.{TellsShaped, restored};
-ghost use Rattle.pool_images.specs.Orders.{Follows, wiping, resetting, set_by_hand};
-ghost use Rattle.pool_images.specs.Slots.{size_of, IsSlot, IsReady, IsClean, IsLeft, IsShut, IsPart, wiped, cleared, reset_ranges, kept_bytes, left_ranges, reset_slot, decommitted_all};
+ghost use Rattle.pool_images.specs.Orders.{Follows, wiping, resetting};
+ghost use Rattle.pool_images.specs.Resets.{given_marks, kept_by, left_by, reset_by, told_by_hand};
+ghost use Rattle.pool_images.specs.Slots.{size_of, IsSlot, IsReady, IsClean, IsLeft, IsShut, IsPart, wiped, cleared, reset_ranges, decommitted_all};
 
 use crate::image_slot::MemoryImageSlot;
 use crate::ranges::{ByteRange, Ranges};
@@ -17,8 +18,12 @@ impl<P: Pages> MemoryImageSlot<P> {
     ///
     /// Where pages go back to zeros, the slot is reset as by `reset_with_anon_memory`, which takes the image out too and
     /// may answer `PageFault`. Whatever `keep_resident` says, nothing stays resident and nothing is left in `ranges`.
+    ///
+    /// `dirty_pages` says whether the region's dirty marks are offered to the reset. They may not be so far: each page
+    /// counts as dirty then.
     pub fn clear_and_remain_ready(
         &mut self,
+        dirty_pages: bool,
         keep_resident: HostAlignedByteCount,
         ranges: &mut Ranges,
     ) -> Result<usize, PageFault>
@@ -26,9 +31,10 @@ impl<P: Pages> MemoryImageSlot<P> {
         requires ready { IfSome self.old.region.contents (IsReady self.old) }
         requires page { keep_resident.page ≡ self.old.region.page }
         requires empty { ranges.old ≡ [] }
-        ensures resident { IfOk result (λ n. n ≡ kept_bytes self.old.region.behaviour keep_resident.bytes self.old.accessible.bytes) }
-        ensures ranges { ranges.new ≡ left_ranges self.old.region.behaviour keep_resident.bytes self.old.accessible.bytes }
-        ensures value { OnOk result (self.new ≡ reset_slot self.old.region.behaviour keep_resident.bytes self.old) }
+        requires unmarked { dirty_pages ≡ false }
+        ensures resident { IfOk result (λ n. n ≡ kept_by (given_marks dirty_pages self.old) self.old.region.behaviour keep_resident.bytes self.old) }
+        ensures ranges { ranges.new ≡ left_by (given_marks dirty_pages self.old) self.old.region.behaviour keep_resident.bytes self.old }
+        ensures value { OnOk result (self.new ≡ reset_by (given_marks dirty_pages self.old) self.old.region.behaviour keep_resident.bytes self.old) }
         ensures parts { All (IsPart self.new.region.page (size_of self.new)) ranges.new }
         ensures clean_after { OnOk result (IsClean (decommitted_all ranges.new self.new)) }
         ensures clean { self.old.accessible.bytes ≤ keep_resident.bytes → OnOk result (IsClean self.new) }
@@ -36,7 +42,7 @@ impl<P: Pages> MemoryImageSlot<P> {
         ensures restores { self.old.region.behaviour ≡ DecommitBehavior.RestoreOriginalMapping → is_ok result ≡ true }
         ensures mark { OnErr result (self.new.dirty ≡ self.old.dirty) }
         ensures fault { OnErr result (IsLeft self.old self.new) }
-        ensures order { Follows (resetting self.old.region.behaviour self.old) (is_ok result) (set_by_hand self.old.region.behaviour keep_resident.bytes self.old) self.new.region }
+        ensures order { Follows (resetting self.old.region.behaviour self.old) (is_ok result) (told_by_hand (given_marks dirty_pages self.old) self.old.region.behaviour keep_resident.bytes self.old) self.new.region }
     {
         match self.region.behaviour() {
             DecommitBehavior::RestoreOriginalMapping => {

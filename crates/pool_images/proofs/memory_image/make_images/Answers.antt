@@ -26,6 +26,7 @@ loop-decl-preserved g c =
       count = omega (arith, pushed.len, before.count);
       images = pushed.ok ∙ rw (before.images, before.count) (sym (rw (← c.decl-item.is) at more));
       maker = same ∙ before.maker;
+      borrows = pushed.borrows ∙ before.borrows;
       planned = planned_more (g.M.PageMaker.told c.args.maker.now).plan c.args.id c.args.memories.now c.loop-decl.decl-index c.decl-item.result c.loop-decl-test.true before.planned
           (subst P c.decl-item.is (rw before.maker at pushed.planned));
       listed = planned_more (Some own) c.args.id c.args.memories.now c.loop-decl.decl-index c.decl-item.result c.loop-decl-test.true before.listed

@@ -10,6 +10,7 @@ invariant-loop-decl g l = record {
   count : vec_len l.images ≡ l.decl-index;
   images : map (option_map arc_value) l.images.items ≡ images_from l.id l.page 0 (take l.decl-index l.memories);
   maker : g.M.PageMaker.told l.maker ≡ g.M.PageMaker.told l.fn.maker;
+  borrows : g.M.PageMaker.borrows l.maker ≡ g.M.PageMaker.borrows l.fn.maker;
   planned : IfSome (g.M.PageMaker.told l.fn.maker).plan (λ plan. makes_listed_images l.id plan (take l.decl-index l.memories) ≡ false);
   listed : makes_listed_images l.id (g.M.PageMaker.told l.fn.maker).listed (take l.decl-index l.memories) ≡ false;
 }
