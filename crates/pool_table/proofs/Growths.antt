@@ -1,5 +1,5 @@
 -- Each way that a growth of a table can go.
-use Rattle.std.proofs.Common.{◌≡◌, ◌≢◌, ℕ, ◌+◌, ◌-◌, ◌*◌, ◌^◌, ◌<◌, ◌≤◌, ◌==◌, ◌++◌, nat_lt, Bool, true, false, List, replicate, refl, sym, ap, ◌∙◌, subst, arith, Option, Some, None, Result, Ok, Err}
+use Rattle.std.proofs.Common.{◌≡◌, ◌≢◌, ℕ, ◌+◌, ◌-◌, ◌*◌, ◌^◌, ◌<◌, ◌≤◌, ◌==◌, ◌++◌, nat_lt, Bool, true, false, List, replicate, refl, sym, ap, ◌∙◌, subst, arith, inl, inr, Option, Some, None, Result, Ok, Err}
 use Rattle.std.specs.Prelude.{IfSome, option_map}
 use Rattle.std.proofs.Math.Nat.{mul-le-mul_right}
 use Rattle.std.proofs.lemmas.Bool.{eq-eqb, lt-ltb}
@@ -17,13 +17,14 @@ use Rattle.pool_limits.specs.declared.errors.GrowFault.TheVariants as fault
 use Rattle.pool_limits.proofs.Ruled.{unasked, ruled_nothing, ruled_past_type, ruled_error, ruled_no, ruled_yes}
 use Rattle.pool_table.specs.Elements.{ElementKind, Element, width, empty}
 use Rattle.pool_table.specs.Tables.{TableState, IsTable, IsRoom, GrowsBy, elements, elements_in}
-use Rattle.pool_table.specs.Growing.{table_question, table_obstacles, TableGrowsAsking, IsAllowedTableGrowth}
+use Rattle.pool_table.specs.Views.{TableView, GrowsTable}
+use Rattle.pool_table.specs.Growing.{table_question, table_obstacles, TableGrowsAsking, IsAllowedTableGrowth, TableGrows, AllowedTableGrows}
 use Rattle.pool_table.proofs.Listed.{elements_grown, zeros_within}
 use Rattle.pool_table.proofs.Words.{zero_is_empty}
 
 -- over a limiter
-module _ {R : Type 0} (told : R → LimiterTold) (leads : R → Exchange → R → Type 0) (delta : ℕ) (old : TableState) where
-  abbrev Grows : TableState → R → R → Result (Option ℕ) GrowFault → Type 0
+module _ {R : Type 0} (told : R → LimiterTold) (leads : R → Exchange → R → Type 0) (delta : ℕ) (old : TableView) where
+  abbrev Grows : TableView → R → R → Result (Option ℕ) GrowFault → Type 0
   Grows new before after r = TableGrowsAsking told leads delta old new (Some before) (Some after) r
 
   abbrev question : GrowthQuestion
@@ -32,13 +33,13 @@ module _ {R : Type 0} (told : R → LimiterTold) (leads : R → Exchange → R �
   abbrev past_room : Bool
   past_room = nat_lt old.maximum (old.size + delta)
 
-  growth_of : (new : TableState) (before after : R) (r : Result (Option ℕ) GrowFault) (o : Obstacles) (g : GrowthGiven) → table_obstacles delta old ≡ o → IsRuled question o g old.size (told before) (told after) r → GrowthMakes (new ≡ old) (GrowsBy delta old new) (λ e. ⊥) o g → Exchanged leads (growth_exchanges question o g) before after → Grows new before after r
+  growth_of : (new : TableView) (before after : R) (r : Result (Option ℕ) GrowFault) (o : Obstacles) (g : GrowthGiven) → table_obstacles delta old ≡ o → IsRuled question o g old.size (told before) (told after) r → GrowthMakes (new ≡ old) (GrowsTable delta old new) (λ e. ⊥) o g → Exchanged leads (growth_exchanges question o g) before after → Grows new before after r
   growth_of new before after r o g at ruled table exchanged = (
     g,
     (
       record {
         ruled = let P : Obstacles → Type 0 = λ k. IsRuled question k g old.size (told before) (told after) r in subst P (sym at) ruled;
-        table = let P : Obstacles → Type 0 = λ k. GrowthMakes (new ≡ old) (GrowsBy delta old new) (λ e. ⊥) k g in subst P (sym at) table;
+        table = let P : Obstacles → Type 0 = λ k. GrowthMakes (new ≡ old) (GrowsTable delta old new) (λ e. ⊥) k g in subst P (sym at) table;
       },
       let P : Obstacles → Type 0 = λ k. Exchanged leads (growth_exchanges question k g) before after in subst P (sym at) exchanged,
     ),
@@ -88,16 +89,35 @@ module _ {R : Type 0} (told : R → LimiterTold) (leads : R → Exchange → R �
       (ruled_no question past_room old.size (told before) (told after) answer limiter) refl (after, (exchange, refl))
 
   -- where it says yes
-  pub grown_allowed : (new : TableState) (before between after : R) (r : Result (Option ℕ) GrowFault) → delta ≢ 0 → old.size + delta < 2 ^ 64 → Ok true ≡ table_answer (told before).rule (Ok true) (old.size + delta) (Some old.maximum) → told between ≡ after_answer (Ok true) (told before) → leads before (may_grow question (Ok true)) between → IsAllowedTableGrowth told leads (old.size + delta) old new between after r → Grows new before after r
+  pub grown_allowed : (new : TableView) (before between after : R) (r : Result (Option ℕ) GrowFault) → delta ≢ 0 → old.size + delta < 2 ^ 64 → Ok true ≡ table_answer (told before).rule (Ok true) (old.size + delta) (Some old.maximum) → told between ≡ after_answer (Ok true) (told before) → leads before (may_grow question (Ok true)) between → IsAllowedTableGrowth told leads (old.size + delta) old new between after r → Grows new before after r
   grown_allowed new before between after r some below answer limiter exchange growth =
       let more : old.size + delta - old.size ≡ delta = omega arith in
-      let A : ℕ → Type 0 = λ m. IsAllowed told leads Table past_room old.size (new ≡ old) (GrowsBy m old new) (λ e. ⊥) between after r in
+      let A : ℕ → Type 0 = λ m. IsAllowed told leads Table past_room old.size (new ≡ old) (GrowsTable m old new) (λ e. ⊥) between after r in
       let allowed : A delta = subst A more growth in
       growth_of new before after r (record { nothing = false; past_type = false; past_room = past_room })
       (record { answer = Ok true; failure = allowed.failure; report = allowed.report })
       (seen false false (some_delta some) (fits below))
-      (ruled_yes told leads question past_room old.size (new ≡ old) (GrowsBy delta old new) (λ e. ⊥) (told before) between after r answer limiter allowed)
+      (ruled_yes told leads question past_room old.size (new ≡ old) (GrowsTable delta old new) (λ e. ⊥) (told before) between after r answer limiter allowed)
       allowed.makes (between, (exchange, allowed.exchanged))
+
+  -- where it says yes, whether memory was found or not
+  pub grown_either : (new : TableView) (before between after : R) (r : Result (Option ℕ) GrowFault) → delta ≢ 0 → old.size + delta < 2 ^ 64 → Ok true ≡ table_answer (told before).rule (Ok true) (old.size + delta) (Some old.maximum) → told between ≡ after_answer (Ok true) (told before) → leads before (may_grow question (Ok true)) between → AllowedTableGrows told leads (old.size + delta) old new between after r → TableGrows told leads delta old new (Some before) (Some after) r
+  grown_either new before between after r some below answer limiter exchange growth =
+      elim growth [
+        | inl grown ↦ inl (grown_allowed new before between after r some below answer limiter exchange grown)
+        | inr wants ↦
+            let L : R → Type 0 = λ l. told l ≡ after_answer (Ok true) (told before) in
+            inr (record {
+              listed = wants.listed;
+              some = omega (arith, some);
+              within = wants.within;
+              answer = answer;
+              limiter = subst L (sym wants.unasked) limiter;
+              exchanged = (between, (exchange, wants.unasked));
+              replies = wants.replies;
+              same = wants.same;
+            })
+      ]
 
 -- a table that takes more elements of what it may have
 taken_by : (kind : ElementKind) (size more most page len : ℕ) (o : Option Contents) → size + more ≤ most → most * width kind ≤ len → IfSome o (IsRoom page len (size * width kind) (most * width kind)) → option_map (λ c. elements_in kind (size + more) c.bytes) o ≡ option_map (λ es. es ++ replicate more (empty kind)) (option_map (λ c. elements_in kind size c.bytes) o)

@@ -5,6 +5,8 @@ pub mod Growths
 pub mod Kept
 pub mod Listed
 pub mod Made
+pub mod Mapped
 pub mod Stored
+pub mod Views
 pub mod Words
 pub mod Zeros

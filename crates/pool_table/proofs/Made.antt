@@ -9,8 +9,9 @@ use Rattle.pool_pages.specs.declared.table_type.TableType.{TableType}
 use Rattle.pool_pages.specs.declared.table_type.TableElementType.{TableElementType}
 use Rattle.pool_pages.specs.declared.table_type.TableElementType.TheVariants.{Func, GcRef, Cont}
 use Rattle.pool_table.specs.Elements.{ElementKind, Element, width, empty, element_size}
-use Rattle.pool_table.specs.Tables.{IsTable, IsRoom, elements, elements_in, type_maximum}
-use Rattle.pool_table.specs.TableStates.{table_state, element_type_of}
+use Rattle.pool_table.specs.Tables.{IsTable, IsRoom, elements_in, type_maximum}
+use Rattle.pool_table.specs.Views.{TableView, in_region}
+use Rattle.pool_table.specs.TableStates.{table_view, element_type_of, IsStatic}
 use Rattle.pool_table.specs.Making.{kind_of, room_of, new_table, IsNewTable}
 use Rattle.pool_table.specs.declared.table.Table.{Table}
 use Rattle.pool_table.proofs.Listed.{elements_grown, zeros_within}
@@ -64,16 +65,17 @@ empty_by kind size page len bytes (Some c) fits inside room =
     let E : ℕ → Type 0 = λ m. elements_in kind m c.bytes ≡ replicate size (empty kind) in
     ap (λ (es : List Element). Some es) (subst E sum (elements_grown kind 0 size size c.bytes zero_is_empty (omega arith) (omega (arith, fits, inside, room.shaped.bytes)) zeros))
 
-pub made_new : {P : Type 0} (ty : TableType) (lazy : Bool) (bytes : ℕ) (region : Told) (table : Table P) → ty.limits.min ≤ room_of ty bytes → ty.limits.min ≤ type_maximum ty → bytes ≤ region.len → IfSome region.contents (IsRoom region.page region.len 0 bytes) → element_type_of table ≡ ty.element → table_state table ≡ new_table ty lazy bytes region → IsNewTable ty lazy bytes region table
-made_new ty lazy bytes region table first second inside room same state =
+pub made_new : {P : Type 0} (ty : TableType) (lazy : Bool) (bytes : ℕ) (region : Told) (table : Table P) → ty.limits.min ≤ room_of ty bytes → ty.limits.min ≤ type_maximum ty → bytes ≤ region.len → IfSome region.contents (IsRoom region.page region.len 0 bytes) → IsStatic table → element_type_of table ≡ ty.element → table_view table ≡ in_region (new_table ty lazy bytes region) → IsNewTable ty lazy bytes region table
+made_new ty lazy bytes region table first second inside room static same view =
     let w : ℕ = width (kind_of ty.element lazy) in
     let most : ℕ = min (room_of ty bytes) (type_maximum ty) in
     let within : ty.limits.min ≤ most = omega (arith, first, second) in
     let fits : ty.limits.min * w ≤ bytes = omega (arith, mul-le-mul_right w within, made_inside ty lazy bytes) in
     record {
+      static = static;
       element_type = same;
-      state = state;
-      elements = ap elements state ∙ empty_by (kind_of ty.element lazy) ty.limits.min region.page region.len bytes region.contents fits inside room;
+      view = view;
+      elements = ap (λ (t : TableView). t.elements) view ∙ empty_by (kind_of ty.element lazy) ty.limits.min region.page region.len bytes region.contents fits inside room;
     }
 
 pub has_room : (room least : ℕ) → least ≤ room → nat_lt room least ≡ false

@@ -4,3 +4,4 @@ pub mod Making
 pub mod Stores
 pub mod TableStates
 pub mod Tables
+pub mod Views

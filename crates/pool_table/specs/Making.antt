@@ -1,17 +1,18 @@
--- How a table is made over a region: what the limiter is asked, and what comes of its answer.
-use Rattle.std.specs.Prelude.{◌≡◌, ℕ, ◌/◌, ◌%◌, ◌<◌, ◌≤◌, min, nat_lt, replicate, Bool, true, false, Some, option_map, Result, Ok, Err}
+-- How a table is made, over a region or in a list: what the limiter is asked, and what comes of its answer.
+use Rattle.std.specs.Prelude.{◌≡◌, ℕ, ◌*◌, ◌-◌, ◌^◌, ◌/◌, ◌%◌, ◌<◌, ◌≤◌, max, min, nat_lt, replicate, Bool, true, false, Some, None, MatchResult, option_map, Result, Ok, Err}
 use Rattle.pool_pages.specs.MakerTold.{fresh}
 use Rattle.pool_pages.specs.Told.{Told}
 use Rattle.pool_pages.specs.declared.table_type.TableType.{TableType}
 use Rattle.pool_pages.specs.declared.table_type.TableElementType.{TableElementType}
 use Rattle.pool_pages.specs.declared.table_type.TableElementType.TheVariants as of_type
-use Rattle.pool_pages.specs.declared.unsupported.Unsupported.TheVariants.{TableSize}
+use Rattle.pool_pages.specs.declared.unsupported.Unsupported.TheVariants.{TableSize, AddressSpace}
 use Rattle.pool_limits.specs.Exchanges.{GrowthQuestion, question_of}
 use Rattle.pool_limits.specs.declared.growing.Growable.TheVariants as growable
 use Rattle.pool_limits.specs.declared.errors.LimiterError.{LimiterError}
 use Rattle.pool_table.specs.Elements.{ElementKind, functions, gc_refs, continuations, empty, element_size}
-use Rattle.pool_table.specs.Tables.{TableState, IsRoom, elements, type_maximum}
-use Rattle.pool_table.specs.TableStates.{table_state, element_type_of}
+use Rattle.pool_table.specs.Tables.{TableState, IsRoom, type_maximum}
+use Rattle.pool_table.specs.Views.{in_region}
+use Rattle.pool_table.specs.TableStates.{table_view, element_type_of, IsStatic}
 use Rattle.pool_table.specs.declared.table.Table.{Table}
 use Rattle.pool_table.specs.declared.table_error.TableError.{TableError}
 use Rattle.pool_table.specs.declared.table_error.TableError.TheVariants as refused
@@ -40,9 +41,10 @@ new_table ty lazy bytes region = record {
 
 -- a table as it is made: with its minimum of elements, which are empty
 pub record IsNewTable {P : Type 0} (ty : TableType) (lazy : Bool) (bytes : ℕ) (region : Told) (table : Table P) : Type 0 where
+  pub static : IsStatic table
   pub element_type : element_type_of table ≡ ty.element
-  pub state : table_state table ≡ new_table ty lazy bytes region
-  pub elements : elements (table_state table) ≡ option_map (λ c. replicate ty.limits.min (empty (kind_of ty.element lazy))) region.contents
+  pub view : table_view table ≡ in_region (new_table ty lazy bytes region)
+  pub elements : (table_view table).elements ≡ option_map (λ c. replicate ty.limits.min (empty (kind_of ty.element lazy))) region.contents
 
 -- the table, unless its minimum exceeds the room
 abbrev pub MakesWithin : {P : Type 0} → Bool → (P → Told) → TableType → Bool → ℕ → P → Result (Table P) (P × TableError) → Type 0
@@ -55,6 +57,29 @@ MakesTable (Err e) told ty lazy bytes region result = result ≡ Err (region, re
 MakesTable (Ok false) told ty lazy bytes region result = result ≡ Err (region, refused.LimiterDenied ty.limits.min)
 MakesTable (Ok true) told ty lazy bytes region result = MakesWithin (nat_lt (room_of ty bytes) ty.limits.min) told ty lazy bytes region result
 
+-- a table as it is made in a list: with its minimum of elements, which are empty; it may have as many as its type allows,
+-- and as it has
+pub record IsNewList {P : Type 0} (ty : TableType) (lazy : Bool) (table : Table P) : Type 0 where
+  pub element_type : element_type_of table ≡ ty.element
+  pub view : table_view table ≡ record {
+    kind = kind_of ty.element lazy;
+    size = ty.limits.min;
+    maximum = max ty.limits.min (type_maximum ty);
+    elements = Some (replicate ty.limits.min (empty (kind_of ty.element lazy)));
+    region = None;
+  }
+
+-- the table, unless its bytes leave the address space, or no memory was to be had
+abbrev pub MakesList : {P : Type 0} → Bool → TableType → Bool → Result (Table P) TableError → Type 0
+MakesList true ty lazy result = result ≡ Err (refused.Unsupported AddressSpace)
+MakesList false ty lazy result = MatchResult result (IsNewList ty lazy) (λ e. e ≡ refused.Memory)
+
+-- What is made in a list where the limiter gave this answer.
+abbrev pub MakesDynamic : {P : Type 0} → Result Bool LimiterError → TableType → Bool → Result (Table P) TableError → Type 0
+MakesDynamic (Err e) ty lazy result = result ≡ Err (refused.LimiterFault e)
+MakesDynamic (Ok false) ty lazy result = result ≡ Err (refused.LimiterDenied ty.limits.min)
+MakesDynamic (Ok true) ty lazy result = MakesList (nat_lt (2 ^ 64 - 1) (ty.limits.min * element_size ty.element)) ty lazy result
+
 -- what the limiter answered where a making was refused with this, or ended so
 abbrev pub answer_behind : TableError → Result Bool LimiterError
 answer_behind refused.Memory = Ok true
@@ -65,6 +90,10 @@ answer_behind (refused.LimiterFault e) = Err e
 abbrev pub making_answer : {X P : Type 0} → Result X (P × TableError) → Result Bool LimiterError
 making_answer (Ok x) = Ok true
 making_answer (Err refusal) = answer_behind refusal.1
+
+abbrev pub listing_answer : {X : Type 0} → Result X TableError → Result Bool LimiterError
+listing_answer (Ok x) = Ok true
+listing_answer (Err refusal) = answer_behind refusal
 
 -- A region as it is made has room for a table in the pages that can be reached.
 abbrev pub MadeRegionsHaveRoom : Type 0

@@ -1,6 +1,6 @@
-ghost use Rattle.std.specs.Prelude.{◌≡◌, ℕ, length, take, drop};
+ghost use Rattle.std.specs.Prelude.{◌≡◌, ◌↔◌, ℕ, length, take, drop, IsTrue};
 ghost use Rattle.std.specs.Int.{w32, w64, from_le_bytes};
-ghost use Rattle.pool_table.specs.Elements.{ElementKind, Element, functions, gc_refs, continuations, gc_ref, cont, width, IsElement, word, element_of, func_item};
+ghost use Rattle.pool_table.specs.Elements.{ElementKind, Element, functions, gc_refs, continuations, gc_ref, cont, width, IsElement, word, element_of, empty, func_item};
 
 use crate::element::{ContTableElem, FuncTableElem, VMContObj};
 
@@ -27,6 +27,13 @@ pub trait ElementRule: Copy + Drop {
     fn decode(&self, bytes: &[u8]) -> Self::Item
         requires { length bytes.now ≡ width (kind self.now) }
         ensures { element result ≡ element_of (kind self.now) bytes.now };
+
+    /// The element of a place where nothing was set yet.
+    fn empty(&self) -> Self::Item
+        ensures { element result ≡ empty (kind self.now) };
+
+    fn is_empty(&self, item: Self::Item) -> bool
+        ensures { IsTrue result ↔ (element item ≡ empty (kind self.now)) };
 }
 
 /// Functions. In a lazy table a function is initialised when it is first read: its word is 0 until then, 1 for null, and
@@ -72,6 +79,18 @@ impl ElementRule for FuncRule {
             }
         }
     }
+
+    fn empty(&self) -> Option<FuncTableElem> {
+        if self.lazy { None } else { Some(None) }
+    }
+
+    fn is_empty(&self, item: Option<FuncTableElem>) -> bool {
+        match item {
+            None => self.lazy,
+            Some(None) => !self.lazy,
+            Some(Some(_)) => false,
+        }
+    }
 }
 
 /// References of a collector: the word is 0 for null, and otherwise the reference.
@@ -99,6 +118,14 @@ impl ElementRule for GcRefRule {
             0 => None,
             number => Some(number),
         }
+    }
+
+    fn empty(&self) -> Option<u32> {
+        None
+    }
+
+    fn is_empty(&self, item: Option<u32>) -> bool {
+        item.is_none()
     }
 }
 
@@ -133,6 +160,14 @@ impl ElementRule for ContRule {
             0 => None,
             _ => Some(VMContObj { contref, revision }),
         }
+    }
+
+    fn empty(&self) -> ContTableElem {
+        None
+    }
+
+    fn is_empty(&self, item: ContTableElem) -> bool {
+        item.is_none()
     }
 }
 

@@ -1,7 +1,7 @@
 ghost use Rattle.std.specs.Prelude.{◌≡◌, ◌==◌, is_ok, not, IfSome, OnOk, OnErr};
 ghost use Rattle.std.specs.List.{list_any};
 ghost use Rattle.pool_pages.specs.Told.{risen};
-ghost use Rattle.pool_table.specs.Stores.{StoreTold, store_called, store_passes, StoreFaulted, listed_store};
+ghost use Rattle.pool_table.specs.Stores.{StoreTold, StoreCall, call_of, store_called, store_passes, StoreFaulted, listed_store};
 
 use pool_limits::Trap;
 use pool_pages::PlainList;
@@ -22,6 +22,10 @@ pub enum GcTableError {
 pub trait GcStore {
     ghost told: { Self → StoreTold };
 
+    // Which state a call with these references and this answer may lead to. Code that is written for every store can show
+    // that it told the store of a reference only by telling it.
+    ghost leads: { Self → StoreCall → Self → Type 0 } = { λ _ _ _. Unit {0} };
+
     /// How many calls have failed. Never falls.
     fn faults(&self) -> u64
         ensures { result ≡ (told self.now).faults };
@@ -30,7 +34,8 @@ pub trait GcStore {
     fn write_gc_ref(&mut self, old: Option<u32>, new: Option<u32>) -> Result<(), GcStoreFault>
         ensures ok { OnOk result (told self.new ≡ store_called (told self.old)) }
         ensures fault { OnErr result (StoreFaulted (told self.old) (told self.new)) }
-        ensures planned { IfSome (told self.old).plan (λ plan. store_passes plan (told self.old) ≡ is_ok result) };
+        ensures planned { IfSome (told self.old).plan (λ plan. store_passes plan (told self.old) ≡ is_ok result) }
+        ensures call { leads self.old (call_of old new (is_ok result)) self.new };
 }
 
 /// A store with a list of the numbers of its calls that fail. Its calls are numbered from 1.

@@ -4,16 +4,18 @@ ghost use Rattle.pool_limits.specs.Growth.{table_answer};
 ghost use Rattle.pool_limits.specs.LimiterTold.{after_answer, limiter_told, option_left};
 ghost use Rattle.pool_limits.specs.Exchanges.{may_grow, IfExchanged};
 ghost use Rattle.pool_table.specs.Tables.{IsTable, IsRoom, type_maximum};
-ghost use Rattle.pool_table.specs.TableStates.{table_state, element_type_of};
+ghost use Rattle.pool_table.specs.Views.{in_region};
+ghost use Rattle.pool_table.specs.TableStates.{table_view, element_type_of, IsStatic};
 ghost use Rattle.pool_table.specs.Making.{kind_of, room_of, making_question, making_answer, MakesWithin, MakesTable, MadeRegionsHaveRoom};
 
 use crate::element::ElementSize;
 use crate::element_rule::{ContRule, FuncRule, GcRefRule};
+use crate::listing::type_maximum;
 use crate::static_elements::StaticElements;
 use crate::table::Table;
 use crate::table_error::TableError;
 use pool_limits::{LimiterError, ResourceLimiter, Unlimited};
-use pool_pages::{IndexType, Pages, TableElementType, TableType, Tunables, Unsupported};
+use pool_pages::{Pages, TableElementType, TableType, Tunables, Unsupported};
 
 impl<P: Pages> Table<P> {
     /// The table of this type over the first `data_bytes` bytes of a region, which can be reached and are zeros. The
@@ -121,7 +123,8 @@ fn over_region<P: Pages>(
 ) -> Table<P>
     requires { IsTable (record { kind = kind_of element lazy; size = size; maximum = maximum; region = P.told region }) }
     ensures element_type { element_type_of result ≡ element }
-    ensures state { table_state result ≡ record { kind = kind_of element lazy; size = size; maximum = maximum; region = P.told region } }
+    ensures static_ { IsStatic result }
+    ensures view { table_view result ≡ in_region (record { kind = kind_of element lazy; size = size; maximum = maximum; region = P.told region }) }
 {
     match element {
         TableElementType::Func => {
@@ -133,17 +136,6 @@ fn over_region<P: Pages>(
         TableElementType::Cont => {
             Table::from(StaticElements::new(ContRule, region, size, maximum))
         }
-    }
-}
-
-// The greatest size that the type allows.
-fn type_maximum(ty: &TableType) -> u64
-    ensures { result ≡ type_maximum ty.now }
-{
-    match (ty.limits.max, ty.idx_type) {
-        (Some(most), _) => most,
-        (None, IndexType::I32) => u32::MAX as u64,
-        (None, IndexType::I64) => u64::MAX,
     }
 }
 

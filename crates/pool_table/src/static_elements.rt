@@ -5,13 +5,10 @@ ghost use Rattle.pool_pages.specs.Told.{TellsShaped, IsRange, Faulted, succeeded
 ghost use Rattle.pool_limits.specs.declared.errors.Trap.TheVariants.{TableOutOfBounds};
 ghost use Rattle.pool_table.specs.Elements.{functions, gc_refs, continuations, func, gc_ref, cont, IsElement, IsFunc, IsGc, IsCont, width};
 ghost use Rattle.pool_table.specs.Tables.{IsTable, Rewrites, Fills, Empties, ZeroesBytes, GrowsBy, IsZeroWord, WordsAreZero, elements, table_access};
-ghost use Rattle.pool_table.specs.Stores.{StoredFill, stored_answer};
-ghost use Rattle.pool_table.specs.Growing.{TableGrowsAsking, IsAllowedTableGrowth};
 
 use crate::element::{ContTableElem, FuncTableElem};
 use crate::element_rule::{ContRule, ElementRule, FuncRule, GcRefRule};
-use crate::gc_store::{GcStore, GcStoreFault, GcTableError};
-use pool_limits::{GrowError, GrowFault, Growable, ResourceLimiter, Trap, report_failure};
+use pool_limits::Trap;
 use pool_pages::{HostAlignedByteCount, PageFault, Pages};
 use std::marker::Model;
 
@@ -50,7 +47,8 @@ impl<K: ElementRule, P: Pages> StaticElements<K, P> {
 
     /// How many elements the table has.
     pub fn size(&self) -> usize
-        ensures { result ≡ self.now.size }
+        ensures value { result ≡ self.now.size }
+        ensures always { IsTable self.now }
     {
         self.size
     }
@@ -189,59 +187,8 @@ impl<K: ElementRule, P: Pages> StaticElements<K, P> {
 }
 
 impl<K: ElementRule, P: Pages> StaticElements<K, P> {
-    // As `Table::grow`, with a limiter.
-    pub(crate) fn grow_asking<R: ResourceLimiter>(
-        &mut self,
-        limiter: &mut R,
-        delta: u64,
-    ) -> Result<Option<usize>, GrowFault>
-        ensures { TableGrowsAsking R.told R.leads delta self.old self.new (Some limiter.old) (Some limiter.new) result }
-    {
-        let old = self.size();
-        if delta == 0 {
-            return Ok(Some(old));
-        }
-        match (old as u64).checked_add(delta) {
-            None => report_failure(limiter, Growable::Table, GrowError::TypeLimit),
-            Some(size) => self.grow_to(limiter, size as usize),
-        }
-    }
-
-    // Asks the limiter for a size that is greater, and grows to it.
-    fn grow_to<R: ResourceLimiter>(
-        &mut self,
-        limiter: &mut R,
-        size: usize,
-    ) -> Result<Option<usize>, GrowFault>
-        requires { self.old.size < size }
-        ensures { TableGrowsAsking R.told R.leads (size - self.old.size) self.old self.new (Some limiter.old) (Some limiter.new) result }
-    {
-        match limiter.table_growing(self.size(), size, Some(self.maximum())) {
-            Err(error) => Err(GrowFault::LimiterFault(error)),
-            Ok(false) => Ok(None),
-            Ok(true) => self.grow_allowed(limiter, size),
-        }
-    }
-
-    // Grows to a size that the limiter allows.
-    fn grow_allowed<R: ResourceLimiter>(
-        &mut self,
-        limiter: &mut R,
-        size: usize,
-    ) -> Result<Option<usize>, GrowFault>
-        requires { self.old.size ≤ size }
-        ensures { IsAllowedTableGrowth R.told R.leads size self.old self.new limiter.old limiter.new result }
-    {
-        let old = self.size();
-        if size > self.maximum() {
-            return report_failure(limiter, Growable::Table, GrowError::MaximumExceeded);
-        }
-        self.take_elements(size);
-        Ok(Some(old))
-    }
-
-    // Has so many elements, of which it may have so many.
-    fn take_elements(&mut self, size: usize)
+    /// Has so many elements, of which it may have so many. The new ones are empty.
+    pub(crate) fn take_elements(&mut self, size: usize)
         requires more { self.old.size ≤ size }
         requires room { size ≤ self.old.maximum }
         ensures { GrowsBy (size - self.old.size) self.old self.new }
@@ -291,65 +238,21 @@ impl<P: Pages> StaticElements<ContRule, P> {
 }
 
 impl<P: Pages> StaticElements<GcRefRule, P> {
-    /// Sets one reference, without a store.
-    pub fn put_gc_ref(&mut self, index: u64, elem: Option<u32>) -> Result<(), Trap>
-        requires { IsGc elem }
-        ensures answer { result ≡ table_access (index + 1) self.old.size }
-        ensures filled { OnOk result (Fills index 1 (gc_ref elem) self.old self.new) }
+    /// Sets `len` references from `dst` on to this one, or none where they pass the size. No store is told. Takes no
+    /// memory.
+    pub fn fill_gc_ref(&mut self, dst: u64, val: Option<u32>, len: u64) -> Result<(), Trap>
+        requires { IsGc val }
+        ensures answer { result ≡ table_access (dst + len) self.old.size }
+        ensures filled { OnOk result (Fills dst len (gc_ref val) self.old self.new) }
         ensures same { OnErr result (self.new ≡ self.old) }
     {
         self.has_gc_refs();
-        self.fill(index, elem, 1)
-    }
-
-    /// Sets `len` references from `dst` on to this one, or none where they pass the size. Before each of them the store
-    /// is told; where that fails, those before it stay set. Takes no memory.
-    pub fn fill_gc_ref<G: GcStore>(
-        &mut self,
-        store: &mut G,
-        dst: u64,
-        val: Option<u32>,
-        len: u64,
-    ) -> Result<(), GcTableError>
-        requires { IsGc val }
-        ensures inside { dst + len ≤ self.old.size → (result ≡ stored_answer (is_ok result)) × StoredFill dst len (gc_ref val) self.old self.new (G.told store.old) (G.told store.new) (is_ok result) }
-        ensures outside { self.old.size < dst + len → (result ≡ Err (GcTableError.Trap TableOutOfBounds)) × ((self.new ≡ self.old) × (store.new ≡ store.old)) }
-    {
-        if !self.has(dst, len) {
-            return Err(GcTableError::Trap(Trap::TableOutOfBounds));
-        }
-        match self.store_elements(store, dst as usize, val, len as usize) {
-            Ok(()) => Ok(()),
-            Err(GcStoreFault) => Err(GcTableError::GcStoreFault),
-        }
-    }
-
-    fn store_elements<G: GcStore>(
-        &mut self,
-        store: &mut G,
-        first: usize,
-        val: Option<u32>,
-        count: usize,
-    ) -> Result<(), GcStoreFault>
-        requires valid { IsGc val }
-        requires inside { first + count ≤ self.old.size }
-        ensures { StoredFill first count (gc_ref val) self.old self.new (G.told store.old) (G.told store.new) (is_ok result) }
-    {
-        self.has_gc_refs();
-        for i in 0..count {
-            self.has_gc_refs();
-            let old = self.element(first + i);
-            store.write_gc_ref(old, val)?;
-            self.fill_elements(first + i, val, 1);
-        }
-        Ok(())
+        self.fill(dst, val, len)
     }
 
     // What holds of every such table, for the proofs of its callers here.
     fn has_gc_refs(&self)
-        ensures kind { self.now.kind ≡ gc_refs }
-        ensures table { IsTable self.now }
-        ensures bounded { self.now.size < 2 ^ 64 }
+        ensures { self.now.kind ≡ gc_refs }
     {
         let _size = self.size;
     }

@@ -1,13 +1,11 @@
-ghost use Rattle.std.specs.Prelude.{◌≡◌, ◌↔◌, ◌+◌, ◌≤◌, is_ok, Some, IsTrue, IfSome, OnOk, OnErr};
+ghost use Rattle.std.specs.Prelude.{◌≡◌, ◌↔◌, ◌+◌, ◌-◌, ◌≤◌, is_ok, IsTrue, IfSome, OnOk, OnErr};
 ghost use Rattle.pool_pages.specs.Contents.{CanReach};
 ghost use Rattle.pool_pages.specs.Told.{IsRange, Faulted, succeeded, passes, decommitting};
-ghost use Rattle.pool_table.specs.Tables.{IsTable, Empties, ZeroesBytes, WordsAreZero};
-ghost use Rattle.pool_table.specs.Growing.{TableGrowsAsking};
+ghost use Rattle.pool_table.specs.Tables.{IsTable, Empties, GrowsBy, ZeroesBytes, WordsAreZero};
 ghost use Rattle.pool_table.specs.TableStates.{static_state, static_type};
 
 use crate::element_rule::{ContRule, FuncRule, GcRefRule};
 use crate::static_elements::StaticElements;
-use pool_limits::{GrowFault, ResourceLimiter};
 use pool_pages::{HostAlignedByteCount, PageFault, Pages, TableElementType};
 
 /// A table of functions over a region.
@@ -69,7 +67,8 @@ impl<P: Pages> StaticTable<P> {
     }
 
     pub fn size(&self) -> usize
-        ensures { result ≡ (static_state self.now).size }
+        ensures value { result ≡ (static_state self.now).size }
+        ensures always { IsTable (static_state self.now) }
     {
         match self {
             StaticTable::Func(table) => table.size(),
@@ -89,19 +88,17 @@ impl<P: Pages> StaticTable<P> {
         }
     }
 
-    // As `Table::grow`, with a limiter.
-    pub(crate) fn grow_asking<R: ResourceLimiter>(
-        &mut self,
-        limiter: &mut R,
-        delta: u64,
-    ) -> Result<Option<usize>, GrowFault>
+    /// Has so many elements, of which it may have so many. The new ones are empty.
+    pub(crate) fn take_elements(&mut self, size: usize)
+        requires more { (static_state self.old).size ≤ size }
+        requires room { size ≤ (static_state self.old).maximum }
         ensures element_type { static_type self.new ≡ static_type self.old }
-        ensures growth { TableGrowsAsking R.told R.leads delta (static_state self.old) (static_state self.new) (Some limiter.old) (Some limiter.new) result }
+        ensures growth { GrowsBy (size - (static_state self.old).size) (static_state self.old) (static_state self.new) }
     {
         match self {
-            StaticTable::Func(table) => table.grow_asking(limiter, delta),
-            StaticTable::GcRef(table) => table.grow_asking(limiter, delta),
-            StaticTable::Cont(table) => table.grow_asking(limiter, delta),
+            StaticTable::Func(table) => table.take_elements(size),
+            StaticTable::GcRef(table) => table.take_elements(size),
+            StaticTable::Cont(table) => table.take_elements(size),
         }
     }
 

@@ -5,7 +5,8 @@ use Rattle.pool_pages.specs.Told.{Told}
 use Rattle.pool_pages.specs.declared.table_type.TableType.{TableType}
 use Rattle.pool_table.specs.Elements.{element_size}
 use Rattle.pool_table.specs.Tables.{IsTable, type_maximum}
-use Rattle.pool_table.specs.TableStates.{table_state}
+use Rattle.pool_table.specs.Views.{in_region}
+use Rattle.pool_table.specs.TableStates.{table_view}
 use Rattle.pool_table.specs.Making.{kind_of, room_of, MakesWithin, new_table}
 use Rattle.pool_table.proofs.Made.{made_is_table, made_new, has_room}
 use Rattle.pool_table.proofs.making.make_within.Goals as goal
@@ -35,9 +36,9 @@ returns-clause-value g c =
     let ty : TableType = c.args.ty.now in
     let region : Told = g.P.Pages.told c.args.region in
     let below : ty.limits.min ≤ room_of ty c.args.data_bytes = room_at ty c.args.data_bytes c.element_size.result ty.limits.min c.element_size.ensures c.if-min-limit.false in
-    let T : ℕ → Type 0 = λ n. table_state c.over_region.result ≡ record { kind = kind_of ty.element c.args.lazy; size = ty.limits.min; maximum = n; region = region } in
-    let state : table_state c.over_region.result ≡ new_table ty c.args.lazy c.args.data_bytes region =
-    subst T (greatest ty c.args.data_bytes c.element_size.result c.type_maximum.result c.min-maximum.result c.element_size.ensures c.type_maximum.ensures c.min-maximum.ensures) c.over_region.ensures.state in
+    let T : ℕ → Type 0 = λ n. table_view c.over_region.result ≡ in_region (record { kind = kind_of ty.element c.args.lazy; size = ty.limits.min; maximum = n; region = region }) in
+    let view : table_view c.over_region.result ≡ in_region (new_table ty c.args.lazy c.args.data_bytes region) =
+    subst T (greatest ty c.args.data_bytes c.element_size.result c.type_maximum.result c.min-maximum.result c.element_size.ensures c.type_maximum.ensures c.min-maximum.ensures) c.over_region.ensures.view in
     let M : Bool → Type 0 = λ b. MakesWithin b g.P.Pages.told ty c.args.lazy c.args.data_bytes c.args.region (Ok c.over_region.result) in
     subst M (sym (has_room (room_of ty c.args.data_bytes) ty.limits.min below))
-    (c.over_region.result, (refl, made_new ty c.args.lazy c.args.data_bytes region c.over_region.result below (c.requires.limits below) c.requires.inside c.requires.zeros c.over_region.ensures.element_type state))
+    (c.over_region.result, (refl, made_new ty c.args.lazy c.args.data_bytes region c.over_region.result below (c.requires.limits below) c.requires.inside c.requires.zeros c.over_region.ensures.static_ c.over_region.ensures.element_type view))
