@@ -5,5 +5,6 @@ pub mod Meaning
 pub mod Rule
 pub mod Step
 pub mod Room
+pub mod Held
 pub mod Made
 pub mod Seat

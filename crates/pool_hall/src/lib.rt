@@ -5,6 +5,7 @@ mod calls;
 mod counters;
 mod ends;
 mod hall;
+mod holds;
 mod law;
 mod lends;
 mod part;
@@ -15,6 +16,7 @@ mod unit_name;
 mod view;
 
 pub use hall::{Hall, HallSeat};
+pub use holds::PartCall;
 pub use part::Part;
 pub use sums::sums_follow;
 pub use unit_name::{SlotKind, UnitName};
