@@ -3,11 +3,12 @@ use Rattle.std.proofs.Common.{◌≡◌, ◌≢◌, ℕ, Bool, true, false, refl
 use Rattle.std.specs.Prelude.{◌==◌, not}
 use Rattle.std.proofs.lemmas.Bool.{eq-eqb}
 use Rattle.std.proofs.lemmas.Bool.Decides.{nat_tests}
+use Rattle.pool_pages.specs.MakerTold.{MakerTold}
 use Rattle.pool_pages.specs.MemoryTypes.{allow_growth_to}
 use Rattle.pool_limits.specs.Growth.{memory_answer, memory_failure}
 use Rattle.pool_limits.specs.LimiterTold.{LimiterTold, limiter_told, after_answer, after_report}
 use Rattle.pool_limits.specs.Exchanges.{GrowthQuestion, Exchange, may_grow, has_failed, Exchanged}
-use Rattle.pool_limits.specs.Growing.{Obstacles, GrowthGiven, growth_exchanges, IsRuled, result_by, answer_result, allowed_result, report_result, is_want_of_memory, report_seen}
+use Rattle.pool_limits.specs.Growing.{Obstacles, GrowthGiven, growth_exchanges, AllowedMakes, IsRuled, result_by, answer_result, allowed_result, report_result, is_want_of_memory, report_seen}
 use Rattle.pool_limits.specs.declared.growing.Growable.TheVariants.{Memory}
 use Rattle.pool_limits.specs.declared.errors.LimiterError.{LimiterError}
 use Rattle.pool_limits.specs.declared.errors.GrowError.{GrowError}
@@ -16,9 +17,10 @@ use Rattle.pool_limits.specs.declared.errors.GrowFault.{GrowFault}
 use Rattle.pool_limits.specs.declared.errors.GrowFault.TheVariants as fault
 use Rattle.pool_limits.proofs.Ruled.{unasked, ruled_nothing, ruled_past_type, ruled_error, ruled_no, ruled_yes, allowed_grown, allowed_past, allowed_failed}
 use Rattle.pool_memory.specs.Linear.{Linear}
+use Rattle.pool_memory.specs.Moving.{MakerLeft}
 use Rattle.pool_memory.specs.Making.{maximum_asked}
 use Rattle.pool_memory.specs.Memories.{MemoryState}
-use Rattle.pool_memory.specs.Growing.{obstacles, growth_question, IsGrowth, GrowsAsking, IsAllowedGrowth, GrowthLeaves, AskedPages, GrowsTo, IsUngrown, grown_size, past_room, first_of}
+use Rattle.pool_memory.specs.Growing.{obstacles, growth_question, IsGrowth, GrowsAsking, GrowsMoving, IsAllowedGrowth, GrowthLeaves, GrowthLeavesMaker, AskedPages, GrowsTo, IsUngrown, grown_size, past_room, first_of}
 
 seen : (pages : ℕ) (old : MemoryState) (a b : Bool) → (pages == 0) ≡ a → allow_growth_to old.ty (grown_size pages old) ≡ not b → not (not b) ≡ b → obstacles pages old ≡ record { nothing = a; past_type = b; past_room = past_room (grown_size pages old) old }
 seen pages old a b first second twice =
@@ -30,16 +32,22 @@ seen pages old a b first second twice =
 some_pages : (pages : ℕ) → pages ≢ 0 → (pages == 0) ≡ false
 some_pages pages some = grind (arith, nat_tests)
 
--- over a limiter
-module _ {R X : Type 0} (told : R → LimiterTold) (leads : R → Exchange → R → Type 0) (pages : ℕ) (x : X) (old : MemoryState) where
-  abbrev Grows : MemoryState → R → R → Result (Option X) GrowFault → Type 0
-  Grows new before after r = GrowsAsking told leads pages x old new (Some before) (Some after) r
+both_make : (S T G H : Type 0) (U V : GrowError → Type 0) (past : Bool) (failure : Option GrowError) → AllowedMakes (S × T) (G × H) (λ e. U e × V e) past failure → AllowedMakes S G U past failure × AllowedMakes T H V past failure
+both_make S T G H U V true failure both = both
+both_make S T G H U V false None both = both
+both_make S T G H U V false (Some e) both = both
+
+-- over a limiter, and a maker that tells this
+module _ {R X : Type 0} (told : R → LimiterTold) (leads : R → Exchange → R → Type 0) (pages : ℕ) (x : X) (old : MemoryState) (maker : Option MakerTold) where
+  abbrev Grows : MemoryState → Option MakerTold → R → R → Result (Option X) GrowFault → Type 0
+  Grows new left before after r = GrowsMoving told leads pages x old new maker left (Some before) (Some after) r
 
   abbrev question : GrowthQuestion
   question = growth_question pages old
 
-  growth_of : (new : MemoryState) (before after : R) (r : Result (Option X) GrowFault) (o : Obstacles) (g : GrowthGiven) → obstacles pages old ≡ o → IsRuled question o g x (told before) (told after) r → new ≡ record old { linear = new.linear } → GrowthLeaves o g (grown_size pages old) old.linear new.linear → Exchanged leads (growth_exchanges question o g) before after → Grows new before after r
-  growth_of new before after r o g at ruled memory linear exchanged = (
+  growth_of : (new : MemoryState) (left : Option MakerTold) (before after : R) (r : Result (Option X) GrowFault) (o : Obstacles) (g : GrowthGiven) → obstacles pages old ≡ o → IsRuled question o g x (told before) (told after) r → new ≡ record old { linear = new.linear }
+      → GrowthLeaves o g (grown_size pages old) old.linear new.linear → GrowthLeavesMaker o g (grown_size pages old) old.linear new.linear maker left → Exchanged leads (growth_exchanges question o g) before after → Grows new left before after r
+  growth_of new left before after r o g at ruled memory linear makers exchanged = (
     g,
     (
       record {
@@ -47,88 +55,102 @@ module _ {R X : Type 0} (told : R → LimiterTold) (leads : R → Exchange → R
         memory = memory;
         linear = let P : Obstacles → Type 0 = λ k. GrowthLeaves k g (grown_size pages old) old.linear new.linear in subst P (sym at) linear;
       },
-      let P : Obstacles → Type 0 = λ k. Exchanged leads (growth_exchanges question k g) before after in subst P (sym at) exchanged,
+      (
+        (let P : Obstacles → Type 0 = λ k. Exchanged leads (growth_exchanges question k g) before after in subst P (sym at) exchanged),
+        (let P : Obstacles → Type 0 = λ k. GrowthLeavesMaker k g (grown_size pages old) old.linear new.linear maker left in subst P (sym at) makers),
+      ),
     ),
   )
 
   -- by nothing
-  pub grown_nothing : (l : R) → pages ≡ 0 → Grows old l l (Ok (Some x))
+  pub grown_nothing : (l : R) → pages ≡ 0 → Grows old maker l l (Ok (Some x))
   grown_nothing l none =
       let past : Bool = not (allow_growth_to old.ty (grown_size pages old)) in
       let room : Bool = past_room (grown_size pages old) old in
-      growth_of old l l (Ok (Some x)) (record { nothing = true; past_type = past; past_room = room }) (unasked question (told l))
+      growth_of old maker l l (Ok (Some x)) (record { nothing = true; past_type = past; past_room = room }) (unasked question (told l))
       (ap (λ (n : Bool). record { nothing = n; past_type = past; past_room = room }) (eq-eqb pages 0 none))
-      (ruled_nothing question past room x (told l)) refl refl refl
+      (ruled_nothing question past room x (told l)) refl refl refl refl
 
   -- past what the type allows
-  pub grown_past_type : (before after : R) (r : Result (Option X) GrowFault) → pages ≢ 0 → allow_growth_to old.ty (grown_size pages old) ≡ false → report_seen r ≡ memory_failure (told before).rule (report_seen r) → r ≡ report_result false (report_seen r) → told after ≡ after_report (report_seen r) (told before) → leads before (has_failed Memory failed.TypeLimit (report_seen r)) after → Grows old before after r
+  pub grown_past_type : (before after : R) (r : Result (Option X) GrowFault) → pages ≢ 0 → allow_growth_to old.ty (grown_size pages old) ≡ false → report_seen r ≡ memory_failure (told before).rule (report_seen r) → r ≡ report_result false (report_seen r) → told after ≡ after_report (report_seen r) (told before) → leads before (has_failed Memory failed.TypeLimit (report_seen r)) after → Grows old maker before after r
   grown_past_type before after r some past report replies limiter exchange =
       let room : Bool = past_room (grown_size pages old) old in
-      growth_of old before after r (record { nothing = false; past_type = true; past_room = room })
+      growth_of old maker before after r (record { nothing = false; past_type = true; past_room = room })
       (record (unasked question (told before)) { report = report_seen r })
       (seen pages old false true (some_pages pages some) past refl)
-      (ruled_past_type question room x (told before) (told after) r report replies limiter) refl refl (after, (exchange, refl))
+      (ruled_past_type question room x (told before) (told after) r report replies limiter) refl refl refl (after, (exchange, refl))
 
   -- where the limiter refuses it with an error
-  pub grown_error : (before after : R) (e : LimiterError) → pages ≢ 0 → allow_growth_to old.ty (grown_size pages old) ≡ true → Err e ≡ memory_answer (told before).rule (Err e) (grown_size pages old) (maximum_asked old.ty) → told after ≡ after_answer (Err e) (told before) → leads before (may_grow question (Err e)) after → Grows old before after (Err (fault.LimiterFault e))
+  pub grown_error : (before after : R) (e : LimiterError) → pages ≢ 0 → allow_growth_to old.ty (grown_size pages old) ≡ true → Err e ≡ memory_answer (told before).rule (Err e) (grown_size pages old) (maximum_asked old.ty) → told after ≡ after_answer (Err e) (told before) → leads before (may_grow question (Err e)) after → Grows old maker before after (Err (fault.LimiterFault e))
   grown_error before after e some allowed answer limiter exchange =
       let room : Bool = past_room (grown_size pages old) old in
-      growth_of old before after (Err (fault.LimiterFault e)) (record { nothing = false; past_type = false; past_room = room })
+      growth_of old maker before after (Err (fault.LimiterFault e)) (record { nothing = false; past_type = false; past_room = room })
       (record (unasked question (told before)) { answer = Err e })
       (seen pages old false false (some_pages pages some) allowed refl)
-      (ruled_error question room x (told before) (told after) e answer limiter) refl refl (after, (exchange, refl))
+      (ruled_error question room x (told before) (told after) e answer limiter) refl refl refl (after, (exchange, refl))
 
   -- where it says no
-  pub grown_no : (before after : R) → pages ≢ 0 → allow_growth_to old.ty (grown_size pages old) ≡ true → Ok false ≡ memory_answer (told before).rule (Ok false) (grown_size pages old) (maximum_asked old.ty) → told after ≡ after_answer (Ok false) (told before) → leads before (may_grow question (Ok false)) after → Grows old before after (Ok None)
+  pub grown_no : (before after : R) → pages ≢ 0 → allow_growth_to old.ty (grown_size pages old) ≡ true → Ok false ≡ memory_answer (told before).rule (Ok false) (grown_size pages old) (maximum_asked old.ty) → told after ≡ after_answer (Ok false) (told before) → leads before (may_grow question (Ok false)) after → Grows old maker before after (Ok None)
   grown_no before after some allowed answer limiter exchange =
       let room : Bool = past_room (grown_size pages old) old in
-      growth_of old before after (Ok None) (record { nothing = false; past_type = false; past_room = room })
+      growth_of old maker before after (Ok None) (record { nothing = false; past_type = false; past_room = room })
       (record (unasked question (told before)) { answer = Ok false })
       (seen pages old false false (some_pages pages some) allowed refl)
-      (ruled_no question room x (told before) (told after) answer limiter) refl refl (after, (exchange, refl))
+      (ruled_no question room x (told before) (told after) answer limiter) refl refl refl (after, (exchange, refl))
 
   -- where it says yes
-  pub grown_allowed : (new : MemoryState) (before between after : R) (r : Result (Option X) GrowFault) → pages ≢ 0 → allow_growth_to old.ty (grown_size pages old) ≡ true → Ok true ≡ memory_answer (told before).rule (Ok true) (grown_size pages old) (maximum_asked old.ty) → told between ≡ after_answer (Ok true) (told before) → leads before (may_grow question (Ok true)) between → IsAllowedGrowth told leads (past_room (grown_size pages old) old) (grown_size pages old) x old.linear new.linear between after r → new ≡ record old { linear = new.linear } → Grows new before after r
-  grown_allowed new before between after r some allowed answer limiter exchange growth memory =
+  pub grown_allowed : (new : MemoryState) (left : Option MakerTold) (before between after : R) (r : Result (Option X) GrowFault) → pages ≢ 0 → allow_growth_to old.ty (grown_size pages old) ≡ true → Ok true ≡ memory_answer (told before).rule (Ok true) (grown_size pages old) (maximum_asked old.ty) → told between ≡ after_answer (Ok true) (told before) → leads before (may_grow question (Ok true)) between → IsAllowedGrowth told leads (past_room (grown_size pages old) old) (grown_size pages old) x old.linear new.linear maker left between after r → new ≡ record old { linear = new.linear } → Grows new left before after r
+  grown_allowed new left before between after r some allowed answer limiter exchange growth memory =
       let past : Bool = past_room (grown_size pages old) old in
-      growth_of new before after r (record { nothing = false; past_type = false; past_room = past })
+      let size : ℕ = grown_size pages old in
+      let makes = both_make (new.linear ≡ old.linear) (left ≡ maker) (GrowsTo size old.linear new.linear) (MakerLeft None size old.linear new.linear maker left) (λ e. IsUngrown e size old.linear new.linear) (λ e. MakerLeft (Some e) size old.linear new.linear maker left) past growth.failure growth.makes in
+      growth_of new left before after r (record { nothing = false; past_type = false; past_room = past })
       (record { answer = Ok true; failure = growth.failure; report = growth.report })
       (seen pages old false false (some_pages pages some) allowed refl)
-      (ruled_yes told leads question past x (new.linear ≡ old.linear) (GrowsTo (grown_size pages old) old.linear new.linear) (λ e. IsUngrown e (grown_size pages old) old.linear new.linear) (told before) between after r answer limiter growth)
-      memory growth.makes (between, (exchange, growth.exchanged))
+      (ruled_yes told leads question past x ((new.linear ≡ old.linear) × (left ≡ maker)) (GrowsTo size old.linear new.linear × MakerLeft None size old.linear new.linear maker left) (λ e. IsUngrown e size old.linear new.linear × MakerLeft (Some e) size old.linear new.linear maker left) (told before) between after r answer limiter growth)
+      memory makes.0 makes.1 (between, (exchange, growth.exchanged))
 
 abbrev is_err_of : GrowError → Result (Unit {0}) GrowError
 is_err_of e = Err e
 
 -- after the limiter allowed a size
-module _ {R X : Type 0} (told : R → LimiterTold) (leads : R → Exchange → R → Type 0) (size : ℕ) (x : X) (old new : Linear) where
+module _ {R X : Type 0} (told : R → LimiterTold) (leads : R → Exchange → R → Type 0) (size : ℕ) (x : X) (old new : Linear) (maker left : Option MakerTold) where
   abbrev Allowed : Bool → R → R → Result (Option X) GrowFault → Type 0
-  Allowed past before after r = IsAllowedGrowth told leads past size x old new before after r
+  Allowed past before after r = IsAllowedGrowth told leads past size x old new maker left before after r
+
+  abbrev Same : Type 0
+  Same = (new ≡ old) × (left ≡ maker)
+
+  abbrev Grown : Type 0
+  Grown = GrowsTo size old new × MakerLeft None size old new maker left
+
+  abbrev Ungrown : GrowError → Type 0
+  Ungrown e = IsUngrown e size old new × MakerLeft (Some e) size old new maker left
 
   -- the pages gave it
-  pages_ok : (past : Bool) (l : R) → AskedPages past size old new (Ok tt) → Allowed past l l (Ok (Some x))
+  pages_ok : (past : Bool) (l : R) → AskedPages past size old new maker left (Ok tt) → Allowed past l l (Ok (Some x))
   pages_ok true l asked = absurd (let e : Ok tt ≡ Err failed.MaximumExceeded = asked.0 in cc)
-  pages_ok false l asked = allowed_grown told leads Memory x (new ≡ old) (GrowsTo size old new) (λ e. IsUngrown e size old new) l asked
+  pages_ok false l asked = allowed_grown told leads Memory x Same Grown Ungrown l asked
 
   -- they didn't, which was reported
-  pages_err : (past : Bool) (before after : R) (e : GrowError) (r : Result (Option X) GrowFault) → AskedPages past size old new (Err e) → report_seen r ≡ memory_failure (told before).rule (report_seen r) → r ≡ report_result (is_want_of_memory e) (report_seen r) → told after ≡ after_report (report_seen r) (told before) → leads before (has_failed Memory e (report_seen r)) after → Allowed past before after r
+  pages_err : (past : Bool) (before after : R) (e : GrowError) (r : Result (Option X) GrowFault) → AskedPages past size old new maker left (Err e) → report_seen r ≡ memory_failure (told before).rule (report_seen r) → r ≡ report_result (is_want_of_memory e) (report_seen r) → told after ≡ after_report (report_seen r) (told before) → leads before (has_failed Memory e (report_seen r)) after → Allowed past before after r
   pages_err true before after e r asked answer replies limiter exchange =
       let is : is_err_of e ≡ is_err_of failed.MaximumExceeded = asked.0 in
       let same : e ≡ failed.MaximumExceeded = cc in
       let P : GrowError → Type 0 = λ k. r ≡ report_result (is_want_of_memory k) (report_seen r) in
       let E : GrowError → Type 0 = λ k. leads before (has_failed Memory k (report_seen r)) after in
-      allowed_past told leads Memory x (new ≡ old) (GrowsTo size old new) (λ f. IsUngrown f size old new) before after r answer (subst P same replies) limiter (subst E same exchange) asked.1
+      allowed_past told leads Memory x Same Grown Ungrown before after r answer (subst P same replies) limiter (subst E same exchange) asked.1
   pages_err false before after e r asked answer replies limiter exchange =
-      allowed_failed told leads Memory x (new ≡ old) (GrowsTo size old new) (λ f. IsUngrown f size old new) before after e r answer replies limiter exchange asked
+      allowed_failed told leads Memory x Same Grown Ungrown before after e r answer replies limiter exchange asked
 
-  pub allowed_ok : (past : Bool) (l : R) (result : Result (Unit {0}) GrowError) (u : Unit {0}) → result ≡ Ok u → AskedPages past size old new result → Allowed past l l (Ok (Some x))
+  pub allowed_ok : (past : Bool) (l : R) (result : Result (Unit {0}) GrowError) (u : Unit {0}) → result ≡ Ok u → AskedPages past size old new maker left result → Allowed past l l (Ok (Some x))
   allowed_ok past l result u is asked =
-      let P : Result (Unit {0}) GrowError → Type 0 = λ k. AskedPages past size old new k in
+      let P : Result (Unit {0}) GrowError → Type 0 = λ k. AskedPages past size old new maker left k in
       pages_ok past l (subst P is asked)
 
-  pub allowed_err : (past : Bool) (before after : R) (result : Result (Unit {0}) GrowError) (e : GrowError) (r : Result (Option X) GrowFault) → result ≡ Err e → AskedPages past size old new result → report_seen r ≡ memory_failure (told before).rule (report_seen r) → r ≡ report_result (is_want_of_memory e) (report_seen r) → told after ≡ after_report (report_seen r) (told before) → leads before (has_failed Memory e (report_seen r)) after → Allowed past before after r
+  pub allowed_err : (past : Bool) (before after : R) (result : Result (Unit {0}) GrowError) (e : GrowError) (r : Result (Option X) GrowFault) → result ≡ Err e → AskedPages past size old new maker left result → report_seen r ≡ memory_failure (told before).rule (report_seen r) → r ≡ report_result (is_want_of_memory e) (report_seen r) → told after ≡ after_report (report_seen r) (told before) → leads before (has_failed Memory e (report_seen r)) after → Allowed past before after r
   allowed_err past before after result e r is asked answer replies limiter exchange =
-      let P : Result (Unit {0}) GrowError → Type 0 = λ k. AskedPages past size old new k in
+      let P : Result (Unit {0}) GrowError → Type 0 = λ k. AskedPages past size old new maker left k in
       pages_err past before after e r (subst P is asked) answer replies limiter exchange
 
 first_report : (report : Result (Unit {0}) LimiterError) → first_of (report_result {X = ℕ × ℕ} false report) ≡ report_result {X = ℕ} false report
@@ -156,8 +178,8 @@ first_by x false true c g = first_report g.report
 first_by x false false c g = first_answer x c g.answer g.failure g.report
 
 -- the same growth, whose result tells only the old size
-pub growth_first : {R : Type 0} (told : R → LimiterTold) (leads : R → Exchange → R → Type 0) (pages : ℕ) (x : ℕ × ℕ) (old new : MemoryState) (before after : R) (r : Result (Option (ℕ × ℕ)) GrowFault) (s : Result (Option ℕ) GrowFault) → s ≡ first_of r → GrowsAsking told leads pages x old new (Some before) (Some after) r → GrowsAsking told leads pages x.0 old new (Some before) (Some after) s
-growth_first told leads pages x old new before after r s is grows =
+pub growth_first : {R : Type 0} (told : R → LimiterTold) (leads : R → Exchange → R → Type 0) (pages : ℕ) (x : ℕ × ℕ) (old new : MemoryState) (maker left : Option MakerTold) (before after : R) (r : Result (Option (ℕ × ℕ)) GrowFault) (s : Result (Option ℕ) GrowFault) → s ≡ first_of r → GrowsMoving told leads pages x old new maker left (Some before) (Some after) r → GrowsMoving told leads pages x.0 old new maker left (Some before) (Some after) s
+growth_first told leads pages x old new maker left before after r s is grows =
     let growth = grows.1.0 in
     let o : Obstacles = obstacles pages old in (
       grows.0,
@@ -177,7 +199,12 @@ growth_first told leads pages x old new before after r s is grows =
     )
 
 -- a growth where nobody is asked that could say no
-pub growth_alone : {R S X : Type 0} (told : R → LimiterTold) (leads : R → Exchange → R → Type 0) (other : S → LimiterTold) (ways : S → Exchange → S → Type 0) (pages : ℕ) (x : X) (old new : MemoryState) (before after : S) (r : Result (Option X) GrowFault) → other before ≡ limiter_told told None → other after ≡ limiter_told told None → GrowsAsking other ways pages x old new (Some before) (Some after) r → GrowsAsking told leads pages x old new None None r
-growth_alone told leads other ways pages x old new before after r first second grows =
+pub growth_alone : {R S X : Type 0} (told : R → LimiterTold) (leads : R → Exchange → R → Type 0) (other : S → LimiterTold) (ways : S → Exchange → S → Type 0) (pages : ℕ) (x : X) (old new : MemoryState) (maker left : Option MakerTold) (before after : S) (r : Result (Option X) GrowFault) → other before ≡ limiter_told told None → other after ≡ limiter_told told None
+    → GrowsMoving other ways pages x old new maker left (Some before) (Some after) r → GrowsMoving told leads pages x old new maker left None None r
+growth_alone told leads other ways pages x old new maker left before after r first second grows =
     let P : LimiterTold → LimiterTold → Type 0 = λ t u. IsGrowth grows.0 pages x old new t u r in
-    (grows.0, (subst (λ (t : LimiterTold). P t (limiter_told told None)) first (subst (λ (u : LimiterTold). P (other before) u) second grows.1.0), tt))
+    (grows.0, (subst (λ (t : LimiterTold). P t (limiter_told told None)) first (subst (λ (u : LimiterTold). P (other before) u) second grows.1.0), (tt, grows.1.1.1)))
+
+-- a growth, without the maker
+pub growth_asking : {R X : Type 0} (told : R → LimiterTold) (leads : R → Exchange → R → Type 0) (pages : ℕ) (x : X) (old new : MemoryState) (maker left : Option MakerTold) (before after : Option R) (r : Result (Option X) GrowFault) → GrowsMoving told leads pages x old new maker left before after r → GrowsAsking told leads pages x old new before after r
+growth_asking told leads pages x old new maker left before after r grows = (grows.0, (grows.1.0, grows.1.1.0))

@@ -1,6 +1,15 @@
 pub mod Begun
 pub mod Bytes
+pub mod Copies
+pub mod Creations
+pub mod Fresh
 pub mod Growths
+pub mod Layouts
 pub mod Makings
+pub mod Mallocs
+pub mod Mapped
+pub mod Moves
+pub mod PageSizes
 pub mod Raised
+pub mod Started
 pub mod Statics

@@ -14,7 +14,7 @@ use Rattle.pool_memory.proofs.Bytes.{zeros_part}
 use Rattle.pool_memory.proofs.Statics.{some_page, static_inside, capacity_inside}
 
 -- what holds of the bytes before holds of them after
-bytes_carried : (P : List ℕ → Type 0) (old new : Option Contents) → option_map (λ c. c.bytes) new ≡ option_map (λ c. c.bytes) old → IfSome old (λ c. P c.bytes) → IfSome new (λ c. P c.bytes)
+pub bytes_carried : (P : List ℕ → Type 0) (old new : Option Contents) → option_map (λ c. c.bytes) new ≡ option_map (λ c. c.bytes) old → IfSome old (λ c. P c.bytes) → IfSome new (λ c. P c.bytes)
 bytes_carried P None None same h = h
 bytes_carried P None (Some d) same h = absurd cc
 bytes_carried P (Some c) None same h = absurd cc
@@ -85,8 +85,10 @@ pub raised_grows : (m : Static) (n : ℕ) (t : Slot) → IsSlot m.slot → IsSta
 raised_grows m n t fits is kept more within raised planned =
     record {
       same_size = refl;
-      bytes = longer_bytes m.slot m.size n t.base.bytes m.slot.region.contents t.region.contents (ap (λ (i : SlotIdentity). i.base.bytes) kept.same) more (omega (arith, capacity_inside m fits is)) kept.bytes (has_zeros m fits is);
+      bytes = λ _. longer_bytes m.slot m.size n t.base.bytes m.slot.region.contents t.region.contents (ap (λ (i : SlotIdentity). i.base.bytes) kept.same) more (omega (arith, capacity_inside m fits is)) kept.bytes (has_zeros m fits is);
       moves = refl;
+      extra = refl;
+      moved = λ past. absurd (omega arith);
       in_place = λ _. ap (λ (x : Slot). linear_of (record m { slot = x; size = n })) raised;
       planned = λ _. planned;
     }

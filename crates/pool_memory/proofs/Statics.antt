@@ -3,13 +3,13 @@ use Rattle.std.proofs.Common.{◌≡◌, ℕ, ◌+◌, ◌-◌, ◌<◌, ◌≤�
 use Rattle.std.specs.Prelude.{IfSome, option_map}
 use Rattle.pool_pages.specs.Count.{rounded_up}
 use Rattle.pool_pages.specs.Contents.{Contents, written}
-use Rattle.pool_pages.proofs.Puts.{range-put_above}
+use Rattle.pool_pages.proofs.Puts.{range-put_above, range_range}
 use Rattle.pool_images.specs.Slots.{Slot, IsSlot, IsSound, IsReady, size_of, written_at}
 use Rattle.pool_images.proofs.Begun.{rounded_up_above}
 use Rattle.pool_images.proofs.Sizes.{rounded_up_more}
 use Rattle.pool_memory.specs.Linear.{IsLinear, linear_bytes, ready}
 use Rattle.pool_memory.specs.Static.{Static, IsStatic, CanHold, linear_of, static_capacity}
-use Rattle.pool_memory.proofs.Bytes.{range_of_range, zeros_part}
+use Rattle.pool_memory.proofs.Bytes.{zeros_part}
 
 pub some_page : (s : Slot) → IsSlot s → 0 < s.region.page
 some_page s fits = omega (arith, fits.sizes.page_size.at_least)
@@ -29,7 +29,7 @@ read_of m from len out (Some c) fits told =
     let place : m.slot.base.bytes + from + len ≡ m.slot.base.bytes + (from + len) = omega arith in
     told
     ∙ ap (λ (n : ℕ). slice_range c.bytes (m.slot.base.bytes + from) n) place
-    ∙ sym (range_of_range c.bytes m.slot.base.bytes m.size from (from + len) (omega arith) fits)
+    ∙ sym (range_range c.bytes m.slot.base.bytes (m.slot.base.bytes + m.size) from (from + len) (omega (arith, fits)))
 
 pub read_static : (m : Static) (from len : ℕ) (out : List ℕ) → from + len ≤ m.size → IfSome m.slot.region.contents (λ c. out ≡ slice_range c.bytes (m.slot.base.bytes + from) (m.slot.base.bytes + from + len)) → IfSome (linear_bytes (linear_of m)) (λ bytes. out ≡ slice_range bytes from (from + len))
 read_static m from len out fits told = read_of m from len out m.slot.region.contents fits told
@@ -37,7 +37,7 @@ read_static m from len out fits told = read_of m from len out m.slot.region.cont
 zeros_behind : (m : Static) (n : ℕ) (o : Option Contents) → IsSlot m.slot → m.size ≤ n → n ≤ m.slot.static_size → IfSome o (IsSound m.slot.region.page m.slot.region.len m.slot.base.bytes (size_of m.slot)) → IfSome o (λ c. slice_range c.bytes (m.slot.base.bytes + m.size) (m.slot.base.bytes + m.slot.static_size) ≡ replicate (m.slot.static_size - m.size) 0) → IfSome (option_map (λ c. slice_range c.bytes m.slot.base.bytes (m.slot.base.bytes + n)) o) (λ bytes. slice_range bytes m.size n ≡ replicate (n - m.size) 0)
 zeros_behind m n None fits from to sound zeros = zeros
 zeros_behind m n (Some c) fits from to sound zeros =
-    range_of_range c.bytes m.slot.base.bytes n m.size n from (omega arith)
+    range_range c.bytes m.slot.base.bytes (m.slot.base.bytes + n) m.size n (omega arith)
     ∙ zeros_part c.bytes m.slot.base.bytes m.size m.slot.static_size m.size n (omega (arith, static_inside m.slot fits, sound.shaped.bytes)) (omega arith) from to zeros
 
 -- it is a linear memory

@@ -1,8 +1,9 @@
 -- How a memory grows: what is asked in which order, what is answered, and what the memory and the limiter are left with.
-use Rattle.std.specs.Prelude.{◌≡◌, ℕ, ◌+◌, ◌-◌, ◌*◌, ◌^◌, ◌≤◌, ◌==◌, ◌&&◌, ◌||◌, ◌++◌, replicate, min, Bool, true, false, not, nat_lt, Option, IfSome, option_map, Result, Ok, Err}
+use Rattle.std.specs.Prelude.{◌≡◌, ℕ, ◌+◌, ◌-◌, ◌*◌, ◌^◌, ◌<◌, ◌≤◌, ◌==◌, ◌&&◌, ◌||◌, ◌++◌, replicate, min, Bool, true, false, not, nat_lt, Option, Some, None, IfSome, option_map, Result, Ok, Err}
 use Rattle.std.specs.Option.{option_map_or}
 use Rattle.std.specs.Result.{result_err}
 use Rattle.pool_pages.specs.Count.{rounded_up}
+use Rattle.pool_pages.specs.MakerTold.{MakerTold}
 use Rattle.pool_pages.specs.Told.{passes}
 use Rattle.pool_pages.specs.MemoryTypes.{page_size, allow_growth_to}
 use Rattle.pool_limits.specs.LimiterTold.{LimiterTold, limiter_told}
@@ -14,9 +15,11 @@ use Rattle.pool_limits.specs.declared.errors.GrowError.{GrowError}
 use Rattle.pool_limits.specs.declared.errors.GrowError.TheVariants as failed
 use Rattle.pool_limits.specs.declared.errors.GrowFault.{GrowFault}
 use Rattle.pool_images.specs.Slots.{CallFaulted, raising, limited}
+use Rattle.pool_memory.specs.Layouts.{layout_of, moved_layout}
 use Rattle.pool_memory.specs.Linear.{Storage, in_slot, stored, Linear, linear_bytes}
 use Rattle.pool_memory.specs.Making.{maximum_asked}
 use Rattle.pool_memory.specs.Memories.{MemoryState}
+use Rattle.pool_memory.specs.Moving.{MakerLeft}
 
 -- In its place a memory in a slot has more of the slot, and nothing else of it changes.
 abbrev pub InPlace : ℕ → Storage → Linear → Linear → Type 0
@@ -28,11 +31,23 @@ abbrev pub IsCallPlanned : Bool → ℕ → Storage → Type 0
 IsCallPlanned succeeds size (in_slot s) = IfSome s.region.plan (λ plan. succeeds ≡ passes plan (raising (rounded_up s.region.page size) s) s.region)
 IsCallPlanned succeeds size (stored len bytes) = Unit {0}
 
--- the memory has this size: its bytes are the old ones, with zeros behind them
+-- what it may have once it has moved: the size and what it takes beyond that in whole pages, or in whole units
+abbrev pub moved_room : ℕ → ℕ → Storage → ℕ
+moved_room size extra (in_slot s) = (moved_layout size extra (layout_of s)).capacity
+moved_room size extra (stored len bytes) = rounded_up 16 size
+
+-- It has moved, and has the bytes that it had, with zeros behind them, where both places tell them.
+pub record MovesTo (size : ℕ) (old new : Linear) : Type 0 where
+  pub bytes : IfSome (linear_bytes old) (λ b. IfSome (linear_bytes new) (λ c. c ≡ b ++ replicate (size - old.size) 0))
+  pub room : new.capacity ≡ moved_room size old.extra old.storage
+
+-- The memory has this size: its bytes are the old ones, with zeros behind them. Past what it could have it has moved.
 pub record GrowsTo (size : ℕ) (old new : Linear) : Type 0 where
   pub same_size : new.size ≡ size
-  pub bytes : option_map (λ b. b ++ replicate {A = ℕ} (size - old.size) 0) (linear_bytes old) ≡ linear_bytes new
+  pub bytes : size ≤ old.capacity → option_map (λ b. b ++ replicate {A = ℕ} (size - old.size) 0) (linear_bytes old) ≡ linear_bytes new
   pub moves : new.moves ≡ old.moves
+  pub extra : new.extra ≡ old.extra
+  pub moved : old.capacity < size → MovesTo size old new
   pub in_place : size ≤ old.capacity → InPlace size old.storage old new
   pub planned : size ≤ old.capacity → IsCallPlanned true size old.storage
 
@@ -48,15 +63,17 @@ IsGrowthFailure failed.Overflow = Unit {0}
 abbrev pub FailsInPlace : GrowError → ℕ → Storage → Storage → Type 0
 FailsInPlace e size (in_slot s) (in_slot t) = (e ≡ failed.PageFault) × CallFaulted (raising (rounded_up s.region.page size) s) s t
 FailsInPlace e size (in_slot s) (stored len bytes) = ⊥
-FailsInPlace e size (stored len bytes) new = Unit {0}
+FailsInPlace e size (stored len bytes) new = ⊥
 
--- the memory could not grow to this size: its own size and bytes are as before
+-- The memory could not grow to this size: its own size and bytes are as before. Where it was to move it is as it was.
 pub record IsUngrown (e : GrowError) (size : ℕ) (old new : Linear) : Type 0 where
   pub failure : IsGrowthFailure e
   pub same_size : new.size ≡ old.size
   pub capacity : new.capacity ≡ old.capacity
   pub moves : new.moves ≡ old.moves
+  pub extra : new.extra ≡ old.extra
   pub bytes : linear_bytes new ≡ linear_bytes old
+  pub stays : old.capacity < size → new ≡ old
   pub in_place : size ≤ old.capacity → FailsInPlace e size old.storage new.storage
   pub planned : size ≤ old.capacity → IsCallPlanned false size old.storage
 
@@ -104,15 +121,19 @@ abbrev pub first_of : Result (Option (ℕ × ℕ)) GrowFault → Result (Option 
 first_of (Ok o) = Ok (option_map (λ sizes. sizes.0) o)
 first_of (Err e) = Err e
 
+-- What a growth leaves of the maker that the memory may move by: it is called only where the pages are asked for.
+abbrev pub GrowthLeavesMaker : Obstacles → GrowthGiven → ℕ → Linear → Linear → Option MakerTold → Option MakerTold → Type 0
+GrowthLeavesMaker o g size old new maker left = GrowthMakes (left ≡ maker) (MakerLeft None size old new maker left) (λ e. MakerLeft (Some e) size old new maker left) o g
+
 -- the pages are asked for a size, unless it is past the room
-abbrev pub AskedPages : Bool → ℕ → Linear → Linear → Result (Unit {0}) GrowError → Type 0
-AskedPages true size old new result = (result ≡ Err failed.MaximumExceeded) × (new ≡ old)
-AskedPages false size old new result = PagesLeave (result_err result) size old new
+abbrev pub AskedPages : Bool → ℕ → Linear → Linear → Option MakerTold → Option MakerTold → Result (Unit {0}) GrowError → Type 0
+AskedPages true size old new maker left result = (result ≡ Err failed.MaximumExceeded) × ((new ≡ old) × (left ≡ maker))
+AskedPages false size old new maker left result = PagesLeave (result_err result) size old new × MakerLeft (result_err result) size old new maker left
 
 -- what is left to say of a growth that the limiter allowed
-abbrev pub IsAllowedGrowth : {R X : Type 0} → (R → LimiterTold) → (R → Exchange → R → Type 0) → Bool → ℕ → X → Linear → Linear → R → R → Result (Option X) GrowFault → Type 0
-IsAllowedGrowth told leads past size granted old new before after result =
-    IsAllowed told leads Memory past granted (new ≡ old) (GrowsTo size old new) (λ e. IsUngrown e size old new) before after result
+abbrev pub IsAllowedGrowth : {R X : Type 0} → (R → LimiterTold) → (R → Exchange → R → Type 0) → Bool → ℕ → X → Linear → Linear → Option MakerTold → Option MakerTold → R → R → Result (Option X) GrowFault → Type 0
+IsAllowedGrowth told leads past size granted old new maker left before after result =
+    IsAllowed told leads Memory past granted ((new ≡ old) × (left ≡ maker)) (GrowsTo size old new × MakerLeft None size old new maker left) (λ e. IsUngrown e size old new × MakerLeft (Some e) size old new maker left) before after result
 
 -- A growth by so many pages of a memory, over a limiter that told this and tells that at the end, and its result:
 -- `granted` where it is granted.
@@ -125,3 +146,9 @@ pub record IsGrowth {X : Type 0} (given : GrowthGiven) (pages : ℕ) (granted : 
 abbrev pub GrowsAsking : {R X : Type 0} → (R → LimiterTold) → (R → Exchange → R → Type 0) → ℕ → X → MemoryState → MemoryState → Option R → Option R → Result (Option X) GrowFault → Type 0
 GrowsAsking told leads pages granted old new before after result =
     (given : GrowthGiven) × (IsGrowth given pages granted old new (limiter_told told before) (limiter_told told after) result × IfExchanged leads (growth_exchanges (growth_question pages old) (obstacles pages old) given) before after)
+
+-- The same, with what it leaves of the maker.
+abbrev pub GrowsMoving : {R X : Type 0} → (R → LimiterTold) → (R → Exchange → R → Type 0) → ℕ → X → MemoryState → MemoryState → Option MakerTold → Option MakerTold → Option R → Option R → Result (Option X) GrowFault → Type 0
+GrowsMoving told leads pages granted old new maker left before after result =
+    (given : GrowthGiven) × (IsGrowth given pages granted old new (limiter_told told before) (limiter_told told after) result
+    × (IfExchanged leads (growth_exchanges (growth_question pages old) (obstacles pages old) given) before after × GrowthLeavesMaker (obstacles pages old) given (grown_size pages old) old.linear new.linear maker left))

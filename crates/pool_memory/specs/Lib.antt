@@ -1,7 +1,15 @@
 pub mod Atomics
+pub mod Copying
+pub mod Creators
 pub mod Growing
+pub mod Layouts
 pub mod Linear
+pub mod LinearStates
 pub mod Making
+pub mod Malloc
+pub mod Mapped
 pub mod Memories
 pub mod MemoryStates
+pub mod Moving
+pub mod Starting
 pub mod Static

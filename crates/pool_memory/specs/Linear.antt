@@ -13,11 +13,13 @@ pub data Storage : Type 0 where
   in_slot : Slot → Storage
   stored : ℕ → Option (List ℕ) → Storage
 
--- how many bytes the memory has, how many it may have without moving, whether it can move to have more, and where they lie
+-- How many bytes the memory has, how many it may have without moving, whether it can move to have more, how many it takes
+-- beyond what it needs then, and where they lie.
 pub record Linear : Type 0 where
   pub size : ℕ
   pub capacity : ℕ
   pub moves : Bool
+  pub extra : ℕ
   pub storage : Storage
 
 -- a slot of no pages, for a memory that lies in none

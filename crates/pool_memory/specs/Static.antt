@@ -14,7 +14,7 @@ pub record Static : Type 0 where
   pub capacity : ℕ
 
 abbrev pub linear_of : Static → Linear
-linear_of m = record { size = m.size; capacity = m.capacity; moves = false; storage = in_slot m.slot }
+linear_of m = record { size = m.size; capacity = m.capacity; moves = false; extra = 0; storage = in_slot m.slot }
 
 -- A slot in use can hold a memory of so many bytes: they can be reached, and all behind them is zeros.
 pub record CanHold (size : ℕ) (s : Slot) : Type 0 where

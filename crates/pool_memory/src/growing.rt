@@ -2,7 +2,7 @@ ghost use Rattle.std.specs.Prelude.{◌≡◌, ◌+◌, ◌^◌, ◌≤◌, Some
 ghost use Rattle.std.specs.Option.{option_copied_mut};
 ghost use Rattle.pool_pages.specs.MemoryTypes.{page_size};
 ghost use Rattle.pool_limits.specs.LimiterTold.{option_left};
-ghost use Rattle.pool_memory.specs.Growing.{GrowsAsking, IsAllowedGrowth, grown_size, past_room, first_of};
+ghost use Rattle.pool_memory.specs.Growing.{GrowsAsking, GrowsMoving, IsAllowedGrowth, grown_size, past_room, first_of};
 
 use crate::linear_memory::RuntimeLinearMemory;
 use crate::local_memory::LocalMemory;
@@ -10,14 +10,15 @@ use pool_limits::{GrowError, GrowFault, Growable, ResourceLimiter, Unlimited, re
 
 impl<M, L: RuntimeLinearMemory<M>> LocalMemory<M, L> {
     /// Grows the memory by so many of its own pages. Answers the old size and the new one, or None, where the memory
-    /// is as it was.
+    /// is as it was. The maker is called only where the memory moves.
     pub fn grow<R: ResourceLimiter>(
         &mut self,
         maker: &mut M,
         delta_pages: u64,
         limiter: Option<&mut R>,
     ) -> Result<Option<(usize, usize)>, GrowFault>
-        ensures { GrowsAsking R.told R.leads delta_pages (self.old.linear.size, grown_size delta_pages self.old) self.old self.new (option_copied_mut limiter.entry) (option_left limiter.exit) result }
+        ensures growth { GrowsAsking R.told R.leads delta_pages (self.old.linear.size, grown_size delta_pages self.old) self.old self.new (option_copied_mut limiter.entry) (option_left limiter.exit) result }
+        ensures maker { GrowsMoving R.told R.leads delta_pages (self.old.linear.size, grown_size delta_pages self.old) self.old self.new (L.maker_told maker.old) (L.maker_told maker.new) (option_copied_mut limiter.entry) (option_left limiter.exit) result }
     {
         match limiter {
             Some(limiter) => self.grow_asking(maker, delta_pages, limiter),
@@ -32,7 +33,7 @@ impl<M, L: RuntimeLinearMemory<M>> LocalMemory<M, L> {
         delta_pages: u64,
         limiter: &mut R,
     ) -> Result<Option<(usize, usize)>, GrowFault>
-        ensures { GrowsAsking R.told R.leads delta_pages (self.old.linear.size, grown_size delta_pages self.old) self.old self.new (Some limiter.old) (Some limiter.new) result }
+        ensures { GrowsMoving R.told R.leads delta_pages (self.old.linear.size, grown_size delta_pages self.old) self.old self.new (L.maker_told maker.old) (L.maker_told maker.new) (Some limiter.old) (Some limiter.new) result }
     {
         let old = self.byte_size();
         let size = self.grown_size(delta_pages);
@@ -56,7 +57,7 @@ impl<M, L: RuntimeLinearMemory<M>> LocalMemory<M, L> {
         delta_pages: u64,
         limiter: &mut R,
     ) -> Result<Option<usize>, GrowFault>
-        ensures { GrowsAsking R.told R.leads delta_pages self.old.linear.size self.old self.new (Some limiter.old) (Some limiter.new) result }
+        ensures { GrowsMoving R.told R.leads delta_pages self.old.linear.size self.old self.new (L.maker_told maker.old) (L.maker_told maker.new) (Some limiter.old) (Some limiter.new) result }
     {
         old_size(self.grow_asking(maker, delta_pages, limiter))
     }
@@ -70,7 +71,7 @@ impl<M, L: RuntimeLinearMemory<M>> LocalMemory<M, L> {
     ) -> Result<Option<(usize, usize)>, GrowFault>
         requires more { self.old.linear.size ≤ size }
         requires room { size + page_size self.old.ty ≤ 2 ^ 64 }
-        ensures growth { IsAllowedGrowth R.told R.leads (past_room size self.old) size (self.old.linear.size, size) self.old.linear self.new.linear limiter.old limiter.new result }
+        ensures growth { IsAllowedGrowth R.told R.leads (past_room size self.old) size (self.old.linear.size, size) self.old.linear self.new.linear (L.maker_told maker.old) (L.maker_told maker.new) limiter.old limiter.new result }
         ensures same { self.new ≡ record self.old { linear = self.new.linear } }
     {
         let old = self.byte_size();

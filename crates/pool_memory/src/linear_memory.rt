@@ -1,12 +1,26 @@
-ghost use Rattle.std.specs.Prelude.{◌≡◌, ◌+◌, ◌≤◌, length, replicate, slice_range, false, IfSome, IfErr, OnOk};
+ghost use Rattle.std.specs.Prelude.{◌≡◌, ◌+◌, ◌<◌, ◌≤◌, length, replicate, slice_range, Bool, true, false, Option, Ok, IfSome, IfOk, IfErr, OnOk, OnErr};
+ghost use Rattle.std.specs.Arc.{arc_value};
+ghost use Rattle.std.specs.Result.{result_err};
+ghost use Rattle.pool_pages.specs.MakerTold.{MakerTold};
 ghost use Rattle.pool_memory.specs.Linear.{Linear, IsLinear, is_mapped, linear_bytes, linear_written, ready, grown_into_ready};
 ghost use Rattle.pool_memory.specs.Growing.{GrowsTo, IsUngrown};
+ghost use Rattle.pool_memory.specs.Moving.{MakerLeft};
+ghost use Rattle.pool_memory.specs.Starting.{takes_image, ImageFits, HasStarted, HasNotStarted};
 
+use pool_images::MemoryImage;
 use pool_limits::GrowError;
+use pool_pages::{MemoryTunables, MemoryType, PageFault};
+use std::sync::Arc;
 
 /// The bytes of a linear memory, and the room that they have. `M` makes the regions of one that moves.
 pub trait RuntimeLinearMemory<M>: Drop {
     ghost linear: { Self → Linear };
+
+    // whether it is as it was made, but for its size
+    ghost untouched: { Self → Bool };
+
+    // what it sees of the maker, or nothing where it never calls that
+    ghost maker_told: { M → Option MakerTold };
 
     fn byte_size(&self) -> usize
         ensures value { result ≡ (linear self.now).size }
@@ -40,16 +54,34 @@ pub trait RuntimeLinearMemory<M>: Drop {
         ensures { linear self.new ≡ linear_written at (replicate len byte) (linear self.old) };
 
     /// Makes the memory `size` bytes large, which is no less than it is. What is new is zeros. Beyond its capacity it
-    /// moves to a region of `maker`. Answers `PageFault`, `Overflow` or `Memory` alone.
+    /// moves, to a region of `maker` where it lies in one, and keeps its place until it has moved. Answers `PageFault`,
+    /// `Overflow` or `Memory` alone.
     fn grow_to(&mut self, maker: &mut M, size: usize) -> Result<(), GrowError>
         requires more { (linear self.old).size ≤ size }
         requires room { (linear self.old).moves ≡ false → size ≤ (linear self.old).capacity }
         ensures ok { OnOk result (GrowsTo size (linear self.old) (linear self.new)) }
-        ensures err { IfErr result (λ e. IsUngrown e size (linear self.old) (linear self.new)) };
+        ensures err { IfErr result (λ e. IsUngrown e size (linear self.old) (linear self.new)) }
+        ensures maker { MakerLeft (result_err result) size (linear self.old) (linear self.new) (maker_told maker.old) (maker_told maker.new) };
 
     /// Makes the memory `len` bytes large, which is no less than it is and can be reached already. What is new is zeros.
     fn set_byte_size(&mut self, len: usize)
         requires more { (linear self.old).size ≤ len }
         requires ready { len ≤ ready (linear self.old) }
         ensures { linear self.new ≡ grown_into_ready len (linear self.old) };
+
+    /// Maps an image into a memory that was just made. Answers whether the memory takes it, which it does not where it
+    /// lies in no region of its own, or isn't a whole number of that region's pages. After a `PageFault` it has no bytes.
+    fn start_image(
+        &mut self,
+        ty: &MemoryType,
+        tunables: &MemoryTunables,
+        image: &Arc<MemoryImage>,
+    ) -> Result<bool, PageFault>
+        requires as_made { untouched self.old ≡ true }
+        requires page { ty.now.page_size_log2 < 64 }
+        requires fits { ImageFits (arc_value image.now) (linear self.old) }
+        ensures takes { IfOk result (λ taken. taken ≡ takes_image (linear self.old)) }
+        ensures started { result ≡ Ok true → HasStarted (arc_value image.now) (linear self.old) (linear self.new) }
+        ensures same { result ≡ Ok false → linear self.new ≡ linear self.old }
+        ensures fault { OnErr result (HasNotStarted (linear self.old) (linear self.new)) };
 }

@@ -1,18 +1,21 @@
-ghost use Rattle.std.specs.Prelude.{◌≡◌, ◌↔◌, ◌+◌, ◌^◌, ◌<◌, ◌≤◌, ◌&&◌, length, replicate, slice_range, not, false, IsTrue, IfSome, OnOk, OnErr};
+ghost use Rattle.std.specs.Prelude.{◌≡◌, ◌↔◌, ◌+◌, ◌^◌, ◌<◌, ◌≤◌, ◌&&◌, length, replicate, slice_range, true, not, false, IsTrue, Option, Some, option_map, IfOk, IfErr, IfSome, OnOk, OnErr};
+ghost use Rattle.std.specs.Arc.{arc_value};
 ghost use Rattle.pool_pages.specs.MemoryTypes.{page_size, memory_may_move};
 ghost use Rattle.pool_memory.specs.Linear.{IsLinear, in_slot, is_mapped};
 ghost use Rattle.pool_memory.specs.Growing.{AskedPages, grown_size, past_room, exceeds};
 ghost use Rattle.pool_memory.specs.Making.{maximum_asked};
+ghost use Rattle.pool_memory.specs.Starting.{takes_image, ImageFits, HasNotStarted, BeginsWith};
 ghost use Rattle.pool_memory.specs.Static.{CanHold};
 ghost use Rattle.pool_memory.specs.Memories.{slot_of, bytes_of, memory_written, access_answer};
 
 use crate::linear_memory::RuntimeLinearMemory;
 use crate::making::maximum_asked;
 use crate::static_memory::StaticMemory;
-use pool_images::MemoryImageSlot;
+use pool_images::{MemoryImage, MemoryImageSlot};
 use pool_limits::{GrowError, Trap};
-use pool_pages::{MemoryTunables, MemoryType, PageCalls, Pages};
+use pool_pages::{MemoryTunables, MemoryType, PageCalls, PageFault, Pages};
 use std::marker::{Model, PhantomData};
+use std::sync::Arc;
 
 /// A linear memory with its type, that one instance has to itself.
 #[derive(Drop)]
@@ -34,8 +37,48 @@ impl<M, L: RuntimeLinearMemory<M>> Model for LocalMemory<M, L> {
 }
 
 impl<M, L: RuntimeLinearMemory<M>> LocalMemory<M, L> {
-    /// The memory, with a type that its size leaves room for one page of.
-    pub fn new(ty: &MemoryType, tunables: &MemoryTunables, memory: L) -> Self
+    /// The memory, with a type that its size leaves room for one page of. An image is mapped into it where it takes one,
+    /// and is dropped otherwise. The memory is handed back where that fails.
+    pub fn new(
+        ty: &MemoryType,
+        tunables: &MemoryTunables,
+        memory: L,
+        image: Option<&Arc<MemoryImage>>,
+    ) -> Result<Self, (L, PageFault)>
+        requires page { ty.now.page_size_log2 < 64 }
+        requires room { (L.linear memory).size + page_size ty.now ≤ 2 ^ 64 }
+        requires image { IfSome image (λ i. (L.untouched memory ≡ true) × ImageFits (arc_value i.now) (L.linear memory)) }
+        ensures parts { IfOk result (λ m. (m.ty ≡ ty.now) × (m.may_move ≡ (memory_may_move ty.now tunables.now && (L.linear memory).moves))) }
+        ensures begins { IfOk result (λ m. BeginsWith (takes_image (L.linear memory)) (option_map (λ i. arc_value i.now) image.entry) (L.linear memory) m.linear) }
+        ensures fault { IfErr result (λ e. HasNotStarted (L.linear memory) (L.linear e.0)) }
+    {
+        match image {
+            None => Ok(LocalMemory::with_memory(ty, tunables, memory)),
+            Some(image) => LocalMemory::with_image(ty, tunables, memory, image),
+        }
+    }
+
+    fn with_image(
+        ty: &MemoryType,
+        tunables: &MemoryTunables,
+        mut memory: L,
+        image: &Arc<MemoryImage>,
+    ) -> Result<Self, (L, PageFault)>
+        requires page { ty.now.page_size_log2 < 64 }
+        requires room { (L.linear memory).size + page_size ty.now ≤ 2 ^ 64 }
+        requires untouched { L.untouched memory ≡ true }
+        requires fits { ImageFits (arc_value image.now) (L.linear memory) }
+        ensures parts { IfOk result (λ m. (m.ty ≡ ty.now) × (m.may_move ≡ (memory_may_move ty.now tunables.now && (L.linear memory).moves))) }
+        ensures begins { IfOk result (λ m. BeginsWith (takes_image (L.linear memory)) (Some (arc_value image.now)) (L.linear memory) m.linear) }
+        ensures fault { IfErr result (λ e. HasNotStarted (L.linear memory) (L.linear e.0)) }
+    {
+        match memory.start_image(ty, tunables, image) {
+            Ok(_takes) => Ok(LocalMemory::with_memory(ty, tunables, memory)),
+            Err(fault) => Err((memory, fault)),
+        }
+    }
+
+    pub(crate) fn with_memory(ty: &MemoryType, tunables: &MemoryTunables, memory: L) -> Self
         requires page { ty.now.page_size_log2 < 64 }
         requires room { (L.linear memory).size + page_size ty.now ≤ 2 ^ 64 }
         ensures { result ≡ record { ty = ty.now; may_move = memory_may_move ty.now tunables.now && (L.linear memory).moves; linear = L.linear memory } }
@@ -133,7 +176,7 @@ impl<M, L: RuntimeLinearMemory<M>> LocalMemory<M, L> {
     pub(crate) fn grow_pages(&mut self, maker: &mut M, size: usize) -> Result<(), GrowError>
         requires more { self.old.linear.size ≤ size }
         requires room { size + page_size self.old.ty ≤ 2 ^ 64 }
-        ensures asked { AskedPages (past_room size self.old) size self.old.linear self.new.linear result }
+        ensures asked { AskedPages (past_room size self.old) size self.old.linear self.new.linear (L.maker_told maker.old) (L.maker_told maker.new) result }
         ensures same { self.new ≡ record self.old { linear = self.new.linear } }
     {
         if self.has_room(size) {

@@ -131,7 +131,7 @@ fn make_within<P: Pages>(
     };
     let _accessible = slot.accessible();
     match StaticMemory::new(base_capacity, minimum, maximum, slot) {
-        Ok(memory) => Ok(Memory::Local(LocalMemory::new(ty, tunables, memory))),
+        Ok(memory) => Ok(Memory::Local(LocalMemory::with_memory(ty, tunables, memory))),
         Err((slot, refusal)) => Err((slot, MemoryError::Unsupported(refusal))),
     }
 }

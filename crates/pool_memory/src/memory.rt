@@ -11,7 +11,7 @@ ghost use Rattle.pool_memory.specs.Linear.{IsLinear, in_slot, is_mapped};
 ghost use Rattle.pool_memory.specs.Static.{CanHold};
 ghost use Rattle.pool_memory.specs.Memories.{slot_of, bytes_of, memory_written, access_answer};
 ghost use Rattle.pool_memory.specs.Making.{EndsWithin, minimum_asked, maximum_asked, minimum_question, static_limiter_answer, static_answer};
-ghost use Rattle.pool_memory.specs.Growing.{GrowsAsking};
+ghost use Rattle.pool_memory.specs.Growing.{GrowsAsking, GrowsMoving};
 ghost use Rattle.pool_memory.specs.MemoryStates.{state_of};
 
 use crate::linear_memory::RuntimeLinearMemory;
@@ -103,14 +103,16 @@ impl<M, L: RuntimeLinearMemory<M>> Memory<M, L> {
     /// Grows the memory by so many of its own pages. Answers the old size in bytes, or None, where the memory's size and
     /// bytes are as before. By 0 pages nobody is asked. A size that the type forbids is only reported to the limiter;
     /// then the limiter is asked; then a size past the maximum, or past the capacity of a memory that isn't moved, and a
-    /// failure of the pages is reported to it. Its error is `LimiterFault`.
+    /// failure of the pages is reported to it. Its error is `LimiterFault`. The maker is called only where the memory
+    /// moves, and then for one region.
     pub fn grow<R: ResourceLimiter>(
         &mut self,
         maker: &mut M,
         delta_pages: u64,
         limiter: Option<&mut R>,
     ) -> Result<Option<usize>, GrowFault>
-        ensures { GrowsAsking R.told R.leads delta_pages (state_of self.old).linear.size (state_of self.old) (state_of self.new) (option_copied_mut limiter.entry) (option_left limiter.exit) result }
+        ensures growth { GrowsAsking R.told R.leads delta_pages (state_of self.old).linear.size (state_of self.old) (state_of self.new) (option_copied_mut limiter.entry) (option_left limiter.exit) result }
+        ensures maker { GrowsMoving R.told R.leads delta_pages (state_of self.old).linear.size (state_of self.old) (state_of self.new) (L.maker_told maker.old) (L.maker_told maker.new) (option_copied_mut limiter.entry) (option_left limiter.exit) result }
     {
         match limiter {
             Some(limiter) => self.grow_asking(maker, delta_pages, limiter),
@@ -125,7 +127,7 @@ impl<M, L: RuntimeLinearMemory<M>> Memory<M, L> {
         delta_pages: u64,
         limiter: &mut R,
     ) -> Result<Option<usize>, GrowFault>
-        ensures { GrowsAsking R.told R.leads delta_pages (state_of self.old).linear.size (state_of self.old) (state_of self.new) (Some limiter.old) (Some limiter.new) result }
+        ensures { GrowsMoving R.told R.leads delta_pages (state_of self.old).linear.size (state_of self.old) (state_of self.new) (L.maker_told maker.old) (L.maker_told maker.new) (Some limiter.old) (Some limiter.new) result }
     {
         let Memory::Local(memory) = self;
         memory.grow_from(maker, delta_pages, limiter)

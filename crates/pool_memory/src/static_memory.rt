@@ -5,10 +5,11 @@ ghost use Rattle.pool_memory.specs.Growing.{GrowsTo, IsUngrown};
 ghost use Rattle.pool_memory.specs.Static.{CanHold, linear_of, static_capacity, made_static};
 
 use crate::linear_memory::RuntimeLinearMemory;
-use pool_images::MemoryImageSlot;
+use pool_images::{MemoryImage, MemoryImageSlot};
 use pool_limits::GrowError;
-use pool_pages::{PageCalls, PageFault, Pages, Unsupported};
+use pool_pages::{MemoryTunables, MemoryType, PageCalls, PageFault, Pages, Unsupported};
 use std::marker::Model;
+use std::sync::Arc;
 
 /// A linear memory that stays in the slot that it began in.
 #[derive(Drop)]
@@ -110,9 +111,14 @@ fn capacity_of(base_capacity: usize, maximum: Option<usize>) -> usize
 }
 
 impl<M, P: Pages> RuntimeLinearMemory<M> for StaticMemory<P> {
+    ghost use Rattle.std.specs.Prelude.{true, None};
     ghost use Rattle.pool_memory.specs.Static.{linear_of};
 
     ghost linear = { linear_of };
+
+    ghost untouched = { λ _. true };
+
+    ghost maker_told = { λ _. None };
 
     fn byte_size(&self) -> usize {
         self.fits();
@@ -152,5 +158,14 @@ impl<M, P: Pages> RuntimeLinearMemory<M> for StaticMemory<P> {
     fn set_byte_size(&mut self, len: usize) {
         self.fits();
         self.size = len;
+    }
+
+    fn start_image(
+        &mut self,
+        _ty: &MemoryType,
+        _tunables: &MemoryTunables,
+        _image: &Arc<MemoryImage>,
+    ) -> Result<bool, PageFault> {
+        Ok(false)
     }
 }

@@ -20,8 +20,8 @@ new-requires-clause-maximum g c =
     let B : Option ℕ → Type 0 = λ o. IfSome o (λ most. c.in-Ok.limits.0 ≤ most) in
     subst B (sym granted.maximum) (subst A (sym granted.minimum) (least_most ty c.requires.limits))
 
-pub new-requires-in-Ok-new-clause-room : goal.new-requires-in-Ok-new-clause-room
-new-requires-in-Ok-new-clause-room g c =
+pub with_memory-requires-clause-room : goal.with_memory-requires-clause-room
+with_memory-requires-clause-room g c =
     let ty = c.args.ty.now in
     let G : Result (ℕ × Option ℕ) MemoryError → Type 0 = λ r. IfOk r (Granted ty) in
     let granted : Granted ty c.in-Ok.limits = subst G c.in-Ok.is c.requires.granted in
@@ -32,6 +32,6 @@ returns-in-Ok-new-clause-begun g c image begun ends =
     let ty = c.args.ty.now in
     let G : Result (ℕ × Option ℕ) MemoryError → Type 0 = λ r. IfOk r (Granted ty) in
     let granted : Granted ty c.in-Ok.limits = subst G c.in-Ok.is c.requires.granted in
-    let linear : c.new-in-Ok-new.result.linear ≡ linear_of c.in-Ok-new.memory = ap (λ (m : MemoryState). m.linear) c.new-in-Ok-new.ensures in
+    let linear : c.with_memory.result.linear ≡ linear_of c.in-Ok-new.memory = ap (λ (m : MemoryState). m.linear) c.with_memory.ensures in
     let B : Linear → Type 0 = λ l. IfSome (linear_bytes l) (λ bytes. bytes ≡ start image (minimum_byte_size ty)) in
     subst B (sym linear) (made_reads ty c.args.base_capacity c.in-Ok.limits c.args.slot c.in-Ok-new.memory c.accessible-accessible.ensures.fits granted c.requires.slot (sym c.new.ensures ∙ c.in-Ok-new.is) image begun ends)

@@ -8,7 +8,7 @@ use Rattle.pool_limits.specs.declared.growing.Growable.TheVariants.{Memory}
 use Rattle.pool_limits.specs.declared.errors.LimiterError.{LimiterError}
 use Rattle.pool_memory.specs.Memories.{MemoryState}
 use Rattle.pool_memory.specs.Making.{maximum_asked}
-use Rattle.pool_memory.specs.Growing.{GrowsAsking, IsAllowedGrowth, growth_question, grown_size, past_room}
+use Rattle.pool_memory.specs.Growing.{GrowsMoving, IsAllowedGrowth, growth_question, grown_size, past_room}
 use Rattle.pool_memory.proofs.Growths.{grown_nothing, grown_past_type, grown_error, grown_no, grown_allowed}
 use Rattle.pool_memory.proofs.local_memory.LocalMemory.grow_asking.Goals as goal
 
@@ -47,15 +47,15 @@ returns-then-delta_pages-eq0 g c =
     let l = c.args.limiter.now in
     let told = g.R.ResourceLimiter.told in
     let leads = g.R.ResourceLimiter.leads in
-    let P : ℕ → ℕ → Type 0 = λ m n. GrowsAsking told leads c.args.delta_pages (old.linear.size, grown_size c.args.delta_pages old) old old (Some l) (Some l) (Ok (Some (m, n))) in
-    let first : P old.linear.size (grown_size c.args.delta_pages old) = grown_nothing told leads c.args.delta_pages (old.linear.size, grown_size c.args.delta_pages old) old l c.if-delta_pages-eq0.true in
+    let P : ℕ → ℕ → Type 0 = λ m n. GrowsMoving told leads c.args.delta_pages (old.linear.size, grown_size c.args.delta_pages old) old old (g.L.RuntimeLinearMemory.maker_told c.args.maker.now) (g.L.RuntimeLinearMemory.maker_told c.args.maker.now) (Some l) (Some l) (Ok (Some (m, n))) in
+    let first : P old.linear.size (grown_size c.args.delta_pages old) = grown_nothing told leads c.args.delta_pages (old.linear.size, grown_size c.args.delta_pages old) old (g.L.RuntimeLinearMemory.maker_told c.args.maker.now) l c.if-delta_pages-eq0.true in
     let second : P old.linear.size c.grown_size-size.result = subst (λ (n : ℕ). P old.linear.size n) (sym c.grown_size-size.ensures.value) first in
     subst (λ (m : ℕ). P m c.grown_size-size.result) (sym c.byte_size-old.ensures.value) second
 
 pub returns-then-not-allow_growth_to : goal.returns-then-not-allow_growth_to
 returns-then-not-allow_growth_to g c =
     let old = c.args.self.now in
-    grown_past_type g.R.ResourceLimiter.told g.R.ResourceLimiter.leads c.args.delta_pages (old.linear.size, grown_size c.args.delta_pages old) old c.args.limiter.now c.report_failure.new.limiter c.report_failure.result
+    grown_past_type g.R.ResourceLimiter.told g.R.ResourceLimiter.leads c.args.delta_pages (old.linear.size, grown_size c.args.delta_pages old) old (g.L.RuntimeLinearMemory.maker_told c.args.maker.now) c.args.limiter.now c.report_failure.new.limiter c.report_failure.result
     c.if-delta_pages-eq0.false
     (allowed_at c.ty.result.now old.ty c.grown_size-size.result (grown_size c.args.delta_pages old) false c.allow_growth_to.result c.ty.ensures c.grown_size-size.ensures.value c.allow_growth_to.ensures c.if-not-allow_growth_to.true)
     c.report_failure.ensures.answer c.report_failure.ensures.result c.report_failure.ensures.limiter c.report_failure.ensures.exchange
@@ -67,7 +67,7 @@ returns-in-Err g c =
     let leads = g.R.ResourceLimiter.leads in
     let l = c.args.limiter.now in
     let m = c.memory_growing.new.self in
-    grown_error told leads c.args.delta_pages (old.linear.size, grown_size c.args.delta_pages old) old l m c.in-Err.error
+    grown_error told leads c.args.delta_pages (old.linear.size, grown_size c.args.delta_pages old) old (g.L.RuntimeLinearMemory.maker_told c.args.maker.now) l m c.in-Err.error
     c.if-delta_pages-eq0.false
     (allowed_at c.ty.result.now old.ty c.grown_size-size.result (grown_size c.args.delta_pages old) true c.allow_growth_to.result c.ty.ensures c.grown_size-size.ensures.value c.allow_growth_to.ensures c.if-not-allow_growth_to.false)
     (answer_at (told l) old c.grown_size-size.result (grown_size c.args.delta_pages old) c.maximum.result c.memory_growing.result (Err c.in-Err.error) c.grown_size-size.ensures.value c.maximum.ensures c.in-Err.is c.memory_growing.ensures.answer)
@@ -82,7 +82,7 @@ returns-in-Ok-false g c =
     let l = c.args.limiter.now in
     let m = c.memory_growing.new.self in
     let no : c.memory_growing.result ≡ Ok false = c.in-Ok-false.is ∙ ap ok_of c.in-Ok-false.field-0-test in
-    grown_no told leads c.args.delta_pages (old.linear.size, grown_size c.args.delta_pages old) old l m
+    grown_no told leads c.args.delta_pages (old.linear.size, grown_size c.args.delta_pages old) old (g.L.RuntimeLinearMemory.maker_told c.args.maker.now) l m
     c.if-delta_pages-eq0.false
     (allowed_at c.ty.result.now old.ty c.grown_size-size.result (grown_size c.args.delta_pages old) true c.allow_growth_to.result c.ty.ensures c.grown_size-size.ensures.value c.allow_growth_to.ensures c.if-not-allow_growth_to.false)
     (answer_at (told l) old c.grown_size-size.result (grown_size c.args.delta_pages old) c.maximum.result c.memory_growing.result (Ok false) c.grown_size-size.ensures.value c.maximum.ensures no c.memory_growing.ensures.answer)
@@ -98,8 +98,8 @@ returns-in-Ok-true g c =
     let m = c.memory_growing.new.self in
     let n = c.grow_allowed.new.limiter in
     let yes_it_may : c.memory_growing.result ≡ Ok true = c.in-Ok-true.is ∙ ap ok_of c.in-Ok-true.field-0-test in
-    let P : ℕ → Type 0 = λ s. IsAllowedGrowth told leads (past_room s old) s (old.linear.size, s) old.linear c.grow_allowed.new.self.linear m n c.grow_allowed.result in
-    grown_allowed told leads c.args.delta_pages (old.linear.size, grown_size c.args.delta_pages old) old c.grow_allowed.new.self l m n c.grow_allowed.result
+    let P : ℕ → Type 0 = λ s. IsAllowedGrowth told leads (past_room s old) s (old.linear.size, s) old.linear c.grow_allowed.new.self.linear (g.L.RuntimeLinearMemory.maker_told c.args.maker.now) (g.L.RuntimeLinearMemory.maker_told c.grow_allowed.new.maker) m n c.grow_allowed.result in
+    grown_allowed told leads c.args.delta_pages (old.linear.size, grown_size c.args.delta_pages old) old (g.L.RuntimeLinearMemory.maker_told c.args.maker.now) c.grow_allowed.new.self (g.L.RuntimeLinearMemory.maker_told c.grow_allowed.new.maker) l m n c.grow_allowed.result
     c.if-delta_pages-eq0.false
     (allowed_at c.ty.result.now old.ty c.grown_size-size.result (grown_size c.args.delta_pages old) true c.allow_growth_to.result c.ty.ensures c.grown_size-size.ensures.value c.allow_growth_to.ensures c.if-not-allow_growth_to.false)
     (answer_at (told l) old c.grown_size-size.result (grown_size c.args.delta_pages old) c.maximum.result c.memory_growing.result (Ok true) c.grown_size-size.ensures.value c.maximum.ensures yes_it_may c.memory_growing.ensures.answer)

@@ -1,0 +1,208 @@
+-- A memory that moves to another region.
+use Rattle.std.proofs.Common.{◌≡◌, ℕ, ◌+◌, ◌-◌, ◌%◌, ◌^◌, ◌<◌, ◌≤◌, ◌++◌, Bool, true, false, List, length, refl, sym, ap, ◌∙◌, subst, arith, slice_range, replicate, nat_lt, Option, Some, None}
+use Rattle.std.specs.Prelude.{IfSome, option_map, if◌then◌else◌}
+use Rattle.std.proofs.lemmas.Bool.{lt-ltb}
+use Rattle.std.proofs.lemmas.Bool.Decides.{nat_tests}
+use Rattle.pool_pages.proofs.PageRuns.{range_join}
+use Rattle.pool_pages.proofs.Puts.{length-put, range-put, range-put_above}
+use Rattle.pool_images.proofs.Ready.{followed}
+use Rattle.pool_memory.proofs.Bytes.{zeros_part}
+use Rattle.pool_memory.proofs.Copies.{none_copied}
+use Rattle.pool_memory.proofs.Mapped.{used_ready}
+use Rattle.pool_memory.proofs.PageSizes.{rounded_same}
+use Rattle.pool_memory.proofs.Statics.{static_inside}
+use Rattle.pool_pages.specs.Count.{rounded_up}
+use Rattle.pool_pages.specs.Contents.{Contents, put}
+use Rattle.pool_pages.specs.MakerTold.{MakerTold}
+use Rattle.pool_pages.specs.declared.maker.MakeFault.TheVariants as making
+use Rattle.pool_images.specs.Slots.{Slot, SlotIdentity, IsSlot, IsSound, IsReady, IsClean, identity, size_of}
+use Rattle.pool_limits.specs.declared.errors.GrowError.{GrowError}
+use Rattle.pool_limits.specs.declared.errors.GrowError.TheVariants as failed
+use Rattle.pool_memory.specs.Copying.{OnlyWritten, IsCopied}
+use Rattle.pool_memory.specs.Growing.{GrowsTo, IsUngrown, IsGrowthFailure}
+use Rattle.pool_memory.specs.Layouts.{Layout, layout_len, layout_of, moved_layout}
+use Rattle.pool_memory.specs.Linear.{Linear, in_slot, linear_bytes}
+use Rattle.pool_memory.specs.Mapped.{Mapped, IsMapped, KeepsLayout, IsMadeSlot, HasMoved, used, held_in, mapped_linear, mapped_capacity}
+use Rattle.pool_memory.specs.Moving.{CallLeaves, PlaceLeaves, MakerLeft, MoveLeaves, IsMadeFor, IsRefusedFor, slot_for}
+use Rattle.pool_memory.specs.Static.{IsStatic}
+
+room_false : (a b : ℕ) → b ≤ a → nat_lt a b ≡ false
+room_false a b within = grind (arith, nat_tests)
+
+-- all bytes of the slot are there
+pub all_there : (s : Slot) → IsSlot s → IfSome s.region.contents (λ c. s.base.bytes + s.static_size ≤ length c.bytes)
+all_there s fits =
+    followed (IsSound s.region.page s.region.len s.base.bytes (size_of s)) (λ c. s.base.bytes + s.static_size ≤ length c.bytes) s.region.contents
+    (λ c sound. omega (arith, sound.shaped.bytes, static_inside s fits)) fits.told
+
+-- the layout that a memory keeps is that of its slot
+pub layout_kept : (l : Layout) (m : Mapped) → KeepsLayout l m → l ≡ layout_of m.slot
+layout_kept l m keeps =
+    let guard : l.guard ≡ m.slot.region.len - m.slot.static_size - m.slot.base.bytes = omega (arith, keeps.len, keeps.before, keeps.capacity) in
+    ap (λ (n : ℕ). record l { page = n }) keeps.page
+    ∙ ap (λ (n : ℕ). record l { page = m.slot.region.page; before = n }) keeps.before
+    ∙ ap (λ (n : ℕ). record l { page = m.slot.region.page; before = m.slot.base.bytes; capacity = n }) keeps.capacity
+    ∙ ap (λ (n : ℕ). record (layout_of m.slot) { guard = n }) guard
+
+-- it is called where the memory is past its capacity
+pub called_for : (failure : Option GrowError) (size : ℕ) (old new : Linear) (before after : MakerTold) → old.capacity < size → PlaceLeaves failure size old.extra old.storage new.storage before after → MakerLeft failure size old new (Some before) (Some after)
+called_for failure size old new before after past leaves =
+    subst (λ (b : Bool). CallLeaves b failure size old new before after) (sym (lt-ltb old.capacity size past)) leaves
+
+-- it isn't called where the memory has room
+pub not_called : (failure : Option GrowError) (size : ℕ) (old new : Linear) (told : MakerTold) → size ≤ old.capacity → MakerLeft failure size old new (Some told) (Some told)
+not_called failure size old new told within =
+    let no : nat_lt old.capacity size ≡ false = room_false old.capacity size within in
+    subst (λ (b : Bool). CallLeaves b failure size old new told told) (sym no) refl
+
+-- the memory moved, to a slot that was made for it
+pub moved_grows : (l : Layout) (m n : Mapped) (size : ℕ) (s : Slot) → KeepsLayout l m → mapped_capacity m < size → IsMadeSlot (moved_layout size m.extra l) size s → HasMoved size s m n → GrowsTo size (mapped_linear m) (mapped_linear n)
+moved_grows l m n size s keeps past made moved =
+    let static : n.slot.static_size ≡ s.static_size = ap (λ (x : Slot). x.static_size) moved.place.same in
+    let room : s.static_size ≡ (moved_layout size m.extra l).capacity = ap (λ (x : Layout). x.capacity) made.layout in
+    let same : (moved_layout size m.extra l).capacity ≡ (moved_layout size m.extra (layout_of m.slot)).capacity = ap (λ (x : Layout). (moved_layout size m.extra x).capacity) (layout_kept l m keeps) in
+    let Cap : Bool → ℕ = λ b. if b then n.slot.static_size else 0 in
+    record {
+      same_size = moved.sized;
+      bytes = λ within. absurd (omega (arith, past, within));
+      moves = refl;
+      extra = moved.extra;
+      moved = λ _. record { bytes = moved.bytes; room = ap Cap moved.known ∙ static ∙ room ∙ same };
+      in_place = λ within. absurd (omega (arith, past, within));
+      planned = λ within. absurd (omega (arith, past, within));
+    }
+
+-- it couldn't move, and stays as it was
+pub stayed : (e : GrowError) (size : ℕ) (m : Mapped) → mapped_capacity m < size → IsGrowthFailure e → IsUngrown e size (mapped_linear m) (mapped_linear m)
+stayed e size m past failure = record {
+  failure = failure;
+  same_size = refl;
+  capacity = refl;
+  moves = refl;
+  extra = refl;
+  bytes = refl;
+  stays = λ _. refl;
+  in_place = λ within. absurd (omega (arith, past, within));
+  planned = λ within. absurd (omega (arith, past, within));
+}
+
+-- what is behind the bytes that were copied
+part_behind : (base len size all : ℕ) (b : List ℕ) (new old : Option Contents) → length b ≡ len → len ≤ size → size ≤ all → IfSome old (λ c. base + all ≤ length c.bytes)
+    → option_map (λ c. c.bytes) new ≡ option_map (λ c. put (base + 0) b c.bytes) old → IfSome old (λ c. slice_range c.bytes base (base + all) ≡ replicate all 0) → IfSome new (λ c. slice_range c.bytes (base + size) (base + all) ≡ replicate (all - size) 0)
+part_behind base len size all b None None long within inside fits is zeros = tt
+part_behind base len size all b None (Some c) long within inside fits is zeros = absurd cc
+part_behind base len size all b (Some d) None long within inside fits is zeros = absurd cc
+part_behind base len size all b (Some d) (Some c) long within inside fits is zeros =
+    let e : d.bytes ≡ put (base + 0) b c.bytes = cc in
+    let from : base + 0 ≡ base = omega arith in
+    let less : all - 0 ≡ all = omega arith in
+    ap (λ (l : List ℕ). slice_range l (base + size) (base + all)) e
+    ∙ range-put_above (base + 0) b c.bytes (base + size) (base + all) (omega (arith, long)) (omega arith) (omega (arith, long))
+    ∙ zeros_part c.bytes base 0 all size all (omega arith) (omega arith) inside (omega arith) (ap (λ (n : ℕ). slice_range c.bytes n (base + all)) from ∙ zeros ∙ ap (λ (n : ℕ). replicate {A = ℕ} n 0) (sym less))
+
+-- the bytes that it has then
+part_read : (base other len size all : ℕ) (b : List ℕ) (new old from : Option Contents) → length b ≡ len → len ≤ size → size ≤ all → IfSome old (λ c. base + all ≤ length c.bytes)
+    → option_map (λ c. c.bytes) new ≡ option_map (λ c. put (base + 0) b c.bytes) old → IfSome old (λ c. slice_range c.bytes base (base + all) ≡ replicate all 0) → IfSome from (λ c. b ≡ slice_range c.bytes (other + 0) (other + 0 + len))
+    → IfSome (option_map (λ c. slice_range c.bytes other (other + len)) from) (λ x. IfSome (option_map (λ c. slice_range c.bytes base (base + size)) new) (λ y. y ≡ x ++ replicate (size - len) 0))
+part_read base other len size all b new old None long within inside fits is zeros told = tt
+part_read base other len size all b None old (Some f) long within inside fits is zeros told = tt
+part_read base other len size all b (Some d) None (Some f) long within inside fits is zeros told = absurd cc
+part_read base other len size all b (Some d) (Some c) (Some f) long within inside fits is zeros told =
+    let e : d.bytes ≡ put (base + 0) b c.bytes = cc in
+    let from : base + 0 ≡ base = omega arith in
+    let here : base + len ≡ base + 0 + length b = omega (arith, long) in
+    let there : other + 0 ≡ other = omega arith in
+    let less : all - 0 ≡ all = omega arith in
+    let p : List ℕ = put (base + 0) b c.bytes in
+    let longer : length p ≡ length c.bytes = length-put (base + 0) b c.bytes (omega (arith, long)) in
+    let first : slice_range p base (base + len) ≡ b = ap (λ (n : ℕ). slice_range p n (base + len)) (sym from) ∙ ap (λ (n : ℕ). slice_range p (base + 0) n) here ∙ range-put (base + 0) b c.bytes (omega (arith, long)) in
+    let second : slice_range p (base + len) (base + size) ≡ replicate (size - len) 0 =
+    range-put_above (base + 0) b c.bytes (base + len) (base + size) (omega (arith, long)) (omega arith) (omega (arith, long))
+    ∙ zeros_part c.bytes base 0 all len size (omega arith) (omega arith) within inside (ap (λ (n : ℕ). slice_range c.bytes n (base + all)) from ∙ zeros ∙ ap (λ (n : ℕ). replicate {A = ℕ} n 0) (sym less)) in
+    let read : b ≡ slice_range f.bytes other (other + len) = told ∙ ap (λ (n : ℕ). slice_range f.bytes n (n + len)) there in
+    ap (λ (l : List ℕ). slice_range l base (base + size)) e
+    ∙ sym (range_join p base (base + len) (base + size) (omega arith) (omega arith) (omega (arith, longer)))
+    ∙ ap (λ (l : List ℕ). l ++ slice_range p (base + len) (base + size)) (first ∙ read)
+    ∙ ap (λ (l : List ℕ). slice_range f.bytes other (other + len) ++ l) second
+
+-- the slot that a memory has moved to holds it
+pub moved_static : (l : Layout) (len size : ℕ) (from s t : Slot) → IsSlot s → IsMadeSlot l size s → len ≤ size → IsCopied 0 len from s t → IsStatic (record { slot = used t; size = size; capacity = t.static_size })
+moved_static l len size from s t fits made more copied =
+    let base : t.base.bytes ≡ s.base.bytes = ap (λ (x : Slot). x.base.bytes) copied.written.same in
+    let static : t.static_size ≡ s.static_size = ap (λ (x : Slot). x.static_size) copied.written.same in
+    let access : t.accessible.bytes ≡ s.accessible.bytes = ap (λ (x : Slot). x.accessible.bytes) copied.written.same in
+    let page : t.region.page ≡ s.region.page = ap (λ (x : Slot). x.region.page) copied.written.same in
+    let same : rounded_up t.region.page t.static_size ≡ t.static_size = ap (λ (p : ℕ). rounded_up p t.static_size) page ∙ ap (rounded_up s.region.page) static ∙ rounded_same s.region.page s.static_size (omega (arith, fits.sizes.page_size.at_least)) made.whole ∙ sym static in
+    let zeros : IfSome t.region.contents (λ c. slice_range c.bytes (s.base.bytes + size) (s.base.bytes + s.static_size) ≡ replicate (s.static_size - size) 0) =
+    part_behind s.base.bytes len size s.static_size copied.bytes t.region.contents s.region.contents copied.long more made.inside (all_there s fits) copied.put made.zeros in
+    let Z : ℕ → ℕ → Type 0 = λ b all. IfSome t.region.contents (λ c. slice_range c.bytes (b + size) (b + all) ≡ replicate (all - size) 0) in
+    record {
+      slot = record {
+        in_use = record { dirty = refl; ready = used_ready t copied.ready };
+        reached = omega (arith, access, made.reached);
+        inside = omega (arith, static, made.inside);
+        zeros = subst (λ (all : ℕ). Z t.base.bytes all) (sym static) (subst (λ (b : ℕ). Z b s.static_size) (sym base) zeros);
+      };
+      within = omega (arith, static, made.inside);
+      room = omega (arith, same);
+    }
+
+-- it is one of its kind
+pub moved_mapped : (l : Layout) (len size extra : ℕ) (from s t : Slot) → IsSlot s → IsMadeSlot l size s → len ≤ size → IsCopied 0 len from s t → IsMapped (record { slot = t; size = size; extra = extra; as_made = false; known = true })
+moved_mapped l len size extra from s t fits made more copied =
+    let base : t.base.bytes ≡ s.base.bytes = ap (λ (x : Slot). x.base.bytes) copied.written.same in
+    let static : t.static_size ≡ s.static_size = ap (λ (x : Slot). x.static_size) copied.written.same in
+    let page : t.region.page ≡ s.region.page = ap (λ (x : Slot). x.region.page) copied.written.same in
+    let long : t.region.len ≡ s.region.len = ap (λ (x : Slot). x.region.len) copied.written.same in
+    record {
+      holds = λ _. moved_static l len size from s t fits made more copied;
+      clean = λ yes. absurd (cc yes);
+      known_made = λ yes. absurd (cc yes);
+      restores = ap (λ (x : Slot). x.region.behaviour) copied.written.same ∙ made.restores;
+      whole = ap (λ (n : ℕ). n % t.region.page) static ∙ ap (λ (p : ℕ). s.static_size % p) page ∙ made.whole;
+      inside = omega (arith, base, static, long, static_inside s fits);
+      empty = λ no. absurd (cc no);
+    }
+
+-- and keeps the layout of the slot
+pub moved_keeps : (l : Layout) (len size extra : ℕ) (from s t : Slot) → IsSlot s → IsMadeSlot l size s → len ≤ size → IsCopied 0 len from s t → KeepsLayout l (record { slot = t; size = size; extra = extra; as_made = false; known = true })
+moved_keeps l len size extra from s t fits made more copied = let whole : layout_len l ≡ s.region.len = ap layout_len (sym made.layout) ∙ omega (arith, static_inside s fits) in record {
+  is = moved_mapped l len size extra from s t fits made more copied;
+  before = sym (ap (λ (x : Layout). x.before) made.layout) ∙ sym (ap (λ (x : Slot). x.base.bytes) copied.written.same);
+  capacity = sym (ap (λ (x : Layout). x.capacity) made.layout) ∙ sym (ap (λ (x : Slot). x.static_size) copied.written.same);
+  page = sym (ap (λ (x : Layout). x.page) made.layout) ∙ sym (ap (λ (x : Slot). x.region.page) copied.written.same);
+  len = whole ∙ sym (ap (λ (x : Slot). x.region.len) copied.written.same);
+}
+
+-- the memory has moved
+pub has_moved : (l : Layout) (m : Mapped) (size : ℕ) (s t : Slot) → IsSlot s → IsMadeSlot l size s → m.size ≤ size → IsCopied 0 m.size m.slot s t → HasMoved size s m (record { slot = t; size = size; extra = m.extra; as_made = false; known = true })
+has_moved l m size s t fits made more copied =
+    let base : t.base.bytes ≡ s.base.bytes = ap (λ (x : Slot). x.base.bytes) copied.written.same in
+    let B : ℕ → Type 0 = λ b. IfSome (linear_bytes (mapped_linear m)) (λ x. IfSome (option_map (λ c. slice_range c.bytes b (b + size)) t.region.contents) (λ y. y ≡ x ++ replicate (size - m.size) 0)) in
+    record {
+      sized = refl;
+      extra = refl;
+      known = refl;
+      place = record { tells = copied.written.tells; same = ap used copied.written.same };
+      bytes = subst B (sym base) (part_read s.base.bytes m.slot.base.bytes m.size size s.static_size copied.bytes t.region.contents s.region.contents m.slot.region.contents copied.long more made.inside (all_there s fits) copied.put made.zeros copied.told);
+    }
+
+-- a memory that was just made keeps the layout that it was made in
+pub new_keeps : (l : Layout) (size extra : ℕ) (s : Slot) → IsMadeSlot l size s → KeepsLayout l (record { slot = s; size = size; extra = extra; as_made = true; known = true })
+new_keeps l size extra s made =
+    let k = moved_keeps l 0 size extra s s s made.fits made (omega arith) (none_copied s s made.clean.ready) in
+    record {
+      is = record {
+        holds = k.is.holds;
+        clean = λ _. made.clean;
+        known_made = λ _. refl;
+        restores = k.is.restores;
+        whole = k.is.whole;
+        inside = k.is.inside;
+        empty = λ no. absurd (cc no);
+      };
+      before = k.before;
+      capacity = k.capacity;
+      page = k.page;
+      len = k.len;
+    }

@@ -1,0 +1,39 @@
+-- How a memory that was just made begins with an image.
+use Rattle.std.specs.Prelude.{◌≡◌, ℕ, ◌%◌, ◌==◌, Bool, true, false, ◌&&◌, Option, Some, None, IfSome}
+use Rattle.pool_images.specs.Images.{Image, start}
+use Rattle.pool_images.specs.Slots.{FitsInto, IsLeft, identity}
+use Rattle.pool_memory.specs.Linear.{Linear, Storage, in_slot, stored, slot_in, is_mapped, linear_bytes}
+
+abbrev pub has_whole_pages : ℕ → Storage → Bool
+has_whole_pages size (in_slot s) = size % s.region.page == 0
+has_whole_pages size (stored len bytes) = false
+
+-- An image is mapped in it: it has whole pages of a region of its own. One that stays in its slot gets its image with that.
+abbrev pub takes_image : Linear → Bool
+takes_image l = l.moves && has_whole_pages l.size l.storage
+
+-- the image has pages of the region's size, and ends within the memory
+abbrev pub FitsIn : Image → ℕ → Storage → Type 0
+FitsIn image size (in_slot s) = FitsInto s.region.page size image
+FitsIn image size (stored len bytes) = Unit {0}
+
+abbrev pub ImageFits : Image → Linear → Type 0
+ImageFits image l = FitsIn image l.size l.storage
+
+-- the memory has the image: it holds the image's bytes at their offset, and zeros elsewhere
+pub record HasStarted (image : Image) (old new : Linear) : Type 0 where
+  pub same : new ≡ record old { storage = new.storage }
+  pub slot : identity (slot_in new.storage) ≡ identity (slot_in old.storage)
+  pub mapped : is_mapped new.storage ≡ true
+  pub bytes : IfSome (linear_bytes new) (λ b. b ≡ start (Some image) old.size)
+
+-- a call on its region failed, and nothing is known of what that holds: the memory has no bytes
+pub record HasNotStarted (old new : Linear) : Type 0 where
+  pub same : new ≡ record old { size = 0; capacity = 0; storage = new.storage }
+  pub left : IsLeft (slot_in old.storage) (slot_in new.storage)
+
+-- the memory begins with an image, or as it was made
+abbrev pub BeginsWith : Bool → Option Image → Linear → Linear → Type 0
+BeginsWith takes None old new = new ≡ old
+BeginsWith false (Some image) old new = new ≡ old
+BeginsWith true (Some image) old new = HasStarted image old new
