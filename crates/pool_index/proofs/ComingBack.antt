@@ -43,10 +43,10 @@ again_set (e ∷ es) v k x none' =
     again_set es (slice_set v e.slot.0 (Some e.affinity)) k x (none_after e es k none') ∙ ap (use_again es) (set_comm v e.slot.0 k (Some e.affinity) x apart)
 
 -- no slot is warm twice, and none is used
-record Free (es : List WarmSlot) (v : Uses) : Type 0 where
-  once : (k : ℕ) → warm_count k es ≤ 1
-  within : (i : ℕ) (d : WarmSlot) → i < length es → (slice_index_or es i d).slot.0 < length v
-  unused : (i : ℕ) (d : WarmSlot) → i < length es → slice_index_or v (slice_index_or es i d).slot.0 None ≡ None
+pub record Free (es : List WarmSlot) (v : Uses) : Type 0 where
+  pub once : (k : ℕ) → warm_count k es ≤ 1
+  pub within : (i : ℕ) (d : WarmSlot) → i < length es → (slice_index_or es i d).slot.0 < length v
+  pub unused : (i : ℕ) (d : WarmSlot) → i < length es → slice_index_or v (slice_index_or es i d).slot.0 None ≡ None
 
 free_rest : (e : WarmSlot) (es : List WarmSlot) (v : Uses) → Free (e ∷ es) v → Free es v
 free_rest e es v f = record {
@@ -85,7 +85,7 @@ at_most_one a true false e = omega arith
 at_most_one a false true e = omega arith
 at_most_one a false false e = omega arith
 
-all_free : (s : ShardState) → IsShard s → Free s.warm s.used
+pub all_free : (s : ShardState) → IsShard s → Free s.warm s.used
 all_free s sound = record {
   once = λ k. at_most_one (warm_count k s.warm) (is_used s k) _ (sound.partition k);
   within = λ i d inside. All-from_get_or (λ (e : WarmSlot). e.slot.0 < length s.used) s.warm (record { slot = record { 0 = 0 }; affinity = None; bytes = 0 }) (λ j in'. let w : IsFree s (entry_at s j).slot.0 = warm_slot_free s j sound in' in w.within) i d inside;
@@ -100,7 +100,7 @@ again_length : (es : List WarmSlot) (v : Uses) → length (use_again es v) ≡ l
 again_length [] v = refl
 again_length (e ∷ es) v = again_length es (slice_set v e.slot.0 (Some e.affinity)) ∙ length-set v e.slot.0 (Some e.affinity)
 
-free_after : (e : WarmSlot) (es : List WarmSlot) (v : Uses) → Free (e ∷ es) v → Free es (slice_set v e.slot.0 (Some e.affinity))
+pub free_after : (e : WarmSlot) (es : List WarmSlot) (v : Uses) → Free (e ∷ es) v → Free es (slice_set v e.slot.0 (Some e.affinity))
 free_after e es v f =
     let r : Free es v = free_rest e es v f in
     record {

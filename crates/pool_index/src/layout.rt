@@ -39,7 +39,7 @@ impl ShardLayout {
     }
 }
 
-fn slots_per_shard_of(capacity: u32, requested: u32) -> u32
+pub(crate) fn slots_per_shard_of(capacity: u32, requested: u32) -> u32
     ensures { result ≡ slots_per_shard capacity requested }
 {
     let slots = if capacity < 128 {
@@ -50,7 +50,13 @@ fn slots_per_shard_of(capacity: u32, requested: u32) -> u32
     slots.max(1)
 }
 
-fn shard_of(capacity: u32, warm: u32, slots_per_shard: u32, count: u32, k: u32) -> (u32, u32)
+pub(crate) fn shard_of(
+    capacity: u32,
+    warm: u32,
+    slots_per_shard: u32,
+    count: u32,
+    k: u32,
+) -> (u32, u32)
     requires slots { 0 < slots_per_shard }
     requires count { count ≡ shard_count capacity slots_per_shard }
     requires inside { k < count }

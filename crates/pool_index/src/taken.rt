@@ -56,4 +56,11 @@ impl Taken {
             unreachable!()
         };
     }
+
+    /// No slot again.
+    pub(crate) fn clear(&mut self)
+        ensures { self.new ≡ record self.old { items = [] } }
+    {
+        self.items.clear();
+    }
 }

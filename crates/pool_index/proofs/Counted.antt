@@ -1,0 +1,140 @@
+-- Shards that are held one after the other and only looked at, and slots that are freed one after the other.
+use Rattle.std.proofs.Common.{◌≡◌, ℕ, zero, suc, ◌+◌, ◌-◌, ◌*◌, ◌^◌, ◌<◌, ◌≤◌, Bool, true, false, List, [], ◌∷◌, ◌++◌, length, take, min, Option, Some, sym, refl, ap, subst, ◌∙◌, arith, length-append}
+use Rattle.std.specs.Prelude.{◌==◌, ◌&&◌, sum_by, map, All, slice_index_or}
+use Rattle.std.proofs.lemmas.List.Sums.{sum_by-append, sum_by-le}
+use Rattle.std.proofs.lemmas.List.{map_more}
+use Rattle.pool_hall.specs.declared.unit_name.UnitName.{UnitName}
+use Rattle.pool_hall.specs.declared.unit_name.SlotKind.TheVariants.{Memory}
+use Rattle.pool_hall.specs.declared.view.View.{View}
+use Rattle.pool_hall.specs.Sum.{one_if}
+use Rattle.pool_hall.specs.Unit.{same, times, pick_unit}
+use Rattle.pool_hall.specs.Held.{IsHeld}
+use Rattle.pool_hall.specs.Step.{Taken, MayPut}
+use Rattle.pool_hall.proofs.Units.{same_self, times_append}
+use Rattle.pool_index.specs.declared.counting.ShardCounts.{ShardCounts}
+use Rattle.pool_index.specs.declared.ids.SlotId.{SlotId}
+use Rattle.pool_index.specs.Shard.{ShardState, IsShard, used_count, resident_bytes}
+use Rattle.pool_index.specs.Part.{shard_meaning}
+use Rattle.pool_index.specs.Moves.{Moves}
+use Rattle.pool_index.specs.ShardMeans.{shard_means}
+use Rattle.pool_index.specs.Freed.{IsCounted, IsSum, all_unused, units_of_slots, HasAll}
+use Rattle.pool_index.specs.Layout.{capacity_of}
+use Rattle.pool_index.specs.MadeShards.{AreMade}
+use Rattle.pool_index.specs.Round.{HeldShard, HeldInTurn, Gives, KeepsRest}
+use Rattle.pool_index.proofs.Allocating.{shard_there}
+use Rattle.pool_index.proofs.Puts.{may_gain}
+
+module _ (made : List ShardState) (limits : List ℕ) where
+  abbrev Turns : (ShardState → ShardState) → ℕ → List ShardState → View ShardState → View ShardState → Type 0
+  Turns left p ss v w = HeldInTurn shard_meaning Some made limits left p ss v w
+
+  pub may_look : (p : ℕ) (x y : ShardState) (v : View ShardState) → Taken shard_meaning made limits p x v → y ≡ x → MayPut shard_meaning made limits p x y v.units
+  may_look p x y v told e =
+      let moves : Moves x x [] [] = record { same = record { kind = refl; first = refl; step = refl; capacity = refl; budget = refl }; sound = told.stands.fits.sound; cold = omega arith; flow = λ u. refl } in
+      subst (λ (z : ShardState). MayPut shard_meaning made limits p x z v.units) (sym e) (may_gain shard_meaning Some shard_means made limits p x x x x refl refl v told [] (λ u region. refl) moves)
+
+  pub look_held : (p : ℕ) (r : ShardCounts) (v w : View ShardState) (h : IsHeld shard_meaning made limits p (λ x y. (y ≡ x) × IsCounted x r) v w) → HeldShard shard_meaning Some made limits p h.before h.before v w
+  look_held p r v w h = record {
+    before = h.before;
+    after = h.after;
+    was = refl;
+    is = ap (λ (z : ShardState). Some z) h.did.0;
+    same = record { kind = refl; first = refl; step = refl; capacity = refl; budget = refl };
+    sound = h.did.1.sound;
+    told = h.told;
+    view = h.view;
+  }
+
+  pub in_turn_more : (left : ShardState → ShardState) (p : ℕ) (ss : List ShardState) (s : ShardState) (v u w : View ShardState) → Turns left p ss v u → HeldShard shard_meaning Some made limits (p + length ss) s (left s) u w → Turns left p (ss ++ s ∷ []) v w
+  in_turn_more left p [] s v u w e held =
+      let here : HeldShard shard_meaning Some made limits p s (left s) u w = subst (λ (q : ℕ). HeldShard shard_meaning Some made limits q s (left s) u w) (let q : p + 0 ≡ p = omega arith in q) held in
+      (w, subst (λ (z : View ShardState). HeldShard shard_meaning Some made limits p s (left s) z w) e here, refl)
+  in_turn_more left p (r ∷ rs) s v u w (x, first, rest) held =
+      (x, first, in_turn_more left (p + 1) rs s x u w rest (subst (λ (q : ℕ). HeldShard shard_meaning Some made limits q s (left s) u w) (let q : p + suc (length rs) ≡ (p + 1) + length rs = omega arith in q) held))
+
+unused_more : (ss : List ShardState) (s : ShardState) → all_unused (ss ++ s ∷ []) ≡ (all_unused ss && (used_count s == 0))
+unused_more [] s = both (used_count s == 0)
+  where
+    both : (b : Bool) → (b && true) ≡ (true && b)
+    both true = refl
+    both false = refl
+unused_more (r ∷ rs) s = ap (λ b. (used_count r == 0) && b) (unused_more rs s) ∙ assoc (used_count r == 0) (all_unused rs) (used_count s == 0)
+  where
+    assoc : (a b c : Bool) → (a && (b && c)) ≡ ((a && b) && c)
+    assoc true b c = refl
+    assoc false b c = refl
+
+-- the shards at the first places: what they tell together, which fits
+pub record SoFar (capacity slots n : ℕ) (ss : List ShardState) (r : ShardCounts) : Type 0 where
+  pub all : length ss ≡ n
+  pub sums : IsSum ss r
+  pub few : r.warm ≤ min capacity (n * slots)
+  pub light : r.bytes ≤ r.warm * 2 ^ 32
+
+pub so_far_more : (made : List ShardState) (limits : List ℕ) (capacity warm slots shards : ℕ) → AreMade made limits capacity warm slots shards → (n : ℕ) → n < shards → (v : View ShardState) (s : ShardState) → Taken shard_meaning made limits n s v
+    → (ss : List ShardState) (r f : ShardCounts) → SoFar capacity slots n ss r → IsCounted s f → (t : ShardCounts) → t.warm ≡ r.warm + f.warm → t.bytes ≡ r.bytes + f.bytes → t.is_empty ≡ (r.is_empty && f.is_empty) → SoFar capacity slots (n + 1) (ss ++ s ∷ []) t
+so_far_more made limits capacity warm slots shards is n h v s told ss r f before counted t w b e =
+    let cap : s.capacity ≡ capacity_of capacity slots n = told.stands.fits.same.capacity ∙ ap (λ (z : ShardState). z.capacity) (shard_there made limits capacity warm slots shards is n h) in
+    let sound = counted.sound in
+    let total = sound.total in
+    let cold = sound.cold_at_most in
+    let a = before.few in
+    let l = before.light in
+    let cw = counted.warm in
+    let cb = counted.bytes in
+    let heavy : resident_bytes s ≤ length s.warm * 2 ^ 32 = sum_by-le (λ e. e.bytes) (2 ^ 32) s.warm sound.bytes in
+    record {
+      all = let x = before.all in let y = length-append ss (s ∷ []) in omega arith;
+      sums = record {
+        warm = let x = before.sums.warm in let y = sum_by-append (λ (z : ShardState). length z.warm) ss (s ∷ []) in omega arith;
+        bytes = let x = before.sums.bytes in let y = sum_by-append resident_bytes ss (s ∷ []) in omega arith;
+        none = e ∙ (λ i. before.sums.none i && counted.none i) ∙ sym (unused_more ss s);
+      };
+      few = omega arith;
+      light = omega arith;
+    }
+
+-- the first of some slots have no more units than all
+pub first_units : (items : List (SlotId × ℕ)) (n : ℕ) (u : UnitName) → times u (units_of_slots (take n items)) ≤ times u (units_of_slots items)
+first_units [] zero u = omega arith
+first_units [] (suc n) u = omega arith
+first_units (p ∷ ps) zero u = omega arith
+first_units (p ∷ ps) (suc n) u = let r = first_units ps n u in omega arith
+
+module _ (items : List (SlotId × ℕ)) (n : ℕ) (d : SlotId × ℕ) (inside : n < length items) (first now : View ShardState) (gave : Gives (units_of_slots (take n items)) first now) where
+  abbrev slot : SlotId × ℕ
+  slot = slice_index_or items n d
+
+  abbrev w : UnitName
+  w = pick_unit Memory slot.0.0
+
+  one_more : (u : UnitName) → times u (units_of_slots (take (n + 1) items)) ≡ times u (units_of_slots (take n items)) + one_if (same u w)
+  one_more u = ap (times u) (map_more (λ (p : SlotId × ℕ). pick_unit Memory p.0.0) items n d inside) ∙ times_append u (units_of_slots (take n items)) (w ∷ []) ∙ (let q : times u (units_of_slots (take n items)) + times u (w ∷ []) ≡ times u (units_of_slots (take n items)) + one_if (same u w) = omega arith in q)
+
+  -- the next slot's unit is in the seat
+  pub next_there : HasAll (units_of_slots items) first → 0 < times w now.units
+  next_there all =
+      let a = all w in
+      let b = first_units items (n + 1) w in
+      let c = one_more w in
+      let g = gave w in
+      let o : one_if (same w w) ≡ 1 = ap one_if (same_self w) in
+      omega arith
+
+  -- and leaves it
+  pub gave_more : (z : View ShardState) → Gives (w ∷ []) now z → Gives (units_of_slots (take (n + 1) items)) first z
+  gave_more z one u = let a = one u in let b = gave u in let c = one_more u in omega arith
+
+-- a view that is as before but for units and counts, twice
+pub rest_both : (u v w : View ShardState) → KeepsRest u v → KeepsRest v w → KeepsRest u w
+rest_both u v w a b = record { parts = b.parts ∙ a.parts; limits = b.limits ∙ a.limits; added = b.added ∙ a.added; low = b.low ∙ a.low; subtracted = b.subtracted ∙ a.subtracted; portions = b.portions ∙ a.portions }
+
+-- what the next shard tells fits beside what the shards so far told
+pub so_far_fits : (made : List ShardState) (limits : List ℕ) (capacity warm slots shards : ℕ) → AreMade made limits capacity warm slots shards → (n : ℕ) → n < shards → (v : View ShardState) (s : ShardState) → Taken shard_meaning made limits n s v
+    → (ss : List ShardState) (r f : ShardCounts) → SoFar capacity slots n ss r → IsCounted s f → (r.warm + f.warm < 2 ^ 32) × (r.bytes + f.bytes < 2 ^ 64)
+so_far_fits made limits capacity warm slots shards is n h v s told ss r f before counted =
+    let next = so_far_more made limits capacity warm slots shards is n h v s told ss r f before counted (record { warm = r.warm + f.warm; bytes = r.bytes + f.bytes; is_empty = r.is_empty && f.is_empty }) refl refl refl in
+    let a : r.warm + f.warm ≤ min capacity ((n + 1) * slots) = next.few in
+    let b : r.bytes + f.bytes ≤ (r.warm + f.warm) * 2 ^ 32 = next.light in
+    let c = is.small in
+    (omega arith, omega arith)

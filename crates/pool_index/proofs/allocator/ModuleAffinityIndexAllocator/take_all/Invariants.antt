@@ -1,0 +1,22 @@
+use Rattle.std.proofs.Common.{◌≡◌, ℕ, ◌*◌, ◌≤◌, List, [], length, min}
+use Rattle.std.specs.Prelude.{Some, flat_map}
+use Rattle.pool_hall.specs.Seat.{view}
+use Rattle.pool_index.specs.Allocator.{made_of, limits_in, IsIndexSeat}
+use Rattle.pool_index.specs.Freed.{taken_outside, units_of_slots}
+use Rattle.pool_index.specs.Part.{shard_meaning}
+use Rattle.pool_index.specs.Round.{HeldInTurn, Gains, KeepsRest}
+use Rattle.pool_index.specs.Shard.{ShardState, after_take_warm}
+use Rattle.pool_index.proofs.allocator.ModuleAffinityIndexAllocator.take_all.Given as goal
+
+-- the warm slots of the shards so far are taken, and there is room for those of the others
+abbrev pub invariant-loop-place : goal.invariant-loop-place
+invariant-loop-place g l = record {
+  seat : IsIndexSeat l.self l.seat;
+  found : (ss : List ShardState) × (length ss ≡ l.place) × HeldInTurn shard_meaning Some (made_of l.self) (limits_in l.self) after_take_warm 0 ss (view l.initial.seat) (view l.seat) × (l.call.taken.items ≡ flat_map taken_outside ss);
+  none : l.call.local.items ≡ [];
+  one : l.call.local.room ≡ l.self.slots_per_shard;
+  all : l.call.taken.room ≡ l.self.capacity;
+  few : length l.call.taken.items ≤ min l.self.capacity (l.place * l.self.slots_per_shard);
+  units : Gains (units_of_slots l.call.taken.items) (view l.initial.seat) (view l.seat);
+  rest : KeepsRest (view l.initial.seat) (view l.seat);
+}

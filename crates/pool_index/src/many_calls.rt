@@ -1,0 +1,134 @@
+//! Calls of the index allocator on many slots, and on all shards.
+ghost use Rattle.std.specs.Prelude.{◌≡◌, ◌+◌, ◌^◌, ◌<◌, ◌≤◌, ◌&&◌, All, IfOk, OnErr, [], sum_by, flat_map, length};
+ghost use Rattle.pool_hall.specs.Seat.{view};
+ghost use Rattle.pool_index.specs.Shard.{resident_bytes, after_take_warm};
+ghost use Rattle.pool_index.specs.Freed.{IsSum, HasAll, all_unused, taken_outside, units_of_slots};
+ghost use Rattle.pool_index.specs.Round.{KeepsRest, Gains, Gives, KeepsCounts};
+ghost use Rattle.pool_index.specs.Allocator.{slot_count, FoundInTurn, IsIndexSeat};
+
+use crate::allocator::{IndexSeat, ModuleAffinityIndexAllocator};
+use crate::counting::{CountSlots, ShardCounts, TakeWarm};
+use crate::ids::SlotId;
+use crate::taken::Taken;
+use std::alloc::{AllocError, Global};
+use std::sync::Wait;
+
+// What two lists of shards tell together.
+fn added(sum: ShardCounts, found: ShardCounts) -> ShardCounts
+    requires warm { sum.warm + found.warm < 2 ^ 32 }
+    requires bytes { sum.bytes + found.bytes < 2 ^ 64 }
+    ensures warm { result.warm ≡ sum.warm + found.warm }
+    ensures bytes { result.bytes ≡ sum.bytes + found.bytes }
+    ensures none { result.is_empty ≡ (sum.is_empty && found.is_empty) }
+{
+    ShardCounts {
+        warm: sum.warm + found.warm,
+        bytes: sum.bytes + found.bytes,
+        is_empty: sum.is_empty && found.is_empty,
+    }
+}
+
+impl ModuleAffinityIndexAllocator {
+    /// Gives slots back one after the other, each with the bytes that it keeps resident. Takes no memory.
+    pub fn free_many<R: Wait>(&self, rt: &R, seat: &mut IndexSeat, items: &[(SlotId, usize)])
+        requires seat { IsIndexSeat self.now seat.old }
+        // The slots differ, and the seat has the pick unit of each: it has each unit as often as the list.
+        requires units { HasAll (units_of_slots items.now) (view seat.old) }
+        requires bytes { All (λ p. p.1 ≤ 2 ^ 32) items.now }
+        ensures seat { IsIndexSeat self.now seat.new }
+        ensures units { Gives (units_of_slots items.now) (view seat.old) (view seat.new) }
+        ensures counts { KeepsCounts (view seat.old) (view seat.new) }
+        ensures rest { KeepsRest (view seat.old) (view seat.new) }
+    {
+        for at in 0..items.len() {
+            let (slot, bytes) = items[at];
+            self.free(rt, seat, slot, bytes);
+        }
+    }
+
+    // What the shards tell together, each as it was when it was asked.
+    fn counts<R: Wait>(&self, rt: &R, seat: &mut IndexSeat) -> ShardCounts
+        requires seat { IsIndexSeat self.now seat.old }
+        ensures seat { IsIndexSeat self.now seat.new }
+        ensures counted { FoundInTurn self.now (λ s. s) (λ ss. IsSum ss result) (view seat.old) (view seat.new) }
+    {
+        let mut sum = ShardCounts {
+            warm: 0,
+            bytes: 0,
+            is_empty: true,
+        };
+        for place in 0..self.shards {
+            let found = self.hall.hold(rt, seat, place, &mut CountSlots {});
+            let total = added(sum, found);
+            sum = total;
+        }
+        sum
+    }
+
+    /// Whether no slot is used, in any of the shards when it was asked.
+    pub fn is_empty<R: Wait>(&self, rt: &R, seat: &mut IndexSeat) -> bool
+        requires seat { IsIndexSeat self.now seat.old }
+        ensures seat { IsIndexSeat self.now seat.new }
+        ensures counted { FoundInTurn self.now (λ s. s) (λ ss. result ≡ all_unused ss) (view seat.old) (view seat.new) }
+    {
+        self.counts(rt, seat).is_empty
+    }
+
+    /// The number of warm slots: of each shard as many as it had when it was asked.
+    pub fn unused_warm_slots<R: Wait>(&self, rt: &R, seat: &mut IndexSeat) -> u32
+        requires seat { IsIndexSeat self.now seat.old }
+        ensures seat { IsIndexSeat self.now seat.new }
+        ensures counted { FoundInTurn self.now (λ s. s) (λ ss. result ≡ sum_by (λ s. length s.warm) ss) (view seat.old) (view seat.new) }
+    {
+        self.counts(rt, seat).warm
+    }
+
+    /// The bytes that warm slots keep resident: of each shard as many as its slots kept when it was asked.
+    pub fn unused_bytes_resident<R: Wait>(&self, rt: &R, seat: &mut IndexSeat) -> usize
+        requires seat { IsIndexSeat self.now seat.old }
+        ensures seat { IsIndexSeat self.now seat.new }
+        ensures counted { FoundInTurn self.now (λ s. s) (λ ss. result ≡ sum_by resident_bytes ss) (view seat.old) (view seat.new) }
+    {
+        self.counts(rt, seat).bytes
+    }
+
+    // Takes the warm slots of each shard.
+    fn take_all<R: Wait>(&self, rt: &R, seat: &mut IndexSeat, call: &mut TakeWarm)
+        requires seat { IsIndexSeat self.now seat.old }
+        requires none { (call.old.taken.items ≡ []) × (call.old.local.items ≡ []) }
+        requires room { (call.old.taken.room ≡ slot_count self.now) × (call.old.local.room ≡ self.now.slots_per_shard) }
+        ensures seat { IsIndexSeat self.now seat.new }
+        ensures taken { FoundInTurn self.now after_take_warm (λ ss. call.new.taken.items ≡ flat_map taken_outside ss) (view seat.old) (view seat.new) }
+        ensures units { Gains (units_of_slots call.new.taken.items) (view seat.old) (view seat.new) }
+        ensures rest { KeepsRest (view seat.old) (view seat.new) }
+    {
+        for place in 0..self.shards {
+            self.hall.hold(rt, seat, place, call);
+        }
+    }
+
+    /// Takes all warm slots, shard by shard from the first on, each with the bytes that it keeps resident. They keep
+    /// their affinities, and their pick units are the seat's until they are freed. The room for them is reserved first:
+    /// where there is no memory for it, nothing is taken.
+    pub fn take_resident_warm_slots<R: Wait>(
+        &self,
+        alloc: Global,
+        rt: &R,
+        seat: &mut IndexSeat,
+    ) -> Result<Taken, AllocError>
+        requires seat { IsIndexSeat self.now seat.old }
+        ensures seat { IsIndexSeat self.now seat.new }
+        ensures err { OnErr result (view seat.new ≡ view seat.old) }
+        ensures taken { IfOk result (λ t. FoundInTurn self.now after_take_warm (λ ss. t.items ≡ flat_map taken_outside ss) (view seat.old) (view seat.new)) }
+        ensures units { IfOk result (λ t. Gains (units_of_slots t.items) (view seat.old) (view seat.new)) }
+        ensures rest { KeepsRest (view seat.old) (view seat.new) }
+    {
+        let mut call = TakeWarm {
+            taken: Taken::new(alloc, self.capacity as usize)?,
+            local: Taken::new(alloc, self.slots_per_shard as usize)?,
+        };
+        self.take_all(rt, seat, &mut call);
+        let TakeWarm { taken, local: _ } = call;
+        Ok(taken)
+    }
+}
