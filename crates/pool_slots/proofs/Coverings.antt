@@ -8,6 +8,7 @@ use Rattle.pool_pages.specs.Contents.{Contents, IsShaped, IsIn, Page, page_at, p
 use Rattle.pool_pages.specs.PageLaws.{IsPages}
 use Rattle.pool_pages.proofs.Multiples.{whole, add_whole, page_below}
 use Rattle.pool_pages.proofs.PageChanges.{decommit_law}
+use Rattle.pool_pages.proofs.Puts.{range_range}
 use Rattle.pool_images.specs.declared.ranges.ByteRange.{ByteRange}
 use Rattle.pool_images.specs.Slots.{Slot, IsSlot, IsSound, IsClean, IsPart, size_of, decommitted_all}
 use Rattle.pool_images.proofs.Marks.{page_lt}
@@ -16,16 +17,16 @@ use Rattle.pool_slots.specs.declared.queued_range.QueueKind.TheVariants.{Memory}
 use Rattle.pool_slots.specs.Queues.{QueueState, ranges_of, LeavesClean, IsQueue, IsInSome, IsCovered, ForgetsNothing}
 use Rattle.pool_slots.proofs.Plans.{both_told}
 use Rattle.pool_slots.proofs.QueueLists.{each_weaker}
-use Rattle.pool_slots.proofs.Reading.{range_of_range}
 
 -- parts of two ranges that are equal are equal
 same_part : (xs ys : List ℕ) (base n at len : ℕ) → base ≤ at → at + len ≤ base + n → slice_range xs base (base + n) ≡ slice_range ys base (base + n) → slice_range xs at (at + len) ≡ slice_range ys at (at + len)
 same_part xs ys base n at len from to same =
     let i : ℕ = at - base in
     let place : base + i ≡ at = omega arith in
-    let inside : i + len ≤ n = omega arith in
-    let E : ℕ → Type 0 = λ p. slice_range xs p (p + len) ≡ slice_range ys p (p + len) in
-    subst E place (sym (range_of_range xs base n i len inside) ∙ ap (λ (l : List ℕ). slice_range l i (i + len)) same ∙ range_of_range ys base n i len inside)
+    let end : base + (i + len) ≡ at + len = omega arith in
+    let inside : i + len ≤ base + n - base = omega arith in
+    let E : ℕ → ℕ → Type 0 = λ p q. slice_range xs p q ≡ slice_range ys p q in
+    subst (E at) end (subst (λ p. E p (base + (i + len))) place (sym (range_range xs base (base + n) i (i + len) inside) ∙ ap (λ (l : List ℕ). slice_range l i (i + len)) same ∙ range_range ys base (base + n) i (i + len) inside))
 
 slot_whole : (s : Slot) → IsSlot s → (s.base.bytes + size_of s) % s.region.page ≡ 0
 slot_whole s fits = add_whole s.base.bytes (size_of s) s.region.page fits.sizes.base_whole (mul-mod_left ((s.static_size + s.region.page - 1) / s.region.page) s.region.page)
@@ -78,7 +79,7 @@ first_covered s r rs c fits part sound rest k is =
           ]
     ]
 
-covered_of : (rs : List ByteRange) (s : Slot) → IsSlot s → All (IsPart s.region.page (size_of s)) rs → IsClean (decommitted_all rs s) → IfSome s.region.contents (λ c. (k : ℕ) → IsIn s.base.bytes (size_of s) s.region.page k → (page_bytes k c ≡ page_origin k c) ⊎ IsInSome s.base.bytes s.region.page k rs)
+pub covered_of : (rs : List ByteRange) (s : Slot) → IsSlot s → All (IsPart s.region.page (size_of s)) rs → IsClean (decommitted_all rs s) → IfSome s.region.contents (λ c. (k : ℕ) → IsIn s.base.bytes (size_of s) s.region.page k → (page_bytes k c ≡ page_origin k c) ⊎ IsInSome s.base.bytes s.region.page k rs)
 covered_of [] s fits parts clean =
     let size : ℕ = size_of s in
     let S : Contents → Type 0 = IsSound s.region.page s.region.len s.base.bytes size in

@@ -21,7 +21,8 @@ cells_made maker behaviour page size total len cells paged long made i below =
 sat : (s x t m : ℕ) → t ≡ s + x → min (min s m + x) m ≡ min t m
 sat s x t m e = omega arith
 
-same_calls : (a b : PageCalls) → a.expose ≡ b.expose → a.hide ≡ b.hide → a.map_image ≡ b.map_image → a.remap_zeros ≡ b.remap_zeros → a.erase ≡ b.erase → a.recolour ≡ b.recolour → a.decommit ≡ b.decommit → a ≡ b
+-- calls are the same where each count is
+pub same_calls : (a b : PageCalls) → a.expose ≡ b.expose → a.hide ≡ b.hide → a.map_image ≡ b.map_image → a.remap_zeros ≡ b.remap_zeros → a.erase ≡ b.erase → a.recolour ≡ b.recolour → a.decommit ≡ b.decommit → a ≡ b
 same_calls a b e h m z r c d =
     ap (λ (n : ℕ). record a { expose = n }) e
     ∙ ap (λ (n : ℕ). record a { expose = b.expose; hide = n }) h

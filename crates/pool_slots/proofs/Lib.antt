@@ -1,5 +1,4 @@
 pub mod Coverings
-pub mod Reading
 pub mod Resets
 pub mod PageSizes
 pub mod Plans
@@ -13,3 +12,21 @@ pub mod QueueRuns
 pub mod QueueSteps
 pub mod Fresh
 pub mod Flushing
+pub mod Layouts
+pub mod Settings
+pub mod Planning
+pub mod PlanSizes
+pub mod ByHand
+pub mod SlotChanges
+pub mod SlotFaults
+pub mod SlotFirst
+pub mod SlotLists
+pub mod SlotNames
+pub mod SlotOrders
+pub mod SlotRuns
+pub mod SlotSteps
+pub mod SlotCoverings
+pub mod SlotPops
+pub mod PartUnits
+pub mod PlainSlots
+pub mod TableSizes

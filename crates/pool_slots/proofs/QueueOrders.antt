@@ -30,18 +30,18 @@ fault_ends : (b : Bool) (new : Told) (one all end : Bool × Told) → one.0 ≡ 
 fault_ends true new one all end ok e = absurd (true≢false (sym ok ∙ sym (ap (λ (p : Bool × Told). p.0) e)))
 fault_ends false new one all end ok e = e
 
-follows_failed : (x : PageCall) (ys : List PageCall) (old new : Told) → Follows (x ∷ []) false old new → Follows (x ∷ ys) false old new
+pub follows_failed : (x : PageCall) (ys : List PageCall) (old new : Told) → Follows (x ∷ []) false old new → Follows (x ∷ ys) false old new
 follows_failed x ys old new first =
     IfSome_then old.plan first (λ plan e. fault_ends (passes plan x old) new (true, succeeded x old) (outcome plan ys (succeeded x old)) (false, failed x old) refl e)
 
 -- two relations between the items of two lists
-zip_and : {X : Type 0} (R S : X → X → Type 0) (xs ys : List X) → AllZip R xs ys → AllZip S xs ys → AllZip (λ x y. R x y × S x y) xs ys
+pub zip_and : {X : Type 0} (R S : X → X → Type 0) (xs ys : List X) → AllZip R xs ys → AllZip S xs ys → AllZip (λ x y. R x y × S x y) xs ys
 zip_and R S [] [] a b = tt
 zip_and R S [] (y ∷ ys) a b = absurd a
 zip_and R S (x ∷ xs) [] a b = absurd a
 zip_and R S (x ∷ xs) (y ∷ ys) a b = ((a.0, b.0), zip_and R S xs ys a.1 b.1)
 
-zip_weaker : {X : Type 0} (R S : X → X → Type 0) (xs ys : List X) → ((x y : X) → R x y → S x y) → AllZip R xs ys → AllZip S xs ys
+pub zip_weaker : {X : Type 0} (R S : X → X → Type 0) (xs ys : List X) → ((x y : X) → R x y → S x y) → AllZip R xs ys → AllZip S xs ys
 zip_weaker R S [] [] step a = tt
 zip_weaker R S [] (y ∷ ys) step a = absurd a
 zip_weaker R S (x ∷ xs) [] step a = absurd a

@@ -10,7 +10,7 @@ use std::mem;
 /// What the cell of a memory slot holds.
 #[derive(Drop)]
 pub enum ImageSlot<P: Pages> {
-    /// The region as it was made.
+    /// The region as it was made, or as a table or a stack has it.
     Unmapped(PageRegion<P>),
     /// A slot of which nothing is known.
     Unknown(MemoryImageSlot<P>),

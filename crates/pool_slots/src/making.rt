@@ -19,6 +19,7 @@ pub fn make_cells<P: Pages, M: PageMaker<Region = P>>(
 ) -> Result<Vec<MemoryCell<P>>, PoolNewError>
     ensures cells { IfOk result (λ v. AreMade (M.told maker.old) behaviour total len v.items) }
     ensures maker { M.told maker.new ≡ record (M.told maker.old) { behind = (M.told maker.new).behind; faults = (M.told maker.new).faults } }
+    ensures borrows { M.borrows maker.new ≡ M.borrows maker.old }
     ensures faults { MatchResult result (λ _. (M.told maker.new).faults ≡ (M.told maker.old).faults) (RaisesPoolFaults (M.told maker.old).faults (M.told maker.new).faults) }
     ensures listed { IfOk result (λ _. makes_listed_regions (M.told maker.old).listed total ≡ false) }
     ensures behind { MatchResult result (λ _. (M.told maker.new).behind ≡ (M.told maker.old).behind) (RaisesPoolBehind (makes_listed_regions (M.told maker.old).listed total) (M.told maker.old).behind (M.told maker.new).behind) }
@@ -48,6 +49,7 @@ fn make_cell<P: Pages, M: PageMaker<Region = P>>(
 ) -> Result<MemoryCell<P>, PoolNewError>
     ensures cell { IfOk result (λ cell. cell ≡ unmapped (made_region (RegionName.Memory slot) behaviour (count len.page 0) len (M.told maker.old))) }
     ensures maker { M.told maker.new ≡ record (M.told maker.old) { behind = (M.told maker.new).behind; faults = (M.told maker.new).faults } }
+    ensures borrows { M.borrows maker.new ≡ M.borrows maker.old }
     ensures faults { MatchResult result (λ _. (M.told maker.new).faults ≡ (M.told maker.old).faults) (RaisesPoolFaults (M.told maker.old).faults (M.told maker.new).faults) }
     ensures listed { IfOk result (λ _. fails_making (RegionName.Memory slot) (M.told maker.old).listed ≡ false) }
     ensures behind { MatchResult result (λ _. (M.told maker.new).behind ≡ (M.told maker.old).behind) (RaisesPoolBehind (fails_making (RegionName.Memory slot) (M.told maker.old).listed) (M.told maker.old).behind (M.told maker.new).behind) }

@@ -27,6 +27,7 @@ loop-slot-preserved g c =
     record {
       cells = subst L (sym c.in-Ok-push.ensures.items) (made_more (g.M.PageMaker.told c.args.maker.now) c.args.behaviour c.loop-slot.slot c.args.len c.loop-slot.cells.items c.in-Ok-make_cell.cell c.loop-slot.invariant.cells (subst C c.loop-slot.invariant.maker c.in-Ok-make_cell.ensures.cell));
       maker = same_maker (g.M.PageMaker.told c.loop-slot.maker) (g.M.PageMaker.told c.make_cell.new.maker) c.in-Ok-make_cell.ensures.maker c.in-Ok-make_cell.ensures.behind c.in-Ok-make_cell.ensures.faults ∙ c.loop-slot.invariant.maker;
+      borrows = c.in-Ok-make_cell.ensures.borrows ∙ c.loop-slot.invariant.borrows;
       listed = none_more (g.M.PageMaker.told c.args.maker.now).listed c.loop-slot.slot c.loop-slot.invariant.listed (subst O c.loop-slot.invariant.maker c.in-Ok-make_cell.ensures.listed);
       planned = both_told (λ plan. NoneListed plan c.loop-slot.slot) (λ plan. fails_making (Memory c.loop-slot.slot) plan ≡ false) (λ plan. NoneListed plan (c.loop-slot.slot + 1)) (g.M.PageMaker.told c.args.maker.now).plan (λ plan none now. none_more plan c.loop-slot.slot none now) c.loop-slot.invariant.planned (subst F c.loop-slot.invariant.maker c.in-Ok-make_cell.ensures.planned);
     }

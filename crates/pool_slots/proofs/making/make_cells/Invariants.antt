@@ -9,6 +9,7 @@ abbrev pub invariant-loop-slot : goal.invariant-loop-slot
 invariant-loop-slot g l = record {
   cells : AreMade (g.M.PageMaker.told l.fn.maker) l.behaviour l.slot l.len l.cells.items;
   maker : g.M.PageMaker.told l.maker ≡ g.M.PageMaker.told l.fn.maker;
+  borrows : g.M.PageMaker.borrows l.maker ≡ g.M.PageMaker.borrows l.fn.maker;
   listed : NoneListed (g.M.PageMaker.told l.fn.maker).listed l.slot;
   planned : IfSome (g.M.PageMaker.told l.fn.maker).plan (λ plan. NoneListed plan l.slot);
 }

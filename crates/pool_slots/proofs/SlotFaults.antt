@@ -1,0 +1,84 @@
+-- The lists in a queue's loops, and what a fault leaves.
+use Rattle.std.proofs.Common.{◌≡◌, ℕ, zero, suc, ◌+◌, ◌<◌, Bool, false, List, [], ◌∷◌, ◌++◌, length, get_or, take, drop, refl, sym, ap, ◌∙◌, subst, arith}
+use Rattle.std.specs.Prelude.{map, slice_set}
+use Rattle.std.specs.List.{AllZip}
+use Rattle.std.proofs.lemmas.Bool.{or_parts}
+use Rattle.std.proofs.lemmas.List.{append_assoc, length-append, length-map, length-take-le, length-drop, map_more, take-map, get_or-map, get_or_default}
+use Rattle.std.proofs.lemmas.List.Edits.{map_over_more}
+use Rattle.pool_images.specs.declared.ranges.ByteRange.{ByteRange}
+use Rattle.pool_images.specs.Slots.{IsSlot}
+use Rattle.pool_pages.specs.declared.pages.PageCalls.{PageCalls}
+use Rattle.pool_pages.specs.CallSums.{added}
+use Rattle.pool_slots.specs.declared.queued_range.QueueKind.{QueueKind}
+use Rattle.pool_slots.specs.declared.queued_range.QueuedRange.{QueuedRange}
+use Rattle.pool_slots.specs.declared.slot_name.SlotName.{SlotName}
+use Rattle.pool_slots.specs.Queues.{IsSlotLeft}
+use Rattle.pool_slots.specs.SlotQueues.{Queued, QueuedList, Queue, same_slot, holds, AreDistinct, CanBeZeroed, with_range, with_ranges, forgotten, calls_held, IsLeftItem, IsLeftBy}
+use Rattle.pool_slots.proofs.Fresh.{calls_more}
+use Rattle.pool_slots.proofs.SlotLists.{apart_of_unheld}
+use Rattle.pool_slots.proofs.SlotNames.{slot_if, slot_other_way}
+
+-- a range of a slot
+abbrev pub range_of : QueueKind → ℕ → ByteRange → QueuedRange
+range_of kind slot r = record { kind = kind; slot = record { 0 = slot }; range = r }
+
+-- one range more is pushed
+pub ranges_more : (kind : QueueKind) (slot : ℕ) (rs : List ByteRange) (i : ℕ) (d : ByteRange) (q : Queue) → i < length rs → with_range (range_of kind slot (get_or rs i d)) (with_ranges kind slot (take i rs) q) ≡ with_ranges kind slot (take (i + 1) rs) q
+ranges_more kind slot rs i d q inside =
+    let more : map (range_of kind slot) (take (i + 1) rs) ≡ map (range_of kind slot) (take i rs) ++ range_of kind slot (get_or rs i d) ∷ [] = map_more (range_of kind slot) rs i d inside in
+    ap (λ (l : List QueuedRange). record q { ranges = l }) (append_assoc q.ranges (map (range_of kind slot) (take i rs)) (range_of kind slot (get_or rs i d) ∷ []) ∙ ap (λ (l : List QueuedRange). q.ranges ++ l) (sym more))
+
+-- one slot more is forgotten, where it stands
+pub forgotten_more : (xs ys : List Queued) (room i : ℕ) (new : QueuedList) → i < length xs → ys ≡ map forgotten (take i xs) ++ drop i xs → ((d : Queued) → new ≡ record { items = slice_set ys i (forgotten (get_or ys i d)); room = room }) → (new.items ≡ map forgotten (take (i + 1) xs) ++ drop (i + 1) xs) × (new.room ≡ room)
+forgotten_more [] ys room i new inside before now = absurd (omega arith)
+forgotten_more (x ∷ xs) ys room i new inside before now =
+    let all : List Queued = x ∷ xs in
+    let m : Queued = get_or ys i x in
+    let there : i < length ys = rw before (omega (arith, length-append (map forgotten (take i all)) (drop i all), length-map (take i all) forgotten, length-take-le i all (omega (arith, inside)), length-drop i all)) in (
+      ap (λ (l : QueuedList). l.items) (now x) ∙ map_over_more forgotten all ys i m inside before (get_or_default ys i x m there),
+      ap (λ (l : QueuedList). l.room) (now x),
+    )
+
+-- the calls of one slot more are added
+pub held_more : (ms : List Queued) (i : ℕ) (d : Queued) → i < length ms → added (calls_held (take i ms)) (get_or ms i d).slot.region.calls ≡ calls_held (take (i + 1) ms)
+held_more ms i d inside =
+    let f : Queued → PageCalls = λ m. m.slot.region.calls in
+    let here : get_or (map f ms) i (f d) ≡ f (get_or ms i d) = get_or-map f ms i d (f d) inside in
+    let more = calls_more (map f ms) i (f d) (omega (arith, length-map ms f)) in
+    rw (here, take-map f i ms, take-map f (i + 1) ms) at more
+
+-- Of the slots one was left by a fault, and nothing is known of any. What can be zeroed by hand still can be.
+pub record IsLeftStill (k : SlotName) (old new : Queued) : Type 0 where
+  pub left : IsLeftBy k old new
+  pub fits : IsSlot old.slot → IsSlot new.slot
+  pub zeroed : (n : ℕ) → CanBeZeroed n old.slot → CanBeZeroed n new.slot
+
+left_other : (k : SlotName) (m : Queued) → same_slot k m.name ≡ false → IsLeftStill k m (forgotten m)
+left_other k m e =
+    let B : Bool → Type 0 = λ b. IsSlotLeft b m.slot m.slot in
+    record { left = record { same = refl; slot = subst B (sym e) refl }; fits = λ f. f; zeroed = λ n z. z }
+
+left_here : (k : SlotName) (r : ByteRange) (m n : Queued) → m.name ≡ k → IsLeftItem r m n → IsLeftStill k m (forgotten n)
+left_here k r m n e left =
+    let B : Bool → Type 0 = λ b. IsSlotLeft b m.slot n.slot in
+    record {
+      left = record { same = ap forgotten left.same; slot = subst B (sym (slot_if k m.name (sym e))) left.slot.left };
+      fits = λ _. left.slot.fits;
+      zeroed = left.slot.zeroed;
+    }
+
+left_rest : (k : SlotName) (ms : List Queued) → holds k ms ≡ false → AllZip (IsLeftStill k) ms (map forgotten ms)
+left_rest k [] free = tt
+left_rest k (m ∷ ms) free =
+    let parts = or_parts (same_slot k m.name) (holds k ms) free in
+    (left_other k m parts.0, left_rest k ms parts.1)
+
+pub left_at : (k : SlotName) (r : ByteRange) (ms : List Queued) (i : ℕ) (d n : Queued) → i < length ms → AreDistinct ms → (get_or ms i d).name ≡ k → IsLeftItem r (get_or ms i d) n → AllZip (IsLeftStill k) ms (map forgotten (slice_set ms i n))
+left_at k r [] i d n inside distinct e left = absurd (omega arith)
+left_at k r (m ∷ ms) zero d n inside distinct e left =
+    let H : SlotName → Type 0 = λ x. holds x ms ≡ false in
+    (left_here k r m n e left, left_rest k ms (subst H e distinct.0))
+left_at k r (m ∷ ms) (suc i) d n inside distinct e left =
+    let under : i < length ms = omega arith in
+    let apart : same_slot m.name k ≡ false = ap (λ (x : SlotName). same_slot m.name x) (sym e) ∙ apart_of_unheld m.name ms i d under distinct.0 in
+    (left_other k m (slot_other_way m.name k apart), left_at k r ms i d n under distinct.1 e left)

@@ -1,0 +1,43 @@
+use Rattle.std.proofs.Common.{◌≡◌, ◌<◌, List, length, refl, sym, ap, ◌∙◌, subst}
+use Rattle.std.specs.Prelude.{slice_index_or, slice_set}
+use Rattle.std.specs.List.{HoldsAt}
+use Rattle.std.proofs.lemmas.List.{get_or_read}
+use Rattle.std.proofs.lemmas.Result.{on_ok_weaker, on_err_weaker}
+use Rattle.pool_images.specs.Slots.{IsPart, IsSlot, size_of}
+use Rattle.pool_slots.specs.Queues.{decommitted_at}
+use Rattle.pool_slots.specs.SlotQueues.{Queued, IsLeftItem}
+use Rattle.pool_slots.proofs.slot_items.SlotItems.decommit.Goals as goal
+
+pub decommit-requires-clause-part : goal.decommit-requires-clause-part
+decommit-requires-clause-part g c =
+    let m : Queued = c.index_mut-item.result.now in
+    let P : Queued → Type 0 = λ x. IsPart x.slot.region.page (size_of x.slot) c.args.range in
+    let part : HoldsAt (λ x. P x × IsSlot x.slot) c.self.inside.list.items c.args.at = rw (← c.self.view_is) at c.requires.part in
+    subst P (sym c.index_mut-item.ensures.value) (part m).0
+
+pub decommit-requires-clause-fits : goal.decommit-requires-clause-fits
+decommit-requires-clause-fits g c =
+    let m : Queued = c.index_mut-item.result.now in
+    let P : Queued → Type 0 = λ x. IsPart x.slot.region.page (size_of x.slot) c.args.range in
+    let Q : Queued → Type 0 = λ x. IsSlot x.slot in
+    let part : HoldsAt (λ x. P x × Q x) c.self.inside.list.items c.args.at = rw (← c.self.view_is) at c.requires.part in
+    subst Q (sym c.index_mut-item.ensures.value) (part m).1
+
+pub returns-clause-ok : goal.returns-clause-ok
+returns-clause-ok g c =
+    let xs : List Queued = c.self.inside.list.items in
+    let m : Queued = c.index_mut-item.result.now in
+    let inside : c.args.at < length xs = rw (← c.self.view_is) at c.requires.inside in
+    let read : (d : Queued) → m ≡ slice_index_or xs c.args.at d = λ d. get_or_read xs c.args.at m inside c.index_mut-item.ensures.value d in
+    rw (← c.self.view_is) (on_ok_weaker c.decommit.result
+    (λ e d. ap (λ (x : Queued). record { items = slice_set xs c.args.at x; room = c.self.inside.room }) (e ∙ ap (λ (x : Queued). record x { slot = decommitted_at c.args.range x.slot }) (read d)))
+    c.decommit.ensures.ok)
+
+pub returns-clause-err : goal.returns-clause-err
+returns-clause-err g c =
+    let xs : List Queued = c.self.inside.list.items in
+    let m : Queued = c.index_mut-item.result.now in
+    let inside : c.args.at < length xs = rw (← c.self.view_is) at c.requires.inside in
+    let read : (d : Queued) → m ≡ slice_index_or xs c.args.at d = λ d. get_or_read xs c.args.at m inside c.index_mut-item.ensures.value d in
+    let L : Queued → Type 0 = λ x. IsLeftItem c.args.range x c.decommit.new.self in
+    rw (← c.self.view_is) (on_err_weaker c.decommit.result (λ e d. (c.decommit.new.self, subst L (read d) e, refl)) c.decommit.ensures.err)

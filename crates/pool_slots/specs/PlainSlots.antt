@@ -1,0 +1,68 @@
+-- The region of a table or a stack as a slot without image: what is written to it, and how it is reset.
+use Rattle.std.specs.Prelude.{◌≡◌, ℕ, ◌+◌, ◌-◌, List, [], ◌∷◌, min, replicate, Bool, true, false, None, IfSome}
+use Rattle.pool_pages.specs.Told.{overwritten}
+use Rattle.pool_images.specs.declared.ranges.ByteRange.{ByteRange}
+use Rattle.pool_images.specs.Slots.{Slot, IsSlot, IsReady, IsClean, Holds, Reads, size_of, reset_ranges}
+use Rattle.pool_slots.specs.SlotQueues.{CanBeZeroed, zeroed_slot}
+
+-- It can be used: it is whole pages without image, all of which can be reached and go back to zeros.
+pub record IsPlain (s : Slot) : Type 0 where
+  pub fits : IsSlot s
+  pub whole : size_of s ≡ s.static_size
+  pub all : s.accessible.bytes ≡ s.static_size
+  pub image : s.image ≡ None
+  pub not_dirty : s.dirty ≡ false
+  pub ready : IfSome s.region.contents (IsReady s)
+
+-- the slot after bytes of it were written
+abbrev pub plain_written : ℕ → List ℕ → Slot → Slot
+plain_written at new s = record s { region = overwritten (s.base.bytes + at) new s.region }
+
+-- how many bytes a reset keeps resident, and the slot once it has set them by hand: those of a stack at its top, those of a
+-- table at its beginning
+abbrev pub top_kept : ℕ → Slot → ℕ
+top_kept keep s = min keep s.static_size
+
+abbrev pub top_reset : ℕ → Slot → Slot
+top_reset keep s = plain_written (s.static_size - top_kept keep s) (replicate (top_kept keep s) 0) s
+
+abbrev pub bottom_reset : ℕ → ℕ → Slot → Slot
+bottom_reset keep used s = plain_written 0 (replicate (min keep used) 0) s
+
+-- what is left to be decommitted: the whole rest of a stack, also where that is nothing, and the rest of what a table used
+abbrev pub below_top : ℕ → Slot → List ByteRange
+below_top keep s = record { start = 0; len = s.static_size - top_kept keep s } ∷ []
+
+abbrev pub above_bottom : ℕ → ℕ → List ByteRange
+above_bottom keep used = reset_ranges keep used
+
+-- of what the slot holds, the bytes from one place on are what they go back to
+abbrev pub IsUnusedFrom : ℕ → Slot → Type 0
+IsUnusedFrom used s = IfSome s.region.contents (Holds s used (size_of s))
+
+-- A stack: its number, the slot that its usable bytes are, and whether it is given back zeroed.
+pub record StackState : Type 0 where
+  pub index : ℕ
+  pub slot : Slot
+  pub zeroing : Bool
+
+-- what zeroing a stack leaves of it, how many bytes it keeps resident, and what is left to be decommitted
+abbrev pub stack_zeroed : Bool → ℕ → StackState → StackState
+stack_zeroed false keep s = s
+stack_zeroed true keep s = record s { slot = top_reset keep s.slot }
+
+abbrev pub stack_kept : Bool → ℕ → StackState → ℕ
+stack_kept false keep s = 0
+stack_kept true keep s = top_kept keep s.slot
+
+abbrev pub stack_ranges : Bool → ℕ → StackState → List ByteRange
+stack_ranges false keep s = []
+stack_ranges true keep s = below_top keep s.slot
+
+-- A clean plain slot reads as zeros: that is how a table's and a zeroed stack's bytes begin each time.
+abbrev pub CleanSlotsReadZeros : Type 0
+CleanSlotsReadZeros = (s : Slot) → IsPlain s → IsClean s → Reads s s.static_size (replicate s.static_size 0)
+
+-- A slot that is zeroed by hand is clean, whatever it held.
+abbrev pub ZeroedSlotsAreClean : Type 0
+ZeroedSlotsAreClean = (n : ℕ) (s : Slot) → CanBeZeroed n s → IsClean (zeroed_slot n s)

@@ -1,0 +1,276 @@
+-- The decommit queue of slots of every kind: ranges of slots that are to be decommitted, and the slots that go back to their
+-- pools once that is done.
+use Rattle.std.specs.Prelude.{◌≡◌, ℕ, ◌+◌, ◌-◌, ◌^◌, ◌%◌, ◌≤◌, ◌==◌, ◌&&◌, ◌⊎◌, List, [], ◌∷◌, ◌++◌, length, map, filter, replicate, All, Bool, true, false, if◌then◌else◌, Option, None, Some, is_some, IfSome, not}
+use Rattle.std.specs.List.{list_any, AllByRecursion, AllZip}
+use Rattle.pool_hall.specs.declared.unit_name.SlotKind.{SlotKind}
+use Rattle.pool_hall.specs.declared.unit_name.SlotKind.TheVariants as of_slot
+use Rattle.pool_pages.specs.Count.{count}
+use Rattle.pool_pages.specs.Contents.{IsIn, page_bytes, page_origin}
+use Rattle.pool_pages.specs.Told.{Told, decommitting, overwritten}
+use Rattle.pool_pages.specs.declared.pages.PageCalls.{PageCalls}
+use Rattle.pool_images.specs.declared.ranges.ByteRange.{ByteRange}
+use Rattle.pool_images.specs.Slots.{Slot, IsSlot, IsReady, IsClean, IsLeft, IsPart, CallFaulted, Holds, size_of, decommitted_all}
+use Rattle.pool_slots.specs.Cells.{all_calls}
+use Rattle.pool_slots.specs.Queues.{IsInSome, IsSlotLeft, front, behind}
+use Rattle.pool_slots.specs.SlotNames.{slot_kind}
+use Rattle.pool_slots.specs.declared.queued_range.QueueKind.{QueueKind}
+use Rattle.pool_slots.specs.declared.queued_range.QueuedRange.{QueuedRange}
+use Rattle.pool_slots.specs.declared.slot_name.SlotName.{SlotName}
+use Rattle.pool_slots.specs.declared.slot_name.RegionNumbers.{RegionNumbers}
+
+-- A region without image, all of which can be reached from a place on, seen as a slot: as a table or a stack has it.
+abbrev pub plain_slot : ℕ → Told → Slot
+plain_slot base region = record {
+  region = region;
+  base = count region.page base;
+  accessible = count region.page (region.len - base);
+  static_size = region.len - base;
+  image = None;
+  dirty = false;
+  colour = None;
+}
+
+-- A slot on its way back: its name, the slot, whether it is clean once its ranges are decommitted, how many bytes it keeps
+-- resident, how many of its bytes are zeroed by hand where a decommit fails, if it is zeroed so, and the numbers that its
+-- region went out with.
+pub record Queued : Type 0 where
+  pub name : SlotName
+  pub slot : Slot
+  pub known : Bool
+  pub bytes : ℕ
+  pub by_hand : Option ℕ
+  pub numbers : RegionNumbers
+
+-- such slots in order, and room for so many
+pub record QueuedList : Type 0 where
+  pub items : List Queued
+  pub room : ℕ
+
+-- The ranges and the slots in the order in which they were pushed, and room for so many of each. How often the whole
+-- queue was taken, and how many slots were ever pushed or appended, both modulo 2 ^ 64.
+pub record Queue : Type 0 where
+  pub ranges : List QueuedRange
+  pub slots : List Queued
+  pub range_room : ℕ
+  pub slot_room : ℕ
+  pub takes : ℕ
+  pub appended : ℕ
+
+abbrev pub empty_queue : ℕ → ℕ → Queue
+empty_queue ranges slots = record { ranges = []; slots = []; range_room = ranges; slot_room = slots; takes = 0; appended = 0 }
+
+-- the queue without its ranges and slots
+abbrev pub drained : Queue → Queue
+drained q = record q { ranges = []; slots = [] }
+
+-- the names are one
+abbrev pub same_kind : SlotKind → SlotKind → Bool
+same_kind of_slot.Memory of_slot.Memory = true
+same_kind of_slot.Table of_slot.Table = true
+same_kind of_slot.Stack of_slot.Stack = true
+same_kind of_slot.Heap of_slot.Heap = true
+same_kind _ _ = false
+
+abbrev pub same_slot : SlotName → SlotName → Bool
+same_slot a b = same_kind a.kind b.kind && a.slot == b.slot
+
+-- the slot that a range is of
+abbrev pub owner : QueuedRange → SlotName
+owner r = record { kind = slot_kind r.kind; slot = r.slot.0 }
+
+abbrev pub is_of : SlotName → QueuedRange → Bool
+is_of name r = same_slot (owner r) name
+
+-- the ranges of a slot, in order
+abbrev pub ranges_of : SlotName → List QueuedRange → List ByteRange
+ranges_of name ranges = map (λ r. r.range) (filter (is_of name) ranges)
+
+-- the slot is among these
+abbrev pub holds : SlotName → List Queued → Bool
+holds name slots = list_any (λ m. same_slot name m.name) slots
+
+-- each range is of a slot that the queue holds
+abbrev pub HasOwners : Queue → Type 0
+HasOwners q = AllByRecursion (λ r. holds (owner r) q.slots ≡ true) q.ranges
+
+-- no two of the slots are one
+abbrev pub AreDistinct : List Queued → Type 0
+AreDistinct [] = Unit {0}
+AreDistinct (m ∷ ms) = (holds m.name ms ≡ false) × AreDistinct ms
+
+-- none of the slots is one of those
+abbrev pub AreApart : List Queued → List Queued → Type 0
+AreApart these those = AllByRecursion (λ m. holds m.name those ≡ false) these
+
+-- A plain slot can be zeroed by hand: its pages go back to zeros and can be reached, and those from `n` on hold zeros.
+pub record CanBeZeroed (n : ℕ) (s : Slot) : Type 0 where
+  pub fits : IsSlot s
+  pub image : s.image ≡ None
+  pub not_dirty : s.dirty ≡ false
+  pub within : n ≤ s.accessible.bytes
+  pub ready : IfSome s.region.contents (IsReady s)
+  pub rest : IfSome s.region.contents (Holds s n (size_of s))
+
+-- its first n bytes are zeroed by hand
+abbrev pub zeroed_slot : ℕ → Slot → Slot
+zeroed_slot n s = record s { region = overwritten s.base.bytes (replicate n 0) s.region }
+
+-- The slot's ranges are whole pages of it, and once they are decommitted, a known slot is clean. A slot that is zeroed by
+-- hand where a decommit fails can be, at all times.
+pub record LeavesClean (ranges : List QueuedRange) (m : Queued) : Type 0 where
+  pub fits : IsSlot m.slot
+  pub parts : All (IsPart m.slot.region.page (size_of m.slot)) (ranges_of m.name ranges)
+  pub clean : m.known ≡ true → IsClean (decommitted_all (ranges_of m.name ranges) m.slot)
+  pub zeroed : IfSome m.by_hand (λ n. CanBeZeroed n m.slot)
+  pub bytes : m.bytes ≤ 2 ^ 32
+
+-- The same of a slot beside its own ranges, as a reset leaves them.
+pub record IsReset (ranges : List ByteRange) (m : Queued) : Type 0 where
+  pub fits : IsSlot m.slot
+  pub parts : All (IsPart m.slot.region.page (size_of m.slot)) ranges
+  pub clean : m.known ≡ true → IsClean (decommitted_all ranges m.slot)
+  pub zeroed : IfSome m.by_hand (λ n. CanBeZeroed n m.slot)
+  pub bytes : m.bytes ≤ 2 ^ 32
+
+-- what holds of every queue
+pub record IsQueue (q : Queue) : Type 0 where
+  pub range_room : length q.ranges ≤ q.range_room
+  pub slot_room : length q.slots ≤ q.slot_room
+  pub distinct : AreDistinct q.slots
+  pub each : AllByRecursion (LeavesClean q.ranges) q.slots
+
+-- each page of the slot holds what it goes back to, or is in a range of the slot
+abbrev pub IsCovered : List QueuedRange → Queued → Type 0
+IsCovered ranges m = IfSome m.slot.region.contents (λ c.
+    (k : ℕ) → IsIn m.slot.base.bytes (size_of m.slot) m.slot.region.page k →
+    (page_bytes k c ≡ page_origin k c) ⊎ IsInSome m.slot.base.bytes m.slot.region.page k (ranges_of m.name ranges))
+
+-- Nothing of a known slot is forgotten: each of its pages that doesn't hold what it goes back to is in a range of that
+-- slot in the same queue.
+abbrev pub ForgetsNothing : Queue → Type 0
+ForgetsNothing q = AllByRecursion (λ m. m.known ≡ true → IsCovered q.ranges m) q.slots
+
+-- the queue with one range more, and with one slot more
+abbrev pub with_range : QueuedRange → Queue → Queue
+with_range r q = record q { ranges = q.ranges ++ r ∷ [] }
+
+abbrev pub with_slot : Queued → Queue → Queue
+with_slot m q = record q { slots = q.slots ++ m ∷ []; appended = (q.appended + 1) % 2 ^ 64 }
+
+-- both queues' ranges and slots, in order
+abbrev pub after_append : Queue → Queue → Queue
+after_append q more = record q { ranges = q.ranges ++ more.ranges; slots = q.slots ++ more.slots; appended = (q.appended + length more.slots) % 2 ^ 64 }
+
+-- the queue once it was taken, and the empty queue into which it was taken
+abbrev pub after_take : Queue → Queue
+after_take q = record q { ranges = []; slots = []; takes = (q.takes + 1) % 2 ^ 64 }
+
+abbrev pub taken_into : Queue → Queue → Queue
+taken_into spare q = record spare { ranges = q.ranges; slots = q.slots }
+
+-- an empty queue with the room of another
+pub record IsSpareOf (q spare : Queue) : Type 0 where
+  pub no_ranges : spare.ranges ≡ []
+  pub no_slots : spare.slots ≡ []
+  pub range_room : spare.range_room ≡ q.range_room
+  pub slot_room : spare.slot_room ≡ q.slot_room
+
+-- the slot of the first range; where there is none, it doesn't matter which
+abbrev pub first_slot : List QueuedRange → SlotName
+first_slot [] = record { kind = of_slot.Memory; slot = 0 }
+first_slot (r ∷ rs) = owner r
+
+-- the slots, of which the one with this name is changed
+abbrev pub change_at : SlotName → (Slot → Slot) → Queued → Queued
+change_at name change m = if same_slot name m.name then record m { slot = change m.slot } else m
+
+-- the ranges of a slot at the front are decommitted, and leave
+abbrev pub after_run_of : SlotName → Queue → Queue
+after_run_of name q = record q {
+  ranges = behind (is_of name) q.ranges;
+  slots = map (change_at name (decommitted_all (map (λ r. r.range) (front (is_of name) q.ranges)))) q.slots;
+}
+
+-- the first run of ranges of one slot is decommitted
+abbrev pub after_run : Queue → Queue
+after_run q = after_run_of (first_slot q.ranges) q
+
+-- nothing is known of the slot any more, since a call on the slot with this name failed
+pub record IsLeftBy (faulted : SlotName) (old new : Queued) : Type 0 where
+  pub same : new ≡ record old { slot = new.slot; known = false }
+  pub slot : IsSlotLeft (same_slot faulted old.name) old.slot new.slot
+
+-- a decommit of the first run failed: all ranges are dropped, and nothing is known of any slot
+pub record IsFaulted (old new : Queue) : Type 0 where
+  pub ranges : new.ranges ≡ []
+  pub slots : AllZip (IsLeftBy (first_slot old.ranges)) old.slots new.slots
+  pub range_room : new.range_room ≡ old.range_room
+  pub slot_room : new.slot_room ≡ old.slot_room
+  pub takes : new.takes ≡ old.takes
+  pub appended : new.appended ≡ old.appended
+
+-- a slot, and all slots, once their ranges are decommitted
+abbrev pub settle : List QueuedRange → Queued → Queued
+settle ranges m = record m { slot = decommitted_all (ranges_of m.name ranges) m.slot }
+
+abbrev pub settled : Queue → List Queued
+settled q = map (settle q.ranges) q.slots
+
+-- a slot that goes back to its pool: it is clean where it is known
+pub record IsSettled (m : Queued) : Type 0 where
+  pub clean : m.known ≡ true → IsClean m.slot
+  pub bytes : m.bytes ≤ 2 ^ 32
+
+-- the slots differ, and each can go back to its pool
+pub record AreSettled (items : List Queued) : Type 0 where
+  pub distinct : AreDistinct items
+  pub each : AllByRecursion IsSettled items
+
+-- nothing is known of the slot any more
+abbrev pub forgotten : Queued → Queued
+forgotten m = record m { known = false }
+
+-- A slot after a fault in the decommit of a range of it. What can be zeroed by hand still can be.
+pub record IsLeftSlot (r : ByteRange) (old new : Slot) : Type 0 where
+  pub left : IsLeft old new
+  pub call : CallFaulted (decommitting (old.base.bytes + r.start) r.len) old new
+  pub fits : IsSlot new
+  pub zeroed : (n : ℕ) → CanBeZeroed n old → CanBeZeroed n new
+
+pub record IsLeftItem (r : ByteRange) (old new : Queued) : Type 0 where
+  pub same : new ≡ record old { slot = new.slot }
+  pub slot : IsLeftSlot r old.slot new.slot
+
+-- the queue with more ranges of a slot
+abbrev pub with_ranges : QueueKind → ℕ → List ByteRange → Queue → Queue
+with_ranges kind slot ranges q = record q { ranges = q.ranges ++ map (λ r. record { kind = kind; slot = record { 0 = slot }; range = r }) ranges }
+
+-- the calls on the regions of slots, together
+abbrev pub calls_held : List Queued → PageCalls
+calls_held slots = all_calls (map (λ m. m.slot.region.calls) slots)
+
+-- the first slot of a kind, and the others
+abbrev pub first_of_kind : SlotKind → List Queued → Option Queued
+first_of_kind kind [] = None
+first_of_kind kind (m ∷ ms) = if same_kind kind m.name.kind then Some m else first_of_kind kind ms
+
+abbrev pub others_of_kind : SlotKind → List Queued → List Queued
+others_of_kind kind [] = []
+others_of_kind kind (m ∷ ms) = if same_kind kind m.name.kind then ms else m ∷ others_of_kind kind ms
+
+-- the slot is still to be zeroed by hand: a decommit failed, and nothing is known of it
+abbrev pub is_to_zero : SlotKind → Queued → Bool
+is_to_zero kind m = same_kind kind m.name.kind && (is_some m.by_hand && not m.known)
+
+-- it is zeroed, and clean then
+abbrev pub zeroed_by : Option ℕ → Queued → Queued
+zeroed_by None m = m
+zeroed_by (Some n) m = record m { slot = zeroed_slot n m.slot; known = true }
+
+abbrev pub zeroed : Queued → Queued
+zeroed m = zeroed_by m.by_hand m
+
+-- the first such slot of a kind is zeroed
+abbrev pub first_zeroed : SlotKind → List Queued → List Queued
+first_zeroed kind [] = []
+first_zeroed kind (m ∷ ms) = if is_to_zero kind m then zeroed m ∷ ms else m ∷ first_zeroed kind ms

@@ -1,0 +1,192 @@
+ghost use Rattle.std.specs.Prelude.{◌≡◌, ◌+◌, ◌<◌, ◌≤◌, ◌==◌, [], ◌∷◌, ◌++◌, length, map, slice_index_or, slice_set, false, true, ℕ, is_ok, IfOk, IfSome, OnOk, OnErr, MatchOption};
+ghost use Rattle.std.specs.List.{AllByRecursion, HoldsAt, list_any};
+ghost use Rattle.pool_images.specs.Orders.{Follows};
+ghost use Rattle.pool_images.specs.Slots.{IsPart, IsSlot, size_of};
+ghost use Rattle.pool_slots.specs.Queues.{decommitted_at};
+ghost use Rattle.pool_slots.specs.QueueOrders.{decommits};
+ghost use Rattle.pool_slots.specs.SlotQueues.{Queued, CanBeZeroed, same_kind, first_of_kind, others_of_kind, forgotten, IsLeftItem, is_to_zero, first_zeroed, zeroed};
+
+use crate::queued_slot::QueuedSlot;
+use crate::slot_name::same_kind;
+use pool_images::ByteRange;
+use pool_index::SlotKind;
+use pool_pages::{PageFault, Pages};
+use std::alloc::{AllocError, Global};
+use std::collections::VecDeque;
+use std::marker::Model;
+
+/// Slots in order, with room for so many. What is pushed within the room takes no memory.
+#[derive(Drop)]
+pub struct SlotItems<P: Pages> {
+    list: VecDeque<QueuedSlot<P>>,
+    room: usize,
+}
+
+impl<P: Pages> Model for SlotItems<P> {
+    ghost use Rattle.std.specs.Prelude.{◌≤◌, length};
+    ghost use Rattle.std.specs.VecDeque.{deque_capacity};
+    ghost use Rattle.pool_slots.specs.SlotQueues.{QueuedList};
+
+    ghost Value = { QueuedList };
+
+    ghost view = { λ l. record { items = l.list.items; room = l.room } };
+
+    ghost invariant = { λ l. (length l.list.items ≤ l.room) × (l.room ≤ deque_capacity l.list) };
+}
+
+impl<P: Pages> SlotItems<P> {
+    pub fn new(alloc: Global, room: usize) -> Result<Self, AllocError>
+        ensures { IfOk result (λ l. l ≡ record { items = []; room = room }) }
+    {
+        let list = VecDeque::with_capacity(alloc, room)?;
+        Ok(SlotItems { list, room })
+    }
+
+    pub fn len(&self) -> usize
+        ensures value { result ≡ length self.now.items }
+        ensures within { length self.now.items ≤ self.now.room }
+    {
+        self.list.len()
+    }
+
+    pub fn is_empty(&self) -> bool
+        ensures { result ≡ (length self.now.items == 0) }
+    {
+        self.list.is_empty()
+    }
+
+    pub fn get(&self, at: usize) -> &QueuedSlot<P>
+        requires { at < length self.now.items }
+        ensures { result.now ≡ slice_index_or self.now.items at result.now }
+    {
+        &self.list[at]
+    }
+
+    pub fn push(&mut self, item: QueuedSlot<P>)
+        requires { length self.old.items < self.old.room }
+        ensures { self.new ≡ record self.old { items = self.old.items ++ item ∷ [] } }
+    {
+        self.list.push_back_reserved(item);
+    }
+
+    /// Takes out the first slot of a kind. The others keep their order.
+    pub fn take_first(&mut self, kind: SlotKind) -> Option<QueuedSlot<P>>
+        ensures value { result ≡ first_of_kind kind self.old.items }
+        ensures others { self.new ≡ record self.old { items = others_of_kind kind self.old.items } }
+    {
+        let len = self.len();
+        match self.place_of_kind(kind, len) {
+            Some(at) => self.list.remove(at),
+            None => None,
+        }
+    }
+
+    // The place of the first slot of a kind, among the first ones.
+    fn place_of_kind(&self, kind: SlotKind, to: usize) -> Option<usize>
+        requires { to ≤ length self.now.items }
+        ensures { MatchOption result ((k : ℕ) → k < to → HoldsAt (λ m. same_kind kind m.name.kind ≡ false) self.now.items k) (λ at. (at < to) × ((k : ℕ) → k < at → HoldsAt (λ m. same_kind kind m.name.kind ≡ false) self.now.items k) × HoldsAt (λ m. same_kind kind m.name.kind ≡ true) self.now.items at) }
+    {
+        for at in 0..to {
+            if self.is_of_kind(at, kind) {
+                return Some(at);
+            }
+        }
+        None
+    }
+
+    // Whether the slot at a place is of this kind.
+    fn is_of_kind(&self, at: usize, kind: SlotKind) -> bool
+        requires { at < length self.now.items }
+        ensures { HoldsAt (λ m. result ≡ same_kind kind m.name.kind) self.now.items at }
+    {
+        same_kind(kind, self.list[at].name.kind)
+    }
+
+    /// Moves all of the other list behind these.
+    pub fn append(&mut self, other: &mut SlotItems<P>)
+        requires { length self.old.items + length other.old.items ≤ self.old.room }
+        ensures value { self.new ≡ record self.old { items = self.old.items ++ other.old.items } }
+        ensures other { other.new ≡ record other.old { items = [] } }
+    {
+        let Ok(()) = self.list.append(&mut other.list) else {
+            unreachable!()
+        };
+    }
+
+    // Decommits a range of the slot at a place.
+    pub(crate) fn decommit(&mut self, at: usize, range: ByteRange) -> Result<(), PageFault>
+        requires inside { at < length self.old.items }
+        requires part { HoldsAt (λ m. IsPart m.slot.region.page (size_of m.slot) range × IsSlot m.slot) self.old.items at }
+        ensures ok { OnOk result (HoldsAt (λ m. self.new ≡ record self.old { items = slice_set self.old.items at (record m { slot = decommitted_at range m.slot }) }) self.old.items at) }
+        ensures err { OnErr result (HoldsAt (λ m. (n : Queued) × IsLeftItem range m n × (self.new ≡ record self.old { items = slice_set self.old.items at n })) self.old.items at) }
+        ensures order { HoldsAt (λ m. HoldsAt (λ n. Follows (decommits m.slot.base.bytes (range ∷ [])) (is_ok result) m.slot.region n.slot.region) self.new.items at) self.old.items at }
+    {
+        let item = &mut self.list[at];
+        item.decommit(range)
+    }
+
+    // Nothing is known of any slot from now on.
+    pub(crate) fn forget(&mut self)
+        ensures { self.new ≡ record self.old { items = map forgotten self.old.items } }
+    {
+        for at in 0..self.list.len() {
+            self.forget_at(at);
+        }
+    }
+
+    // Nothing is known of the slot at a place from now on.
+    fn forget_at(&mut self, at: usize)
+        requires { at < length self.old.items }
+        ensures { HoldsAt (λ m. self.new ≡ record self.old { items = slice_set self.old.items at (forgotten m) }) self.old.items at }
+    {
+        let item = &mut self.list[at];
+        item.known = false;
+    }
+
+    /// Zeroes by hand the first slot of a kind that is still to be zeroed. Answers whether there was one.
+    pub(crate) fn zero_first(&mut self, kind: SlotKind) -> bool
+        requires { AllByRecursion (λ m. IfSome m.by_hand (λ n. CanBeZeroed n m.slot)) self.old.items }
+        ensures value { result ≡ list_any (is_to_zero kind) self.old.items }
+        ensures zeroed { self.new ≡ record self.old { items = first_zeroed kind self.old.items } }
+    {
+        let len = self.len();
+        match self.place_to_zero(kind, len) {
+            Some(at) => {
+                self.zero_at(at);
+                true
+            }
+            None => false,
+        }
+    }
+
+    // The place of the first slot of a kind that is still to be zeroed, among the first ones.
+    fn place_to_zero(&self, kind: SlotKind, to: usize) -> Option<usize>
+        requires { to ≤ length self.now.items }
+        ensures { MatchOption result ((k : ℕ) → k < to → HoldsAt (λ m. is_to_zero kind m ≡ false) self.now.items k) (λ at. (at < to) × ((k : ℕ) → k < at → HoldsAt (λ m. is_to_zero kind m ≡ false) self.now.items k) × HoldsAt (λ m. is_to_zero kind m ≡ true) self.now.items at) }
+    {
+        for at in 0..to {
+            if self.is_to_zero(at, kind) {
+                return Some(at);
+            }
+        }
+        None
+    }
+
+    // Whether the slot at a place is of this kind and still to be zeroed.
+    fn is_to_zero(&self, at: usize, kind: SlotKind) -> bool
+        requires { at < length self.now.items }
+        ensures { HoldsAt (λ m. result ≡ is_to_zero kind m) self.now.items at }
+    {
+        self.list[at].is_to_zero(kind)
+    }
+
+    // Zeroes by hand the slot at a place.
+    fn zero_at(&mut self, at: usize)
+        requires inside { at < length self.old.items }
+        requires can { HoldsAt (λ m. IfSome m.by_hand (λ n. CanBeZeroed n m.slot)) self.old.items at }
+        ensures { HoldsAt (λ m. self.new ≡ record self.old { items = slice_set self.old.items at (zeroed m) }) self.old.items at }
+    {
+        let item = &mut self.list[at];
+        item.zero();
+    }
+}
