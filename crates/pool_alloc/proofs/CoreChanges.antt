@@ -1,5 +1,5 @@
 -- The pool's parts stay sound where one of them changes.
-use Rattle.std.proofs.Common.{◌≡◌, ℕ, ◌<◌, List, length, refl, sym, subst, inl, inr, get_or, set, ◌≤◌}
+use Rattle.std.proofs.Common.{◌≡◌, ℕ, ◌<◌, List, length, refl, sym, ◌∙◌, subst, inl, inr, get_or, set, ◌≤◌}
 use Rattle.std.proofs.lemmas.Bool.{cases_eq, cases_lt}
 use Rattle.std.proofs.lemmas.List.{length-set, get_or-set_same, get_or-set_other, set_past}
 use Rattle.pool_pages.specs.MakerTold.{MakerTold}
@@ -71,7 +71,9 @@ module _ {P : Type 0} where
         layout = laid_out_same c.settings (length c.cells) c.shards (set c.shards j shard) (length-set c.shards j shard) (λ k. same_shards j k shard c.shards same) core.layout;
         small = core.small;
         cells = core.cells;
-        queues_some = core.queues_some;
+        shards_made = length-set c.shards j shard ∙ core.shards_made;
+        cells_made = core.cells_made;
+        queues_made = core.queues_made;
         queues = core.queues;
       }
 
@@ -93,7 +95,9 @@ module _ {P : Type 0} where
         cells = λ k below.
             let under : k < length c.cells = rw long at below in
             at_set (λ n x. IsPoolCell maker c.settings.behaviour c.settings.max_memory_size n x) c.cells i k cell _ under holds (core.cells k under);
-        queues_some = core.queues_some;
+        shards_made = core.shards_made;
+        cells_made = long ∙ core.cells_made;
+        queues_made = core.queues_made;
         queues = core.queues;
       }
 
@@ -107,7 +111,9 @@ module _ {P : Type 0} where
         layout = core.layout;
         small = core.small;
         cells = core.cells;
-        queues_some = rw long core.queues_some;
+        shards_made = core.shards_made;
+        cells_made = core.cells_made;
+        queues_made = long ∙ core.queues_made;
         queues = λ k below.
             let under : k < length c.queues = rw long at below in
             at_set (λ n q. IsShared maker c.settings q) c.queues i k queue _ under shared (core.queues k under);
@@ -123,6 +129,8 @@ module _ {P : Type 0} where
         layout = core.layout;
         small = core.small;
         cells = core.cells;
-        queues_some = core.queues_some;
+        shards_made = core.shards_made;
+        cells_made = core.cells_made;
+        queues_made = core.queues_made;
         queues = core.queues;
       }

@@ -1,20 +1,16 @@
--- A frame that fits the pool still fits after its step, and one that is shaped for a pool is so for one of the same sizes.
-use Rattle.std.proofs.Common.{◌≡◌, ℕ, ◌<◌, List, length, Option, Some, None, refl, sym, ap, subst, arith}
-use Rattle.std.specs.Prelude.{All}
+-- A frame that fits the pool still fits after its step, and after another's.
+use Rattle.std.proofs.Common.{ℕ, length, Option, Some, None, ◌≡◌, refl, sym, ap, subst, arith}
 use Rattle.pool_pages.specs.MakerTold.{MakerTold}
-use Rattle.pool_limits.specs.LimiterTold.{LimiterTold}
-use Rattle.pool_alloc.specs.Leases.{Lease}
 use Rattle.pool_alloc.specs.Places.{right_to, region_of, made_count}
-use Rattle.pool_alloc.specs.Sound.{IsFrame, IsLocal, HasFreedRoom, IsLeaseOf, IsShapedAt, FitsCore}
-use Rattle.pool_alloc.specs.Steps.{After}
-use Rattle.pool_alloc.specs.Stepping.{CanStep, StepsTo, Conserves, IsSameSize, count_granted, grant_count}
+use Rattle.pool_alloc.specs.Sound.{IsFrame, FitsCore}
+use Rattle.pool_alloc.specs.Turns.{After}
+use Rattle.pool_alloc.specs.Stepping.{Conserves, IsSameSize, count_granted, grant_count}
 use Rattle.pool_alloc.specs.declared.pool_core.PoolCore.{PoolCore}
 use Rattle.pool_alloc.specs.declared.pool_core.Settings.{Settings}
 use Rattle.pool_alloc.specs.declared.frame.Frame.{Frame}
 use Rattle.pool_alloc.specs.declared.frame.Grant.TheVariants.{Instance}
 use Rattle.pool_alloc.specs.declared.frame.Outcome.{Outcome}
 use Rattle.pool_alloc.specs.declared.frame.Outcome.TheVariants as answer
-use Rattle.pool_alloc.proofs.Conserving.{conserves, size_kept}
 use Rattle.pool_alloc.proofs.Held.{made_once}
 use Rattle.pool_alloc.proofs.QueueCounts.{leased_regions}
 
@@ -36,37 +32,6 @@ module _ {P : Type 0} where
     memories = omega (arith, fits.memories, b.memories);
   }
 
-  -- A frame that is shaped for a pool is so for one of the same sizes.
-  pub frame_stays : (maker : MakerTold) (old new : PoolCore P) (f : Frame P) → IsSameSize old new → IsFrame maker old f → IsFrame maker new f
-  frame_stays maker old new f size is =
-      let Stripe : Settings → Type 0 = λ s. f.stripe < s.stripes in
-      let Local : Settings → Type 0 = λ s. IsLocal maker s f.local in
-      let Room : Settings → Type 0 = λ s. HasFreedRoom s f in
-      let Leases : List Lease → Settings → Type 0 = λ ls s. All (IsLeaseOf maker s) ls in
-      let BySettings : Settings → Type 0 = λ s. IsShapedAt maker s (length old.cells) (length old.shards) (length old.queues) f.phase f in
-      let ByCells : ℕ → Type 0 = λ n. IsShapedAt maker new.settings n (length old.shards) (length old.queues) f.phase f in
-      let ByShards : ℕ → Type 0 = λ n. IsShapedAt maker new.settings (length new.cells) n (length old.queues) f.phase f in
-      let ByQueues : ℕ → Type 0 = λ n. IsShapedAt maker new.settings (length new.cells) (length new.shards) n f.phase f in
-      record {
-        stripe = subst Stripe (sym size.settings) is.stripe;
-        queue = subst Local (sym size.settings) is.queue;
-        freed_room = subst Room (sym size.settings) is.freed_room;
-        freed_bytes = is.freed_bytes;
-        granted = subst (Leases f.granted.items) (sym size.settings) is.granted;
-        returning = subst (Leases f.returning.items) (sym size.settings) is.returning;
-        shape = subst ByQueues (sym size.queues) (subst ByShards (sym size.shards) (subst ByCells (sym size.cells) (subst BySettings (sym size.settings) is.shape)));
-      }
-
-  -- The same of any step by a row of the table.
-  pub step_conserves : (maker : MakerTold) (old new : LimiterTold) (c : PoolCore P) (f : Frame P) (a : After P) → CanStep maker c f → StepsTo old new c f a → Conserves c f a
-  step_conserves maker old new c f a can steps =
-      let Keeps : After P → Type 0 = λ b. Conserves c f b in
-      subst Keeps (sym steps.1.is) (conserves maker steps.0 c f can steps.1.told)
-
-  pub step_keeps_size : (maker : MakerTold) (old new : LimiterTold) (c : PoolCore P) (f : Frame P) (a : After P) → CanStep maker c f → StepsTo old new c f a → IsSameSize c a.core
-  step_keeps_size maker old new c f a can steps =
-      let Keeps : After P → Type 0 = λ b. IsSameSize c b.core in
-      subst Keeps (sym steps.1.is) (size_kept maker steps.0 c f can steps.1.told)
-
-  pub step_fits : (maker : MakerTold) (old new : LimiterTold) (c : PoolCore P) (f : Frame P) (a : After P) → CanStep maker c f → StepsTo old new c f a → FitsCore a.core a.frame
-  step_fits maker old new c f a can steps = fits_after c f a can.fits (step_conserves maker old new c f a can steps) (step_keeps_size maker old new c f a can steps)
+  -- A frame that is shaped for a pool is so for one of the same settings.
+  pub frame_stays : (maker : MakerTold) (old new : PoolCore P) (f : Frame P) → IsSameSize old new → IsFrame maker old.settings f → IsFrame maker new.settings f
+  frame_stays maker old new f size is = let F : Settings → Type 0 = λ s. IsFrame maker s f in subst F (sym size.settings) is

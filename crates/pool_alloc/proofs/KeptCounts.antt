@@ -51,4 +51,4 @@ module _ {P : Type 0} where
   -- A frame has no region without its slot.
   pub frame_regions : (k : ℕ) (f : Frame P) → frame_count (region_of k) f ≤ frame_count (right_to k) f
   frame_regions k f =
-      omega (arith, leased_regions k f.granted.items, leased_regions k f.returning.items, queued_regions k f.local.memories, freed_regions k f.freed.items, phase_regions k f.phase)
+      omega (arith, leased_regions k f.objects.items, queued_regions k f.local.memories, freed_regions k f.freed.items, phase_regions k f.phase)

@@ -16,7 +16,8 @@ use Rattle.pool_slots.specs.declared.queued_range.QueuedRange.{QueuedRange}
 use Rattle.pool_slots.specs.Queues.{QueueState, QueuedMemory, empty_queue, with_ranges, AreDistinct, AreApart, LeavesClean, IsLeftBy, holds, is_held, with_memory, after_take, taken_into, drained, after_append, first_slot, after_run}
 use Rattle.pool_alloc.specs.Answers.{Decommits, Resets}
 use Rattle.pool_alloc.specs.Sound.{IsPoolSlot, IsSettings, IsShared, IsLocal, IsQueuedOf}
-use Rattle.pool_alloc.proofs.Relying.{IsResetLocal}
+use Rattle.pool_alloc.specs.RangeRuns.{runs}
+use Rattle.pool_alloc.proofs.Runs.{one_run, no_runs, grouped_joined, grouped_decommitted}
 use Rattle.pool_alloc.specs.declared.pool_core.Settings.{Settings}
 use Rattle.pool_alloc.proofs.SlotIdentity.{queued_after_run, length_after_run, queued_faulted}
 use Rattle.pool_slots.proofs.QueueChanges.{leaves_clean, queue_joined, owned_joined}
@@ -34,13 +35,14 @@ drained_shared maker s q settings range_room slot_room =
       slot_room = slot_room;
       regions = All-nil (IsQueuedOf maker s.behaviour s.max_memory_size);
       queue = record { range_room = omega arith; slot_room = omega arith; distinct = tt; each = tt };
+      grouped = omega arith;
     }
 
 pub taken_shared : (maker : MakerTold) (s : Settings) (q : QueueState) → IsSettings s → q.range_room ≡ 2 * s.batch → q.slot_room ≡ 2 * s.batch → IsShared maker s (after_take q)
 taken_shared maker s q settings range_room slot_room = drained_shared maker s (record q { takes = (after_take q).takes }) settings range_room slot_room
 
 pub local_of_shared : (maker : MakerTold) (s : Settings) (q : QueueState) → IsShared maker s q → IsLocal maker s q
-local_of_shared maker s q shared = record { owners = shared.owners; range_room = shared.range_room; slot_room = shared.slot_room; regions = shared.regions; queue = shared.queue }
+local_of_shared maker s q shared = record { owners = shared.owners; range_room = shared.range_room; slot_room = shared.slot_room; regions = shared.regions; queue = shared.queue; grouped = shared.grouped }
 
 -- a local queue that a queue was taken into
 pub taken_local : (maker : MakerTold) (s : Settings) (spare q : QueueState) → IsLocal maker s spare → IsLocal maker s q → IsLocal maker s (taken_into spare q)
@@ -56,6 +58,7 @@ taken_local maker s spare q had local =
         distinct = local.queue.distinct;
         each = local.queue.each;
       };
+      grouped = local.grouped;
     }
 
 pub drained_local : (maker : MakerTold) (s : Settings) (q : QueueState) → q.range_room ≡ 2 * s.batch → q.slot_room ≡ 2 * s.batch → IsLocal maker s (drained q)
@@ -66,6 +69,7 @@ drained_local maker s q range_room slot_room =
       slot_room = slot_room;
       regions = All-nil (IsQueuedOf maker s.behaviour s.max_memory_size);
       queue = record { range_room = omega arith; slot_room = omega arith; distinct = tt; each = tt };
+      grouped = omega arith;
     }
 
 -- A queue that a local one was appended to. The two are apart.
@@ -77,6 +81,7 @@ joined_local maker s q more shared local apart one short =
       slot_room = shared.slot_room;
       regions = All-append (IsQueuedOf maker s.behaviour s.max_memory_size) q.memories more.memories shared.regions local.regions;
       queue = queue_joined q more shared.queue local.queue (omega (arith, shared.range_room, shared.short)) (omega (arith, shared.slot_room, shared.short, shared.slots)) shared.owners local.owners apart;
+      grouped = grouped_joined q more shared.grouped local.grouped;
     }
 
 pub joined_shared : (maker : MakerTold) (s : Settings) (q more : QueueState) → IsShared maker s q → IsLocal maker s (after_append q more) → length more.memories ≡ 1 → 0 < length more.ranges → length (q.ranges ++ more.ranges) < s.batch → IsShared maker s (after_append q more)
@@ -89,6 +94,7 @@ joined_shared maker s q more shared local one some short =
       slot_room = local.slot_room;
       regions = local.regions;
       queue = local.queue;
+      grouped = local.grouped;
     }
 
 -- the local queue once ranges of one slot were decommitted, or a decommit failed: it holds as many slots
@@ -105,6 +111,7 @@ decommitted_local maker s true old new faulted local =
         slot_room = faulted.slot_room ∙ local.slot_room;
         regions = queued_faulted maker s.behaviour s.max_memory_size (first_slot old.ranges) old.memories new.memories faulted.memories local.regions;
         queue = faulted_queue old new faulted local.queue;
+        grouped = grouped_decommitted true old new faulted local.grouped;
       };
       long = sym (length_all_zip (IsLeftBy (first_slot old.ranges)) old.memories new.memories faulted.memories);
     }
@@ -117,6 +124,7 @@ decommitted_local maker s false old new run local =
         slot_room = local.slot_room;
         regions = queued_after_run maker s.behaviour s.max_memory_size old local.regions;
         queue = run_queue old local.owners local.queue;
+        grouped = grouped_decommitted false old (after_run old) refl local.grouped;
       };
       long = length_after_run old;
     } in
@@ -132,6 +140,7 @@ rest_local maker s m rest q none is local =
       slot_room = local.slot_room;
       regions = All-rest (IsQueuedOf maker s.behaviour s.max_memory_size) m rest q.memories is local.regions;
       queue = rest_queue m rest q is local.queue;
+      grouped = no_runs q.ranges (length rest) none;
     }
 
 -- The empty local queue with ranges of one slot and then that slot, which leaves clean once they are decommitted.
@@ -163,7 +172,13 @@ one_slot_local maker s ranges m q range_room slot_room some few of is holds_it l
         distinct = subst D (sym holds_it) (refl, tt);
         each = subst E (sym holds_it) (leaves, tt);
       };
+      grouped = omega (arith, ap runs is, one_run m.index ranges, one);
     }
+
+-- the local queue once a memory was reset into it: it has that slot alone
+pub record IsResetLocal (maker : MakerTold) (s : Settings) (q : QueueState) : Type 0 where
+  pub queue : IsLocal maker s q
+  pub one : length q.memories ≡ 1
 
 -- The local queue after a reset of a slot that it is told of: the ranges are few, and all of that slot.
 pub reset_local : (maker : MakerTold) (s : Settings) (ranges : List ByteRange) (m : QueuedMemory) (q : QueueState) → IsSettings s → IsLocal maker s q → q.ranges ≡ [] → q.memories ≡ [] → length ranges ≤ 2 * s.batch → IsPoolSlot maker s.behaviour s.max_memory_size m.index m.slot → LeavesClean (map (λ r. record { kind = Memory; slot = record { 0 = m.index }; range = r }) ranges) m → IsResetLocal maker s (with_memory m (record q { ranges = q.ranges ++ map (λ r. record { kind = Memory; slot = record { 0 = m.index }; range = r }) ranges }))

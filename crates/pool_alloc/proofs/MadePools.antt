@@ -33,6 +33,8 @@ settings_sound page config tunables offered paged within small =
       bounded = rounded_leaves page config.limits.max_memory_size paged small;
       batch = (within.batch_at_least, within.batch_at_most);
       stripes = omega arith;
+      shards = (omega arith, omega arith);
+      queues = (omega arith, omega arith);
       slots_per_shard = omega arith;
       memories = omega (arith, within.memories_per_module);
     }
@@ -69,6 +71,7 @@ empty_shared maker s zero some one = record {
   slot_room = refl;
   regions = All-nil (IsQueuedOf maker s.behaviour s.max_memory_size);
   queue = record { range_room = omega arith; slot_room = omega arith; distinct = tt; each = tt };
+  grouped = omega arith;
 }
 empty_shared maker s (suc i) some one = absurd (omega arith)
 
@@ -99,7 +102,9 @@ module _ {P : Type 0} where
         cells = λ i below.
             let C : Cell → Type 0 = λ x. IsPoolCell maker c.settings.behaviour c.settings.max_memory_size i x in
             subst C (sym (made.cells.each i (rw made.cells.number at below))) refl;
-        queues_some = omega (arith, ap length made.queues);
+        shards_made = ap length made.shards ∙ sym (ap (λ (s : Settings). s.shards) made.settings);
+        cells_made = made.cells.number ∙ sym (ap (λ (s : Settings). s.slots) made.settings);
+        queues_made = ap length made.queues ∙ sym (ap (λ (s : Settings). s.queues) made.settings);
         queues = subst Q (sym (made.queues ∙ ap (λ (q : QueueState). q ∷ []) room)) (λ i below. empty_shared maker c.settings i (omega (arith, batch, within.batch_at_least)) below);
       }
 

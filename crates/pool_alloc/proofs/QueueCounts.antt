@@ -61,30 +61,34 @@ pub freed_parted : (t : Thing) (p : FreedSlot → Bool) (xs : List FreedSlot) �
 freed_parted t p xs = sum_by-filter_both p (λ x. not (p x)) (λ x. refl) (λ (y : FreedSlot). slot_count t y.slot) xs
 
 -- slots whose numbers stay are counted as before
-queued_zip : (t : Thing) (R : QueuedMemory → QueuedMemory → Type 0) → ((a b : QueuedMemory) → R a b → b.index ≡ a.index) → (ms ns : List QueuedMemory) → AllZip R ms ns → queued_count t ns ≡ queued_count t ms
-queued_zip t R same [] [] z = refl
-queued_zip t R same [] (n ∷ ns) z = absurd z
-queued_zip t R same (m ∷ ms) [] z = absurd z
-queued_zip t R same (m ∷ ms) (n ∷ ns) z =
-    let here : both_count t n.index ≡ both_count t m.index = ap (both_count t) (same m n z.0) in
-    omega (arith, queued_first t m ms, queued_first t n ns, queued_zip t R same ms ns z.1)
+numbers_zip : (of : ℕ → ℕ) (R : QueuedMemory → QueuedMemory → Type 0) → ((a b : QueuedMemory) → R a b → b.index ≡ a.index) → (ms ns : List QueuedMemory) → AllZip R ms ns → sum_by (λ m. of m.index) ns ≡ sum_by (λ m. of m.index) ms
+numbers_zip of R same [] [] z = refl
+numbers_zip of R same [] (n ∷ ns) z = absurd z
+numbers_zip of R same (m ∷ ms) [] z = absurd z
+numbers_zip of R same (m ∷ ms) (n ∷ ns) z =
+    omega (arith, ap of (same m n z.0), sum_by-cons (λ (x : QueuedMemory). of x.index) m ms, sum_by-cons (λ (x : QueuedMemory). of x.index) n ns, numbers_zip of R same ms ns z.1)
 
-queued_map : (t : Thing) (f : QueuedMemory → QueuedMemory) → ((m : QueuedMemory) → (f m).index ≡ m.index) → (ms : List QueuedMemory) → queued_count t (map f ms) ≡ queued_count t ms
-queued_map t f same [] = refl
-queued_map t f same (m ∷ ms) =
-    let here : both_count t (f m).index ≡ both_count t m.index = ap (both_count t) (same m) in
-    omega (arith, queued_first t m ms, queued_first t (f m) (map f ms), queued_map t f same ms)
+numbers_map : (of : ℕ → ℕ) (f : QueuedMemory → QueuedMemory) → ((m : QueuedMemory) → (f m).index ≡ m.index) → (ms : List QueuedMemory) → sum_by (λ m. of m.index) (map f ms) ≡ sum_by (λ m. of m.index) ms
+numbers_map of f same [] = refl
+numbers_map of f same (m ∷ ms) =
+    omega (arith, ap of (same m), sum_by-cons (λ (x : QueuedMemory). of x.index) m ms, sum_by-cons (λ (x : QueuedMemory). of x.index) (f m) (map f ms), numbers_map of f same ms)
 
 changed_index : (b : Bool) (m n : QueuedMemory) → n.index ≡ m.index → (if b then n else m).index ≡ m.index
 changed_index true m n same = same
 changed_index false m n same = refl
 
 -- so a decommit leaves the slots of a queue, and so does one that fails
+pub run_numbers : (of : ℕ → ℕ) (q : QueueState) → sum_by (λ m. of m.index) (after_run q).memories ≡ sum_by (λ m. of m.index) q.memories
+run_numbers of q = numbers_map of _ (λ m. changed_index _ m _ refl) q.memories
+
+pub faulted_numbers : (of : ℕ → ℕ) (old new : QueueState) → IsFaulted old new → sum_by (λ m. of m.index) new.memories ≡ sum_by (λ m. of m.index) old.memories
+faulted_numbers of old new faulted = numbers_zip of (IsLeftBy (first_slot old.ranges)) (λ a b left. left.index) old.memories new.memories faulted.memories
+
 pub run_counts : (t : Thing) (q : QueueState) → queued_count t (after_run q).memories ≡ queued_count t q.memories
-run_counts t q = queued_map t _ (λ m. changed_index _ m _ refl) q.memories
+run_counts t q = run_numbers (both_count t) q
 
 pub faulted_counts : (t : Thing) (old new : QueueState) → IsFaulted old new → queued_count t new.memories ≡ queued_count t old.memories
-faulted_counts t old new faulted = queued_zip t (IsLeftBy (first_slot old.ranges)) (λ a b left. left.index) old.memories new.memories faulted.memories
+faulted_counts t old new faulted = faulted_numbers (both_count t) old new faulted
 
 -- a slot that isn't counted isn't held
 pub not_held : (k : ℕ) (ms : List QueuedMemory) → queued_count (right_to k) ms ≡ 0 → holds k ms ≡ false

@@ -1,16 +1,15 @@
--- The steps of an allocation that have a region in their hands leave what is sound.
-use Rattle.std.proofs.Common.{◌≡◌, ℕ, ◌+◌, ◌<◌, ◌≤◌, Bool, true, false, List, [], ◌∷◌, ◌++◌, length, set, refl, sym, subst, arith, Option, Some, None, Result, Ok, Err}
+-- The rows of a request that has a slot.
+use Rattle.std.proofs.Common.{◌≡◌, ℕ, ◌+◌, ◌<◌, ◌≤◌, Bool, true, false, List, [], ◌∷◌, ◌++◌, length, refl, sym, ap, subst, inl, inr, arith, Option, Some, None, Result, Ok, Err}
 use Rattle.std.specs.Prelude.{◌^◌, nat_le, nat_lt, if◌then◌else◌, IfSome, IsSome, IfOk, slice_get, slice_index_or}
-use Rattle.std.proofs.lemmas.List.{length-set, length-append}
+use Rattle.std.proofs.lemmas.List.{length_push}
 use Rattle.std.proofs.lemmas.List.Elements.{All-push}
 use Rattle.pool_pages.specs.Count.{count}
 use Rattle.pool_pages.specs.Told.{Told}
-use Rattle.pool_pages.specs.MakerTold.{MakerTold}
 use Rattle.pool_pages.specs.MemoryTypes.{minimum_byte_size}
 use Rattle.pool_pages.specs.declared.module_types.MemoryDecl.{MemoryDecl}
 use Rattle.pool_images.specs.Images.{Image}
 use Rattle.pool_images.specs.Slots.{Slot, IsFresh, hides}
-use Rattle.pool_index.specs.Shard.{ShardState, use_of, after_free}
+use Rattle.pool_index.specs.Shard.{ShardState, after_free}
 use Rattle.pool_pages.specs.MemoryTypes.{allow_growth_to}
 use Rattle.pool_pages.specs.declared.unsupported.Unsupported.TheVariants.{InitialSize, AddressSpace, MemoryMinimum}
 use Rattle.pool_limits.specs.declared.errors.LimiterError.{LimiterError}
@@ -23,23 +22,41 @@ use Rattle.pool_slots.specs.declared.errors.AllocError.{AllocError}
 use Rattle.pool_slots.specs.declared.errors.AllocError.TheVariants as refusal
 use Rattle.pool_memory.proofs.Makings.{least_most}
 use Rattle.pool_alloc.specs.Reserved.{with_item}
-use Rattle.pool_alloc.specs.Leases.{Lease, IsUsable}
-use Rattle.pool_alloc.specs.Own.{image_made, made_of, made_of_limits, made_for, memory_made}
-use Rattle.pool_alloc.specs.Steps.{memories_wanted, images_wanted, image_wanted, nth_shard, nth_cell, shard_of, local_of, with_shard, with_cell, counting_memories, holds_region, take_region_row, empty_row, instantiate_row, was_made, make_memory_row, count_memory_row, put_unknown_row, was_freed, free_unknown_row}
 use Rattle.pool_alloc.specs.Answers.{Empties, InstantiatesAs, InstantiatesFor}
-use Rattle.pool_alloc.specs.Sound.{IsPoolCell, IsPoolSlot, IsCore, IsLeaseOf, HasNoneWaiting, IsAllocating, IsShapedFree, IsSupported, HasSlot, HasBegun, IsMadeOf, IsNew}
 use Rattle.pool_alloc.specs.Modules.{IfAllocated}
+use Rattle.pool_pages.specs.MakerTold.{MakerTold}
+use Rattle.pool_limits.specs.LimiterTold.{LimiterTold}
 use Rattle.pool_alloc.specs.declared.pool_core.PoolCore.{PoolCore}
 use Rattle.pool_alloc.specs.declared.pool_core.Settings.{Settings}
+use Rattle.pool_alloc.specs.declared.frame.Ending.{Ending}
 use Rattle.pool_alloc.specs.declared.frame.Frame.{Frame}
-use Rattle.pool_alloc.specs.declared.frame.AfterFree.{AfterFree}
-use Rattle.pool_alloc.specs.declared.frame.AfterFree.TheVariants.{Refuse, ReturnNext}
-use Rattle.pool_alloc.specs.declared.frame.Phase.TheVariants.{Empty, Instantiate, MakeMemory, CountMemory, PutUnknown, FreeUnknown}
-use Rattle.pool_alloc.proofs.Telling.{told_both, told_weaker, told_there}
+use Rattle.pool_alloc.specs.declared.frame.Phase.{Phase}
+use Rattle.pool_alloc.specs.declared.frame.Phase.TheVariants.{Idle, TakeRegion, Empty, Instantiate, MakeMemory, CountMemory, PutUnknown, FreeUnknown}
+use Rattle.pool_alloc.specs.Answers.{AsksForMemory}
+use Rattle.pool_alloc.specs.Bounds.{pool_sizes, memories_left, steps_at, steps_left}
+use Rattle.pool_images.specs.Slots.{IsClean, IsLeft}
+use Rattle.std.specs.Prelude.{is_some}
+use Rattle.pool_alloc.specs.Leases.{Lease, IsUsable}
+use Rattle.pool_alloc.specs.Own.{made_of, made_of_limits, made_for, memory_made}
+use Rattle.pool_alloc.specs.Places.{Thing, right_to, slot_count, both_count, phase_count, phase_instances, phase_memories}
+use Rattle.pool_alloc.specs.Rows.{in_cell, in_shard, region_next, take_region_on, paged, empty_row, instantiate_row, was_made, make_memory_row, count_memory_row, put_unknown_on, free_unknown_on}
+use Rattle.pool_alloc.specs.Searches.{AreEmpty, IsSearchedBy, IsSearchedAt, IsSearched}
+use Rattle.pool_alloc.specs.Sound.{IsPoolCell, IsCore, IsLeaseOf, IsToGrant, IsAllocating, HasNoneWaiting, IsShapedAt, IsSupported, HasSlot, HasBegun, IsMadeOf, IsNew}
+use Rattle.pool_alloc.specs.Stages.{Stage, refusing, stage_by, stage_at, Goes}
+use Rattle.pool_alloc.specs.Stepping.{is_idle}
+use Rattle.pool_alloc.specs.Steps.{memories_wanted, images_wanted, image_wanted, nth_shard, nth_cell, shard_of, local_of, with_shard, with_cell, counting_memories}
+use Rattle.pool_alloc.specs.Turns.{Row}
 use Rattle.pool_alloc.proofs.CoreChanges.{core_with_shard, core_with_cell, core_with_counters}
+use Rattle.pool_alloc.proofs.Hands.{in_phase, held_of, Even, Kept, Ready, IsReadyRow}
+use Rattle.pool_alloc.proofs.Held.{place_of}
+use Rattle.pool_alloc.proofs.KeptCounts.{kept_shard, kept_without, kept_with}
+use Rattle.pool_alloc.proofs.QueueCounts.{leased_last}
+use Rattle.pool_alloc.proofs.SlotCounts.{free_more}
 use Rattle.pool_alloc.proofs.SlotIdentity.{IsOneSlot, one_wiped, slot_of_one, slot_made, clean_made, fresh_made}
 use Rattle.pool_alloc.proofs.ShardFrees.{IsShardOf, freed_shard}
-use Rattle.pool_alloc.proofs.Going.{Held, IsSoundAfter, goes_on, goes_either, gives_back_next, refused, allocates_next}
+use Rattle.pool_alloc.proofs.Stages.{picked_is_home, unknown_is_away, unknown_is_used}
+use Rattle.pool_alloc.proofs.Telling.{told_both, told_weaker, told_there}
+use Rattle.pool_alloc.proofs.Ways.{Can, searched_back, push_at, aims_grant, aims_back, next_memory, next_returns, kept_part, same_way, fails_way, made_way}
 
 one_instantiated : (fault : Bool) (initial : ℕ) (hide : Bool) (image : Option Image) (old new : Slot) → InstantiatesAs fault initial hide image old new → IsOneSlot old new
 one_instantiated true initial hide image old new told = told.same
@@ -85,29 +102,30 @@ made_in_of (Err e) room decls k held is = tt
 made_in : (s : Settings) (decls : List MemoryDecl) (k : ℕ) (answer : Result Bool LimiterError) (held : Slot) → IfOk (memory_made s decls k answer held) (IsMadeIn s.max_memory_size decls k held)
 made_in s decls k answer held = made_in_of (memory_made s decls k answer held) s.max_memory_size decls k held (made_for_ok answer s.max_memory_size (slice_get decls k) held)
 
-has_of_one : (maker : MakerTold) (s : Settings) (total slot : ℕ) (old new : Slot) → IsOneSlot old new → HasSlot maker s total slot old → HasSlot maker s total slot new
-has_of_one maker s total slot old new one has = record { inside = has.inside; region = slot_of_one maker s.behaviour s.max_memory_size slot old new one has.region }
+has_of_one : (maker : MakerTold) (s : Settings) (slot : ℕ) (old new : Slot) → IsOneSlot old new → HasSlot maker s slot old → HasSlot maker s slot new
+has_of_one maker s slot old new one has = record { inside = has.inside; region = slot_of_one maker s.behaviour s.max_memory_size slot old new one has.region }
+
+one_emptied : (fault : Bool) (had held : Slot) → Empties fault had held → IsOneSlot had held
+one_emptied true had held told = told.same
+one_emptied false had held told = subst (λ (s : Slot). IsOneSlot had s) (sym told.0) (one_wiped had)
+
+left_emptied : (fault : Bool) (had held : Slot) → Empties fault had held → fault ≡ true → IsLeft had held
+left_emptied true had held told is = told
+left_emptied false had held told is = absurd cc
+
+clean_emptied : (fault : Bool) (had held : Slot) → Empties fault had held → fault ≡ false → IsClean held
+clean_emptied true had held told is = absurd cc
+clean_emptied false had held told is = told.1
+
+left_instantiated : (s : Settings) (decl : MemoryDecl) (fault : Bool) (image : Option Image) (had held : Slot) → InstantiatesFor s decl fault image had held → fault ≡ true → IsLeft had held
+left_instantiated s decl true image had held tells is = tells
+left_instantiated s decl false image had held tells is = absurd cc
+
+some_used : {X : Type 0} (o : Option X) → is_some o ≡ true → IsSome o
+some_used None e = absurd cc
+some_used (Some x) e = refl
 
 module _ {P : Type 0} where
-  has_still : (maker : MakerTold) (i : ℕ) (cell : Cell) (c : PoolCore P) (slot : ℕ) (held : Slot) → slot < length c.cells → IsPoolSlot maker c.settings.behaviour c.settings.max_memory_size slot held → HasSlot maker c.settings (length (set c.cells i cell)) slot held
-  has_still maker i cell c slot held inside of = record { inside = rw (length-set c.cells i cell) inside; region = of }
-
-  -- The region leaves its cell.
-  holds_kept : (maker : MakerTold) (decls : List MemoryDecl) (slot : ℕ) (cell : Cell) (c : PoolCore P) (f : Frame P) → IsCore maker c → Held maker c.settings f → HasNoneWaiting f → IsAllocating c.settings f → slot < length c.cells → IsPoolCell maker c.settings.behaviour c.settings.max_memory_size slot cell → is_taken cell ≡ false → IsSoundAfter maker decls (holds_region slot cell (with_cell slot taken c) f)
-  holds_kept maker decls slot (unmapped region) c f core held settled allocating inside holds there =
-      goes_on maker decls (with_cell slot taken c) f (Instantiate slot (image_made c.settings.page c.settings.max_memory_size region)) (core_with_cell maker slot taken c core tt) held
-      (settled, allocating, has_still maker slot taken c slot (image_made c.settings.page c.settings.max_memory_size region) inside (slot_made maker c.settings.behaviour c.settings.page c.settings.max_memory_size slot region core.page holds), clean_made maker c.settings.behaviour c.settings.page c.settings.max_memory_size slot region core.page holds)
-  holds_kept maker decls slot (unknown had) c f core held settled allocating inside holds there =
-      goes_on maker decls (with_cell slot taken c) f (Empty slot had) (core_with_cell maker slot taken c core tt) held
-      (settled, allocating, has_still maker slot taken c slot had inside holds)
-  holds_kept maker decls slot (previously_used had) c f core held settled allocating inside holds there =
-      goes_on maker decls (with_cell slot taken c) f (Instantiate slot had) (core_with_cell maker slot taken c core tt) held
-      (settled, allocating, has_still maker slot taken c slot had inside holds.0, holds.1)
-  holds_kept maker decls slot taken c f core held settled allocating inside holds there = absurd cc
-
-  pub take_region_kept : (maker : MakerTold) (decls : List MemoryDecl) (slot : ℕ) (c : PoolCore P) (f : Frame P) → IsCore maker c → Held maker c.settings f → HasNoneWaiting f → IsAllocating c.settings f → slot < length c.cells → is_taken (nth_cell slot c.cells) ≡ false → IsSoundAfter maker decls (take_region_row slot c f)
-  take_region_kept maker decls slot c f core held settled allocating inside there = holds_kept maker decls slot (nth_cell slot c.cells) c f core held settled allocating inside (core.cells slot inside) there
-
   -- A region that was never used can be made an image slot of.
   fresh_cell : (maker : MakerTold) (slot : ℕ) (cell : Cell) (c : PoolCore P) → IsCore maker c → IsPoolCell maker c.settings.behaviour c.settings.max_memory_size slot cell → (region : Told) → cell ≡ unmapped region → IsFresh (count c.settings.page 0) (count c.settings.page 0) c.settings.max_memory_size None region
   fresh_cell maker slot cell c core holds region is =
@@ -117,48 +135,22 @@ module _ {P : Type 0} where
   pub region_is_fresh : (maker : MakerTold) (slot : ℕ) (c : PoolCore P) → IsCore maker c → slot < length c.cells → (region : Told) → nth_cell slot c.cells ≡ unmapped region → IsFresh (count c.settings.page 0) (count c.settings.page 0) c.settings.max_memory_size None region
   region_is_fresh maker slot c core inside region is = fresh_cell maker slot (nth_cell slot c.cells) c core (core.cells slot inside) region is
 
-  -- The slot is emptied.
-  pub empty_kept : (maker : MakerTold) (decls : List MemoryDecl) (fault : Bool) (new : Slot) (slot : ℕ) (had : Slot) (c : PoolCore P) (f : Frame P) → IsCore maker c → Held maker c.settings f → HasNoneWaiting f → IsAllocating c.settings f → HasSlot maker c.settings (length c.cells) slot had → Empties fault had new → IsSoundAfter maker decls (empty_row fault new slot c f)
-  empty_kept maker decls true new slot had c f core held settled allocating has left =
-      goes_on maker decls c f (PutUnknown slot new (Refuse refusal.PageFault)) core held
-      (settled, allocating, has_of_one maker c.settings (length c.cells) slot had new left.same has)
-  empty_kept maker decls false new slot had c f core held settled allocating has told =
-      let one : IsOneSlot had new = subst (λ (s : Slot). IsOneSlot had s) (sym told.0) (one_wiped had) in
-      goes_on maker decls c f (Instantiate slot new) core held
-      (settled, allocating, has_of_one maker c.settings (length c.cells) slot had new one has, told.1)
-
-  -- The slot is instantiated.
   one_told : (s : Settings) (fault : Bool) (new had : Slot) (f : Frame P) → IsAllocating s f → IfAllocated f (λ decl. InstantiatesFor s decl fault (image_wanted f) had new) → IsOneSlot had new
   one_told s fault new had f allocating told =
-      told_there (IsOneSlot had new) (memories_wanted f.asked) (length f.granted.items) allocating.more
-      (told_weaker (λ decl. InstantiatesFor s decl fault (image_wanted f) had new) (λ decl. IsOneSlot had new) (slice_get (memories_wanted f.asked) (length f.granted.items))
+      told_there (IsOneSlot had new) (memories_wanted f.asked) (length f.objects.items) allocating.more
+      (told_weaker (λ decl. InstantiatesFor s decl fault (image_wanted f) had new) (λ decl. IsOneSlot had new) (slice_get (memories_wanted f.asked) (length f.objects.items))
       (λ decl tells. one_instantiated fault (minimum_byte_size decl.ty) (hides decl.ty s.tunables had.region.page) (image_wanted f) had new tells) told)
 
-  pub instantiate_kept : (maker : MakerTold) (decls : List MemoryDecl) (fault : Bool) (new : Slot) (slot : ℕ) (had : Slot) (c : PoolCore P) (f : Frame P) → IsCore maker c → Held maker c.settings f → HasNoneWaiting f → IsAllocating c.settings f → HasSlot maker c.settings (length c.cells) slot had → IfAllocated f (λ decl. InstantiatesFor c.settings decl fault (image_wanted f) had new) → IsSoundAfter maker decls (instantiate_row fault new slot c f)
-  instantiate_kept maker decls fault new slot had c f core held settled allocating has told =
-      let one : IsOneSlot had new = one_told c.settings fault new had f allocating told in
-      let still : HasSlot maker c.settings (length c.cells) slot new = has_of_one maker c.settings (length c.cells) slot had new one has in
-      goes_either maker decls c f fault (PutUnknown slot new (Refuse refusal.PageFault)) (MakeMemory slot new) core held
-      (λ e. (settled, allocating, still))
-      (λ e. (
-        settled,
-        allocating,
-        still,
-        told_weaker (λ decl. InstantiatesFor c.settings decl fault (image_wanted f) had new) (λ decl. HasBegun (image_wanted f) new decl) (slice_get (memories_wanted f.asked) (length f.granted.items))
-            (λ decl tells. begun_as c.settings decl fault (image_wanted f) had new e tells) told,
-      ))
-
-  -- The memory is made.
-  memory_new : (room : ℕ) (f : Frame P) (had : Slot) (memory : MemoryState) → IsMadeIn room (memories_wanted f.asked) (length f.granted.items) had memory → IfAllocated f (HasBegun (image_wanted f) had) → IfAllocated f (IsNew room (image_wanted f) memory)
+  memory_new : (room : ℕ) (f : Frame P) (had : Slot) (memory : MemoryState) → IsMadeIn room (memories_wanted f.asked) (length f.objects.items) had memory → IfAllocated f (HasBegun (image_wanted f) had) → IfAllocated f (IsNew room (image_wanted f) memory)
   memory_new room f had memory in_slot begun =
       let B : Slot → Type 0 = λ s. IfAllocated f (HasBegun (image_wanted f) s) in
-      told_both (HasBegun (image_wanted f) (slot_of memory)) (IsMadeOf room memory) (IsNew room (image_wanted f) memory) (slice_get (memories_wanted f.asked) (length f.granted.items))
+      told_both (HasBegun (image_wanted f) (slot_of memory)) (IsMadeOf room memory) (IsNew room (image_wanted f) memory) (slice_get (memories_wanted f.asked) (length f.objects.items))
       (λ decl has made. record { slot = has; made = made })
       (subst B (sym in_slot.slot) begun) in_slot.made
 
   memory_of : (s : Settings) (f : Frame P) (memory : MemoryState) → IsAllocating s f → IfAllocated f (IsNew s.max_memory_size (image_wanted f) memory) → IsUsable memory
   memory_of s f memory allocating new =
-      let k : ℕ = length f.granted.items in
+      let k : ℕ = length f.objects.items in
       told_there (IsUsable memory) (memories_wanted f.asked) k allocating.more
       (told_both (λ decl. IsSupported s decl (slice_index_or (images_wanted f.asked) k None)) (IsNew s.max_memory_size (image_wanted f) memory) (λ decl. IsUsable memory) (slice_get (memories_wanted f.asked) k)
       (λ decl fits is. record {
@@ -166,48 +158,227 @@ module _ {P : Type 0} where
         in_use = record { dirty = is.slot.begun.dirty; ready = is.slot.begun.ready };
         inside = rw is.made.size is.slot.holds.reached;
         fixed = is.made.fixed;
-      }) (allocating.supported.each k) new)
+      }) (allocating.to_grant.supported.each k) new)
 
-  made_kept : (maker : MakerTold) (decls : List MemoryDecl) (slot : ℕ) (had : Slot) (r : Result MemoryState AllocError) (c : PoolCore P) (f : Frame P) → IsCore maker c → Held maker c.settings f → HasNoneWaiting f → IsAllocating c.settings f → HasSlot maker c.settings (length c.cells) slot had → IfAllocated f (HasBegun (image_wanted f) had) → IfOk r (IsMadeIn c.settings.max_memory_size (memories_wanted f.asked) (length f.granted.items) had) → IsSoundAfter maker decls (was_made slot had r c f)
-  made_kept maker decls slot had (Ok memory) c f core held settled allocating has begun in_slot =
-      let H : Slot → Type 0 = λ s. HasSlot maker c.settings (length c.cells) slot s in
-      let new : IfAllocated f (IsNew c.settings.max_memory_size (image_wanted f) memory) = memory_new c.settings.max_memory_size f had memory in_slot begun in
-      goes_on maker decls c f (CountMemory (record { index = slot; memory = memory })) core held (settled, allocating, subst H (sym in_slot.slot) has, memory_of c.settings f memory allocating new, new)
-  made_kept maker decls slot had (Err e) c f core held settled allocating has begun in_slot = goes_on maker decls c f (PutUnknown slot had (Refuse e)) core held (settled, allocating, has)
+module _ {P : Type 0} (maker : MakerTold) (old new : LimiterTold) where
+  abbrev Shows : Phase P → PoolCore P → Frame P → Row (PoolCore P) P → Type 0
+  Shows p c f r = IsReadyRow maker old new c (in_phase p f) r
 
-  pub make_memory_kept : (maker : MakerTold) (decls : List MemoryDecl) (answer : Result Bool LimiterError) (slot : ℕ) (had : Slot) (c : PoolCore P) (f : Frame P) → IsCore maker c → Held maker c.settings f → HasNoneWaiting f → IsAllocating c.settings f → HasSlot maker c.settings (length c.cells) slot had → IfAllocated f (HasBegun (image_wanted f) had) → IsSoundAfter maker decls (make_memory_row answer slot had c f)
-  make_memory_kept maker decls answer slot had c f core held settled allocating has begun =
-      made_kept maker decls slot had (memory_made c.settings (memories_wanted f.asked) (length f.granted.items) answer had) c f core held settled allocating has begun
-      (made_in c.settings (memories_wanted f.asked) (length f.granted.items) answer had)
+  -- The region leaves its cell.
+  taken_kept : (slot : ℕ) (c : PoolCore P) (f : Frame P) → Can maker (TakeRegion slot) c f → Kept maker old new c (in_phase (TakeRegion slot) f) (with_cell slot taken c) (in_phase Idle f)
+  taken_kept slot c f can = kept_part maker old new c (in_phase (TakeRegion slot) f) (with_cell slot taken c) (in_phase Idle f) (core_with_cell maker slot taken c can.core tt) (held_of maker c.settings (in_phase (TakeRegion slot) f) can.frame) refl refl refl
+
+  taken_even : (slot : ℕ) (c : PoolCore P) (f : Frame P) → Can maker (TakeRegion slot) c f → Even maker old new c (in_phase (TakeRegion slot) f) (record { things = λ t. both_count t slot; instances = 1; memories = 0 }) (with_cell slot taken c) (in_phase Idle f)
+  taken_even slot c f can = record { places = λ t. omega (arith, kept_without t slot c (picked_is_home slot c f can.fits)); instances = omega arith; memories = omega arith }
+
+  holds_ready : (slot : ℕ) (cell : Cell) (c : PoolCore P) (f : Frame P) → Can maker (TakeRegion slot) c f → IsPoolCell maker c.settings.behaviour c.settings.max_memory_size slot cell → is_taken cell ≡ false → Ready maker old new c (in_phase (TakeRegion slot) f) (with_cell slot taken c) (in_phase Idle f) (region_next c.settings slot cell)
+  holds_ready slot (unmapped region) c f can holds there = record {
+    kept = taken_kept slot c f can;
+    shape = (refl, (can.frame.shape.0, can.frame.shape.1, record { inside = can.frame.shape.2; region = slot_made maker c.settings.behaviour c.settings.page c.settings.max_memory_size slot region can.core.page holds }, clean_made maker c.settings.behaviour c.settings.page c.settings.max_memory_size slot region can.core.page holds));
+    even = taken_even slot c f can;
+    fewer = omega arith;
+    way = same_way maker old new c (in_phase (TakeRegion slot) f) f.ending (length f.objects.items);
+    searched = λ s. tt;
+  }
+  holds_ready slot (unknown had) c f can holds there = record {
+    kept = taken_kept slot c f can;
+    shape = (refl, (can.frame.shape.0, can.frame.shape.1, record { inside = can.frame.shape.2; region = holds }));
+    even = taken_even slot c f can;
+    fewer = omega arith;
+    way = same_way maker old new c (in_phase (TakeRegion slot) f) f.ending (length f.objects.items);
+    searched = λ s. tt;
+  }
+  holds_ready slot (previously_used had) c f can holds there = record {
+    kept = taken_kept slot c f can;
+    shape = (refl, (can.frame.shape.0, can.frame.shape.1, record { inside = can.frame.shape.2; region = holds.0 }, holds.1));
+    even = taken_even slot c f can;
+    fewer = omega arith;
+    way = same_way maker old new c (in_phase (TakeRegion slot) f) f.ending (length f.objects.items);
+    searched = λ s. tt;
+  }
+  holds_ready slot taken c f can holds there = absurd cc
+
+  pub take_region_ready : (slot : ℕ) (c : PoolCore P) (f : Frame P) → Can maker (TakeRegion slot) c f → Shows (TakeRegion slot) c f (in_cell slot c (take_region_on c.settings slot (nth_cell slot c.cells) (in_phase Idle f)))
+  take_region_ready slot c f can = holds_ready slot (nth_cell slot c.cells) c f can (can.core.cells slot (omega (arith, can.frame.shape.2, can.core.cells_made))) (picked_is_home slot c f can.fits)
+
+  -- A page call of the slot in hand failed, or the call goes on with it.
+  paged_ready : (p phase : Phase P) (fault : Bool) (slot : ℕ) (had held : Slot) (c : PoolCore P) (f : Frame P) →
+      Can maker p c f →
+      HasNoneWaiting f →
+      IsAllocating c.settings (in_phase p f) →
+      HasSlot maker c.settings slot had →
+      IsOneSlot had held →
+      ((t : Thing) → phase_count t p ≡ both_count t slot) →
+      ((t : Thing) → phase_count t phase ≡ both_count t slot) →
+      (phase_instances p ≡ 1) × (phase_instances phase ≡ 1) →
+      (phase_memories p ≡ 0) × (phase_memories phase ≡ 0) →
+      (stage_at p f.ending (length f.objects.items) ≡ stage_by f.ending (length f.objects.items)) × (stage_at phase f.ending (length f.objects.items) ≡ stage_by f.ending (length f.objects.items)) →
+      (fault ≡ true → IsLeft had held) →
+      (fault ≡ false → (is_idle phase ≡ false) × IsShapedAt maker c.settings phase (in_phase phase f)) →
+      (steps_at (pool_sizes c) phase (in_phase phase f) + 1 ≤ steps_left c (in_phase p f)) × (3 + memories_left (pool_sizes c) f.asked f.objects ≤ steps_left c (in_phase p f)) →
+      (IsSearched c (in_phase p f) → IsSearchedAt phase c (in_phase phase f)) →
+      IsReadyRow maker old new c (in_phase p f) (paged fault slot held phase c (in_phase Idle f))
+  paged_ready p phase true slot had held c f can settled allocating has one here there counted none stages left shape steps searched = record {
+    kept = kept_part maker old new c (in_phase p f) c _ can.core (held_of maker c.settings (in_phase p f) can.frame) refl refl refl;
+    shape = (refl, (settled, refl, has_of_one maker c.settings slot had held one has));
+    even = record { places = λ t. omega (arith, here t); instances = omega (arith, counted.0); memories = omega (arith, none.0) };
+    fewer = omega (arith, steps.1);
+    way = subst (λ (x : Stage). Goes maker old new c (in_phase p f) x (refusing refusal.PageFault) None) (sym stages.0)
+        (fails_way maker old new c (in_phase p f) f.ending (length f.objects.items) refusal.PageFault allocating.ending (inr (inl (record {
+          is = refl;
+          number = refl;
+          allocating = allocating;
+          slot = slot;
+          old = had;
+          new = held;
+          region = has;
+          left = left refl;
+          has = λ k. omega (arith, here (right_to k));
+        }))));
+    searched = λ s. tt;
+  }
+  paged_ready p phase false slot had held c f can settled allocating has one here there counted none stages left shape steps searched = record {
+    kept = kept_part maker old new c (in_phase p f) c _ can.core (held_of maker c.settings (in_phase p f) can.frame) refl refl refl;
+    shape = shape refl;
+    even = record { places = λ t. omega (arith, here t, there t); instances = omega (arith, counted.0, counted.1); memories = omega (arith, none.0, none.1) };
+    fewer = steps.0;
+    way = subst (λ (x : Stage). Goes maker old new c (in_phase p f) x (stage_at phase f.ending (length f.objects.items)) None) (sym stages.0)
+        (subst (λ (x : Stage). Goes maker old new c (in_phase p f) (stage_by f.ending (length f.objects.items)) x None) (sym stages.1) (same_way maker old new c (in_phase p f) f.ending (length f.objects.items)));
+    searched = searched;
+  }
+
+  -- The slot is emptied.
+  pub empty_ready : (fault : Bool) (held : Slot) (slot : ℕ) (had : Slot) (c : PoolCore P) (f : Frame P) → Can maker (Empty slot had) c f → Empties fault had held → Shows (Empty slot had) c f (empty_row fault held slot c (in_phase Idle f))
+  empty_ready fault held slot had c f can told =
+      let one = one_emptied fault had held told in
+      paged_ready (Empty slot had) (Instantiate slot held) fault slot had held c f can can.frame.shape.0 can.frame.shape.1 can.frame.shape.2 one
+      (λ t. refl) (λ t. refl) (refl, refl) (refl, refl) (refl, refl)
+      (left_emptied fault had held told)
+      (λ done. (refl, (can.frame.shape.0, can.frame.shape.1, has_of_one maker c.settings slot had held one can.frame.shape.2, clean_emptied fault had held told done)))
+      (omega arith, omega arith) (λ s. tt)
+
+  -- The slot is instantiated.
+  left_told : (s : Settings) (p : Phase P) (fault : Bool) (had held : Slot) (f : Frame P) → IsAllocating s (in_phase p f) → IfAllocated f (λ decl. InstantiatesFor s decl fault (image_wanted f) had held) → fault ≡ true → IsLeft had held
+  left_told s p fault had held f allocating told is =
+      told_there (IsLeft had held) (memories_wanted f.asked) (length f.objects.items) allocating.more
+      (told_weaker (λ decl. InstantiatesFor s decl fault (image_wanted f) had held) (λ decl. IsLeft had held) (slice_get (memories_wanted f.asked) (length f.objects.items))
+      (λ decl tells. left_instantiated s decl fault (image_wanted f) had held tells is) told)
+
+  pub instantiate_ready : (fault : Bool) (held : Slot) (slot : ℕ) (had : Slot) (c : PoolCore P) (f : Frame P) → Can maker (Instantiate slot had) c f → IfAllocated f (λ decl. InstantiatesFor c.settings decl fault (image_wanted f) had held) → Shows (Instantiate slot had) c f (instantiate_row fault held slot c (in_phase Idle f))
+  instantiate_ready fault held slot had c f can told =
+      let one = one_told c.settings fault held had (in_phase (Instantiate slot had) f) can.frame.shape.1 told in
+      paged_ready (Instantiate slot had) (MakeMemory slot held) fault slot had held c f can can.frame.shape.0 can.frame.shape.1 can.frame.shape.2 one
+      (λ t. refl) (λ t. refl) (refl, refl) (refl, refl) (refl, refl)
+      (left_told c.settings (Instantiate slot had) fault had held f can.frame.shape.1 told)
+      (λ done. (
+        refl,
+        (
+          can.frame.shape.0,
+          can.frame.shape.1,
+          has_of_one maker c.settings slot had held one can.frame.shape.2,
+          told_weaker (λ decl. InstantiatesFor c.settings decl fault (image_wanted f) had held) (λ decl. HasBegun (image_wanted f) held decl) (slice_get (memories_wanted f.asked) (length f.objects.items))
+              (λ decl tells. begun_as c.settings decl fault (image_wanted f) had held done tells) told,
+        ),
+      ))
+      (omega arith, omega arith) (λ s. tt)
+
+  -- The memory is made.
+  made_ready : (slot : ℕ) (had : Slot) (given : Result Bool LimiterError) (r : Result MemoryState AllocError) (c : PoolCore P) (f : Frame P) → Can maker (MakeMemory slot had) c f → IfAllocated f (AsksForMemory given old new) → memory_made c.settings (memories_wanted f.asked) (length f.objects.items) given had ≡ r → IfOk r (IsMadeIn c.settings.max_memory_size (memories_wanted f.asked) (length f.objects.items) had) → Shows (MakeMemory slot had) c f (was_made slot had r c (in_phase Idle f))
+  made_ready slot had given (Ok memory) c f can asked is in_slot =
+      let e : Frame P = in_phase (MakeMemory slot had) f in
+      let H : Slot → Type 0 = λ s. HasSlot maker c.settings slot s in
+      let begins : IfAllocated f (IsNew c.settings.max_memory_size (image_wanted f) memory) = memory_new c.settings.max_memory_size f had memory in_slot can.frame.shape.3 in
+      let has : H (slot_of memory) = subst H (sym in_slot.slot) can.frame.shape.2 in
+      record {
+        kept = kept_part maker old new c e c _ can.core (held_of maker c.settings e can.frame) refl refl refl;
+        shape = (refl, (can.frame.shape.0, can.frame.shape.1, record { inside = has.inside; slot = has.region; memory = memory_of c.settings e memory can.frame.shape.1 begins }, begins));
+        even = record { places = λ t. omega arith; instances = omega arith; memories = omega arith };
+        fewer = omega arith;
+        way = made_way maker old new c e f.ending (length f.objects.items) can.frame.shape.1.ending (inr (refl, memory, record { number = refl; allocating = can.frame.shape.1; given = given; held = had; asked = asked; is = is }));
+        searched = λ s. tt;
+      }
+  made_ready slot had given (Err x) c f can asked is in_slot =
+      let e : Frame P = in_phase (MakeMemory slot had) f in
+      record {
+        kept = kept_part maker old new c e c _ can.core (held_of maker c.settings e can.frame) refl refl refl;
+        shape = (refl, (can.frame.shape.0, refl, can.frame.shape.2));
+        even = record { places = λ t. omega arith; instances = omega arith; memories = omega arith };
+        fewer = omega arith;
+        way = fails_way maker old new c e f.ending (length f.objects.items) x can.frame.shape.1.ending (inr (inr (record { number = refl; allocating = can.frame.shape.1; given = given; held = had; asked = asked; is = is })));
+        searched = λ s. tt;
+      }
+
+  pub make_memory_ready : (given : Result Bool LimiterError) (slot : ℕ) (had : Slot) (c : PoolCore P) (f : Frame P) → Can maker (MakeMemory slot had) c f → IfAllocated f (AsksForMemory given old new) → Shows (MakeMemory slot had) c f (make_memory_row given slot had c (in_phase Idle f))
+  make_memory_ready given slot had c f can asked =
+      made_ready slot had given (memory_made c.settings (memories_wanted f.asked) (length f.objects.items) given had) c f can asked refl
+      (made_in c.settings (memories_wanted f.asked) (length f.objects.items) given had)
 
   -- The memory is granted.
-  pub count_memory_kept : (maker : MakerTold) (lease : Lease) (c : PoolCore P) (f : Frame P) → IsCore maker c → Held maker c.settings f → HasNoneWaiting f → IsAllocating c.settings f → HasSlot maker c.settings (length c.cells) lease.index (slot_of lease.memory) → IsUsable lease.memory → IsSoundAfter maker (memories_wanted f.asked) (count_memory_row lease c f)
-  count_memory_kept maker lease c f core held settled allocating has is =
-      let long : length (f.granted.items ++ lease ∷ []) ≡ length f.granted.items + 1 = length-append f.granted.items (lease ∷ []) in
-      allocates_next maker (counting_memories (c.counters.memories + 1) c) (record f { granted = with_item lease f.granted }) (core_with_counters maker (record c.counters { memories = c.counters.memories + 1 }) c core)
-      (record {
-        stripe = held.stripe;
-        queue = held.queue;
-        freed_room = held.freed_room;
-        freed_bytes = held.freed_bytes;
-        granted = All-push (IsLeaseOf maker c.settings) f.granted.items lease held.granted (record { slot = has.region; memory = is });
-        returning = held.returning;
-      })
-      settled allocating.supported allocating.images allocating.room (omega (arith, allocating.more, long)) allocating.none_returning
+  pub count_memory_ready : (lease : Lease) (c : PoolCore P) (f : Frame P) → Can maker (CountMemory lease) c f → Shows (CountMemory lease) c f (count_memory_row lease c (in_phase Idle f))
+  count_memory_ready lease c f can =
+      let e : Frame P = in_phase (CountMemory lease) f in
+      let allocating = can.frame.shape.1 in
+      let was = allocating.to_grant in
+      let now : PoolCore P = counting_memories (c.counters.memories + 1) c in
+      let has : Frame P = record f { phase = Idle; objects = with_item lease f.objects; queues = 0 } in
+      let long : length (f.objects.items ++ lease ∷ []) ≡ length f.objects.items + 1 = length_push f.objects.items lease in
+      let to_grant : IsToGrant c.settings f.asked 0 (with_item lease f.objects) = record {
+        supported = was.supported;
+        images = was.images;
+        room = was.room;
+        few = omega (arith, allocating.more, long);
+        begun = push_at (λ k l. IfSome (slice_get (memories_wanted f.asked) k) (IsNew c.settings.max_memory_size (slice_index_or (images_wanted f.asked) k None) l.memory)) f.objects.items lease was.begun can.frame.shape.3;
+        taken = omega arith;
+      } in
+      let S : Ending → Type 0 = λ x. IsSearchedBy x (AreEmpty 0 now has) in
+      let W : ℕ → Type 0 = λ n. Goes maker old new c e (stage_by f.ending (length f.objects.items + 1)) (stage_by f.ending n) None in
+      record {
+        kept = record {
+          core = core_with_counters maker (record c.counters { memories = c.counters.memories + 1 }) c can.core;
+          held = record { stripe = can.frame.stripe; queue = can.frame.queue; freed_room = can.frame.freed_room; freed_bytes = can.frame.freed_bytes; objects = All-push (IsLeaseOf maker c.settings) f.objects.items lease can.frame.objects can.frame.shape.2 };
+          asked = refl;
+          settings = refl;
+          instances_by_one = omega arith;
+          memories_by_one = omega arith;
+        };
+        shape = (can.frame.shape.0, aims_grant c.settings f.ending f.asked 0 (with_item lease f.objects) allocating.ending to_grant);
+        even = record { places = λ t. omega (arith, leased_last t f.objects.items lease); instances = omega arith; memories = omega (arith, long) };
+        fewer = omega (arith, next_memory (pool_sizes c) f.ending f.asked lease f.objects allocating.ending);
+        way = subst W (sym long) (same_way maker old new c e f.ending (length f.objects.items + 1));
+        searched = λ s. subst S (sym allocating.ending) (λ j below. absurd (omega (arith, below)));
+      }
 
-  -- The region of a slot of which nothing is known is put back, and the slot freed.
-  pub put_unknown_kept : (maker : MakerTold) (decls : List MemoryDecl) (slot : ℕ) (had : Slot) (after : AfterFree) (c : PoolCore P) (f : Frame P) → IsCore maker c → Held maker c.settings f → HasNoneWaiting f → IsShapedFree c.settings after f → HasSlot maker c.settings (length c.cells) slot had → IsSoundAfter maker decls (put_unknown_row slot had after c f)
-  put_unknown_kept maker decls slot had after c f core held settled shaped has =
-      goes_on maker decls (with_cell slot (unknown had) c) f (FreeUnknown slot after) (core_with_cell maker slot (unknown had) c core has.region) held
-      (settled, shaped, rw (length-set c.cells slot (unknown had)) has.inside)
+  -- The region of a slot of which nothing is known is put back,
+  pub put_unknown_ready : (slot : ℕ) (held : Slot) (c : PoolCore P) (f : Frame P) → Can maker (PutUnknown slot held) c f → Shows (PutUnknown slot held) c f (in_cell slot c (put_unknown_on slot held (nth_cell slot c.cells) (in_phase Idle f)))
+  put_unknown_ready slot held c f can =
+      let e : Frame P = in_phase (PutUnknown slot held) f in
+      let inside : slot < length c.cells = omega (arith, can.frame.shape.2.inside, can.core.cells_made) in
+      record {
+        kept = kept_part maker old new c e (with_cell slot (unknown held) c) (in_phase Idle f) (core_with_cell maker slot (unknown held) c can.core can.frame.shape.2.region) (held_of maker c.settings e can.frame) refl refl refl;
+        shape = (refl, (can.frame.shape.0, can.frame.shape.1, can.frame.shape.2.inside));
+        even = record { places = λ t. omega (arith, kept_with t slot (unknown held) c inside (unknown_is_away slot held c f can.fits) refl); instances = omega arith; memories = omega arith };
+        fewer = omega arith;
+        way = same_way maker old new c e f.ending (length f.objects.items);
+        searched = λ s. tt;
+      }
 
-  was_freed_kept : (maker : MakerTold) (decls : List MemoryDecl) (after : AfterFree) (c : PoolCore P) (f : Frame P) → IsCore maker c → Held maker c.settings f → HasNoneWaiting f → IsShapedFree c.settings after f → IsSoundAfter maker decls (was_freed after c f)
-  was_freed_kept maker decls (Refuse e) c f core held settled allocating = refused maker decls c f e core held settled
-  was_freed_kept maker decls ReturnNext c f core held settled none = gives_back_next maker decls c f core held settled none
-
-  pub free_unknown_kept : (maker : MakerTold) (decls : List MemoryDecl) (slot : ℕ) (after : AfterFree) (c : PoolCore P) (f : Frame P) → IsCore maker c → Held maker c.settings f → HasNoneWaiting f → IsShapedFree c.settings after f → slot < length c.cells → IsSome (use_of (nth_shard (shard_of c.settings slot) c.shards) (local_of c.settings slot).0) → IsSoundAfter maker decls (free_unknown_row slot after c f)
-  free_unknown_kept maker decls slot after c f core held settled shaped inside used =
+  -- and the slot freed.
+  pub free_unknown_ready : (slot : ℕ) (c : PoolCore P) (f : Frame P) → Can maker (FreeUnknown slot) c f → Shows (FreeUnknown slot) c f (in_shard (shard_of c.settings slot) c (free_unknown_on c.settings slot (nth_shard (shard_of c.settings slot) c.shards) (in_phase Idle f)))
+  free_unknown_ready slot c f can =
+      let e : Frame P = in_phase (FreeUnknown slot) f in
       let j : ℕ = shard_of c.settings slot in
-      let shard : ShardState = after_free (local_of c.settings slot) 0 (nth_shard j c.shards) in
-      let new : IsShardOf (nth_shard j c.shards) shard = freed_shard (local_of c.settings slot) 0 (nth_shard j c.shards) (core.shards j (core.layout.inside slot inside).0) used (omega arith) in
-      was_freed_kept maker decls after (with_shard j shard c) f (core_with_shard maker j shard c core new.sound new.same) held settled shaped
+      let shard : ShardState = nth_shard j c.shards in
+      let inside : slot < length c.cells = omega (arith, can.frame.shape.2, can.core.cells_made) in
+      let place = place_of maker c slot can.core inside in
+      let used = unknown_is_used maker slot c f can in
+      let freed : ShardState = after_free (local_of c.settings slot) 0 shard in
+      let there : j < length c.shards = (can.core.layout.inside slot inside).0 in
+      let next_shard : IsShardOf shard freed = freed_shard (local_of c.settings slot) 0 shard (can.core.shards j there) (some_used _ used) (omega arith) in
+      record {
+        kept = kept_part maker old new c e (with_shard j freed c) (in_phase Idle f) (core_with_shard maker j freed c can.core next_shard.sound next_shard.same) (held_of maker c.settings e can.frame) refl refl refl;
+        shape = (can.frame.shape.0, aims_back c.settings f.ending f.asked f.queues f.objects can.frame.shape.1);
+        even = record { places = λ t. omega (arith, kept_shard t j freed c there, free_more t (local_of c.settings slot) 0 shard place.inside used, ap (slot_count t) place.number); instances = omega arith; memories = omega arith };
+        fewer = omega (arith, next_returns (pool_sizes c) f.ending f.queues f.asked f.objects can.frame.shape.1);
+        way = same_way maker old new c e f.ending (length f.objects.items);
+        searched = λ s. searched_back f.ending _ can.frame.shape.1;
+      }

@@ -1,44 +1,49 @@
--- Each step of a give-back and of a flush leaves what is sound.
-use Rattle.std.proofs.Common.{◌≡◌, ℕ, ◌+◌, ◌-◌, ◌^◌, ◌<◌, ◌≤◌, Bool, true, false, List, [], ◌∷◌, ◌++◌, length, refl, sym, ap, inl, inr, arith, Some, All}
-use Rattle.std.specs.Prelude.{◌==◌, ◌||◌, ◌*◌, not, nat_le, nat_lt, filter, if◌then◌else◌}
+-- The rows of a give-back, and of a flush.
+use Rattle.std.proofs.Common.{◌≡◌, ℕ, ◌+◌, ◌*◌, ◌-◌, ◌^◌, ◌<◌, ◌≤◌, Bool, true, false, List, [], ◌∷◌, ◌++◌, length, refl, sym, ap, subst, ◌∙◌, inl, inr, arith, All}
+use Rattle.std.specs.Prelude.{◌==◌, ◌||◌, ◌&&◌, not, nat_le, nat_lt, filter, if◌then◌else◌}
 use Rattle.std.proofs.lemmas.Bool.{cases_lt, leb-false, or_parts}
-use Rattle.std.proofs.lemmas.List.{length-append}
-use Rattle.std.proofs.lemmas.List.Elements.{All-head, All-tail, All-same, All-push, All-filter}
+use Rattle.std.proofs.lemmas.List.{length_push, length-append}
+use Rattle.std.proofs.lemmas.List.Elements.{All-head, All-same, All-push, All-filter}
 use Rattle.std.proofs.lemmas.List.Filters.{length-filter_both}
-use Rattle.std.proofs.Math.Nat.{mod-lt}
 use Rattle.pool_pages.specs.MakerTold.{MakerTold}
-use Rattle.pool_pages.specs.declared.module_types.MemoryDecl.{MemoryDecl}
+use Rattle.pool_limits.specs.LimiterTold.{LimiterTold}
+use Rattle.pool_alloc.specs.declared.pool_core.PoolCore.{PoolCore}
+use Rattle.pool_alloc.specs.declared.frame.Frame.{Frame}
+use Rattle.pool_alloc.specs.declared.frame.FreedSlot.{FreedSlot}
+use Rattle.pool_alloc.specs.declared.frame.Phase.{Phase}
+use Rattle.pool_alloc.specs.declared.frame.Phase.TheVariants.{Idle, UncountMemory, Reset, Merge, Flush, UncountInstance}
 use Rattle.pool_pages.specs.declared.pages.DecommitBehavior.{DecommitBehavior}
 use Rattle.pool_pages.specs.declared.pages.DecommitBehavior.TheVariants.{Zero, RestoreOriginalMapping}
 use Rattle.pool_images.specs.Slots.{Slot, IsClean, left_ranges, reset_slot}
 use Rattle.pool_images.specs.declared.ranges.ByteRange.{ByteRange}
 use Rattle.pool_index.specs.Shard.{ShardState}
 use Rattle.pool_memory.specs.Memories.{slot_of as image_slot_of}
-use Rattle.pool_slots.specs.Cells.{unknown, previously_used}
-use Rattle.pool_slots.specs.Queues.{QueueState, QueuedMemory, AreApart, LeavesClean, taken_into, drained, after_append}
-use Rattle.pool_alloc.specs.Leases.{Lease}
-use Rattle.pool_alloc.specs.Reserved.{with_item}
-use Rattle.pool_alloc.specs.Own.{slot_ended, reset_into}
-use Rattle.pool_alloc.specs.Steps.{nth_shard, nth_queue, shard_of, freed_of, freed_elsewhere, first_shard, after_frees, cell_returned, goes, give_back_next, flushes, after_flush, queue_tried, with_shard, with_cell, with_queue, counting_instances, counting_memories, returns, uncount_memory_row, reset_row, merge_row, decommit_row, puts, put_region_row, free_row, answer_of, uncount_instance_row}
-use Rattle.pool_alloc.specs.Answers.{Decommits, Resets}
-use Rattle.pool_alloc.specs.Sound.{IsPoolCell, IsPoolSlot, IsCore, IsShared, IsLocal, IsLeaseOf, IsQueuedOf, HasNoneWaiting, IsAtRest, IsShapedAfter}
-use Rattle.pool_alloc.specs.Calls.{IsGrantOf, IfGranted}
+use Rattle.pool_slots.specs.Cells.{unknown, previously_used, is_taken}
+use Rattle.pool_slots.specs.Queues.{QueueState, QueuedMemory, LeavesClean, taken_into, drained, after_append}
+use Rattle.pool_alloc.specs.Answers.{Decommits, Resets, FlushTold}
+use Rattle.pool_alloc.specs.Bounds.{pool_sizes}
 use Rattle.pool_alloc.specs.Freeing.{AreUsedInTurn}
-use Rattle.pool_alloc.specs.declared.pool_core.PoolCore.{PoolCore}
-use Rattle.pool_alloc.specs.declared.frame.Frame.{Frame}
-use Rattle.pool_alloc.specs.declared.frame.FreedSlot.{FreedSlot}
-use Rattle.pool_alloc.specs.declared.frame.Phase.TheVariants.{PutUnknown, Reset, Merge, PutRegion, Free}
-use Rattle.pool_alloc.specs.declared.frame.AfterFree.TheVariants.{ReturnNext}
-use Rattle.pool_alloc.specs.declared.frame.AfterFlush.{AfterFlush}
-use Rattle.pool_alloc.specs.declared.frame.AfterFlush.TheVariants.{GiveBackNext}
-use Rattle.pool_alloc.specs.declared.frame.Ending.{Ending}
-use Rattle.pool_alloc.specs.declared.frame.Ending.TheVariants as ending
+use Rattle.pool_alloc.specs.Leases.{Lease}
+use Rattle.pool_alloc.specs.Own.{slot_ended, reset_into}
+use Rattle.pool_alloc.specs.Places.{Thing, both_count, queued_count}
+use Rattle.pool_alloc.specs.Reserved.{with_item}
+use Rattle.pool_alloc.specs.Rows.{FlushStep, run, put, free, flush_step, merged, merge_on, in_queue, uncount_memory_row, was_reset, uncount_instance_row, decommit_row, put_region_row, free_row, flush_row}
+use Rattle.pool_alloc.specs.Sound.{IsPoolCell, IsPoolSlot, IsCore, IsShared, IsLocal, IsQueuedOf}
+use Rattle.pool_alloc.specs.Steps.{StepGiven, nth_shard, nth_queue, shard_of, freed_of, freed_elsewhere, first_shard, after_frees, cell_returned, queue_tried, with_shard, with_cell, with_queue}
+use Rattle.pool_alloc.specs.Turns.{goes, next, flush, Row, is_flushed}
 use Rattle.pool_alloc.proofs.CoreChanges.{core_with_shard, core_past_shards, core_with_cell, core_with_queue, core_with_counters}
-use Rattle.pool_alloc.proofs.QueueRuns.{first_leaves}
+use Rattle.pool_alloc.proofs.FlushSteps.{few_in_both, flush_few, decommit_fewer, put_fewer, free_fewer}
+use Rattle.pool_alloc.proofs.FreedSlots.{freed_counts}
+use Rattle.pool_alloc.proofs.Hands.{empty_length, some_length, in_phase, hand, held_of, Even, Kept, IsReadyRow, either_ready}
+use Rattle.pool_alloc.proofs.KeptCounts.{kept_shard, kept_queue, kept_with}
 use Rattle.pool_alloc.proofs.LocalQueues.{IsStillLocal, reset_local, drained_shared, taken_local, drained_local, joined_local, joined_shared, decommitted_local, rest_local}
-use Rattle.pool_alloc.proofs.SlotIdentity.{one_reset, slot_of_one}
+use Rattle.pool_alloc.proofs.QueueCounts.{queued_first, queued_last, queued_joined, freed_last, freed_parted, run_counts, faulted_counts}
+use Rattle.pool_alloc.proofs.QueueRuns.{first_leaves}
 use Rattle.pool_alloc.proofs.ShardFrees.{IsShardOf, frees_shard}
-use Rattle.pool_alloc.proofs.Going.{Held, IsSoundAfter, either, goes_on, goes_either, ended, gives_back_next, begins_flush, goes_after_flush, empty_length, some_length}
+use Rattle.pool_alloc.proofs.SlotIdentity.{one_reset, slot_of_one}
+use Rattle.pool_alloc.proofs.Stages.{tried_is_queue, local_is_apart, first_can_be_put, first_can_be_freed}
+use Rattle.pool_alloc.specs.Stepping.{grant_count, grant_instances, grant_memories}
+use Rattle.pool_alloc.proofs.Ways.{Can, searched_back, none_granted, none_counted, aims_back, next_returns, kept_part, same_way, ends_way}
 
 returned_if : (maker : MakerTold) (behaviour : DecommitBehavior) (static_size i : ℕ) (known : Bool) (s : Slot) → IsPoolSlot maker behaviour static_size i s → (known ≡ true → IsClean s) → IsPoolCell maker behaviour static_size i (if known then previously_used s else unknown s)
 returned_if maker behaviour static_size i true s of clean = (of, clean refl)
@@ -56,145 +61,36 @@ one_range Zero keep accessible = omega arith
 fewer : (p : FreedSlot → Bool) (xs : List FreedSlot) → length (filter (λ x. not (p x)) xs) ≤ length xs
 fewer p xs = omega (arith, length-filter_both p (λ (x : FreedSlot). not (p x)) (λ x. refl) xs)
 
+-- a reset puts the slot of its memory into the queue
+reset_counts : (t : Thing) (keep index : ℕ) (slot : Slot) (q : QueueState) → queued_count t (reset_into keep index slot q).memories ≡ queued_count t q.memories + both_count t index
+reset_counts t keep index slot q = queued_last t q.memories _
+
+-- a cell to which a region is returned has it
+returned_has : (b : Bool) (slot : Slot) → is_taken (if b then previously_used slot else unknown slot) ≡ false
+returned_has true slot = refl
+returned_has false slot = refl
+
+decommit_counts : (t : Thing) (fault : Bool) (old new : QueueState) → Decommits fault old new → queued_count t new.memories ≡ queued_count t old.memories
+decommit_counts t true old new told = faulted_counts t old new told
+decommit_counts t false old new told = ap (λ (q : QueueState). queued_count t q.memories) told ∙ run_counts t old
+
+-- what the next part of a flush finds
+pub record Finds (local : QueueState) (step : FlushStep) : Type 0 where
+  pub ranges : step ≡ run → 0 < length local.ranges
+  pub put_none : step ≡ put → local.ranges ≡ []
+  pub put_some : step ≡ put → 0 < length local.memories
+  pub free_ranges : step ≡ free → local.ranges ≡ []
+  pub free_slots : step ≡ free → local.memories ≡ []
+
+finds_by : (local : QueueState) (a b : Bool) → (a ≡ true → local.ranges ≡ []) → (a ≡ false → 0 < length local.ranges) → (b ≡ true → local.memories ≡ []) → (b ≡ false → 0 < length local.memories) → Finds local (if a then (if b then free else put) else run)
+finds_by local true true none some empty more = record { ranges = λ e. absurd cc; put_none = λ e. absurd cc; put_some = λ e. absurd cc; free_ranges = λ e. none refl; free_slots = λ e. empty refl }
+finds_by local true false none some empty more = record { ranges = λ e. absurd cc; put_none = λ e. none refl; put_some = λ e. more refl; free_ranges = λ e. absurd cc; free_slots = λ e. absurd cc }
+finds_by local false b none some empty more = record { ranges = λ e. some refl; put_none = λ e. absurd cc; put_some = λ e. absurd cc; free_ranges = λ e. absurd cc; free_slots = λ e. absurd cc }
+
+pub finds : (local : QueueState) → Finds local (flush_step local)
+finds local = finds_by local (length local.ranges == 0) (length local.memories == 0) (λ e. empty_length local.ranges e) (λ e. some_length local.ranges e) (λ e. empty_length local.memories e) (λ e. some_length local.memories e)
+
 module _ {P : Type 0} where
-  -- The next memory is no grant any more.
-  returns_kept : (maker : MakerTold) (decls : List MemoryDecl) (leases : List Lease) (c : PoolCore P) (f : Frame P) → f.returning.items ≡ leases → IsCore maker c → Held maker c.settings f → HasNoneWaiting f → f.granted.items ≡ [] → 0 < length leases → All (λ l. l.index < length c.cells) leases → IsSoundAfter maker decls (returns leases c f)
-  returns_kept maker decls [] c f e core held settled none some inside = absurd (omega arith)
-  returns_kept maker decls (lease ∷ rest) c f e core held settled none some inside =
-      let L : Lease → Type 0 = IsLeaseOf maker c.settings in
-      let all : All L (lease ∷ rest) = All-same L (lease ∷ rest) f.returning.items (sym e) held.returning in
-      goes_on maker decls c (record f { returning = record f.returning { items = rest } }) (Reset lease) core
-      (record {
-        stripe = held.stripe;
-        queue = held.queue;
-        freed_room = held.freed_room;
-        freed_bytes = held.freed_bytes;
-        granted = held.granted;
-        returning = All-tail L lease rest all;
-      })
-      (settled, none, All-head (λ l. l.index < length c.cells) lease rest inside, All-head L lease rest all)
-
-  pub uncount_memory_kept : (maker : MakerTold) (decls : List MemoryDecl) (c : PoolCore P) (f : Frame P) → IsCore maker c → Held maker c.settings f → HasNoneWaiting f → f.granted.items ≡ [] → 0 < length f.returning.items → All (λ l. l.index < length c.cells) f.returning.items → IsSoundAfter maker decls (uncount_memory_row c f)
-  uncount_memory_kept maker decls c f core held settled none some inside =
-      returns_kept maker decls f.returning.items (counting_memories (c.counters.memories - 1) c) f refl (core_with_counters maker (record c.counters { memories = c.counters.memories - 1 }) c core) held settled none some inside
-
-  -- The memory is reset, or a page call of that failed.
-  pub reset_kept : (maker : MakerTold) (decls : List MemoryDecl) (fault : Bool) (new : Slot) (lease : Lease) (c : PoolCore P) (f : Frame P) → IsCore maker c → Held maker c.settings f → HasNoneWaiting f → f.granted.items ≡ [] → lease.index < length c.cells → IsPoolSlot maker c.settings.behaviour c.settings.max_memory_size lease.index (image_slot_of lease.memory) → Resets fault c.settings.keep_resident.bytes lease.index (image_slot_of lease.memory) new → IsSoundAfter maker decls (reset_row fault new lease c f)
-  reset_kept maker decls true new lease c f core held settled none inside of told =
-      let slot : Slot = image_slot_of lease.memory in
-      goes_on maker decls c f (PutUnknown lease.index new ReturnNext) core held
-      (settled, none, record { inside = inside; region = slot_of_one maker c.settings.behaviour c.settings.max_memory_size lease.index slot new told.1.same of })
-  reset_kept maker decls false new lease c f core held settled none inside of told =
-      let keep : ℕ = c.settings.keep_resident.bytes in
-      let slot : Slot = image_slot_of lease.memory in
-      let ended_slot : Slot = reset_slot slot.region.behaviour keep slot in
-      let still : IsPoolSlot maker c.settings.behaviour c.settings.max_memory_size lease.index ended_slot = slot_of_one maker c.settings.behaviour c.settings.max_memory_size lease.index slot ended_slot (one_reset slot.region.behaviour keep slot) of in
-      let ranges : List ByteRange = left_ranges slot.region.behaviour keep slot.accessible.bytes in
-      let few : length ranges ≤ 2 * c.settings.batch = omega (arith, one_range slot.region.behaviour keep slot.accessible.bytes, core.settings.batch.0) in
-      let is = reset_local maker c.settings ranges (slot_ended keep lease.index slot) f.local core.settings held.queue settled.no_ranges settled.no_slots few still told.1 in
-      let q : QueueState = reset_into c.settings.keep_resident.bytes lease.index (image_slot_of lease.memory) f.local in
-      let has : Frame P = record f { local = q } in
-      let freed : length f.freed.items ≡ 0 = ap length settled.none_freed in
-      let holds : Held maker c.settings has =
-      record {
-        stripe = held.stripe;
-        queue = is.queue;
-        freed_room = (held.freed_room.0, omega (arith, is.one, core.settings.batch.0));
-        freed_bytes = held.freed_bytes;
-        granted = held.granted;
-        returning = held.returning;
-      } in
-      either maker decls ((length q.ranges == 0) || nat_le c.settings.batch (length q.ranges)) (flushes GiveBackNext c has) (goes c has Merge)
-      (λ e. begins_flush maker decls GiveBackNext c has core holds none settled.none_freed (omega (arith, is.one)))
-      (λ e.
-      let parts = or_parts (length q.ranges == 0) (nat_le c.settings.batch (length q.ranges)) e in
-      let short = leb-false c.settings.batch (length q.ranges) parts.1 in
-      goes_on maker decls c has Merge core holds (none, settled.none_freed, is.one, some_length q.ranges parts.0, omega arith))
-
-  -- The local queue is appended.
-  pub merge_kept : (maker : MakerTold) (decls : List MemoryDecl) (c : PoolCore P) (f : Frame P) → IsCore maker c → Held maker c.settings f → f.granted.items ≡ [] → f.freed.items ≡ [] → length f.local.memories ≡ 1 → 0 < length f.local.ranges → length f.local.ranges + 1 ≤ c.settings.batch → AreApart (nth_queue (queue_tried 0 c f) c.queues).memories f.local.memories → IsSoundAfter maker decls (merge_row c f)
-  merge_kept maker decls c f core held none not_freed one some short apart =
-      let i : ℕ = queue_tried 0 c f in
-      let below : i < length c.queues = mod-lt (f.home + 0) core.queues_some in
-      let q : QueueState = nth_queue i c.queues in
-      let shared : IsShared maker c.settings q = core.queues i below in
-      let both : QueueState = after_append q f.local in
-      let local : IsLocal maker c.settings both = joined_local maker c.settings q f.local shared held.queue apart one short in
-      let empty : IsLocal maker c.settings (drained f.local) = drained_local maker c.settings f.local held.queue.range_room held.queue.slot_room in
-      let gone : Frame P = record f { local = drained f.local } in
-      let back : Frame P = record f { local = taken_into (drained f.local) both } in
-      let whole : PoolCore P = with_queue i (drained both) c in
-      let longer : PoolCore P = with_queue i both c in
-      let freed : length f.freed.items ≡ 0 = ap length not_freed in
-      let slots : length both.memories ≡ length q.memories + length f.local.memories = length-append q.memories f.local.memories in
-      either maker decls (nat_le c.settings.batch (length both.ranges)) (flushes GiveBackNext whole back) (give_back_next longer gone)
-      (λ full.
-      begins_flush maker decls GiveBackNext whole back (core_with_queue maker i (drained both) c core (drained_shared maker c.settings both core.settings local.range_room local.slot_room))
-      (record {
-        stripe = held.stripe;
-        queue = taken_local maker c.settings (drained f.local) both empty local;
-        freed_room = (held.freed_room.0, omega (arith, shared.short, shared.slots));
-        freed_bytes = held.freed_bytes;
-        granted = held.granted;
-        returning = held.returning;
-      })
-      none not_freed (omega arith))
-      (λ e.
-      gives_back_next maker decls longer gone (core_with_queue maker i both c core (joined_shared maker c.settings q f.local shared local one some (leb-false c.settings.batch (length both.ranges) e)))
-      (record {
-        stripe = held.stripe;
-        queue = empty;
-        freed_room = (held.freed_room.0, omega arith);
-        freed_bytes = held.freed_bytes;
-        granted = held.granted;
-        returning = held.returning;
-      })
-      (record { no_ranges = refl; no_slots = refl; none_freed = not_freed }) none)
-
-  -- Ranges are decommitted.
-  pub decommit_kept : (maker : MakerTold) (decls : List MemoryDecl) (fault : Bool) (queue : QueueState) (after : AfterFlush) (c : PoolCore P) (f : Frame P) → IsCore maker c → Held maker c.settings f → IsShapedAfter c.settings (length c.queues) after f → f.freed.items ≡ [] → 0 < length f.local.memories → Decommits fault f.local queue → IsSoundAfter maker decls (decommit_row queue after c f)
-  decommit_kept maker decls fault queue after c f core held goes_to not_freed some told =
-      let still : IsStillLocal maker c.settings f.local queue = decommitted_local maker c.settings fault f.local queue told held.queue in
-      begins_flush maker decls after c (record f { local = queue }) core
-      (record {
-        stripe = held.stripe;
-        queue = still.queue;
-        freed_room = (held.freed_room.0, rw still.long held.freed_room.1);
-        freed_bytes = held.freed_bytes;
-        granted = held.granted;
-        returning = held.returning;
-      })
-      goes_to not_freed (rw still.long some)
-
-  -- A region is put back.
-  puts_kept : (maker : MakerTold) (decls : List MemoryDecl) (after : AfterFlush) (memories : List QueuedMemory) (c : PoolCore P) (f : Frame P) → f.local.memories ≡ memories → IsCore maker c → Held maker c.settings f → IsShapedAfter c.settings (length c.queues) after f → f.local.ranges ≡ [] → 0 < length memories → IsSoundAfter maker decls (puts after memories c f)
-  puts_kept maker decls after [] c f e core held goes_to none some = absurd (omega arith)
-  puts_kept maker decls after (m ∷ rest) c f e core held goes_to none some =
-      let Q : QueuedMemory → Type 0 = IsQueuedOf maker c.settings.behaviour c.settings.max_memory_size in
-      let of : IsQueuedOf maker c.settings.behaviour c.settings.max_memory_size m = All-head Q m rest (All-same Q (m ∷ rest) f.local.memories (sym e) held.queue.regions) in
-      let leaves : LeavesClean [] m = first_leaves m rest f.local none e held.queue.queue in
-      let x : FreedSlot = record { slot = m.index; bytes = m.bytes } in
-      let new : PoolCore P = with_cell m.index (cell_returned m) c in
-      let has : Frame P = record f { local = record f.local { memories = rest }; freed = with_item x f.freed } in
-      let long : length f.local.memories ≡ length (m ∷ rest) = ap length e in
-      let more : length (f.freed.items ++ x ∷ []) ≡ length f.freed.items + 1 = length-append f.freed.items (x ∷ []) in
-      goes_either maker decls new has (length rest == 0) (Free after) (PutRegion after)
-      (core_with_cell maker m.index (cell_returned m) c core (returned_if maker c.settings.behaviour c.settings.max_memory_size m.index m.known m.slot of.slot leaves.clean))
-      (record {
-        stripe = held.stripe;
-        queue = rest_local maker c.settings m rest f.local none e held.queue;
-        freed_room = (held.freed_room.0, omega (arith, held.freed_room.1));
-        freed_bytes = All-push (λ y. y.bytes ≤ 2 ^ 32) f.freed.items x held.freed_bytes leaves.bytes;
-        granted = held.granted;
-        returning = held.returning;
-      })
-      (λ t. (goes_to, none, empty_length rest t, omega arith))
-      (λ t. (goes_to, none, some_length rest t))
-
-  pub put_region_kept : (maker : MakerTold) (decls : List MemoryDecl) (after : AfterFlush) (c : PoolCore P) (f : Frame P) → IsCore maker c → Held maker c.settings f → IsShapedAfter c.settings (length c.queues) after f → f.local.ranges ≡ [] → 0 < length f.local.memories → IsSoundAfter maker decls (put_region_row after c f)
-  put_region_kept maker decls after c f core held goes_to none some = puts_kept maker decls after f.local.memories c f refl core held goes_to none some
-
-  -- The slots of one shard are freed.
   core_after_frees : (maker : MakerTold) (j : ℕ) (slots : List FreedSlot) (c : PoolCore P) → IsCore maker c → AreUsedInTurn c.settings slots (nth_shard j c.shards) → All (λ x. x.bytes ≤ 2 ^ 32) slots → IsCore maker (with_shard j (after_frees c.settings slots (nth_shard j c.shards)) c)
   core_after_frees maker j slots c core used small =
       elim (cases_lt j (length c.shards)) [
@@ -204,34 +100,237 @@ module _ {P : Type 0} where
         | inr past ↦ core_past_shards maker j (after_frees c.settings slots (nth_shard j c.shards)) c core past
       ]
 
-  pub free_kept : (maker : MakerTold) (decls : List MemoryDecl) (after : AfterFlush) (c : PoolCore P) (f : Frame P) → IsCore maker c → Held maker c.settings f → IsShapedAfter c.settings (length c.queues) after f → f.local.ranges ≡ [] → f.local.memories ≡ [] → AreUsedInTurn c.settings (freed_of c.settings (first_shard c.settings f.freed.items) f.freed.items) (nth_shard (first_shard c.settings f.freed.items) c.shards) → IsSoundAfter maker decls (free_row after c f)
-  free_kept maker decls after c f core held goes_to none no_slots used =
+  -- something is left of a flush that has no slots queued: freed ones
+  pub some_freed : (f : Frame P) → is_flushed f ≡ false → f.local.memories ≡ [] → 0 < length f.freed.items
+  some_freed f more none =
+      let M : List QueuedMemory → Type 0 = λ ms. ((length ms == 0) && (length f.freed.items == 0)) ≡ false in
+      let left : (length f.freed.items == 0) ≡ false = subst M none more in
+      some_length f.freed.items left
+
+module _ {P : Type 0} (maker : MakerTold) (old new : LimiterTold) where
+  abbrev Shows : Phase P → PoolCore P → Frame P → Row (PoolCore P) P → Type 0
+  Shows p c f r = IsReadyRow maker old new c (in_phase p f) r
+
+  -- A memory that is given back is no grant any more.
+  pub uncount_memory_ready : (lease : Lease) (c : PoolCore P) (f : Frame P) → Can maker (UncountMemory lease) c f → Shows (UncountMemory lease) c f (uncount_memory_row lease c (in_phase Idle f))
+  uncount_memory_ready lease c f can =
+      let e : Frame P = in_phase (UncountMemory lease) f in
+      record {
+        kept = record { core = core_with_counters maker (record c.counters { memories = c.counters.memories - 1 }) c can.core; held = held_of maker c.settings e can.frame; asked = refl; settings = refl; instances_by_one = omega arith; memories_by_one = omega arith };
+        shape = (refl, can.frame.shape);
+        even = record { places = λ t. omega arith; instances = omega arith; memories = omega (arith, can.fits.memories) };
+        fewer = omega arith;
+        way = same_way maker old new c e f.ending (length f.objects.items);
+        searched = λ s. tt;
+      }
+
+  -- The memory is reset, or a page call of that failed.
+  pub reset_ready : (fault : Bool) (held : Slot) (lease : Lease) (c : PoolCore P) (f : Frame P) → Can maker (Reset lease) c f → Resets fault c.settings.keep_resident.bytes lease.index (image_slot_of lease.memory) held → Shows (Reset lease) c f (was_reset fault held lease c (in_phase Idle f))
+  reset_ready true held lease c f can told =
+      let e : Frame P = in_phase (Reset lease) f in
+      let of = can.frame.shape.2 in
+      record {
+        kept = kept_part maker old new c e c (in_phase Idle f) can.core (held_of maker c.settings e can.frame) refl refl refl;
+        shape = (refl, (can.frame.shape.0, can.frame.shape.1, record { inside = of.inside; region = slot_of_one maker c.settings.behaviour c.settings.max_memory_size lease.index (image_slot_of lease.memory) held told.1.same of.slot }));
+        even = record { places = λ t. omega arith; instances = omega arith; memories = omega arith };
+        fewer = omega (arith, can.core.settings.shards.0);
+        way = same_way maker old new c e f.ending (length f.objects.items);
+        searched = λ s. tt;
+      }
+  reset_ready false held lease c f can told =
+      let e : Frame P = in_phase (Reset lease) f in
+      let settled = can.frame.shape.0 in
+      let back = can.frame.shape.1 in
+      let of = can.frame.shape.2 in
+      let keep : ℕ = c.settings.keep_resident.bytes in
+      let slot : Slot = image_slot_of lease.memory in
+      let still : IsPoolSlot maker c.settings.behaviour c.settings.max_memory_size lease.index (reset_slot slot.region.behaviour keep slot) = slot_of_one maker c.settings.behaviour c.settings.max_memory_size lease.index slot (reset_slot slot.region.behaviour keep slot) (one_reset slot.region.behaviour keep slot) of.slot in
+      let ranges : List ByteRange = left_ranges slot.region.behaviour keep slot.accessible.bytes in
+      let is = reset_local maker c.settings ranges (slot_ended keep lease.index slot) f.local can.core.settings can.frame.queue settled.no_ranges settled.no_slots (omega (arith, one_range slot.region.behaviour keep slot.accessible.bytes, can.core.settings.batch.0)) still told.1 in
+      let q : QueueState = reset_into keep lease.index slot f.local in
+      let has : Frame P = record f { phase = Idle; local = q } in
+      let kept : Kept maker old new c e c has = kept_part maker old new c e c has can.core
+      (record { stripe = can.frame.stripe; queue = is.queue; freed_room = (can.frame.freed_room.0, omega (arith, is.one, can.core.settings.batch.0, ap (length {A = FreedSlot}) settled.none_freed)); freed_bytes = can.frame.freed_bytes; objects = can.frame.objects })
+      refl refl refl in
+      let even : Even maker old new c e (hand {P = P} next) c has = record { places = λ t. omega (arith, reset_counts t keep lease.index slot f.local); instances = omega arith; memories = omega arith } in
+      let few = flush_few (pool_sizes c) c.settings.slots q f.freed is.queue.grouped (omega (arith, is.one, of.inside)) in
+      let stays = same_way maker old new c e f.ending (length f.objects.items) in
+      either_ready maker old new c e c has ((length q.ranges == 0) || nat_le c.settings.batch (length q.ranges)) flush (goes Merge)
+      (λ full. record {
+        kept = kept;
+        shape = aims_back c.settings f.ending f.asked f.queues f.objects back;
+        even = even;
+        fewer = omega (arith, few, next_returns (pool_sizes c) f.ending f.queues f.asked f.objects back);
+        way = stays;
+        searched = λ s. searched_back f.ending _ back;
+      })
+      (λ some.
+      let parts = or_parts (length q.ranges == 0) (nat_le c.settings.batch (length q.ranges)) some in
+      record {
+        kept = kept;
+        shape = (refl, (back, settled.none_freed, is.one, some_length q.ranges parts.0, omega (arith, leb-false c.settings.batch (length q.ranges) parts.1)));
+        even = even;
+        fewer = omega arith;
+        way = stays;
+        searched = λ s. tt;
+      })
+
+  -- The local queue is appended.
+  merged_ready : (b : Bool) (c : PoolCore P) (f : Frame P) → Can maker Merge c f → nat_le c.settings.batch (length (after_append (nth_queue (queue_tried 0 c.settings f) c.queues) f.local).ranges) ≡ b → Shows Merge c f (in_queue (queue_tried 0 c.settings f) c (merged b (after_append (nth_queue (queue_tried 0 c.settings f) c.queues) f.local) (record f { phase = Idle; local = drained f.local })))
+  merged_ready true c f can is =
+      let e : Frame P = in_phase Merge f in
+      let i : ℕ = queue_tried 0 c.settings f in
+      let q : QueueState = nth_queue i c.queues in
+      let whole : QueueState = after_append q f.local in
+      let below : i < length c.queues = tried_is_queue maker 0 c f can.core in
+      let shape = can.frame.shape in
+      let shared : IsShared maker c.settings q = can.core.queues i below in
+      let both : IsLocal maker c.settings whole = joined_local maker c.settings q f.local shared can.frame.queue (local_is_apart i c e can.fits below) shape.2 shape.4 in
+      let slots : length whole.memories ≡ length q.memories + length f.local.memories = length-append q.memories f.local.memories in
+      let has : Frame P = record f { phase = Idle; local = taken_into (drained f.local) whole } in
+      record {
+        kept = kept_part maker old new c e (with_queue i (drained whole) c) has
+            (core_with_queue maker i (drained whole) c can.core (drained_shared maker c.settings whole can.core.settings both.range_room both.slot_room))
+            (record {
+              stripe = can.frame.stripe;
+              queue = taken_local maker c.settings (drained f.local) whole (drained_local maker c.settings f.local can.frame.queue.range_room can.frame.queue.slot_room) both;
+              freed_room = (can.frame.freed_room.0, omega (arith, shared.short, shared.slots, slots, shape.2, ap (length {A = FreedSlot}) shape.1));
+              freed_bytes = can.frame.freed_bytes;
+              objects = can.frame.objects;
+            })
+            refl refl refl;
+        shape = aims_back c.settings f.ending f.asked f.queues f.objects shape.0;
+        even = record { places = λ t. omega (arith, kept_queue t i (drained whole) c below, queued_joined t q.memories f.local.memories); instances = omega arith; memories = omega arith };
+        fewer = omega (arith, flush_few (pool_sizes c) (length c.cells) (taken_into (drained f.local) whole) f.freed both.grouped (few_in_both maker i c e can below), can.core.cells_made, next_returns (pool_sizes c) f.ending f.queues f.asked f.objects shape.0);
+        way = same_way maker old new c e f.ending (length f.objects.items);
+        searched = λ s. searched_back f.ending _ shape.0;
+      }
+  merged_ready false c f can is =
+      let e : Frame P = in_phase Merge f in
+      let i : ℕ = queue_tried 0 c.settings f in
+      let q : QueueState = nth_queue i c.queues in
+      let whole : QueueState = after_append q f.local in
+      let below : i < length c.queues = tried_is_queue maker 0 c f can.core in
+      let shape = can.frame.shape in
+      let shared : IsShared maker c.settings q = can.core.queues i below in
+      let both : IsLocal maker c.settings whole = joined_local maker c.settings q f.local shared can.frame.queue (local_is_apart i c e can.fits below) shape.2 shape.4 in
+      let has : Frame P = record f { phase = Idle; local = drained f.local } in
+      record {
+        kept = kept_part maker old new c e (with_queue i whole c) has
+            (core_with_queue maker i whole c can.core (joined_shared maker c.settings q f.local shared both shape.2 shape.3 (leb-false c.settings.batch (length whole.ranges) is)))
+            (record {
+              stripe = can.frame.stripe;
+              queue = drained_local maker c.settings f.local can.frame.queue.range_room can.frame.queue.slot_room;
+              freed_room = (can.frame.freed_room.0, omega (arith, can.frame.freed_room.1));
+              freed_bytes = can.frame.freed_bytes;
+              objects = can.frame.objects;
+            })
+            refl refl refl;
+        shape = (record { no_ranges = refl; no_slots = refl; none_freed = shape.1 }, aims_back c.settings f.ending f.asked f.queues f.objects shape.0);
+        even = record { places = λ t. omega (arith, kept_queue t i whole c below, queued_joined t q.memories f.local.memories); instances = omega arith; memories = omega arith };
+        fewer = omega (arith, next_returns (pool_sizes c) f.ending f.queues f.asked f.objects shape.0);
+        way = same_way maker old new c e f.ending (length f.objects.items);
+        searched = λ s. searched_back f.ending _ shape.0;
+      }
+
+  pub merge_ready : (c : PoolCore P) (f : Frame P) → Can maker Merge c f → Shows Merge c f (in_queue (queue_tried 0 c.settings f) c (merge_on c.settings (nth_queue (queue_tried 0 c.settings f) c.queues) (in_phase Idle f)))
+  merge_ready c f can = merged_ready (nat_le c.settings.batch (length (after_append (nth_queue (queue_tried 0 c.settings f) c.queues) f.local).ranges)) c f can refl
+
+  -- The instance is given back, and the call ends.
+  pub uncount_instance_ready : (c : PoolCore P) (f : Frame P) → Can maker UncountInstance c f → Shows UncountInstance c f (uncount_instance_row c (in_phase Idle f))
+  uncount_instance_ready c f can =
+      let e : Frame P = in_phase UncountInstance f in
+      record {
+        kept = record { core = core_with_counters maker (record c.counters { core_instances = c.counters.core_instances - 1 }) c can.core; held = held_of maker c.settings e can.frame; asked = refl; settings = refl; instances_by_one = omega arith; memories_by_one = omega arith };
+        shape = (can.frame.shape.0, none_granted _ f.ending);
+        even = record { places = λ t. omega (arith, none_counted {P = P} (grant_count t) f.ending); instances = omega (arith, can.fits.instances, none_counted {P = P} grant_instances f.ending); memories = omega (arith, none_counted {P = P} grant_memories f.ending) };
+        fewer = omega arith;
+        way = ends_way maker old new c e f.ending (length f.objects.items) can.frame.shape.1;
+        searched = λ s. tt;
+      }
+
+  -- Ranges are decommitted.
+  decommit_ready : (fault : Bool) (queue : QueueState) (c : PoolCore P) (f : Frame P) → Can maker Flush c f → Decommits fault f.local queue → 0 < length f.local.ranges → Shows Flush c f (decommit_row queue c (in_phase Idle f))
+  decommit_ready fault queue c f can told some =
+      let e : Frame P = in_phase Flush f in
+      let still : IsStillLocal maker c.settings f.local queue = decommitted_local maker c.settings fault f.local queue told can.frame.queue in
+      let has : Frame P = record f { phase = Idle; local = queue } in
+      record {
+        kept = kept_part maker old new c e c has can.core
+            (record { stripe = can.frame.stripe; queue = still.queue; freed_room = (can.frame.freed_room.0, rw still.long can.frame.freed_room.1); freed_bytes = can.frame.freed_bytes; objects = can.frame.objects })
+            refl refl refl;
+        shape = can.frame.shape.0;
+        even = record { places = λ t. omega (arith, decommit_counts t fault f.local queue told); instances = omega arith; memories = omega arith };
+        fewer = omega (arith, decommit_fewer (pool_sizes c) fault f.local queue f.freed told can.frame.queue.owners some);
+        way = same_way maker old new c e f.ending (length f.objects.items);
+        searched = λ s. s;
+      }
+
+  -- A region is put back.
+  put_ready : (memories : List QueuedMemory) (c : PoolCore P) (f : Frame P) → Can maker Flush c f → f.local.ranges ≡ [] → f.local.memories ≡ memories → 0 < length memories → Shows Flush c f (put_region_row memories c (in_phase Idle f))
+  put_ready [] c f can none is some = absurd (omega arith)
+  put_ready (m ∷ rest) c f can none is some =
+      let e : Frame P = in_phase Flush f in
+      let Q : QueuedMemory → Type 0 = IsQueuedOf maker c.settings.behaviour c.settings.max_memory_size in
+      let of = All-head Q m rest (All-same Q (m ∷ rest) f.local.memories (sym is) can.frame.queue.regions) in
+      let leaves : LeavesClean [] m = first_leaves m rest f.local none is can.frame.queue.queue in
+      let x : FreedSlot = record { slot = m.index; bytes = m.bytes } in
+      let d : PoolCore P = with_cell m.index (cell_returned m) c in
+      let has : Frame P = record f { phase = Idle; local = record f.local { memories = rest }; freed = with_item x f.freed } in
+      let long : length f.local.memories ≡ length (m ∷ rest) = ap (length {A = QueuedMemory}) is in
+      let more : length (f.freed.items ++ x ∷ []) ≡ length f.freed.items + 1 = length_push f.freed.items x in
+      let can_put = first_can_be_put c f m rest can.fits is in
+      record {
+        kept = kept_part maker old new c e d has
+            (core_with_cell maker m.index (cell_returned m) c can.core (returned_if maker c.settings.behaviour c.settings.max_memory_size m.index m.known m.slot of.slot leaves.clean))
+            (record {
+              stripe = can.frame.stripe;
+              queue = rest_local maker c.settings m rest f.local none is can.frame.queue;
+              freed_room = (can.frame.freed_room.0, omega (arith, can.frame.freed_room.1, more, long));
+              freed_bytes = All-push (λ y. y.bytes ≤ 2 ^ 32) f.freed.items x can.frame.freed_bytes leaves.bytes;
+              objects = can.frame.objects;
+            })
+            refl refl refl;
+        shape = can.frame.shape.0;
+        even = record { places = λ t. omega (arith, ap (queued_count t) is, queued_first t m rest, kept_with t m.index (cell_returned m) c can_put.inside can_put.away (returned_has m.known m.slot), freed_last t f.freed.items x); instances = omega arith; memories = omega arith };
+        fewer = omega (arith, more, long, put_fewer (pool_sizes c) m rest f.local.memories f.freed.items is);
+        way = same_way maker old new c e f.ending (length f.objects.items);
+        searched = λ s. s;
+      }
+
+  -- The slots of one shard are freed.
+  free_ready : (c : PoolCore P) (f : Frame P) → Can maker Flush c f → f.local.ranges ≡ [] → f.local.memories ≡ [] → Shows Flush c f (free_row c (in_phase Idle f))
+  free_ready c f can none no_slots =
+      let e : Frame P = in_phase Flush f in
+      let some : 0 < length f.freed.items = some_freed f can.frame.shape.1 no_slots in
+      let first = first_can_be_freed maker c f can some in
       let j : ℕ = first_shard c.settings f.freed.items in
       let shard : ShardState = after_frees c.settings (freed_of c.settings j f.freed.items) (nth_shard j c.shards) in
-      let left : List FreedSlot = freed_elsewhere c.settings j f.freed.items in
-      let new : PoolCore P = with_shard j shard c in
-      let has : Frame P = record f { freed = record f.freed { items = left } } in
-      let still : IsCore maker new = core_after_frees maker j (freed_of c.settings j f.freed.items) c core used (All-filter (λ x. shard_of c.settings x.slot == j) (λ x. x.bytes ≤ 2 ^ 32) f.freed.items held.freed_bytes) in
-      let less : length left ≤ length f.freed.items = fewer (λ x. shard_of c.settings x.slot == j) f.freed.items in
-      let holds : Held maker c.settings has =
+      let d : PoolCore P = with_shard j shard c in
+      let has : Frame P = record f { phase = Idle; freed = record f.freed { items = freed_elsewhere c.settings j f.freed.items } } in
+      let less : length (freed_elsewhere c.settings j f.freed.items) ≤ length f.freed.items = fewer (λ x. shard_of c.settings x.slot == j) f.freed.items in
       record {
-        stripe = held.stripe;
-        queue = held.queue;
-        freed_room = (held.freed_room.0, omega (arith, held.freed_room.1));
-        freed_bytes = All-filter (λ x. not (shard_of c.settings x.slot == j)) (λ x. x.bytes ≤ 2 ^ 32) f.freed.items held.freed_bytes;
-        granted = held.granted;
-        returning = held.returning;
-      } in
-      either maker decls (length left == 0) (after_flush after new has) (goes new has (Free after))
-      (λ e. goes_after_flush maker decls after new has still holds (record { no_ranges = none; no_slots = no_slots; none_freed = empty_length left e }) goes_to)
-      (λ e. goes_on maker decls new has (Free after) still holds (goes_to, none, no_slots, some_length left e))
+        kept = kept_part maker old new c e d has
+            (core_after_frees maker j (freed_of c.settings j f.freed.items) c can.core first.used (All-filter (λ x. shard_of c.settings x.slot == j) (λ x. x.bytes ≤ 2 ^ 32) f.freed.items can.frame.freed_bytes))
+            (record {
+              stripe = can.frame.stripe;
+              queue = can.frame.queue;
+              freed_room = (can.frame.freed_room.0, omega (arith, can.frame.freed_room.1, less));
+              freed_bytes = All-filter (λ x. not (shard_of c.settings x.slot == j)) (λ x. x.bytes ≤ 2 ^ 32) f.freed.items can.frame.freed_bytes;
+              objects = can.frame.objects;
+            })
+            refl refl refl;
+        shape = can.frame.shape.0;
+        even = record { places = λ t. omega (arith, kept_shard t j shard c first.shard, freed_counts t maker j c e can.core can.fits first.shard, freed_parted t (λ x. shard_of c.settings x.slot == j) f.freed.items); instances = omega arith; memories = omega arith };
+        fewer = omega (arith, free_fewer c f.local.memories f.freed.items no_slots some (omega (arith, first.shard, can.core.shards_made)));
+        way = same_way maker old new c e f.ending (length f.objects.items);
+        searched = λ s. s;
+      }
 
-  -- The call ends.
-  answered : (Q : _) (e : Ending) → IfGranted {P = P} Q (Some (answer_of e))
-  answered Q ending.Returned = tt
-  answered Q (ending.Refused e) = tt
+  flush_ready_by : (step : FlushStep) (g : StepGiven) (c : PoolCore P) (f : Frame P) → Can maker Flush c f → Finds f.local step → FlushTold step g f.local → Shows Flush c f (flush_row step g.queue c (in_phase Idle f))
+  flush_ready_by run g c f can found told = decommit_ready g.fault g.queue c f can told (found.ranges refl)
+  flush_ready_by put g c f can found told = put_ready f.local.memories c f can (found.put_none refl) refl (found.put_some refl)
+  flush_ready_by free g c f can found told = free_ready c f can (found.free_ranges refl) (found.free_slots refl)
 
-  pub uncount_instance_kept : (maker : MakerTold) (decls : List MemoryDecl) (c : PoolCore P) (f : Frame P) → IsCore maker c → Held maker c.settings f → IsAtRest f → IsSoundAfter maker decls (uncount_instance_row c f)
-  uncount_instance_kept maker decls c f core held rest =
-      ended maker decls (counting_instances (c.counters.core_instances - 1) c) f (answer_of f.ending) (core_with_counters maker (record c.counters { core_instances = c.counters.core_instances - 1 }) c core) held rest
-      (answered (IsGrantOf maker c.settings decls) f.ending)
+  pub flush_ready : (g : StepGiven) (c : PoolCore P) (f : Frame P) → Can maker Flush c f → FlushTold (flush_step f.local) g f.local → Shows Flush c f (flush_row (flush_step f.local) g.queue c (in_phase Idle f))
+  flush_ready g c f can told = flush_ready_by (flush_step f.local) g c f can (finds f.local) told

@@ -2,7 +2,7 @@
 use Rattle.std.proofs.Common.{◌≡◌, ℕ, ◌+◌, ◌<◌, ◌≤◌, Bool, true, false, List, [], ◌∷◌, ◌++◌, length, refl, sym, ap, subst, inl, inr, arith}
 use Rattle.std.specs.Prelude.{◌==◌, map, if◌then◌else◌}
 use Rattle.std.proofs.lemmas.Bool.{cases_Bool, and_from, eq-eqb}
-use Rattle.std.proofs.lemmas.List.{length-append, length_push}
+use Rattle.std.proofs.lemmas.List.{length-append}
 use Rattle.pool_images.specs.declared.ranges.ByteRange.{ByteRange}
 use Rattle.pool_slots.specs.declared.queued_range.QueueKind.{QueueKind}
 use Rattle.pool_slots.specs.declared.queued_range.QueueKind.TheVariants.{Memory, Table, Stack}
@@ -10,11 +10,9 @@ use Rattle.pool_slots.specs.declared.queued_range.QueuedRange.{QueuedRange}
 use Rattle.pool_slots.specs.Queues.{QueueState, QueuedMemory, same_kind, is_held, is_of, first_slot, behind, after_append}
 use Rattle.pool_slots.proofs.QueueLists.{AreOwned}
 use Rattle.pool_slots.proofs.QueueRuns.{of_slot, of_kind}
-use Rattle.pool_images.specs.Slots.{Slot, left_ranges}
 use Rattle.pool_alloc.specs.Answers.{Decommits}
-use Rattle.pool_alloc.specs.Own.{reset_into, slot_ended}
 use Rattle.pool_alloc.proofs.SlotIdentity.{length_after_run}
-use Rattle.pool_alloc.specs.Bounds.{runs_after, runs, IsGrouped}
+use Rattle.pool_alloc.specs.RangeRuns.{runs_after, runs, IsGrouped}
 
 one_or_none : (b : Bool) → (if b then 0 else 1) ≤ 1
 one_or_none true = omega arith
@@ -68,7 +66,7 @@ one_run_after slot (r ∷ rs) =
     let here : (slot == slot) ≡ true = eq-eqb slot slot refl in
     rw here (omega (arith, one_run_after slot rs))
 
-one_run : (slot : ℕ) (ranges : List ByteRange) → runs (map (λ r. record { kind = Memory; slot = record { 0 = slot }; range = r }) ranges) ≤ 1
+pub one_run : (slot : ℕ) (ranges : List ByteRange) → runs (map (λ r. record { kind = Memory; slot = record { 0 = slot }; range = r }) ranges) ≤ 1
 one_run slot [] = omega arith
 one_run slot (r ∷ rs) = omega (arith, one_run_after slot rs)
 
@@ -86,10 +84,6 @@ grouped_decommitted false old new run grouped =
     let slot : ℕ = first_slot old.ranges in
     subst G (sym run) (omega (arith, runs_behind slot old.ranges, runs_after_few Memory slot old.ranges, length_after_run old))
 
--- and in an empty one after a reset.
-pub grouped_reset : (keep index : ℕ) (slot : Slot) (q : QueueState) → q.ranges ≡ [] → q.memories ≡ [] → IsGrouped (reset_into keep index slot q)
-grouped_reset keep index slot q none no_slots =
-    let ranges : List ByteRange = left_ranges slot.region.behaviour keep slot.accessible.bytes in
-    let listed : List QueuedRange = map (λ r. record { kind = Memory; slot = record { 0 = index }; range = r }) ranges in
-    let first : q.ranges ++ listed ≡ listed = ap (λ (rs : List QueuedRange). rs ++ listed) none in
-    omega (arith, ap runs first, one_run index ranges, length_push q.memories (slot_ended keep index slot))
+-- no ranges are no runs
+pub no_runs : (ranges : List QueuedRange) (n : ℕ) → ranges ≡ [] → runs ranges ≤ n
+no_runs ranges n none = omega (arith, ap runs none)

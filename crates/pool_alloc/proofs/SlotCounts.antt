@@ -78,3 +78,16 @@ pick_none t want s answer = pick_none_of t want s (choice want s) answer
 -- a free gives its slot back
 pub free_more : (t : Thing) (slot : SlotId) (bytes : ℕ) (s : ShardState) → slot.0 < length s.used → is_used s slot.0 ≡ true → free_count t (after_free slot bytes s) ≡ free_count t s + slot_count t (slot_number s slot.0)
 free_more t slot bytes s inside used = unused_more t s.first s.step s.used slot.0 inside used
+
+-- how often the slot that a pick answered is the thing
+abbrev pub picked_count : Thing → ShardState → Option (SlotId × ℕ) → ℕ
+picked_count t s (Some p) = slot_count t (slot_number s p.0.0)
+picked_count t s None = 0
+
+picked_counts : (t : Thing) (want : Option MemoryInModule) (s : ShardState) (o : Option (SlotId × ℕ)) → IsShard s → pick_answer want s ≡ o → free_count t (after_pick want s) + picked_count t s o ≡ free_count t s
+picked_counts t want s (Some p) sound is = pick_less t want s p sound is
+picked_counts t want s None sound is = omega (arith, pick_none t want s is)
+
+-- so what a shard has, with what a pick answered, is what it had
+pub pick_counts : (t : Thing) (want : Option MemoryInModule) (s : ShardState) → IsShard s → free_count t (after_pick want s) + picked_count t s (pick_answer want s) ≡ free_count t s
+pick_counts t want s sound = picked_counts t want s (pick_answer want s) sound refl

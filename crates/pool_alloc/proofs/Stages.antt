@@ -1,6 +1,5 @@
 -- What a frame that can make its next step may rely on, phase by phase.
 use Rattle.std.proofs.Common.{◌≡◌, ℕ, ◌+◌, ◌<◌, ◌≤◌, true, false, List, [], ◌∷◌, length, sym, ap, ◌∙◌, arith}
-use Rattle.std.specs.Prelude.{slice_index_or}
 use Rattle.std.proofs.lemmas.List.Sums.{get_or-le-sum_by}
 use Rattle.pool_pages.specs.MakerTold.{MakerTold}
 use Rattle.pool_images.specs.Slots.{Slot}
@@ -8,18 +7,16 @@ use Rattle.pool_index.specs.Shard.{is_used}
 use Rattle.pool_slots.specs.Cells.{is_taken}
 use Rattle.pool_slots.specs.Queues.{QueueState, QueuedMemory, empty_queue, AreApart, IsSpareOf}
 use Rattle.pool_alloc.specs.Freeing.{AreUsedInTurn}
-use Rattle.pool_alloc.specs.Leases.{Lease}
 use Rattle.pool_alloc.specs.Places.{Thing, right_to, region_of, both_count, queued_count, frame_count}
 use Rattle.pool_alloc.specs.Sound.{IsCore, IsFrame, FitsCore}
 use Rattle.pool_alloc.specs.Steps.{nth_shard, nth_queue, nth_cell, shard_of, local_of, freed_of, first_shard, shard_tried, queue_tried}
 use Rattle.pool_alloc.specs.Stepping.{CanStep}
 use Rattle.pool_alloc.specs.declared.pool_core.PoolCore.{PoolCore}
-use Rattle.pool_alloc.specs.declared.frame.AfterFlush.{AfterFlush}
-use Rattle.pool_alloc.specs.declared.frame.AfterFree.{AfterFree}
 use Rattle.pool_alloc.specs.declared.frame.Frame.{Frame}
 use Rattle.pool_alloc.specs.declared.frame.FreedSlot.{FreedSlot}
-use Rattle.pool_alloc.specs.declared.frame.Phase.TheVariants.{Idle, TakeRegion, PutUnknown, FreeUnknown, Merge, PutRegion, Free}
-use Rattle.pool_alloc.proofs.Balances.{in_phase}
+use Rattle.pool_alloc.specs.declared.frame.Phase.TheVariants.{Idle, TakeRegion, PutUnknown, FreeUnknown, Merge, Flush}
+use Rattle.std.proofs.Math.Nat.{mod-lt}
+use Rattle.pool_alloc.proofs.Hands.{in_phase}
 use Rattle.pool_alloc.proofs.FreedSlots.{first_is_shard, freed_in_turn}
 use Rattle.pool_alloc.proofs.Held.{made_once, not_kept, held_is_inside, held_is_used, region_is_home, region_is_away}
 use Rattle.pool_alloc.proofs.KeptCounts.{frame_regions, kept_slots}
@@ -33,20 +30,15 @@ pub record HasRoomFor (q more : QueueState) : Type 0 where
   pub slots : length q.memories + length more.memories ≤ q.slot_room
 
 module _ {P : Type 0} where
-  pub returning_is_held : (i : ℕ) (d : Lease) (f : Frame P) → i < length f.returning.items → 1 ≤ frame_count (right_to (slice_index_or f.returning.items i d).index) f
-  returning_is_held i d f below =
-      let k : ℕ = (slice_index_or f.returning.items i d).index in
-      omega (arith, get_or-le-sum_by (λ (l : Lease). both_count (right_to k) l.index) f.returning.items i d below, slot_once k)
-
   -- The shard that is tried, and the queue, is one of the pool.
-  pub tried_is_shard : (maker : MakerTold) (tried : ℕ) (c : PoolCore P) (f : Frame P) → IsCore maker c → shard_tried tried c f < length c.shards
-  tried_is_shard maker tried c f core = omega (arith, core.layout.some)
+  pub tried_is_shard : (maker : MakerTold) (tried : ℕ) (c : PoolCore P) (f : Frame P) → IsCore maker c → shard_tried tried c.settings f < length c.shards
+  tried_is_shard maker tried c f core = rw core.shards_made (mod-lt (f.home + tried) core.settings.shards.0)
 
-  pub tried_is_queue : (maker : MakerTold) (queues : ℕ) (c : PoolCore P) (f : Frame P) → IsCore maker c → queue_tried queues c f < length c.queues
-  tried_is_queue maker queues c f core = omega (arith, core.queues_some)
+  pub tried_is_queue : (maker : MakerTold) (queues : ℕ) (c : PoolCore P) (f : Frame P) → IsCore maker c → queue_tried queues c.settings f < length c.queues
+  tried_is_queue maker queues c f core = rw core.queues_made (mod-lt (f.home + queues) core.settings.queues.0)
 
   -- An empty local queue has the room of the shared ones.
-  pub local_is_spare : (maker : MakerTold) (i : ℕ) (c : PoolCore P) (f : Frame P) → IsCore maker c → IsFrame maker c f → i < length c.queues → f.local.ranges ≡ [] → f.local.memories ≡ [] → IsSpareOf (nth_queue i c.queues) f.local
+  pub local_is_spare : (maker : MakerTold) (i : ℕ) (c : PoolCore P) (f : Frame P) → IsCore maker c → IsFrame maker c.settings f → i < length c.queues → f.local.ranges ≡ [] → f.local.memories ≡ [] → IsSpareOf (nth_queue i c.queues) f.local
   local_is_spare maker i c f core frame below no_ranges no_slots =
       let shared = core.queues i below in
       record {
@@ -64,12 +56,12 @@ module _ {P : Type 0} where
       (omega (arith, slot_once slot, (not_kept (right_to slot) c (in_phase (TakeRegion slot) f) fits some).0, frame_regions slot (in_phase Idle f)))
 
   -- The region of a slot of which nothing is known isn't.
-  pub unknown_is_away : (slot : ℕ) (held : Slot) (after : AfterFree) (c : PoolCore P) (f : Frame P) → FitsCore c (in_phase (PutUnknown slot held after) f) → is_taken (nth_cell slot c.cells) ≡ true
-  unknown_is_away slot held after c f fits = region_is_away slot c (in_phase (PutUnknown slot held after) f) fits (omega (arith, region_once slot))
+  pub unknown_is_away : (slot : ℕ) (held : Slot) (c : PoolCore P) (f : Frame P) → FitsCore c (in_phase (PutUnknown slot held) f) → is_taken (nth_cell slot c.cells) ≡ true
+  unknown_is_away slot held c f fits = region_is_away slot c (in_phase (PutUnknown slot held) f) fits (omega (arith, region_once slot))
 
   -- The slot is used.
-  pub unknown_is_used : (maker : MakerTold) (slot : ℕ) (after : AfterFree) (c : PoolCore P) (f : Frame P) → CanStep maker c (in_phase (FreeUnknown slot after) f) → is_used (nth_shard (shard_of c.settings slot) c.shards) (local_of c.settings slot).0 ≡ true
-  unknown_is_used maker slot after c f can = held_is_used maker slot c (in_phase (FreeUnknown slot after) f) can.core can.fits (omega (arith, slot_once slot))
+  pub unknown_is_used : (maker : MakerTold) (slot : ℕ) (c : PoolCore P) (f : Frame P) → CanStep maker c (in_phase (FreeUnknown slot) f) → is_used (nth_shard (shard_of c.settings slot) c.shards) (local_of c.settings slot).0 ≡ true
+  unknown_is_used maker slot c f can = held_is_used maker slot c (in_phase (FreeUnknown slot) f) can.core can.fits (omega (arith, slot_once slot))
 
   -- No slot is in a queue of the pool and in the local one.
   pub local_is_apart : (i : ℕ) (c : PoolCore P) (f : Frame P) → FitsCore c f → i < length c.queues → AreApart (nth_queue i c.queues).memories f.local.memories
@@ -78,9 +70,9 @@ module _ {P : Type 0} where
       (λ k. omega (arith, fits.once (right_to k), made_once (right_to k) (length c.cells), kept_slots k c, get_or-le-sum_by (λ (q : QueueState). queued_count (right_to k) q.memories) c.queues i (empty_queue 0 0) below))
 
   -- The home queue has room for the local one.
-  pub home_has_room : (maker : MakerTold) (c : PoolCore P) (f : Frame P) → CanStep maker c (in_phase Merge f) → HasRoomFor (nth_queue (queue_tried 0 c f) c.queues) f.local
+  pub home_has_room : (maker : MakerTold) (c : PoolCore P) (f : Frame P) → CanStep maker c (in_phase Merge f) → HasRoomFor (nth_queue (queue_tried 0 c.settings f) c.queues) f.local
   home_has_room maker c f can =
-      let shared = can.core.queues (queue_tried 0 c f) (tried_is_queue maker 0 c f can.core) in
+      let shared = can.core.queues (queue_tried 0 c.settings f) (tried_is_queue maker 0 c f can.core) in
       let shape = can.frame.shape in
       record {
         ranges = omega (arith, shared.short, shared.range_room, shape.4);
@@ -92,12 +84,12 @@ module _ {P : Type 0} where
     pub inside : m.index < length c.cells
     pub away : is_taken (nth_cell m.index c.cells) ≡ true
 
-  pub first_can_be_put : (after : AfterFlush) (c : PoolCore P) (f : Frame P) (m : QueuedMemory) (rest : List QueuedMemory) → FitsCore c (in_phase (PutRegion after) f) → f.local.memories ≡ m ∷ rest → CanPutBack c m
-  first_can_be_put after c f m rest fits is =
+  pub first_can_be_put : (c : PoolCore P) (f : Frame P) (m : QueuedMemory) (rest : List QueuedMemory) → FitsCore c (in_phase Flush f) → f.local.memories ≡ m ∷ rest → CanPutBack c m
+  first_can_be_put c f m rest fits is =
       let first : (t : Thing) → queued_count t f.local.memories ≡ both_count t m.index + queued_count t rest = λ t. ap (queued_count t) is ∙ queued_first t m rest in
       record {
-        inside = held_is_inside m.index c (in_phase (PutRegion after) f) fits (omega (arith, first (right_to m.index), slot_once m.index));
-        away = region_is_away m.index c (in_phase (PutRegion after) f) fits (omega (arith, first (region_of m.index), region_once m.index));
+        inside = held_is_inside m.index c (in_phase Flush f) fits (omega (arith, first (right_to m.index), slot_once m.index));
+        away = region_is_away m.index c (in_phase Flush f) fits (omega (arith, first (region_of m.index), region_once m.index));
       }
 
   -- The shard of those that are freed next is one of the pool, and each of them is used there when its turn comes.
@@ -105,10 +97,10 @@ module _ {P : Type 0} where
     pub shard : j < length c.shards
     pub used : AreUsedInTurn c.settings (freed_of c.settings j slots) (nth_shard j c.shards)
 
-  pub first_can_be_freed : (maker : MakerTold) (after : AfterFlush) (c : PoolCore P) (f : Frame P) → CanStep maker c (in_phase (Free after) f) → CanFree c f.freed.items (first_shard c.settings f.freed.items)
-  first_can_be_freed maker after c f can =
-      let below : first_shard c.settings f.freed.items < length c.shards = first_is_shard maker c (in_phase (Free after) f) can.core can.fits can.frame.shape.3 in
+  pub first_can_be_freed : (maker : MakerTold) (c : PoolCore P) (f : Frame P) → CanStep maker c (in_phase Flush f) → 0 < length f.freed.items → CanFree c f.freed.items (first_shard c.settings f.freed.items)
+  first_can_be_freed maker c f can some =
+      let below : first_shard c.settings f.freed.items < length c.shards = first_is_shard maker c (in_phase Flush f) can.core can.fits some in
       record {
         shard = below;
-        used = freed_in_turn maker (first_shard c.settings f.freed.items) c (in_phase (Free after) f) can.core can.fits below;
+        used = freed_in_turn maker (first_shard c.settings f.freed.items) c (in_phase Flush f) can.core can.fits below;
       }

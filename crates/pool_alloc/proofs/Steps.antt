@@ -1,40 +1,37 @@
--- What the code of a step needs follows of what holds between steps, and what holds between steps holds after a step.
-use Rattle.std.proofs.Common.{◌≡◌, ℕ, ◌<◌, true, false, length, get_or, refl, sym, ap, subst, ◌∙◌, arith, Option, Some, None}
+-- What the code of a step needs follows of what holds between steps, and what a step leaves is as its row shows.
+use Rattle.std.proofs.Common.{◌≡◌, ℕ, ◌+◌, ◌<◌, ◌≤◌, true, false, length, get_or, refl, sym, ap, subst, ◌∙◌, arith, Option, Some, None}
 use Rattle.std.specs.Prelude.{IfSome, IsSome, is_some, slice_get}
-use Rattle.std.proofs.lemmas.List.Elements.{All-from_get_or}
 use Rattle.pool_pages.specs.MakerTold.{MakerTold}
 use Rattle.pool_pages.specs.MemoryTypes.{minimum_byte_size}
 use Rattle.pool_images.specs.Images.{Image}
 use Rattle.pool_images.specs.Slots.{Slot, SlotIdentity, FitsInto}
 use Rattle.pool_limits.specs.LimiterTold.{LimiterTold}
-use Rattle.pool_memory.specs.Linear.{stored}
 use Rattle.pool_memory.specs.Memories.{slot_of as image_slot_of}
-use Rattle.pool_pages.specs.declared.module_types.IndexType.TheVariants.{I32}
-use Rattle.pool_alloc.specs.Leases.{Lease}
-use Rattle.pool_alloc.specs.Steps.{After, memories_wanted, images_wanted, image_wanted, queue_tried}
+use Rattle.pool_alloc.specs.Answers.{MayBeTold, AsksOf}
+use Rattle.pool_alloc.specs.Bounds.{pool_sizes, steps_at, steps_left}
 use Rattle.pool_alloc.specs.Calls.{IsGrantOf, IfGranted}
-use Rattle.pool_alloc.specs.CanStep.{CanStepAt, HasNext, CanBegin, CanMake}
+use Rattle.pool_alloc.specs.CanStep.{CanStepAt, CanFlush, HasNext, CanBegin, CanMake}
+use Rattle.pool_alloc.specs.Rows.{FlushStep, run, put, free, flush_step, row_of}
+use Rattle.pool_alloc.specs.Searches.{IsSearched}
 use Rattle.pool_alloc.specs.Sound.{IsPoolSlot, IsCore, IsFrame, IsSettings, IsAllocating, IsSupported, HasSlot, HasBegun}
-use Rattle.pool_alloc.specs.Stepping.{CanStep, CanCount, StepsTo}
+use Rattle.pool_alloc.specs.Stages.{GoesOn}
+use Rattle.pool_alloc.specs.Steps.{StepGiven, memories_wanted, images_wanted, image_wanted, queue_tried}
+use Rattle.pool_alloc.specs.Stepping.{CanStep, CanCount, StepsTo, Conserves, EndsWith, IsSameSize, is_idle}
+use Rattle.pool_alloc.specs.Turns.{After, stepped}
 use Rattle.pool_alloc.specs.declared.pool_core.PoolCore.{PoolCore}
 use Rattle.pool_alloc.specs.declared.pool_core.Settings.{Settings}
 use Rattle.pool_alloc.specs.declared.frame.Frame.{Frame}
 use Rattle.pool_alloc.specs.declared.frame.ModuleCall.{ModuleCall}
 use Rattle.pool_alloc.specs.declared.frame.Phase.{Phase}
-use Rattle.pool_alloc.specs.declared.frame.Phase.TheVariants.{Idle, Key, Validate, CountInstance, Pick, TakeQueue, TakeRegion, Empty, Instantiate, MakeMemory, CountMemory, PutUnknown, FreeUnknown, UncountMemory, Reset, Merge, Decommit, PutRegion, Free, UncountInstance}
-use Rattle.pool_alloc.proofs.Balances.{in_phase}
-use Rattle.pool_alloc.proofs.Fitting.{step_keeps_size, step_fits}
-use Rattle.pool_alloc.proofs.Held.{held_is_inside}
-use Rattle.pool_alloc.proofs.Kept.{core_kept, frame_kept, granted_leases}
-use Rattle.pool_alloc.proofs.RegionRows.{region_is_fresh}
-use Rattle.pool_alloc.proofs.Relying.{FitsAt}
+use Rattle.pool_alloc.specs.declared.frame.Phase.TheVariants.{Idle, Key, Validate, CountInstance, Pick, TakeQueue, TakeRegion, Empty, Instantiate, MakeMemory, CountMemory, PutUnknown, FreeUnknown, UncountMemory, Reset, Merge, Flush, UncountInstance}
+use Rattle.pool_alloc.proofs.AskingRows.{key_ready, validate_ready, count_instance_ready, pick_ready, take_queue_ready}
+use Rattle.pool_alloc.proofs.Fitting.{fits_after}
+use Rattle.pool_alloc.proofs.Hands.{in_phase, RowOk, row_ok}
+use Rattle.pool_alloc.proofs.RegionRows.{region_is_fresh, take_region_ready, empty_ready, instantiate_ready, make_memory_ready, count_memory_ready, put_unknown_ready, free_unknown_ready}
+use Rattle.pool_alloc.proofs.ReturnRows.{Finds, finds, some_freed, uncount_memory_ready, reset_ready, merge_ready, uncount_instance_ready, flush_ready}
 use Rattle.pool_alloc.proofs.Rounding.{rounded_whole}
-use Rattle.pool_alloc.proofs.Stages.{tried_is_queue, local_is_spare, picked_is_home, unknown_is_used, returning_is_held, local_is_apart, home_has_room, first_can_be_put, first_can_be_freed}
+use Rattle.pool_alloc.proofs.Stages.{tried_is_queue, local_is_spare, picked_is_home, unknown_is_used, local_is_apart, home_has_room, first_can_be_put, first_can_be_freed}
 use Rattle.pool_alloc.proofs.Telling.{told_both, told_weaker}
-
--- what stands for a lease where there is none
-no_lease : Lease
-no_lease = record { index = 0; memory = record { ty = record { idx_type = I32; limits = record { min = 0; max = None }; shared = false; page_size_log2 = 0 }; may_move = false; linear = record { size = 0; capacity = 0; moves = false; storage = stored 0 None } } }
 
 some_of : {X : Type 0} (o : Option X) → is_some o ≡ true → IsSome o
 some_of None e = absurd cc
@@ -58,37 +55,49 @@ size_of_slot : (maker : MakerTold) (s : Settings) (i : ℕ) (held : Slot) → Is
 size_of_slot maker s i held of = ap (λ (z : SlotIdentity). z.static_size) of.same
 
 module _ {P : Type 0} where
-  has_next : (s : Settings) (f : Frame P) → IsAllocating s f → HasNext f.asked (length f.granted.items)
+  has_next : (s : Settings) (f : Frame P) → IsAllocating s f → HasNext f.asked (length f.objects.items)
   has_next s f allocating = record {
-    asked = some_asked f.asked (length f.granted.items) allocating.more;
-    images = allocating.images;
-    small = omega (arith, allocating.more, allocating.supported.few);
+    asked = some_asked f.asked (length f.objects.items) allocating.more;
+    images = allocating.to_grant.images;
+    small = omega (arith, allocating.more, allocating.to_grant.supported.few);
     more = allocating.more;
   }
 
-  can_begin : (maker : MakerTold) (s : Settings) (total slot : ℕ) (held : Slot) (f : Frame P) → s.page ≡ maker.page → IsSettings s → IsAllocating s f → HasSlot maker s total slot held → IfSome (slice_get (memories_wanted f.asked) (length f.granted.items)) (CanBegin held (image_wanted f))
-  can_begin maker s total slot held f page settings allocating has =
+  can_begin : (maker : MakerTold) (s : Settings) (slot : ℕ) (held : Slot) (f : Frame P) → s.page ≡ maker.page → IsSettings s → IsAllocating s f → HasSlot maker s slot held → IfSome (slice_get (memories_wanted f.asked) (length f.objects.items)) (CanBegin held (image_wanted f))
+  can_begin maker s slot held f page settings allocating has =
       let sized : held.static_size ≡ s.max_memory_size = size_of_slot maker s slot held has.region in
-      told_weaker (λ decl. IsSupported s decl (image_wanted f)) (CanBegin held (image_wanted f)) (slice_get (memories_wanted f.asked) (length f.granted.items))
+      told_weaker (λ decl. IsSupported s decl (image_wanted f)) (CanBegin held (image_wanted f)) (slice_get (memories_wanted f.asked) (length f.objects.items))
       (λ decl is. record {
         page_log2 = is.page_log2;
         minimum = rw sized is.minimum;
         bounded = omega (arith, sized, settings.bounded, settings.page.at_least);
         image_fits = fits_region s.page held.region.page (minimum_byte_size decl.ty) (image_wanted f) (page_of_slot maker s slot held page has.region) is.image_fits;
       })
-      (allocating.supported.each (length f.granted.items))
+      (allocating.to_grant.supported.each (length f.objects.items))
 
-  can_make : (maker : MakerTold) (s : Settings) (total slot : ℕ) (held : Slot) (f : Frame P) → s.page ≡ maker.page → IsSettings s → IsAllocating s f → HasSlot maker s total slot held → IfSome (slice_get (memories_wanted f.asked) (length f.granted.items)) (HasBegun (image_wanted f) held) → IfSome (slice_get (memories_wanted f.asked) (length f.granted.items)) (CanMake s held)
-  can_make maker s total slot held f page settings allocating has begun =
+  can_make : (maker : MakerTold) (s : Settings) (slot : ℕ) (held : Slot) (f : Frame P) → s.page ≡ maker.page → IsSettings s → IsAllocating s f → HasSlot maker s slot held → IfSome (slice_get (memories_wanted f.asked) (length f.objects.items)) (HasBegun (image_wanted f) held) → IfSome (slice_get (memories_wanted f.asked) (length f.objects.items)) (CanMake s held)
+  can_make maker s slot held f page settings allocating has begun =
       let paged : held.region.page ≡ s.page = page_of_slot maker s slot held page has.region in
-      told_both (λ decl. IsSupported s decl (image_wanted f)) (HasBegun (image_wanted f) held) (CanMake s held) (slice_get (memories_wanted f.asked) (length f.granted.items))
+      told_both (λ decl. IsSupported s decl (image_wanted f)) (HasBegun (image_wanted f) held) (CanMake s held) (slice_get (memories_wanted f.asked) (length f.objects.items))
       (λ decl is begins. record {
         page_log2 = is.page_log2;
         limits = is.limits;
         slot = λ represented. begins.holds;
         room = rw paged (omega (arith, rounded_whole s.page s.max_memory_size (omega (arith, settings.page.at_least)) settings.whole, size_of_slot maker s slot held has.region));
       })
-      (allocating.supported.each (length f.granted.items)) begun
+      (allocating.to_grant.supported.each (length f.objects.items)) begun
+
+  can_flush : (maker : MakerTold) (step : FlushStep) (c : PoolCore P) (f : Frame P) → CanStep maker c (in_phase Flush f) → Finds f.local step → CanFlush step c (in_phase Flush f)
+  can_flush maker run c f can found = (found.ranges refl, can.frame.queue.owners)
+  can_flush maker put c f can found = record {
+    no_ranges = found.put_none refl;
+    some = found.put_some refl;
+    inside = λ m rest is. (first_can_be_put c f m rest can.fits is).inside;
+    room = omega (arith, can.frame.freed_room.0, can.frame.freed_room.1, found.put_some refl);
+  }
+  can_flush maker free c f can found =
+      let first = first_can_be_freed maker c f can (some_freed f can.frame.shape.1 (found.free_slots refl)) in
+      record { slots = can.core.settings.slots_per_shard; inside = first.shard; used = first.used; bytes = can.frame.freed_bytes }
 
   -- Just what the code of a step needs, phase by phase.
   can_at : (maker : MakerTold) (next : Phase P) (c : PoolCore P) (f : Frame P) → CanStep maker c (in_phase next f) → CanCount c → CanStepAt next c (in_phase next f)
@@ -97,33 +106,31 @@ module _ {P : Type 0} where
   can_at maker Validate c f can counts =
       λ k. told_weaker (λ decl. (decl.ty.page_size_log2 < 64) × IfSome (get_or (images_wanted f.asked) k None) (FitsInto c.settings.page (minimum_byte_size decl.ty))) (λ decl. decl.ty.page_size_log2 < 64) (slice_get (memories_wanted f.asked) k) (λ decl of. of.0) (can.frame.shape.2.each k)
   can_at maker CountInstance c f can counts = counts.instances
-  can_at maker (Pick queues tried) c f can counts = (can.frame.shape.3, omega (arith, can.frame.shape.1.more, can.frame.shape.1.supported.few))
-  can_at maker (TakeQueue queues) c f can counts =
+  can_at maker (Pick tried) c f can counts = (can.frame.shape.2, can.core.settings.shards.1, can.core.shards_made, omega (arith, can.frame.shape.1.more, can.frame.shape.1.to_grant.supported.few))
+  can_at maker TakeQueue c f can counts =
       let settled = can.frame.shape.0 in
-      let i : ℕ = queue_tried queues c f in
-      (can.frame.shape.2, local_is_spare maker i c (in_phase (TakeQueue queues) f) can.core can.frame (tried_is_queue maker queues c f can.core) settled.no_ranges settled.no_slots)
-  can_at maker (TakeRegion slot) c f can counts = record {
-    inside = can.frame.shape.2;
-    there = picked_is_home slot c f can.fits;
-    fresh = region_is_fresh maker slot c can.core can.frame.shape.2;
-  }
+      let i : ℕ = queue_tried f.queues c.settings f in
+      (can.frame.shape.2, can.core.settings.queues.1, can.core.queues_made, local_is_spare maker i c (in_phase TakeQueue f) can.core can.frame (tried_is_queue maker f.queues c f can.core) settled.no_ranges settled.no_slots)
+  can_at maker (TakeRegion slot) c f can counts =
+      let inside : slot < length c.cells = omega (arith, can.frame.shape.2, can.core.cells_made) in
+      record { inside = inside; there = picked_is_home slot c f can.fits; fresh = region_is_fresh maker slot c can.core inside }
   can_at maker (Empty slot held) c f can counts = tt
   can_at maker (Instantiate slot held) c f can counts =
-      (has_next c.settings (in_phase (Instantiate slot held) f) can.frame.shape.1, can.frame.shape.3, can_begin maker c.settings (length c.cells) slot held (in_phase (Instantiate slot held) f) can.core.page can.core.settings can.frame.shape.1 can.frame.shape.2)
+      (has_next c.settings (in_phase (Instantiate slot held) f) can.frame.shape.1, can.frame.shape.3, can_begin maker c.settings slot held (in_phase (Instantiate slot held) f) can.core.page can.core.settings can.frame.shape.1 can.frame.shape.2)
   can_at maker (MakeMemory slot held) c f can counts =
-      (has_next c.settings (in_phase (MakeMemory slot held) f) can.frame.shape.1, can_make maker c.settings (length c.cells) slot held (in_phase (MakeMemory slot held) f) can.core.page can.core.settings can.frame.shape.1 can.frame.shape.2 can.frame.shape.3)
-  can_at maker (CountMemory lease) c f can counts = (counts.memories, omega (arith, can.frame.shape.1.more, can.frame.shape.1.room))
-  can_at maker (PutUnknown slot held after) c f can counts = can.frame.shape.2.inside
-  can_at maker (FreeUnknown slot after) c f can counts = record {
+      (has_next c.settings (in_phase (MakeMemory slot held) f) can.frame.shape.1, can_make maker c.settings slot held (in_phase (MakeMemory slot held) f) can.core.page can.core.settings can.frame.shape.1 can.frame.shape.2 can.frame.shape.3)
+  can_at maker (CountMemory lease) c f can counts = (counts.memories, omega (arith, can.frame.shape.1.more, can.frame.shape.1.to_grant.room))
+  can_at maker (PutUnknown slot held) c f can counts = omega (arith, can.frame.shape.2.inside, can.core.cells_made)
+  can_at maker (FreeUnknown slot) c f can counts = record {
     slots = can.core.settings.slots_per_shard;
-    inside = (can.core.layout.inside slot can.frame.shape.2).0;
-    used = some_of _ (unknown_is_used maker slot after c f can);
+    inside = (can.core.layout.inside slot (omega (arith, can.frame.shape.2, can.core.cells_made))).0;
+    used = some_of _ (unknown_is_used maker slot c f can);
   }
-  can_at maker UncountMemory c f can counts = (omega (arith, can.fits.memories, can.frame.shape.2), can.frame.shape.2)
+  can_at maker (UncountMemory lease) c f can counts = omega (arith, can.fits.memories)
   can_at maker (Reset lease) c f can counts =
       let settled = can.frame.shape.0 in
       record {
-        page = can.core.settings.keep_page ∙ sym (page_of_slot maker c.settings lease.index (image_slot_of lease.memory) can.core.page can.frame.shape.3.slot);
+        page = can.core.settings.keep_page ∙ sym (page_of_slot maker c.settings lease.index (image_slot_of lease.memory) can.core.page can.frame.shape.2.slot);
         kept = can.core.settings.kept;
         no_ranges = settled.no_ranges;
         no_slots = settled.no_slots;
@@ -131,67 +138,118 @@ module _ {P : Type 0} where
         slot_room = omega (arith, can.frame.queue.slot_room, can.core.settings.batch.0);
       }
   can_at maker Merge c f can counts =
-      let below : queue_tried 0 c f < length c.queues = tried_is_queue maker 0 c f can.core in
-      let shared = can.core.queues (queue_tried 0 c f) below in
+      let i : ℕ = queue_tried 0 c.settings f in
+      let below : i < length c.queues = tried_is_queue maker 0 c f can.core in
+      let shared = can.core.queues i below in
       let room = home_has_room maker c f can in (
-        can.core.queues_some,
+        can.core.settings.queues.0,
+        can.core.settings.queues.1,
+        can.core.queues_made,
         record {
           ranges = room.ranges;
           slots = room.slots;
           owners = shared.owners;
           local_owners = can.frame.queue.owners;
-          apart = local_is_apart (queue_tried 0 c f) c (in_phase Merge f) can.fits below;
+          apart = local_is_apart i c (in_phase Merge f) can.fits below;
           range_room = can.frame.queue.range_room ∙ sym shared.range_room;
           slot_room = can.frame.queue.slot_room ∙ sym shared.slot_room;
         },
       )
-  can_at maker (Decommit after) c f can counts = (can.frame.shape.2, can.frame.queue.owners)
-  can_at maker (PutRegion after) c f can counts = record {
-    no_ranges = can.frame.shape.1;
-    some = can.frame.shape.2;
-    inside = λ m rest is. (first_can_be_put after c f m rest can.fits is).inside;
-    room = omega (arith, can.frame.freed_room.0, can.frame.freed_room.1, can.frame.shape.2);
-  }
-  can_at maker (Free after) c f can counts =
-      let first = first_can_be_freed maker after c f can in
-      record {
-        slots = can.core.settings.slots_per_shard;
-        inside = first.shard;
-        used = first.used;
-        bytes = can.frame.freed_bytes;
-      }
-  can_at maker UncountInstance c f can counts = omega (arith, can.fits.instances)
+  can_at maker Flush c f can counts = can_flush maker (flush_step f.local) c f can (finds f.local)
+  can_at maker UncountInstance c f can counts = (omega (arith, can.fits.instances), can.frame.shape.1)
 
   pub can_step_at : (maker : MakerTold) (c : PoolCore P) (f : Frame P) → CanStep maker c f → CanCount c → CanStepAt f.phase c f
   can_step_at maker c f can counts = can_at maker f.phase c f can counts
 
-  -- The frame fits the part that its step changes.
-  fits_at : (maker : MakerTold) (next : Phase P) (c : PoolCore P) (f : Frame P) → CanStep maker c (in_phase next f) → FitsAt next c (in_phase next f)
-  fits_at maker (TakeRegion slot) c f can = picked_is_home slot c f can.fits
-  fits_at maker (FreeUnknown slot after) c f can = some_of _ (unknown_is_used maker slot after c f can)
-  fits_at maker UncountMemory c f can =
-      All-from_get_or (λ (l : Lease). l.index < length c.cells) f.returning.items no_lease
-      (λ i below. held_is_inside (get_or f.returning.items i no_lease).index c (in_phase UncountMemory f) can.fits (returning_is_held i no_lease (in_phase UncountMemory f) below))
-  fits_at maker Merge c f can = local_is_apart (queue_tried 0 c f) c (in_phase Merge f) can.fits (tried_is_queue maker 0 c f can.core)
-  fits_at maker (Free after) c f can = (first_can_be_freed maker after c f can).used
-  fits_at maker next c f can = tt
+-- a step by a row of the table, over a limiter
+module _ {P : Type 0} (maker : MakerTold) (old new : LimiterTold) where
+  -- Each row is as it shows.
+  rows_ok : (g : StepGiven) (p : Phase P) (c : PoolCore P) (f : Frame P) → is_idle p ≡ false → CanStep maker c (in_phase p f) → MayBeTold c.settings g p (in_phase p f) → AsksOf old new g p (in_phase p f) → RowOk maker old new c (in_phase p f) (stepped (row_of g p c (in_phase Idle f)))
+  rows_ok g Idle c f on can told asks = absurd cc
+  rows_ok g Key c f on can told asks = row_ok maker old new c _ _ (key_ready maker old new c f can)
+  rows_ok g Validate c f on can told asks = row_ok maker old new c _ _ (validate_ready maker old new g.wants c f can)
+  rows_ok g CountInstance c f on can told asks = row_ok maker old new c _ _ (count_instance_ready maker old new c f can)
+  rows_ok g (Pick tried) c f on can told asks = row_ok maker old new c _ _ (pick_ready maker old new tried c f can)
+  rows_ok g TakeQueue c f on can told asks = row_ok maker old new c _ _ (take_queue_ready maker old new c f can)
+  rows_ok g (TakeRegion slot) c f on can told asks = row_ok maker old new c _ _ (take_region_ready maker old new slot c f can)
+  rows_ok g (Empty slot had) c f on can told asks = row_ok maker old new c _ _ (empty_ready maker old new g.fault g.slot slot had c f can told)
+  rows_ok g (Instantiate slot had) c f on can told asks = row_ok maker old new c _ _ (instantiate_ready maker old new g.fault g.slot slot had c f can told)
+  rows_ok g (MakeMemory slot had) c f on can told asks = row_ok maker old new c _ _ (make_memory_ready maker old new g.limiter slot had c f can asks)
+  rows_ok g (CountMemory lease) c f on can told asks = row_ok maker old new c _ _ (count_memory_ready maker old new lease c f can)
+  rows_ok g (PutUnknown slot had) c f on can told asks = row_ok maker old new c _ _ (put_unknown_ready maker old new slot had c f can)
+  rows_ok g (FreeUnknown slot) c f on can told asks = row_ok maker old new c _ _ (free_unknown_ready maker old new slot c f can)
+  rows_ok g (UncountMemory lease) c f on can told asks = row_ok maker old new c _ _ (uncount_memory_ready maker old new lease c f can)
+  rows_ok g (Reset lease) c f on can told asks = row_ok maker old new c _ _ (reset_ready maker old new g.fault g.slot lease c f can told)
+  rows_ok g Merge c f on can told asks = row_ok maker old new c _ _ (merge_ready maker old new c f can)
+  rows_ok g Flush c f on can told asks = row_ok maker old new c _ _ (flush_ready maker old new g c f can told)
+  rows_ok g UncountInstance c f on can told asks = row_ok maker old new c _ _ (uncount_instance_ready maker old new c f can)
+
+  -- what is told of a step that was made
+  pub record StepOk (c : PoolCore P) (f : Frame P) (a : After P) : Type 0 where
+    pub core : IsCore maker a.core
+    pub frame : IsFrame maker a.core.settings a.frame
+    pub granted : IfGranted (IsGrantOf maker a.core.settings f.asked) a.outcome
+    pub conserves : Conserves c f a
+    pub settings : a.core.settings ≡ c.settings
+    pub ends : EndsWith c f a
+    pub goes : GoesOn maker old new c f a
+    pub fewer : is_idle f.phase ≡ false → steps_at (pool_sizes c) a.frame.phase a.frame + 1 ≤ steps_left c f
+    pub searched : IsSearched c f → IsSearched a.core a.frame
+
+  told_ok : (p : Phase P) (c : PoolCore P) (f : Frame P) (a : After P) → is_idle p ≡ false → RowOk maker old new c (in_phase p f) a → StepOk c (in_phase p f) a
+  told_ok p c f a on ok = record {
+    core = ok.core;
+    frame = ok.frame;
+    granted = ok.granted_is;
+    conserves = record { places = ok.places; instances = ok.instances; memories = ok.memories };
+    settings = ok.settings;
+    ends = record { answer = rw on ok.answer; instances = ok.instances_by_one; memories = ok.memories_by_one };
+    goes = record { asked = ok.asked; way = ok.way };
+    fewer = λ busy. ok.fewer;
+    searched = ok.searched;
+  }
+
+  steps_at_ok : (g : StepGiven) (p : Phase P) (c : PoolCore P) (f : Frame P) → CanStep maker c (in_phase p f) → MayBeTold c.settings g p (in_phase p f) → AsksOf old new g p (in_phase p f) → StepOk c (in_phase p f) (stepped (row_of g p c (in_phase Idle f)))
+  steps_at_ok g Idle c f can told asks = record {
+    core = can.core;
+    frame = can.frame;
+    granted = tt;
+    conserves = record { places = λ t. omega arith; instances = omega arith; memories = omega arith };
+    settings = refl;
+    ends = record { answer = refl; instances = omega arith; memories = omega arith };
+    goes = record { asked = λ on. absurd cc; way = tt };
+    fewer = λ busy. absurd cc;
+    searched = λ s. tt;
+  }
+  steps_at_ok g p c f can told asks = told_ok p c f _ refl (rows_ok g p c f refl can told asks)
+
+  pub step_ok : (c : PoolCore P) (f : Frame P) (a : After P) → CanStep maker c f → StepsTo old new c f a → StepOk c f a
+  step_ok c f a can steps =
+      let S : After P → Type 0 = λ b. StepOk c f b in
+      subst S (sym steps.1.is) (steps_at_ok steps.0 f.phase c f can steps.1.told steps.1.limiter)
+
+  pub same_size : (c : PoolCore P) (f : Frame P) (a : After P) → CanStep maker c f → StepOk c f a → IsSameSize c a.core
+  same_size c f a can ok = record {
+    settings = ok.settings;
+    cells = ok.core.cells_made ∙ ap (λ (s : Settings). s.slots) ok.settings ∙ sym can.core.cells_made;
+    shards = ok.core.shards_made ∙ ap (λ (s : Settings). s.shards) ok.settings ∙ sym can.core.shards_made;
+    queues = ok.core.queues_made ∙ ap (λ (s : Settings). s.queues) ok.settings ∙ sym can.core.queues_made;
+  }
 
   -- What holds between steps holds after a step.
-  pub can_still : (maker : MakerTold) (old new : LimiterTold) (c : PoolCore P) (f : Frame P) (a : After P) → CanStep maker c f → StepsTo old new c f a → CanStep maker a.core a.frame
-  can_still maker old new c f a can steps =
-      let fits = fits_at maker f.phase c f can in
-      let Core : After P → Type 0 = λ b. IsCore maker b.core in
-      let Frames : After P → Type 0 = λ b. IsFrame maker b.core b.frame in
-      record {
-        core = subst Core (sym steps.1.is) (core_kept maker steps.0 c f can.core can.frame steps.1.told fits);
-        frame = subst Frames (sym steps.1.is) (frame_kept maker steps.0 c f can.core can.frame steps.1.told fits);
-        fits = step_fits maker old new c f a can steps;
-      }
+  pub can_still : (c : PoolCore P) (f : Frame P) (a : After P) → CanStep maker c f → StepsTo old new c f a → CanStep maker a.core a.frame
+  can_still c f a can steps =
+      let ok = step_ok c f a can steps in
+      record { core = ok.core; frame = ok.frame; fits = fits_after c f a can.fits ok.conserves (same_size c f a can ok) }
 
-  -- What a step grants is as many leases of the pool as memories were asked for.
-  pub step_grants : (maker : MakerTold) (old new : LimiterTold) (c : PoolCore P) (f : Frame P) (a : After P) → CanStep maker c f → StepsTo old new c f a → IfGranted (IsGrantOf maker c.settings (memories_wanted f.asked)) a.outcome
-  step_grants maker old new c f a can steps =
-      let size = step_keeps_size maker old new c f a can steps in
-      let Over : Settings → Type 0 = λ s. IfGranted (IsGrantOf maker s (memories_wanted f.asked)) a.outcome in
-      let Grants : After P → Type 0 = λ b. IfGranted (IsGrantOf maker b.core.settings (memories_wanted f.asked)) b.outcome in
-      subst Over size.settings (subst Grants (sym steps.1.is) (granted_leases maker steps.0 c f can.core can.frame steps.1.told (fits_at maker f.phase c f can)))
+  pub step_grants : (c : PoolCore P) (f : Frame P) (a : After P) → CanStep maker c f → StepsTo old new c f a → IfGranted (IsGrantOf maker c.settings f.asked) a.outcome
+  step_grants c f a can steps =
+      let ok = step_ok c f a can steps in
+      let G : Settings → Type 0 = λ s. IfGranted (IsGrantOf maker s f.asked) a.outcome in
+      subst G ok.settings ok.granted
+
+  pub step_fewer : (c : PoolCore P) (f : Frame P) (a : After P) → CanStep maker c f → StepsTo old new c f a → is_idle f.phase ≡ false → steps_left a.core a.frame + 1 ≤ steps_left c f
+  step_fewer c f a can steps busy =
+      let ok = step_ok c f a can steps in
+      let same : steps_left a.core a.frame ≡ steps_at (pool_sizes c) a.frame.phase a.frame = ap (λ (s : Settings). steps_at (record { shards = s.shards; all_shards = s.shards; queues = s.queues; slots = s.slots; slots_per_shard = s.slots_per_shard }) a.frame.phase a.frame) ok.settings in
+      omega (arith, same, ok.fewer busy)

@@ -9,6 +9,7 @@ use Rattle.pool_pages.specs.declared.pages.PageCalls.{PageCalls}
 use Rattle.pool_pages.specs.CallSums.{both, added}
 use Rattle.pool_slots.specs.Cells.{Cell, calls_in, calls_of_all, all_calls, sum_at_most}
 use Rattle.pool_slots.specs.Queues.{QueueState, QueuedMemory, calls_held}
+use Rattle.pool_slots.proofs.Fresh.{same_calls}
 use Rattle.pool_alloc.specs.Sums.{calls_of_queues, calls_of_leases}
 use Rattle.pool_alloc.specs.Leases.{Lease}
 use Rattle.pool_memory.specs.Memories.{slot_of}
@@ -18,16 +19,6 @@ one_more s x t m e = omega arith
 
 some_more : (s x t m : ℕ) → t ≡ s + x → min (min s m + min x m) m ≡ min t m
 some_more s x t m e = omega arith
-
-same_calls : (a b : PageCalls) → a.expose ≡ b.expose → a.hide ≡ b.hide → a.map_image ≡ b.map_image → a.remap_zeros ≡ b.remap_zeros → a.erase ≡ b.erase → a.recolour ≡ b.recolour → a.decommit ≡ b.decommit → a ≡ b
-same_calls a b e h m z r c d =
-    ap (λ (n : ℕ). record a { expose = n }) e
-    ∙ ap (λ (n : ℕ). record a { expose = b.expose; hide = n }) h
-    ∙ ap (λ (n : ℕ). record a { expose = b.expose; hide = b.hide; map_image = n }) m
-    ∙ ap (λ (n : ℕ). record a { expose = b.expose; hide = b.hide; map_image = b.map_image; remap_zeros = n }) z
-    ∙ ap (λ (n : ℕ). record a { expose = b.expose; hide = b.hide; map_image = b.map_image; remap_zeros = b.remap_zeros; erase = n }) r
-    ∙ ap (λ (n : ℕ). record b { recolour = n; decommit = a.decommit }) c
-    ∙ ap (λ (n : ℕ). record b { decommit = n }) d
 
 -- the calls of one region more, or of several
 one_pushed : (of : PageCalls → ℕ) (calls : List PageCalls) (more : PageCalls) → both (sum_at_most of calls) (of more) ≡ sum_at_most of (calls ++ more ∷ [])

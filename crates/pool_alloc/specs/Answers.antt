@@ -19,10 +19,11 @@ use Rattle.pool_memory.specs.Memories.{slot_of}
 use Rattle.pool_alloc.specs.Modules.{IfAllocated}
 use Rattle.pool_alloc.specs.Own.{slot_ended, reset_listed}
 use Rattle.pool_alloc.specs.Steps.{StepGiven, image_wanted}
+use Rattle.pool_alloc.specs.Rows.{FlushStep, run, flush_step}
 use Rattle.pool_alloc.specs.declared.pool_core.Settings.{Settings}
 use Rattle.pool_alloc.specs.declared.frame.Frame.{Frame}
 use Rattle.pool_alloc.specs.declared.frame.Phase.{Phase}
-use Rattle.pool_alloc.specs.declared.frame.Phase.TheVariants.{Empty, Instantiate, MakeMemory, Reset, Decommit}
+use Rattle.pool_alloc.specs.declared.frame.Phase.TheVariants.{Empty, Instantiate, MakeMemory, Reset, Flush}
 
 -- a slot is emptied, and clean then, or a call on its region failed
 abbrev pub Empties : Bool → Slot → Slot → Type 0
@@ -88,13 +89,22 @@ FollowsReset keep fault old new = Follows (resetting old.region.behaviour old) (
 abbrev pub FollowsRun : Bool → QueueState → QueueState → Type 0
 FollowsRun fault old new = AreInOrder (first_slot old.ranges) (run_of (first_slot old.ranges) old.ranges) (not fault) old.memories new.memories
 
+-- a step of a flush, where it decommits ranges
+abbrev pub FlushTold : FlushStep → StepGiven → QueueState → Type 0
+FlushTold run g local = Decommits g.fault local g.queue
+FlushTold _ g local = Unit {0}
+
+abbrev pub FlushPlanned : FlushStep → StepGiven → QueueState → Type 0
+FlushPlanned run g local = FollowsRun g.fault local g.queue
+FlushPlanned _ g local = Unit {0}
+
 module _ {P : Type 0} where
   -- the given answers may come in this phase
   abbrev pub MayBeTold : Settings → StepGiven → Phase P → Frame P → Type 0
   MayBeTold s g (Empty slot held) f = Empties g.fault held g.slot
   MayBeTold s g (Instantiate slot held) f = IfAllocated f (λ decl. InstantiatesFor s decl g.fault (image_wanted f) held g.slot)
   MayBeTold s g (Reset lease) f = Resets g.fault s.keep_resident.bytes lease.index (slot_of lease.memory) g.slot
-  MayBeTold s g (Decommit after) f = Decommits g.fault f.local g.queue
+  MayBeTold s g Flush f = FlushTold (flush_step f.local) g f.local
   MayBeTold s g _ f = Unit {0}
 
   -- what the step makes of the limiter: only the making of a memory asks it
@@ -113,5 +123,5 @@ module _ {P : Type 0} where
   IsPlanned s g (Empty slot held) f = Follows (wiping held) (not g.fault) held.region g.slot.region
   IsPlanned s g (Instantiate slot held) f = IfAllocated f (λ decl. FollowsPlanFor s decl g.fault (image_wanted f) held g.slot)
   IsPlanned s g (Reset lease) f = FollowsReset s.keep_resident.bytes g.fault (slot_of lease.memory) g.slot
-  IsPlanned s g (Decommit after) f = FollowsRun g.fault f.local g.queue
+  IsPlanned s g Flush f = FlushPlanned (flush_step f.local) g f.local
   IsPlanned s g _ f = Unit {0}

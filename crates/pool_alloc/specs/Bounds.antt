@@ -1,33 +1,33 @@
 -- How many steps a call makes at most, by the sizes of the pool alone, and how many it still makes.
-use Rattle.std.specs.Prelude.{ℕ, ◌+◌, ◌*◌, ◌-◌, ◌<◌, ◌≤◌, List, [], ◌∷◌, length, if◌then◌else◌, Option, Some}
-use Rattle.pool_slots.specs.Queues.{QueueState, is_of}
-use Rattle.pool_slots.specs.declared.queued_range.QueueKind.{QueueKind}
-use Rattle.pool_slots.specs.declared.queued_range.QueuedRange.{QueuedRange}
+use Rattle.std.specs.Prelude.{ℕ, List, [], ◌∷◌, ◌+◌, ◌*◌, ◌-◌, length, nat_lt, if◌then◌else◌, Option, Some, ◌/◌, ◌==◌, zero, suc, sum_by}
+use Rattle.pool_slots.specs.Queues.{QueueState, QueuedMemory}
+use Rattle.pool_index.specs.Shard.{one_if}
 use Rattle.pool_alloc.specs.Leases.{Lease}
 use Rattle.pool_alloc.specs.Reserved.{Reserved}
-use Rattle.pool_alloc.specs.Steps.{memories_wanted, nth_queue}
+use Rattle.pool_alloc.specs.RangeRuns.{runs}
+use Rattle.pool_alloc.specs.Steps.{memories_wanted}
 use Rattle.pool_alloc.specs.Stepping.{grant_memories}
 use Rattle.pool_alloc.specs.declared.pool_core.PoolCore.{PoolCore}
-use Rattle.pool_alloc.specs.declared.frame.AfterFree.{AfterFree}
-use Rattle.pool_alloc.specs.declared.frame.AfterFree.TheVariants.{Refuse, ReturnNext}
-use Rattle.pool_alloc.specs.declared.frame.AfterFlush.{AfterFlush}
-use Rattle.pool_alloc.specs.declared.frame.AfterFlush.TheVariants.{PickAgain, GiveBackNext}
 use Rattle.pool_alloc.specs.declared.frame.Call.{Call}
 use Rattle.pool_alloc.specs.declared.frame.Call.TheVariants as call
+use Rattle.pool_alloc.specs.declared.frame.Ending.{Ending}
+use Rattle.pool_alloc.specs.declared.frame.Ending.TheVariants.{Granted as granted, Returned as returned, Refused as refused}
 use Rattle.pool_alloc.specs.declared.frame.Frame.{Frame}
 use Rattle.pool_alloc.specs.declared.frame.FreedSlot.{FreedSlot}
 use Rattle.pool_alloc.specs.declared.frame.ModuleCall.{ModuleCall}
 use Rattle.pool_alloc.specs.declared.frame.Phase.{Phase}
-use Rattle.pool_alloc.specs.declared.frame.Phase.TheVariants.{Idle, Key, Validate, CountInstance, Pick, TakeQueue, TakeRegion, Empty, Instantiate, MakeMemory, CountMemory, PutUnknown, FreeUnknown, UncountMemory, Reset, Merge, Decommit, PutRegion, Free, UncountInstance}
+use Rattle.pool_alloc.specs.declared.frame.Phase.TheVariants.{Idle, Key, Validate, CountInstance, Pick, TakeQueue, TakeRegion, Empty, Instantiate, MakeMemory, CountMemory, PutUnknown, FreeUnknown, UncountMemory, Reset, Merge, Flush, UncountInstance}
 
--- The sizes on which bounds rest: the most shards of one allocator, all shards, the queues, and the slots.
+-- The sizes on which bounds rest: the most shards of one allocator, all shards, the queues, the slots, and how many of
+-- those each shard has.
 pub record PoolSizes : Type 0 where
   pub shards : ℕ
   pub all_shards : ℕ
   pub queues : ℕ
   pub slots : ℕ
+  pub slots_per_shard : ℕ
 
--- a flush, with the step that begins it: three steps for each slot, and one for each shard
+-- A flush, with the step that begins it: three steps for each slot, and one for each shard. (Of memories it makes fewer.)
 abbrev pub flush_bound : PoolSizes → ℕ
 flush_bound z = 1 + 3 * z.slots + z.all_shards
 
@@ -47,26 +47,19 @@ instance_bound z memories = 3 + memories * (allocation_bound z + give_back_bound
 abbrev pub return_bound : PoolSizes → ℕ → ℕ
 return_bound z memories = 1 + memories * give_back_bound z
 
--- How many runs of ranges of one slot there are in a list, where a range of this slot stands before it. A flush decommits
--- a run with each step.
-abbrev pub runs_after : QueueKind → ℕ → List QueuedRange → ℕ
-runs_after kind slot [] = 0
-runs_after kind slot (r ∷ rs) = (if is_of kind slot r then 0 else 1) + runs_after r.kind r.slot.0 rs
+-- how many slots wait for shard j: those that are queued, and those that are to be freed
+abbrev pub waiting_for : PoolSizes → ℕ → List QueuedMemory → List FreedSlot → ℕ
+waiting_for z j queued freed = sum_by (λ m. one_if (m.index / z.slots_per_shard == j)) queued + sum_by (λ x. one_if (x.slot / z.slots_per_shard == j)) freed
 
-abbrev pub runs : List QueuedRange → ℕ
-runs [] = 0
-runs (r ∷ rs) = 1 + runs_after r.kind r.slot.0 rs
+-- for how many of the first n shards some do
+abbrev pub shards_waiting : PoolSizes → ℕ → List QueuedMemory → List FreedSlot → ℕ
+shards_waiting z zero queued freed = 0
+shards_waiting z (suc n) queued freed = one_if (nat_lt 0 (waiting_for z n queued freed)) + shards_waiting z n queued freed
 
--- the ranges of each slot lie together, so there are no more runs than slots
-abbrev pub IsGrouped : QueueState → Type 0
-IsGrouped q = runs q.ranges ≤ length q.memories
-
-abbrev pub AreGrouped : List QueueState → Type 0
-AreGrouped queues = (i : ℕ) → i < length queues → IsGrouped (nth_queue i queues)
-
--- what is left of a flush: each run of ranges, and of each slot that its region is put back and that it is freed
-abbrev pub flush_left : QueueState → Reserved FreedSlot → ℕ
-flush_left local freed = runs local.ranges + 2 * length local.memories + length freed.items
+-- What is left of a flush: each run of ranges, each region that is to be put back, and each shard of which slots are to be
+-- freed, however many.
+abbrev pub flush_left : PoolSizes → QueueState → Reserved FreedSlot → ℕ
+flush_left z local freed = runs local.ranges + length local.memories + shards_waiting z z.all_shards local.memories freed.items
 
 -- the memories that are still to be given back, and the instance
 abbrev pub returns_left : PoolSizes → Reserved Lease → ℕ
@@ -75,30 +68,27 @@ returns_left z returning = return_bound z (length returning.items)
 -- What is left once the memory that is allocated is granted or refused: the module's other memories, and that all which
 -- are granted until then may be given back.
 abbrev pub memories_left : PoolSizes → Option ModuleCall → Reserved Lease → ℕ
-memories_left z asked granted = (length (memories_wanted asked) - (length granted.items + 1)) * (allocation_bound z + give_back_bound z) + return_bound z (length granted.items + 1)
+memories_left z asked objects = (length (memories_wanted asked) - (length objects.items + 1)) * (allocation_bound z + give_back_bound z) + return_bound z (length objects.items + 1)
 
 -- what is left of an allocation where so many queues were gone through: their flushes with the rounds of picks after them,
 -- and six steps with the slot
 abbrev pub queues_left : PoolSizes → ℕ → Option ModuleCall → Reserved Lease → ℕ
-queues_left z queues asked granted = (z.queues - queues) * (flush_bound z + z.shards) + (6 + memories_left z asked granted)
+queues_left z queues asked objects = (z.queues - queues) * (flush_bound z + z.shards) + (6 + memories_left z asked objects)
 
 -- and where so many shards were tried then
 abbrev pub picks_left : PoolSizes → ℕ → ℕ → Option ModuleCall → Reserved Lease → ℕ
-picks_left z queues tried asked granted = (z.shards - tried) + queues_left z queues asked granted
+picks_left z queues tried asked objects = (z.shards - tried) + queues_left z queues asked objects
 
-abbrev pub left_after_flush : PoolSizes → AfterFlush → Option ModuleCall → Reserved Lease → Reserved Lease → ℕ
-left_after_flush z (PickAgain queues) asked granted returning = picks_left z queues 0 asked granted
-left_after_flush z GiveBackNext asked granted returning = returns_left z returning
-
--- and once a slot is freed of which nothing is known
-abbrev pub left_after_free : PoolSizes → AfterFree → Option ModuleCall → Reserved Lease → Reserved Lease → ℕ
-left_after_free z (Refuse e) asked granted returning = memories_left z asked granted
-left_after_free z ReturnNext asked granted returning = returns_left z returning
+-- what is left of a call where its ending says what is next
+abbrev pub next_left : PoolSizes → Ending → ℕ → Option ModuleCall → Reserved Lease → ℕ
+next_left z granted queues asked objects = if nat_lt (length objects.items) (length (memories_wanted asked)) then picks_left z queues 0 asked objects else 0
+next_left z returned queues asked objects = returns_left z objects
+next_left z (refused e) queues asked objects = returns_left z objects
 
 module _ {P : Type 0} where
   -- the sizes of a pool of one allocator
   abbrev pub pool_sizes : PoolCore P → PoolSizes
-  pool_sizes c = record { shards = length c.shards; all_shards = length c.shards; queues = length c.queues; slots = length c.cells }
+  pool_sizes c = record { shards = c.settings.shards; all_shards = c.settings.shards; queues = c.settings.queues; slots = c.settings.slots; slots_per_shard = c.settings.slots_per_shard }
 
   -- at most how many steps a call makes, on a pool of these sizes and on this one
   abbrev pub bound_of_call : PoolSizes → Call P → ℕ
@@ -115,28 +105,21 @@ module _ {P : Type 0} where
   steps_at z Key f = 1
   steps_at z Validate f = instance_bound z (length (memories_wanted f.asked))
   steps_at z CountInstance f = 2 + length (memories_wanted f.asked) * (allocation_bound z + give_back_bound z)
-  steps_at z (Pick queues tried) f = picks_left z queues tried f.asked f.granted
-  steps_at z (TakeQueue queues) f = queues_left z queues f.asked f.granted
-  steps_at z (TakeRegion slot) f = 6 + memories_left z f.asked f.granted
-  steps_at z (Empty slot held) f = 5 + memories_left z f.asked f.granted
-  steps_at z (Instantiate slot held) f = 4 + memories_left z f.asked f.granted
-  steps_at z (MakeMemory slot held) f = 3 + memories_left z f.asked f.granted
-  steps_at z (CountMemory lease) f = 1 + memories_left z f.asked f.granted
-  steps_at z (PutUnknown slot held after) f = 2 + left_after_free z after f.asked f.granted f.returning
-  steps_at z (FreeUnknown slot after) f = 1 + left_after_free z after f.asked f.granted f.returning
-  steps_at z UncountMemory f = returns_left z f.returning
-  steps_at z (Reset lease) f = 1 + flush_bound z + returns_left z f.returning
-  steps_at z Merge f = flush_bound z + returns_left z f.returning
-  steps_at z (Decommit after) f = flush_left f.local f.freed + left_after_flush z after f.asked f.granted f.returning
-  steps_at z (PutRegion after) f = flush_left f.local f.freed + left_after_flush z after f.asked f.granted f.returning
-  steps_at z (Free after) f = flush_left f.local f.freed + left_after_flush z after f.asked f.granted f.returning
+  steps_at z (Pick tried) f = picks_left z f.queues tried f.asked f.objects
+  steps_at z TakeQueue f = queues_left z f.queues f.asked f.objects
+  steps_at z (TakeRegion slot) f = 6 + memories_left z f.asked f.objects
+  steps_at z (Empty slot held) f = 5 + memories_left z f.asked f.objects
+  steps_at z (Instantiate slot held) f = 4 + memories_left z f.asked f.objects
+  steps_at z (MakeMemory slot held) f = 3 + memories_left z f.asked f.objects
+  steps_at z (CountMemory lease) f = 1 + memories_left z f.asked f.objects
+  steps_at z (PutUnknown slot held) f = 2 + returns_left z f.objects
+  steps_at z (FreeUnknown slot) f = 1 + returns_left z f.objects
+  steps_at z (UncountMemory lease) f = give_back_bound z + returns_left z f.objects
+  steps_at z (Reset lease) f = 1 + flush_bound z + returns_left z f.objects
+  steps_at z Merge f = flush_bound z + returns_left z f.objects
+  steps_at z Flush f = flush_left z f.local f.freed + next_left z f.ending f.queues f.asked f.objects
   steps_at z UncountInstance f = 1
 
   -- at most how many steps the frame's call still makes
   abbrev pub steps_left : PoolCore P → Frame P → ℕ
   steps_left c f = steps_at (pool_sizes c) f.phase f
-
-  -- the ranges of each slot lie together in the pool's queues, and in the call's own
-  pub record HasGroups (c : PoolCore P) (f : Frame P) : Type 0 where
-    pub queues : AreGrouped c.queues
-    pub local : IsGrouped f.local

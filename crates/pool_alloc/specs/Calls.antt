@@ -1,16 +1,17 @@
 -- A party's calls: its frame as made, what a call begins with, and what it grants.
-use Rattle.std.specs.Prelude.{◌≡◌, ℕ, ◌*◌, ◌==◌, List, [], length, All, if◌then◌else◌, Option, Some, None}
+use Rattle.std.specs.Prelude.{◌≡◌, ℕ, ◌*◌, [], length, All, Option, Some, None}
 use Rattle.pool_pages.specs.MakerTold.{MakerTold}
-use Rattle.pool_pages.specs.declared.module_types.MemoryDecl.{MemoryDecl}
 use Rattle.pool_slots.specs.Queues.{empty_queue}
 use Rattle.pool_alloc.specs.Reserved.{no_room}
 use Rattle.pool_alloc.specs.Steps.{memories_wanted, images_wanted}
-use Rattle.pool_alloc.specs.Sound.{IsLeaseOf, AreImagesOf}
+use Rattle.pool_alloc.specs.Turns.{returned_next}
+use Rattle.pool_alloc.specs.Sound.{IsLeaseOf, AreImagesOf, AreBegun}
 use Rattle.pool_alloc.specs.Modules.{HasImages}
 use Rattle.pool_alloc.specs.declared.pool_core.Settings.{Settings}
 use Rattle.pool_alloc.specs.declared.frame.Frame.{Frame}
-use Rattle.pool_alloc.specs.declared.frame.Phase.TheVariants.{Idle, Key, Validate, UncountMemory, UncountInstance}
-use Rattle.pool_alloc.specs.declared.frame.Ending.TheVariants.{Returned as returned}
+use Rattle.pool_alloc.specs.declared.frame.ModuleCall.{ModuleCall}
+use Rattle.pool_alloc.specs.declared.frame.Phase.TheVariants.{Idle, Key, Validate}
+use Rattle.pool_alloc.specs.declared.frame.Ending.TheVariants.{Granted as granted, Returned as returned}
 use Rattle.pool_alloc.specs.declared.frame.Grant.{Grant}
 use Rattle.pool_alloc.specs.declared.frame.Grant.TheVariants.{Instance}
 use Rattle.pool_alloc.specs.declared.frame.Call.{Call}
@@ -25,9 +26,9 @@ module _ {P : Type 0} where
     home = home;
     stripe = 0;
     asked = None;
-    granted = no_room;
-    returning = no_room;
     ending = returned;
+    objects = no_room;
+    queues = 0;
     local = empty_queue (2 * s.batch) (2 * s.batch);
     freed = record { items = []; room = 2 * s.batch };
     phase = Idle;
@@ -41,9 +42,9 @@ module _ {P : Type 0} where
   abbrev pub IsGrant : MakerTold → Settings → Grant P → Type 0
   IsGrant maker s (Instance lease) = All (IsLeaseOf maker s) lease.memories.items
 
-  -- and it has as many memories as were asked for
-  abbrev pub IsGrantOf : MakerTold → Settings → List MemoryDecl → Grant P → Type 0
-  IsGrantOf maker s decls (Instance lease) = All (IsLeaseOf maker s) lease.memories.items × (length lease.memories.items ≡ length decls)
+  -- and it has a memory for each that was asked for, which begins as that is to
+  abbrev pub IsGrantOf : MakerTold → Settings → Option ModuleCall → Grant P → Type 0
+  IsGrantOf maker s asked (Instance lease) = All (IsLeaseOf maker s) lease.memories.items × (length lease.memories.items ≡ length (memories_wanted asked)) × AreBegun s asked lease.memories.items
 
   -- what is granted, if a call ends with a grant
   abbrev pub IfGranted : (Grant P → Type 0) → Option (Outcome P) → Type 0
@@ -59,14 +60,10 @@ module _ {P : Type 0} where
 
   -- the memories of a grant are given back in order, and then the instance
   abbrev pub gives_back : Grant P → Frame P → Frame P
-  gives_back (Instance lease) f = record f {
-    returning = lease.memories;
-    ending = returned;
-    phase = if length lease.memories.items == 0 then UncountInstance else UncountMemory;
-  }
+  gives_back (Instance lease) f = (returned_next lease.memories.items (record f { objects = lease.memories; ending = returned })).frame
 
   -- the frame once the call began
   abbrev pub begun_call : Call P → Frame P → Frame P
   begun_call call.Key f = record f { phase = Key }
-  begun_call (call.Module m) f = record f { asked = Some m; phase = Validate }
+  begun_call (call.Module m) f = record f { asked = Some m; ending = granted; queues = 0; phase = Validate }
   begun_call (call.GiveBack grant) f = gives_back grant f

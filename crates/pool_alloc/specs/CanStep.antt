@@ -14,6 +14,8 @@ use Rattle.pool_slots.specs.Queues.{QueueState, QueuedMemory, HasOwners, AreApar
 use Rattle.pool_alloc.specs.Freeing.{AreUsedInTurn}
 use Rattle.pool_alloc.specs.Modules.{HasImages, IfAllocated}
 use Rattle.pool_alloc.specs.Reserved.{Reserved}
+use Rattle.pool_alloc.specs.Rows.{FlushStep, run, put, free, flush_step}
+use Rattle.pool_alloc.specs.Turns.{is_granting}
 use Rattle.pool_alloc.specs.Steps.{memories_wanted, image_wanted, nth_shard, nth_cell, nth_queue, shard_of, local_of, freed_of, first_shard, queue_tried}
 use Rattle.pool_alloc.specs.declared.pool_core.PoolCore.{PoolCore}
 use Rattle.pool_alloc.specs.declared.pool_core.Settings.{Settings}
@@ -21,7 +23,7 @@ use Rattle.pool_alloc.specs.declared.frame.Frame.{Frame}
 use Rattle.pool_alloc.specs.declared.frame.FreedSlot.{FreedSlot}
 use Rattle.pool_alloc.specs.declared.frame.ModuleCall.{ModuleCall}
 use Rattle.pool_alloc.specs.declared.frame.Phase.{Phase}
-use Rattle.pool_alloc.specs.declared.frame.Phase.TheVariants.{Idle, Key, Validate, CountInstance, Pick, TakeQueue, TakeRegion, Empty, Instantiate, MakeMemory, CountMemory, PutUnknown, FreeUnknown, UncountMemory, Reset, Merge, Decommit, PutRegion, Free, UncountInstance}
+use Rattle.pool_alloc.specs.declared.frame.Phase.TheVariants.{Idle, Key, Validate, CountInstance, Pick, TakeQueue, TakeRegion, Empty, Instantiate, MakeMemory, CountMemory, PutUnknown, FreeUnknown, UncountMemory, Reset, Merge, Flush, UncountInstance}
 
 -- the sizes of a module's memories can be computed
 abbrev pub CanValidate : List MemoryDecl → Type 0
@@ -94,25 +96,29 @@ pub record CanFree (s : Settings) (freed : List FreedSlot) (shards : List ShardS
   pub bytes : All (λ x. x.bytes ≤ 2 ^ 32) freed
 
 module _ {P : Type 0} where
+  -- just the next part of a flush
+  abbrev pub CanFlush : FlushStep → PoolCore P → Frame P → Type 0
+  CanFlush run c f = (0 < length f.local.ranges) × HasOwners f.local
+  CanFlush put c f = CanPutNext (length c.cells) f.local f.freed
+  CanFlush free c f = CanFree c.settings f.freed.items c.shards
+
   -- in each phase
   abbrev pub CanStepAt : Phase P → PoolCore P → Frame P → Type 0
   CanStepAt Idle c f = Unit {0}
   CanStepAt Key c f = 0 < c.settings.stripes
   CanStepAt Validate c f = CanValidate (memories_wanted f.asked)
   CanStepAt CountInstance c f = c.counters.core_instances + 1 < 2 ^ 64
-  CanStepAt (Pick queues tried) c f = (tried < length c.shards) × (length f.granted.items < 2 ^ 32)
-  CanStepAt (TakeQueue queues) c f = (queues < length c.queues) × IsSpareOf (nth_queue (queue_tried queues c f) c.queues) f.local
+  CanStepAt (Pick tried) c f = (tried < c.settings.shards) × (c.settings.shards < 2 ^ 32) × (length c.shards ≡ c.settings.shards) × (length f.objects.items < 2 ^ 32)
+  CanStepAt TakeQueue c f = (f.queues < c.settings.queues) × (c.settings.queues < 2 ^ 32) × (length c.queues ≡ c.settings.queues) × IsSpareOf (nth_queue (queue_tried f.queues c.settings f) c.queues) f.local
   CanStepAt (TakeRegion slot) c f = CanTakeRegion slot c.cells c.settings
   CanStepAt (Empty slot held) c f = Unit {0}
-  CanStepAt (Instantiate slot held) c f = HasNext f.asked (length f.granted.items) × IsClean held × IfAllocated f (CanBegin held (image_wanted f))
-  CanStepAt (MakeMemory slot held) c f = HasNext f.asked (length f.granted.items) × IfAllocated f (CanMake c.settings held)
-  CanStepAt (CountMemory lease) c f = (c.counters.memories + 1 < 2 ^ 64) × (length f.granted.items < f.granted.room)
-  CanStepAt (PutUnknown slot held after) c f = slot < length c.cells
-  CanStepAt (FreeUnknown slot after) c f = CanFreeOne slot c.settings c.shards
-  CanStepAt UncountMemory c f = (0 < c.counters.memories) × (0 < length f.returning.items)
+  CanStepAt (Instantiate slot held) c f = HasNext f.asked (length f.objects.items) × IsClean held × IfAllocated f (CanBegin held (image_wanted f))
+  CanStepAt (MakeMemory slot held) c f = HasNext f.asked (length f.objects.items) × IfAllocated f (CanMake c.settings held)
+  CanStepAt (CountMemory lease) c f = (c.counters.memories + 1 < 2 ^ 64) × (length f.objects.items < f.objects.room)
+  CanStepAt (PutUnknown slot held) c f = slot < length c.cells
+  CanStepAt (FreeUnknown slot) c f = CanFreeOne slot c.settings c.shards
+  CanStepAt (UncountMemory lease) c f = 0 < c.counters.memories
   CanStepAt (Reset lease) c f = CanReset c.settings (slot_of lease.memory) f.local
-  CanStepAt Merge c f = (0 < length c.queues) × CanMerge (nth_queue (queue_tried 0 c f) c.queues) f.local
-  CanStepAt (Decommit after) c f = (0 < length f.local.ranges) × HasOwners f.local
-  CanStepAt (PutRegion after) c f = CanPutNext (length c.cells) f.local f.freed
-  CanStepAt (Free after) c f = CanFree c.settings f.freed.items c.shards
-  CanStepAt UncountInstance c f = 0 < c.counters.core_instances
+  CanStepAt Merge c f = (0 < c.settings.queues) × (c.settings.queues < 2 ^ 32) × (length c.queues ≡ c.settings.queues) × CanMerge (nth_queue (queue_tried 0 c.settings f) c.queues) f.local
+  CanStepAt Flush c f = CanFlush (flush_step f.local) c f
+  CanStepAt UncountInstance c f = (0 < c.counters.core_instances) × (is_granting f.ending ≡ false)

@@ -1,7 +1,7 @@
 -- When slots can be freed.
-use Rattle.std.specs.Prelude.{◌≡◌, ℕ, ◌^◌, ◌≤◌, ◌==◌, List, [], ◌∷◌, ◌++◌, slice_set, if◌then◌else◌, IsSome}
+use Rattle.std.specs.Prelude.{◌≡◌, ℕ, ◌^◌, ◌≤◌, ◌==◌, List, [], ◌∷◌, ◌++◌, if◌then◌else◌, IsSome}
 use Rattle.pool_index.specs.Shard.{ShardState, use_of, after_free}
-use Rattle.pool_alloc.specs.Steps.{nth_shard, shard_of, local_of}
+use Rattle.pool_alloc.specs.Steps.{shard_of, local_of}
 use Rattle.pool_alloc.specs.declared.frame.FreedSlot.{FreedSlot}
 use Rattle.pool_alloc.specs.declared.pool_core.Settings.{Settings}
 
@@ -15,9 +15,9 @@ abbrev pub CanFreeNext : Settings → ℕ → List FreedSlot → ShardState → 
 CanFreeNext s j [] shard = ⊥
 CanFreeNext s j (x ∷ rest) shard = (shard_of s x.slot ≡ j → IsSome (use_of shard (local_of s x.slot).0)) × (x.bytes ≤ 2 ^ 32)
 
-abbrev pub shards_after_next : Settings → ℕ → List FreedSlot → List ShardState → List ShardState
-shards_after_next s j [] shards = shards
-shards_after_next s j (x ∷ rest) shards = if shard_of s x.slot == j then slice_set shards j (after_free (local_of s x.slot) x.bytes (nth_shard j shards)) else shards
+abbrev pub shard_after_next : Settings → ℕ → List FreedSlot → ShardState → ShardState
+shard_after_next s j [] shard = shard
+shard_after_next s j (x ∷ rest) shard = if shard_of s x.slot == j then after_free (local_of s x.slot) x.bytes shard else shard
 
 abbrev pub freed_after_next : Settings → ℕ → List FreedSlot → List FreedSlot
 freed_after_next s j [] = []

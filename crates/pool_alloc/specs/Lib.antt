@@ -8,10 +8,15 @@ pub mod Made
 pub mod Modules
 pub mod Own
 pub mod Places
+pub mod RangeRuns
 pub mod Refusals
 pub mod Reserved
+pub mod Rows
+pub mod Searches
 pub mod Sound
+pub mod Stages
 pub mod Stepping
 pub mod Steps
 pub mod Sums
+pub mod Turns
 pub mod Whole

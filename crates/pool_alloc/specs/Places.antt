@@ -9,7 +9,7 @@ use Rattle.pool_alloc.specs.declared.pool_core.PoolCore.{PoolCore}
 use Rattle.pool_alloc.specs.declared.frame.Frame.{Frame}
 use Rattle.pool_alloc.specs.declared.frame.FreedSlot.{FreedSlot}
 use Rattle.pool_alloc.specs.declared.frame.Phase.{Phase}
-use Rattle.pool_alloc.specs.declared.frame.Phase.TheVariants.{Idle, Key, Validate, CountInstance, TakeRegion, Empty, Instantiate, MakeMemory, CountMemory, PutUnknown, FreeUnknown, Reset}
+use Rattle.pool_alloc.specs.declared.frame.Phase.TheVariants.{Idle, Key, Validate, CountInstance, TakeRegion, Empty, Instantiate, MakeMemory, CountMemory, PutUnknown, FreeUnknown, UncountMemory, Reset}
 
 -- the right to use a memory slot, and the region of a memory slot
 pub data Thing : Type 0 where
@@ -69,14 +69,15 @@ module _ {P : Type 0} where
   phase_count t (Instantiate slot held) = both_count t slot
   phase_count t (MakeMemory slot held) = both_count t slot
   phase_count t (CountMemory lease) = both_count t lease.index
-  phase_count t (PutUnknown slot held after) = both_count t slot
-  phase_count t (FreeUnknown slot after) = slot_count t slot
+  phase_count t (PutUnknown slot held) = both_count t slot
+  phase_count t (FreeUnknown slot) = slot_count t slot
+  phase_count t (UncountMemory lease) = both_count t lease.index
   phase_count t (Reset lease) = both_count t lease.index
   phase_count t _ = 0
 
   -- what a party's call has
   abbrev pub frame_count : Thing → Frame P → ℕ
-  frame_count t f = leased_count t f.granted.items + leased_count t f.returning.items + queued_count t f.local.memories + freed_count t f.freed.items + phase_count t f.phase
+  frame_count t f = leased_count t f.objects.items + queued_count t f.local.memories + freed_count t f.freed.items + phase_count t f.phase
 
   -- how many instances a call has counted, and how many memories
   abbrev pub phase_instances : Phase P → ℕ
@@ -86,5 +87,9 @@ module _ {P : Type 0} where
   phase_instances CountInstance = 0
   phase_instances _ = 1
 
+  abbrev pub phase_memories : Phase P → ℕ
+  phase_memories (UncountMemory lease) = 1
+  phase_memories _ = 0
+
   abbrev pub frame_memories : Frame P → ℕ
-  frame_memories f = length f.granted.items + length f.returning.items
+  frame_memories f = length f.objects.items + phase_memories f.phase

@@ -16,19 +16,19 @@ use Rattle.pool_slots.specs.Queues.{QueueState, QueuedMemory, HasOwners, IsQueue
 use Rattle.pool_alloc.specs.Reserved.{Reserved}
 use Rattle.pool_alloc.specs.Leases.{Lease, IsUsable}
 use Rattle.pool_alloc.specs.Modules.{HasImages, IfAllocated}
+use Rattle.pool_alloc.specs.RangeRuns.{IsGrouped}
+use Rattle.pool_alloc.specs.Turns.{is_granting, is_flushed}
 use Rattle.pool_alloc.specs.Steps.{memories_wanted, images_wanted, image_wanted, nth_shard, nth_cell, nth_queue, shard_of, local_of}
 use Rattle.pool_alloc.specs.Places.{Thing, right_to, region_of, kept_count, frame_count, made_count, phase_instances, frame_memories}
 use Rattle.pool_alloc.specs.declared.pool_core.PoolCore.{PoolCore}
 use Rattle.pool_alloc.specs.declared.pool_core.Settings.{Settings}
+use Rattle.pool_alloc.specs.declared.frame.Ending.{Ending}
+use Rattle.pool_alloc.specs.declared.frame.Ending.TheVariants.{Granted as granted, Returned as returned, Refused as refused}
 use Rattle.pool_alloc.specs.declared.frame.Frame.{Frame}
 use Rattle.pool_alloc.specs.declared.frame.ModuleCall.{ModuleCall}
 use Rattle.pool_alloc.specs.declared.frame.FreedSlot.{FreedSlot}
 use Rattle.pool_alloc.specs.declared.frame.Phase.{Phase}
-use Rattle.pool_alloc.specs.declared.frame.Phase.TheVariants.{Idle, Key, Validate, CountInstance, Pick, TakeQueue, TakeRegion, Empty, Instantiate, MakeMemory, CountMemory, PutUnknown, FreeUnknown, UncountMemory, Reset, Merge, Decommit, PutRegion, Free, UncountInstance}
-use Rattle.pool_alloc.specs.declared.frame.AfterFree.{AfterFree}
-use Rattle.pool_alloc.specs.declared.frame.AfterFree.TheVariants.{Refuse, ReturnNext}
-use Rattle.pool_alloc.specs.declared.frame.AfterFlush.{AfterFlush}
-use Rattle.pool_alloc.specs.declared.frame.AfterFlush.TheVariants.{PickAgain, GiveBackNext}
+use Rattle.pool_alloc.specs.declared.frame.Phase.TheVariants.{Idle, Key, Validate, CountInstance, Pick, TakeQueue, TakeRegion, Empty, Instantiate, MakeMemory, CountMemory, PutUnknown, FreeUnknown, UncountMemory, Reset, Merge, Flush, UncountInstance}
 
 -- the settings make sense
 pub record IsSettings (s : Settings) : Type 0 where
@@ -39,6 +39,8 @@ pub record IsSettings (s : Settings) : Type 0 where
   pub bounded : s.max_memory_size + s.page ≤ 2 ^ 64
   pub batch : (1 ≤ s.batch) × (s.batch ≤ 4096)
   pub stripes : 0 < s.stripes
+  pub shards : (0 < s.shards) × (s.shards < 2 ^ 32)
+  pub queues : (0 < s.queues) × (s.queues < 2 ^ 32)
   pub slots_per_shard : 0 < s.slots_per_shard
   pub memories : s.max_memories_per_module < 2 ^ 32
 
@@ -61,7 +63,8 @@ IsPoolCell maker behaviour static_size i cell = IsCell (region_made maker behavi
 pub record IsQueuedOf (maker : MakerTold) (behaviour : DecommitBehavior) (static_size : ℕ) (m : QueuedMemory) : Type 0 where
   pub slot : IsPoolSlot maker behaviour static_size m.index m.slot
 
--- a shared queue has fewer ranges than a batch, no more slots than ranges, and room for twice the batch
+-- A shared queue has fewer ranges than a batch, no more slots than ranges, and room for twice the batch. The ranges of each
+-- slot lie together.
 pub record IsShared (maker : MakerTold) (s : Settings) (q : QueueState) : Type 0 where
   pub owners : HasOwners q
   pub short : length q.ranges + 1 ≤ s.batch
@@ -70,6 +73,7 @@ pub record IsShared (maker : MakerTold) (s : Settings) (q : QueueState) : Type 0
   pub slot_room : q.slot_room ≡ 2 * s.batch
   pub regions : All (IsQueuedOf maker s.behaviour s.max_memory_size) q.memories
   pub queue : IsQueue q
+  pub grouped : IsGrouped q
 
 -- what holds of the pool's parts between steps, whatever parties do
 pub record IsCore {P : Type 0} (maker : MakerTold) (c : PoolCore P) : Type 0 where
@@ -77,13 +81,16 @@ pub record IsCore {P : Type 0} (maker : MakerTold) (c : PoolCore P) : Type 0 whe
   pub page : c.settings.page ≡ maker.page
   pub shards : (j : ℕ) → j < length c.shards → IsShard (nth_shard j c.shards)
   pub layout : IsLaidOut c.settings (length c.cells) c.shards
+  pub shards_made : length c.shards ≡ c.settings.shards
+  pub cells_made : length c.cells ≡ c.settings.slots
+  pub queues_made : length c.queues ≡ c.settings.queues
   pub small : length c.cells < 2 ^ 32
   pub cells : (i : ℕ) → i < length c.cells → IsPoolCell maker c.settings.behaviour c.settings.max_memory_size i (nth_cell i c.cells)
-  pub queues_some : 0 < length c.queues
   pub queues : (i : ℕ) → i < length c.queues → IsShared maker c.settings (nth_queue i c.queues)
 
 -- a lease of the pool: its memory lies in the region of its slot
 pub record IsLeaseOf (maker : MakerTold) (s : Settings) (l : Lease) : Type 0 where
+  pub inside : l.index < s.slots
   pub slot : IsPoolSlot maker s.behaviour s.max_memory_size l.index (image_slot_of l.memory)
   pub memory : IsUsable l.memory
 
@@ -94,6 +101,7 @@ pub record IsLocal (maker : MakerTold) (s : Settings) (q : QueueState) : Type 0 
   pub slot_room : q.slot_room ≡ 2 * s.batch
   pub regions : All (IsQueuedOf maker s.behaviour s.max_memory_size) q.memories
   pub queue : IsQueue q
+  pub grouped : IsGrouped q
 
 -- a memory fits a slot, and its image fits it
 pub record IsSupported (s : Settings) (decl : MemoryDecl) (image : Option Image) : Type 0 where
@@ -112,8 +120,8 @@ pub record AreImagesOf (s : Settings) (memories : List MemoryDecl) (images : Lis
   pub each : (k : ℕ) → IfSome (slice_get memories k) (λ decl. (decl.ty.page_size_log2 < 64) × IfSome (slice_index_or images k None) (FitsInto s.page (minimum_byte_size decl.ty)))
 
 -- the slot of the pool with this number, as a call has it in its hands
-pub record HasSlot (maker : MakerTold) (s : Settings) (total slot : ℕ) (held : Slot) : Type 0 where
-  pub inside : slot < total
+pub record HasSlot (maker : MakerTold) (s : Settings) (slot : ℕ) (held : Slot) : Type 0 where
+  pub inside : slot < s.slots
   pub region : IsPoolSlot maker s.behaviour s.max_memory_size slot held
 
 -- it is in use, and begins with this image
@@ -140,82 +148,97 @@ pub record NothingWaits (local : QueueState) (freed : Reserved FreedSlot) : Type
   pub none_freed : freed.items ≡ []
 
 -- nor is anything granted or given back
-pub record NothingHeld (local : QueueState) (freed : Reserved FreedSlot) (granted returning : Reserved Lease) : Type 0 where
+pub record NothingHeld (local : QueueState) (freed : Reserved FreedSlot) (objects : Reserved Lease) : Type 0 where
   pub settled : NothingWaits local freed
-  pub none_granted : granted.items ≡ []
-  pub none_returning : returning.items ≡ []
+  pub no_objects : objects.items ≡ []
 
--- some of the module's memories are granted, and there is a next one
-pub record AllocatesMore (s : Settings) (asked : Option ModuleCall) (granted returning : Reserved Lease) : Type 0 where
+-- the memories that were granted so far begin as asked
+abbrev pub AreBegun : Settings → Option ModuleCall → List Lease → Type 0
+AreBegun s asked leases =
+    (k : ℕ) → IfSome (slice_get leases k) (λ lease. IfSome (slice_get (memories_wanted asked) k) (IsNew s.max_memory_size (slice_index_or (images_wanted asked) k None) lease.memory))
+
+-- A call that is to be granted an instance: its module is supported, what it was granted so far begins as asked, and it
+-- has taken no more queues than there are.
+pub record IsToGrant (s : Settings) (asked : Option ModuleCall) (queues : ℕ) (objects : Reserved Lease) : Type 0 where
   pub supported : AreSupported s (memories_wanted asked) (images_wanted asked)
   pub images : HasImages asked
-  pub room : granted.room ≡ length (memories_wanted asked)
-  pub more : length granted.items < length (memories_wanted asked)
-  pub none_returning : returning.items ≡ []
+  pub room : objects.room ≡ length (memories_wanted asked)
+  pub few : length objects.items ≤ length (memories_wanted asked)
+  pub begun : AreBegun s asked objects.items
+  pub taken : queues ≤ s.queues
 
--- what the call goes on with after a flush
-abbrev pub GoesOn : Settings → ℕ → AfterFlush → Option ModuleCall → Reserved Lease → Reserved Lease → Type 0
-GoesOn s queues (PickAgain n) asked granted returning = AllocatesMore s asked granted returning × (n ≤ queues)
-GoesOn s queues GiveBackNext asked granted returning = granted.items ≡ []
+-- a request is to be granted, and there is a next memory
+pub record GrantsMore (s : Settings) (aim : Ending) (asked : Option ModuleCall) (queues : ℕ) (objects : Reserved Lease) : Type 0 where
+  pub ending : aim ≡ granted
+  pub to_grant : IsToGrant s asked queues objects
+  pub more : length objects.items < length (memories_wanted asked)
 
--- what it goes on with once a slot is freed of which nothing is known
-abbrev pub GoesOnFree : Settings → AfterFree → Option ModuleCall → Reserved Lease → Reserved Lease → Type 0
-GoesOnFree s (Refuse e) asked granted returning = AllocatesMore s asked granted returning
-GoesOnFree s ReturnNext asked granted returning = granted.items ≡ []
+-- a request as it begins, and once its module was tested
+pub record IsRequest (aim : Ending) (asked : Option ModuleCall) (queues : ℕ) : Type 0 where
+  pub ending : aim ≡ granted
+  pub none_taken : queues ≡ 0
+  pub asked_for : IsSome asked
+  pub images : HasImages asked
+
+-- by its ending, what a call has beside its next step
+abbrev pub Aims : Settings → Ending → Option ModuleCall → ℕ → Reserved Lease → Type 0
+Aims s granted asked queues objects = IsToGrant s asked queues objects
+Aims s returned asked queues objects = Unit {0}
+Aims s (refused e) asked queues objects = Unit {0}
 
 module _ {P : Type 0} where
   abbrev pub HasNoneWaiting : Frame P → Type 0
   HasNoneWaiting f = NothingWaits f.local f.freed
 
   abbrev pub IsAtRest : Frame P → Type 0
-  IsAtRest f = NothingHeld f.local f.freed f.granted f.returning
+  IsAtRest f = NothingHeld f.local f.freed f.objects
 
-  -- a memory of the module is allocated
+  abbrev pub IsAiming : Settings → Frame P → Type 0
+  IsAiming s f = Aims s f.ending f.asked f.queues f.objects
+
   abbrev pub IsAllocating : Settings → Frame P → Type 0
-  IsAllocating s f = AllocatesMore s f.asked f.granted f.returning
+  IsAllocating s f = GrantsMore s f.ending f.asked f.queues f.objects
 
-  abbrev pub IsShapedAfter : Settings → ℕ → AfterFlush → Frame P → Type 0
-  IsShapedAfter s queues after f = GoesOn s queues after f.asked f.granted f.returning
-
-  abbrev pub IsShapedFree : Settings → AfterFree → Frame P → Type 0
-  IsShapedFree s after f = GoesOnFree s after f.asked f.granted f.returning
+  -- something is given back
+  abbrev pub IsReturning : Frame P → Type 0
+  IsReturning f = is_granting f.ending ≡ false
 
   -- the freed slots and those still queued have room
   abbrev pub HasFreedRoom : Settings → Frame P → Type 0
   HasFreedRoom s f = (f.freed.room ≡ 2 * s.batch) × (length f.freed.items + length f.local.memories ≤ 2 * s.batch)
 
-  -- What a frame has in each phase, where the pool has so many slots, shards and queues.
-  abbrev pub IsShapedAt : MakerTold → Settings → (slots shards queues : ℕ) → Phase P → Frame P → Type 0
-  IsShapedAt maker s slots shards queues Idle f = IsAtRest f
-  IsShapedAt maker s slots shards queues Key f = IsAtRest f
-  IsShapedAt maker s slots shards queues Validate f = IsAtRest f × IsSome f.asked × AreImagesOf s (memories_wanted f.asked) (images_wanted f.asked) × HasImages f.asked
-  IsShapedAt maker s slots shards queues CountInstance f = IsAtRest f × IsSome f.asked × AreSupported s (memories_wanted f.asked) (images_wanted f.asked) × (f.granted.room ≡ length (memories_wanted f.asked)) × HasImages f.asked
-  IsShapedAt maker s slots shards queues (Pick n tried) f = HasNoneWaiting f × IsAllocating s f × (n ≤ queues) × (tried < shards)
-  IsShapedAt maker s slots shards queues (TakeQueue n) f = HasNoneWaiting f × IsAllocating s f × (n < queues)
-  IsShapedAt maker s slots shards queues (TakeRegion slot) f = HasNoneWaiting f × IsAllocating s f × (slot < slots)
-  IsShapedAt maker s slots shards queues (Empty slot held) f = HasNoneWaiting f × IsAllocating s f × HasSlot maker s slots slot held
-  IsShapedAt maker s slots shards queues (Instantiate slot held) f = HasNoneWaiting f × IsAllocating s f × HasSlot maker s slots slot held × IsClean held
-  IsShapedAt maker s slots shards queues (MakeMemory slot held) f = HasNoneWaiting f × IsAllocating s f × HasSlot maker s slots slot held × IfAllocated f (HasBegun (image_wanted f) held)
-  IsShapedAt maker s slots shards queues (CountMemory lease) f = HasNoneWaiting f × IsAllocating s f × HasSlot maker s slots lease.index (image_slot_of lease.memory) × IsUsable lease.memory × IfAllocated f (IsNew s.max_memory_size (image_wanted f) lease.memory)
-  IsShapedAt maker s slots shards queues (PutUnknown slot held after) f = HasNoneWaiting f × IsShapedFree s after f × HasSlot maker s slots slot held
-  IsShapedAt maker s slots shards queues (FreeUnknown slot after) f = HasNoneWaiting f × IsShapedFree s after f × (slot < slots)
-  IsShapedAt maker s slots shards queues UncountMemory f = HasNoneWaiting f × (f.granted.items ≡ []) × (0 < length f.returning.items)
-  IsShapedAt maker s slots shards queues (Reset lease) f = HasNoneWaiting f × (f.granted.items ≡ []) × (lease.index < slots) × IsLeaseOf maker s lease
-  IsShapedAt maker s slots shards queues Merge f = (f.granted.items ≡ []) × (f.freed.items ≡ []) × (length f.local.memories ≡ 1) × (0 < length f.local.ranges) × (length f.local.ranges + 1 ≤ s.batch)
-  IsShapedAt maker s slots shards queues (Decommit after) f = IsShapedAfter s queues after f × (f.freed.items ≡ []) × (0 < length f.local.ranges) × (0 < length f.local.memories)
-  IsShapedAt maker s slots shards queues (PutRegion after) f = IsShapedAfter s queues after f × (f.local.ranges ≡ []) × (0 < length f.local.memories)
-  IsShapedAt maker s slots shards queues (Free after) f = IsShapedAfter s queues after f × (f.local.ranges ≡ []) × (f.local.memories ≡ []) × (0 < length f.freed.items)
-  IsShapedAt maker s slots shards queues UncountInstance f = IsAtRest f
+  abbrev pub IsRequested : Frame P → Type 0
+  IsRequested f = IsRequest f.ending f.asked f.queues
 
-  -- what holds of a party's frame between steps, over the pool's parts
-  pub record IsFrame (maker : MakerTold) (c : PoolCore P) (f : Frame P) : Type 0 where
-    pub stripe : f.stripe < c.settings.stripes
-    pub queue : IsLocal maker c.settings f.local
-    pub freed_room : HasFreedRoom c.settings f
+  -- What a frame has in each phase.
+  abbrev pub IsShapedAt : MakerTold → Settings → Phase P → Frame P → Type 0
+  IsShapedAt maker s Idle f = IsAtRest f
+  IsShapedAt maker s Key f = IsAtRest f
+  IsShapedAt maker s Validate f = IsAtRest f × IsRequested f × AreImagesOf s (memories_wanted f.asked) (images_wanted f.asked)
+  IsShapedAt maker s CountInstance f = IsAtRest f × IsRequested f × AreSupported s (memories_wanted f.asked) (images_wanted f.asked) × (f.objects.room ≡ length (memories_wanted f.asked))
+  IsShapedAt maker s (Pick tried) f = HasNoneWaiting f × IsAllocating s f × (tried < s.shards)
+  IsShapedAt maker s TakeQueue f = HasNoneWaiting f × IsAllocating s f × (f.queues < s.queues)
+  IsShapedAt maker s (TakeRegion slot) f = HasNoneWaiting f × IsAllocating s f × (slot < s.slots)
+  IsShapedAt maker s (Empty slot held) f = HasNoneWaiting f × IsAllocating s f × HasSlot maker s slot held
+  IsShapedAt maker s (Instantiate slot held) f = HasNoneWaiting f × IsAllocating s f × HasSlot maker s slot held × IsClean held
+  IsShapedAt maker s (MakeMemory slot held) f = HasNoneWaiting f × IsAllocating s f × HasSlot maker s slot held × IfAllocated f (HasBegun (image_wanted f) held)
+  IsShapedAt maker s (CountMemory lease) f = HasNoneWaiting f × IsAllocating s f × IsLeaseOf maker s lease × IfAllocated f (IsNew s.max_memory_size (image_wanted f) lease.memory)
+  IsShapedAt maker s (PutUnknown slot held) f = HasNoneWaiting f × IsReturning f × HasSlot maker s slot held
+  IsShapedAt maker s (FreeUnknown slot) f = HasNoneWaiting f × IsReturning f × (slot < s.slots)
+  IsShapedAt maker s (UncountMemory lease) f = HasNoneWaiting f × IsReturning f × IsLeaseOf maker s lease
+  IsShapedAt maker s (Reset lease) f = HasNoneWaiting f × IsReturning f × IsLeaseOf maker s lease
+  IsShapedAt maker s Merge f = IsReturning f × (f.freed.items ≡ []) × (length f.local.memories ≡ 1) × (0 < length f.local.ranges) × (length f.local.ranges + 1 ≤ s.batch)
+  IsShapedAt maker s Flush f = IsAiming s f × (is_flushed f ≡ false)
+  IsShapedAt maker s UncountInstance f = IsAtRest f × IsReturning f
+
+  -- What holds of a party's frame between steps, over a pool with these settings.
+  pub record IsFrame (maker : MakerTold) (s : Settings) (f : Frame P) : Type 0 where
+    pub stripe : f.stripe < s.stripes
+    pub queue : IsLocal maker s f.local
+    pub freed_room : HasFreedRoom s f
     pub freed_bytes : All (λ x. x.bytes ≤ 2 ^ 32) f.freed.items
-    pub granted : All (IsLeaseOf maker c.settings) f.granted.items
-    pub returning : All (IsLeaseOf maker c.settings) f.returning.items
-    pub shape : IsShapedAt maker c.settings (length c.cells) (length c.shards) (length c.queues) f.phase f
+    pub objects : All (IsLeaseOf maker s) f.objects.items
+    pub shape : IsShapedAt maker s f.phase f
 
   -- What the frame has fits what the pool has: nothing is in both, the region of each slot that the pool or the frame
   -- has is with one of them too, and what the frame has counted is counted.

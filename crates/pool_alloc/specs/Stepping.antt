@@ -1,9 +1,14 @@
 -- A step: a row of the table under answers that may come, and what it keeps.
-use Rattle.std.specs.Prelude.{◌≡◌, ℕ, ◌+◌, ◌^◌, ◌<◌, ◌≤◌, ◌&&◌, length, List, Bool, true, false, not, Option, Some, None, is_some}
+use Rattle.std.specs.Prelude.{◌≡◌, ◌⊎◌, ℕ, ◌+◌, ◌^◌, ◌<◌, ◌≤◌, ◌&&◌, length, List, Bool, true, false, not, Option, Some, None, is_some}
 use Rattle.pool_pages.specs.MakerTold.{MakerTold}
 use Rattle.pool_limits.specs.Exchanges.{Exchange}
 use Rattle.pool_limits.specs.LimiterTold.{LimiterTold}
-use Rattle.pool_alloc.specs.Steps.{StepGiven, After, row}
+use Rattle.pool_alloc.specs.Steps.{StepGiven, with_shard, with_cell, with_queue, counting_keys, counting_instances, counting_memories}
+use Rattle.pool_index.specs.Shard.{ShardState}
+use Rattle.pool_slots.specs.Cells.{Cell}
+use Rattle.pool_slots.specs.Queues.{QueueState}
+use Rattle.pool_alloc.specs.Turns.{After}
+use Rattle.pool_alloc.specs.Rows.{row}
 use Rattle.pool_alloc.specs.Answers.{MayBeTold, IsPlanned, AsksOf, LimiterHears}
 use Rattle.pool_alloc.specs.Places.{Thing, kept_count, frame_count, leased_count, phase_instances, frame_memories}
 use Rattle.pool_alloc.specs.Sound.{IsCore, IsFrame, FitsCore}
@@ -64,6 +69,22 @@ module _ {P : Type 0} where
     pub shards : length new.shards ≡ length old.shards
     pub queues : length new.queues ≡ length old.queues
 
+  -- A step changes one part of the pool, or none: a shard, the cell of a slot, a queue, or a counter.
+  abbrev pub ChangesShard : PoolCore P → PoolCore P → Type 0
+  ChangesShard old new = (j : ℕ) × (shard : ShardState) × (new ≡ with_shard j shard old)
+
+  abbrev pub ChangesCell : PoolCore P → PoolCore P → Type 0
+  ChangesCell old new = (slot : ℕ) × (cell : Cell) × (new ≡ with_cell slot cell old)
+
+  abbrev pub ChangesQueue : PoolCore P → PoolCore P → Type 0
+  ChangesQueue old new = (i : ℕ) × (queue : QueueState) × (new ≡ with_queue i queue old)
+
+  abbrev pub ChangesCounter : PoolCore P → PoolCore P → Type 0
+  ChangesCounter old new = (n : ℕ) × ((new ≡ counting_keys n old) ⊎ ((new ≡ counting_instances n old) ⊎ (new ≡ counting_memories n old)))
+
+  abbrev pub ChangesOnePart : PoolCore P → PoolCore P → Type 0
+  ChangesOnePart old new = (new ≡ old) ⊎ (ChangesShard old new ⊎ (ChangesCell old new ⊎ (ChangesQueue old new ⊎ ChangesCounter old new)))
+
   -- no call is under way
   abbrev pub is_idle : Phase P → Bool
   is_idle Idle = true
@@ -83,5 +104,5 @@ module _ {P : Type 0} where
   -- the frame can make a step on the core
   pub record CanStep (maker : MakerTold) (c : PoolCore P) (f : Frame P) : Type 0 where
     pub core : IsCore maker c
-    pub frame : IsFrame maker c f
+    pub frame : IsFrame maker c.settings f
     pub fits : FitsCore c f

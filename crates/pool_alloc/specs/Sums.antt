@@ -13,7 +13,7 @@ use Rattle.pool_alloc.specs.declared.pool_core.PoolCore.{PoolCore}
 use Rattle.pool_alloc.specs.declared.metrics.Metrics.{Metrics}
 use Rattle.pool_alloc.specs.declared.frame.Frame.{Frame}
 use Rattle.pool_alloc.specs.declared.frame.Phase.{Phase}
-use Rattle.pool_alloc.specs.declared.frame.Phase.TheVariants.{Empty, Instantiate, MakeMemory, CountMemory, PutUnknown, Reset}
+use Rattle.pool_alloc.specs.declared.frame.Phase.TheVariants.{Empty, Instantiate, MakeMemory, CountMemory, PutUnknown, UncountMemory, Reset}
 
 -- how many slots of the shards are warm, and how many bytes those keep resident, up to the ends of their types
 abbrev pub warm_slots : List ShardState → ℕ
@@ -41,12 +41,13 @@ module _ {P : Type 0} where
   calls_in_phase (Instantiate slot held) = held.region.calls
   calls_in_phase (MakeMemory slot held) = held.region.calls
   calls_in_phase (CountMemory lease) = (slot_of lease.memory).region.calls
-  calls_in_phase (PutUnknown slot held after) = held.region.calls
+  calls_in_phase (PutUnknown slot held) = held.region.calls
+  calls_in_phase (UncountMemory lease) = (slot_of lease.memory).region.calls
   calls_in_phase (Reset lease) = (slot_of lease.memory).region.calls
   calls_in_phase _ = no_calls
 
   abbrev pub calls_in_frame : Frame P → PageCalls
-  calls_in_frame f = added (added (calls_of_leases f.granted.items) (calls_of_leases f.returning.items)) (added (calls_held f.local.memories) (calls_in_phase f.phase))
+  calls_in_frame f = added (calls_of_leases f.objects.items) (added (calls_held f.local.memories) (calls_in_phase f.phase))
 
   -- the pool's numbers
   abbrev pub metrics_of : PoolCore P → Metrics

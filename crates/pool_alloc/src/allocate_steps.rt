@@ -1,81 +1,49 @@
-ghost use Rattle.std.specs.Prelude.{◌≡◌, ◌+◌, ◌<◌, ◌≤◌, ◌^◌, length, false, true, IsSome, None, Some};
+ghost use Rattle.std.specs.Prelude.{◌≡◌, ◌+◌, ◌<◌, ◌≤◌, ◌^◌, length, false, IsSome, None};
+ghost use Rattle.pool_pages.specs.Count.{count};
+ghost use Rattle.pool_images.specs.Slots.{IsFresh};
 ghost use Rattle.pool_index.specs.Shard.{use_of};
-ghost use Rattle.pool_slots.specs.Cells.{is_taken};
-ghost use Rattle.pool_alloc.specs.Steps.{After, memories_wanted, nth_shard, nth_cell, shard_of, local_of, wanted, allocate_next, give_back_next, refuses, none_picked, key_row, count_instance_row, pick_row, pick_next, take_region_row, count_memory_row, put_unknown_row, was_freed, free_unknown_row};
+ghost use Rattle.pool_slots.specs.Cells.{is_taken, unmapped};
+ghost use Rattle.pool_slots.specs.Queues.{IsSpareOf};
+ghost use Rattle.pool_alloc.specs.CanStep.{CanTakeRegion, CanFreeOne};
+ghost use Rattle.pool_alloc.specs.Rows.{key_row, count_instance_row, pick_on, in_shard, take_queue_on, in_queue, take_region_on, in_cell, count_memory_row, put_unknown_on, free_unknown_on};
+ghost use Rattle.pool_alloc.specs.Steps.{nth_shard, nth_cell, nth_queue, shard_of, local_of, shard_tried, queue_tried};
+ghost use Rattle.pool_alloc.specs.Turns.{After, stepped};
 
-use crate::frame::{AfterFree, Ending, Frame, Grant, Outcome, Phase};
-use crate::frame_calls::next_return;
-use crate::lease::{InstanceLease, MemoryLease};
-use crate::pool_core::PoolCore;
-use crate::reserved::ReservedList;
+use crate::frame::{Frame, Outcome, Phase};
+use crate::freeing::shard_of;
+use crate::lease::MemoryLease;
+use crate::pool_core::{PoolCore, Settings};
 use pool_images::MemoryImageSlot;
-use pool_index::SlotId;
 use pool_pages::Pages;
-use pool_slots::{AllocError, ConcurrencyKind, ImageSlot, PoolConcurrencyLimitError};
+use pool_slots::{AllocError, ConcurrencyKind, PoolConcurrencyLimitError};
 use std::alloc::Global;
-use std::mem;
+
+// The shard that is so many after the home shard.
+fn shard_tried<P: Pages>(settings: &Settings, frame: &Frame<P>, tried: usize) -> usize
+    requires inside { tried < settings.now.shards }
+    requires small { settings.now.shards < 2 ^ 32 }
+    ensures value { result ≡ shard_tried tried settings.now frame.now }
+    ensures inside { result < settings.now.shards }
+{
+    (frame.home as usize + tried) % settings.shards
+}
+
+// The queue that is so many after the home queue.
+pub(crate) fn queue_tried<P: Pages>(settings: &Settings, frame: &Frame<P>, queues: usize) -> usize
+    requires some { 0 < settings.now.queues }
+    requires inside { queues ≤ settings.now.queues }
+    requires small { settings.now.queues < 2 ^ 32 }
+    ensures value { result ≡ queue_tried queues settings.now frame.now }
+    ensures inside { result < settings.now.queues }
+{
+    (frame.home as usize + queues) % settings.queues
+}
 
 impl<P: Pages> PoolCore<P> {
-    // The next memory of the instance is picked a slot for, or the instance is granted.
-    fn allocate_next(&mut self, alloc: Global, frame: &mut Frame<P>) -> Option<Outcome<P>>
-        ensures { ◌≡◌ {A = After P} (record { core = self.new; frame = frame.new; outcome = result }) (allocate_next self.old frame.old) }
-    {
-        if frame.granted.len() < frame.memories_wanted() {
-            frame.phase = Phase::Pick(0, 0);
-            return None;
-        }
-        let memories = mem::replace(&mut frame.granted, ReservedList::none(alloc));
-        frame.phase = Phase::Idle;
-        frame.asked = None;
-        Some(Outcome::Granted(Grant::Instance(InstanceLease { memories })))
-    }
-
-    // What else there is to give back, or the end of the call.
-    pub(crate) fn give_back_next(&mut self, frame: &mut Frame<P>) -> Option<Outcome<P>>
-        ensures { ◌≡◌ {A = After P} (record { core = self.new; frame = frame.new; outcome = result }) (give_back_next self.old frame.old) }
-    {
-        frame.phase = next_return(&frame.returning);
-        None
-    }
-
-    // What was granted so far is given back, and the call is refused.
-    fn refuse(
-        &mut self,
-        alloc: Global,
-        frame: &mut Frame<P>,
-        error: AllocError,
-    ) -> Option<Outcome<P>>
-        ensures { ◌≡◌ {A = After P} (record { core = self.new; frame = frame.new; outcome = result }) (refuses self.old frame.old error) }
-    {
-        frame.returning = mem::replace(&mut frame.granted, ReservedList::none(alloc));
-        frame.ending = Ending::Refused(error);
-        self.give_back_next(frame)
-    }
-
-    // No shard had a slot: the next queue is taken, or the memory is refused after the last.
-    pub(crate) fn none_picked(
-        &mut self,
-        alloc: Global,
-        frame: &mut Frame<P>,
-        queues: usize,
-    ) -> Option<Outcome<P>>
-        ensures { ◌≡◌ {A = After P} (record { core = self.new; frame = frame.new; outcome = result }) (none_picked queues self.old frame.old) }
-    {
-        if queues < self.queues.len() {
-            frame.phase = Phase::TakeQueue(queues);
-            return None;
-        }
-        let error = AllocError::Limit(PoolConcurrencyLimitError {
-            limit: self.cells.len(),
-            kind: ConcurrencyKind::MemoryStripe(frame.stripe),
-        });
-        self.refuse(alloc, frame, error)
-    }
-
     // Draws a number from the key counter: it gives the party its stripe.
     pub(crate) fn draw_key(&mut self, frame: &mut Frame<P>) -> Option<Outcome<P>>
         requires { 0 < self.old.settings.stripes }
-        ensures { ◌≡◌ {A = After P} (record { core = self.new; frame = frame.new; outcome = result }) (key_row self.old frame.old) }
+        ensures { ◌≡◌ {A = After P} (record { core = self.new; frame = frame.new; outcome = result }) (stepped (key_row self.old frame.old)) }
     {
         let drawn = self.counters.key;
         self.counters.key = drawn.wrapping_add(1);
@@ -85,69 +53,61 @@ impl<P: Pages> PoolCore<P> {
         Some(Outcome::Key)
     }
 
+    // Counts the instance, also where there are too many.
     pub(crate) fn count_instance(
         &mut self,
         alloc: Global,
         frame: &mut Frame<P>,
     ) -> Option<Outcome<P>>
         requires { self.old.counters.core_instances + 1 < 2 ^ 64 }
-        ensures { ◌≡◌ {A = After P} (record { core = self.new; frame = frame.new; outcome = result }) (count_instance_row self.old frame.old) }
+        ensures { ◌≡◌ {A = After P} (record { core = self.new; frame = frame.new; outcome = result }) (stepped (count_instance_row self.old frame.old)) }
     {
         let count = self.counters.core_instances;
         let limit = self.settings.max_core_instances;
         self.counters.core_instances = count + 1;
         if count < limit {
-            return self.allocate_next(alloc, frame);
+            return frame.next(alloc, &self.settings);
         }
-        let error = AllocError::Limit(PoolConcurrencyLimitError {
+        frame.fail(AllocError::Limit(PoolConcurrencyLimitError {
             limit: limit as usize,
             kind: ConcurrencyKind::CoreInstances,
-        });
-        self.refuse(alloc, frame, error)
+        }));
+        frame.next(alloc, &self.settings)
     }
 
     // Picks a slot from the shard that is so many after the home shard.
-    pub(crate) fn pick(
-        &mut self,
-        alloc: Global,
-        frame: &mut Frame<P>,
-        queues: usize,
-        tried: usize,
-    ) -> Option<Outcome<P>>
-        requires shards { tried < length self.old.shards }
-        requires few { length frame.old.granted.items < 2 ^ 32 }
-        ensures { ◌≡◌ {A = After P} (record { core = self.new; frame = frame.new; outcome = result }) (pick_row queues tried self.old frame.old) }
+    pub(crate) fn pick(&mut self, frame: &mut Frame<P>, tried: usize) -> Option<Outcome<P>>
+        requires tried { tried < self.old.settings.shards }
+        requires small { self.old.settings.shards < 2 ^ 32 }
+        requires shards { length self.old.shards ≡ self.old.settings.shards }
+        requires few { length frame.old.objects.items < 2 ^ 32 }
+        ensures { ◌≡◌ {A = After P} (record { core = self.new; frame = frame.new; outcome = result }) (stepped (in_shard (shard_tried tried self.old.settings frame.old) self.old (pick_on self.old.settings tried (nth_shard (shard_tried tried self.old.settings frame.old) self.old.shards) frame.old))) }
     {
-        let count = self.shards.len();
-        let shard = (frame.home as usize + tried) % count;
-        match self.shards.pick(shard, frame.wanted()) {
-            Some(slot) => {
-                frame.phase = Phase::TakeRegion(slot);
-                None
-            }
-            None => self.pick_next(alloc, frame, queues, tried),
-        }
+        let place = shard_tried(&self.settings, frame, tried);
+        self.shards.pick(place, &self.settings, frame, tried)
     }
 
-    // The shard had no slot: the next is tried, unless it was the last.
-    fn pick_next(
-        &mut self,
-        alloc: Global,
-        frame: &mut Frame<P>,
-        queues: usize,
-        tried: usize,
-    ) -> Option<Outcome<P>>
-        requires { tried + 1 < 2 ^ 64 }
-        ensures { ◌≡◌ {A = After P} (record { core = self.new; frame = frame.new; outcome = result }) (pick_next queues tried self.old frame.old) }
+    // Takes the whole next queue. It is flushed where it holds something.
+    pub(crate) fn take_queue(&mut self, alloc: Global, frame: &mut Frame<P>) -> Option<Outcome<P>>
+        requires taken { frame.old.queues < self.old.settings.queues }
+        requires small { self.old.settings.queues < 2 ^ 32 }
+        requires queues { length self.old.queues ≡ self.old.settings.queues }
+        requires spare { IsSpareOf (nth_queue (queue_tried frame.old.queues self.old.settings frame.old) self.old.queues) frame.old.local }
+        ensures { ◌≡◌ {A = After P} (record { core = self.new; frame = frame.new; outcome = result }) (stepped (in_queue (queue_tried frame.old.queues self.old.settings frame.old) self.old (take_queue_on (nth_queue (queue_tried frame.old.queues self.old.settings frame.old) self.old.queues) frame.old))) }
     {
-        let next = tried + 1;
-        if next < self.shards.len() {
-            frame.phase = Phase::Pick(queues, next);
-            return None;
-        }
-        self.none_picked(alloc, frame, queues)
+        let place = queue_tried(&self.settings, frame, frame.queues);
+        self.queues.take(place, &self.settings, alloc, frame)
     }
 
+    // Takes the region of a slot out of its cell.
+    pub(crate) fn take_region(&mut self, frame: &mut Frame<P>, slot: u32) -> Option<Outcome<P>>
+        requires { CanTakeRegion slot self.old.cells self.old.settings }
+        ensures { ◌≡◌ {A = After P} (record { core = self.new; frame = frame.new; outcome = result }) (stepped (in_cell slot self.old (take_region_on self.old.settings slot (nth_cell slot self.old.cells) frame.old))) }
+    {
+        self.cells.take_region(slot, &self.settings, frame)
+    }
+
+    // Grants a memory. The search for the next one's slot begins anew.
     pub(crate) fn count_memory(
         &mut self,
         alloc: Global,
@@ -155,12 +115,13 @@ impl<P: Pages> PoolCore<P> {
         lease: MemoryLease<P>,
     ) -> Option<Outcome<P>>
         requires count { self.old.counters.memories + 1 < 2 ^ 64 }
-        requires room { length frame.old.granted.items < frame.old.granted.room }
-        ensures { ◌≡◌ {A = After P} (record { core = self.new; frame = frame.new; outcome = result }) (count_memory_row lease self.old frame.old) }
+        requires room { length frame.old.objects.items < frame.old.objects.room }
+        ensures { ◌≡◌ {A = After P} (record { core = self.new; frame = frame.new; outcome = result }) (stepped (count_memory_row lease self.old frame.old)) }
     {
         self.counters.memories += 1;
-        frame.granted.push(lease);
-        self.allocate_next(alloc, frame)
+        frame.objects.push(lease);
+        frame.queues = 0;
+        frame.next(alloc, &self.settings)
     }
 
     // Puts the region of a slot back. Nothing is known of it.
@@ -169,45 +130,25 @@ impl<P: Pages> PoolCore<P> {
         frame: &mut Frame<P>,
         slot: u32,
         held: MemoryImageSlot<P>,
-        after: AfterFree,
     ) -> Option<Outcome<P>>
         requires { slot < length self.old.cells }
-        ensures { ◌≡◌ {A = After P} (record { core = self.new; frame = frame.new; outcome = result }) (put_unknown_row slot held after self.old frame.old) }
+        ensures { ◌≡◌ {A = After P} (record { core = self.new; frame = frame.new; outcome = result }) (stepped (in_cell slot self.old (put_unknown_on slot held (nth_cell slot self.old.cells) frame.old))) }
     {
-        self.cells.put(slot, ImageSlot::Unknown(held));
-        frame.phase = Phase::FreeUnknown(slot, after);
-        None
+        self.cells.put_unknown(slot, &self.settings, frame, held)
     }
 
+    // Frees a slot of which nothing is known.
     pub(crate) fn free_unknown(
         &mut self,
         alloc: Global,
         frame: &mut Frame<P>,
         slot: u32,
-        after: AfterFree,
     ) -> Option<Outcome<P>>
-        requires shards { 0 < self.old.settings.slots_per_shard }
-        requires inside { shard_of self.old.settings slot < length self.old.shards }
-        requires used { IsSome (use_of (nth_shard (shard_of self.old.settings slot) self.old.shards) (local_of self.old.settings slot).0) }
-        ensures { ◌≡◌ {A = After P} (record { core = self.new; frame = frame.new; outcome = result }) (free_unknown_row slot after self.old frame.old) }
+        requires { CanFreeOne slot self.old.settings self.old.shards }
+        ensures { ◌≡◌ {A = After P} (record { core = self.new; frame = frame.new; outcome = result }) (stepped (in_shard (shard_of self.old.settings slot) self.old (free_unknown_on self.old.settings slot (nth_shard (shard_of self.old.settings slot) self.old.shards) frame.old))) }
     {
-        let slots = self.settings.slots_per_shard;
+        let place = shard_of(&self.settings, slot);
         self.shards
-            .free((slot / slots) as usize, SlotId(slot % slots), 0);
-        self.after_free(alloc, frame, after)
-    }
-
-    fn after_free(
-        &mut self,
-        alloc: Global,
-        frame: &mut Frame<P>,
-        after: AfterFree,
-    ) -> Option<Outcome<P>>
-        ensures { ◌≡◌ {A = After P} (record { core = self.new; frame = frame.new; outcome = result }) (was_freed after self.old frame.old) }
-    {
-        match after {
-            AfterFree::Refuse(error) => self.refuse(alloc, frame, error),
-            AfterFree::ReturnNext => self.give_back_next(frame),
-        }
+            .free_unknown(place, &self.settings, alloc, frame, slot)
     }
 }

@@ -38,29 +38,12 @@ pub enum Outcome<P: Pages> {
     Refused(AllocError),
 }
 
-/// How a call ends once all that it gives back is given back.
+/// What a call is to end with, as far as it went. A step that fails sets it.
 #[derive(Clone, Copy, Debug, PartialEq, Eq)]
 pub enum Ending {
+    Granted,
     Returned,
     Refused(AllocError),
-}
-
-/// What comes after a flush.
-#[derive(Clone, Copy, Debug, PartialEq, Eq)]
-pub enum AfterFlush {
-    /// Another round of picks, after so many queues were gone through.
-    PickAgain(usize),
-    /// What else there is to give back.
-    GiveBackNext,
-}
-
-/// What comes after a slot is freed of which nothing is known.
-#[derive(Clone, Copy, Debug, PartialEq, Eq)]
-pub enum AfterFree {
-    /// The call is refused, which asked for a memory in the slot.
-    Refuse(AllocError),
-    /// What else there is to give back.
-    ReturnNext,
 }
 
 /// A slot that is to be freed, and how many bytes it keeps resident.
@@ -80,10 +63,10 @@ pub enum Phase<P: Pages> {
     /// Test the module, and reserve the list of what it will be granted.
     Validate,
     CountInstance,
-    /// Pick a slot from a shard, so many shards after the home shard, after so many queues were gone through.
-    Pick(usize, usize),
-    /// Take the whole queue that is so many queues after the home queue.
-    TakeQueue(usize),
+    /// Pick a slot from the shard that is so many after the home shard.
+    Pick(usize),
+    /// Take the whole next queue, which is as many after the home queue as the search has taken so far.
+    TakeQueue,
     TakeRegion(u32),
     /// Empty an image slot of which nothing is known.
     Empty(u32, MemoryImageSlot<P>),
@@ -92,18 +75,16 @@ pub enum Phase<P: Pages> {
     MakeMemory(u32, MemoryImageSlot<P>),
     CountMemory(MemoryLease<P>),
     /// Put the region of a slot back, as one of which nothing is known.
-    PutUnknown(u32, MemoryImageSlot<P>, AfterFree),
-    FreeUnknown(u32, AfterFree),
-    UncountMemory,
+    PutUnknown(u32, MemoryImageSlot<P>),
+    FreeUnknown(u32),
+    /// Count a memory that is given back as no grant any more.
+    UncountMemory(MemoryLease<P>),
     Reset(MemoryLease<P>),
     /// Append the local queue to the home queue.
     Merge,
-    /// Decommit the next ranges of one slot.
-    Decommit(AfterFlush),
-    /// Put the next region back.
-    PutRegion(AfterFlush),
-    /// Free the slots of one shard.
-    Free(AfterFlush),
+    /// The next part of a flush of the local queue: decommit the next ranges of one slot; where there are none, put the
+    /// next region back; where there is none, free the slots of one shard.
+    Flush,
     UncountInstance,
 }
 
@@ -116,11 +97,12 @@ pub struct Frame<P: Pages> {
     pub stripe: u32,
     /// The module of which an instance is asked for.
     pub asked: Option<ModuleCall>,
-    /// The memories that were granted to it so far, in order.
-    pub granted: ReservedList<MemoryLease<P>>,
-    /// The memories that are still to be given back, in order.
-    pub returning: ReservedList<MemoryLease<P>>,
+    /// What the call is to end with.
     pub ending: Ending,
+    /// The memories that were granted so far, in order, or those that are still to be given back: the ending says which.
+    pub objects: ReservedList<MemoryLease<P>>,
+    /// How many queues the search for a slot has taken.
+    pub queues: usize,
     /// The local queue. It is empty but while memories are given back or queues flushed.
     pub local: DecommitQueue<P>,
     /// The slots whose regions are back in their cells, and which aren't free yet.

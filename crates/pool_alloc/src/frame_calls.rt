@@ -1,14 +1,13 @@
-ghost use Rattle.std.specs.Prelude.{◌≡◌, ◌<◌, ◌^◌, ◌==◌, length, if◌then◌else◌};
+ghost use Rattle.std.specs.Prelude.{◌≡◌, ◌<◌, ◌^◌, length};
 ghost use Rattle.pool_pages.specs.MakerTold.{MakerTold};
 ghost use Rattle.pool_alloc.specs.Calls.{IsIdle, MayBegin, begun_call, gives_back};
 ghost use Rattle.pool_alloc.specs.Sound.{IsFrame};
-ghost use Rattle.pool_alloc.specs.declared.pool_core.PoolCore.{PoolCore};
+ghost use Rattle.pool_alloc.specs.declared.pool_core.Settings.{Settings};
 ghost use Rattle.pool_alloc.specs.Sums.{calls_in_frame, calls_in_phase};
 ghost use Rattle.pool_alloc.specs.Steps.{memories_wanted, wanted};
 
 use crate::frame::{Call, Ending, Frame, Grant, Phase};
-use crate::lease::{MemoryLease, calls_of};
-use crate::reserved::ReservedList;
+use crate::lease::calls_of;
 use pool_index::MemoryInModule;
 use pool_pages::{DefinedMemoryIndex, PageCalls, Pages};
 
@@ -17,12 +16,14 @@ impl<P: Pages> Frame<P> {
     pub fn begin(&mut self, call: Call<P>)
         requires { IsIdle self.old }
         ensures value { self.new ≡ begun_call call self.old }
-        ensures sound { (maker : MakerTold) (core : PoolCore P) → IsFrame maker core self.old → MayBegin maker core.settings call self.old → IsFrame maker core self.new }
+        ensures sound { (maker : MakerTold) (s : Settings) → IsFrame maker s self.old → MayBegin maker s call self.old → IsFrame maker s self.new }
     {
         match call {
             Call::Key => self.phase = Phase::Key,
             Call::Module(module) => {
                 self.asked = Some(module);
+                self.ending = Ending::Granted;
+                self.queues = 0;
                 self.phase = Phase::Validate;
             }
             Call::GiveBack(grant) => self.give_back(grant),
@@ -35,9 +36,9 @@ impl<P: Pages> Frame<P> {
     {
         match grant {
             Grant::Instance(lease) => {
-                self.returning = lease.memories;
+                self.objects = lease.memories;
                 self.ending = Ending::Returned;
-                self.phase = next_return(&self.returning);
+                let _none = self.return_next();
             }
         }
     }
@@ -46,9 +47,8 @@ impl<P: Pages> Frame<P> {
     pub fn page_calls(&self) -> PageCalls
         ensures { result ≡ calls_in_frame self.now }
     {
-        let leased = calls_of(&self.granted).plus(calls_of(&self.returning));
         let waiting = self.local.page_calls().plus(self.phase.page_calls());
-        leased.plus(waiting)
+        calls_of(&self.objects).plus(waiting)
     }
 
     // How many memories the module has that is asked for.
@@ -63,25 +63,14 @@ impl<P: Pages> Frame<P> {
 
     // The memory that is allocated, where slots may be affine to it.
     pub(crate) fn wanted(&self) -> Option<MemoryInModule>
-        requires { length self.now.granted.items < 2 ^ 32 }
+        requires { length self.now.objects.items < 2 ^ 32 }
         ensures { result ≡ wanted self.now }
     {
-        let index = DefinedMemoryIndex(self.granted.len() as u32);
+        let index = DefinedMemoryIndex(self.objects.len() as u32);
         match &self.asked {
             None => None,
             Some(call) => Some(MemoryInModule(call.id, index)),
         }
-    }
-}
-
-// What there is to give back next: a memory, or else the instance.
-pub(crate) fn next_return<P: Pages>(returning: &ReservedList<MemoryLease<P>>) -> Phase<P>
-    ensures { result ≡ (if length returning.now.items == 0 then Phase.UncountInstance else Phase.UncountMemory) }
-{
-    if returning.is_empty() {
-        Phase::UncountInstance
-    } else {
-        Phase::UncountMemory
     }
 }
 
@@ -94,8 +83,9 @@ impl<P: Pages> Phase<P> {
             Phase::Empty(_, held) => held.region().calls(),
             Phase::Instantiate(_, held) => held.region().calls(),
             Phase::MakeMemory(_, held) => held.region().calls(),
-            Phase::PutUnknown(_, held, _) => held.region().calls(),
+            Phase::PutUnknown(_, held) => held.region().calls(),
             Phase::CountMemory(lease) => lease.page_calls(),
+            Phase::UncountMemory(lease) => lease.page_calls(),
             Phase::Reset(lease) => lease.page_calls(),
             _ => PageCalls::none(),
         }

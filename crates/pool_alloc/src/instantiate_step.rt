@@ -3,11 +3,14 @@ ghost use Rattle.std.specs.Arc.{arc_value};
 ghost use Rattle.pool_pages.specs.MemoryTypes.{minimum_byte_size};
 ghost use Rattle.pool_images.specs.Slots.{Slot, IsClean, FitsInto, hides};
 ghost use Rattle.pool_alloc.specs.Answers.{InstantiatesAs, InstantiatesFor, FollowsPlan, FollowsPlanFor};
-ghost use Rattle.pool_alloc.specs.Steps.{After, memories_wanted, images_wanted, image_wanted, instantiate_row};
+ghost use Rattle.pool_alloc.specs.Rows.{instantiate_row};
+ghost use Rattle.pool_alloc.specs.Steps.{memories_wanted, images_wanted, image_wanted};
+ghost use Rattle.pool_alloc.specs.Turns.{After, stepped};
 ghost use Rattle.pool_alloc.specs.CanStep.{HasNext, CanBegin};
 ghost use Rattle.pool_alloc.specs.Modules.{IfAllocated};
+ghost use Rattle.pool_alloc.specs.declared.pool_core.PoolCore.{PoolCore};
 
-use crate::frame::{AfterFree, Frame, ModuleCall, Outcome, Phase};
+use crate::frame::{Frame, ModuleCall, Outcome, Phase};
 use crate::pool_core::PoolCore;
 use pool_images::{MemoryImage, MemoryImageSlot};
 use pool_pages::{DefinedMemoryIndex, MemoryTunables, MemoryType, Pages};
@@ -36,26 +39,25 @@ impl<P: Pages> PoolCore<P> {
         slot: u32,
         held: MemoryImageSlot<P>,
     ) -> Option<Outcome<P>>
-        requires next { HasNext frame.old.asked (length frame.old.granted.items) }
+        requires next { HasNext frame.old.asked (length frame.old.objects.items) }
         requires clean { IsClean held }
         requires can { IfAllocated frame.old (CanBegin held (image_wanted frame.old)) }
-        ensures { (fault : Bool) × (after : Slot) × IfAllocated frame.old (λ decl. InstantiatesFor self.old.settings decl fault (image_wanted frame.old) held after) × IfAllocated frame.old (λ decl. FollowsPlanFor self.old.settings decl fault (image_wanted frame.old) held after) × (◌≡◌ {A = After P} (record { core = self.new; frame = frame.new; outcome = result }) (instantiate_row fault after slot self.old frame.old)) }
+        ensures { (fault : Bool) × (after : Slot) × IfAllocated frame.old (λ decl. InstantiatesFor self.old.settings decl fault (image_wanted frame.old) held after) × IfAllocated frame.old (λ decl. FollowsPlanFor self.old.settings decl fault (image_wanted frame.old) held after) × (◌≡◌ {A = After P} (record { core = self.new; frame = frame.new; outcome = result }) (stepped (instantiate_row fault after slot self.old frame.old))) }
     {
         let mut held = held;
         let fault = self.begin(frame, &mut held);
-        frame.phase = after_begin(fault, slot, held);
-        None
+        begun(frame, fault, slot, held)
     }
 
     // Whether a page call failed.
     fn begin(&self, frame: &Frame<P>, held: &mut MemoryImageSlot<P>) -> bool
-        requires next { HasNext frame.now.asked (length frame.now.granted.items) }
+        requires next { HasNext frame.now.asked (length frame.now.objects.items) }
         requires clean { IsClean held.old }
         requires can { IfAllocated frame.now (CanBegin held.old (image_wanted frame.now)) }
         ensures begun { IfAllocated frame.now (λ decl. InstantiatesFor self.now.settings decl result (image_wanted frame.now) held.old held.new) }
         ensures planned { IfAllocated frame.now (λ decl. FollowsPlanFor self.now.settings decl result (image_wanted frame.now) held.old held.new) }
     {
-        let memory = frame.granted.len();
+        let memory = frame.objects.len();
         match &frame.asked {
             None => unreachable!(),
             Some(call) => {
@@ -89,14 +91,22 @@ fn begin_memory<P: Pages>(
     fault
 }
 
-fn after_begin<P: Pages>(fault: bool, slot: u32, held: MemoryImageSlot<P>) -> Phase<P>
-    ensures { result ≡ (if fault then Phase.PutUnknown slot held (AfterFree.Refuse AllocError.PageFault) else Phase.MakeMemory slot held) }
+// What comes after an instantiation.
+fn begun<P: Pages>(
+    frame: &mut Frame<P>,
+    fault: bool,
+    slot: u32,
+    held: MemoryImageSlot<P>,
+) -> Option<Outcome<P>>
+    ensures { (c : PoolCore P) → ◌≡◌ {A = After P} (record { core = c; frame = frame.new; outcome = result }) (stepped (instantiate_row fault held slot c frame.old)) }
 {
     if fault {
-        Phase::PutUnknown(slot, held, AfterFree::Refuse(AllocError::PageFault))
+        frame.fail(AllocError::PageFault);
+        frame.phase = Phase::PutUnknown(slot, held);
     } else {
-        Phase::MakeMemory(slot, held)
+        frame.phase = Phase::MakeMemory(slot, held);
     }
+    None
 }
 
 fn minimum_of(ty: &MemoryType) -> usize

@@ -2,9 +2,11 @@
 #![tactic(auto)]
 
 mod allocate_steps;
+mod cell_steps;
 mod flush_steps;
 mod frame;
 mod frame_calls;
+mod frame_turns;
 mod freeing;
 mod holders;
 mod instantiate_step;
@@ -14,9 +16,11 @@ mod making;
 mod metrics;
 mod parts;
 mod pool_core;
+mod queue_steps;
 mod region_steps;
 mod reserved;
 mod reset_step;
+mod shard_steps;
 mod step;
 mod validate_step;
 

@@ -11,9 +11,11 @@ ghost use Rattle.pool_alloc.specs.Answers.{AsksForMemory};
 ghost use Rattle.pool_alloc.specs.CanStep.{HasNext, CanMake};
 ghost use Rattle.pool_alloc.specs.Modules.{IfAllocated};
 ghost use Rattle.pool_alloc.specs.Own.{refusal_of};
-ghost use Rattle.pool_alloc.specs.Steps.{After, phase_made, make_memory_row};
+ghost use Rattle.pool_alloc.specs.Rows.{made_by, make_memory_row};
+ghost use Rattle.pool_alloc.specs.Turns.{After, stepped};
+ghost use Rattle.pool_alloc.specs.declared.pool_core.PoolCore.{PoolCore};
 
-use crate::frame::{AfterFree, Frame, Outcome, Phase};
+use crate::frame::{Frame, Outcome, Phase};
 use crate::lease::MemoryLease;
 use crate::pool_core::{PoolCore, Settings};
 use pool_images::MemoryImageSlot;
@@ -34,13 +36,12 @@ impl<P: Pages> PoolCore<P> {
         held: MemoryImageSlot<P>,
         limiter: &mut L,
     ) -> Option<Outcome<P>>
-        requires next { HasNext frame.old.asked (length frame.old.granted.items) }
+        requires next { HasNext frame.old.asked (length frame.old.objects.items) }
         requires can { IfAllocated frame.old (CanMake self.old.settings held) }
-        ensures { (answer : Result Bool LimiterError) × IfAllocated frame.old (AsksForMemory answer (L.told limiter.old) (L.told limiter.new)) × IfAllocated frame.old (λ decl. Exchanged L.leads (may_grow (minimum_question decl.ty) answer ∷ []) limiter.old limiter.new) × (◌≡◌ {A = After P} (record { core = self.new; frame = frame.new; outcome = result }) (make_memory_row answer slot held self.old frame.old)) }
+        ensures { (answer : Result Bool LimiterError) × IfAllocated frame.old (AsksForMemory answer (L.told limiter.old) (L.told limiter.new)) × IfAllocated frame.old (λ decl. Exchanged L.leads (may_grow (minimum_question decl.ty) answer ∷ []) limiter.old limiter.new) × (◌≡◌ {A = After P} (record { core = self.new; frame = frame.new; outcome = result }) (stepped (make_memory_row answer slot held self.old frame.old))) }
     {
         let making = self.make(frame, held, limiter);
-        frame.phase = phase_made(slot, making);
-        None
+        was_made(frame, slot, making)
     }
 
     // The memory that is allocated.
@@ -50,13 +51,13 @@ impl<P: Pages> PoolCore<P> {
         held: MemoryImageSlot<P>,
         limiter: &mut L,
     ) -> Making<P>
-        requires next { HasNext frame.now.asked (length frame.now.granted.items) }
+        requires next { HasNext frame.now.asked (length frame.now.objects.items) }
         requires can { IfAllocated frame.now (CanMake self.now.settings held) }
         ensures asked { IfAllocated frame.now (AsksForMemory (static_limiter_answer result) (L.told limiter.old) (L.told limiter.new)) }
         ensures exchanged { IfAllocated frame.now (λ decl. Exchanged L.leads (may_grow (minimum_question decl.ty) (static_limiter_answer result) ∷ []) limiter.old limiter.new) }
         ensures value { IfAllocated frame.now (λ decl. result ≡ static_answer (static_limiter_answer result) decl.ty self.now.settings.max_memory_size held) }
     {
-        let memory = frame.granted.len();
+        let memory = frame.objects.len();
         match &frame.asked {
             None => unreachable!(),
             Some(call) => {
@@ -92,16 +93,20 @@ fn make_memory<P: Pages, L: ResourceLimiter>(
 }
 
 // What comes after a making.
-fn phase_made<P: Pages>(slot: u32, making: Making<P>) -> Phase<P>
-    ensures { result ≡ phase_made slot making }
+fn was_made<P: Pages>(frame: &mut Frame<P>, slot: u32, making: Making<P>) -> Option<Outcome<P>>
+    ensures { (c : PoolCore P) → ◌≡◌ {A = After P} (record { core = c; frame = frame.new; outcome = result }) (stepped (made_by slot making c frame.old)) }
 {
-    match making {
+    frame.phase = match making {
         Ok(memory) => Phase::CountMemory(MemoryLease {
             index: MemoryAllocationIndex(slot),
             memory,
         }),
-        Err((held, error)) => Phase::PutUnknown(slot, held, AfterFree::Refuse(refusal_of(error))),
-    }
+        Err((held, error)) => {
+            frame.fail(refusal_of(error));
+            Phase::PutUnknown(slot, held)
+        }
+    };
+    None
 }
 
 // Why an allocation is refused whose memory isn't made.

@@ -45,6 +45,7 @@ impl<P: Pages> PoolCore<P> {
         ensures rules { OnOk result (first_broken_rule config.now tunables.now page shards offered.now ≡ None) }
         ensures refused { IfErr result (IsRefusedFor (first_broken_rule config.now tunables.now page shards offered.now)) }
         ensures maker { M.told maker.new ≡ record (M.told maker.old) { behind = (M.told maker.new).behind; faults = (M.told maker.new).faults } }
+        ensures borrows { M.borrows maker.new ≡ M.borrows maker.old }
         ensures faults { MatchResult result (λ _. (M.told maker.new).faults ≡ (M.told maker.old).faults) (CountsFault (M.told maker.old).faults (M.told maker.new).faults) }
         ensures listed { IfOk result (λ _. makes_listed_regions (M.told maker.old).listed config.now.limits.total_memories ≡ false) }
         ensures behind { MatchResult result (λ _. (M.told maker.new).behind ≡ (M.told maker.old).behind) (NeedsFault (makes_listed_regions (M.told maker.old).listed config.now.limits.total_memories) (M.told maker.old).behind (M.told maker.new).behind) }
@@ -72,6 +73,7 @@ impl<P: Pages> PoolCore<P> {
         ensures core { IfOk result (IsCore (M.told maker.old)) }
         ensures untouched { IfOk result IsUntouched }
         ensures maker { M.told maker.new ≡ record (M.told maker.old) { behind = (M.told maker.new).behind; faults = (M.told maker.new).faults } }
+        ensures borrows { M.borrows maker.new ≡ M.borrows maker.old }
         ensures faults { MatchResult result (λ _. (M.told maker.new).faults ≡ (M.told maker.old).faults) (RaisesPoolFaults (M.told maker.old).faults (M.told maker.new).faults) }
         ensures listed { IfOk result (λ _. makes_listed_regions (M.told maker.old).listed config.now.limits.total_memories ≡ false) }
         ensures behind { MatchResult result (λ _. (M.told maker.new).behind ≡ (M.told maker.old).behind) (RaisesPoolBehind (makes_listed_regions (M.told maker.old).listed config.now.limits.total_memories) (M.told maker.old).behind (M.told maker.new).behind) }
@@ -101,7 +103,7 @@ impl<P: Pages> PoolCore<P> {
     pub fn frame(&self, alloc: Global, home: u32) -> Result<Frame<P>, AllocError>
         requires { self.now.settings.batch ≤ 4096 }
         ensures made { IfOk result (λ f. f ≡ frame_made home self.now.settings) }
-        ensures sound { IfOk result (λ f. (maker : MakerTold) → IsCore maker self.now → IsFrame maker self.now f) }
+        ensures sound { IfOk result (λ f. (maker : MakerTold) → IsCore maker self.now → IsFrame maker self.now.settings f) }
     {
         let room = 2 * self.settings.batch;
         let local = DecommitQueue::new(alloc, room, room)?;
@@ -110,9 +112,9 @@ impl<P: Pages> PoolCore<P> {
             home,
             stripe: 0,
             asked: None,
-            granted: ReservedList::none(alloc),
-            returning: ReservedList::none(alloc),
             ending: Ending::Returned,
+            objects: ReservedList::none(alloc),
+            queues: 0,
             local,
             freed,
             phase: Phase::Idle,
@@ -143,6 +145,9 @@ fn settings_of(
         keep_resident: HostAlignedByteCount::rounded_up_unchecked(page, keep),
         batch: config.decommit_batch_size,
         stripes: 1,
+        slots: limits.total_memories as usize,
+        shards: 1,
+        queues: 1,
         slots_per_shard: limits.total_memories.max(1),
         max_core_instances: limits.total_core_instances as u64,
         max_memories_per_module: limits.max_memories_per_module,

@@ -1,17 +1,25 @@
-ghost use Rattle.std.specs.Prelude.{◌≡◌, ◌+◌, ◌<◌, ◌≤◌, ◌^◌, ◌-◌, false, true, length, min, nat_le, slice_set, slice_index_or, sum_by, IsSome, None, Some, option_map, if◌then◌else◌};
-ghost use Rattle.pool_index.specs.Shard.{IsShard, IsSameShard, use_of, pick_answer, after_pick, after_free, slot_number, resident_bytes};
-ghost use Rattle.pool_slots.specs.Cells.{taken, calls_of_all, IsCleanOnceUsed};
-ghost use Rattle.pool_slots.specs.CellOf.{cell_of};
-ghost use Rattle.pool_slots.specs.Queues.{QueueState, HasOwners, AreApart, IsSpareOf, after_append, after_take, taken_into, drained};
+ghost use Rattle.std.specs.Prelude.{◌≡◌, ◌+◌, ◌<◌, ◌≤◌, ◌^◌, false, List, All, length, slice_set, IsSome, None};
+ghost use Rattle.pool_pages.specs.Count.{count};
+ghost use Rattle.pool_images.specs.Slots.{IsFresh};
+ghost use Rattle.pool_index.specs.Shard.{ShardState, use_of};
+ghost use Rattle.pool_slots.specs.Cells.{Cell, is_taken, unmapped, calls_of_all};
+ghost use Rattle.pool_slots.specs.Queues.{QueueState, IsSpareOf, IsSettled};
 ghost use Rattle.pool_alloc.specs.CanStep.{CanMerge};
+ghost use Rattle.pool_alloc.specs.Freeing.{AreUsedInTurn};
+ghost use Rattle.pool_alloc.specs.Rows.{pick_on, free_unknown_on, free_on, take_region_on, put_unknown_on, region_put, take_queue_on, merge_on};
 ghost use Rattle.pool_alloc.specs.Sums.{warm_slots, resident_sum, calls_of_queues};
-ghost use Rattle.pool_alloc.specs.Steps.{nth_shard, nth_cell, nth_queue};
+ghost use Rattle.pool_alloc.specs.Steps.{nth_shard, nth_cell, nth_queue, local_of, freed_of};
+ghost use Rattle.pool_alloc.specs.Turns.{PartAfter, part_after, lifted};
 
-use pool_index::{MemoryInModule, Shard, SlotId, Steps};
+use crate::frame::{Frame, Outcome};
+use crate::pool_core::Settings;
+use crate::{cell_steps, queue_steps, shard_steps};
+use pool_images::MemoryImageSlot;
+use pool_index::Shard;
 use pool_pages::{PageCalls, Pages};
-use pool_slots::{DecommitQueue, ImageSlot, MemoryCell};
-use std::marker::{Brand, Model};
-use std::sync::ledger::{Blank, Ledger};
+use pool_slots::{DecommitQueue, MemoryCell, MemoryItem};
+use std::alloc::Global;
+use std::marker::Model;
 
 /// The shards of the pool's memory slots.
 #[derive(Drop)]
@@ -42,29 +50,53 @@ impl Shards {
         self.list.len()
     }
 
-    /// Picks a free slot of a shard, and gives its number in the pool. Takes no memory.
-    pub fn pick(&mut self, shard: usize, want: Option<MemoryInModule>) -> Option<u32>
-        requires { shard < length self.old }
-        ensures answer { result ≡ option_map (λ p. slot_number (nth_shard shard self.old) p.0.0) (pick_answer want (nth_shard shard self.old)) }
-        ensures after { self.new ≡ slice_set self.old shard (after_pick want (nth_shard shard self.old)) }
-        ensures same { IsSameShard (nth_shard shard self.old) (after_pick want (nth_shard shard self.old)) }
-        ensures sound { IsShard (after_pick want (nth_shard shard self.old)) }
+    // The steps that change one shard, by its place.
+
+    pub(crate) fn pick<P: Pages>(
+        &mut self,
+        place: usize,
+        settings: &Settings,
+        frame: &mut Frame<P>,
+        tried: usize,
+    ) -> Option<Outcome<P>>
+        requires inside { place < length self.old }
+        requires tried { tried + 1 < 2 ^ 64 }
+        requires few { length frame.old.objects.items < 2 ^ 32 }
+        ensures { ◌≡◌ {A = PartAfter (List ShardState) P} (record { part = self.new; frame = frame.new; outcome = result }) (part_after settings.now (lifted (slice_set self.old place) (pick_on settings.now tried (nth_shard place self.old) frame.old))) }
     {
-        let shard = &mut self.list[shard];
-        pick_of::<Brand>(shard, want, Blank::new(1))
+        shard_steps::pick(&mut self.list[place], settings, frame, tried)
     }
 
-    /// Frees a used slot of a shard, which keeps so many bytes resident. Takes no memory.
-    pub fn free(&mut self, shard: usize, slot: SlotId, bytes: usize)
-        requires inside { shard < length self.old }
-        requires used { IsSome (use_of (nth_shard shard self.old) slot.0) }
-        requires bytes { bytes ≤ 2 ^ 32 }
-        ensures after { self.new ≡ slice_set self.old shard (after_free slot bytes (nth_shard shard self.old)) }
-        ensures same { IsSameShard (nth_shard shard self.old) (after_free slot bytes (nth_shard shard self.old)) }
-        ensures sound { IsShard (after_free slot bytes (nth_shard shard self.old)) }
+    pub(crate) fn free_unknown<P: Pages>(
+        &mut self,
+        place: usize,
+        settings: &Settings,
+        alloc: Global,
+        frame: &mut Frame<P>,
+        slot: u32,
+    ) -> Option<Outcome<P>>
+        requires inside { place < length self.old }
+        requires slots { 0 < settings.now.slots_per_shard }
+        requires used { IsSome (use_of (nth_shard place self.old) (local_of settings.now slot).0) }
+        ensures { ◌≡◌ {A = PartAfter (List ShardState) P} (record { part = self.new; frame = frame.new; outcome = result }) (part_after settings.now (lifted (slice_set self.old place) (free_unknown_on settings.now slot (nth_shard place self.old) frame.old))) }
     {
-        let shard = &mut self.list[shard];
-        free_of::<Brand>(shard, slot, bytes, Blank::new(1));
+        shard_steps::free_unknown(&mut self.list[place], settings, alloc, frame, slot)
+    }
+
+    pub(crate) fn free<P: Pages>(
+        &mut self,
+        place: usize,
+        settings: &Settings,
+        alloc: Global,
+        frame: &mut Frame<P>,
+    ) -> Option<Outcome<P>>
+        requires inside { place < length self.old }
+        requires slots { 0 < settings.now.slots_per_shard }
+        requires used { AreUsedInTurn settings.now (freed_of settings.now place frame.old.freed.items) (nth_shard place self.old) }
+        requires bytes { All (λ x. x.bytes ≤ 2 ^ 32) frame.old.freed.items }
+        ensures { ◌≡◌ {A = PartAfter (List ShardState) P} (record { part = self.new; frame = frame.new; outcome = result }) (part_after settings.now (lifted (slice_set self.old place) (free_on settings.now place (nth_shard place self.old) frame.old))) }
+    {
+        shard_steps::free(&mut self.list[place], settings, alloc, frame, place)
     }
 
     /// How many slots are warm. Stands still at the end of its type.
@@ -88,38 +120,6 @@ impl Shards {
         }
         bytes
     }
-}
-
-// Picks a slot of the shard, and gives its number in the pool. The shard's steps are counted nowhere.
-fn pick_of<L: Ledger>(shard: &mut Shard, want: Option<MemoryInModule>, blank: Blank) -> Option<u32>
-    requires name { blank.name ≡ L.name }
-    requires parts { blank.parts ≡ L.parts }
-    requires some { 0 < blank.parts }
-    ensures answer { result ≡ option_map (λ p. slot_number shard.old p.0.0) (pick_answer want shard.old) }
-    ensures after { shard.new ≡ after_pick want shard.old }
-    ensures same { IsSameShard shard.old shard.new }
-    ensures sound { IsShard shard.new }
-{
-    let mut steps = Steps::<L>::new(blank);
-    match shard.pick(want, &mut steps) {
-        Ok((slot, _)) => Some(shard.number(slot)),
-        Err(_) => None,
-    }
-}
-
-// Frees a used slot of the shard, likewise.
-fn free_of<L: Ledger>(shard: &mut Shard, slot: SlotId, bytes: usize, blank: Blank)
-    requires name { blank.name ≡ L.name }
-    requires parts { blank.parts ≡ L.parts }
-    requires some { 0 < blank.parts }
-    requires used { IsSome (use_of shard.old slot.0) }
-    requires bytes { bytes ≤ 2 ^ 32 }
-    ensures after { shard.new ≡ after_free slot bytes shard.old }
-    ensures same { IsSameShard shard.old shard.new }
-    ensures sound { IsShard shard.new }
-{
-    let mut steps = Steps::<L>::new(blank);
-    shard.free(slot, bytes, &mut steps);
 }
 
 /// The cells of the pool's memory slots, by the numbers of the slots.
@@ -150,24 +150,49 @@ impl<P: Pages> Cells<P> {
         self.list.len()
     }
 
-    /// Takes out what a slot's cell holds.
-    pub fn take(&mut self, slot: u32) -> ImageSlot<P>
-        requires { slot < length self.old }
-        ensures value { cell_of result ≡ nth_cell slot self.old }
-        ensures after { self.new ≡ slice_set self.old slot taken }
+    // The steps that change one cell, by its slot.
+
+    pub(crate) fn take_region(
+        &mut self,
+        slot: u32,
+        settings: &Settings,
+        frame: &mut Frame<P>,
+    ) -> Option<Outcome<P>>
+        requires inside { slot < length self.old }
+        requires there { is_taken (nth_cell slot self.old) ≡ false }
+        requires fresh { (region : _) → nth_cell slot self.old ≡ unmapped region → IsFresh (count settings.now.page 0) (count settings.now.page 0) settings.now.max_memory_size None region }
+        ensures { ◌≡◌ {A = PartAfter (List Cell) P} (record { part = self.new; frame = frame.new; outcome = result }) (part_after settings.now (lifted (slice_set self.old slot) (take_region_on settings.now slot (nth_cell slot self.old) frame.old))) }
     {
-        let cell = &mut self.list[slot as usize];
-        cell.take()
+        cell_steps::take_region(&mut self.list[slot as usize], settings, frame, slot)
     }
 
-    /// Puts something into a slot's cell, in place of what it holds.
-    pub fn put(&mut self, slot: u32, held: ImageSlot<P>)
+    pub(crate) fn put_unknown(
+        &mut self,
+        slot: u32,
+        settings: &Settings,
+        frame: &mut Frame<P>,
+        held: MemoryImageSlot<P>,
+    ) -> Option<Outcome<P>>
         requires inside { slot < length self.old }
-        requires clean { IsCleanOnceUsed (cell_of held) }
-        ensures { self.new ≡ slice_set self.old slot (cell_of held) }
+        ensures { ◌≡◌ {A = PartAfter (List Cell) P} (record { part = self.new; frame = frame.new; outcome = result }) (part_after settings.now (lifted (slice_set self.old slot) (put_unknown_on slot held (nth_cell slot self.old) frame.old))) }
     {
-        let cell = &mut self.list[slot as usize];
-        cell.put(held);
+        cell_steps::put_unknown(&mut self.list[slot as usize], settings, frame, slot, held)
+    }
+
+    pub(crate) fn put_region(
+        &mut self,
+        slot: u32,
+        settings: &Settings,
+        alloc: Global,
+        frame: &mut Frame<P>,
+        item: MemoryItem<P>,
+    ) -> Option<Outcome<P>>
+        requires inside { slot < length self.old }
+        requires settled { IsSettled item }
+        requires room { length frame.old.freed.items < frame.old.freed.room }
+        ensures { ◌≡◌ {A = PartAfter (List Cell) P} (record { part = self.new; frame = frame.new; outcome = result }) (part_after settings.now (lifted (slice_set self.old slot) (region_put item frame.old))) }
+    {
+        cell_steps::put_region(&mut self.list[slot as usize], settings, alloc, frame, item)
     }
 
     /// The calls made so far on the regions that lie in the cells, together.
@@ -211,28 +236,35 @@ impl<P: Pages> Queues<P> {
         self.list.len()
     }
 
-    /// Appends the local queue to a queue. Where there are as many ranges as a batch then, the whole queue is moved into
-    /// the local one, which isn't counted as a take. Answers whether it was.
-    pub fn merge(&mut self, queue: usize, local: &mut DecommitQueue<P>, batch: usize) -> bool
-        requires inside { queue < length self.old }
-        requires can { CanMerge (nth_queue queue self.old) local.old }
-        ensures value { result ≡ nat_le batch (length (after_append (nth_queue queue self.old) local.old).ranges) }
-        ensures after { self.new ≡ slice_set self.old queue (if result then drained (after_append (nth_queue queue self.old) local.old) else after_append (nth_queue queue self.old) local.old) }
-        ensures local { local.new ≡ (if result then taken_into (drained local.old) (after_append (nth_queue queue self.old) local.old) else drained local.old) }
+    // The steps that change one queue, by its place.
+
+    pub(crate) fn take(
+        &mut self,
+        place: usize,
+        settings: &Settings,
+        alloc: Global,
+        frame: &mut Frame<P>,
+    ) -> Option<Outcome<P>>
+        requires inside { place < length self.old }
+        requires spare { IsSpareOf (nth_queue place self.old) frame.old.local }
+        requires taken { frame.old.queues + 1 < 2 ^ 64 }
+        ensures { ◌≡◌ {A = PartAfter (List QueueState) P} (record { part = self.new; frame = frame.new; outcome = result }) (part_after settings.now (lifted (slice_set self.old place) (take_queue_on (nth_queue place self.old) frame.old))) }
     {
-        let queue = &mut self.list[queue];
-        merge_into(queue, local, batch)
+        queue_steps::take_queue(&mut self.list[place], settings, alloc, frame)
     }
 
-    /// Takes a whole queue into the local one.
-    pub fn take(&mut self, queue: usize, local: &mut DecommitQueue<P>)
-        requires inside { queue < length self.old }
-        requires spare { IsSpareOf (nth_queue queue self.old) local.old }
-        ensures after { self.new ≡ slice_set self.old queue (after_take (nth_queue queue self.old)) }
-        ensures local { local.new ≡ taken_into local.old (nth_queue queue self.old) }
+    pub(crate) fn merge(
+        &mut self,
+        place: usize,
+        settings: &Settings,
+        alloc: Global,
+        frame: &mut Frame<P>,
+    ) -> Option<Outcome<P>>
+        requires inside { place < length self.old }
+        requires can { CanMerge (nth_queue place self.old) frame.old.local }
+        ensures { ◌≡◌ {A = PartAfter (List QueueState) P} (record { part = self.new; frame = frame.new; outcome = result }) (part_after settings.now (lifted (slice_set self.old place) (merge_on settings.now (nth_queue place self.old) frame.old))) }
     {
-        let queue = &mut self.list[queue];
-        queue.take(local);
+        queue_steps::merge(&mut self.list[place], settings, alloc, frame)
     }
 
     /// The calls made so far on the regions of the slots in the queues, together.
@@ -245,23 +277,4 @@ impl<P: Pages> Queues<P> {
         }
         calls
     }
-}
-
-// Appends the local queue, and moves the whole queue into it where there are as many ranges as a batch then.
-fn merge_into<P: Pages>(
-    queue: &mut DecommitQueue<P>,
-    local: &mut DecommitQueue<P>,
-    batch: usize,
-) -> bool
-    requires { CanMerge queue.old local.old }
-    ensures value { result ≡ nat_le batch (length (after_append queue.old local.old).ranges) }
-    ensures after { queue.new ≡ (if result then drained (after_append queue.old local.old) else after_append queue.old local.old) }
-    ensures local { local.new ≡ (if result then taken_into (drained local.old) (after_append queue.old local.old) else drained local.old) }
-{
-    queue.append(local);
-    let full = queue.raw_len() >= batch;
-    if full {
-        queue.swap(local);
-    }
-    full
 }

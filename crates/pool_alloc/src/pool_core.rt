@@ -24,6 +24,10 @@ pub struct Settings {
     /// At how many ranges a queue is flushed.
     pub batch: usize,
     pub stripes: u32,
+    /// How many memory slots, shards and queues the pool has.
+    pub slots: usize,
+    pub shards: usize,
+    pub queues: usize,
     /// The slots of each shard but the last, which has the rest.
     pub slots_per_shard: u32,
     pub max_core_instances: u64,

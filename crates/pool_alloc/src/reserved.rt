@@ -1,5 +1,5 @@
 ghost use Rattle.std.specs.Prelude.{◌≡◌, ◌+◌, ◌<◌, ◌≤◌, ◌==◌, [], ◌∷◌, ◌++◌, length, slice_index_or, IfOk};
-ghost use Rattle.pool_alloc.specs.Reserved.{Reserved};
+ghost use Rattle.pool_alloc.specs.Reserved.{Reserved, IsPopped};
 
 use std::alloc::{AllocError, Global};
 use std::collections::VecDeque;
@@ -69,6 +69,13 @@ impl<T> ReservedList<T> {
         ensures { self.new ≡ record self.old { items = self.old.items ++ item ∷ [] } }
     {
         self.items.push_back_reserved(item);
+    }
+
+    /// Takes out the first item, if there is one. The others don't move.
+    pub fn pop_first(&mut self) -> Option<T>
+        ensures { IsPopped self.old result self.new }
+    {
+        self.items.pop_front()
     }
 
     /// Takes out the first item. The others don't move.

@@ -3,11 +3,12 @@ ghost use Rattle.std.specs.Option.{option_copied_mut};
 ghost use Rattle.pool_pages.specs.MakerTold.{MakerTold};
 ghost use Rattle.pool_limits.specs.LimiterTold.{limiter_told, option_left};
 ghost use Rattle.pool_limits.specs.Exchanges.{Exchanged, IfExchanged};
-ghost use Rattle.pool_alloc.specs.Bounds.{HasGroups, steps_left};
+ghost use Rattle.pool_alloc.specs.Bounds.{steps_left};
 ghost use Rattle.pool_alloc.specs.Calls.{IsGrantOf, IfGranted};
 ghost use Rattle.pool_alloc.specs.CanStep.{CanStepAt};
-ghost use Rattle.pool_alloc.specs.Steps.{memories_wanted};
-ghost use Rattle.pool_alloc.specs.Stepping.{CanStep, CanCount, StepsTo, StepsAsking, Conserves, EndsWith, IsSameSize, is_idle};
+ghost use Rattle.pool_alloc.specs.Searches.{IsSearched};
+ghost use Rattle.pool_alloc.specs.Stages.{GoesOn};
+ghost use Rattle.pool_alloc.specs.Stepping.{CanStep, CanCount, StepsTo, StepsAsking, Conserves, EndsWith, IsSameSize, ChangesOnePart, is_idle};
 
 use crate::frame::{Frame, Outcome, Phase};
 use crate::pool_core::PoolCore;
@@ -33,14 +34,16 @@ impl<P: Pages> PoolCore<P> {
         requires counts { CanCount self.old }
         ensures row { StepsTo (limiter_told R.told (option_copied_mut limiter.entry)) (limiter_told R.told (option_left limiter.exit)) self.old frame.old (record { core = self.new; frame = frame.new; outcome = result }) }
         ensures asks { StepsAsking (λ passed. IfExchanged R.leads passed (option_copied_mut limiter.entry) (option_left limiter.exit)) (limiter_told R.told (option_copied_mut limiter.entry)) (limiter_told R.told (option_left limiter.exit)) self.old frame.old (record { core = self.new; frame = frame.new; outcome = result }) }
+        ensures part { ChangesOnePart self.old self.new }
         ensures heaps { heaps.new ≡ heaps.old }
         ensures can { CanStep maker self.new frame.new }
         ensures conserves { Conserves self.old frame.old (record { core = self.new; frame = frame.new; outcome = result }) }
-        ensures granted { IfGranted (IsGrantOf maker self.old.settings (memories_wanted frame.old.asked)) result }
+        ensures granted { IfGranted (IsGrantOf maker self.old.settings frame.old.asked) result }
+        ensures goes { GoesOn maker (limiter_told R.told (option_copied_mut limiter.entry)) (limiter_told R.told (option_left limiter.exit)) self.old frame.old (record { core = self.new; frame = frame.new; outcome = result }) }
+        ensures searched { IsSearched self.old frame.old → IsSearched self.new frame.new }
         ensures ended { EndsWith self.old frame.old (record { core = self.new; frame = frame.new; outcome = result }) }
         ensures size { IsSameSize self.old self.new }
-        ensures groups { HasGroups self.old frame.old → HasGroups self.new frame.new }
-        ensures fewer { HasGroups self.old frame.old → is_idle frame.old.phase ≡ false → steps_left self.new frame.new + 1 ≤ steps_left self.old frame.old }
+        ensures fewer { is_idle frame.old.phase ≡ false → steps_left self.new frame.new + 1 ≤ steps_left self.old frame.old }
     {
         match limiter {
             Some(limiter) => self.advance(alloc, frame, limiter),
@@ -63,21 +66,19 @@ impl<P: Pages> PoolCore<P> {
             Phase::Key => self.draw_key(frame),
             Phase::Validate => self.validate(alloc, frame),
             Phase::CountInstance => self.count_instance(alloc, frame),
-            Phase::Pick(queues, tried) => self.pick(alloc, frame, queues, tried),
-            Phase::TakeQueue(queues) => self.take_queue(alloc, frame, queues),
+            Phase::Pick(tried) => self.pick(frame, tried),
+            Phase::TakeQueue => self.take_queue(alloc, frame),
             Phase::TakeRegion(slot) => self.take_region(frame, slot),
             Phase::Empty(slot, held) => self.empty(frame, slot, held),
             Phase::Instantiate(slot, held) => self.instantiate(frame, slot, held),
             Phase::MakeMemory(slot, held) => self.make_memory(frame, slot, held, limiter),
             Phase::CountMemory(lease) => self.count_memory(alloc, frame, lease),
-            Phase::PutUnknown(slot, held, after) => self.put_unknown(frame, slot, held, after),
-            Phase::FreeUnknown(slot, after) => self.free_unknown(alloc, frame, slot, after),
-            Phase::UncountMemory => self.uncount_memory(frame),
-            Phase::Reset(lease) => self.reset(frame, lease),
-            Phase::Merge => self.merge(frame),
-            Phase::Decommit(after) => self.decommit(frame, after),
-            Phase::PutRegion(after) => self.put_region(frame, after),
-            Phase::Free(after) => self.free(frame, after),
+            Phase::PutUnknown(slot, held) => self.put_unknown(frame, slot, held),
+            Phase::FreeUnknown(slot) => self.free_unknown(alloc, frame, slot),
+            Phase::UncountMemory(lease) => self.uncount_memory(frame, lease),
+            Phase::Reset(lease) => self.reset(alloc, frame, lease),
+            Phase::Merge => self.merge(alloc, frame),
+            Phase::Flush => self.flush(alloc, frame),
             Phase::UncountInstance => self.uncount_instance(frame),
         }
     }

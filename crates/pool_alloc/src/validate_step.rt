@@ -1,10 +1,11 @@
 ghost use Rattle.std.specs.Prelude.{◌≡◌, ◌<◌, ◌%◌, ◌==◌, Bool, Some, None, if◌then◌else◌};
 ghost use Rattle.pool_pages.specs.MemoryTypes.{refused_limits};
 ghost use Rattle.pool_slots.specs.declared.errors.AllocError.TheVariants as refusal;
-ghost use Rattle.pool_alloc.specs.declared.frame.Outcome.TheVariants as answer;
 ghost use Rattle.pool_alloc.specs.CanStep.{CanValidate};
 ghost use Rattle.pool_alloc.specs.Refusals.{first_refused, offset_refused, number_refused, memory_refused, memories_refused};
-ghost use Rattle.pool_alloc.specs.Steps.{After, memories_wanted, ends, validated, validate_row};
+ghost use Rattle.pool_alloc.specs.Rows.{refused_at_once, validated, validate_row};
+ghost use Rattle.pool_alloc.specs.Steps.{memories_wanted};
+ghost use Rattle.pool_alloc.specs.Turns.{After, stepped};
 
 use crate::frame::{Frame, Outcome, Phase};
 use crate::pool_core::{PoolCore, Settings};
@@ -17,36 +18,34 @@ impl<P: Pages> PoolCore<P> {
     // Tests the module, and reserves the list of the memories that are to be granted.
     pub(crate) fn validate(&mut self, alloc: Global, frame: &mut Frame<P>) -> Option<Outcome<P>>
         requires { CanValidate (memories_wanted frame.old.asked) }
-        ensures { (wants : Bool) × (◌≡◌ {A = After P} (record { core = self.new; frame = frame.new; outcome = result }) (validate_row wants self.old frame.old)) }
+        ensures { (wants : Bool) × (◌≡◌ {A = After P} (record { core = self.new; frame = frame.new; outcome = result }) (stepped (validate_row wants self.old frame.old))) }
     {
         match self.module_refused(frame) {
-            Some(rule) => self.refuse_module(frame, rule),
+            Some(rule) => self.refuse_at_once(frame, AllocError::Unsupported(rule)),
             None => self.reserve_grants(alloc, frame),
         }
     }
 
-    fn refuse_module(&mut self, frame: &mut Frame<P>, rule: Unsupported) -> Option<Outcome<P>>
-        ensures { ◌≡◌ {A = After P} (record { core = self.new; frame = frame.new; outcome = result }) (ends self.old frame.old (answer.Refused (refusal.Unsupported rule))) }
+    // The call ends with a refusal before anything is granted.
+    fn refuse_at_once(&mut self, frame: &mut Frame<P>, error: AllocError) -> Option<Outcome<P>>
+        ensures { ◌≡◌ {A = After P} (record { core = self.new; frame = frame.new; outcome = result }) (stepped (refused_at_once error self.old frame.old)) }
     {
+        frame.fail(error);
         frame.phase = Phase::Idle;
         frame.asked = None;
-        Some(Outcome::Refused(AllocError::Unsupported(rule)))
+        Some(Outcome::Refused(error))
     }
 
     fn reserve_grants(&mut self, alloc: Global, frame: &mut Frame<P>) -> Option<Outcome<P>>
-        ensures { (wants : Bool) × (◌≡◌ {A = After P} (record { core = self.new; frame = frame.new; outcome = result }) (validated None wants self.old frame.old)) }
+        ensures { (wants : Bool) × (◌≡◌ {A = After P} (record { core = self.new; frame = frame.new; outcome = result }) (stepped (validated None wants self.old frame.old))) }
     {
         match ReservedList::with_room(alloc, frame.memories_wanted()) {
-            Ok(granted) => {
-                frame.granted = granted;
+            Ok(objects) => {
+                frame.objects = objects;
                 frame.phase = Phase::CountInstance;
                 None
             }
-            Err(_) => {
-                frame.phase = Phase::Idle;
-                frame.asked = None;
-                Some(Outcome::Refused(AllocError::Memory))
-            }
+            Err(_) => self.refuse_at_once(frame, AllocError::Memory),
         }
     }
 

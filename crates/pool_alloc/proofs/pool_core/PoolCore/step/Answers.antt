@@ -1,9 +1,6 @@
 use Rattle.pool_alloc.proofs.Advancing.{without_limiter}
-use Rattle.pool_alloc.proofs.Endings.{step_ends}
-use Rattle.pool_alloc.proofs.Fitting.{step_conserves, step_keeps_size}
-use Rattle.pool_alloc.proofs.Grouping.{step_grouped}
-use Rattle.pool_alloc.proofs.StepBounds.{step_fewer}
-use Rattle.pool_alloc.proofs.Steps.{can_step_at, can_still, step_grants}
+use Rattle.pool_alloc.proofs.OneParts.{step_changes}
+use Rattle.pool_alloc.proofs.Steps.{can_step_at, step_ok, same_size, can_still, step_grants, step_fewer}
 use Rattle.pool_alloc.proofs.pool_core.PoolCore.step.Goals as goal
 
 pub advance-requires-after_bounds : goal.advance-requires-after_bounds
@@ -27,41 +24,53 @@ returns-in-None-clause-asks g c = rw c.in-None.is (without_limiter c.args.self.n
 pub returns-in-Some-clause-can : goal.returns-in-Some-clause-can
 returns-in-Some-clause-can g c = can_still g.maker _ _ c.args.self.now c.args.frame.now _ c.requires.1.1.1.1.1.1.0 (c.advance.ensures.0, c.advance.ensures.1.0)
 
+pub returns-in-None-clause-can : goal.returns-in-None-clause-can
+returns-in-None-clause-can g c = can_still g.maker _ _ c.args.self.now c.args.frame.now _ c.requires.1.1.1.1.1.1.0 (c.advance-in-None.ensures.0, c.advance-in-None.ensures.1.0)
+
 pub returns-in-Some-clause-conserves : goal.returns-in-Some-clause-conserves
-returns-in-Some-clause-conserves g c = step_conserves g.maker _ _ c.args.self.now c.args.frame.now _ c.requires.1.1.1.1.1.1.0 (c.advance.ensures.0, c.advance.ensures.1.0)
+returns-in-Some-clause-conserves g c = (step_ok g.maker _ _ c.args.self.now c.args.frame.now _ c.requires.1.1.1.1.1.1.0 (c.advance.ensures.0, c.advance.ensures.1.0)).conserves
+
+pub returns-in-None-clause-conserves : goal.returns-in-None-clause-conserves
+returns-in-None-clause-conserves g c = (step_ok g.maker _ _ c.args.self.now c.args.frame.now _ c.requires.1.1.1.1.1.1.0 (c.advance-in-None.ensures.0, c.advance-in-None.ensures.1.0)).conserves
 
 pub returns-in-Some-clause-granted : goal.returns-in-Some-clause-granted
 returns-in-Some-clause-granted g c = step_grants g.maker _ _ c.args.self.now c.args.frame.now _ c.requires.1.1.1.1.1.1.0 (c.advance.ensures.0, c.advance.ensures.1.0)
 
-pub returns-in-Some-clause-ended : goal.returns-in-Some-clause-ended
-returns-in-Some-clause-ended g c = step_ends g.maker _ _ c.args.self.now c.args.frame.now _ c.requires.1.1.1.1.1.1.0 (c.advance.ensures.0, c.advance.ensures.1.0)
-
-pub returns-in-Some-clause-size : goal.returns-in-Some-clause-size
-returns-in-Some-clause-size g c = step_keeps_size g.maker _ _ c.args.self.now c.args.frame.now _ c.requires.1.1.1.1.1.1.0 (c.advance.ensures.0, c.advance.ensures.1.0)
-
-pub returns-in-None-clause-can : goal.returns-in-None-clause-can
-returns-in-None-clause-can g c = can_still g.maker _ _ c.args.self.now c.args.frame.now _ c.requires.1.1.1.1.1.1.0 (c.advance-in-None.ensures.0, c.advance-in-None.ensures.1.0)
-
-pub returns-in-None-clause-conserves : goal.returns-in-None-clause-conserves
-returns-in-None-clause-conserves g c = step_conserves g.maker _ _ c.args.self.now c.args.frame.now _ c.requires.1.1.1.1.1.1.0 (c.advance-in-None.ensures.0, c.advance-in-None.ensures.1.0)
-
 pub returns-in-None-clause-granted : goal.returns-in-None-clause-granted
 returns-in-None-clause-granted g c = step_grants g.maker _ _ c.args.self.now c.args.frame.now _ c.requires.1.1.1.1.1.1.0 (c.advance-in-None.ensures.0, c.advance-in-None.ensures.1.0)
 
+pub returns-in-Some-clause-goes : goal.returns-in-Some-clause-goes
+returns-in-Some-clause-goes g c = rw c.in-Some.is (step_ok g.maker _ _ c.args.self.now c.args.frame.now _ c.requires.1.1.1.1.1.1.0 (c.advance.ensures.0, c.advance.ensures.1.0)).goes
+
+pub returns-in-None-clause-goes : goal.returns-in-None-clause-goes
+returns-in-None-clause-goes g c = rw c.in-None.is (step_ok g.maker _ _ c.args.self.now c.args.frame.now _ c.requires.1.1.1.1.1.1.0 (c.advance-in-None.ensures.0, c.advance-in-None.ensures.1.0)).goes
+
+pub returns-in-Some-clause-searched : goal.returns-in-Some-clause-searched
+returns-in-Some-clause-searched g c = (step_ok g.maker _ _ c.args.self.now c.args.frame.now _ c.requires.1.1.1.1.1.1.0 (c.advance.ensures.0, c.advance.ensures.1.0)).searched
+
+pub returns-in-None-clause-searched : goal.returns-in-None-clause-searched
+returns-in-None-clause-searched g c = (step_ok g.maker _ _ c.args.self.now c.args.frame.now _ c.requires.1.1.1.1.1.1.0 (c.advance-in-None.ensures.0, c.advance-in-None.ensures.1.0)).searched
+
+pub returns-in-Some-clause-ended : goal.returns-in-Some-clause-ended
+returns-in-Some-clause-ended g c = (step_ok g.maker _ _ c.args.self.now c.args.frame.now _ c.requires.1.1.1.1.1.1.0 (c.advance.ensures.0, c.advance.ensures.1.0)).ends
+
 pub returns-in-None-clause-ended : goal.returns-in-None-clause-ended
-returns-in-None-clause-ended g c = step_ends g.maker _ _ c.args.self.now c.args.frame.now _ c.requires.1.1.1.1.1.1.0 (c.advance-in-None.ensures.0, c.advance-in-None.ensures.1.0)
+returns-in-None-clause-ended g c = (step_ok g.maker _ _ c.args.self.now c.args.frame.now _ c.requires.1.1.1.1.1.1.0 (c.advance-in-None.ensures.0, c.advance-in-None.ensures.1.0)).ends
+
+pub returns-in-Some-clause-size : goal.returns-in-Some-clause-size
+returns-in-Some-clause-size g c = same_size g.maker _ _ c.args.self.now c.args.frame.now _ c.requires.1.1.1.1.1.1.0 (step_ok g.maker _ _ c.args.self.now c.args.frame.now _ c.requires.1.1.1.1.1.1.0 (c.advance.ensures.0, c.advance.ensures.1.0))
 
 pub returns-in-None-clause-size : goal.returns-in-None-clause-size
-returns-in-None-clause-size g c = step_keeps_size g.maker _ _ c.args.self.now c.args.frame.now _ c.requires.1.1.1.1.1.1.0 (c.advance-in-None.ensures.0, c.advance-in-None.ensures.1.0)
-
-pub returns-in-Some-clause-groups : goal.returns-in-Some-clause-groups
-returns-in-Some-clause-groups g c = λ has. step_grouped g.maker _ _ c.args.self.now c.args.frame.now _ c.requires.1.1.1.1.1.1.0 (c.advance.ensures.0, c.advance.ensures.1.0) has
+returns-in-None-clause-size g c = same_size g.maker _ _ c.args.self.now c.args.frame.now _ c.requires.1.1.1.1.1.1.0 (step_ok g.maker _ _ c.args.self.now c.args.frame.now _ c.requires.1.1.1.1.1.1.0 (c.advance-in-None.ensures.0, c.advance-in-None.ensures.1.0))
 
 pub returns-in-Some-clause-fewer : goal.returns-in-Some-clause-fewer
-returns-in-Some-clause-fewer g c = λ has on. step_fewer g.maker _ _ c.args.self.now c.args.frame.now _ c.requires.1.1.1.1.1.1.0 (c.advance.ensures.0, c.advance.ensures.1.0) has on
-
-pub returns-in-None-clause-groups : goal.returns-in-None-clause-groups
-returns-in-None-clause-groups g c = λ has. step_grouped g.maker _ _ c.args.self.now c.args.frame.now _ c.requires.1.1.1.1.1.1.0 (c.advance-in-None.ensures.0, c.advance-in-None.ensures.1.0) has
+returns-in-Some-clause-fewer g c = λ on. step_fewer g.maker _ _ c.args.self.now c.args.frame.now _ c.requires.1.1.1.1.1.1.0 (c.advance.ensures.0, c.advance.ensures.1.0) on
 
 pub returns-in-None-clause-fewer : goal.returns-in-None-clause-fewer
-returns-in-None-clause-fewer g c = λ has on. step_fewer g.maker _ _ c.args.self.now c.args.frame.now _ c.requires.1.1.1.1.1.1.0 (c.advance-in-None.ensures.0, c.advance-in-None.ensures.1.0) has on
+returns-in-None-clause-fewer g c = λ on. step_fewer g.maker _ _ c.args.self.now c.args.frame.now _ c.requires.1.1.1.1.1.1.0 (c.advance-in-None.ensures.0, c.advance-in-None.ensures.1.0) on
+
+pub returns-in-Some-clause-part : goal.returns-in-Some-clause-part
+returns-in-Some-clause-part g c = step_changes c.args.self.now c.args.frame.now _ (c.advance.ensures.0, c.advance.ensures.1.0)
+
+pub returns-in-None-clause-part : goal.returns-in-None-clause-part
+returns-in-None-clause-part g c = step_changes c.args.self.now c.args.frame.now _ (c.advance-in-None.ensures.0, c.advance-in-None.ensures.1.0)

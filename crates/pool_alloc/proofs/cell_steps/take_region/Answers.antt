@@ -1,5 +1,5 @@
 use Rattle.std.proofs.Common.{sym}
-use Rattle.pool_alloc.proofs.pool_core.PoolCore.take_region.Goals as goal
+use Rattle.pool_alloc.proofs.cell_steps.take_region.Goals as goal
 
 pub image_slot_of-requires : goal.image_slot_of-requires
 image_slot_of-requires g c = c.requires.fresh c.in-Unmapped.region (sym c.in-Unmapped.ensures.value)

@@ -1,0 +1,271 @@
+-- The rows of a request until it has a slot.
+use Rattle.std.proofs.Common.{◌≡◌, ℕ, ◌+◌, ◌<◌, ◌≤◌, Bool, true, false, List, [], length, refl, sym, ap, subst, inl, arith, Option, Some, None}
+use Rattle.std.specs.Prelude.{◌==◌, nat_lt, IfSome}
+use Rattle.std.proofs.lemmas.Bool.{ltb-true, ltb-false}
+use Rattle.std.proofs.lemmas.List.Elements.{All-nil}
+use Rattle.std.proofs.Math.Nat.{mod-lt}
+use Rattle.pool_pages.specs.MakerTold.{MakerTold}
+use Rattle.pool_limits.specs.LimiterTold.{LimiterTold}
+use Rattle.pool_alloc.specs.declared.pool_core.PoolCore.{PoolCore}
+use Rattle.pool_alloc.specs.declared.frame.Ending.{Ending}
+use Rattle.pool_alloc.specs.declared.frame.Frame.{Frame}
+use Rattle.pool_alloc.specs.declared.frame.FreedSlot.{FreedSlot}
+use Rattle.pool_alloc.specs.declared.frame.Phase.{Phase}
+use Rattle.pool_alloc.specs.declared.frame.Phase.TheVariants.{Idle, Key, Validate, CountInstance, Pick, TakeQueue}
+use Rattle.pool_pages.specs.declared.unsupported.Unsupported.{Unsupported}
+use Rattle.pool_index.specs.Shard.{ShardState, slot_number, after_pick, pick_answer}
+use Rattle.pool_index.specs.declared.ids.SlotId.{SlotId}
+use Rattle.pool_slots.specs.Queues.{QueueState, after_take, taken_into}
+use Rattle.pool_slots.specs.declared.errors.AllocError.{AllocError}
+use Rattle.pool_slots.specs.declared.errors.AllocError.TheVariants as refusal
+use Rattle.pool_slots.proofs.QueueRuns.{no_slots}
+use Rattle.pool_alloc.specs.Bounds.{PoolSizes, give_back_bound, pool_sizes, flush_left, memories_left}
+use Rattle.pool_alloc.specs.Leases.{Lease}
+use Rattle.pool_alloc.specs.Places.{right_to, queued_count, leased_count, freed_count}
+use Rattle.pool_alloc.specs.Refusals.{memories_refused}
+use Rattle.pool_alloc.specs.Rows.{key_row, refused_at_once, reserved, validated, validate_row, counted, count_instance_row, picked, pick_on, in_shard, take_queue_on, in_queue}
+use Rattle.pool_alloc.specs.Searches.{AreFull, AreEmpty, IsSearchedBy}
+use Rattle.pool_alloc.specs.Sound.{IsCore, IsShared, IsLeaseOf, IsToGrant, AreBegun}
+use Rattle.pool_alloc.specs.Stages.{uncounted, asks, stage_by, IsUntested, Goes}
+use Rattle.pool_alloc.specs.Steps.{memories_wanted, images_wanted, wanted, nth_shard, nth_queue, with_shard, with_queue, counting_instances, shard_tried, queue_tried}
+use Rattle.pool_alloc.specs.Turns.{goes, next, flush, search, Row, failing, no_slot_left}
+use Rattle.pool_alloc.proofs.CoreChanges.{core_with_shard, core_with_queue, core_with_counters}
+use Rattle.pool_alloc.proofs.FlushSteps.{few_in_queue, flush_few}
+use Rattle.pool_alloc.proofs.FullShards.{nothing_kept}
+use Rattle.pool_alloc.proofs.Hands.{empty_length, Hand, in_phase, hand, held_of, Even, Kept, Ready, IsReadyRow, either_ready}
+use Rattle.pool_alloc.proofs.KeptCounts.{kept_shard, kept_queue}
+use Rattle.pool_alloc.proofs.LocalQueues.{taken_shared, taken_local, local_of_shared}
+use Rattle.pool_alloc.proofs.Picks.{picked_sound, picked_same, picked_inside}
+use Rattle.pool_alloc.proofs.Searching.{tried_full, still_full, taken_empty, was_empty}
+use Rattle.pool_alloc.proofs.SlotCounts.{picked_count, pick_counts}
+use Rattle.pool_alloc.proofs.Stages.{tried_is_shard, tried_is_queue}
+use Rattle.pool_alloc.proofs.Supporting.{supported}
+use Rattle.pool_alloc.proofs.Telling.{told_weaker}
+use Rattle.pool_alloc.proofs.Ways.{Can, aims_grant, same_times, first_memory, next_round, next_queue, kept_part, same_way, fails_way}
+
+-- what a pick has in hand
+abbrev picked_hand : ShardState → Option (SlotId × ℕ) → Hand
+picked_hand shard o = record { things = λ t. picked_count t shard o; instances = 1; memories = 0 }
+
+module _ {P : Type 0} (maker : MakerTold) (old new : LimiterTold) where
+  abbrev Shows : Phase P → PoolCore P → Frame P → Row (PoolCore P) P → Type 0
+  Shows p c f r = IsReadyRow maker old new c (in_phase p f) r
+
+  -- A number is drawn from the key counter.
+  pub key_ready : (c : PoolCore P) (f : Frame P) → Can maker Key c f → Shows Key c f (key_row c (in_phase Idle f))
+  key_ready c f can = record {
+    kept = record {
+      core = core_with_counters maker (record c.counters { key = _ }) c can.core;
+      held = record { stripe = mod-lt c.counters.key can.core.settings.stripes; queue = can.frame.queue; freed_room = can.frame.freed_room; freed_bytes = can.frame.freed_bytes; objects = can.frame.objects };
+      asked = refl;
+      settings = refl;
+      instances_by_one = omega arith;
+      memories_by_one = omega arith;
+    };
+    shape = (can.frame.shape, tt);
+    even = record { places = λ t. omega arith; instances = omega arith; memories = omega arith };
+    fewer = omega arith;
+    way = tt;
+    searched = λ s. tt;
+  }
+
+  -- A request is refused before anything is granted.
+  refused_ready : (e : AllocError) (c : PoolCore P) (f : Frame P) → Can maker Validate c f → IsUntested (memories_refused c.settings (memories_wanted f.asked)) e → Shows Validate c f (refused_at_once e c (in_phase Idle f))
+  refused_ready e c f can is = record {
+    kept = kept_part maker old new c (in_phase Validate f) c (failing e (in_phase Idle f)) can.core (held_of maker c.settings (in_phase Validate f) can.frame) refl refl refl;
+    shape = (can.frame.shape.0, tt);
+    even = record { places = λ t. omega arith; instances = omega arith; memories = omega arith };
+    fewer = omega arith;
+    way = is;
+    searched = λ s. tt;
+  }
+
+  reserved_ready : (wants : Bool) (c : PoolCore P) (f : Frame P) → Can maker Validate c f → memories_refused c.settings (memories_wanted f.asked) ≡ None → Shows Validate c f (reserved wants c (in_phase Idle f))
+  reserved_ready true c f can is = refused_ready refusal.Memory c f can (let U : Option Unsupported → Type 0 = λ o. IsUntested o refusal.Memory in subst U (sym is) refl)
+  reserved_ready false c f can is =
+      let rest = can.frame.shape.0 in
+      let asking = can.frame.shape.1 in
+      let none : f.objects.items ≡ [] = rest.no_objects in
+      let has : Frame P = record f { phase = Idle; objects = record { items = []; room = length (memories_wanted f.asked) } } in
+      record {
+        kept = kept_part maker old new c (in_phase Validate f) c has can.core
+            (record { stripe = can.frame.stripe; queue = can.frame.queue; freed_room = can.frame.freed_room; freed_bytes = can.frame.freed_bytes; objects = All-nil (IsLeaseOf maker c.settings) })
+            refl refl refl;
+        shape = (refl, (record { settled = rest.settled; no_objects = refl }, asking, supported c.settings (memories_wanted f.asked) (images_wanted f.asked) can.core.settings.memories can.frame.shape.2 is, refl));
+        even = record { places = λ t. omega (arith, ap (leased_count t) none); instances = omega arith; memories = omega (arith, ap (length {A = Lease}) none) };
+        fewer = omega arith;
+        way = is;
+        searched = λ s. tt;
+      }
+
+  validated_ready : (o : Option Unsupported) (wants : Bool) (c : PoolCore P) (f : Frame P) → Can maker Validate c f → memories_refused c.settings (memories_wanted f.asked) ≡ o → Shows Validate c f (validated o wants c (in_phase Idle f))
+  validated_ready (Some rule) wants c f can is = refused_ready (refusal.Unsupported rule) c f can (let U : Option Unsupported → Type 0 = λ o. IsUntested o (refusal.Unsupported rule) in subst U (sym is) refl)
+  validated_ready None wants c f can is = reserved_ready wants c f can is
+
+  pub validate_ready : (wants : Bool) (c : PoolCore P) (f : Frame P) → Can maker Validate c f → Shows Validate c f (validate_row wants c (in_phase Idle f))
+  validate_ready wants c f can = validated_ready (memories_refused c.settings (memories_wanted f.asked)) wants c f can refl
+
+  -- The instance is counted.
+  counted_ready : (b : Bool) (c : PoolCore P) (f : Frame P) → Can maker CountInstance c f → nat_lt c.counters.core_instances c.settings.max_core_instances ≡ b → Shows CountInstance c f (counted b c (in_phase Idle f))
+  counted_ready true c f can is =
+      let rest = can.frame.shape.0 in
+      let asking = can.frame.shape.1 in
+      let none : f.objects.items ≡ [] = rest.no_objects in
+      let now : PoolCore P = counting_instances (c.counters.core_instances + 1) c in
+      let B : List Lease → Type 0 = λ ls. AreBegun c.settings f.asked ls in
+      let to_grant : IsToGrant c.settings f.asked f.queues f.objects = record {
+        supported = can.frame.shape.2;
+        images = asking.images;
+        room = can.frame.shape.3;
+        few = omega (arith, ap (length {A = Lease}) none);
+        begun = subst B (sym none) (λ k. tt);
+        taken = omega (arith, asking.none_taken);
+      } in
+      let S : Ending → Type 0 = λ x. IsSearchedBy x (AreEmpty f.queues now (in_phase Idle f)) in
+      let W : Ending → Type 0 = λ x. Goes maker old new c (in_phase CountInstance f) (asks uncounted) (stage_by x (length f.objects.items)) None in
+      record {
+        kept = record { core = core_with_counters maker (record c.counters { core_instances = c.counters.core_instances + 1 }) c can.core; held = held_of maker c.settings (in_phase CountInstance f) can.frame; asked = refl; settings = refl; instances_by_one = omega arith; memories_by_one = omega arith };
+        shape = (rest.settled, aims_grant c.settings f.ending f.asked f.queues f.objects asking.ending to_grant);
+        even = record { places = λ t. omega arith; instances = omega arith; memories = omega arith };
+        fewer = first_memory (pool_sizes c) f.ending f.queues f.asked f.objects asking.ending asking.none_taken none;
+        way = subst W (sym asking.ending) (ap (length {A = Lease}) none, ltb-true _ _ is);
+        searched = λ s. subst S (sym asking.ending) (λ j below. absurd (omega (arith, below, asking.none_taken)));
+      }
+  counted_ready false c f can is =
+      let rest = can.frame.shape.0 in
+      let none : f.objects.items ≡ [] = rest.no_objects in
+      record {
+        kept = record { core = core_with_counters maker (record c.counters { core_instances = c.counters.core_instances + 1 }) c can.core; held = held_of maker c.settings (in_phase CountInstance f) can.frame; asked = refl; settings = refl; instances_by_one = omega arith; memories_by_one = omega arith };
+        shape = (rest.settled, tt);
+        even = record { places = λ t. omega arith; instances = omega arith; memories = omega arith };
+        fewer = omega (arith, same_times (length f.objects.items) 0 (give_back_bound (pool_sizes c)) (ap (length {A = Lease}) none));
+        way = (refl, ltb-false _ _ is);
+        searched = λ s. tt;
+      }
+
+  pub count_instance_ready : (c : PoolCore P) (f : Frame P) → Can maker CountInstance c f → Shows CountInstance c f (count_instance_row c (in_phase Idle f))
+  count_instance_ready c f can = counted_ready (nat_lt c.counters.core_instances c.settings.max_core_instances) c f can refl
+
+  -- A slot is picked from a shard, of which this is left.
+  picked_ready : (tried : ℕ) (o : Option (SlotId × ℕ)) (shard next_shard : ShardState) (c : PoolCore P) (f : Frame P) →
+      (let d : PoolCore P = with_shard (shard_tried tried c.settings f) next_shard c in
+      let e : Frame P = in_phase (Pick tried) f in
+      Can maker (Pick tried) c f →
+      IsCore maker d →
+      IfSome o (λ p. slot_number shard p.0.0 < c.settings.slots) →
+      Even maker old new c e (picked_hand shard o) d (in_phase Idle f) →
+      (o ≡ None → AreFull tried c f → AreFull (tried + 1) c f × AreFull (tried + 1) d f) →
+      Ready maker old new c e d (in_phase Idle f) (picked c.settings.shards o shard tried))
+  picked_ready tried (Some p) shard next_shard c f can core inside even full = record {
+    kept = kept_part maker old new c (in_phase (Pick tried) f) _ (in_phase Idle f) core (held_of maker c.settings (in_phase (Pick tried) f) can.frame) refl refl refl;
+    shape = (refl, (can.frame.shape.0, can.frame.shape.1, inside));
+    even = even;
+    fewer = omega (arith, can.frame.shape.2);
+    way = same_way maker old new c (in_phase (Pick tried) f) f.ending (length f.objects.items);
+    searched = λ s. tt;
+  }
+  picked_ready tried None shard next_shard c f can core inside even full =
+      let d : PoolCore P = with_shard (shard_tried tried c.settings f) next_shard c in
+      let e : Frame P = in_phase (Pick tried) f in
+      let settled = can.frame.shape.0 in
+      let allocating = can.frame.shape.1 in
+      let kept = kept_part maker old new c e d (in_phase Idle f) core (held_of maker c.settings e can.frame) refl refl refl in
+      let stays = same_way maker old new c e f.ending (length f.objects.items) in
+      either_ready maker old new c e d (in_phase Idle f) (nat_lt (tried + 1) c.settings.shards) (goes (Pick (tried + 1))) search
+      (λ more. record {
+        kept = kept;
+        shape = (refl, (settled, allocating, ltb-true _ _ more));
+        even = even;
+        fewer = omega (arith, can.frame.shape.2);
+        way = stays;
+        searched = λ s. (s.0, (full refl s.1).1);
+      })
+      (λ last.
+      let round : c.settings.shards ≤ tried + 1 = ltb-false _ _ last in
+      record {
+        kept = kept;
+        shape = (settled, allocating);
+        even = even;
+        fewer = omega (arith, can.frame.shape.2);
+        way = (
+          stays,
+          λ gone. fails_way maker old new c e f.ending (length f.objects.items) (no_slot_left c.settings f) allocating.ending (inl (record {
+            is = refl;
+            number = refl;
+            allocating = can.frame.shape.1;
+            has = λ k. omega (arith, ap (queued_count (right_to k)) settled.no_slots, ap (freed_count (right_to k)) settled.none_freed);
+            none = λ s. nothing_kept maker c f can.core (λ j below. s.0 j (omega (arith, below, gone))) (λ j below. (full refl s.1).0 j (omega (arith, below, round)));
+          })),
+        );
+        searched = λ s. (s.0, λ j below. (full refl s.1).1 j (omega (arith, below, round)));
+      })
+
+  pub pick_ready : (tried : ℕ) (c : PoolCore P) (f : Frame P) → Can maker (Pick tried) c f → Shows (Pick tried) c f (in_shard (shard_tried tried c.settings f) c (pick_on c.settings tried (nth_shard (shard_tried tried c.settings f) c.shards) (in_phase Idle f)))
+  pick_ready tried c f can =
+      let j : ℕ = shard_tried tried c.settings f in
+      let shard : ShardState = nth_shard j c.shards in
+      let below : j < length c.shards = tried_is_shard maker tried c f can.core in
+      let sound = can.core.shards j below in
+      picked_ready tried (pick_answer (wanted f) shard) shard (after_pick (wanted f) shard) c f can
+      (core_with_shard maker j (after_pick (wanted f) shard) c can.core (picked_sound (wanted f) shard sound) (picked_same (wanted f) shard))
+      (told_weaker (λ p. p.0.0 < shard.capacity) (λ p. slot_number shard p.0.0 < c.settings.slots) (pick_answer (wanted f) shard) (λ p within. omega (arith, (can.core.layout.back j p.0.0 below within).0, can.core.cells_made)) (picked_inside (wanted f) shard sound))
+      (record { places = λ t. omega (arith, kept_shard t j (after_pick (wanted f) shard) c below, pick_counts t (wanted f) shard sound); instances = omega arith; memories = omega arith })
+      (λ none full. let more = tried_full maker tried c f can.core none full in (more, still_full maker (tried + 1) tried c f can.core none more))
+
+  -- A queue is taken.
+  pub take_queue_ready : (c : PoolCore P) (f : Frame P) → Can maker TakeQueue c f → Shows TakeQueue c f (in_queue (queue_tried f.queues c.settings f) c (take_queue_on (nth_queue (queue_tried f.queues c.settings f) c.queues) (in_phase Idle f)))
+  take_queue_ready c f can =
+      let i : ℕ = queue_tried f.queues c.settings f in
+      let q : QueueState = nth_queue i c.queues in
+      let below : i < length c.queues = tried_is_queue maker f.queues c f can.core in
+      let shared : IsShared maker c.settings q = can.core.queues i below in
+      let d : PoolCore P = with_queue i (after_take q) c in
+      let e : Frame P = in_phase TakeQueue f in
+      let has : Frame P = record f { phase = Idle; local = taken_into f.local q; queues = f.queues + 1 } in
+      let settled = can.frame.shape.0 in
+      let was = can.frame.shape.1.to_grant in
+      let z : PoolSizes = pool_sizes c in
+      let to_grant : IsToGrant c.settings f.asked (f.queues + 1) f.objects = record { supported = was.supported; images = was.images; room = was.room; few = was.few; begun = was.begun; taken = omega (arith, can.frame.shape.2) } in
+      let kept : Kept maker old new c e d has = kept_part maker old new c e d has
+      (core_with_queue maker i (after_take q) c can.core (taken_shared maker c.settings q can.core.settings shared.range_room shared.slot_room))
+      (record {
+        stripe = can.frame.stripe;
+        queue = taken_local maker c.settings f.local q can.frame.queue (local_of_shared maker c.settings q shared);
+        freed_room = (can.frame.freed_room.0, omega (arith, shared.slots, shared.short, ap (length {A = FreedSlot}) settled.none_freed));
+        freed_bytes = can.frame.freed_bytes;
+        objects = can.frame.objects;
+      })
+      refl refl refl in
+      let even : Even maker old new c e (hand {P = P} next) d has = record { places = λ t. omega (arith, kept_queue t i (after_take q) c below, ap (queued_count t) settled.no_slots); instances = omega arith; memories = omega arith } in
+      let few = flush_few z (length c.cells) has.local f.freed shared.grouped (few_in_queue maker i c e can below) in
+      let stays = same_way maker old new c e f.ending (length f.objects.items) in
+      either_ready maker old new c e d has (length q.memories == 0) search flush
+      (λ none.
+      let empty = empty_length q.memories none in
+      record {
+        kept = kept;
+        shape = (record { no_ranges = no_slots q.ranges q.memories empty shared.owners; no_slots = empty; none_freed = settled.none_freed }, record { ending = can.frame.shape.1.ending; to_grant = to_grant; more = can.frame.shape.1.more });
+        even = even;
+        fewer = omega (arith, next_queue z f.queues 0 (6 + memories_left z f.asked f.objects) can.frame.shape.2 (omega arith));
+        way = (
+          stays,
+          λ gone. fails_way maker old new c e f.ending (length f.objects.items) (no_slot_left c.settings f) can.frame.shape.1.ending (inl (record {
+            is = refl;
+            number = refl;
+            allocating = can.frame.shape.1;
+            has = λ k. omega (arith, ap (queued_count (right_to k)) settled.no_slots, ap (freed_count (right_to k)) settled.none_freed);
+            none = λ s. nothing_kept maker c f can.core (λ j under. was_empty f.queues c f empty s.0 j (omega (arith, under, gone))) s.1;
+          })),
+        );
+        searched = λ s. (taken_empty maker f.queues (after_take q) c f can.core refl s.0, s.1);
+      })
+      (λ some.
+      let S : Ending → Type 0 = λ x. IsSearchedBy x (AreEmpty (f.queues + 1) d has) in
+      record {
+        kept = kept;
+        shape = aims_grant c.settings f.ending f.asked (f.queues + 1) f.objects can.frame.shape.1.ending to_grant;
+        even = even;
+        fewer = omega (arith, few, can.core.cells_made, next_round z f.ending (f.queues + 1) f.asked f.objects can.frame.shape.1.ending, next_queue z f.queues (flush_left z has.local f.freed) (6 + memories_left z f.asked f.objects) can.frame.shape.2 (omega (arith, few, can.core.cells_made)));
+        way = stays;
+        searched = λ s. subst S (sym can.frame.shape.1.ending) (taken_empty maker f.queues (after_take q) c f can.core refl s.0);
+      })

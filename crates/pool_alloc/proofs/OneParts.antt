@@ -1,0 +1,96 @@
+-- Each row changes one part of the pool, or none.
+use Rattle.std.proofs.Common.{◌≡◌, ℕ, ◌+◌, Bool, true, false, List, [], ◌∷◌, length, refl, sym, subst, inl, inr, Option, Some, None, Result, Ok, Err}
+use Rattle.pool_pages.specs.declared.unsupported.Unsupported.{Unsupported}
+use Rattle.pool_images.specs.Slots.{Slot}
+use Rattle.pool_index.specs.Shard.{ShardState}
+use Rattle.pool_limits.specs.LimiterTold.{LimiterTold}
+use Rattle.pool_memory.specs.Memories.{MemoryState}
+use Rattle.pool_slots.specs.Cells.{Cell}
+use Rattle.std.specs.Prelude.{nat_le}
+use Rattle.pool_slots.specs.Queues.{QueueState, QueuedMemory, after_append, drained}
+use Rattle.pool_slots.specs.declared.errors.AllocError.{AllocError}
+use Rattle.pool_alloc.specs.Leases.{Lease}
+use Rattle.pool_alloc.specs.Rows.{FlushStep, run, put, free, flush_step, merged, in_queue, reserved, validated, counted, paged, was_made, was_reset, put_region_row, flush_row, row_of}
+use Rattle.pool_alloc.specs.Steps.{StepGiven, nth_queue, queue_tried, with_shard, with_cell, with_queue}
+use Rattle.pool_alloc.specs.Stepping.{StepsTo, ChangesOnePart}
+use Rattle.pool_alloc.specs.Turns.{After}
+use Rattle.pool_alloc.specs.declared.pool_core.PoolCore.{PoolCore}
+use Rattle.pool_alloc.specs.declared.frame.Frame.{Frame}
+use Rattle.pool_alloc.specs.declared.frame.Phase.{Phase}
+use Rattle.pool_alloc.specs.declared.frame.Phase.TheVariants.{Idle, Key, Validate, CountInstance, Pick, TakeQueue, TakeRegion, Empty, Instantiate, MakeMemory, CountMemory, PutUnknown, FreeUnknown, UncountMemory, Reset, Merge, Flush, UncountInstance}
+
+module _ {P : Type 0} where
+  one_shard : (j : ℕ) (shard : ShardState) (c : PoolCore P) → ChangesOnePart c (with_shard j shard c)
+  one_shard j shard c = inr (inl (j, shard, refl))
+
+  one_cell : (slot : ℕ) (cell : Cell) (c : PoolCore P) → ChangesOnePart c (with_cell slot cell c)
+  one_cell slot cell c = inr (inr (inl (slot, cell, refl)))
+
+  one_queue : (i : ℕ) (queue : QueueState) (c : PoolCore P) → ChangesOnePart c (with_queue i queue c)
+  one_queue i queue c = inr (inr (inr (inl (i, queue, refl))))
+
+  one_reserved : (wants : Bool) (c : PoolCore P) (f : Frame P) → ChangesOnePart c (reserved wants c f).part
+  one_reserved true c f = inl refl
+  one_reserved false c f = inl refl
+
+  one_validated : (o : Option Unsupported) (wants : Bool) (c : PoolCore P) (f : Frame P) → ChangesOnePart c (validated o wants c f).part
+  one_validated (Some rule) wants c f = inl refl
+  one_validated None wants c f = one_reserved wants c f
+
+  one_counted : (b : Bool) (c : PoolCore P) (f : Frame P) → ChangesOnePart c (counted b c f).part
+  one_counted true c f = inr (inr (inr (inr (c.counters.core_instances + 1, inr (inl refl)))))
+  one_counted false c f = inr (inr (inr (inr (c.counters.core_instances + 1, inr (inl refl)))))
+
+  one_paged : (fault : Bool) (slot : ℕ) (held : Slot) (next : Phase P) (c : PoolCore P) (f : Frame P) → ChangesOnePart c (paged fault slot held next c f).part
+  one_paged true slot held next c f = inl refl
+  one_paged false slot held next c f = inl refl
+
+  one_made : (slot : ℕ) (held : Slot) (r : Result MemoryState AllocError) (c : PoolCore P) (f : Frame P) → ChangesOnePart c (was_made slot held r c f).part
+  one_made slot held (Ok memory) c f = inl refl
+  one_made slot held (Err e) c f = inl refl
+
+  one_reset : (fault : Bool) (held : Slot) (lease : Lease) (c : PoolCore P) (f : Frame P) → ChangesOnePart c (was_reset fault held lease c f).part
+  one_reset true held lease c f = inl refl
+  one_reset false held lease c f = inl refl
+
+  one_merged : (b : Bool) (i : ℕ) (queue : QueueState) (c : PoolCore P) (f : Frame P) → ChangesOnePart c (in_queue i c (merged b queue f)).part
+  one_merged true i queue c f = one_queue i _ c
+  one_merged false i queue c f = one_queue i _ c
+
+  one_put : (ms : List QueuedMemory) (c : PoolCore P) (f : Frame P) → ChangesOnePart c (put_region_row ms c f).part
+  one_put [] c f = inl refl
+  one_put (m ∷ rest) c f = one_cell m.index _ c
+
+  one_flushed : (step : FlushStep) (queue : QueueState) (c : PoolCore P) (f : Frame P) → ChangesOnePart c (flush_row step queue c f).part
+  one_flushed run queue c f = inl refl
+  one_flushed put queue c f = one_put f.local.memories c f
+  one_flushed free queue c f = one_shard _ _ c
+
+  one_part : (g : StepGiven) (p : Phase P) (c : PoolCore P) (f : Frame P) → ChangesOnePart c (row_of g p c f).part
+  one_part g Idle c f = inl refl
+  one_part g Key c f = inr (inr (inr (inr (_, inl refl))))
+  one_part g Validate c f = one_validated _ g.wants c f
+  one_part g CountInstance c f = one_counted _ c f
+  one_part g (Pick tried) c f = one_shard _ _ c
+  one_part g TakeQueue c f = one_queue _ _ c
+  one_part g (TakeRegion slot) c f = one_cell slot _ c
+  one_part g (Empty slot held) c f = one_paged g.fault slot g.slot _ c f
+  one_part g (Instantiate slot held) c f = one_paged g.fault slot g.slot _ c f
+  one_part g (MakeMemory slot held) c f = one_made slot held _ c f
+  one_part g (CountMemory lease) c f = inr (inr (inr (inr (_, inr (inr refl)))))
+  one_part g (PutUnknown slot held) c f = one_cell slot _ c
+  one_part g (FreeUnknown slot) c f = one_shard _ _ c
+  one_part g (UncountMemory lease) c f = inr (inr (inr (inr (_, inr (inr refl)))))
+  one_part g (Reset lease) c f = one_reset g.fault g.slot lease c f
+  one_part g Merge c f =
+      let i : ℕ = queue_tried 0 c.settings f in
+      let whole : QueueState = after_append (nth_queue i c.queues) f.local in
+      one_merged (nat_le c.settings.batch (length whole.ranges)) i whole c (record f { local = drained f.local })
+  one_part g Flush c f = one_flushed (flush_step f.local) g.queue c f
+  one_part g UncountInstance c f = inr (inr (inr (inr (_, inr (inl refl)))))
+
+  -- A step changes one part of the pool, or none.
+  pub step_changes : {old new : LimiterTold} (c : PoolCore P) (f : Frame P) (a : After P) → StepsTo old new c f a → ChangesOnePart c a.core
+  step_changes c f a steps =
+      let C : After P → Type 0 = λ b. ChangesOnePart c b.core in
+      subst C (sym steps.1.is) (one_part steps.0 f.phase c (record f { phase = Idle }))

@@ -1,0 +1,172 @@
+-- What all rows share: the pool and the frame with one part changed, how a call goes on at its stage, and the steps that are
+-- left of a request.
+use Rattle.std.proofs.Common.{◌≡◌, ℕ, ◌+◌, ◌*◌, ◌-◌, ◌<◌, ◌≤◌, Bool, true, false, List, [], ◌∷◌, ◌++◌, length, zero, suc, refl, sym, ap, subst, inl, arith, Option, Some, None}
+use Rattle.std.specs.Prelude.{nat_lt, if◌then◌else◌, slice_get, IfSome}
+use Rattle.std.proofs.lemmas.Bool.{ltb-true}
+use Rattle.std.proofs.lemmas.List.{length_push}
+use Rattle.pool_pages.specs.MakerTold.{MakerTold}
+use Rattle.pool_limits.specs.LimiterTold.{LimiterTold}
+use Rattle.pool_alloc.specs.Bounds.{PoolSizes, allocation_bound, give_back_bound, return_bound, flush_bound, returns_left, memories_left, picks_left, next_left}
+use Rattle.pool_alloc.specs.Leases.{Lease}
+use Rattle.pool_alloc.specs.Reserved.{Reserved, with_item}
+use Rattle.pool_slots.specs.declared.errors.AllocError.{AllocError}
+use Rattle.pool_alloc.specs.Calls.{IfGranted}
+use Rattle.pool_alloc.specs.Rows.{answer_of}
+use Rattle.pool_alloc.specs.Searches.{IsSearchedBy}
+use Rattle.pool_alloc.specs.Sound.{IsCore, Aims, IsToGrant}
+use Rattle.pool_alloc.specs.Stages.{admitted, no_call, refusing, stage_by, Follows, Raises, Goes}
+use Rattle.pool_alloc.specs.Steps.{memories_wanted}
+use Rattle.pool_alloc.specs.Stepping.{CanStep, count_granted}
+use Rattle.pool_alloc.specs.declared.frame.Grant.{Grant}
+use Rattle.pool_alloc.specs.Turns.{is_granting}
+use Rattle.pool_alloc.specs.declared.pool_core.Counters.{Counters}
+use Rattle.pool_alloc.specs.declared.pool_core.PoolCore.{PoolCore}
+use Rattle.pool_alloc.specs.declared.pool_core.Settings.{Settings}
+use Rattle.pool_alloc.specs.declared.frame.Ending.{Ending}
+use Rattle.pool_alloc.specs.declared.frame.Ending.TheVariants.{Granted as granted, Returned as returned, Refused as refused}
+use Rattle.pool_alloc.specs.declared.frame.Frame.{Frame}
+use Rattle.pool_alloc.specs.declared.frame.ModuleCall.{ModuleCall}
+use Rattle.pool_alloc.specs.declared.frame.Phase.{Phase}
+use Rattle.pool_alloc.proofs.Hands.{one_more, in_phase, Held, Kept}
+
+-- what holds of each element by its place, with one more at the end
+pub push_at : {X : Type 0} (Q : ℕ → X → Type 0) (xs : List X) (x : X) → ((k : ℕ) → IfSome (slice_get xs k) (Q k)) → Q (length xs) x → (k : ℕ) → IfSome (slice_get (xs ++ x ∷ []) k) (Q k)
+push_at Q [] x each last zero = last
+push_at Q [] x each last (suc k) = tt
+push_at Q (y ∷ ys) x each last zero = each 0
+push_at Q (y ∷ ys) x each last (suc k) = push_at (λ i. Q (suc i)) ys x (λ i. each (suc i)) last k
+
+-- nor does it search
+pub searched_back : (e : Ending) (known : Type 0) → is_granting e ≡ false → IsSearchedBy e known
+searched_back granted known back = absurd cc
+searched_back returned known back = tt
+searched_back (refused x) known back = tt
+
+-- a call that gives back aims at nothing else
+pub aims_back : (s : Settings) (e : Ending) (asked : Option ModuleCall) (queues : ℕ) (objects : Reserved Lease) → is_granting e ≡ false → Aims s e asked queues objects
+aims_back s granted asked queues objects back = absurd cc
+aims_back s returned asked queues objects back = tt
+aims_back s (refused x) asked queues objects back = tt
+
+pub aims_grant : (s : Settings) (e : Ending) (asked : Option ModuleCall) (queues : ℕ) (objects : Reserved Lease) → e ≡ granted → IsToGrant s asked queues objects → Aims s e asked queues objects
+aims_grant s e asked queues objects is to_grant = let A : Ending → Type 0 = λ x. Aims s x asked queues objects in subst A (sym is) to_grant
+
+pub same_times : (m n x : ℕ) → m ≡ n → m * x ≡ n * x
+same_times m n x e = ap (λ (i : ℕ). i * x) e
+
+-- what is left once one of so many memories is granted or refused, where so many were granted before it
+abbrev left_of : PoolSizes → ℕ → ℕ → ℕ
+left_of z wanted some = (wanted - (some + 1)) * (allocation_bound z + give_back_bound z) + return_bound z (some + 1)
+
+abbrev rounds_of : PoolSizes → ℕ
+rounds_of z = (z.shards - 0) + ((z.queues - 0) * (flush_bound z + z.shards))
+
+following_left : (z : PoolSizes) (wanted some : ℕ) → some + 1 < wanted → rounds_of z + (6 + left_of z wanted (some + 1)) ≤ left_of z wanted some
+following_left z wanted some more =
+    omega (
+      arith,
+      same_times (z.queues - 0) z.queues (flush_bound z + z.shards) (omega arith),
+      one_more (wanted - (some + 1)) (wanted - (some + 1 + 1)) (allocation_bound z + give_back_bound z) (omega arith),
+    )
+
+first_left : (z : PoolSizes) (wanted : ℕ) → 0 < wanted → rounds_of z + (6 + left_of z wanted 0) + 1 ≤ 2 + wanted * (allocation_bound z + give_back_bound z)
+first_left z wanted some =
+    omega (
+      arith,
+      same_times (z.queues - 0) z.queues (flush_bound z + z.shards) (omega arith),
+      one_more wanted (wanted - (0 + 1)) (allocation_bound z + give_back_bound z) (omega arith),
+    )
+
+-- the number is no more than this where it isn't 0
+at_most_if : (b : Bool) (m n : ℕ) → (b ≡ true → m ≤ n) → (if b then m else 0) ≤ n
+at_most_if true m n most = most refl
+at_most_if false m n most = omega arith
+
+-- another memory is granted, and there is a next one, or none
+pub next_memory : (z : PoolSizes) (e : Ending) (asked : Option ModuleCall) (lease : Lease) (objects : Reserved Lease) → e ≡ granted → next_left z e 0 asked (with_item lease objects) ≤ memories_left z asked objects
+next_memory z e asked lease objects is =
+    let k : ℕ = length (memories_wanted asked) in
+    let n : ℕ = length objects.items in
+    let long : length (objects.items ++ lease ∷ []) ≡ n + 1 = length_push objects.items lease in
+    let E : Ending → Type 0 = λ x. next_left z x 0 asked (with_item lease objects) ≤ memories_left z asked objects in
+    let M : ℕ → Type 0 = λ i. rounds_of z + (6 + left_of z k i) ≤ left_of z k n in
+    subst E (sym is)
+    (at_most_if (nat_lt (length (objects.items ++ lease ∷ [])) k) (picks_left z 0 0 asked (with_item lease objects)) (memories_left z asked objects)
+    (λ more. let there : M (length (objects.items ++ lease ∷ [])) = subst M (sym long) (following_left z k n (omega (arith, ltb-true _ _ more, long))) in omega (arith, there)))
+
+-- the first memory is allocated, or there is none
+pub first_memory : (z : PoolSizes) (e : Ending) (queues : ℕ) (asked : Option ModuleCall) (objects : Reserved Lease) → e ≡ granted → queues ≡ 0 → objects.items ≡ [] → next_left z e queues asked objects + 1 ≤ 2 + length (memories_wanted asked) * (allocation_bound z + give_back_bound z)
+first_memory z e queues asked objects is none_taken none =
+    let k : ℕ = length (memories_wanted asked) in
+    let most : ℕ = 1 + k * (allocation_bound z + give_back_bound z) in
+    let E : Ending → Type 0 = λ x. next_left z x queues asked objects ≤ most in
+    let Q : ℕ → Type 0 = λ q. next_left z granted q asked objects ≤ most in
+    let M : ℕ → Type 0 = λ i. rounds_of z + (6 + left_of z k i) + 1 ≤ 2 + k * (allocation_bound z + give_back_bound z) in
+    let few : next_left z e queues asked objects ≤ most =
+    subst E (sym is) (subst Q (sym none_taken)
+    (at_most_if (nat_lt (length objects.items) k) (picks_left z 0 0 asked objects) most
+    (λ more. let there : M (length objects.items) = subst M (sym (ap length none)) (first_left z k (omega (arith, ltb-true _ _ more, ap length none))) in omega (arith, there)))) in
+    omega (arith, few)
+
+-- the search goes on with a round of picks
+pub next_round : (z : PoolSizes) (e : Ending) (queues : ℕ) (asked : Option ModuleCall) (objects : Reserved Lease) → e ≡ granted → next_left z e queues asked objects ≤ picks_left z queues 0 asked objects
+next_round z e queues asked objects is =
+    let E : Ending → Type 0 = λ x. next_left z x queues asked objects ≤ picks_left z queues 0 asked objects in
+    subst E (sym is) (at_most_if (nat_lt (length objects.items) (length (memories_wanted asked))) (picks_left z queues 0 asked objects) (picks_left z queues 0 asked objects) (λ more. omega arith))
+
+pub next_returns : (z : PoolSizes) (e : Ending) (queues : ℕ) (asked : Option ModuleCall) (objects : Reserved Lease) → is_granting e ≡ false → next_left z e queues asked objects ≡ returns_left z objects
+next_returns z granted queues asked objects back = absurd cc
+next_returns z returned queues asked objects back = refl
+next_returns z (refused x) queues asked objects back = refl
+
+-- a queue less, with its flush
+pub next_queue : (z : PoolSizes) (queues flush more : ℕ) → queues < z.queues → flush ≤ 3 * z.slots + z.all_shards → flush + (z.shards - 0 + ((z.queues - (queues + 1)) * (flush_bound z + z.shards) + more)) + 1 ≤ (z.queues - queues) * (flush_bound z + z.shards) + more
+next_queue z queues flush more below few = omega (arith, one_more (z.queues - queues) (z.queues - (queues + 1)) (flush_bound z + z.shards) (omega arith))
+
+module _ {P : Type 0} where
+  -- the frame of a step may make it
+  abbrev pub Can : MakerTold → Phase P → PoolCore P → Frame P → Type 0
+  Can maker p c f = CanStep maker c (in_phase p f)
+
+  -- no grant is answered by an ending
+  pub none_granted : (Q : _) (e : Ending) → IfGranted {P = P} Q (Some (answer_of e))
+  none_granted Q granted = tt
+  none_granted Q returned = tt
+  none_granted Q (refused x) = tt
+
+  pub none_counted : (of : Grant P → ℕ) (e : Ending) → count_granted of (Some (answer_of e)) ≡ 0
+  none_counted of granted = refl
+  none_counted of returned = refl
+  none_counted of (refused x) = refl
+
+module _ {P : Type 0} (maker : MakerTold) (old new : LimiterTold) (d : PoolCore P) (e : Frame P) where
+  -- a part was changed
+  pub kept_part : (c : PoolCore P) (f : Frame P) → IsCore maker c → Held maker c.settings f → f.asked ≡ e.asked → c.settings ≡ d.settings → c.counters ≡ d.counters → Kept maker old new d e c f
+  kept_part c f core held asked settings counters = record {
+    core = core;
+    held = held;
+    asked = asked;
+    settings = settings;
+    instances_by_one = omega (arith, ap (λ (n : Counters). n.core_instances) counters);
+    memories_by_one = omega (arith, ap (λ (n : Counters). n.memories) counters);
+  }
+
+  -- a call stays at its stage,
+  pub same_way : (ending : Ending) (n : ℕ) → Goes maker old new d e (stage_by ending n) (stage_by ending n) None
+  same_way granted n = inl refl
+  same_way returned n = tt
+  same_way (refused x) n = refl
+
+  -- it fails for a cause,
+  pub fails_way : (ending : Ending) (n : ℕ) (x : AllocError) → ending ≡ granted → Raises maker old new d e (admitted n) x → Goes maker old new d e (stage_by ending n) (refusing x) None
+  fails_way ending n x is raised = let W : Ending → Type 0 = λ y. Goes maker old new d e (stage_by y n) (refusing x) None in subst W (sym is) raised
+
+  -- a memory more is made,
+  pub made_way : (ending : Ending) (n : ℕ) → ending ≡ granted → Follows old new d e (admitted n) (admitted (n + 1)) → Goes maker old new d e (stage_by ending n) (stage_by ending (n + 1)) None
+  made_way ending n is follows = let W : Ending → Type 0 = λ y. Goes maker old new d e (stage_by y n) (stage_by y (n + 1)) None in subst W (sym is) follows
+
+  -- and one that gives back ends as it is to end.
+  pub ends_way : (ending : Ending) (n : ℕ) → is_granting ending ≡ false → Goes maker old new d e (stage_by ending n) no_call (Some (answer_of ending))
+  ends_way granted n back = absurd cc
+  ends_way returned n back = tt
+  ends_way (refused x) n back = refl

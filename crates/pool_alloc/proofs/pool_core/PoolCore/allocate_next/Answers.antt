@@ -1,8 +1,0 @@
-use Rattle.std.proofs.Common.{◌≤◌, refl, length, le-ltb}
-use Rattle.pool_alloc.specs.Steps.{memories_wanted}
-use Rattle.pool_alloc.proofs.pool_core.PoolCore.allocate_next.Goals as goal
-
-pub returns : goal.returns
-returns g c =
-    let some : length (memories_wanted c.args.frame.now.asked) ≤ length c.args.frame.now.granted.items = rw (← c.memories_wanted.ensures, ← c.len.ensures.value) c.if-len-memories_wanted.false in
-    rw (c.replace-memories.ensures.value, c.replace-memories.ensures.after, c.none.ensures, le-ltb _ _ some) refl

@@ -1,0 +1,257 @@
+-- The step table: what each step of a call does to the pool, of which it changes one part, and to the party's frame, and
+-- with which turn it ends.
+use Rattle.std.specs.Prelude.{ℕ, ◌+◌, ◌-◌, ◌%◌, ◌^◌, ◌==◌, ◌||◌, List, [], ◌∷◌, length, Bool, true, false, nat_lt, nat_le, if◌then◌else◌, Option, Some, None, Result, Ok, Err}
+use Rattle.pool_pages.specs.declared.unsupported.Unsupported.{Unsupported}
+use Rattle.pool_images.specs.Slots.{Slot}
+use Rattle.pool_index.specs.Shard.{ShardState, pick_answer, after_pick, after_free, slot_number}
+use Rattle.pool_index.specs.declared.ids.SlotId.{SlotId}
+use Rattle.pool_limits.specs.declared.errors.LimiterError.{LimiterError}
+use Rattle.pool_memory.specs.Memories.{MemoryState, slot_of}
+use Rattle.pool_memory.specs.MemoryStates.{state_of}
+use Rattle.pool_memory.specs.declared.memory.Memory.{Memory}
+use Rattle.pool_memory.specs.declared.memory_error.MemoryError.{MemoryError}
+use Rattle.pool_slots.specs.Cells.{Cell, unmapped, unknown, previously_used, taken}
+use Rattle.pool_slots.specs.Queues.{QueueState, QueuedMemory, after_append, after_take, taken_into, drained}
+use Rattle.pool_slots.specs.declared.errors.AllocError.{AllocError}
+use Rattle.pool_slots.specs.declared.errors.AllocError.TheVariants as refusal
+use Rattle.pool_slots.specs.declared.errors.ConcurrencyKind.TheVariants.{CoreInstances}
+use Rattle.pool_alloc.specs.Reserved.{with_item}
+use Rattle.pool_alloc.specs.Leases.{Lease}
+use Rattle.pool_alloc.specs.Own.{image_made, reset_into, refusal_of, memory_made}
+use Rattle.pool_alloc.specs.Refusals.{memories_refused}
+use Rattle.pool_alloc.specs.Steps.{StepGiven, memories_wanted, nth_shard, nth_cell, nth_queue, shard_of, local_of, freed_of, freed_elsewhere, first_shard, after_frees, with_shard, with_cell, with_queue, counting_keys, counting_instances, counting_memories, wanted, cell_returned, shard_tried, queue_tried}
+use Rattle.pool_alloc.specs.Turns.{Turn, goes, ends, next, flush, search, Row, lifted, After, failing, stepped}
+use Rattle.pool_alloc.specs.declared.pool_core.PoolCore.{PoolCore}
+use Rattle.pool_alloc.specs.declared.pool_core.Settings.{Settings}
+use Rattle.pool_alloc.specs.declared.frame.Frame.{Frame}
+use Rattle.pool_alloc.specs.declared.frame.Phase.{Phase}
+use Rattle.pool_alloc.specs.declared.frame.Phase.TheVariants.{Idle, Key, Validate, CountInstance, Pick, TakeQueue, TakeRegion, Empty, Instantiate, MakeMemory, CountMemory, PutUnknown, FreeUnknown, UncountMemory, Reset, Merge, Flush, UncountInstance}
+use Rattle.pool_alloc.specs.declared.frame.Ending.{Ending}
+use Rattle.pool_alloc.specs.declared.frame.Ending.TheVariants.{Refused as refused}
+use Rattle.pool_alloc.specs.declared.frame.Outcome.{Outcome}
+use Rattle.pool_alloc.specs.declared.frame.Outcome.TheVariants as answer
+
+-- which part of a flush is next: ranges of one slot are decommitted, a region is put back, or slots are freed
+pub data FlushStep : Type 0 where
+  run : FlushStep
+  put : FlushStep
+  free : FlushStep
+
+abbrev pub flush_step : QueueState → FlushStep
+flush_step local = if length local.ranges == 0 then (if length local.memories == 0 then free else put) else run
+
+-- The rows that change one part: what each leaves of the part, of the frame, and its turn.
+module _ {P : Type 0} where
+  -- A slot is picked from a shard: the shard gave one, the next is tried, or after the last the search goes on.
+  abbrev pub picked : ℕ → Option (SlotId × ℕ) → ShardState → ℕ → Turn P
+  picked shards (Some p) shard tried = goes (TakeRegion (slot_number shard p.0.0))
+  picked shards None shard tried = if nat_lt (tried + 1) shards then goes (Pick (tried + 1)) else search
+
+  abbrev pub pick_on : Settings → ℕ → ShardState → Frame P → Row ShardState P
+  pick_on s tried shard f = record {
+    part = after_pick (wanted f) shard;
+    frame = f;
+    turn = picked s.shards (pick_answer (wanted f) shard) shard tried;
+  }
+
+  -- One slot is freed. Nothing is known of it.
+  abbrev pub free_unknown_on : Settings → ℕ → ShardState → Frame P → Row ShardState P
+  free_unknown_on s slot shard f = record { part = after_free (local_of s slot) 0 shard; frame = f; turn = next }
+
+  -- All slots of the shard are freed that wait for it.
+  abbrev pub free_on : Settings → ℕ → ShardState → Frame P → Row ShardState P
+  free_on s j shard f = record {
+    part = after_frees s (freed_of s j f.freed.items) shard;
+    frame = record f { freed = record f.freed { items = freed_elsewhere s j f.freed.items } };
+    turn = flush;
+  }
+
+  -- A region leaves its cell. An image slot is made of one that was never used.
+  abbrev pub region_next : Settings → ℕ → Cell → Turn P
+  region_next s slot (unmapped region) = goes (Instantiate slot (image_made s.page s.max_memory_size region))
+  region_next s slot (unknown held) = goes (Empty slot held)
+  region_next s slot (previously_used held) = goes (Instantiate slot held)
+  region_next s slot taken = goes Idle
+
+  abbrev pub take_region_on : Settings → ℕ → Cell → Frame P → Row Cell P
+  take_region_on s slot cell f = record { part = taken; frame = f; turn = region_next s slot cell }
+
+  -- A region goes back into its cell, and nothing is known of it.
+  abbrev pub put_unknown_on : ℕ → Slot → Cell → Frame P → Row Cell P
+  put_unknown_on slot held cell f = record { part = unknown held; frame = f; turn = goes (FreeUnknown slot) }
+
+  -- A slot that was in the local queue goes back into its cell, and waits to be freed.
+  abbrev pub region_put : QueuedMemory → Frame P → Row Cell P
+  region_put m f = record {
+    part = cell_returned m;
+    frame = record f { freed = with_item (record { slot = m.index; bytes = m.bytes }) f.freed };
+    turn = flush;
+  }
+
+  abbrev pub put_region_on : QueuedMemory → List QueuedMemory → Frame P → Row Cell P
+  put_region_on m rest f = region_put m (record f { local = record f.local { memories = rest } })
+
+  -- A queue is taken whole. It is flushed where it holds something.
+  abbrev pub take_queue_on : QueueState → Frame P → Row QueueState P
+  take_queue_on queue f = record {
+    part = after_take queue;
+    frame = record f { local = taken_into f.local queue; queues = f.queues + 1 };
+    turn = if length queue.memories == 0 then search else flush;
+  }
+
+  -- The local queue is appended. Where there are as many ranges as a batch then, the whole queue comes into the local one
+  -- and is flushed. That is no take of the queue.
+  abbrev pub merged : Bool → QueueState → Frame P → Row QueueState P
+  merged true whole f = record { part = drained whole; frame = record f { local = taken_into f.local whole }; turn = flush }
+  merged false whole f = record { part = whole; frame = f; turn = next }
+
+  abbrev pub merge_on : Settings → QueueState → Frame P → Row QueueState P
+  merge_on s queue f =
+      let whole : QueueState = after_append queue f.local in
+      merged (nat_le s.batch (length whole.ranges)) whole (record f { local = drained f.local })
+
+  -- a row on one part, in the pool
+  abbrev pub in_shard : ℕ → PoolCore P → Row ShardState P → Row (PoolCore P) P
+  in_shard j c r = lifted (λ shard. with_shard j shard c) r
+
+  abbrev pub in_cell : ℕ → PoolCore P → Row Cell P → Row (PoolCore P) P
+  in_cell slot c r = lifted (λ cell. with_cell slot cell c) r
+
+  abbrev pub in_queue : ℕ → PoolCore P → Row QueueState P → Row (PoolCore P) P
+  in_queue i c r = lifted (λ queue. with_queue i queue c) r
+
+-- the refusal of an instance
+abbrev pub no_instance_left : Settings → AllocError
+no_instance_left s = refusal.Limit (record { limit = s.max_core_instances; kind = CoreInstances })
+
+-- The rows that change a counter, or no part.
+module _ {P : Type 0} where
+  -- A number is drawn from the key counter, modulo the number of stripes.
+  abbrev pub key_row : PoolCore P → Frame P → Row (PoolCore P) P
+  key_row c f = record {
+    part = counting_keys ((c.counters.key + 1) % 2 ^ 64) c;
+    frame = record f { stripe = c.counters.key % c.settings.stripes };
+    turn = ends answer.Key;
+  }
+
+  -- a request that is refused before anything is granted
+  abbrev pub refused_at_once : AllocError → PoolCore P → Frame P → Row (PoolCore P) P
+  refused_at_once e c f = record { part = c; frame = failing e f; turn = ends (answer.Refused e) }
+
+  -- the list of the memories that are to be granted is reserved, or there was no memory for it
+  abbrev pub reserved : Bool → PoolCore P → Frame P → Row (PoolCore P) P
+  reserved true c f = refused_at_once refusal.Memory c f
+  reserved false c f = record { part = c; frame = record f { objects = record { items = []; room = length (memories_wanted f.asked) } }; turn = goes CountInstance }
+
+  abbrev pub validated : Option Unsupported → Bool → PoolCore P → Frame P → Row (PoolCore P) P
+  validated (Some rule) wants c f = refused_at_once (refusal.Unsupported rule) c f
+  validated None wants c f = reserved wants c f
+
+  -- The module is tested, and the list of its memories reserved.
+  abbrev pub validate_row : Bool → PoolCore P → Frame P → Row (PoolCore P) P
+  validate_row wants c f = validated (memories_refused c.settings (memories_wanted f.asked)) wants c f
+
+  -- The instance is counted, also where there are too many.
+  abbrev pub counted : Bool → PoolCore P → Frame P → Row (PoolCore P) P
+  counted true c f = record { part = counting_instances (c.counters.core_instances + 1) c; frame = f; turn = next }
+  counted false c f = record { part = counting_instances (c.counters.core_instances + 1) c; frame = failing (no_instance_left c.settings) f; turn = next }
+
+  abbrev pub count_instance_row : PoolCore P → Frame P → Row (PoolCore P) P
+  count_instance_row c f = counted (nat_lt c.counters.core_instances c.settings.max_core_instances) c f
+
+  -- A page call on the region in hand failed: it is put back, and the call fails. Else it goes on so.
+  abbrev pub paged : Bool → ℕ → Slot → Phase P → PoolCore P → Frame P → Row (PoolCore P) P
+  paged true slot held phase c f = record { part = c; frame = failing refusal.PageFault f; turn = goes (PutUnknown slot held) }
+  paged false slot held phase c f = record { part = c; frame = f; turn = goes phase }
+
+  abbrev pub empty_row : Bool → Slot → ℕ → PoolCore P → Frame P → Row (PoolCore P) P
+  empty_row fault held slot c f = paged fault slot held (Instantiate slot held) c f
+
+  abbrev pub instantiate_row : Bool → Slot → ℕ → PoolCore P → Frame P → Row (PoolCore P) P
+  instantiate_row fault held slot c f = paged fault slot held (MakeMemory slot held) c f
+
+  -- The limiter is asked, and the memory made.
+  abbrev pub was_made : ℕ → Slot → Result MemoryState AllocError → PoolCore P → Frame P → Row (PoolCore P) P
+  was_made slot held (Ok memory) c f = record { part = c; frame = f; turn = goes (CountMemory (record { index = slot; memory = memory })) }
+  was_made slot held (Err e) c f = record { part = c; frame = failing e f; turn = goes (PutUnknown slot held) }
+
+  -- the same of what the code's making answers
+  abbrev pub made_by : {M L : Type 0} → ℕ → Result (Memory M L) (Slot × MemoryError) → PoolCore P → Frame P → Row (PoolCore P) P
+  made_by slot (Ok memory) c f = was_made slot (slot_of (state_of memory)) (Ok (state_of memory)) c f
+  made_by slot (Err left) c f = was_made slot left.0 (Err (refusal_of left.1)) c f
+
+  abbrev pub make_memory_row : Result Bool LimiterError → ℕ → Slot → PoolCore P → Frame P → Row (PoolCore P) P
+  make_memory_row given slot held c f = was_made slot held (memory_made c.settings (memories_wanted f.asked) (length f.objects.items) given held) c f
+
+  -- The memory is granted. The search for the next one's slot begins anew.
+  abbrev pub count_memory_row : Lease → PoolCore P → Frame P → Row (PoolCore P) P
+  count_memory_row lease c f = record {
+    part = counting_memories (c.counters.memories + 1) c;
+    frame = record f { objects = with_item lease f.objects; queues = 0 };
+    turn = next;
+  }
+
+  -- The memory is no grant any more.
+  abbrev pub uncount_memory_row : Lease → PoolCore P → Frame P → Row (PoolCore P) P
+  uncount_memory_row lease c f = record { part = counting_memories (c.counters.memories - 1) c; frame = f; turn = goes (Reset lease) }
+
+  -- The memory is reset into the local queue. That is flushed where it has no range or as many as a batch, and else
+  -- appended to the home queue. Where a page call of the reset failed, nothing is known of the slot.
+  abbrev pub reset_turn : ℕ → QueueState → Turn P
+  reset_turn batch local = if (length local.ranges == 0) || nat_le batch (length local.ranges) then flush else goes Merge
+
+  abbrev pub was_reset : Bool → Slot → Lease → PoolCore P → Frame P → Row (PoolCore P) P
+  was_reset true held lease c f = record { part = c; frame = f; turn = goes (PutUnknown lease.index held) }
+  was_reset false held lease c f =
+      let local : QueueState = reset_into c.settings.keep_resident.bytes lease.index (slot_of lease.memory) f.local in
+      record { part = c; frame = record f { local = local }; turn = reset_turn c.settings.batch local }
+
+  -- the answer that a call ends with once all is given back
+  abbrev pub answer_of : Ending → Outcome P
+  answer_of (refused e) = answer.Refused e
+  answer_of _ = answer.Returned
+
+  abbrev pub uncount_instance_row : PoolCore P → Frame P → Row (PoolCore P) P
+  uncount_instance_row c f = record { part = counting_instances (c.counters.core_instances - 1) c; frame = f; turn = ends (answer_of f.ending) }
+
+  -- The rows of a flush. The ranges of one slot are decommitted, which leaves this queue.
+  abbrev pub decommit_row : QueueState → PoolCore P → Frame P → Row (PoolCore P) P
+  decommit_row queue c f = record { part = c; frame = record f { local = queue }; turn = flush }
+
+  abbrev pub put_region_row : List QueuedMemory → PoolCore P → Frame P → Row (PoolCore P) P
+  put_region_row [] c f = record { part = c; frame = f; turn = goes Idle }
+  put_region_row (m ∷ rest) c f = in_cell m.index c (put_region_on m rest f)
+
+  abbrev pub free_row : PoolCore P → Frame P → Row (PoolCore P) P
+  free_row c f = let j : ℕ = first_shard c.settings f.freed.items in in_shard j c (free_on c.settings j (nth_shard j c.shards) f)
+
+  abbrev pub flush_row : FlushStep → QueueState → PoolCore P → Frame P → Row (PoolCore P) P
+  flush_row run queue c f = decommit_row queue c f
+  flush_row put queue c f = put_region_row f.local.memories c f
+  flush_row free queue c f = free_row c f
+
+-- The table.
+module _ {P : Type 0} where
+  abbrev pub row_of : StepGiven → Phase P → PoolCore P → Frame P → Row (PoolCore P) P
+  row_of g Idle c f = record { part = c; frame = f; turn = goes Idle }
+  row_of g Key c f = key_row c f
+  row_of g Validate c f = validate_row g.wants c f
+  row_of g CountInstance c f = count_instance_row c f
+  row_of g (Pick tried) c f = let j : ℕ = shard_tried tried c.settings f in in_shard j c (pick_on c.settings tried (nth_shard j c.shards) f)
+  row_of g TakeQueue c f = let i : ℕ = queue_tried f.queues c.settings f in in_queue i c (take_queue_on (nth_queue i c.queues) f)
+  row_of g (TakeRegion slot) c f = in_cell slot c (take_region_on c.settings slot (nth_cell slot c.cells) f)
+  row_of g (Empty slot held) c f = empty_row g.fault g.slot slot c f
+  row_of g (Instantiate slot held) c f = instantiate_row g.fault g.slot slot c f
+  row_of g (MakeMemory slot held) c f = make_memory_row g.limiter slot held c f
+  row_of g (CountMemory lease) c f = count_memory_row lease c f
+  row_of g (PutUnknown slot held) c f = in_cell slot c (put_unknown_on slot held (nth_cell slot c.cells) f)
+  row_of g (FreeUnknown slot) c f = let j : ℕ = shard_of c.settings slot in in_shard j c (free_unknown_on c.settings slot (nth_shard j c.shards) f)
+  row_of g (UncountMemory lease) c f = uncount_memory_row lease c f
+  row_of g (Reset lease) c f = was_reset g.fault g.slot lease c f
+  row_of g Merge c f = let i : ℕ = queue_tried 0 c.settings f in in_queue i c (merge_on c.settings (nth_queue i c.queues) f)
+  row_of g Flush c f = flush_row (flush_step f.local) g.queue c f
+  row_of g UncountInstance c f = uncount_instance_row c f
+
+  -- A step takes the phase out of the frame, and makes its row with what the phase has.
+  abbrev pub row : StepGiven → PoolCore P → Frame P → After P
+  row g c f = stepped (row_of g f.phase c (record f { phase = Idle }))

@@ -1,0 +1,131 @@
+-- How far a call is, as its party may know it, and how a step takes it on: to which stage, with which answer, and what is
+-- known then.
+use Rattle.std.specs.Prelude.{◌≡◌, ◌⊎◌, ℕ, ◌+◌, ◌<◌, ◌≤◌, length, slice_get, Bool, false, Option, Some, None, IfSome, Result, Ok, Err}
+use Rattle.pool_pages.specs.MakerTold.{MakerTold}
+use Rattle.pool_pages.specs.declared.unsupported.Unsupported.{Unsupported}
+use Rattle.pool_images.specs.Slots.{Slot, IsLeft}
+use Rattle.pool_limits.specs.LimiterTold.{LimiterTold}
+use Rattle.pool_limits.specs.declared.errors.LimiterError.{LimiterError}
+use Rattle.pool_memory.specs.Memories.{MemoryState}
+use Rattle.pool_slots.specs.declared.errors.AllocError.{AllocError}
+use Rattle.pool_slots.specs.declared.errors.AllocError.TheVariants as refusal
+use Rattle.pool_alloc.specs.Answers.{AsksForMemory}
+use Rattle.pool_alloc.specs.Own.{memory_made}
+use Rattle.pool_alloc.specs.Places.{right_to, slot_count, leased_count, kept_count, frame_count}
+use Rattle.pool_alloc.specs.Refusals.{memories_refused}
+use Rattle.pool_alloc.specs.Rows.{no_instance_left}
+use Rattle.pool_alloc.specs.Searches.{IsSearched}
+use Rattle.pool_alloc.specs.Sound.{AreSupported, IsAllocating, HasSlot}
+use Rattle.pool_alloc.specs.Steps.{memories_wanted, images_wanted}
+use Rattle.pool_alloc.specs.Stepping.{is_idle}
+use Rattle.pool_alloc.specs.Turns.{After, no_slot_left}
+use Rattle.pool_alloc.specs.declared.pool_core.PoolCore.{PoolCore}
+use Rattle.pool_alloc.specs.declared.frame.Ending.{Ending}
+use Rattle.pool_alloc.specs.declared.frame.Ending.TheVariants.{Granted as granted, Returned as returned, Refused as refused}
+use Rattle.pool_alloc.specs.declared.frame.Frame.{Frame}
+use Rattle.pool_alloc.specs.declared.frame.Outcome.{Outcome}
+use Rattle.pool_alloc.specs.declared.frame.Outcome.TheVariants as answer
+use Rattle.pool_alloc.specs.declared.frame.Phase.{Phase}
+use Rattle.pool_alloc.specs.declared.frame.Phase.TheVariants.{Idle, Key, Validate, CountInstance, CountMemory}
+
+-- how far a request is: its module isn't tested yet; its instance isn't counted yet; it is, and so many of its memories
+-- are made
+pub data Progress : Type 0 where
+  untested : Progress
+  uncounted : Progress
+  admitted : ℕ → Progress
+
+-- what a party's call is about: nothing; its stripe; a request; a grant that is given back; and a request that is refused
+-- once all is given back that it got
+pub data Stage : Type 0 where
+  no_call : Stage
+  keys : Stage
+  asks : Progress → Stage
+  returning : Stage
+  refusing : AllocError → Stage
+
+-- the stage by the ending, where so many memories are made
+abbrev pub stage_by : Ending → ℕ → Stage
+stage_by granted made = asks (admitted made)
+stage_by returned made = returning
+stage_by (refused e) made = refusing e
+
+-- what the test of a module ends with, where it isn't passed
+abbrev pub IsUntested : Option Unsupported → AllocError → Type 0
+IsUntested (Some rule) e = e ≡ refusal.Unsupported rule
+IsUntested None e = e ≡ refusal.Memory
+
+module _ {P : Type 0} where
+  abbrev pub stage_at : Phase P → Ending → ℕ → Stage
+  stage_at Idle ending granted_so_far = no_call
+  stage_at Key ending granted_so_far = keys
+  stage_at Validate ending granted_so_far = asks untested
+  stage_at CountInstance ending granted_so_far = asks uncounted
+  stage_at (CountMemory lease) ending granted_so_far = stage_by ending (granted_so_far + 1)
+  stage_at _ ending granted_so_far = stage_by ending granted_so_far
+
+  abbrev pub stage_of : Frame P → Stage
+  stage_of f = stage_at f.phase f.ending (length f.objects.items)
+
+  -- No slot is found for the next memory. The call has no slots but those of its memories, and where nobody freed one
+  -- meanwhile, the pool has none.
+  pub record FindsNone (c : PoolCore P) (f : Frame P) (n : ℕ) (e : AllocError) : Type 0 where
+    pub is : e ≡ no_slot_left c.settings f
+    pub number : n ≡ length f.objects.items
+    pub allocating : IsAllocating c.settings f
+    pub has : (k : ℕ) → frame_count (right_to k) f ≡ leased_count (right_to k) f.objects.items
+    pub none : IsSearched c f → (k : ℕ) → kept_count (right_to k) c ≡ 0
+
+  -- A page call failed on the region of a slot that the call has.
+  pub record IsPageFaulted (maker : MakerTold) (c : PoolCore P) (f : Frame P) (n : ℕ) (e : AllocError) : Type 0 where
+    pub is : e ≡ refusal.PageFault
+    pub number : n ≡ length f.objects.items
+    pub allocating : IsAllocating c.settings f
+    pub slot : ℕ
+    pub old : Slot
+    pub new : Slot
+    pub region : HasSlot maker c.settings slot old
+    pub left : IsLeft old new
+    pub has : (k : ℕ) → slot_count (right_to k) slot ≤ frame_count (right_to k) f
+
+  -- The limiter is asked for memory n, and this comes of making it.
+  pub record Makes (old new : LimiterTold) (c : PoolCore P) (f : Frame P) (n : ℕ) (made : Result MemoryState AllocError) : Type 0 where
+    pub number : n ≡ length f.objects.items
+    pub allocating : IsAllocating c.settings f
+    pub given : Result Bool LimiterError
+    pub held : Slot
+    pub asked : IfSome (slice_get (memories_wanted f.asked) n) (AsksForMemory given old new)
+    pub is : memory_made c.settings (memories_wanted f.asked) n given held ≡ made
+
+  -- Why a step fails a request that is so far.
+  abbrev pub Raises : MakerTold → LimiterTold → LimiterTold → PoolCore P → Frame P → Progress → AllocError → Type 0
+  Raises maker old new c f untested e = IsUntested (memories_refused c.settings (memories_wanted f.asked)) e
+  Raises maker old new c f uncounted e = (e ≡ no_instance_left c.settings) × (c.settings.max_core_instances ≤ c.counters.core_instances)
+  Raises maker old new c f (admitted n) e = FindsNone c f n e ⊎ (IsPageFaulted maker c f n e ⊎ Makes old new c f n (Err e))
+
+  -- What is known where a step takes a request on.
+  abbrev pub Follows : LimiterTold → LimiterTold → PoolCore P → Frame P → Progress → Progress → Type 0
+  Follows old new c f untested uncounted = memories_refused c.settings (memories_wanted f.asked) ≡ None
+  Follows old new c f uncounted (admitted n) = (n ≡ 0) × (c.counters.core_instances < c.settings.max_core_instances)
+  Follows old new c f (admitted n) (admitted m) = (m ≡ n) ⊎ ((m ≡ n + 1) × (memory : MemoryState) × Makes old new c f n (Ok memory))
+  Follows old new c f _ _ = ⊥
+
+  -- How a step may take a call on from one stage to another, with this answer. A grant is of all memories that are asked
+  -- for, which are supported.
+  abbrev pub Goes : MakerTold → LimiterTold → LimiterTold → PoolCore P → Frame P → Stage → Stage → Option (Outcome P) → Type 0
+  Goes maker old new c f no_call no_call None = Unit {0}
+  Goes maker old new c f keys no_call (Some answer.Key) = Unit {0}
+  Goes maker old new c f (asks p) (asks q) None = Follows old new c f p q
+  Goes maker old new c f (asks p) (refusing e) None = Raises maker old new c f p e
+  Goes maker old new c f (asks p) no_call (Some (answer.Refused e)) = Raises maker old new c f p e
+  Goes maker old new c f (asks p) no_call (Some (answer.Granted grant)) = Follows old new c f p (admitted (length (memories_wanted f.asked))) × AreSupported c.settings (memories_wanted f.asked) (images_wanted f.asked)
+  Goes maker old new c f returning returning None = Unit {0}
+  Goes maker old new c f returning no_call (Some answer.Returned) = Unit {0}
+  Goes maker old new c f (refusing e) (refusing d) None = d ≡ e
+  Goes maker old new c f (refusing e) no_call (Some (answer.Refused d)) = d ≡ e
+  Goes maker old new c f _ _ _ = ⊥
+
+  -- A step takes its call on so. What is asked for stays while it is under way.
+  pub record GoesOn (maker : MakerTold) (old new : LimiterTold) (c : PoolCore P) (f : Frame P) (a : After P) : Type 0 where
+    pub asked : is_idle a.frame.phase ≡ false → a.frame.asked ≡ f.asked
+    pub way : Goes maker old new c f (stage_of f) (stage_of a.frame) a.outcome

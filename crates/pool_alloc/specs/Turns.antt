@@ -1,0 +1,123 @@
+-- How a call goes on: a row of the step table gives a part, the frame and a turn, and one function says what the turn
+-- leaves of the frame.
+use Rattle.std.specs.Prelude.{◌&&◌, ◌==◌, List, [], ◌∷◌, length, Bool, true, false, nat_lt, if◌then◌else◌, Option, Some, None}
+use Rattle.pool_slots.specs.declared.errors.AllocError.{AllocError}
+use Rattle.pool_slots.specs.declared.errors.AllocError.TheVariants as refusal
+use Rattle.pool_slots.specs.declared.errors.ConcurrencyKind.TheVariants.{MemoryStripe}
+use Rattle.pool_alloc.specs.Reserved.{no_room}
+use Rattle.pool_alloc.specs.Leases.{Lease}
+use Rattle.pool_alloc.specs.Steps.{memories_wanted}
+use Rattle.pool_alloc.specs.declared.pool_core.PoolCore.{PoolCore}
+use Rattle.pool_alloc.specs.declared.pool_core.Settings.{Settings}
+use Rattle.pool_alloc.specs.declared.frame.Frame.{Frame}
+use Rattle.pool_alloc.specs.declared.frame.Phase.{Phase}
+use Rattle.pool_alloc.specs.declared.frame.Phase.TheVariants.{Idle, Pick, TakeQueue, UncountMemory, Flush, UncountInstance}
+use Rattle.pool_alloc.specs.declared.frame.Ending.{Ending}
+use Rattle.pool_alloc.specs.declared.frame.Ending.TheVariants.{Granted as granted, Returned as returned, Refused as refused}
+use Rattle.pool_alloc.specs.declared.frame.Grant.TheVariants.{Instance}
+use Rattle.pool_alloc.specs.declared.frame.Outcome.{Outcome}
+use Rattle.pool_alloc.specs.declared.frame.Outcome.TheVariants as answer
+
+-- How a call goes on: with this phase; it ends; with what its ending says is next; with the next part of a flush, or with
+-- what is next once that is done; with the next queue of a search, or with a refusal for room after the last.
+pub data Turn (P : Type 0) : Type 0 where
+  goes : Phase P → Turn P
+  ends : Outcome P → Turn P
+  next : Turn P
+  flush : Turn P
+  search : Turn P
+
+-- what a row gives: what it leaves of a part, or of the whole pool; the frame; and the turn
+pub record Row (X P : Type 0) : Type 0 where
+  pub part : X
+  pub frame : Frame P
+  pub turn : Turn P
+
+-- the row of a part in something greater
+abbrev pub lifted : {X Y P : Type 0} → (X → Y) → Row X P → Row Y P
+lifted into r = record { part = into r.part; frame = r.frame; turn = r.turn }
+
+-- what a turn leaves of the frame, and the answer to the call where it ends with this step
+pub record Left (P : Type 0) : Type 0 where
+  pub frame : Frame P
+  pub outcome : Option (Outcome P)
+
+-- what a step leaves, of one part and of the pool
+pub record PartAfter (X P : Type 0) : Type 0 where
+  pub part : X
+  pub frame : Frame P
+  pub outcome : Option (Outcome P)
+
+pub record After (P : Type 0) : Type 0 where
+  pub core : PoolCore P
+  pub frame : Frame P
+  pub outcome : Option (Outcome P)
+
+-- the call is to end with a grant
+abbrev pub is_granting : Ending → Bool
+is_granting granted = true
+is_granting _ = false
+
+module _ {P : Type 0} where
+  -- the call fails: what it was granted so far is what it gives back
+  abbrev pub failing : AllocError → Frame P → Frame P
+  failing e f = record f { ending = refused e }
+
+  abbrev pub goes_to : Frame P → Phase P → Left P
+  goes_to f phase = record { frame = record f { phase = phase }; outcome = None }
+
+  abbrev pub ends_with : Frame P → Outcome P → Left P
+  ends_with f outcome = record { frame = record f { phase = Idle; asked = None }; outcome = Some outcome }
+
+  -- the next of these memories is given back, or else the instance
+  abbrev pub returned_next : List Lease → Frame P → Left P
+  returned_next [] f = goes_to f UncountInstance
+  returned_next (lease ∷ rest) f = goes_to (record f { objects = record f.objects { items = rest } }) (UncountMemory lease)
+
+  -- the next memory of the instance is picked a slot for, or the instance is whole
+  abbrev pub granted_next : Frame P → Left P
+  granted_next f =
+      if nat_lt (length f.objects.items) (length (memories_wanted f.asked))
+      then goes_to f (Pick 0)
+      else ends_with (record f { objects = no_room }) (answer.Granted (Instance (record { memories = f.objects })))
+
+  abbrev pub next_by : Ending → Frame P → Left P
+  next_by granted f = granted_next f
+  next_by returned f = returned_next f.objects.items f
+  next_by (refused e) f = returned_next f.objects.items f
+
+  -- the local queue is flushed, and its slots are free
+  abbrev pub is_flushed : Frame P → Bool
+  is_flushed f = (length f.local.memories == 0) && (length f.freed.items == 0)
+
+  abbrev pub flush_next : Frame P → Left P
+  flush_next f = if is_flushed f then next_by f.ending f else goes_to f Flush
+
+  -- the refusal for room
+  abbrev pub no_slot_left : Settings → Frame P → AllocError
+  no_slot_left s f = refusal.Limit (record { limit = s.slots; kind = MemoryStripe f.stripe })
+
+  abbrev pub search_next : Settings → Frame P → Left P
+  search_next s f =
+      if nat_lt f.queues s.queues
+      then goes_to f TakeQueue
+      else returned_next f.objects.items (failing (no_slot_left s f) f)
+
+  -- what a turn leaves
+  abbrev pub after : Settings → Frame P → Turn P → Left P
+  after s f (goes phase) = goes_to f phase
+  after s f (ends outcome) = ends_with f outcome
+  after s f next = next_by f.ending f
+  after s f flush = flush_next f
+  after s f search = search_next s f
+
+  -- what a step leaves of one part, by its row
+  abbrev pub part_after : {X : Type 0} → Settings → Row X P → PartAfter X P
+  part_after s r = let l : Left P = after s r.frame r.turn in record { part = r.part; frame = l.frame; outcome = l.outcome }
+
+  -- and of the pool
+  abbrev pub finished : PoolCore P → Left P → After P
+  finished c l = record { core = c; frame = l.frame; outcome = l.outcome }
+
+  abbrev pub stepped : Row (PoolCore P) P → After P
+  stepped r = finished r.part (after r.part.settings r.frame r.turn)

@@ -1,0 +1,100 @@
+ghost use Rattle.std.specs.Prelude.{◌≡◌, ◌<◌, length, false, List};
+ghost use Rattle.pool_pages.specs.Count.{count};
+ghost use Rattle.pool_images.specs.Slots.{IsFresh};
+ghost use Rattle.pool_slots.specs.Cells.{Cell, is_taken, unmapped, IsCleanOnceUsed};
+ghost use Rattle.pool_slots.specs.CellOf.{cell_of};
+ghost use Rattle.pool_slots.specs.Queues.{QueuedMemory, IsSettled};
+ghost use Rattle.pool_alloc.specs.Own.{image_made};
+ghost use Rattle.pool_alloc.specs.Rows.{take_region_on, put_unknown_on, region_put};
+ghost use Rattle.pool_alloc.specs.Steps.{cell_returned};
+ghost use Rattle.pool_alloc.specs.Turns.{PartAfter, part_after};
+
+use crate::frame::{Frame, FreedSlot, Outcome, Phase};
+use crate::pool_core::Settings;
+use pool_images::MemoryImageSlot;
+use pool_pages::{PageRegion, Pages};
+use pool_slots::{ImageSlot, MemoryCell, MemoryItem};
+use std::alloc::Global;
+
+// Takes the region of a slot out of its cell. An image slot is made of a region that was never used.
+pub(crate) fn take_region<P: Pages>(
+    cell: &mut MemoryCell<P>,
+    settings: &Settings,
+    frame: &mut Frame<P>,
+    slot: u32,
+) -> Option<Outcome<P>>
+    requires there { is_taken cell.old ≡ false }
+    requires fresh { (region : _) → cell.old ≡ unmapped region → IsFresh (count settings.now.page 0) (count settings.now.page 0) settings.now.max_memory_size None region }
+    ensures { ◌≡◌ {A = PartAfter Cell P} (record { part = cell.new; frame = frame.new; outcome = result }) (part_after settings.now (take_region_on settings.now slot cell.old frame.old)) }
+{
+    frame.phase = match cell.take() {
+        ImageSlot::Unmapped(region) => Phase::Instantiate(slot, image_slot_of(settings, region)),
+        ImageSlot::Unknown(held) => Phase::Empty(slot, held),
+        ImageSlot::PreviouslyUsed(held) => Phase::Instantiate(slot, held),
+        ImageSlot::Taken => unreachable!(),
+    };
+    None
+}
+
+// The image slot of a region that was never used.
+fn image_slot_of<P: Pages>(settings: &Settings, region: PageRegion<P>) -> MemoryImageSlot<P>
+    requires { IsFresh (count settings.now.page 0) (count settings.now.page 0) settings.now.max_memory_size None region }
+    ensures { result ≡ image_made settings.now.page settings.now.max_memory_size region }
+{
+    let none = settings.page.zero();
+    MemoryImageSlot::create(
+        region.into_pages(),
+        none,
+        none,
+        settings.max_memory_size,
+        None,
+    )
+}
+
+// Puts the region of a slot back. Nothing is known of it.
+pub(crate) fn put_unknown<P: Pages>(
+    cell: &mut MemoryCell<P>,
+    settings: &Settings,
+    frame: &mut Frame<P>,
+    slot: u32,
+    held: MemoryImageSlot<P>,
+) -> Option<Outcome<P>>
+    ensures { ◌≡◌ {A = PartAfter Cell P} (record { part = cell.new; frame = frame.new; outcome = result }) (part_after settings.now (put_unknown_on slot held cell.old frame.old)) }
+{
+    let _page = settings.page;
+    cell.put(ImageSlot::Unknown(held));
+    frame.phase = Phase::FreeUnknown(slot);
+    None
+}
+
+// Puts the region of a slot back that was in the local queue. The slot waits to be freed then.
+pub(crate) fn put_region<P: Pages>(
+    cell: &mut MemoryCell<P>,
+    settings: &Settings,
+    alloc: Global,
+    frame: &mut Frame<P>,
+    item: MemoryItem<P>,
+) -> Option<Outcome<P>>
+    requires settled { IsSettled item }
+    requires room { length frame.old.freed.items < frame.old.freed.room }
+    ensures { ◌≡◌ {A = PartAfter Cell P} (record { part = cell.new; frame = frame.new; outcome = result }) (part_after settings.now (region_put item frame.old)) }
+{
+    let slot = item.index.0;
+    let bytes = item.bytes;
+    cell.put(cell_returned(item));
+    frame.freed.push(FreedSlot { slot, bytes });
+    frame.flush(alloc, settings)
+}
+
+// What a region's cell holds once its memory is given back.
+fn cell_returned<P: Pages>(item: MemoryItem<P>) -> ImageSlot<P>
+    requires { IsSettled item }
+    ensures value { cell_of result ≡ cell_returned item }
+    ensures clean { IsCleanOnceUsed (cell_of result) }
+{
+    if item.known {
+        ImageSlot::PreviouslyUsed(item.slot)
+    } else {
+        ImageSlot::Unknown(item.slot)
+    }
+}

@@ -1,0 +1,97 @@
+ghost use Rattle.std.specs.Prelude.{◌≡◌, ◌<◌, length};
+ghost use Rattle.pool_alloc.specs.Turns.{Left, next, flush, search, after, failing, granted_next, returned_next, next_by, is_flushed};
+
+use crate::frame::{Ending, Frame, Grant, Outcome, Phase};
+use crate::lease::InstanceLease;
+use crate::pool_core::Settings;
+use crate::reserved::ReservedList;
+use pool_pages::Pages;
+use pool_slots::{AllocError, ConcurrencyKind, PoolConcurrencyLimitError};
+use std::alloc::Global;
+use std::mem;
+
+// How a step's turn takes the call on. A turn changes no part of the pool.
+impl<P: Pages> Frame<P> {
+    // The call fails: what it was granted so far is what it gives back.
+    pub(crate) fn fail(&mut self, error: AllocError)
+        ensures { self.new ≡ failing error self.old }
+    {
+        self.ending = Ending::Refused(error);
+    }
+
+    // What the ending says is next.
+    pub(crate) fn next(&mut self, alloc: Global, settings: &Settings) -> Option<Outcome<P>>
+        ensures { ◌≡◌ {A = Left P} (record { frame = self.new; outcome = result }) (after settings.now self.old next) }
+    {
+        let _slots = settings.slots;
+        self.next_step(alloc)
+    }
+
+    fn next_step(&mut self, alloc: Global) -> Option<Outcome<P>>
+        ensures { ◌≡◌ {A = Left P} (record { frame = self.new; outcome = result }) (next_by self.old.ending self.old) }
+    {
+        match self.ending {
+            Ending::Granted => self.grant_next(alloc),
+            Ending::Returned => self.return_next(),
+            Ending::Refused(_) => self.return_next(),
+        }
+    }
+
+    // The next memory of the instance is picked a slot for, or the instance is granted.
+    fn grant_next(&mut self, alloc: Global) -> Option<Outcome<P>>
+        ensures { ◌≡◌ {A = Left P} (record { frame = self.new; outcome = result }) (granted_next self.old) }
+    {
+        if self.objects.len() < self.memories_wanted() {
+            self.phase = Phase::Pick(0);
+            return None;
+        }
+        let memories = mem::replace(&mut self.objects, ReservedList::none(alloc));
+        self.phase = Phase::Idle;
+        self.asked = None;
+        Some(Outcome::Granted(Grant::Instance(InstanceLease { memories })))
+    }
+
+    // The next memory is given back, or else the instance.
+    pub(crate) fn return_next(&mut self) -> Option<Outcome<P>>
+        ensures { ◌≡◌ {A = Left P} (record { frame = self.new; outcome = result }) (returned_next self.old.objects.items self.old) }
+    {
+        self.phase = match self.objects.pop_first() {
+            Some(lease) => Phase::UncountMemory(lease),
+            None => Phase::UncountInstance,
+        };
+        None
+    }
+
+    // The next part of a flush, or what is next once it is done.
+    pub(crate) fn flush(&mut self, alloc: Global, settings: &Settings) -> Option<Outcome<P>>
+        ensures { ◌≡◌ {A = Left P} (record { frame = self.new; outcome = result }) (after settings.now self.old flush) }
+    {
+        let _slots = settings.slots;
+        if self.is_flushed() {
+            return self.next_step(alloc);
+        }
+        self.phase = Phase::Flush;
+        None
+    }
+
+    fn is_flushed(&self) -> bool
+        ensures { result ≡ is_flushed self.now }
+    {
+        self.local.is_empty() && self.freed.is_empty()
+    }
+
+    // The next queue of a search, or the refusal for room after the last.
+    pub(crate) fn search(&mut self, settings: &Settings) -> Option<Outcome<P>>
+        ensures { ◌≡◌ {A = Left P} (record { frame = self.new; outcome = result }) (after settings.now self.old search) }
+    {
+        if self.queues < settings.queues {
+            self.phase = Phase::TakeQueue;
+            return None;
+        }
+        self.fail(AllocError::Limit(PoolConcurrencyLimitError {
+            limit: settings.slots,
+            kind: ConcurrencyKind::MemoryStripe(self.stripe),
+        }));
+        self.return_next()
+    }
+}

@@ -1,0 +1,113 @@
+ghost use Rattle.std.specs.Prelude.{◌≡◌, ◌+◌, ◌<◌, ◌≤◌, ◌^◌, ◌/◌, nat_lt, length, All, IsSome, None, option_map, if◌then◌else◌};
+ghost use Rattle.pool_index.specs.Shard.{ShardState, IsShard, IsSameShard, use_of, pick_answer, after_pick, after_free, slot_number};
+ghost use Rattle.pool_alloc.specs.Freeing.{AreUsedInTurn};
+ghost use Rattle.pool_alloc.specs.Rows.{picked, pick_on, free_unknown_on, free_on};
+ghost use Rattle.pool_alloc.specs.Steps.{local_of, freed_of};
+ghost use Rattle.pool_alloc.specs.Turns.{Left, PartAfter, after, part_after, goes, search};
+
+use crate::frame::{Frame, Outcome, Phase};
+use crate::freeing::free_all;
+use crate::pool_core::Settings;
+use pool_index::{MemoryInModule, Shard, SlotId, Steps};
+use pool_pages::Pages;
+use std::alloc::Global;
+use std::marker::Brand;
+use std::sync::ledger::{Blank, Ledger};
+
+// Picks a slot from a shard, which is so many after the home shard.
+pub(crate) fn pick<P: Pages>(
+    shard: &mut Shard,
+    settings: &Settings,
+    frame: &mut Frame<P>,
+    tried: usize,
+) -> Option<Outcome<P>>
+    requires tried { tried + 1 < 2 ^ 64 }
+    requires few { length frame.old.objects.items < 2 ^ 32 }
+    ensures { ◌≡◌ {A = PartAfter ShardState P} (record { part = shard.new; frame = frame.new; outcome = result }) (part_after settings.now (pick_on settings.now tried shard.old frame.old)) }
+{
+    match pick_of::<Brand>(shard, frame.wanted(), Blank::new(1)) {
+        Some(slot) => {
+            frame.phase = Phase::TakeRegion(slot);
+            None
+        }
+        None => pick_next(settings, frame, tried),
+    }
+}
+
+// The shard had no slot: the next is tried, unless it was the last.
+fn pick_next<P: Pages>(
+    settings: &Settings,
+    frame: &mut Frame<P>,
+    tried: usize,
+) -> Option<Outcome<P>>
+    requires { tried + 1 < 2 ^ 64 }
+    ensures { ◌≡◌ {A = Left P} (record { frame = frame.new; outcome = result }) (after settings.now frame.old (if nat_lt (tried + 1) settings.now.shards then goes (Phase.Pick (tried + 1)) else search)) }
+{
+    if tried + 1 < settings.shards {
+        frame.phase = Phase::Pick(tried + 1);
+        return None;
+    }
+    frame.search(settings)
+}
+
+// Frees a slot of a shard. Nothing is known of it.
+pub(crate) fn free_unknown<P: Pages>(
+    shard: &mut Shard,
+    settings: &Settings,
+    alloc: Global,
+    frame: &mut Frame<P>,
+    slot: u32,
+) -> Option<Outcome<P>>
+    requires slots { 0 < settings.now.slots_per_shard }
+    requires used { IsSome (use_of shard.old (local_of settings.now slot).0) }
+    ensures { ◌≡◌ {A = PartAfter ShardState P} (record { part = shard.new; frame = frame.new; outcome = result }) (part_after settings.now (free_unknown_on settings.now slot shard.old frame.old)) }
+{
+    let local = SlotId(slot % settings.slots_per_shard);
+    free_of::<Brand>(shard, local, 0, Blank::new(1));
+    frame.next(alloc, settings)
+}
+
+// Frees all slots of shard `place` that wait to be freed.
+pub(crate) fn free<P: Pages>(
+    shard: &mut Shard,
+    settings: &Settings,
+    alloc: Global,
+    frame: &mut Frame<P>,
+    place: usize,
+) -> Option<Outcome<P>>
+    requires slots { 0 < settings.now.slots_per_shard }
+    requires used { AreUsedInTurn settings.now (freed_of settings.now place frame.old.freed.items) shard.old }
+    requires bytes { All (λ x. x.bytes ≤ 2 ^ 32) frame.old.freed.items }
+    ensures { ◌≡◌ {A = PartAfter ShardState P} (record { part = shard.new; frame = frame.new; outcome = result }) (part_after settings.now (free_on settings.now place shard.old frame.old)) }
+{
+    free_all(shard, settings, place, &mut frame.freed);
+    frame.flush(alloc, settings)
+}
+
+// Picks a slot of the shard, and gives its number in the pool. The shard's steps are counted nowhere.
+fn pick_of<L: Ledger>(shard: &mut Shard, want: Option<MemoryInModule>, blank: Blank) -> Option<u32>
+    requires name { blank.name ≡ L.name }
+    requires parts { blank.parts ≡ L.parts }
+    requires some { 0 < blank.parts }
+    ensures answer { result ≡ option_map (λ p. slot_number shard.old p.0.0) (pick_answer want shard.old) }
+    ensures after { shard.new ≡ after_pick want shard.old }
+{
+    let mut steps = Steps::<L>::new(blank);
+    match shard.pick(want, &mut steps) {
+        Ok((slot, _)) => Some(shard.number(slot)),
+        Err(_) => None,
+    }
+}
+
+// Frees a used slot of the shard, which keeps so many bytes resident.
+pub(crate) fn free_of<L: Ledger>(shard: &mut Shard, slot: SlotId, bytes: usize, blank: Blank)
+    requires name { blank.name ≡ L.name }
+    requires parts { blank.parts ≡ L.parts }
+    requires some { 0 < blank.parts }
+    requires used { IsSome (use_of shard.old slot.0) }
+    requires bytes { bytes ≤ 2 ^ 32 }
+    ensures { shard.new ≡ after_free slot bytes shard.old }
+{
+    let mut steps = Steps::<L>::new(blank);
+    shard.free(slot, bytes, &mut steps);
+}
