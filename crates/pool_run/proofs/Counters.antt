@@ -6,13 +6,13 @@ use Rattle.std.proofs.lemmas.List.Sums.{sum_by-le-sum_by}
 use Rattle.pool_pages.specs.MakerTold.{MakerTold}
 use Rattle.pool_index.specs.Shard.{one_if}
 use Rattle.pool_alloc.specs.Leases.{Lease}
-use Rattle.pool_alloc.specs.Places.{right_to, both_count, leased_count, made_count, phase_instances}
+use Rattle.pool_alloc.specs.Places.{right_to, both_count, leased_count, made_count, phase_count, phase_instances, phase_memories}
 use Rattle.pool_alloc.specs.Stepping.{CanCount, grant_count, grant_instances, grant_memories}
 use Rattle.pool_alloc.specs.declared.pool_core.PoolCore.{PoolCore}
 use Rattle.pool_alloc.specs.declared.frame.Grant.{Grant}
 use Rattle.pool_alloc.specs.declared.frame.Grant.TheVariants.{Instance as instance}
 use Rattle.pool_alloc.specs.declared.frame.Phase.{Phase}
-use Rattle.pool_alloc.specs.declared.frame.Phase.TheVariants.{Idle, Key, Validate, CountInstance, Pick, TakeQueue, TakeRegion, Empty, Instantiate, MakeMemory, CountMemory, PutUnknown, FreeUnknown, UncountMemory, Reset, Merge, Decommit, PutRegion, Free, UncountInstance}
+use Rattle.pool_alloc.specs.declared.frame.Phase.TheVariants.{Idle, UncountMemory}
 use Rattle.pool_alloc.proofs.Below.{below, below_sum, below_le, below_most, below_one, sum_below, ones}
 use Rattle.pool_alloc.proofs.Held.{made_once}
 use Rattle.pool_alloc.proofs.SlotCounts.{slot_once}
@@ -35,17 +35,22 @@ module _ {P : Type 0} where
   grant_below n None none = omega arith
   grant_below n (Some (instance lease)) none = leases_below n lease.memories.items none
 
+  -- a memory that is uncounted has a slot
+  phase_below : (n : ℕ) (phase : Phase P) → ((k : ℕ) → n ≤ k → phase_count (right_to k) phase ≡ 0) → phase_memories phase ≤ below (λ k. phase_count (right_to k) phase) n
+  phase_below n (UncountMemory lease) none = lease_below n lease none
+  phase_below n _ none = omega arith
+
   party_below : (n : ℕ) (p : RunningParty P) → ((k : ℕ) → n ≤ k → (held_by_party p).places (right_to k) ≡ 0) → (held_by_party p).memories ≤ below (λ k. (held_by_party p).places (right_to k)) n
   party_below n p none =
-      let granted : ℕ → ℕ = λ k. leased_count (right_to k) p.frame.granted.items in
-      let returning : ℕ → ℕ = λ k. leased_count (right_to k) p.frame.returning.items in
+      let objects : ℕ → ℕ = λ k. leased_count (right_to k) p.frame.objects.items in
+      let phase : ℕ → ℕ = λ k. phase_count (right_to k) p.frame.phase in
       let live : ℕ → ℕ = λ k. sum_by (granted_to (grant_count (right_to k))) p.live in
-      let first = leases_below n p.frame.granted.items (λ k past. omega (arith, none k past)) in
-      let second = leases_below n p.frame.returning.items (λ k past. omega (arith, none k past)) in
+      let first = leases_below n p.frame.objects.items (λ k past. omega (arith, none k past)) in
+      let second = phase_below n p.frame.phase (λ k past. omega (arith, none k past)) in
       let third = sum_below (λ k o. granted_to (grant_count (right_to k)) o) (granted_to grant_memories) n p.live (grant_below n) (λ k past. omega (arith, none k past)) in
-      let two = below_sum granted returning (λ k. granted k + returning k) (λ k. refl) n in
-      let three = below_sum (λ k. granted k + returning k) live (λ k. granted k + returning k + live k) (λ k. refl) n in
-      let all = below_le (λ k. granted k + returning k + live k) (λ k. (held_by_party p).places (right_to k)) (λ k. omega arith) n in
+      let two = below_sum objects phase (λ k. objects k + phase k) (λ k. refl) n in
+      let three = below_sum (λ k. objects k + phase k) live (λ k. objects k + phase k + live k) (λ k. refl) n in
+      let all = below_le (λ k. objects k + phase k + live k) (λ k. (held_by_party p).places (right_to k)) (λ k. omega arith) n in
       omega (arith, first, second, third, two, three, all)
 
   -- There are no more memories than slots.
@@ -62,25 +67,7 @@ module _ {P : Type 0} where
 
   phase_counts_one : (phase : Phase P) → phase_instances phase ≤ 1
   phase_counts_one Idle = omega arith
-  phase_counts_one Key = omega arith
-  phase_counts_one Validate = omega arith
-  phase_counts_one CountInstance = omega arith
-  phase_counts_one (Pick queues tried) = omega arith
-  phase_counts_one (TakeQueue queues) = omega arith
-  phase_counts_one (TakeRegion slot) = omega arith
-  phase_counts_one (Empty slot held) = omega arith
-  phase_counts_one (Instantiate slot held) = omega arith
-  phase_counts_one (MakeMemory slot held) = omega arith
-  phase_counts_one (CountMemory lease) = omega arith
-  phase_counts_one (PutUnknown slot held after) = omega arith
-  phase_counts_one (FreeUnknown slot after) = omega arith
-  phase_counts_one UncountMemory = omega arith
-  phase_counts_one (Reset lease) = omega arith
-  phase_counts_one Merge = omega arith
-  phase_counts_one (Decommit after) = omega arith
-  phase_counts_one (PutRegion after) = omega arith
-  phase_counts_one (Free after) = omega arith
-  phase_counts_one UncountInstance = omega arith
+  phase_counts_one _ = omega arith
 
   one_instance : (o : Option (Grant P)) → granted_to grant_instances o ≤ 1
   one_instance None = omega arith

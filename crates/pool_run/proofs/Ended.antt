@@ -3,7 +3,6 @@ use Rattle.std.proofs.Common.{◌≡◌, ℕ, ◌+◌, ◌<◌, ◌≤◌, List,
 use Rattle.std.specs.Prelude.{IfSome, slice_get, slice_index_or}
 use Rattle.std.proofs.lemmas.List.{length-set}
 use Rattle.std.proofs.lemmas.Option.{slice_get-get_or}
-use Rattle.pool_pages.specs.MakerTold.{MakerTold}
 use Rattle.pool_alloc.specs.declared.frame.ModuleCall.{ModuleCall}
 use Rattle.pool_run.specs.PartyRules.{rule_of}
 use Rattle.pool_run.specs.Private.{PrivateState, StepsBy, with_grants, no_grants}
@@ -29,13 +28,13 @@ module _ {P : Type 0} where
   turned_count modules commands i (Some p) s new turns = ap (λ (x : RunState P). length x.parties) turns.2 ∙ length-set s.parties i turns.0.party
 
   -- No party comes or goes.
-  pub folds_count : (maker : MakerTold) (modules : List ModuleCall) (inputs : List (List Command)) (schedule : List ℕ) (s end : RunState P) → Folds maker modules inputs schedule s end → length end.parties ≡ length s.parties
-  folds_count maker modules inputs [] s end folds = ap (λ (x : RunState P). length x.parties) folds
-  folds_count maker modules inputs (i ∷ schedule) s end folds = folds_count maker modules inputs schedule folds.0 end folds.2 ∙ turned_count modules (commands_of inputs i) i (slice_get s.parties i) s folds.0 folds.1.0
+  pub folds_count : (modules : List ModuleCall) (inputs : List (List Command)) (schedule : List ℕ) (s end : RunState P) → Folds modules inputs schedule s end → length end.parties ≡ length s.parties
+  folds_count modules inputs [] s end folds = ap (λ (x : RunState P). length x.parties) folds
+  folds_count modules inputs (i ∷ schedule) s end folds = folds_count modules inputs schedule folds.0 end folds.2 ∙ turned_count modules (commands_of inputs i) i (slice_get s.parties i) s folds.0 folds.1
 
-  pub run_count : (maker : MakerTold) (modules : List ModuleCall) (inputs : List (List Command)) (schedule : List ℕ) (s end : RunState P) → Runs maker modules inputs schedule s end → length end.parties ≡ length s.parties
-  run_count maker modules inputs schedule s end runs =
-      folds_count maker modules inputs (party_by_party 0 runs.finishes.counts) runs.scheduled end runs.finishes.folds ∙ folds_count maker modules inputs schedule s runs.scheduled runs.folds
+  pub run_count : (modules : List ModuleCall) (inputs : List (List Command)) (schedule : List ℕ) (s end : RunState P) → Runs modules inputs schedule s end → length end.parties ≡ length s.parties
+  run_count modules inputs schedule s end runs =
+      folds_count modules inputs (party_by_party 0 runs.finishes.counts) runs.scheduled end runs.finishes.folds ∙ folds_count modules inputs schedule s runs.scheduled runs.folds
 
   -- Where nobody has anything left each command has its reply.
   pub all_replied : (w : World) (modules : List ModuleCall) (inputs : List (List Command)) (s : RunState P) (i : ℕ) (d : RunningParty P) → IsUnderWay w modules inputs s → IsFinished inputs s → i < length s.parties → length (replies_to i s.replies) ≡ length (commands_of inputs i)

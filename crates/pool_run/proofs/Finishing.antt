@@ -4,7 +4,6 @@ use Rattle.std.specs.Prelude.{◌&&◌, not, nat_lt, IfSome, IsSome, slice_get}
 use Rattle.std.proofs.lemmas.Bool.{lt-ltb, not-true, not-false, cases_lt}
 use Rattle.std.proofs.lemmas.List.{append-nil, length_push, replicate-append-replicate}
 use Rattle.std.proofs.lemmas.Option.{slice_get_past}
-use Rattle.pool_pages.specs.MakerTold.{MakerTold}
 use Rattle.pool_index.specs.Shard.{one_if}
 use Rattle.pool_alloc.specs.Stepping.{is_idle}
 use Rattle.pool_alloc.specs.declared.frame.ModuleCall.{ModuleCall}
@@ -36,18 +35,18 @@ party_by_party-push i n (m ∷ counts) =
 
 module _ {P : Type 0} where
   -- no turns, one more, and more after others
-  pub some_none : (maker : MakerTold) (modules : List ModuleCall) (inputs : List (List Command)) (i : ℕ) (s : RunState P) → TurnsSome maker modules inputs i s s
-  some_none maker modules inputs i s = record { times = 0; folds = refl }
+  pub some_none : (modules : List ModuleCall) (inputs : List (List Command)) (i : ℕ) (s : RunState P) → TurnsSome modules inputs i s s
+  some_none modules inputs i s = record { times = 0; folds = refl }
 
-  pub some_more : (maker : MakerTold) (modules : List ModuleCall) (inputs : List (List Command)) (i : ℕ) (s mid new : RunState P) → TurnsSome maker modules inputs i s mid → TurnsOf maker modules inputs i mid new → TurnsSome maker modules inputs i s new
-  some_more maker modules inputs i s mid new some turns = record { times = some.times + 1; folds = repeated maker modules inputs i some.times s mid new some.folds turns }
+  pub some_more : (modules : List ModuleCall) (inputs : List (List Command)) (i : ℕ) (s mid new : RunState P) → TurnsSome modules inputs i s mid → TurnsOf modules inputs i mid new → TurnsSome modules inputs i s new
+  some_more modules inputs i s mid new some turns = record { times = some.times + 1; folds = repeated modules inputs i some.times s mid new some.folds turns }
 
-  pub some_on : (maker : MakerTold) (modules : List ModuleCall) (inputs : List (List Command)) (i : ℕ) (s mid end : RunState P) → TurnsSome maker modules inputs i s mid → TurnsSome maker modules inputs i mid end → TurnsSome maker modules inputs i s end
-  some_on maker modules inputs i s mid end some more =
-      let F : List ℕ → Type 0 = λ turns. Folds maker modules inputs turns s end in
+  pub some_on : (modules : List ModuleCall) (inputs : List (List Command)) (i : ℕ) (s mid end : RunState P) → TurnsSome modules inputs i s mid → TurnsSome modules inputs i mid end → TurnsSome modules inputs i s end
+  some_on modules inputs i s mid end some more =
+      let F : List ℕ → Type 0 = λ turns. Folds modules inputs turns s end in
       record {
         times = some.times + more.times;
-        folds = subst F (replicate-append-replicate some.times more.times i) (folds_on maker modules inputs (replicate some.times i) (replicate more.times i) s mid end some.folds more.folds);
+        folds = subst F (replicate-append-replicate some.times more.times i) (folds_on modules inputs (replicate some.times i) (replicate more.times i) s mid end some.folds more.folds);
       }
 
   -- The other parties stay as they are.
@@ -55,9 +54,9 @@ module _ {P : Type 0} where
   turned_others modules commands i k None s new other turns = ap (λ (x : RunState P). slice_get x.parties k) turns
   turned_others modules commands i k (Some p) s new other turns = ap (λ (x : RunState P). slice_get x.parties k) turns.2 ∙ set_other s.parties i k turns.0.party other
 
-  folds_others : (maker : MakerTold) (modules : List ModuleCall) (inputs : List (List Command)) (i k n : ℕ) (s end : RunState P) → k ≢ i → Folds maker modules inputs (replicate n i) s end → slice_get end.parties k ≡ slice_get s.parties k
-  folds_others maker modules inputs i k zero s end other folds = ap (λ (x : RunState P). slice_get x.parties k) folds
-  folds_others maker modules inputs i k (suc n) s end other folds = folds_others maker modules inputs i k n folds.0 end other folds.2 ∙ turned_others modules (commands_of inputs i) i k (slice_get s.parties i) s folds.0 other folds.1.0
+  folds_others : (modules : List ModuleCall) (inputs : List (List Command)) (i k n : ℕ) (s end : RunState P) → k ≢ i → Folds modules inputs (replicate n i) s end → slice_get end.parties k ≡ slice_get s.parties k
+  folds_others modules inputs i k zero s end other folds = ap (λ (x : RunState P). slice_get x.parties k) folds
+  folds_others modules inputs i k (suc n) s end other folds = folds_others modules inputs i k n folds.0 end other folds.2 ∙ turned_others modules (commands_of inputs i) i k (slice_get s.parties i) s folds.0 other folds.1
 
   -- A party without a call that has all its replies has nothing left.
   pub nothing_is_left : (commands : List Command) (o : Option (RunningParty P)) → is_busy o ≡ false → length commands ≤ commands_done o → IfSome o (HasNothingLeft commands)
@@ -88,38 +87,38 @@ module _ {P : Type 0} where
   begins_there count i s below idle more = begins_some count (slice_get s.parties i) (is_there s.parties i below) idle more
 
   -- the parties below i have nothing left, after so many turns of each
-  pub record FinishesBelow (maker : MakerTold) (modules : List ModuleCall) (inputs : List (List Command)) (i : ℕ) (s end : RunState P) : Type 0 where
+  pub record FinishesBelow (modules : List ModuleCall) (inputs : List (List Command)) (i : ℕ) (s end : RunState P) : Type 0 where
     pub counts : List ℕ
     pub parties : length counts ≡ i
-    pub folds : Folds maker modules inputs (party_by_party 0 counts) s end
+    pub folds : Folds modules inputs (party_by_party 0 counts) s end
     pub finished : (k : ℕ) → k < i → IfSome (slice_get end.parties k) (HasNothingLeft (commands_of inputs k))
 
-  pub finishes_none : (maker : MakerTold) (modules : List ModuleCall) (inputs : List (List Command)) (s : RunState P) → FinishesBelow maker modules inputs 0 s s
-  finishes_none maker modules inputs s = record { counts = []; parties = refl; folds = refl; finished = λ k below. absurd (omega (arith, below)) }
+  pub finishes_none : (modules : List ModuleCall) (inputs : List (List Command)) (s : RunState P) → FinishesBelow modules inputs 0 s s
+  finishes_none modules inputs s = record { counts = []; parties = refl; folds = refl; finished = λ k below. absurd (omega (arith, below)) }
 
-  pub finishes_more : (maker : MakerTold) (modules : List ModuleCall) (inputs : List (List Command)) (i : ℕ) (s mid end : RunState P) → FinishesBelow maker modules inputs i s mid → TurnsSome maker modules inputs i mid end → IfSome (slice_get end.parties i) (HasNothingLeft (commands_of inputs i)) → FinishesBelow maker modules inputs (i + 1) s end
-  finishes_more maker modules inputs i s mid end below some left =
+  pub finishes_more : (modules : List ModuleCall) (inputs : List (List Command)) (i : ℕ) (s mid end : RunState P) → FinishesBelow modules inputs i s mid → TurnsSome modules inputs i mid end → IfSome (slice_get end.parties i) (HasNothingLeft (commands_of inputs i)) → FinishesBelow modules inputs (i + 1) s end
+  finishes_more modules inputs i s mid end below some left =
       let n : ℕ = some.times in
-      let F : List ℕ → Type 0 = λ turns. Folds maker modules inputs turns s end in
+      let F : List ℕ → Type 0 = λ turns. Folds modules inputs turns s end in
       let number : 0 + length below.counts ≡ i = omega (arith, below.parties) in
       let turns : party_by_party 0 (below.counts ++ n ∷ []) ≡ party_by_party 0 below.counts ++ replicate n i = party_by_party-push 0 n below.counts ∙ ap (λ (k : ℕ). party_by_party 0 below.counts ++ replicate n k) number in
       record {
         counts = below.counts ++ n ∷ [];
         parties = omega (arith, length_push below.counts n, below.parties);
-        folds = subst F (sym turns) (folds_on maker modules inputs (party_by_party 0 below.counts) (replicate n i) s mid end below.folds some.folds);
+        folds = subst F (sym turns) (folds_on modules inputs (party_by_party 0 below.counts) (replicate n i) s mid end below.folds some.folds);
         finished = λ k inside.
             let Left : ℕ → Type 0 = λ j. IfSome (slice_get end.parties j) (HasNothingLeft (commands_of inputs j)) in
             elim (cases_lt k i) [
               | inl before ↦
                   let Q : Option (RunningParty P) → Type 0 = λ o. IfSome o (HasNothingLeft (commands_of inputs k)) in
-                  subst Q (sym (folds_others maker modules inputs i k n mid end (λ e. omega (arith, e, before)) some.folds)) (below.finished k before)
+                  subst Q (sym (folds_others modules inputs i k n mid end (λ e. omega (arith, e, before)) some.folds)) (below.finished k before)
               | inr past ↦ subst Left {x = i} {y = k} (omega (arith, inside, past)) left
             ];
       }
 
   -- All of them have.
-  pub finishes_all : (maker : MakerTold) (modules : List ModuleCall) (inputs : List (List Command)) (i : ℕ) (s end : RunState P) → FinishesBelow maker modules inputs i s end → i ≡ length s.parties → length end.parties ≡ length s.parties → FinishesRun maker modules inputs s end
-  finishes_all maker modules inputs i s end below all same = record {
+  pub finishes_all : (modules : List ModuleCall) (inputs : List (List Command)) (i : ℕ) (s end : RunState P) → FinishesBelow modules inputs i s end → i ≡ length s.parties → length end.parties ≡ length s.parties → FinishesRun modules inputs s end
+  finishes_all modules inputs i s end below all same = record {
     counts = below.counts;
     parties = below.parties ∙ all;
     folds = below.folds;

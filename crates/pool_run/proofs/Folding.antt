@@ -4,13 +4,11 @@ use Rattle.std.specs.Prelude.{slice_get, slice_set, slice_index_or}
 use Rattle.std.proofs.lemmas.Bool.{cases_eq}
 use Rattle.std.proofs.lemmas.List.{length-set, map-set, get_or-map, set-get_or, get_or-set_same, get_or-set_other}
 use Rattle.std.proofs.lemmas.Option.{slice_get_within, get_or_from_slice_get}
-use Rattle.pool_pages.specs.MakerTold.{MakerTold}
 use Rattle.pool_alloc.specs.Stepping.{IsSameSize}
 use Rattle.pool_alloc.specs.declared.pool_core.PoolCore.{PoolCore}
 use Rattle.pool_alloc.specs.declared.pool_core.Settings.{Settings}
 use Rattle.pool_alloc.specs.declared.frame.ModuleCall.{ModuleCall}
 use Rattle.pool_alloc.specs.Places.{made_count}
-use Rattle.pool_run.specs.Searches.{IsAlone}
 use Rattle.pool_limits.specs.Growth.{GrowthRule, always}
 use Rattle.pool_alloc.proofs.Telling.{told_weaker}
 use Rattle.pool_run.specs.PartyRules.{rule_of}
@@ -18,16 +16,18 @@ use Rattle.pool_run.specs.declared.input.PartyLimits.{PartyLimits}
 use Rattle.pool_run.specs.Private.{IsPrivateRun, no_grants, with_grants}
 use Rattle.pool_run.specs.Rooms.{World, under, world_at, IsPooledRun}
 use Rattle.pool_run.specs.Turns.{Turned, Turns, with_reply}
-use Rattle.pool_run.specs.Ties.{IsPrivate, CanTurn}
+use Rattle.pool_run.specs.Ties.{IsAlone, IsPrivate, CanTurn}
 use Rattle.pool_run.specs.Worlds.{IsWorldOf, IsCallFor, AreCallsFor}
-use Rattle.pool_run.specs.Folds.{RunState, commands_of, replies_to, party_by_party, with_turn, HoldsBetween, TurnsIf, TurnsOf, Folds, Runs, IsRunTo, IsUnderWay}
+use Rattle.pool_run.specs.Folds.{RunState, commands_of, replies_to, party_by_party, with_turn, TurnsIf, TurnsOf, Folds, Runs, IsRunTo, IsUnderWay}
 use Rattle.pool_run.specs.declared.command.Command.{Command}
 use Rattle.pool_run.specs.declared.reply.Reply.{Reply}
 use Rattle.pool_run.specs.declared.running_party.RunningParty.{RunningParty}
 use Rattle.pool_run.proofs.Beginning.{turn_private}
 use Rattle.pool_run.proofs.Grants.{pooled_private}
-use Rattle.pool_run.proofs.Running.{can_turn}
-use Rattle.pool_run.proofs.Turned.{HasTurned, has_turned}
+use Rattle.pool_run.proofs.Running.{can_turn, turned_running}
+use Rattle.pool_run.proofs.Turned.{HasTurned, has_turned, turn_sound}
+use Rattle.pool_run.proofs.LimitsOfRuns.{turn_within, live_within}
+use Rattle.pool_run.specs.Limits.{IsWithinCounts}
 
 module _ {P : Type 0} where
   -- The world stays that of the pool.
@@ -67,8 +67,8 @@ module _ {P : Type 0} where
     searched = turned.searched alone.searched;
   }
 
-  turned_some : (w : World) (modules : List ModuleCall) (inputs : List (List Command)) (i : ℕ) (p : RunningParty P) (s : RunState P) (t : Turned P) → slice_get s.parties i ≡ Some p → IsUnderWay w modules inputs s → Turns modules (commands_of inputs i) s.core p t → HoldsBetween w.maker (with_turn i t s) → IsUnderWay w modules inputs (with_turn i t s)
-  turned_some w modules inputs i p s t there way turns holds =
+  turned_some : (w : World) (modules : List ModuleCall) (inputs : List (List Command)) (i : ℕ) (p : RunningParty P) (s : RunState P) (t : Turned P) → slice_get s.parties i ≡ Some p → IsUnderWay w modules inputs s → Turns modules (commands_of inputs i) s.core p t → IsUnderWay w modules inputs (with_turn i t s)
+  turned_some w modules inputs i p s t there way turns =
       let below : i < length s.parties = slice_get_within s.parties i p there in
       let here : slice_index_or s.parties i p ≡ p = get_or_from_slice_get s.parties i p p there in
       let To : RunningParty P → Type 0 = λ q. IsRunTo w (commands_of inputs i) (replies_to i s.replies) q in
@@ -76,6 +76,10 @@ module _ {P : Type 0} where
       let to : IsRunTo w (commands_of inputs i) (replies_to i s.replies) p = subst To here (way.each i p below) in
       let can : CanTurn w.maker s.core p = subst Can here (can_turn w.maker s.core s.parties i p way.holds.running below) in
       let turned : HasTurned s.core p t = has_turned w modules (commands_of inputs i) s.core p t way.calls can (omega (arith, to.room)) turns in
+      let Has : RunningParty P → Type 0 = λ q. HasTurned s.core q t in
+      let Now : RunningParty P → Type 0 = λ q. Turns modules (commands_of inputs i) s.core q t in
+      let within : IsWithinCounts t.core (slice_set s.parties i t.party) =
+      turn_within w modules (commands_of inputs i) s.core s.parties i p t way.calls way.holds.running below (omega (arith, (way.each i p below).room)) (subst Now (sym here) turns) way.within in
       let alone : w.alone ≡ true → IsAlone s.core p.frame p.live =
       λ e.
       let one = way.alone e in
@@ -85,7 +89,11 @@ module _ {P : Type 0} where
       let now : IsRunTo w (commands_of inputs i) (with_reply t.reply (replies_to i s.replies)) t.party = run_to w modules (commands_of inputs i) (replies_to i s.replies) s.core p t way.world way.calls can alone to turns turned in
       let replies : List Reply = with_reply t.reply (replies_to i s.replies) in
       record {
-        holds = holds;
+        holds = record {
+          running = turned_running w.maker s.core s.parties i p t way.holds.running below (subst Has (sym here) turned) (turn_sound w modules (commands_of inputs i) s.core p t way.calls can (omega (arith, to.room)) turns);
+          instances = live_within t.core (slice_set s.parties i t.party) within;
+        };
+        within = within;
         given = way.given;
         world = world_over w s.core t.core turned.size way.world;
         calls = calls_over w modules s.core t.core turned.size way.calls;
@@ -120,21 +128,21 @@ module _ {P : Type 0} where
             ];
       }
 
-  turned_if : (w : World) (modules : List ModuleCall) (inputs : List (List Command)) (i : ℕ) (o : Option (RunningParty P)) (s new : RunState P) → slice_get s.parties i ≡ o → IsUnderWay w modules inputs s → TurnsIf modules (commands_of inputs i) i o s new → HoldsBetween w.maker new → IsUnderWay w modules inputs new
-  turned_if w modules inputs i None s new there way turns holds = subst (IsUnderWay w modules inputs) (sym turns) way
-  turned_if w modules inputs i (Some p) s new there way turns holds = subst (IsUnderWay w modules inputs) (sym turns.2) (turned_some w modules inputs i p s turns.0 there way turns.1 (subst (HoldsBetween w.maker) turns.2 holds))
+  turned_if : (w : World) (modules : List ModuleCall) (inputs : List (List Command)) (i : ℕ) (o : Option (RunningParty P)) (s new : RunState P) → slice_get s.parties i ≡ o → IsUnderWay w modules inputs s → TurnsIf modules (commands_of inputs i) i o s new → IsUnderWay w modules inputs new
+  turned_if w modules inputs i None s new there way turns = subst (IsUnderWay w modules inputs) (sym turns) way
+  turned_if w modules inputs i (Some p) s new there way turns = subst (IsUnderWay w modules inputs) (sym turns.2) (turned_some w modules inputs i p s turns.0 there way turns.1)
 
   -- A turn of one of the parties.
-  pub run_turned : (w : World) (modules : List ModuleCall) (inputs : List (List Command)) (i : ℕ) (s new : RunState P) → IsUnderWay w modules inputs s → TurnsOf w.maker modules inputs i s new → IsUnderWay w modules inputs new
-  run_turned w modules inputs i s new way turns = turned_if w modules inputs i (slice_get s.parties i) s new refl way turns.0 turns.1
+  pub run_turned : (w : World) (modules : List ModuleCall) (inputs : List (List Command)) (i : ℕ) (s new : RunState P) → IsUnderWay w modules inputs s → TurnsOf modules inputs i s new → IsUnderWay w modules inputs new
+  run_turned w modules inputs i s new way turns = turned_if w modules inputs i (slice_get s.parties i) s new refl way turns
 
   -- Turns in any order.
-  pub folds_under_way : (w : World) (modules : List ModuleCall) (inputs : List (List Command)) (schedule : List ℕ) (s end : RunState P) → IsUnderWay w modules inputs s → Folds w.maker modules inputs schedule s end → IsUnderWay w modules inputs end
+  pub folds_under_way : (w : World) (modules : List ModuleCall) (inputs : List (List Command)) (schedule : List ℕ) (s end : RunState P) → IsUnderWay w modules inputs s → Folds modules inputs schedule s end → IsUnderWay w modules inputs end
   folds_under_way w modules inputs [] s end way folds = subst (IsUnderWay w modules inputs) (sym folds) way
   folds_under_way w modules inputs (i ∷ schedule) s end way folds = folds_under_way w modules inputs schedule folds.0 end (run_turned w modules inputs i s folds.0 way folds.1) folds.2
 
   -- A whole run.
-  pub run_under_way : (w : World) (modules : List ModuleCall) (inputs : List (List Command)) (schedule : List ℕ) (s end : RunState P) → IsUnderWay w modules inputs s → Runs w.maker modules inputs schedule s end → IsUnderWay w modules inputs end
+  pub run_under_way : (w : World) (modules : List ModuleCall) (inputs : List (List Command)) (schedule : List ℕ) (s end : RunState P) → IsUnderWay w modules inputs s → Runs modules inputs schedule s end → IsUnderWay w modules inputs end
   run_under_way w modules inputs schedule s end way runs =
       folds_under_way w modules inputs (party_by_party 0 runs.finishes.counts) runs.scheduled end
       (folds_under_way w modules inputs schedule s runs.scheduled way runs.folds)
@@ -153,11 +161,11 @@ module _ {P : Type 0} where
   replies_private w modules inputs s i d way below = pooled_private (world_at w i) (commands_of inputs i) (replies_to i s.replies) (replies_pooled w modules inputs s i d way below)
 
   -- Turns that follow others.
-  pub folds_on : (maker : MakerTold) (modules : List ModuleCall) (inputs : List (List Command)) (first second : List ℕ) (s mid end : RunState P) → Folds maker modules inputs first s mid → Folds maker modules inputs second mid end → Folds maker modules inputs (first ++ second) s end
-  folds_on maker modules inputs [] second s mid end one other =
-      let F : RunState P → Type 0 = λ x. Folds maker modules inputs second x end in
+  pub folds_on : (modules : List ModuleCall) (inputs : List (List Command)) (first second : List ℕ) (s mid end : RunState P) → Folds modules inputs first s mid → Folds modules inputs second mid end → Folds modules inputs (first ++ second) s end
+  folds_on modules inputs [] second s mid end one other =
+      let F : RunState P → Type 0 = λ x. Folds modules inputs second x end in
       subst F one other
-  folds_on maker modules inputs (i ∷ first) second s mid end one other = (one.0, one.1, folds_on maker modules inputs first second one.0 mid end one.2 other)
+  folds_on modules inputs (i ∷ first) second s mid end one other = (one.0, one.1, folds_on modules inputs first second one.0 mid end one.2 other)
 
-  pub folds_more : (maker : MakerTold) (modules : List ModuleCall) (inputs : List (List Command)) (schedule : List ℕ) (i : ℕ) (s mid end : RunState P) → Folds maker modules inputs schedule s mid → TurnsOf maker modules inputs i mid end → Folds maker modules inputs (schedule ++ i ∷ []) s end
-  folds_more maker modules inputs schedule i s mid end folds turns = folds_on maker modules inputs schedule (i ∷ []) s mid end folds (end, turns, refl)
+  pub folds_more : (modules : List ModuleCall) (inputs : List (List Command)) (schedule : List ℕ) (i : ℕ) (s mid end : RunState P) → Folds modules inputs schedule s mid → TurnsOf modules inputs i mid end → Folds modules inputs (schedule ++ i ∷ []) s end
+  folds_more modules inputs schedule i s mid end folds turns = folds_on modules inputs schedule (i ∷ []) s mid end folds (end, turns, refl)

@@ -18,7 +18,7 @@ use Rattle.pool_run.specs.Rooms.{AllDiffer, IsOfNoGrant}
 use Rattle.pool_run.specs.Turns.{private_memory, private_grant, grants_of}
 use Rattle.pool_run.specs.Ties.{granted_to}
 use Rattle.pool_run.proofs.Grants.{told_at}
-use Rattle.pool_run.proofs.NewMemories.{slots_of}
+use Rattle.pool_run.proofs.Requests.{slots_of}
 
 -- a lease has its slot
 lease_counted : (leases : List Lease) (i : ℕ) (d : Lease) → i < length leases → 1 ≤ leased_count (right_to (get_or leases i d).index) leases

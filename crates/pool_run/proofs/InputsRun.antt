@@ -16,7 +16,7 @@ use Rattle.pool_limits.specs.Growth.{GrowthRule}
 use Rattle.pool_alloc.specs.declared.pool_core.PoolCore.{PoolCore}
 use Rattle.pool_alloc.specs.declared.pool_core.Settings.{Settings}
 use Rattle.pool_run.specs.Built.{is_built}
-use Rattle.pool_run.specs.Folds.{RunParts, RunState, HoldsBetween, IsUnderWay, commands_of, replies_to, told_state}
+use Rattle.pool_run.specs.Folds.{RunParts, RunState, IsUnderWay, commands_of, replies_to, told_state}
 use Rattle.pool_run.specs.Made.{AreMadeCalls}
 use Rattle.pool_run.specs.Numbers.{calls_of_run}
 use Rattle.pool_run.specs.PartyRules.{rule_of}
@@ -25,10 +25,10 @@ use Rattle.pool_run.specs.Progress.{IsRunOf}
 use Rattle.pool_run.specs.Runs.{Performs, IsToldBy, IsMadeRun, IsRun, world_of}
 use Rattle.pool_run.specs.RunsMade.{Background, commands_in, party_made, party_made_for, parties_made, nothing_told, places_in}
 use Rattle.pool_run.specs.Schedules.{turns_of}
-use Rattle.pool_run.specs.Validity.{is_valid, is_valid_after, are_valid_after, most_commands}
+use Rattle.pool_run.specs.Validity.{is_valid, is_valid_act, are_valid_after, most_commands}
 use Rattle.pool_run.specs.Worlds.{IsWorldOf, AreCallsFor, NamesModule, NameModules}
 use Rattle.pool_run.specs.declared.command.Command.{Command}
-use Rattle.pool_run.specs.declared.command.Command.TheVariants.{Instantiate, Read, Write, Fill, Grow, Size, Drop}
+use Rattle.pool_run.specs.Acts.{Act, requests, on_memory, drops, act_of}
 use Rattle.pool_run.specs.declared.input.Input.{Input}
 use Rattle.pool_run.specs.declared.input.Party.{Party}
 use Rattle.pool_run.specs.declared.input.ScheduleEntry.{ScheduleEntry}
@@ -45,19 +45,15 @@ use Rattle.pool_run.proofs.BuiltInputs.{built_modules}
 use Rattle.pool_run.proofs.WorldsMade.{is_world, are_calls_for}
 
 -- Each command names a module that there is.
-names : (modules : List ModuleInfo) (earlier : List Command) (command : Command) → is_valid_after modules earlier command ≡ true → NamesModule (length modules) command
-names modules earlier (Instantiate number) valid = ltb-true number (length modules) valid
-names modules earlier (Read of memory at len) valid = tt
-names modules earlier (Write of memory at bytes) valid = tt
-names modules earlier (Fill of memory at len byte) valid = tt
-names modules earlier (Grow of memory pages) valid = tt
-names modules earlier (Size of memory) valid = tt
-names modules earlier (Drop of) valid = tt
+names : (modules : List ModuleInfo) (earlier : List Command) (act : Act) → is_valid_act modules earlier act ≡ true → NamesModule (length modules) act
+names modules earlier (requests number) valid = ltb-true number (length modules) valid
+names modules earlier (on_memory of k op) valid = tt
+names modules earlier (drops of) valid = tt
 
 pub all_name : (modules : List ModuleInfo) (earlier commands : List Command) → are_valid_after modules earlier commands ≡ true → NameModules (length modules) commands
 all_name modules earlier [] valid k = tt
-all_name modules earlier (c ∷ cs) valid zero = names modules earlier c (first _ _ valid)
-all_name modules earlier (c ∷ cs) valid (suc k) = all_name modules (earlier ++ c ∷ []) cs (second (is_valid_after modules earlier c) _ valid) k
+all_name modules earlier (c ∷ cs) valid zero = names modules earlier (act_of c) (first _ _ valid)
+all_name modules earlier (c ∷ cs) valid (suc k) = all_name modules (earlier ++ c ∷ []) cs (second (is_valid_act modules earlier (act_of c)) _ valid) k
 
 pub parties_name : (input : Input) (parties : List Party) (modules : ℕ) → parties ≡ input.parties → modules ≡ length input.modules → is_valid input ≡ true → (i : ℕ) (d : Party) → i < length parties → NameModules modules (slice_index_or parties i d).commands
 parties_name input parties modules same count valid i d below =
@@ -142,34 +138,34 @@ module _ {P : Type 0} where
       })
 
   -- The run is under way at its end, and has as many parties.
-  performed_under_way : (finish : Bool) (w : World) (modules : List ModuleCall) (inputs : List (List Command)) (schedule : List ℕ) (s end : RunState P) → IsUnderWay w modules inputs s → Performs finish w.maker modules inputs schedule s end → IsUnderWay w modules inputs end × (length end.parties ≡ length s.parties)
-  performed_under_way true w modules inputs schedule s end way runs = (run_under_way w modules inputs schedule s end way runs, run_count w.maker modules inputs schedule s end runs)
-  performed_under_way false w modules inputs schedule s end way folds = (folds_under_way w modules inputs schedule s end way folds, folds_count w.maker modules inputs schedule s end folds)
+  performed_under_way : (finish : Bool) (w : World) (modules : List ModuleCall) (inputs : List (List Command)) (schedule : List ℕ) (s end : RunState P) → IsUnderWay w modules inputs s → Performs finish modules inputs schedule s end → IsUnderWay w modules inputs end × (length end.parties ≡ length s.parties)
+  performed_under_way true w modules inputs schedule s end way runs = (run_under_way w modules inputs schedule s end way runs, run_count modules inputs schedule s end runs)
+  performed_under_way false w modules inputs schedule s end way folds = (folds_under_way w modules inputs schedule s end way folds, folds_count modules inputs schedule s end folds)
 
   -- What the parties were told at the end of a run.
-  told_by : (finish : Bool) (w : World) (modules : List ModuleCall) (inputs : List (List Command)) (schedule : List ℕ) (s end : RunState P) (i : ℕ) (d : RunningParty P) → IsUnderWay w modules inputs s → Performs finish w.maker modules inputs schedule s end → i < length s.parties → IsToldBy finish (world_at w i).terms (commands_of inputs i) (replies_to i end.replies)
+  told_by : (finish : Bool) (w : World) (modules : List ModuleCall) (inputs : List (List Command)) (schedule : List ℕ) (s end : RunState P) (i : ℕ) (d : RunningParty P) → IsUnderWay w modules inputs s → Performs finish modules inputs schedule s end → i < length s.parties → IsToldBy finish (world_at w i).terms (commands_of inputs i) (replies_to i end.replies)
   told_by true w modules inputs schedule s end i d way runs below =
       let ended : IsUnderWay w modules inputs end = run_under_way w modules inputs schedule s end way runs in
-      let inside : i < length end.parties = omega (arith, below, run_count w.maker modules inputs schedule s end runs) in
+      let inside : i < length end.parties = omega (arith, below, run_count modules inputs schedule s end runs) in
       record { private = replies_private w modules inputs end i d ended inside; all = all_replied w modules inputs end i d ended runs.finishes.finished inside }
   told_by false w modules inputs schedule s end i d way folds below =
       let ended : IsUnderWay w modules inputs end = folds_under_way w modules inputs schedule s end way folds in
-      replies_private w modules inputs end i d ended (omega (arith, below, folds_count w.maker modules inputs schedule s end folds))
+      replies_private w modules inputs end i d ended (omega (arith, below, folds_count modules inputs schedule s end folds))
 
   -- So the output of its end is that of a run of the input.
   pub is_run : (input : Input) (maker : MakerTold) (run : RunParts P) (s end : RunState P) (output : RunOutput) → is_built input ≡ true → IsMadeRun input maker run → s ≡ told_state run (nothing_told input.parties)
-      → Performs input.finish maker s.modules (commands_in input.parties) (turns_of input.schedule) s end → HoldsBetween maker end
+      → Performs input.finish s.modules (commands_in input.parties) (turns_of input.schedule) s end
       → output.replies ≡ end.replies → output.metrics ≡ metrics_of end.core → output.calls ≡ calls_of_run end.core end.parties → IsRun P input maker output
-  is_run input maker run s end output built made is performs holds replies metrics numbers =
+  is_run input maker run s end output built made is performs replies metrics numbers =
       let w : World = world_of input maker in
-      let From : RunState P → Type 0 = λ x. Performs input.finish maker x.modules (commands_in input.parties) (turns_of input.schedule) x end in
+      let From : RunState P → Type 0 = λ x. Performs input.finish x.modules (commands_in input.parties) (turns_of input.schedule) x end in
       let performed : From (told_state run (nothing_told input.parties)) = subst From is performs in
       record {
         start = run;
         made = made;
         end = end;
         performed = performed;
-        holds = holds;
+        holds = λ turns x folds. (folds_under_way w run.modules (commands_in input.parties) turns (told_state run (nothing_told input.parties)) x (made_under_way input maker run built made) folds).holds;
         replies = replies;
         told = λ i below.
             let Told : List (List Reply) → Type 0 = λ rs. IsToldBy input.finish (world_at w i).terms (commands_of (commands_in input.parties) i) (replies_to i rs) in

@@ -1,6 +1,8 @@
 -- What a change of a lease is as a move of its memory.
-use Rattle.std.proofs.Common.{◌≡◌, ℕ, ◌+◌, Bool, true, false, List, length, Option, Some, Result, Ok, Err, refl, ap, ◌∙◌, subst}
-use Rattle.std.specs.Prelude.{nat_le, slice_index_or, if◌then◌else◌, OnOk, OnErr}
+use Rattle.std.proofs.Common.{◌≡◌, ℕ, ◌+◌, ◌<◌, Bool, true, false, List, length, Option, Some, Result, Ok, Err, refl, sym, ap, ◌∙◌, subst}
+use Rattle.std.proofs.lemmas.List.{set-get_or}
+use Rattle.std.proofs.lemmas.Option.{get_or_from_slice_get, slice_get-get_or}
+use Rattle.std.specs.Prelude.{nat_le, slice_get, slice_set, slice_index_or, if◌then◌else◌, OnOk, OnErr}
 use Rattle.pool_limits.specs.Exchanges.{Exchange}
 use Rattle.pool_limits.specs.LimiterTold.{LimiterTold}
 use Rattle.pool_limits.specs.Growth.{GrowthRule}
@@ -10,12 +12,22 @@ use Rattle.pool_limits.specs.declared.errors.Trap.TheVariants.{MemoryOutOfBounds
 use Rattle.pool_memory.specs.Memories.{MemoryState, memory_written}
 use Rattle.pool_alloc.specs.Leases.{Lease, IsWritten, IsChanged, IsGrown}
 use Rattle.pool_alloc.specs.Reserved.{Reserved}
-use Rattle.pool_run.specs.Turns.{MemoryWrites, MemoryGrows, GrowsUnder, LeaseMoves, write_reply, growth_reply}
+use Rattle.pool_run.specs.Turns.{MemoryWrites, MemoryGrows, GrowsUnder, MovesLease, write_reply, growth_reply}
 use Rattle.pool_run.specs.declared.reply.Reply.{Reply}
 use Rattle.pool_run.specs.declared.reply.Reply.TheVariants.{Done, Trap as trapped}
 
 pub changed_as : (A B : Lease → Lease → Type 0) (place : ℕ) (old new : Reserved Lease) → ((l n : Lease) → A l n → B l n) → IsChanged A place old new → IsChanged B place old new
 changed_as A B place old new step is = record { lease = is.lease; change = λ d. step (slice_index_or old.items place d) is.lease (is.change d); is = is.is }
+
+-- A lease that is only looked at stays as it is.
+pub looked_at : (A : Lease → Lease → Type 0) (place : ℕ) (old : Reserved Lease) (l : Lease) → place < length old.items → l ≡ slice_index_or old.items place l → A l l → IsChanged A place old old
+looked_at A place old l below there is =
+    let get : slice_get old.items place ≡ Some l = slice_get-get_or old.items place l below ∙ ap Some (sym there) in
+    record {
+      lease = l;
+      change = λ d. let At : Lease → Type 0 = λ x. A x l in subst At (sym (get_or_from_slice_get old.items place l d get)) is;
+      is = ap (λ (xs : List Lease). record old { items = xs }) (sym (ap (slice_set old.items place) there ∙ set-get_or old.items place l));
+    }
 
 -- what a write leaves, with its reply
 abbrev written_as : ℕ → List ℕ → MemoryState → Bool → MemoryState × Reply
@@ -32,12 +44,12 @@ written_by i bytes l n result false answer is =
     let On : Result (Unit {0}) Trap → Type 0 = λ r. OnErr r (n.memory ≡ l.memory) in
     ap (λ (r : Result (Unit {0}) Trap). (n.memory, write_reply r)) answer ∙ ap (λ (m : MemoryState). (m, trapped MemoryOutOfBounds)) (subst On answer is.same)
 
-pub write_moves : (i : ℕ) (bytes : List ℕ) (l n : Lease) (result : Result (Unit {0}) Trap) → IsWritten i bytes l n result → LeaseMoves (MemoryWrites i bytes) l n (write_reply result)
+pub write_moves : (i : ℕ) (bytes : List ℕ) (l n : Lease) (result : Result (Unit {0}) Trap) → IsWritten i bytes l n result → MovesLease (MemoryWrites i bytes) l n (write_reply result)
 write_moves i bytes l n result is = record { index = is.index; memory = is.memory; move = written_by i bytes l n result (nat_le (i + length bytes) l.memory.linear.size) is.answer is }
 
 -- a growth of it, over a limiter that tells this rule
 pub grown_under : {R : Type 0} (told : R → LimiterTold) (leads : R → Exchange → R → Type 0) (rule : GrowthRule) (pages : ℕ) (l n : Lease) (before after : R) (answer : Result (Option ℕ) GrowFault) → IsGrown told leads pages l n before after answer → (told before).rule ≡ Some rule → GrowsUnder rule pages l n answer
 grown_under told leads rule pages l n before after answer is ruled = record { index = is.index; memory = is.memory; growth = (is.growth.0, told before, told after, ruled, is.growth.1.0) }
 
-pub growth_moves : (rule : GrowthRule) (pages : ℕ) (l n : Lease) (answer : Result (Option ℕ) GrowFault) → GrowsUnder rule pages l n answer → LeaseMoves (MemoryGrows rule pages) l n (growth_reply answer)
+pub growth_moves : (rule : GrowthRule) (pages : ℕ) (l n : Lease) (answer : Result (Option ℕ) GrowFault) → GrowsUnder rule pages l n answer → MovesLease (MemoryGrows rule pages) l n (growth_reply answer)
 growth_moves rule pages l n answer is = record { index = is.index; memory = is.memory; move = (is.growth.0, is.growth.1, is.growth.2, answer, is.growth.3, is.growth.4, refl) }

@@ -7,9 +7,9 @@ use Rattle.pool_alloc.specs.Whole.{IsUntouched, IsPartitioned}
 use Rattle.pool_alloc.specs.declared.pool_core.PoolCore.{PoolCore}
 use Rattle.pool_alloc.specs.declared.pool_core.Settings.{Settings}
 use Rattle.pool_alloc.specs.declared.frame.ModuleCall.{ModuleCall}
-use Rattle.pool_run.specs.Limits.{admitted, live_instances, IsWithinCounts}
+use Rattle.pool_run.specs.Limits.{admitted_to, live_instances, IsWithinCounts}
 use Rattle.pool_run.specs.Rooms.{World}
-use Rattle.pool_run.specs.Ties.{held_by_party, IsRunning}
+use Rattle.pool_run.specs.Ties.{held_by_party, IsRunning, CanTurn}
 use Rattle.pool_run.specs.Turns.{Turned, Turns}
 use Rattle.pool_run.specs.Worlds.{AreCallsFor}
 use Rattle.pool_run.specs.declared.command.Command.{Command}
@@ -20,30 +20,27 @@ use Rattle.pool_run.proofs.Turned.{has_turned}
 
 module _ {P : Type 0} where
   -- All that is admitted is counted.
-  admitted_is_counted : (c : PoolCore P) (parties : List (RunningParty P)) → IsPartitioned held_by_party c parties → sum_by admitted parties ≤ c.counters.core_instances
-  admitted_is_counted c parties whole = omega (arith, whole.instances, sum_by-le-sum_by admitted (λ p. (held_by_party p).instances) parties admitted_held)
+  admitted_is_counted : (c : PoolCore P) (parties : List (RunningParty P)) → IsPartitioned held_by_party c parties → sum_by admitted_to parties ≤ c.counters.core_instances
+  admitted_is_counted c parties whole = omega (arith, whole.instances, sum_by-le-sum_by admitted_to (λ p. (held_by_party p).instances) parties admitted_held)
 
   -- Over a pool that nobody has used yet nothing is admitted.
   pub made_within : (c : PoolCore P) (parties : List (RunningParty P)) → IsUntouched c → IsPartitioned held_by_party c parties → IsWithinCounts c parties
   made_within c parties untouched whole = omega (arith, untouched.instances, admitted_is_counted c parties whole)
 
-  turned_within : (modules : List ModuleCall) (commands : List Command) (c : PoolCore P) (parties : List (RunningParty P)) (i : ℕ) (d : RunningParty P) (t : Turned P) → IsPartitioned held_by_party c parties → i < length parties → IsSameSize c t.core → Turns modules commands c (slice_index_or parties i d) t → IsWithinCounts c parties → IsWithinCounts t.core (slice_set parties i t.party)
-  turned_within modules commands c parties i d t whole below size turns within =
-      let p : RunningParty P = slice_index_or parties i d in
-      let all : ℕ = sum_by admitted parties in
-      let others : ℕ = all - admitted p in
-      let both : others + admitted p ≡ all = omega (arith, get_or-le-sum_by admitted parties i d below) in
-      let stays : others + admitted t.party ≤ c.settings.max_core_instances = party_within others c p (omega (arith, both, within)) (omega (arith, both, admitted_is_counted c parties whole)) modules commands t turns in
-      let most : t.core.settings.max_core_instances ≡ c.settings.max_core_instances = ap (λ (s : Settings). s.max_core_instances) size.settings in
-      omega (arith, both, stays, most, sum_by-set admitted parties i t.party d below)
-
   -- A turn of one of the parties.
   pub turn_within : (w : World) (modules : List ModuleCall) (commands : List Command) (c : PoolCore P) (parties : List (RunningParty P)) (i : ℕ) (d : RunningParty P) (t : Turned P) → AreCallsFor w.terms c.settings modules → IsRunning w.maker c parties → i < length parties → length commands ≤ length (slice_index_or parties i d).live → Turns modules commands c (slice_index_or parties i d) t → IsWithinCounts c parties → IsWithinCounts t.core (slice_set parties i t.party)
   turn_within w modules commands c parties i d t calls running below room turns within =
-      turned_within modules commands c parties i d t running.whole below
-      (has_turned w modules commands c (slice_index_or parties i d) t calls (can_turn w.maker c parties i d running below) room turns).size
-      turns within
+      let p : RunningParty P = slice_index_or parties i d in
+      let can : CanTurn w.maker c p = can_turn w.maker c parties i d running below in
+      let size : IsSameSize c t.core = (has_turned w modules commands c p t calls can room turns).size in
+      let all : ℕ = sum_by admitted_to parties in
+      let others : ℕ = all - admitted_to p in
+      let both : others + admitted_to p ≡ all = omega (arith, get_or-le-sum_by admitted_to parties i d below) in
+      let stays : others + admitted_to t.party ≤ c.settings.max_core_instances =
+      party_within others c p (omega (arith, both, within)) (omega (arith, both, admitted_is_counted c parties running.whole)) w modules commands t calls can room turns in
+      let most : t.core.settings.max_core_instances ≡ c.settings.max_core_instances = ap (λ (s : Settings). s.max_core_instances) size.settings in
+      omega (arith, both, stays, most, sum_by-set admitted_to parties i t.party d below)
 
   -- What is admitted has all that is live.
   pub live_within : (c : PoolCore P) (parties : List (RunningParty P)) → IsWithinCounts c parties → sum_by live_instances parties ≤ c.settings.max_core_instances
-  live_within c parties within = omega (arith, within, sum_by-le-sum_by live_instances admitted parties (λ p. omega arith))
+  live_within c parties within = omega (arith, within, sum_by-le-sum_by live_instances admitted_to parties (λ p. omega arith))

@@ -18,7 +18,7 @@ use Rattle.pool_images.specs.Images.{Image, first_misplaced, ends_in_minimum, ma
 use Rattle.pool_slots.specs.Makings.{makes_listed_regions}
 use Rattle.pool_run.specs.Made.{images_of_module}
 use Rattle.pool_run.specs.Private.{has_images}
-use Rattle.pool_run.specs.Runs.{region_listed, makings_of, module_listed, images_listed, making_listed, ModuleFaults, ModulesFault, FaultsInMaking, MayFaultInMaking, with_faults}
+use Rattle.pool_run.specs.Runs.{region_listed, makings_of, module_listed, images_listed, making_listed, ModuleFaults, ModulesFault, FaultsInMaking, HasFaultedMaking, with_faults}
 use Rattle.pool_run.specs.declared.input.Input.{Input}
 
 pub or_right : (a b : Bool) → b ≡ true → (a || b) ≡ true
@@ -198,11 +198,15 @@ nothing_listed input modules page (Some p) same is regions images =
     let At : ℕ → Type 0 = λ n. images_listed input.tunables n 0 p input.modules ≡ false in
     neither (list_any (region_listed p) (makings_of input.config.limits.total_memories)) (images_listed input.tunables input.page 0 p input.modules) regions (subst At is (subst Listed same images))
 
--- A fault over the maker with the input's faults is one that its plan lists, where that is told.
-pub fault_of_run : (input : Input) (maker before after : MakerTold) → before ≡ with_faults input maker → FaultsInMaking input before after → MayFaultInMaking input maker
-fault_of_run input maker before after is fault =
+-- A fault over the maker with the input's faults is one that the input lists, or one of the maker behind them.
+pub fault_of_run : (input : Input) (maker left before after : MakerTold) → before ≡ with_faults input maker → FaultsInMaking input before after → after.behind ≡ left.faults → HasFaultedMaking input maker left
+fault_of_run input maker left before after is fault same =
     let Listed : MakerTold → Type 0 = λ m. IfSome m.plan (λ plan. making_listed input plan ≡ true) in
-    subst Listed is fault.planned
+    let Caused : MakerTold → ℕ → Type 0 = λ m n. (making_listed input m.listed ≡ true) ⊎ Rose m.behind n in
+    record {
+      cause = subst (Caused (with_faults input maker)) same (subst (λ m. Caused m after.behind) is fault.cause);
+      planned = subst Listed is fault.planned;
+    }
 
 -- What is made of a module's images, where memories begin as images and none begins amid a page.
 all_rest : (a : Bool) (o : Option ℕ) (c : Bool) → a ≡ true → o ≡ None → (a && (not (is_some o) && c)) ≡ c

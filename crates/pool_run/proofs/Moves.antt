@@ -27,7 +27,7 @@ use Rattle.pool_alloc.specs.declared.pool_core.Settings.{Settings}
 use Rattle.pool_images.proofs.Identity.{told_same, same_called, same_faulted}
 use Rattle.pool_alloc.proofs.SlotIdentity.{IsOneSlot, slot_of_one}
 use Rattle.pool_run.specs.Private.{PrivateMemory, Writes, memory_grown, grown_by, reported, if_allowed}
-use Rattle.pool_run.specs.Turns.{seen_as, private_memory, MemoryWrites, MemoryGrows, LeaseMoves, growth_reply}
+use Rattle.pool_run.specs.Turns.{seen_as, private_memory, MemoryWrites, MemoryGrows, MovesLease, growth_reply}
 use Rattle.pool_run.specs.declared.reply.Reply.{Reply}
 use Rattle.pool_run.specs.declared.reply.Reply.TheVariants.{Done, Grown, Trap}
 use Rattle.pool_run.proofs.Bytes.{written_seen}
@@ -41,10 +41,11 @@ abbrev pub IsSeen : MakerTold → Settings → (MemoryState → MemoryState → 
 IsSeen maker s Moves Sees = (l : Lease) (new : MemoryState) (reply : Reply) → IsLeaseOf maker s l → Moves l.memory new reply → Sees (private_memory l) (seen_as l.index new) reply
 
 -- A lease that moved stays one of the pool.
-pub lease_still : (maker : MakerTold) (s : Settings) (Moves : MemoryState → MemoryState → Reply → Type 0) (l new : Lease) (reply : Reply) → KeepsSlot maker s Moves → IsLeaseOf maker s l → LeaseMoves Moves l new reply → IsLeaseOf maker s new
+pub lease_still : (maker : MakerTold) (s : Settings) (Moves : MemoryState → MemoryState → Reply → Type 0) (l new : Lease) (reply : Reply) → KeepsSlot maker s Moves → IsLeaseOf maker s l → MovesLease Moves l new reply → IsLeaseOf maker s new
 lease_still maker s Moves l new reply keeps of moves =
     let S : ℕ → Type 0 = λ k. IsPoolSlot maker s.behaviour s.max_memory_size k (slot_of new.memory) in
-    record { slot = subst S (sym moves.index) (keeps l new.memory reply of moves.move); memory = moves.memory }
+    let Inside : ℕ → Type 0 = λ k. k < s.slots in
+    record { inside = subst Inside (sym moves.index) of.inside; slot = subst S (sym moves.index) (keeps l new.memory reply of moves.move); memory = moves.memory }
 
 -- a write leaves the slot
 written_still : (i : ℕ) (new : List ℕ) (st : Storage) → IsOneSlot (slot_in st) (slot_in (storage_written i new st))
@@ -126,7 +127,7 @@ module _ (maker : MakerTold) (behaviour : DecommitBehavior) (room size : ℕ) (l
   pages_seen : (failure : Option GrowError) (report : Result (Unit {0}) LimiterError) → size ≤ l.memory.linear.capacity → PagesLeave failure size l.memory.linear new → IsGrownAs maker behaviour room l left_as (growth_reply (pages_result l.memory.linear.size failure report)) (λ fault. if false || fault then failing report else growing)
   pages_seen None report within grows =
       let kept = in_place maker behaviour room l.index size l.memory.linear.storage l.memory.linear new of (grows.in_place within) in
-      let bytes : linear_bytes new ≡ option_map (λ b. b ++ replicate {A = ℕ} (size - l.memory.linear.size) 0) (linear_bytes l.memory.linear) = sym grows.bytes in
+      let bytes : linear_bytes new ≡ option_map (λ b. b ++ replicate {A = ℕ} (size - l.memory.linear.size) 0) (linear_bytes l.memory.linear) = sym (grows.bytes within) in
       let seen : seen_as l.index left_as ≡ memory_grown size (private_memory l) =
       ap (λ (n : ℕ). with_parts n new.capacity (linear_bytes new)) grows.same_size ∙ ap (λ (n : ℕ). with_parts size n (linear_bytes new)) kept.1 ∙ ap (λ (b : Option (List ℕ)). with_parts size l.memory.linear.capacity b) bytes in
       record { still = kept.0; fault = false; may = λ yes. absurd cc; is = ap (λ (m : PrivateMemory). (m, Grown (Some l.memory.linear.size))) seen }

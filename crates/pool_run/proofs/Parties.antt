@@ -1,5 +1,5 @@
 -- A party whose turn it is: its call can make its next step, and so it can once another call began.
-use Rattle.std.proofs.Common.{◌≡◌, ℕ, zero, suc, ◌+◌, ◌<◌, ◌≤◌, Bool, true, false, List, [], ◌∷◌, length, Option, Some, None, refl, ap, subst, arith, All}
+use Rattle.std.proofs.Common.{◌≡◌, ℕ, zero, suc, ◌+◌, ◌<◌, ◌≤◌, true, false, List, [], ◌∷◌, length, Option, Some, None, refl, ap, subst, arith, All}
 use Rattle.std.specs.Prelude.{◌==◌, if◌then◌else◌, IfSome, sum_by, slice_set, slice_index_or}
 use Rattle.std.proofs.lemmas.List.Elements.{All-set, All-get_or}
 use Rattle.std.proofs.lemmas.List.Sums.{sum_by-set}
@@ -14,9 +14,11 @@ use Rattle.pool_alloc.specs.declared.pool_core.PoolCore.{PoolCore}
 use Rattle.pool_alloc.specs.declared.pool_core.Settings.{Settings}
 use Rattle.pool_alloc.specs.Steps.{memories_wanted, images_wanted}
 use Rattle.pool_alloc.specs.declared.frame.ModuleCall.{ModuleCall}
-use Rattle.pool_alloc.specs.declared.frame.Ending.{Ending}
-use Rattle.pool_alloc.specs.declared.frame.Ending.TheVariants.{Returned as returned}
-use Rattle.pool_alloc.specs.declared.frame.Phase.TheVariants.{UncountMemory, UncountInstance}
+use Rattle.pool_alloc.specs.declared.frame.Ending.TheVariants as ending
+use Rattle.pool_alloc.specs.Leases.{Lease}
+use Rattle.pool_alloc.specs.Searches.{IsSearched}
+use Rattle.pool_alloc.specs.Stages.{returning, stage_of}
+use Rattle.pool_alloc.specs.Turns.{returned_next}
 use Rattle.pool_alloc.specs.declared.frame.Call.{Call}
 use Rattle.pool_alloc.specs.declared.frame.Call.TheVariants as call
 use Rattle.pool_alloc.specs.declared.frame.Frame.{Frame}
@@ -25,13 +27,8 @@ use Rattle.pool_alloc.specs.declared.frame.Grant.TheVariants.{Instance as instan
 use Rattle.pool_alloc.proofs.BegunCalls.{begun_frame, begun_count, begun_instances, begun_memories}
 use Rattle.pool_alloc.proofs.Held.{made_once}
 use Rattle.pool_alloc.proofs.QueueCounts.{sum_by_agree, leased_regions}
-use Rattle.pool_run.specs.Searches.{IsSearchedAt, IsAlone}
-use Rattle.pool_run.specs.Ties.{asks, stage_of, granted_to, held_by_party, FitsParty, CanTurn}
+use Rattle.pool_run.specs.Ties.{is_asking, granted_to, held_by_party, FitsParty, CanTurn}
 use Rattle.pool_run.specs.declared.running_party.RunningParty.{RunningParty}
-
-no_asks : (P : Type 0) (b : Bool) (e : Ending) → stage_of {P = P} (if b then UncountInstance else UncountMemory) e ≡ asks → ⊥
-no_asks P true e is = absurd cc
-no_asks P false e is = absurd cc
 
 module _ {P : Type 0} where
   grant_regions : (k : ℕ) (o : Option (Grant P)) → granted_to (grant_count (region_of k)) o ≡ granted_to (grant_count (right_to k)) o
@@ -90,11 +87,11 @@ module _ {P : Type 0} where
     pub instances : sum_by (granted_to grant_instances) new + call_has grant_instances asked ≡ sum_by (granted_to grant_instances) old
     pub memories : sum_by (granted_to grant_memories) new + call_has grant_memories asked ≡ sum_by (granted_to grant_memories) old
 
-  pub has_call : (maker : MakerTold) (asked : Call P) (new : List (Option (Grant P))) (c : PoolCore P) (p : RunningParty P) → IsFrame maker c p.frame → MayBegin maker c.settings asked p.frame → Brings asked p.live new → HaveSame p (with_call asked new p)
+  pub has_call : (maker : MakerTold) (asked : Call P) (new : List (Option (Grant P))) (c : PoolCore P) (p : RunningParty P) → IsFrame maker c.settings p.frame → MayBegin maker c.settings asked p.frame → Brings asked p.live new → HaveSame p (with_call asked new p)
   has_call maker asked new c p frame may brings = record {
-    places = λ t. omega (arith, begun_count maker t asked c p.frame frame may, brings.places t);
-    instances = omega (arith, begun_instances maker asked c p.frame may, brings.instances);
-    memories = omega (arith, begun_memories maker asked c p.frame frame may, brings.memories);
+    places = λ t. omega (arith, begun_count maker t asked c.settings p.frame frame may, brings.places t);
+    instances = omega (arith, begun_instances maker asked c.settings p.frame may, brings.instances);
+    memories = omega (arith, begun_memories maker asked c.settings p.frame frame may, brings.memories);
   }
 
   pub brings_key : (live : List (Option (Grant P))) → Brings call.Key live live
@@ -120,11 +117,11 @@ module _ {P : Type 0} where
   still_none (x ∷ xs) (suc i) (suc k) none = still_none xs i k none
 
   -- The party can make its turn once a call began that may.
-  pub called : (maker : MakerTold) (asked : Call P) (new : List (Option (Grant P))) (c : PoolCore P) (p : RunningParty P) → CanTurn maker c p → MayBegin maker c.settings asked p.frame → Brings asked p.live new → All (λ g. IfSome g (IsGrant maker c.settings)) new → ((k : ℕ) → p.done ≤ k → slice_index_or new k None ≡ None) → (stage_of (begun_call asked p.frame).phase (begun_call asked p.frame).ending ≡ asks → p.done < length new) → CanTurn maker c (with_call asked new p)
+  pub called : (maker : MakerTold) (asked : Call P) (new : List (Option (Grant P))) (c : PoolCore P) (p : RunningParty P) → CanTurn maker c p → MayBegin maker c.settings asked p.frame → Brings asked p.live new → All (λ g. IfSome g (IsGrant maker c.settings)) new → ((k : ℕ) → p.done ≤ k → slice_index_or new k None ≡ None) → (is_asking (stage_of (begun_call asked p.frame)) ≡ true → p.done < length new) → CanTurn maker c (with_call asked new p)
   called maker asked new c p can may brings grants to_come place = record {
     core = can.core;
     party = record {
-      sound = record { frame = begun_frame maker asked c p.frame can.party.sound.frame may; grants = grants };
+      sound = record { frame = begun_frame maker asked c.settings p.frame can.party.sound.frame may; grants = grants };
       to_come = to_come;
       place = place;
     };
@@ -137,8 +134,16 @@ module _ {P : Type 0} where
   pub called_module : (maker : MakerTold) (m : ModuleCall) (c : PoolCore P) (p : RunningParty P) → CanTurn maker c p → IsIdle p.frame → AreImagesOf c.settings (memories_wanted (Some m)) (images_wanted (Some m)) → HasImages (Some m) → p.done < length p.live → CanTurn maker c (record p { frame = begun_call (call.Module m) p.frame })
   called_module maker m c p can idle images each room = called maker (call.Module m) p.live c p can (idle, images, each) (brings_module m p.live) can.party.sound.grants can.party.to_come (λ is. room)
 
-  pub returned_asks : (grant : Grant P) (f : Frame P) → stage_of (begun_call (call.GiveBack grant) f).phase (begun_call (call.GiveBack grant) f).ending ≡ asks → ⊥
-  returned_asks (instance lease) f is = no_asks P (length lease.memories.items == 0) returned is
+  -- a give-back is under way then
+  next_stage : (leases : List Lease) (f : Frame P) → stage_of (returned_next leases (record f { ending = ending.Returned })).frame ≡ returning
+  next_stage [] f = refl
+  next_stage (l ∷ ls) f = refl
+
+  pub returned_stage : (grant : Grant P) (f : Frame P) → stage_of (begun_call (call.GiveBack grant) f) ≡ returning
+  returned_stage (instance lease) f = next_stage lease.memories.items (record f { objects = lease.memories })
+
+  pub returned_asks : (grant : Grant P) (f : Frame P) → is_asking (stage_of (begun_call (call.GiveBack grant) f)) ≡ true → ⊥
+  returned_asks grant f asking = let no : is_asking (stage_of (begun_call (call.GiveBack grant) f)) ≡ false = ap is_asking (returned_stage grant f) in absurd cc
 
   pub called_back : (maker : MakerTold) (i : ℕ) (grant : Grant P) (c : PoolCore P) (p : RunningParty P) → CanTurn maker c p → IsIdle p.frame → slice_index_or p.live i None ≡ Some grant → CanTurn maker c (record p { live = slice_set p.live i None; frame = begun_call (call.GiveBack grant) p.frame })
   called_back maker i grant c p can idle is =
@@ -147,19 +152,9 @@ module _ {P : Type 0} where
       (λ k behind. still_none p.live i k (can.party.to_come k behind))
       (λ asking. absurd (returned_asks grant p.frame asking))
 
-  -- A party that is alone stays so as a call begins.
-  pub called_alone : (maker : MakerTold) (asked : Call P) (new : List (Option (Grant P))) (c : PoolCore P) (p : RunningParty P) → IsFrame maker c p.frame → MayBegin maker c.settings asked p.frame → Brings asked p.live new → IsSearchedAt (begun_call asked p.frame).phase c (begun_call asked p.frame) → IsAlone c p.frame p.live → IsAlone c (begun_call asked p.frame) new
-  called_alone maker asked new c p frame may brings searched alone =
-      let same : HaveSame p (with_call asked new p) = has_call maker asked new c p frame may brings in
-      record {
-        places = λ t. omega (arith, alone.places t, same.places t);
-        instances = omega (arith, alone.instances, same.instances);
-        searched = searched;
-      }
+  next_searched : (leases : List Lease) (c : PoolCore P) (f : Frame P) → IsSearched c (returned_next leases f).frame
+  next_searched [] c f = tt
+  next_searched (l ∷ ls) c f = tt
 
-  back_searched : (b : Bool) (c : PoolCore P) (f : Frame P) → IsSearchedAt (if b then UncountInstance else UncountMemory) c f
-  back_searched true c f = tt
-  back_searched false c f = tt
-
-  pub returned_searched : (grant : Grant P) (c : PoolCore P) (f : Frame P) → IsSearchedAt (begun_call (call.GiveBack grant) f).phase c (begun_call (call.GiveBack grant) f)
-  returned_searched (instance lease) c f = back_searched (length lease.memories.items == 0) c (begun_call (call.GiveBack (instance lease)) f)
+  pub returned_searched : (grant : Grant P) (c : PoolCore P) (f : Frame P) → IsSearched c (begun_call (call.GiveBack grant) f)
+  returned_searched (instance lease) c f = next_searched lease.memories.items c (record f { objects = lease.memories; ending = ending.Returned })

@@ -1,15 +1,15 @@
 -- The list for the slots of what is asked for has room for them, until the reply takes it.
-use Rattle.std.proofs.Common.{◌≡◌, ℕ, ◌<◌, ◌≤◌, Option, Some, None, List, [], length, refl, sym, ap, ◌∙◌, subst, inl, inr, arith}
+use Rattle.std.proofs.Common.{◌≡◌, ℕ, ◌<◌, ◌≤◌, Option, Some, None, List, [], length, refl, sym, ap, ◌∙◌, subst, inl, inr, arith, true}
 use Rattle.std.specs.Prelude.{replicate, slice_set, slice_index_or}
 use Rattle.std.proofs.lemmas.Bool.{cases_eq}
 use Rattle.std.proofs.lemmas.List.{length-map, length-replicate, length-set, get_or-map, get_or-replicate, get_or-set_same, get_or-set_other}
 use Rattle.pool_pages.specs.MakerTold.{MakerTold}
-use Rattle.pool_pages.specs.declared.module_types.MemoryDecl.{MemoryDecl}
 use Rattle.pool_limits.specs.LimiterTold.{LimiterTold}
 use Rattle.pool_alloc.specs.Calls.{IsGrantOf, IfGranted, begun_call}
 use Rattle.pool_alloc.specs.Reserved.{Reserved, no_room}
-use Rattle.pool_alloc.specs.Steps.{After, memories_wanted}
-use Rattle.pool_alloc.specs.Stepping.{StepsTo}
+use Rattle.pool_alloc.specs.Steps.{memories_wanted}
+use Rattle.pool_alloc.specs.Turns.{After}
+use Rattle.pool_alloc.specs.Stepping.{is_idle}
 use Rattle.pool_alloc.specs.declared.pool_core.PoolCore.{PoolCore}
 use Rattle.pool_alloc.specs.declared.pool_core.Settings.{Settings}
 use Rattle.pool_alloc.specs.declared.frame.Call.TheVariants as call
@@ -19,41 +19,46 @@ use Rattle.pool_alloc.specs.declared.frame.Grant.TheVariants.{Instance as instan
 use Rattle.pool_alloc.specs.declared.frame.Outcome.{Outcome}
 use Rattle.pool_alloc.specs.declared.frame.Outcome.TheVariants as answer
 use Rattle.pool_run.specs.RunsMade.{AreReserved, party_made_for, parties_made}
-use Rattle.pool_run.specs.Ties.{IsReserved, stage_of}
+use Rattle.pool_run.specs.Ties.{IsReserved, is_asking}
+use Rattle.pool_alloc.specs.Stages.{stage_of}
+use Rattle.pool_alloc.specs.declared.frame.ModuleCall.{ModuleCall}
 use Rattle.pool_run.specs.Turns.{Turned, leases_of, answered, slots_after}
 use Rattle.pool_run.specs.declared.input.Party.{Party}
 use Rattle.pool_run.specs.declared.reply.Reply.{Reply}
 use Rattle.pool_run.specs.declared.running_party.RunningParty.{RunningParty}
 use Rattle.pool_run.proofs.Parties.{returned_asks}
-use Rattle.pool_run.proofs.Placed.{PlacedBy, has_place, placed_by}
-use Rattle.pool_run.proofs.Turned.{no_call_no_place}
+use Rattle.pool_run.proofs.StageSteps.{is_none, none_idle, place_granted, settled_place, asking_some, IsStagedStep}
+use Rattle.pool_run.proofs.Stepped.{IsStepped}
 
 module _ {P : Type 0} where
   pub back_reserved : (grant : Grant P) (f : Frame P) (slots : Reserved ℕ) → IsReserved f slots → IsReserved (begun_call (call.GiveBack grant) f) slots
   back_reserved grant f slots reserved = record { empty = reserved.empty; room = λ asking. absurd (returned_asks grant f asking) }
 
-  granted_room : (maker : MakerTold) (s : Settings) (decls : List MemoryDecl) (room : ℕ) (o : Option (Outcome P)) (f : Frame P) → PlacedBy (λ asked. length decls ≤ room) o f → IfGranted (IsGrantOf maker s decls) o → IfGranted (λ g. length (leases_of g) ≤ room) o
-  granted_room maker s decls room None f placed is = tt
-  granted_room maker s decls room (Some answer.Key) f placed is = tt
-  granted_room maker s decls room (Some (answer.Granted (instance lease))) f placed is = omega (arith, is.1, placed.2)
-  granted_room maker s decls room (Some answer.Returned) f placed is = tt
-  granted_room maker s decls room (Some (answer.Refused e)) f placed is = tt
+  granted_room : (maker : MakerTold) (s : Settings) (asked : Option ModuleCall) (room : ℕ) (o : Option (Outcome P)) → IfGranted (λ g. length (memories_wanted asked) ≤ room) o → IfGranted (IsGrantOf maker s asked) o → IfGranted (λ g. length (leases_of g) ≤ room) o
+  granted_room maker s asked room (Some (answer.Granted (instance lease))) place is = omega (arith, is.1, place)
+  granted_room maker s asked room _ place is = tt
 
   -- It has room for what is granted.
-  pub room_granted : {old new : LimiterTold} (maker : MakerTold) (s : Settings) (c : PoolCore P) (f : Frame P) (a : After P) (slots : Reserved ℕ) → IsReserved f slots → StepsTo old new c f a → IfGranted (IsGrantOf maker s (memories_wanted f.asked)) a.outcome → IfGranted (λ g. length (leases_of g) ≤ slots.room) a.outcome
-  room_granted maker s c f a slots reserved by is = granted_room maker s (memories_wanted f.asked) slots.room a.outcome a.frame (placed_by (λ asked. length (memories_wanted f.asked) ≤ slots.room) c f a by reserved.room) is
+  pub room_granted : {old new : LimiterTold} (maker : MakerTold) (c : PoolCore P) (f : Frame P) (a : After P) (slots : Reserved ℕ) → IsReserved f slots → IsStepped maker old new c f a → IfGranted (λ g. length (leases_of g) ≤ slots.room) a.outcome
+  room_granted maker c f a slots reserved on =
+      granted_room maker c.settings f.asked slots.room a.outcome
+      (place_granted (length (memories_wanted f.asked) ≤ slots.room) (is_asking (stage_of f)) a.outcome reserved.room on.staged.granted) on.granted
 
-  after_reserved : (o : Option (Outcome P)) (f : Frame P) (slots : Reserved ℕ) → slots.items ≡ [] → PlacedBy (λ asked. length (memories_wanted asked) ≤ slots.room) o f → IsReserved f (slots_after o slots)
-  after_reserved None f slots empty placed = record { empty = empty; room = has_place (length (memories_wanted f.asked) ≤ slots.room) (stage_of f.phase f.ending) placed }
-  after_reserved (Some answer.Key) f slots empty placed = record { empty = empty; room = no_call_no_place (stage_of f.phase f.ending) placed }
-  after_reserved (Some (answer.Granted grant)) f slots empty placed = record { empty = refl; room = no_call_no_place (stage_of f.phase f.ending) placed.0 }
-  after_reserved (Some answer.Returned) f slots empty placed = record { empty = empty; room = no_call_no_place (stage_of f.phase f.ending) placed }
-  after_reserved (Some (answer.Refused e)) f slots empty placed = record { empty = empty; room = no_call_no_place (stage_of f.phase f.ending) placed }
+  after_reserved : (o : Option (Outcome P)) (f g : Frame P) (slots : Reserved ℕ) → IsReserved f slots → IsStagedStep (stage_of f) (stage_of g) o → (is_asking (stage_of g) ≡ true → g.asked ≡ f.asked) → IsReserved g (slots_after o slots)
+  after_reserved None f g slots r staged same = record {
+    empty = r.empty;
+    room = λ is. let R : Option ModuleCall → Type 0 = λ o. length (memories_wanted o) ≤ slots.room in subst R (sym (same is)) (r.room (staged.asking is));
+  }
+  after_reserved (Some answer.Key) f g slots r staged same = record { empty = r.empty; room = λ is. settled_place (stage_of g) (staged.settled refl) is }
+  after_reserved (Some (answer.Granted grant)) f g slots r staged same = record { empty = refl; room = λ is. settled_place (stage_of g) (staged.settled refl) is }
+  after_reserved (Some answer.Returned) f g slots r staged same = record { empty = r.empty; room = λ is. settled_place (stage_of g) (staged.settled refl) is }
+  after_reserved (Some (answer.Refused e)) f g slots r staged same = record { empty = r.empty; room = λ is. settled_place (stage_of g) (staged.settled refl) is }
 
   -- A step leaves it, or the reply takes it.
-  pub step_reserved : {old new : LimiterTold} (c : PoolCore P) (f : Frame P) (a : After P) (slots left : Reserved ℕ) → IsReserved f slots → StepsTo old new c f a → left ≡ slots_after a.outcome slots → IsReserved a.frame left
-  step_reserved c f a slots left reserved by is =
-      subst (IsReserved a.frame) (sym is) (after_reserved a.outcome a.frame slots reserved.empty (placed_by (λ asked. length (memories_wanted asked) ≤ slots.room) c f a by reserved.room))
+  pub step_reserved : {old new : LimiterTold} (maker : MakerTold) (c : PoolCore P) (f : Frame P) (a : After P) (slots left : Reserved ℕ) → IsReserved f slots → IsStepped maker old new c f a → left ≡ slots_after a.outcome slots → IsReserved a.frame left
+  step_reserved maker c f a slots left reserved on is =
+      let idle : is_none (stage_of a.frame) ≡ is_idle a.frame.phase = none_idle a.frame.phase a.frame.ending (length a.frame.objects.items) in
+      subst (IsReserved a.frame) (sym is) (after_reserved a.outcome f a.frame slots reserved on.staged (λ asking. on.goes.asked (sym idle ∙ asking_some (stage_of a.frame) asking)))
 
   answered_frame : (o : Option (Outcome P)) (c : PoolCore P) (p : RunningParty P) → (answered o c p).party.frame ≡ p.frame
   answered_frame None c p = refl

@@ -13,12 +13,11 @@ use Rattle.pool_alloc.specs.declared.pool_core.PoolCore.{PoolCore}
 use Rattle.pool_run.specs.Folds.{RunState, TurnsOf, TurnsIf, with_turn, commands_of, replies_to}
 use Rattle.pool_alloc.specs.Sound.{IsCore}
 use Rattle.pool_alloc.specs.Whole.{IsUntouched, IsPartitioned}
-use Rattle.pool_run.specs.Folds.{Folds, HoldsBetween}
+use Rattle.pool_run.specs.Folds.{Folds}
 use Rattle.pool_run.specs.Progress.{begins_by, bound_by, Advances, IsRunOf}
-use Rattle.pool_run.specs.RunsMade.{Background, IsBetweenTurns, IsKept, places_in, commands_in, party_made_for, parties_made}
+use Rattle.pool_run.specs.RunsMade.{Background, IsKept, places_in, commands_in, party_made_for, parties_made}
 use Rattle.pool_run.specs.declared.input.Party.{Party}
-use Rattle.pool_run.specs.Limits.{IsWithinCounts}
-use Rattle.pool_run.specs.Ties.{CanTurn, IsSoundTurn, held_by_party}
+use Rattle.pool_run.specs.Ties.{CanTurn, held_by_party}
 use Rattle.pool_run.specs.Turns.{Turned, Turns}
 use Rattle.pool_run.specs.Worlds.{IsFit, AreFit, AreCallsFor, IsCallFor, NameModules}
 use Rattle.pool_run.specs.Rooms.{World}
@@ -26,14 +25,14 @@ use Rattle.pool_run.specs.declared.command.Command.{Command}
 use Rattle.pool_run.specs.declared.running_party.RunningParty.{RunningParty}
 use Rattle.pool_alloc.specs.declared.pool_core.Settings.{Settings}
 use Rattle.pool_run.proofs.Advanced.{HasAdvanced, has_advanced}
-use Rattle.pool_run.proofs.Between.{untouched_grouped, made_between, ready_there, still_between, advances}
+use Rattle.pool_run.proofs.Between.{IsDrawn, ready_there, still_drawn, advances}
 use Rattle.pool_run.proofs.Counters.{can_count}
 use Rattle.pool_run.proofs.Ended.{few_told, folds_count}
 use Rattle.pool_run.proofs.Folding.{run_turned, folds_more}
 use Rattle.pool_run.proofs.Following.{commands_there}
 use Rattle.pool_run.proofs.Started.{IsMadeParty, AreMade, started_running}
-use Rattle.pool_run.proofs.LimitsOfRuns.{made_within, turn_within, live_within}
-use Rattle.pool_run.proofs.Running.{can_turn, turned_running}
+use Rattle.pool_run.proofs.LimitsOfRuns.{made_within}
+use Rattle.pool_run.proofs.Running.{can_turn}
 use Rattle.pool_run.proofs.Turned.{HasTurned, has_turned}
 
 one_fits : (w : World) (s : Settings) (number : ℕ) (o : Option ModuleCall) → IfSome o (IsCallFor w.terms s number) → IfSome o (IsFit s)
@@ -50,6 +49,10 @@ map_more {Y = Y} f xs i x below is =
     let L : List Y = map f (take i xs) in
     ap (λ y. L ++ f y ∷ []) is ∙ sym (map-append f (take i xs) (get_or xs i x ∷ [])) ∙ ap (map f) (sym (take_more xs i x below))
 
+-- a loop that is over went through all
+pub all_passed : (i count n : ℕ) → count ≡ n → count ≤ i → n ≤ i
+all_passed i count n same past = omega (arith, same, past)
+
 pub map_all : {X Y : Type 0} (f : X → Y) (xs : List X) (i : ℕ) → length xs ≤ i → map f (take i xs) ≡ map f xs
 map_all f xs i all = ap (map f) (take_all i xs all)
 
@@ -59,18 +62,18 @@ nobody = record { home = 0; limits = None; commands = [] }
 
 module _ {P : Type 0} where
   -- a turn that was made is one of the run
-  turn_taken : (maker : MakerTold) (modules : List ModuleCall) (inputs : List (List Command)) (commands : List Command) (i : ℕ) (p : RunningParty P) (s : RunState P) (t : Turned P) → slice_get s.parties i ≡ Some p → commands ≡ commands_of inputs i → Turns modules commands s.core p t → HoldsBetween maker (with_turn i t s) → TurnsOf maker modules inputs i s (with_turn i t s)
-  turn_taken maker modules inputs commands i p s t there same turns holds =
+  turn_taken : (modules : List ModuleCall) (inputs : List (List Command)) (commands : List Command) (i : ℕ) (p : RunningParty P) (s : RunState P) (t : Turned P) → slice_get s.parties i ≡ Some p → commands ≡ commands_of inputs i → Turns modules commands s.core p t → TurnsOf modules inputs i s (with_turn i t s)
+  turn_taken modules inputs commands i p s t there same turns =
       let If : Option (RunningParty P) → Type 0 = λ o. TurnsIf modules (commands_of inputs i) i o s (with_turn i t s) in
       let T : List Command → Type 0 = λ cs. Turns modules cs s.core p t in
-      (subst If (sym there) (t, subst T same turns, refl), holds)
+      subst If (sym there) (t, subst T same turns, refl)
 
   -- A run goes on with a turn, over the same parties.
-  run_goes_on : (of : Background) (given : List Party) (i : ℕ) (s new : RunState P) → IsRunOf of given s → TurnsOf of.world.maker of.modules of.inputs i s new → IsRunOf of given new
+  run_goes_on : (of : Background) (given : List Party) (i : ℕ) (s new : RunState P) → IsRunOf of given s → TurnsOf of.modules of.inputs i s new → IsRunOf of given new
   run_goes_on of given i s new run turns = record {
     way = run_turned of.world of.modules of.inputs i s new run.way turns;
     inputs = run.inputs;
-    parties = folds_count of.world.maker of.modules of.inputs (i ∷ []) s new (new, turns, refl) ∙ run.parties;
+    parties = folds_count of.modules of.inputs (i ∷ []) s new (new, turns, refl) ∙ run.parties;
     named = run.named;
   }
 
@@ -110,13 +113,13 @@ module _ {P : Type 0} where
 
   -- a turn is one of the run, which goes on, and keeps what it promises
   pub record IsAfter (of : Background) (given : List Party) (i : ℕ) (s new : RunState P) : Type 0 where
-    pub turn : TurnsOf of.world.maker of.modules of.inputs i s new
+    pub turn : TurnsOf of.modules of.inputs i s new
     pub run : IsRunOf of given new
     pub kept : IsKept new.core new.parties
     pub advances : Advances of.modules (commands_of of.inputs i) i s new
 
-  pub turn_after : (of : Background) (given : List Party) (commands : List Command) (i : ℕ) (p : RunningParty P) (s : RunState P) (t : Turned P) → IsRunOf of given s → IsKept s.core s.parties → slice_get s.parties i ≡ Some p → commands ≡ commands_of of.inputs i → Turns s.modules commands s.core p t → IsSoundTurn of.world.maker t → IsAfter of given i s (with_turn i t s)
-  turn_after of given commands i p s t run kept there same turns sound =
+  pub turn_after : (of : Background) (given : List Party) (commands : List Command) (i : ℕ) (p : RunningParty P) (s : RunState P) (t : Turned P) → IsRunOf of given s → IsKept s.core s.parties → slice_get s.parties i ≡ Some p → commands ≡ commands_of of.inputs i → Turns s.modules commands s.core p t → IsAfter of given i s (with_turn i t s)
+  turn_after of given commands i p s t run kept there same turns =
       let w : World = of.world in
       let way = run.way in
       let T : List ModuleCall → List Command → Type 0 = λ modules cs. Turns modules cs s.core p t in
@@ -130,17 +133,9 @@ module _ {P : Type 0} where
       let room : L (commands_of of.inputs i) = subst L same take.places in
       let count : ℕ = length (commands_of of.inputs i) in
       let turned : HasAdvanced (one_if (begins_by count p)) (bound_by of.modules (commands_of of.inputs i) s.core p) s.core p t =
-      has_advanced w of.modules (commands_of of.inputs i) s.core p t way.calls take.can (ready_there s i p kept.queues kept.between there) room turned_so in
-      let here : slice_index_or s.parties i p ≡ p = get_or_from_slice_get s.parties i p p there in
-      let Now : RunningParty P → Type 0 = λ q. Turns of.modules (commands_of of.inputs i) s.core q t in
-      let Has : RunningParty P → Type 0 = λ q. HasTurned s.core q t in
+      has_advanced w of.modules (commands_of of.inputs i) s.core p t way.calls take.can (ready_there s i p kept.drawn there) room turned_so in
       let has : HasTurned s.core p t = has_turned w of.modules (commands_of of.inputs i) s.core p t way.calls take.can room turned_so in
-      let within : IsWithinCounts t.core (slice_set s.parties i t.party) = turn_within w of.modules (commands_of of.inputs i) s.core s.parties i p t way.calls way.holds.running below (omega (arith, (way.each i p below).room)) (subst Now (sym here) turned_so) kept.within in
-      let holds : HoldsBetween w.maker (with_turn i t s) = record {
-        running = turned_running w.maker s.core s.parties i p t way.holds.running below (subst Has (sym here) has) sound;
-        instances = live_within t.core (slice_set s.parties i t.party) within;
-      } in
-      let turn : TurnsOf w.maker of.modules of.inputs i s (with_turn i t s) = turn_taken w.maker of.modules of.inputs (commands_of of.inputs i) i p s t there refl turned_so holds in
+      let turn : TurnsOf of.modules of.inputs i s (with_turn i t s) = turn_taken of.modules of.inputs (commands_of of.inputs i) i p s t there refl turned_so in
       let on : IsRunOf of given (with_turn i t s) = run_goes_on of given i s (with_turn i t s) run turn in
       record {
         turn = turn;
@@ -148,18 +143,17 @@ module _ {P : Type 0} where
         advances = advances of.modules (commands_of of.inputs i) s i p t there has.size turned;
         kept = record {
           whole = on.way.holds.running.whole;
-          within = within;
+          within = on.way.within;
           few = omega (arith, kept.few, sum_by-set places s.parties i t.party p below, (way.each i p below).room, (on.way.each i p inside).room, live);
-          queues = turned.ready.groups.queues;
-          between = still_between s i (one_if (begins_by count p)) (bound_by of.modules (commands_of of.inputs i) s.core p) p t kept.between turned;
+          drawn = still_drawn s i (one_if (begins_by count p)) (bound_by of.modules (commands_of of.inputs i) s.core p) p t kept.drawn turned;
         };
       }
 
   -- one turn more of the same party
-  pub repeated : (maker : MakerTold) (modules : List ModuleCall) (inputs : List (List Command)) (i n : ℕ) (s mid new : RunState P) → Folds maker modules inputs (replicate n i) s mid → TurnsOf maker modules inputs i mid new → Folds maker modules inputs (replicate (n + 1) i) s new
-  repeated maker modules inputs i n s mid new folds turns =
-      let F : List ℕ → Type 0 = λ schedule. Folds maker modules inputs schedule s new in
-      subst F (replicate_more n i) (folds_more maker modules inputs (replicate n i) i s mid new folds turns)
+  pub repeated : (modules : List ModuleCall) (inputs : List (List Command)) (i n : ℕ) (s mid new : RunState P) → Folds modules inputs (replicate n i) s mid → TurnsOf modules inputs i mid new → Folds modules inputs (replicate (n + 1) i) s new
+  repeated modules inputs i n s mid new folds turns =
+      let F : List ℕ → Type 0 = λ schedule. Folds modules inputs schedule s new in
+      subst F (replicate_more n i) (folds_more modules inputs (replicate n i) i s mid new folds turns)
 
   one_made : (s : Settings) (q : Party) → IsMadeParty s (length q.commands) (party_made_for {P = P} s q)
   one_made s q = record { home = q.home; frame = refl; limits = q.limits; limited = refl; keyed = refl; done = refl; live = refl }
@@ -182,6 +176,5 @@ module _ {P : Type 0} where
         whole = whole;
         within = made_within c (parties_made c.settings parties) untouched whole;
         few = few;
-        queues = untouched_grouped maker c core untouched;
-        between = All-map IsBetweenTurns (party_made_for c.settings) parties (λ k d below. made_between (slice_index_or parties k d).home (length (slice_index_or parties k d).commands) (slice_index_or parties k d).limits c.settings);
+        drawn = All-map IsDrawn (party_made_for c.settings) parties (λ k d below. refl);
       }

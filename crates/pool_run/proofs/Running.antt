@@ -11,12 +11,13 @@ use Rattle.pool_alloc.specs.Whole.{HasSlots, IsPartitioned}
 use Rattle.pool_alloc.specs.declared.pool_core.PoolCore.{PoolCore}
 use Rattle.pool_alloc.specs.declared.pool_core.Settings.{Settings}
 use Rattle.pool_alloc.proofs.KeptCounts.{frame_regions}
-use Rattle.pool_alloc.proofs.Fitting.{frame_stays}
+use Rattle.pool_alloc.specs.Sound.{IsFrame}
 use Rattle.pool_run.specs.Turns.{Turned}
-use Rattle.pool_run.specs.Ties.{held_by_party, IsParty, FitsParty, CanTurn, IsSoundTurn, IsRunning}
+use Rattle.pool_run.specs.Ties.{held_by_party, IsParty, FitsParty, CanTurn, IsRunning}
 use Rattle.pool_run.specs.declared.running_party.RunningParty.{RunningParty}
 use Rattle.pool_run.proofs.Parties.{live_regions}
 use Rattle.pool_run.proofs.Turned.{HasTurned}
+use Rattle.pool_run.proofs.Sounds.{IsSoundTurn}
 
 module _ {P : Type 0} where
   -- A party has no region without its slot.
@@ -62,8 +63,9 @@ module _ {P : Type 0} where
   pub party_over : (maker : MakerTold) (c d : PoolCore P) (p : RunningParty P) → IsSameSize c d → IsParty maker c p → IsParty maker d p
   party_over maker c d p size is =
       let Grants : Settings → Type 0 = λ s. All (λ g. IfSome g (IsGrant maker s)) p.live in
+      let Framed : Settings → Type 0 = λ s. IsFrame maker s p.frame in
       record {
-        sound = record { frame = frame_stays maker c d p.frame size is.sound.frame; grants = subst Grants (sym size.settings) is.sound.grants };
+        sound = record { frame = subst Framed (sym size.settings) is.sound.frame; grants = subst Grants (sym size.settings) is.sound.grants };
         to_come = is.to_come;
         place = is.place;
       }

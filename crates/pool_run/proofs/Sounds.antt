@@ -3,47 +3,56 @@ use Rattle.std.proofs.Common.{◌≡◌, ℕ, List, Option, Some, None, sym, sub
 use Rattle.std.specs.Prelude.{IfSome, slice_get, slice_set, slice_index_or}
 use Rattle.std.proofs.lemmas.List.Elements.{All-set, All-get_or}
 use Rattle.std.proofs.lemmas.Option.{slice_get_within, get_or_from_slice_get}
+use Rattle.pool_limits.specs.LimiterTold.{LimiterTold}
 use Rattle.pool_pages.specs.MakerTold.{MakerTold}
-use Rattle.pool_pages.specs.declared.module_types.MemoryDecl.{MemoryDecl}
+use Rattle.pool_alloc.specs.declared.frame.ModuleCall.{ModuleCall}
 use Rattle.pool_alloc.specs.Calls.{IsGrant, IsGrantOf, IfGranted}
 use Rattle.pool_alloc.specs.Leases.{Lease}
 use Rattle.pool_alloc.specs.Sound.{IsCore, IsFrame, IsLeaseOf}
-use Rattle.pool_alloc.specs.Steps.{After}
-use Rattle.pool_alloc.specs.Stepping.{IsSameSize}
+use Rattle.pool_alloc.specs.Turns.{After}
 use Rattle.pool_alloc.specs.declared.pool_core.PoolCore.{PoolCore}
 use Rattle.pool_alloc.specs.declared.pool_core.Settings.{Settings}
 use Rattle.pool_alloc.specs.declared.frame.Frame.{Frame}
+use Rattle.pool_alloc.specs.declared.frame.Grant.{Grant}
 use Rattle.pool_alloc.specs.declared.frame.Grant.TheVariants.{Instance as instance}
 use Rattle.pool_alloc.specs.declared.frame.Outcome.{Outcome}
 use Rattle.pool_alloc.specs.declared.frame.Outcome.TheVariants as answer
 use Rattle.pool_alloc.specs.declared.lease.InstanceLease.{InstanceLease}
-use Rattle.pool_run.specs.Turns.{with_lease, ended_with, answered, after_step}
-use Rattle.pool_run.specs.Ties.{IsSoundParty, IsSoundTurn}
+use Rattle.pool_run.specs.Turns.{Turned, leases_of, with_lease, ended_with, answered, after_step}
+use Rattle.pool_run.specs.Ties.{IsSoundParty}
 use Rattle.pool_run.specs.declared.reply.Reply.{Reply}
 use Rattle.pool_run.specs.declared.running_party.RunningParty.{RunningParty}
 use Rattle.pool_run.proofs.Parties.{live_grant}
+use Rattle.pool_run.proofs.Stepped.{IsStepped}
 
 module _ {P : Type 0} where
-  -- A grant of as many memories as were asked for is one of the pool.
-  pub granted_any : (maker : MakerTold) (s : Settings) (decls : List MemoryDecl) (o : Option (Outcome P)) → IfGranted (IsGrantOf maker s decls) o → IfGranted (IsGrant maker s) o
-  granted_any maker s decls None is = is
-  granted_any maker s decls (Some answer.Key) is = is
-  granted_any maker s decls (Some (answer.Granted (instance lease))) is = is.0
-  granted_any maker s decls (Some answer.Returned) is = is
-  granted_any maker s decls (Some (answer.Refused e)) is = is
+  -- what a turn leaves is sound
+  pub record IsSoundTurn (maker : MakerTold) (t : Turned P) : Type 0 where
+    pub core : IsCore maker t.core
+    pub party : IsSoundParty maker t.core t.party
 
-  answered_sound : (maker : MakerTold) (c : PoolCore P) (p : RunningParty P) (d : PoolCore P) (f : Frame P) (o : Option (Outcome P)) → All (λ g. IfSome g (IsGrant maker d.settings)) p.live → IsCore maker d → IsFrame maker d f → IfGranted (IsGrant maker d.settings) o → IsSoundTurn maker (answered o d (record p { frame = f }))
+  -- A grant of as many memories as were asked for is one of the pool.
+  granted_any : (maker : MakerTold) (s : Settings) (asked : Option ModuleCall) (o : Option (Outcome P)) → IfGranted (IsGrantOf maker s asked) o → IfGranted (IsGrant maker s) o
+  granted_any maker s asked None is = is
+  granted_any maker s asked (Some answer.Key) is = is
+  granted_any maker s asked (Some (answer.Granted (instance lease))) is = is.0
+  granted_any maker s asked (Some answer.Returned) is = is
+  granted_any maker s asked (Some (answer.Refused e)) is = is
+
+  answered_sound : (maker : MakerTold) (c : PoolCore P) (p : RunningParty P) (d : PoolCore P) (f : Frame P) (o : Option (Outcome P)) → All (λ g. IfSome g (IsGrant maker d.settings)) p.live → IsCore maker d → IsFrame maker d.settings f → IfGranted (IsGrant maker d.settings) o → IsSoundTurn maker (answered o d (record p { frame = f }))
   answered_sound maker c p d f None live core frame granted = record { core = core; party = record { frame = frame; grants = live } }
   answered_sound maker c p d f (Some answer.Key) live core frame granted = record { core = core; party = record { frame = frame; grants = live } }
   answered_sound maker c p d f (Some (answer.Granted grant)) live core frame granted = record { core = core; party = record { frame = frame; grants = All-set (λ g. IfSome g (IsGrant maker d.settings)) p.live p.done (Some grant) granted live } }
   answered_sound maker c p d f (Some answer.Returned) live core frame granted = record { core = core; party = record { frame = frame; grants = live } }
   answered_sound maker c p d f (Some (answer.Refused e)) live core frame granted = record { core = core; party = record { frame = frame; grants = live } }
 
-  -- A step leaves what is sound where the pool's parts, the frame and what is granted are.
-  pub step_sound : (maker : MakerTold) (c : PoolCore P) (p : RunningParty P) (a : After P) → IsSoundParty maker c p → IsSameSize c a.core → IsCore maker a.core → IsFrame maker a.core a.frame → IfGranted (IsGrant maker a.core.settings) a.outcome → IsSoundTurn maker (after_step a p)
-  step_sound maker c p a sound size core frame granted =
+  -- A step leaves what is sound.
+  pub step_sound : {old new : LimiterTold} (maker : MakerTold) (c : PoolCore P) (p : RunningParty P) (a : After P) → IsSoundParty maker c p → IsStepped maker old new c p.frame a → IsSoundTurn maker (after_step a p)
+  step_sound maker c p a sound on =
       let Grants : Settings → Type 0 = λ s. All (λ g. IfSome g (IsGrant maker s)) p.live in
-      answered_sound maker c p a.core a.frame a.outcome (subst Grants (sym size.settings) sound.grants) core frame granted
+      let Granted : Settings → Type 0 = λ s. IfGranted (IsGrant maker s) a.outcome in
+      answered_sound maker c p a.core a.frame a.outcome (subst Grants (sym on.size.settings) sound.grants) on.core on.frame
+      (subst Granted (sym on.size.settings) (granted_any maker c.settings p.frame.asked a.outcome on.granted))
 
   -- So does a command that ends at once,
   pub reply_sound : (maker : MakerTold) (c : PoolCore P) (p : RunningParty P) (reply : Reply) → IsCore maker c → IsSoundParty maker c p → IsSoundTurn maker (ended_with reply c p)
@@ -63,3 +72,6 @@ module _ {P : Type 0} where
       let items : List Lease = lease.memories.items in
       let L : Lease → Type 0 = IsLeaseOf maker c.settings in
       subst L (get_or_from_slice_get items k l l there) (All-get_or L items k l (slice_get_within items k l there) (live_grant maker c.settings p.live of (instance lease) sound.grants has))
+
+  pub lease_held : (maker : MakerTold) (c : PoolCore P) (p : RunningParty P) (of k : ℕ) (grant : Grant P) (l : Lease) → IsSoundParty maker c p → slice_index_or p.live of None ≡ Some grant → slice_get (leases_of grant) k ≡ Some l → IsLeaseOf maker c.settings l
+  lease_held maker c p of k (instance lease) l sound has there = lease_there maker c p of k lease l sound has there

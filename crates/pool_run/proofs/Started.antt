@@ -17,13 +17,12 @@ use Rattle.pool_alloc.specs.declared.frame.Grant.{Grant}
 use Rattle.pool_alloc.specs.declared.frame.ModuleCall.{ModuleCall}
 use Rattle.pool_alloc.proofs.BegunCalls.{made_frame, made_count, made_instances, made_memories}
 use Rattle.pool_alloc.proofs.Untouched.{untouched_is_whole, untouched_has_all}
-use Rattle.pool_run.specs.Searches.{IsAlone}
 use Rattle.pool_run.specs.PartyRules.{rule_of}
 use Rattle.pool_run.specs.Private.{Grants, no_grants}
 use Rattle.pool_run.specs.Rooms.{World, under}
 use Rattle.pool_run.specs.declared.input.PartyLimits.{PartyLimits}
 use Rattle.pool_run.specs.Turns.{grants_of}
-use Rattle.pool_run.specs.Ties.{granted_to, held_by_party, IsParty, IsPrivate, IsRunning}
+use Rattle.pool_run.specs.Ties.{IsAlone, granted_to, held_by_party, IsParty, IsPrivate, IsRunning}
 use Rattle.pool_run.specs.Worlds.{IsWorldOf, AreCallsFor}
 use Rattle.pool_run.specs.Folds.{commands_of, IsRunTo, IsUnderWay}
 use Rattle.pool_run.specs.RunsMade.{party_made}
@@ -31,6 +30,7 @@ use Rattle.pool_run.specs.declared.command.Command.{Command}
 use Rattle.pool_run.specs.declared.reply.Reply.{Reply}
 use Rattle.pool_run.specs.declared.running_party.RunningParty.{RunningParty}
 use Rattle.pool_run.proofs.LimitsOfRuns.{made_within, live_within}
+use Rattle.pool_run.specs.Limits.{IsWithinCounts}
 
 none_at : {X : Type 0} (n k : ℕ) → slice_index_or (replicate {A = Option X} n None) k None ≡ None
 none_at zero k = refl
@@ -125,23 +125,25 @@ module _ {P : Type 0} where
       subst To (sym (is_party_made s (length commands) p made)) first
 
   pub run_started : (w : World) (modules : List ModuleCall) (inputs : List (List Command)) (c : PoolCore P) (parties : List (RunningParty P)) → IsCore w.maker c → IsUntouched c → IsWorldOf w c → AreCallsFor w.terms c.settings modules → AreMade c.settings inputs parties → map (λ p. rule_of p.limits) parties ≡ w.rules → (w.alone ≡ true → length parties ≡ 1) → IsUnderWay w modules inputs (record { core = c; modules = modules; parties = parties; replies = replicate (length parties) [] })
-  run_started w modules inputs c parties core untouched world calls made rules alone = record {
-    holds =
-        let running : IsRunning w.maker c parties = started_running w.maker c inputs parties core untouched made in
-        record { running = running; instances = live_within c parties (made_within c parties untouched running.whole) };
-    given = refl;
-    world = world;
-    calls = calls;
-    rules = rules;
-    alone = λ e. record {
-      one = alone e;
-      alone = λ d.
-          let A : RunningParty P → Type 0 = λ q. IsAlone c q.frame q.live in
-          let one = made 0 d (omega (arith, alone e)) in
-          subst A (sym (is_party_made c.settings (length (commands_of inputs 0)) (slice_index_or parties 0 d) one)) (made_alone w.maker one.home (length (commands_of inputs 0)) one.limits c core untouched);
-    };
-    told = length-replicate {A = List Reply} (length parties) [];
-    each = λ i d below.
-        let To : List Reply → Type 0 = λ rs. IsRunTo w (commands_of inputs i) rs (slice_index_or parties i d) in
-        subst To (sym (empty_at (length parties) i)) (run_to_start w c.settings (commands_of inputs i) (slice_index_or parties i d) (made i d below));
-  }
+  run_started w modules inputs c parties core untouched world calls made rules alone =
+      let running : IsRunning w.maker c parties = started_running w.maker c inputs parties core untouched made in
+      let within : IsWithinCounts c parties = made_within c parties untouched running.whole in
+      record {
+        holds = record { running = running; instances = live_within c parties within };
+        within = within;
+        given = refl;
+        world = world;
+        calls = calls;
+        rules = rules;
+        alone = λ e. record {
+          one = alone e;
+          alone = λ d.
+              let A : RunningParty P → Type 0 = λ q. IsAlone c q.frame q.live in
+              let one = made 0 d (omega (arith, alone e)) in
+              subst A (sym (is_party_made c.settings (length (commands_of inputs 0)) (slice_index_or parties 0 d) one)) (made_alone w.maker one.home (length (commands_of inputs 0)) one.limits c core untouched);
+        };
+        told = length-replicate {A = List Reply} (length parties) [];
+        each = λ i d below.
+            let To : List Reply → Type 0 = λ rs. IsRunTo w (commands_of inputs i) rs (slice_index_or parties i d) in
+            subst To (sym (empty_at (length parties) i)) (run_to_start w c.settings (commands_of inputs i) (slice_index_or parties i d) (made i d below));
+      }

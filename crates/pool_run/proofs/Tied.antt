@@ -1,137 +1,127 @@
--- What a party has once a step was made fits what it was told: how the ends that rows share keep that.
-use Rattle.std.proofs.Common.{◌≡◌, ℕ, ◌<◌, ◌≤◌, Bool, true, false, List, length, Option, Some, None, refl, sym, ap, ◌∙◌, subst, arith, All}
-use Rattle.std.specs.Prelude.{◌==◌, nat_lt, if◌then◌else◌, slice_get, slice_set, IsSome}
-use Rattle.std.proofs.lemmas.Bool.{ltb-false}
+-- What a party has once a step was made fits what it was told, with the reply if the step ends the command.
+use Rattle.std.proofs.Common.{◌≡◌, ℕ, ◌+◌, ◌<◌, ◌≤◌, false, List, length, map, Option, Some, None, refl, sym, ap, ◌∙◌, subst, arith, All}
+use Rattle.std.specs.Prelude.{IsSome, slice_set, sum_by}
 use Rattle.std.proofs.lemmas.List.{length-map}
 use Rattle.pool_pages.specs.declared.module_types.MemoryDecl.{MemoryDecl}
+use Rattle.pool_limits.specs.LimiterTold.{LimiterTold}
 use Rattle.pool_slots.specs.declared.errors.AllocError.{AllocError}
-use Rattle.pool_slots.specs.declared.errors.AllocError.TheVariants as refusal
-use Rattle.pool_slots.specs.declared.errors.ConcurrencyKind.TheVariants.{MemoryStripe}
-use Rattle.pool_alloc.specs.Reserved.{no_room}
+use Rattle.pool_alloc.specs.Calls.{IsGrantOf, IfGranted}
 use Rattle.pool_alloc.specs.Leases.{Lease}
-use Rattle.pool_alloc.specs.Steps.{After, memories_wanted, goes, ends, give_back_next, refuses, allocate_next, flushes, none_picked, answer_of}
+use Rattle.pool_alloc.specs.Places.{right_to, made_count, phase_instances}
+use Rattle.pool_alloc.specs.Sound.{AreSupported}
+use Rattle.pool_alloc.specs.Stages.{Progress, uncounted, admitted, Stage, no_call, keys, asks, returning, refusing, Follows, Goes}
+use Rattle.pool_alloc.specs.Stepping.{grant_count}
+use Rattle.pool_alloc.specs.Steps.{memories_wanted, images_wanted}
 use Rattle.pool_alloc.specs.declared.pool_core.PoolCore.{PoolCore}
-use Rattle.pool_alloc.specs.declared.frame.AfterFlush.TheVariants.{PickAgain, GiveBackNext}
-use Rattle.pool_alloc.specs.declared.frame.Ending.{Ending}
-use Rattle.pool_alloc.specs.declared.frame.Ending.TheVariants as ending
 use Rattle.pool_alloc.specs.declared.frame.Frame.{Frame}
+use Rattle.pool_alloc.specs.declared.frame.ModuleCall.{ModuleCall}
 use Rattle.pool_alloc.specs.declared.frame.Grant.{Grant}
 use Rattle.pool_alloc.specs.declared.frame.Grant.TheVariants.{Instance as instance}
 use Rattle.pool_alloc.specs.declared.frame.Outcome.{Outcome}
 use Rattle.pool_alloc.specs.declared.frame.Outcome.TheVariants as answer
-use Rattle.pool_alloc.specs.declared.frame.Phase.{Phase}
-use Rattle.pool_alloc.specs.declared.frame.Phase.TheVariants.{Pick, TakeQueue, UncountMemory, UncountInstance, Decommit, PutRegion}
-use Rattle.pool_run.specs.Private.{PrivateMemory, PrivateInstance, Grants, memories_of, begun_memories, MovesGrants, Drops, grant_at}
-use Rattle.pool_run.specs.Rooms.{World, TellsOfPool, instance_count}
-use Rattle.pool_run.specs.Turns.{private_grant, grants_of, granted_reply}
-use Rattle.pool_run.specs.Ties.{no_call, stage_of, HasCause, IsAsking, EndsAs, TiedAs}
+use Rattle.pool_run.specs.Acts.{Act, requests, drops, act_at}
+use Rattle.pool_run.specs.Private.{PrivateMemory, PrivateInstance, Grants, grant_at, memories_of, begun_memories, MovesGrants, Drops}
+use Rattle.pool_run.specs.Rooms.{World, TellsOfPool}
+use Rattle.pool_run.specs.Turns.{private_grant, grants_of, granted_reply, private_memory}
+use Rattle.pool_run.specs.Ties.{granted_to, IsAskedFor, IsAdmitted, IsSoFar, IsRequest, IsToRefuse, IsToReturn, TiedAs}
 use Rattle.pool_run.specs.declared.command.Command.{Command}
-use Rattle.pool_run.specs.declared.command.Command.TheVariants as command
 use Rattle.pool_run.specs.declared.reply.Reply.{Reply}
 use Rattle.pool_run.specs.declared.reply.Reply.TheVariants.{Returned, Refused}
 use Rattle.pool_run.specs.declared.reply.Refusal.TheVariants.{Alloc}
-use Rattle.pool_run.proofs.Causes.{ComesFor, given_cause, none_first}
+use Rattle.pool_run.proofs.Causes.{none_first}
 use Rattle.pool_run.proofs.Exhausted.{live_told, room_for}
-use Rattle.pool_run.proofs.FreeSlots.{AreApart, slots_inside, slots_apart, slots_free}
+use Rattle.pool_run.proofs.FreeSlots.{slots_inside, slots_apart, slots_free}
 use Rattle.pool_run.proofs.Grants.{grants_set}
-use Rattle.pool_run.proofs.Shares.{asked_memories}
-use Rattle.pool_run.proofs.NewMemories.{slots_of}
+use Rattle.pool_run.proofs.Requests.{slots_of, IsBefore, same_memories, raised_cause, goes_so_far, granted_begun}
+use Rattle.pool_run.proofs.StageSteps.{is_none}
 
 -- a grant that is there ends
 dropped : (o : Option PrivateInstance) (told new : Grants) (of : ℕ) → IsSome o → new ≡ slice_set told of None → Drops o told of Returned new
 dropped None told new of some is = absurd cc
 dropped (Some g) told new of some is = (refl, is)
 
--- a party of this world with these commands, of which so many are done, its live grants, and what it was told
-module _ {P : Type 0} (w : World) (commands : List Command) (live : List (Option (Grant P))) (done : ℕ) (told : Grants) where
+-- a party of this world with these commands, of which so many are done, its live grants and its call, and what it was told
+module _ {P : Type 0} (w : World) (commands : List Command) (done : ℕ) (live : List (Option (Grant P))) (told : Grants) where
   -- the command under way ends with this reply, and the party has these grants then
-  pub record Replies (reply : Reply) (new : List (Option (Grant P))) (f : Frame P) : Type 0 where
-    pub settled : stage_of f.phase f.ending ≡ no_call
-    pub command : Command
-    pub next : slice_get commands done ≡ Some command
-    pub moves : MovesGrants w.terms done told command reply (grants_of new)
-    pub pool : TellsOfPool w told command reply
+  pub record Replies (reply : Reply) (new : List (Option (Grant P))) : Type 0 where
+    pub act : Act
+    pub next : act_at commands done ≡ Some act
+    pub moves : MovesGrants w.terms done told act reply (grants_of new)
+    pub pool : TellsOfPool w told act reply
 
   -- what the party has after a step with this outcome fits what it was told
-  abbrev pub TiedBy : Option (Outcome P) → Frame P → Type 0
-  TiedBy None f = TiedAs w (stage_of f.phase f.ending) commands done live f told
-  TiedBy (Some answer.Key) f = TiedAs w (stage_of f.phase f.ending) commands done live f told
-  TiedBy (Some (answer.Granted grant)) f = Replies (granted_reply grant) (slice_set live done (Some grant)) f
-  TiedBy (Some answer.Returned) f = Replies Returned live f
-  TiedBy (Some (answer.Refused e)) f = Replies (Refused (Alloc e)) live f
+  abbrev pub TiedBy : Stage → Option ModuleCall → Option (Outcome P) → Type 0
+  TiedBy t asked None = TiedAs w t commands done asked (grants_of live) told
+  TiedBy t asked (Some answer.Key) = TiedAs w t commands done asked (grants_of live) told
+  TiedBy t asked (Some (answer.Granted grant)) = Replies (granted_reply grant) (slice_set live done (Some grant))
+  TiedBy t asked (Some answer.Returned) = Replies Returned live
+  TiedBy t asked (Some (answer.Refused e)) = Replies (Refused (Alloc e)) live
 
-  pub record IsTied (a : After P) : Type 0 where
-    pub tied : TiedBy a.outcome a.frame
+  refused : (e : AllocError) → grants_of live ≡ told → IsToRefuse w commands done told e → Replies (Refused (Alloc e)) live
+  refused e seen is = record { act = requests is.number; next = is.act; moves = (is.cause.0, seen); pool = is.cause.1 }
 
-  pub either : (b : Bool) (x y : After P) → (b ≡ true → IsTied x) → (b ≡ false → IsTied y) → IsTied (if b then x else y)
-  either true x y one other = one refl
-  either false x y one other = other refl
+  returned : IsToReturn commands done (grants_of live) told → Replies Returned live
+  returned is = record { act = drops is.of; next = is.act; moves = dropped (grant_at told is.of) told (grants_of live) is.of is.there is.ended; pool = tt }
 
-  pub goes_either : (c : PoolCore P) (f : Frame P) (b : Bool) (x y : Phase P) → (b ≡ true → IsTied (goes c f x)) → (b ≡ false → IsTied (goes c f y)) → IsTied (goes c f (if b then x else y))
-  goes_either c f true x y one other = one refl
-  goes_either c f false x y one other = other refl
+module _ {P : Type 0} (w : World) (old new : LimiterTold) (c : PoolCore P) (f : Frame P) (commands : List Command) (done : ℕ) (live : List (Option (Grant P))) (told : Grants) (is : IsBefore w old new c f live told) where
+  all_admitted : (p : Progress) (number : ℕ) → grants_of live ≡ told → IsAskedFor w.terms number f.asked → IsSoFar w number told p → Follows old new c f p (admitted (length (memories_wanted f.asked))) → IsAdmitted w number told (length (memories_wanted f.asked))
+  all_admitted p number seen asked so follows = goes_so_far w old new c f live told is seen number asked p (admitted (length (memories_wanted f.asked))) so follows
 
-  pub gives_back : (c : PoolCore P) (f : Frame P) → EndsAs w f.ending commands done live told → IsTied (give_back_next c f)
-  gives_back c f end = goes_either c f (length f.returning.items == 0) UncountInstance UncountMemory (λ e. record { tied = end }) (λ e. record { tied = end })
-
-  pub refused : (c : PoolCore P) (f : Frame P) (e : AllocError) → grants_of live ≡ told → (asking : IsAsking w.terms commands done f.asked f.granted.items) → HasCause w asking.number told e → IsTied (refuses c f e)
-  refused c f e is asking cause = gives_back c (record f { granted = no_room; returning = f.granted; ending = ending.Refused e }) (is, asking.number, asking.command, cause)
-
-  pub no_slot_left : (queues : ℕ) (c : PoolCore P) (f : Frame P) → instance_count told < w.terms.settings.max_core_instances → grants_of live ≡ told → (asking : IsAsking w.terms commands done f.asked f.granted.items) → (length c.queues ≤ queues → ComesFor w asking.number told (refusal.Limit (record { limit = length c.cells; kind = MemoryStripe f.stripe }))) → IsTied (none_picked queues c f)
-  no_slot_left queues c f counted is asking limit =
-      let e : AllocError = refusal.Limit (record { limit = length c.cells; kind = MemoryStripe f.stripe }) in
-      either (nat_lt queues (length c.queues)) (goes c f (TakeQueue queues)) (refuses c f e) (λ more. record { tied = (is, (asking, counted, tt)) }) (λ last. refused c f e is asking (given_cause w asking.number told e asking.supported (limit (ltb-false queues (length c.queues) last))))
-
-  pub flush_of_request : (queues : ℕ) (c : PoolCore P) (f : Frame P) → instance_count told < w.terms.settings.max_core_instances → grants_of live ≡ told → IsAsking w.terms commands done f.asked f.granted.items → IsTied (flushes (PickAgain queues) c f)
-  flush_of_request queues c f counted is asking = goes_either c f (length f.local.ranges == 0) (PutRegion (PickAgain queues)) (Decommit (PickAgain queues)) (λ e. record { tied = (is, (asking, counted, tt)) }) (λ e. record { tied = (is, (asking, counted, tt)) })
-
-  pub flush_of_give_back : (c : PoolCore P) (f : Frame P) → EndsAs w f.ending commands done live told → IsTied (flushes GiveBackNext c f)
-  flush_of_give_back c f end = goes_either c f (length f.local.ranges == 0) (PutRegion GiveBackNext) (Decommit GiveBackNext) (λ e. record { tied = end }) (λ e. record { tied = end })
-
-  -- A call ends as it is to end.
-  pub ends_with : (e : Ending) (c : PoolCore P) (f : Frame P) → EndsAs w e commands done live told → IsTied (ends c f (answer_of e))
-  ends_with (ending.Refused e) c f end = record { tied = record { settled = refl; command = command.Instantiate end.1; next = end.2; moves = (end.3.0, end.0); pool = end.3.1 } }
-  ends_with ending.Returned c f end = record { tied = record { settled = refl; command = command.Drop end.0; next = end.1; moves = dropped (grant_at told end.0) told (grants_of live) end.0 end.2 end.3; pool = tt } }
-
-  -- The instance is whole, and granted.
-  grants_it : (c : PoolCore P) (f : Frame P) (total : ℕ) → w.terms.slots ≡ total → instance_count told < w.terms.settings.max_core_instances → grants_of live ≡ told → IsAsking w.terms commands done f.asked f.granted.items → length (memories_wanted f.asked) ≤ length f.granted.items → AreApart f.granted.items live total → IsTied (ends c (record f { granted = no_room }) (answer.Granted (instance (record { memories = f.granted }))))
-  grants_it c f total whole counted is asking all apart =
-      let items : List Lease = f.granted.items in
-      let grant : Grant P = instance (record { memories = f.granted }) in
-      let decls : ℕ = length (memories_of w.terms asking.number) in
-      let count : length (slots_of items) ≡ decls = omega (arith, length-map items (λ (l : Lease). l.index), all, asking.new.few, ap (length {A = MemoryDecl}) (asked_memories w.terms asking.number f.asked asking.asked_for)) in
-      let Inside : ℕ → Type 0 = λ n. All (λ slot. slot < n) (slots_of items) in
-      let begun : List PrivateMemory = begun_memories w.terms asking.number 0 (memories_of w.terms asking.number) (slots_of items) in
+  -- an instance is whole, and granted
+  granted : (p : Progress) (grant : Grant P) → grants_of live ≡ told → (request : IsRequest w commands done f.asked told p) → Follows old new c f p (admitted (length (memories_wanted f.asked))) → AreSupported c.settings (memories_wanted f.asked) (images_wanted f.asked) → IsGrantOf w.maker c.settings f.asked grant → ((k : ℕ) → grant_count (right_to k) grant + sum_by (granted_to (grant_count (right_to k))) live ≤ made_count (right_to k) (length c.cells)) → Replies w commands done live told (granted_reply grant) (slice_set live done (Some grant))
+  granted p (instance lease) seen request follows supported of apart =
+      let items : List Lease = lease.memories.items in
+      let grant : Grant P = instance lease in
+      let n : ℕ = request.number in
+      let same : memories_wanted f.asked ≡ memories_of w.terms n = same_memories w old new c f live told is seen n request.asked_for in
+      let counts : length (memories_wanted f.asked) ≡ length (memories_of w.terms n) = ap (length {A = MemoryDecl}) same in
+      let so : IsAdmitted w n told (length (memories_wanted f.asked)) = all_admitted p n seen request.asked_for request.so_far follows in
+      let begun : List PrivateMemory = begun_memories w.terms n 0 (memories_of w.terms n) (slots_of items) in
+      let memories : map private_memory items ≡ begun = granted_begun w old new c f live told is seen n request.asked_for items of.0 of.1 of.2 supported in
       let grants : grants_of (slice_set live done (Some grant)) ≡ slice_set told done (Some (record { memories = begun })) =
-      grants_set live done (Some grant) ∙ ap (λ (g : Grants). slice_set g done (Some (private_grant grant))) is ∙ ap (λ (ms : List PrivateMemory). slice_set told done (Some (record { memories = ms }))) asking.new.begun in
+      grants_set live done (Some grant) ∙ ap (λ (g : Grants). slice_set g done (Some (private_grant grant))) seen ∙ ap (λ (ms : List PrivateMemory). slice_set told done (Some (record { memories = ms }))) memories in
+      let total : ℕ = length c.cells in
+      let Inside : ℕ → Type 0 = λ k. All (λ slot. slot < k) (slots_of items) in
       record {
-        tied = record {
-          settled = refl;
-          command = command.Instantiate asking.number;
-          next = asking.command;
-          moves = (
-            record {
-              supported = asking.supported;
-              allowed = none_first w.terms.rule (memories_of w.terms asking.number) (λ k below. asking.new.allowed k (omega (arith, below, all, asking.new.few, ap (length {A = MemoryDecl}) (asked_memories w.terms asking.number f.asked asking.asked_for))));
-              count = count;
-            },
-            refl,
-            grants,
-          );
-          pool = record {
-            inside = subst Inside (sym whole) (slots_inside items live total apart);
-            free = slots_free items live told total is apart;
-            differ = slots_apart items live total apart;
-            instances = counted;
-            memories = omega (arith, whole, live_told live told is, room_for total items live apart, all, asking.new.few, ap (length {A = MemoryDecl}) (asked_memories w.terms asking.number f.asked asking.asked_for));
-          };
+        act = requests n;
+        next = request.act;
+        moves = (
+          record {
+            supported = so.supported;
+            allowed = none_first w.terms.rule (memories_of w.terms n) (λ k below. so.allowed k (omega (arith, below, counts)));
+            count = length-map items (λ (l : Lease). l.index) ∙ of.1 ∙ counts;
+          },
+          refl,
+          grants,
+        );
+        pool = record {
+          inside = subst Inside (sym is.world.slots) (slots_inside items live total apart);
+          free = slots_free items live told total seen apart;
+          differ = slots_apart items live total apart;
+          instances = so.counted;
+          memories = omega (arith, is.world.slots, live_told live told seen, room_for total items live apart, of.1, counts);
         };
       }
 
-  pub allocates : (c : PoolCore P) (f : Frame P) (total : ℕ) → w.terms.slots ≡ total → instance_count told < w.terms.settings.max_core_instances → grants_of live ≡ told → IsAsking w.terms commands done f.asked f.granted.items → AreApart f.granted.items live total → IsTied (allocate_next c f)
-  allocates c f total whole counted is asking apart =
-      let some : ℕ = length f.granted.items in
-      let all : ℕ = length (memories_wanted f.asked) in
-      either (nat_lt some all) (goes c f (Pick 0 0)) (ends c (record f { granted = no_room }) (answer.Granted (instance (record { memories = f.granted }))))
-      (λ more. record { tied = (is, (asking, counted, tt)) })
-      (λ last. grants_it c f total whole counted is asking (ltb-false some all last) apart)
+  refuses : (p : Progress) (e : AllocError) → (p ≡ uncounted → phase_instances f.phase ≡ 0) → grants_of live ≡ told → IsRequest w commands done f.asked told p → Goes w.maker old new c f (asks p) (refusing e) None → IsToRefuse w commands done told e
+  refuses p e none seen request raises = record { number = request.number; act = request.act; cause = raised_cause w old new c f live told is seen request.number request.asked_for p e none request.so_far raises }
+
+  goes_asking : (p q : Progress) (asked : Option ModuleCall) → asked ≡ f.asked → grants_of live ≡ told → IsRequest w commands done f.asked told p → Follows old new c f p q → IsRequest w commands done asked told q
+  goes_asking p q asked same seen request follows =
+      let For : Option ModuleCall → Type 0 = λ o. IsAskedFor w.terms request.number o in
+      record { number = request.number; act = request.act; asked_for = subst For (sym same) request.asked_for; so_far = goes_so_far w old new c f live told is seen request.number request.asked_for p q request.so_far follows }
+
+  -- After each step of a call what the party has fits what it was told.
+  pub tied_by : (s t : Stage) (asked : Option ModuleCall) (o : Option (Outcome P)) → (s ≡ asks uncounted → phase_instances f.phase ≡ 0) → (is_none t ≡ false → asked ≡ f.asked) → IfGranted (IsGrantOf w.maker c.settings f.asked) o
+      → IfGranted (λ g. (k : ℕ) → grant_count (right_to k) g + sum_by (granted_to (grant_count (right_to k))) live ≤ made_count (right_to k) (length c.cells)) o → Goes w.maker old new c f s t o → TiedAs w s commands done f.asked (grants_of live) told → TiedBy w commands done live told t asked o
+  tied_by no_call no_call asked None none same of apart goes tied = tied
+  tied_by keys no_call asked (Some answer.Key) none same of apart goes tied = tied
+  tied_by (asks p) (asks q) asked None none same of apart goes tied = (tied.0, goes_asking p q asked (same refl) tied.0 tied.1 goes)
+  tied_by (asks p) (refusing e) asked None none same of apart goes tied = (tied.0, refuses p e (λ e. none (ap asks e)) tied.0 tied.1 goes)
+  tied_by (asks p) no_call asked (Some (answer.Refused e)) none same of apart goes tied = refused w commands done live told e tied.0 (refuses p e (λ e. none (ap asks e)) tied.0 tied.1 goes)
+  tied_by (asks p) no_call asked (Some (answer.Granted grant)) none same of apart goes tied = granted p grant tied.0 tied.1 goes.0 goes.1 of apart
+  tied_by returning returning asked None none same of apart goes tied = tied
+  tied_by returning no_call asked (Some answer.Returned) none same of apart goes tied = returned w commands done live told tied
+  tied_by (refusing e) (refusing d) asked None none same of apart goes tied = (tied.0, subst (IsToRefuse w commands done told) (sym goes) tied.1)
+  tied_by (refusing e) no_call asked (Some (answer.Refused d)) none same of apart goes tied = refused w commands done live told d tied.0 (subst (IsToRefuse w commands done told) (sym goes) tied.1)
+  tied_by _ _ asked _ none same of apart goes tied = absurd goes

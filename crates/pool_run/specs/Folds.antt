@@ -9,9 +9,8 @@ use Rattle.pool_run.specs.Private.{no_grants}
 use Rattle.pool_run.specs.Rooms.{World, under}
 use Rattle.pool_run.specs.Turns.{Turned, Turns, with_reply}
 use Rattle.pool_alloc.specs.Stepping.{is_idle}
-use Rattle.pool_run.specs.Ties.{IsPrivate, IsRunning}
-use Rattle.pool_run.specs.Limits.{live_instances}
-use Rattle.pool_run.specs.Searches.{IsAlone}
+use Rattle.pool_run.specs.Ties.{IsPrivate, IsRunning, IsAlone}
+use Rattle.pool_run.specs.Limits.{live_instances, IsWithinCounts}
 use Rattle.pool_run.specs.Worlds.{IsWorldOf, AreCallsFor}
 use Rattle.pool_run.specs.declared.command.Command.{Command}
 use Rattle.pool_run.specs.declared.reply.Reply.{Reply}
@@ -70,14 +69,17 @@ module _ {P : Type 0} where
   TurnsIf modules commands i None s new = new ≡ s
   TurnsIf modules commands i (Some p) s new = (t : Turned P) × Turns modules commands s.core p t × (new ≡ with_turn i t s)
 
-  -- and what holds after it
-  abbrev pub TurnsOf : MakerTold → List ModuleCall → List (List Command) → ℕ → RunState P → RunState P → Type 0
-  TurnsOf maker modules inputs i s new = TurnsIf modules (commands_of inputs i) i (slice_get s.parties i) s new × HoldsBetween maker new
+  abbrev pub TurnsOf : List ModuleCall → List (List Command) → ℕ → RunState P → RunState P → Type 0
+  TurnsOf modules inputs i s new = TurnsIf modules (commands_of inputs i) i (slice_get s.parties i) s new
 
   -- turns of these parties, in order
-  abbrev pub Folds : MakerTold → List ModuleCall → List (List Command) → List ℕ → RunState P → RunState P → Type 0
-  Folds maker modules inputs [] s end = end ≡ s
-  Folds maker modules inputs (i ∷ schedule) s end = (mid : RunState P) × TurnsOf maker modules inputs i s mid × Folds maker modules inputs schedule mid end
+  abbrev pub Folds : List ModuleCall → List (List Command) → List ℕ → RunState P → RunState P → Type 0
+  Folds modules inputs [] s end = end ≡ s
+  Folds modules inputs (i ∷ schedule) s end = (mid : RunState P) × TurnsOf modules inputs i s mid × Folds modules inputs schedule mid end
+
+  -- This holds at a state, and after any turns from there on, of whatever parties in whatever order.
+  abbrev pub HoldsThroughout : MakerTold → List ModuleCall → List (List Command) → RunState P → Type 0
+  HoldsThroughout maker modules inputs start = (turns : List ℕ) (s : RunState P) → Folds modules inputs turns start s → HoldsBetween maker s
 
   -- the party has nothing left: no call is under way, and each of its commands has its reply
   pub record HasNothingLeft (commands : List Command) (p : RunningParty P) : Type 0 where
@@ -88,17 +90,17 @@ module _ {P : Type 0} where
   IsFinished inputs s = (i : ℕ) → IfSome (slice_get s.parties i) (HasNothingLeft (commands_of inputs i))
 
   -- party 0 turns until it has nothing left, then party 1, and so on
-  pub record FinishesRun (maker : MakerTold) (modules : List ModuleCall) (inputs : List (List Command)) (s end : RunState P) : Type 0 where
+  pub record FinishesRun (modules : List ModuleCall) (inputs : List (List Command)) (s end : RunState P) : Type 0 where
     pub counts : List ℕ
     pub parties : length counts ≡ length s.parties
-    pub folds : Folds maker modules inputs (party_by_party 0 counts) s end
+    pub folds : Folds modules inputs (party_by_party 0 counts) s end
     pub finished : IsFinished inputs end
 
   -- a whole run
-  pub record Runs (maker : MakerTold) (modules : List ModuleCall) (inputs : List (List Command)) (schedule : List ℕ) (s end : RunState P) : Type 0 where
+  pub record Runs (modules : List ModuleCall) (inputs : List (List Command)) (schedule : List ℕ) (s end : RunState P) : Type 0 where
     pub scheduled : RunState P
-    pub folds : Folds maker modules inputs schedule s scheduled
-    pub finishes : FinishesRun maker modules inputs scheduled end
+    pub folds : Folds modules inputs schedule s scheduled
+    pub finishes : FinishesRun modules inputs scheduled end
 
   -- how far a party is: its replies are a private run of its commands under its limits, and it has a place for each of
   -- these
@@ -114,6 +116,7 @@ module _ {P : Type 0} where
   -- What holds at each moment of a run.
   pub record IsUnderWay (w : World) (modules : List ModuleCall) (inputs : List (List Command)) (s : RunState P) : Type 0 where
     pub holds : HoldsBetween w.maker s
+    pub within : IsWithinCounts s.core s.parties
     pub given : s.modules ≡ modules
     pub world : IsWorldOf w s.core
     pub calls : AreCallsFor w.terms s.core.settings modules

@@ -1,9 +1,11 @@
+pub mod Acts
 pub mod AtOnce
 pub mod Built
 pub mod Folds
 pub mod Limits
 pub mod Made
 pub mod Numbers
+pub mod Objects
 pub mod PartyRules
 pub mod Private
 pub mod Progress
@@ -11,7 +13,6 @@ pub mod Rooms
 pub mod Runs
 pub mod RunsMade
 pub mod Schedules
-pub mod Searches
 pub mod Ties
 pub mod Turns
 pub mod Validity

@@ -1,6 +1,6 @@
 -- What a party may see: its grants as private lists of bytes, which its commands read and write, and no pool.
 use Rattle.std.specs.Prelude.{◌≡◌, ℕ, ◌+◌, ◌-◌, ◌*◌, ◌^◌, ◌<◌, ◌≤◌, ◌==◌, ◌||◌, ◌&&◌, List, [], ◌∷◌, ◌++◌, length, slice_get, slice_index_or, slice_range, slice_set, replicate, min, ◌⊎◌, Bool, true, false, not, nat_lt, if◌then◌else◌, Option, Some, None, IfSome, is_some, option_map, Result, Ok, Err}
-use Rattle.std.specs.Option.{option_and_then, option_map_or}
+use Rattle.std.specs.Option.{option_map_or}
 use Rattle.std.specs.List.{list_all}
 use Rattle.pool_pages.specs.Contents.{put}
 use Rattle.pool_pages.specs.MemoryTypes.{minimum_byte_size, page_size, allow_growth_to}
@@ -23,8 +23,9 @@ use Rattle.pool_slots.specs.declared.errors.ConcurrencyKind.TheVariants.{MemoryS
 use Rattle.pool_alloc.specs.Own.{refusal_of}
 use Rattle.pool_alloc.specs.Refusals.{memories_refused}
 use Rattle.pool_alloc.specs.declared.pool_core.Settings.{Settings}
+use Rattle.pool_run.specs.Objects.{Objects, MovesObject}
+use Rattle.pool_run.specs.Acts.{MemoryOp, reads, writes, fills, grows, asks_size, Act, requests, on_memory, drops, act_of}
 use Rattle.pool_run.specs.declared.command.Command.{Command}
-use Rattle.pool_run.specs.declared.command.Command.TheVariants.{Instantiate, Read, Write, Fill, Grow, Size as ask_size, Drop}
 use Rattle.pool_run.specs.declared.reply.Reply.{Reply}
 use Rattle.pool_run.specs.declared.reply.Reply.TheVariants.{Instance, Bytes, Done, Size, Grown, Returned, Refused, Trap}
 use Rattle.pool_run.specs.declared.reply.Refusal.{Refusal}
@@ -169,10 +170,6 @@ IsRead m at len (Trap trap) = (trap ≡ MemoryOutOfBounds) × (m.size < at + len
 IsRead m at len (Refused refusal) = refusal ≡ Alloc alloc.Memory
 IsRead m at len _ = ⊥
 
--- the reply to a question for its size
-abbrev pub IsSize : PrivateMemory → Reply → Type 0
-IsSize m reply = reply ≡ Size m.size
-
 -- the memory with bytes of it written
 abbrev pub private_written : ℕ → List ℕ → PrivateMemory → PrivateMemory
 private_written at new m = record m { bytes = option_map (put at new) m.bytes }
@@ -225,41 +222,28 @@ grown_by rule fault pages m =
 abbrev pub Grows : GrowthRule → ℕ → PrivateMemory → PrivateMemory → Reply → Type 0
 Grows rule pages m new reply = (fault : Bool) × ((new, reply) ≡ grown_by rule fault pages m)
 
--- What a command makes of what it names. Where that isn't there, the command is refused and changes nothing; where it is,
--- a move of it gives the reply, and what is there then is put in its place.
-abbrev pub MovesNamed : {X S : Type 0} → (X → X → Reply → Type 0) → Option X → (X → S → S) → S → Reply → S → Type 0
-MovesNamed Move None put old reply new = (reply ≡ Refused NoSuchGrant) × (new ≡ old)
-MovesNamed {X = X} Move (Some x) put old reply new = (moved : X) × Move x moved reply × (new ≡ put moved old)
+-- What an operation makes of a live memory, under a rule by which it grows, and the reply. A look changes nothing.
+abbrev pub MemoryMoves : MemoryOp → GrowthRule → PrivateMemory → PrivateMemory → Reply → Type 0
+MemoryMoves (reads at len) rule m new reply = IsRead m at len reply × (new ≡ m)
+MemoryMoves (writes at bytes) rule m new reply = Writes at bytes m new reply
+MemoryMoves (fills at len byte) rule m new reply = Writes at (replicate len byte) m new reply
+MemoryMoves (grows pages) rule m new reply = Grows rule pages m new reply
+MemoryMoves asks_size rule m new reply = (reply ≡ Size m.size) × (new ≡ m)
 
--- a look is a move that changes nothing
-abbrev pub Looks : {X : Type 0} → (X → Reply → Type 0) → X → X → Reply → Type 0
-Looks Answers x new reply = Answers x reply × (new ≡ x)
-
--- memory k of the live grant of command `of`, and the grants with it changed
-abbrev pub memory_at : ℕ → ℕ → Grants → Option PrivateMemory
-memory_at of k grants = option_and_then (λ g. slice_get g.memories k) (grant_at grants of)
-
-abbrev pub with_private : ℕ → ℕ → PrivateMemory → Grants → Grants
-with_private of k m grants = slice_set grants of (option_map (λ g. record { memories = slice_set g.memories k m }) (grant_at grants of))
-
--- what a command on that memory makes of the grants, and its reply
-abbrev pub On : (PrivateMemory → PrivateMemory → Reply → Type 0) → Grants → ℕ → ℕ → Reply → Grants → Type 0
-On Move grants of k reply new = MovesNamed Move (memory_at of k grants) (with_private of k) grants reply new
+-- the memories of a grant
+abbrev pub private_memories : Objects PrivateInstance PrivateMemory
+private_memories = record { in_grant = λ g. g.memories; put_in = λ k m g. record { memories = slice_set g.memories k m } }
 
 -- a grant is given back, and ends
 abbrev pub Drops : Option PrivateInstance → Grants → ℕ → Reply → Grants → Type 0
 Drops None grants of reply new = (reply ≡ Refused NoSuchGrant) × (new ≡ grants)
 Drops (Some g) grants of reply new = (reply ≡ Returned) × (new ≡ slice_set grants of None)
 
--- command n, its reply, and the grants before and after
-abbrev pub MovesGrants : Terms → ℕ → Grants → Command → Reply → Grants → Type 0
-MovesGrants t n grants (Instantiate number) reply new = Instantiates t n number grants reply new
-MovesGrants t n grants (Read of memory at len) reply new = On (Looks (λ m. IsRead m at len)) grants of memory reply new
-MovesGrants t n grants (Write of memory at bytes) reply new = On (Writes at bytes) grants of memory reply new
-MovesGrants t n grants (Fill of memory at len byte) reply new = On (Writes at (replicate len byte)) grants of memory reply new
-MovesGrants t n grants (Grow of memory pages) reply new = On (Grows t.rule pages) grants of memory reply new
-MovesGrants t n grants (ask_size of memory) reply new = On (Looks IsSize) grants of memory reply new
-MovesGrants t n grants (Drop of) reply new = Drops (grant_at grants of) grants of reply new
+-- what command n does, its reply, and the grants before and after
+abbrev pub MovesGrants : Terms → ℕ → Grants → Act → Reply → Grants → Type 0
+MovesGrants t n grants (requests number) reply new = Instantiates t n number grants reply new
+MovesGrants t n grants (on_memory of k op) reply new = MovesObject private_memories (MemoryMoves op t.rule) of k grants reply new
+MovesGrants t n grants (drops of) reply new = Drops (grant_at grants of) grants of reply new
 
 -- what a party may see: its live grants, and how often it called its store of objects and its maker of heaps
 pub record PrivateState : Type 0 where
@@ -269,7 +253,7 @@ pub record PrivateState : Type 0 where
 
 -- neither a store nor a maker of heaps is called by a command on memories
 pub record PrivateStep (t : Terms) (n : ℕ) (s : PrivateState) (command : Command) (reply : Reply) (new : PrivateState) : Type 0 where
-  pub moves : MovesGrants t n s.grants command reply new.grants
+  pub moves : MovesGrants t n s.grants (act_of command) reply new.grants
   pub stores : new.stores ≡ s.stores
   pub heaps : new.heaps ≡ s.heaps
 

@@ -1,6 +1,5 @@
 -- How far the parties are: how many calls began, whether one is under way, and at most how many turns it still takes.
 use Rattle.std.specs.Prelude.{◌≡◌, ◌≢◌, ℕ, ◌+◌, ◌<◌, ◌≤◌, List, length, replicate, slice_get, slice_index_or, nat_lt, ◌&&◌, Bool, true, false, not, Option, Some, None}
-use Rattle.pool_pages.specs.MakerTold.{MakerTold}
 use Rattle.pool_index.specs.Shard.{one_if}
 use Rattle.pool_alloc.specs.Bounds.{bound_of, steps_left}
 use Rattle.pool_alloc.specs.Stepping.{is_idle}
@@ -11,8 +10,8 @@ use Rattle.pool_alloc.specs.declared.frame.ModuleCall.{ModuleCall}
 use Rattle.pool_run.specs.Folds.{RunState, Folds, IsUnderWay}
 use Rattle.pool_run.specs.RunsMade.{Background, commands_in}
 use Rattle.pool_run.specs.Worlds.{NameModules}
+use Rattle.pool_run.specs.Acts.{Act, requests, on_memory, drops, act_of}
 use Rattle.pool_run.specs.declared.command.Command.{Command}
-use Rattle.pool_run.specs.declared.command.Command.TheVariants.{Instantiate, Read, Write, Fill, Grow, Size, Drop}
 use Rattle.pool_run.specs.declared.input.Party.{Party}
 use Rattle.pool_run.specs.declared.running_party.RunningParty.{RunningParty}
 
@@ -59,20 +58,16 @@ module _ {P : Type 0} where
   bound_returned c None = 1
   bound_returned c (Some grant) = bound_of c (call.GiveBack grant)
 
-  abbrev pub bound_begun : List ModuleCall → Command → PoolCore P → RunningParty P → ℕ
-  bound_begun modules (Instantiate number) c p = bound_asked c (slice_get modules number)
-  bound_begun modules (Read of memory at len) c p = 1
-  bound_begun modules (Write of memory at bytes) c p = 1
-  bound_begun modules (Fill of memory at len byte) c p = 1
-  bound_begun modules (Grow of memory pages) c p = 1
-  bound_begun modules (Size of memory) c p = 1
-  bound_begun modules (Drop of) c p = bound_returned c (slice_index_or p.live of None)
+  abbrev pub bound_begun : List ModuleCall → Act → PoolCore P → RunningParty P → ℕ
+  bound_begun modules (requests number) c p = bound_asked c (slice_get modules number)
+  bound_begun modules (on_memory of k op) c p = 1
+  bound_begun modules (drops of) c p = bound_returned c (slice_index_or p.live of None)
 
   -- the same of the party's next call; its stripe is drawn in one turn
   abbrev pub bound_keyed : Bool → List ModuleCall → Option Command → PoolCore P → RunningParty P → ℕ
   bound_keyed false modules next c p = 1
   bound_keyed true modules None c p = 1
-  bound_keyed true modules (Some command) c p = bound_begun modules command c p
+  bound_keyed true modules (Some command) c p = bound_begun modules (act_of command) c p
 
   abbrev pub bound_by : List ModuleCall → List Command → PoolCore P → RunningParty P → ℕ
   bound_by modules commands c p = bound_keyed p.keyed modules (slice_get commands p.done) c p
@@ -90,9 +85,9 @@ module _ {P : Type 0} where
     pub others : (k : ℕ) → k ≢ i → turns_left new.core (slice_get new.parties k) ≡ turns_left s.core (slice_get s.parties k)
 
   -- some turns of party i, one after another
-  pub record TurnsSome (maker : MakerTold) (modules : List ModuleCall) (inputs : List (List Command)) (i : ℕ) (s end : RunState P) : Type 0 where
+  pub record TurnsSome (modules : List ModuleCall) (inputs : List (List Command)) (i : ℕ) (s end : RunState P) : Type 0 where
     pub times : ℕ
-    pub folds : Folds maker modules inputs (replicate times i) s end
+    pub folds : Folds modules inputs (replicate times i) s end
 
   -- The run is under way, and is one of these parties, whose commands name modules that are there.
   pub record IsRunOf (of : Background) (given : List Party) (s : RunState P) : Type 0 where

@@ -8,9 +8,10 @@ use Rattle.pool_slots.specs.declared.errors.AllocError.{AllocError}
 use Rattle.pool_slots.specs.declared.errors.AllocError.TheVariants as alloc
 use Rattle.pool_slots.specs.declared.errors.ConcurrencyKind.{ConcurrencyKind}
 use Rattle.pool_slots.specs.declared.errors.ConcurrencyKind.TheVariants.{MemoryStripe, CoreInstances}
-use Rattle.pool_run.specs.Private.{PrivateMemory, PrivateInstance, PrivateState, PrivateStep, Grants, Terms, grant_at, memory_at, memories_of, slots_asked, grown_by, StepsBy, with_grants, no_grants}
+use Rattle.pool_run.specs.Private.{PrivateMemory, PrivateInstance, PrivateState, PrivateStep, Grants, Terms, grant_at, private_memories, memories_of, slots_asked, grown_by, StepsBy, with_grants, no_grants}
+use Rattle.pool_run.specs.Objects.{object_at}
+use Rattle.pool_run.specs.Acts.{MemoryOp, grows, Act, requests, on_memory, act_of}
 use Rattle.pool_run.specs.declared.command.Command.{Command}
-use Rattle.pool_run.specs.declared.command.Command.TheVariants.{Instantiate, Grow}
 use Rattle.pool_run.specs.declared.reply.Reply.{Reply}
 use Rattle.pool_run.specs.declared.reply.Reply.TheVariants.{Instance, Refused}
 use Rattle.pool_run.specs.declared.reply.Refusal.TheVariants.{Alloc}
@@ -93,15 +94,19 @@ TellsRoom w number grants _ = Unit {0}
 abbrev pub TellsGrowth : World → ℕ → PrivateMemory → Reply → Type 0
 TellsGrowth w pages m reply = (reply ≡ (grown_by w.terms.rule false pages m).1) ⊎ MayFault w m.slot
 
-abbrev pub TellsOfPool : World → Grants → Command → Reply → Type 0
-TellsOfPool w grants (Instantiate number) reply = TellsRoom w number grants reply
-TellsOfPool w grants (Grow of memory pages) reply = IfSome (memory_at of memory grants) (λ m. TellsGrowth w pages m reply)
+abbrev pub TellsMove : World → MemoryOp → PrivateMemory → Reply → Type 0
+TellsMove w (grows pages) m reply = TellsGrowth w pages m reply
+TellsMove w _ m reply = Unit {0}
+
+abbrev pub TellsOfPool : World → Grants → Act → Reply → Type 0
+TellsOfPool w grants (requests number) reply = TellsRoom w number grants reply
+TellsOfPool w grants (on_memory of k op) reply = IfSome (object_at private_memories of k grants) (λ m. TellsMove w op m reply)
 TellsOfPool w grants _ reply = Unit {0}
 
 -- a step of a private run that tells so of the pool
 pub record PooledStep (w : World) (n : ℕ) (s : PrivateState) (command : Command) (reply : Reply) (new : PrivateState) : Type 0 where
   pub private : PrivateStep w.terms n s command reply new
-  pub pool : TellsOfPool w s.grants command reply
+  pub pool : TellsOfPool w s.grants (act_of command) reply
 
 -- the replies are those of a run of such steps
 abbrev pub IsPooledRun : World → List Command → List Reply → Type 0

@@ -17,7 +17,7 @@ use Rattle.pool_alloc.specs.Sound.{IsCore}
 use Rattle.pool_alloc.specs.Sums.{metrics_of}
 use Rattle.pool_alloc.specs.Whole.{IsUntouched}
 use Rattle.pool_alloc.specs.declared.frame.ModuleCall.{ModuleCall}
-use Rattle.pool_run.specs.Folds.{RunParts, RunState, HoldsBetween, Folds, Runs, commands_of, replies_to, told_state}
+use Rattle.pool_run.specs.Folds.{RunParts, RunState, HoldsThroughout, Folds, Runs, commands_of, replies_to, told_state}
 use Rattle.pool_run.specs.Made.{AreMadeCalls}
 use Rattle.pool_run.specs.Numbers.{calls_of_run}
 use Rattle.pool_run.specs.PartyRules.{rule_of}
@@ -56,9 +56,9 @@ world_of input maker = record {
 }
 
 -- the turns of the schedule, and with `finish` those of each party until it has nothing left
-abbrev pub Performs : {P : Type 0} → Bool → MakerTold → List ModuleCall → List (List Command) → List ℕ → RunState P → RunState P → Type 0
-Performs true maker modules inputs schedule s end = Runs maker modules inputs schedule s end
-Performs false maker modules inputs schedule s end = Folds maker modules inputs schedule s end
+abbrev pub Performs : {P : Type 0} → Bool → List ModuleCall → List (List Command) → List ℕ → RunState P → RunState P → Type 0
+Performs true modules inputs schedule s end = Runs modules inputs schedule s end
+Performs false modules inputs schedule s end = Folds modules inputs schedule s end
 
 -- what each party was told is a private run of its commands, and with `finish` each command has its reply
 abbrev pub IsToldBy : Bool → Terms → List Command → List Reply → Type 0
@@ -103,13 +103,13 @@ pub record IsMadeRun {P : Type 0} (input : Input) (maker : MakerTold) (run : Run
   pub parties : run.parties ≡ parties_made run.core.settings input.parties
 
 -- The output is that of a run of the input: the turns lead from the run as it is made to an end, of which the output
--- gives the replies and the numbers.
+-- gives the replies and the numbers. Between any two turns, also in another order, pool and parties are sound.
 pub record IsRun (P : Type 0) (input : Input) (maker : MakerTold) (output : RunOutput) : Type 0 where
   pub start : RunParts P
   pub made : IsMadeRun input maker start
   pub end : RunState P
-  pub performed : Performs input.finish maker start.modules (commands_in input.parties) (turns_of input.schedule) (told_state start (nothing_told input.parties)) end
-  pub holds : HoldsBetween maker end
+  pub performed : Performs input.finish start.modules (commands_in input.parties) (turns_of input.schedule) (told_state start (nothing_told input.parties)) end
+  pub holds : HoldsThroughout maker start.modules (commands_in input.parties) (told_state start (nothing_told input.parties))
   pub replies : output.replies ≡ end.replies
   pub told : (i : ℕ) → i < length input.parties → IsToldBy input.finish (world_at (world_of input maker) i).terms (commands_of (commands_in input.parties) i) (replies_to i output.replies)
   pub room : (i : ℕ) → i < length input.parties → IsPooledRun (world_at (world_of input maker) i) (commands_of (commands_in input.parties) i) (replies_to i output.replies)
@@ -149,7 +149,8 @@ pub record FaultsInMaking (input : Input) (old new : MakerTold) : Type 0 where
   pub cause : (making_listed input old.listed ≡ true) ⊎ Rose old.behind new.behind
   pub planned : IfSome old.plan (λ plan. making_listed input plan ≡ true)
 
--- A run over this maker may fault in a making: where the maker with the input's faults before it tells its plan, that lists
--- one.
-abbrev pub MayFaultInMaking : Input → MakerTold → Type 0
-MayFaultInMaking input maker = IfSome (with_faults input maker).plan (λ plan. making_listed input plan ≡ true)
+-- No region or image could be made by a maker with the input's faults before it: the input lists a making, or the maker's
+-- own count of faults rose. And where the maker with the input's faults tells its plan, that lists one.
+pub record HasFaultedMaking (input : Input) (old new : MakerTold) : Type 0 where
+  pub cause : (making_listed input (planned_faults input.faults) ≡ true) ⊎ Rose old.faults new.faults
+  pub planned : IfSome (with_faults input old).plan (λ plan. making_listed input plan ≡ true)

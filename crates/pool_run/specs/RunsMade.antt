@@ -1,14 +1,12 @@
 -- A run as it is made, and what the type that keeps it promises at each moment.
 use Rattle.std.specs.Prelude.{◌≡◌, ℕ, ◌+◌, ◌^◌, ◌<◌, ◌≤◌, List, [], length, map, slice_index_or, replicate, sum_by, All, Bool, true, false, Option, Some, None}
-use Rattle.pool_alloc.specs.Bounds.{IsGrouped, AreGrouped}
+use Rattle.pool_alloc.specs.Stages.{Stage, keys, stage_of}
 use Rattle.pool_alloc.specs.Calls.{frame_made}
 use Rattle.pool_alloc.specs.Reserved.{Reserved, with_item}
 use Rattle.pool_alloc.specs.Whole.{IsPartitioned}
 use Rattle.pool_alloc.specs.declared.pool_core.PoolCore.{PoolCore}
 use Rattle.pool_alloc.specs.declared.pool_core.Settings.{Settings}
 use Rattle.pool_alloc.specs.declared.frame.ModuleCall.{ModuleCall}
-use Rattle.pool_alloc.specs.declared.frame.Phase.{Phase}
-use Rattle.pool_alloc.specs.declared.frame.Phase.TheVariants.{Key}
 use Rattle.pool_run.specs.Rooms.{World}
 use Rattle.pool_run.specs.Limits.{IsWithinCounts}
 use Rattle.pool_run.specs.Ties.{held_by_party, IsReserved}
@@ -45,6 +43,11 @@ abbrev pub with_told : Option Reply → Reserved Reply → Reserved Reply
 with_told None told = told
 with_told (Some reply) told = with_item reply told
 
+-- the party is about to draw its stripe
+abbrev pub is_drawing : Stage → Bool
+is_drawing keys = true
+is_drawing _ = false
+
 module _ {P : Type 0} where
   -- a party as it is made, with places for so many commands
   abbrev pub party_made : ℕ → Option PartyLimits → Settings → ℕ → RunningParty P
@@ -60,25 +63,13 @@ module _ {P : Type 0} where
   abbrev pub places_in : List (RunningParty P) → ℕ
   places_in parties = sum_by (λ p. 1 + length p.live) parties
 
-  -- a call's next step draws the party's stripe
-  abbrev pub draws_stripe : Phase P → Bool
-  draws_stripe Key = true
-  draws_stripe _ = false
-
-  -- Between turns the ranges of each slot that a party has lie together, and no party is about to draw its stripe, since it
-  -- does so in one turn.
-  pub record IsBetweenTurns (p : RunningParty P) : Type 0 where
-    pub local : IsGrouped p.frame.local
-    pub drawn : draws_stripe p.frame.phase ≡ false
-
   -- Each slot and each region is in one place, the counters count what is granted or under way, and can count on, and no
-  -- more instances are granted than there may be. The ranges of each queued slot lie together.
+  -- more instances are granted than there may be. No party is about to draw its stripe, since it does so in one turn.
   pub record IsKept (c : PoolCore P) (parties : List (RunningParty P)) : Type 0 where
     pub whole : IsPartitioned held_by_party c parties
     pub within : IsWithinCounts c parties
     pub few : places_in parties + 1 < 2 ^ 64
-    pub queues : AreGrouped c.queues
-    pub between : All IsBetweenTurns parties
+    pub drawn : All (λ p. is_drawing (stage_of p.frame) ≡ false) parties
 
   -- Each party has a list for the slots of what it asks for.
   pub record AreReserved (parties : List (RunningParty P)) (slots : List (Reserved ℕ)) : Type 0 where

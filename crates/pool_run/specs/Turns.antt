@@ -1,7 +1,6 @@
 -- A turn of a party in a run: the next step of its call, or the first step of its next command.
 use Rattle.std.specs.Prelude.{◌≡◌, ℕ, ◌+◌, List, [], ◌∷◌, ◌++◌, length, map, replicate, nat_le, slice_get, slice_index_or, slice_set, ◌⊎◌, Bool, true, false, if◌then◌else◌, Option, Some, None, option_map, Result, Ok, Err}
 use Rattle.std.specs.Arc.{arc_value}
-use Rattle.std.specs.Option.{option_and_then}
 use Rattle.pool_limits.specs.Growth.{GrowthRule}
 use Rattle.pool_limits.specs.Growing.{GrowthGiven}
 use Rattle.pool_limits.specs.LimiterTold.{LimiterTold}
@@ -13,7 +12,7 @@ use Rattle.pool_slots.specs.declared.errors.AllocError.TheVariants as alloc
 use Rattle.pool_alloc.specs.Leases.{Lease, IsUsable}
 use Rattle.pool_alloc.specs.Reserved.{Reserved, no_room}
 use Rattle.pool_alloc.specs.Calls.{begun_call}
-use Rattle.pool_alloc.specs.Steps.{After}
+use Rattle.pool_alloc.specs.Turns.{After}
 use Rattle.pool_alloc.specs.Stepping.{StepsTo, is_idle}
 use Rattle.pool_alloc.specs.declared.pool_core.PoolCore.{PoolCore}
 use Rattle.pool_alloc.specs.declared.frame.Frame.{Frame}
@@ -24,11 +23,12 @@ use Rattle.pool_alloc.specs.declared.frame.Grant.TheVariants.{Instance as instan
 use Rattle.pool_alloc.specs.declared.frame.Outcome.{Outcome}
 use Rattle.pool_alloc.specs.declared.frame.Outcome.TheVariants as answer
 use Rattle.pool_run.specs.PartyRules.{rule_of}
-use Rattle.pool_run.specs.Private.{PrivateMemory, PrivateInstance, Grants, IsRead, IsSize, MovesNamed, Looks}
+use Rattle.pool_run.specs.Private.{PrivateMemory, PrivateInstance, Grants, IsRead}
+use Rattle.pool_run.specs.Objects.{Objects, MovesObject}
+use Rattle.pool_run.specs.Acts.{MemoryOp, reads, writes, fills, grows, asks_size, Act, requests, on_memory, drops, act_of}
 use Rattle.pool_run.specs.declared.command.Command.{Command}
-use Rattle.pool_run.specs.declared.command.Command.TheVariants.{Instantiate, Read, Write, Fill, Grow, Size as ask_size, Drop}
 use Rattle.pool_run.specs.declared.reply.Reply.{Reply}
-use Rattle.pool_run.specs.declared.reply.Reply.TheVariants.{Instance, Done, Grown, Returned, Refused, Trap as trapped}
+use Rattle.pool_run.specs.declared.reply.Reply.TheVariants.{Instance, Done, Size, Grown, Returned, Refused, Trap as trapped}
 use Rattle.pool_limits.specs.declared.errors.Trap.{Trap}
 use Rattle.pool_limits.specs.declared.errors.Trap.TheVariants.{MemoryOutOfBounds}
 use Rattle.pool_run.specs.declared.reply.Refusal.TheVariants.{NoSuchGrant, Alloc}
@@ -68,10 +68,18 @@ pub record GrowsUnder (rule : GrowthRule) (pages : ℕ) (l new : Lease) (answer 
   pub growth : (given : GrowthGiven) × (asked : LimiterTold) × (left : LimiterTold) × (asked.rule ≡ Some rule) × IsGrowth given pages l.memory.linear.size l.memory new.memory asked left answer
 
 -- a lease whose memory moved, which can still be used
-pub record LeaseMoves (Moves : MemoryState → MemoryState → Reply → Type 0) (l new : Lease) (reply : Reply) : Type 0 where
+pub record MovesLease (Moves : MemoryState → MemoryState → Reply → Type 0) (l new : Lease) (reply : Reply) : Type 0 where
   pub index : new.index ≡ l.index
   pub memory : IsUsable new.memory
   pub move : Moves l.memory new.memory reply
+
+-- what an operation makes of a lease, under a rule by which its memory grows, and the reply
+abbrev pub LeaseMoves : MemoryOp → GrowthRule → Lease → Lease → Reply → Type 0
+LeaseMoves (reads at len) rule l new reply = IsRead (private_memory l) at len reply × (new ≡ l)
+LeaseMoves (writes at bytes) rule l new reply = MovesLease (MemoryWrites at bytes) l new reply
+LeaseMoves (fills at len byte) rule l new reply = MovesLease (MemoryWrites at (replicate len byte)) l new reply
+LeaseMoves (grows pages) rule l new reply = MovesLease (MemoryGrows rule pages) l new reply
+LeaseMoves asks_size rule l new reply = (reply ≡ Size l.memory.linear.size) × (new ≡ l)
 
 -- the replies so far, with one more if there is one
 abbrev pub with_reply : Option Reply → List Reply → List Reply
@@ -83,6 +91,13 @@ pub record Turned (P : Type 0) : Type 0 where
   pub core : PoolCore P
   pub party : RunningParty P
   pub reply : Option Reply
+
+-- What a turn opens with: nothing, where nothing is left to do; a command that ends at once, with this reply and these
+-- live grants; or a step of a call, from this frame and beside these live grants.
+pub data Opening (P : Type 0) : Type 0 where
+  rests : Opening P
+  replies : Reply → List (Option (Grant P)) → Opening P
+  makes_step : Frame P → List (Option (Grant P)) → Opening P
 
 -- the call is for the same module with the same images
 pub record IsShareOf (kept m : ModuleCall) : Type 0 where
@@ -132,61 +147,52 @@ module _ {P : Type 0} where
   abbrev pub Steps : PoolCore P → RunningParty P → Turned P → Type 0
   Steps c p t = (a : After P) × StepsUnder (rule_of p.limits) c p.frame a × (t ≡ after_step a p)
 
-  -- a grant that the party gives back is no longer one of its live ones
-  abbrev pub Returns : Option (Grant P) → ℕ → PoolCore P → RunningParty P → Turned P → Type 0
-  Returns None of c p t = t ≡ ended_with (Refused NoSuchGrant) c p
-  Returns (Some grant) of c p t = Steps c (record p { live = slice_set p.live of None; frame = begun_call (call.GiveBack grant) p.frame }) t
-
-  -- lease k of the live grant of command `of`, and the live grants with another in its place
-  abbrev pub lease_at : ℕ → ℕ → List (Option (Grant P)) → Option Lease
-  lease_at of k live = option_and_then (λ g. slice_get (leases_of g) k) (slice_index_or live of None)
-
+  -- the leases of the memories of a grant
   abbrev pub with_lease : ℕ → Lease → Grant P → Grant P
   with_lease k l (instance lease) = instance (record lease { memories = record lease.memories { items = slice_set lease.memories.items k l } })
 
-  abbrev pub put_lease : ℕ → ℕ → Lease → List (Option (Grant P)) → List (Option (Grant P))
-  put_lease of k l live = slice_set live of (option_map (with_lease k l) (slice_index_or live of None))
+  abbrev pub memory_leases : Objects (Grant P) Lease
+  memory_leases = record { in_grant = leases_of; put_in = with_lease }
 
-  -- what a command on that lease makes of the live grants, and its reply
-  abbrev pub LiveMoves : (Lease → Lease → Reply → Type 0) → List (Option (Grant P)) → ℕ → ℕ → Reply → List (Option (Grant P)) → Type 0
-  LiveMoves Move live of k reply new = MovesNamed Move (lease_at of k live) (put_lease of k) live reply new
+  -- A request: the module and its images are shared, and the reply's list is reserved, or the command ends at once for want
+  -- of memory.
+  abbrev pub OpensRequest : Option ModuleCall → RunningParty P → Opening P → Type 0
+  OpensRequest None p o = ⊥
+  OpensRequest (Some kept) p o =
+      (o ≡ replies (Refused (Alloc alloc.Memory)) p.live) ⊎ ((m : ModuleCall) × IsShareOf kept m × (o ≡ makes_step (begun_call (call.Module m) p.frame) p.live))
 
-  -- the command is the party's turn
-  abbrev pub MovesLive : (Lease → Lease → Reply → Type 0) → ℕ → ℕ → PoolCore P → RunningParty P → Turned P → Type 0
-  MovesLive Move of k c p t = (reply : Reply) × (live : List (Option (Grant P))) × LiveMoves Move p.live of k reply live × (t ≡ ended_with reply c (record p { live = live }))
+  -- a grant that the party gives back is no longer one of its live ones
+  abbrev pub drop_opening : Option (Grant P) → ℕ → RunningParty P → Opening P
+  drop_opening None of p = replies (Refused NoSuchGrant) p.live
+  drop_opening (Some grant) of p = makes_step (begun_call (call.GiveBack grant) p.frame) (slice_set p.live of None)
 
-  -- a request for an instance: the module and its images are shared, and the reply's lists reserved, or the command ends
-  -- at once for want of memory
-  abbrev pub Asks : Option ModuleCall → PoolCore P → RunningParty P → Turned P → Type 0
-  Asks None c p t = ⊥
-  Asks (Some kept) c p t =
-      (t ≡ ended_with (Refused (Alloc alloc.Memory)) c p)
-      ⊎ ((m : ModuleCall) × IsShareOf kept m × Steps c (record p { frame = begun_call (call.Module m) p.frame }) t)
+  -- what a command opens with, where these are the calls for the modules by number
+  abbrev pub OpensAct : List ModuleCall → Act → RunningParty P → Opening P → Type 0
+  OpensAct modules (requests number) p o = OpensRequest (slice_get modules number) p o
+  OpensAct modules (on_memory of k op) p o =
+      (reply : Reply) × (live : List (Option (Grant P))) × MovesObject memory_leases (LeaseMoves op (rule_of p.limits)) of k p.live reply live × (o ≡ replies reply live)
+  OpensAct modules (drops of) p o = o ≡ drop_opening (slice_index_or p.live of None) of p
 
-  -- the first step of a command, where these are the calls for the modules by number
-  abbrev pub Begins : List ModuleCall → Command → PoolCore P → RunningParty P → Turned P → Type 0
-  Begins modules (Instantiate number) c p t = Asks (slice_get modules number) c p t
-  Begins modules (Read of memory at len) c p t = MovesLive (Looks (λ l. IsRead (private_memory l) at len)) of memory c p t
-  Begins modules (Write of memory at bytes) c p t = MovesLive (LeaseMoves (MemoryWrites at bytes)) of memory c p t
-  Begins modules (Fill of memory at len byte) c p t = MovesLive (LeaseMoves (MemoryWrites at (replicate len byte))) of memory c p t
-  Begins modules (Grow of memory pages) c p t = MovesLive (LeaseMoves (MemoryGrows (rule_of p.limits) pages)) of memory c p t
-  Begins modules (ask_size of memory) c p t = MovesLive (Looks (λ l. IsSize (private_memory l))) of memory c p t
-  Begins modules (Drop of) c p t = Returns (slice_index_or p.live of None) of c p t
+  -- the next command, if there is one; before its first the party draws its stripe
+  abbrev pub OpensNext : List ModuleCall → Option Command → Bool → RunningParty P → Opening P → Type 0
+  OpensNext modules None keyed p o = o ≡ rests
+  OpensNext modules (Some command) false p o = o ≡ makes_step (begun_call call.Key p.frame) p.live
+  OpensNext modules (Some command) true p o = OpensAct modules (act_of command) p o
 
-  -- the first step of the next command, if there is one
-  abbrev pub BeginsNext : List ModuleCall → Option Command → PoolCore P → RunningParty P → Turned P → Type 0
-  BeginsNext modules None c p t = t ≡ record { core = c; party = p; reply = None }
-  BeginsNext modules (Some command) c p t = Begins modules command c p t
+  -- the call that is under way goes on, or the next command begins
+  abbrev pub OpensAt : Bool → List ModuleCall → List Command → RunningParty P → Opening P → Type 0
+  OpensAt true modules commands p o = OpensNext modules (slice_get commands p.done) p.keyed p o
+  OpensAt false modules commands p o = o ≡ makes_step p.frame p.live
 
-  abbrev pub BeginsKeyed : Bool → List ModuleCall → Option Command → PoolCore P → RunningParty P → Turned P → Type 0
-  BeginsKeyed false modules None c p t = t ≡ record { core = c; party = p; reply = None }
-  BeginsKeyed false modules (Some command) c p t = Steps c (record p { frame = begun_call call.Key p.frame }) t
-  BeginsKeyed true modules next c p t = BeginsNext modules next c p t
+  -- what a turn leaves that opens so
+  abbrev pub Leaves : Opening P → PoolCore P → RunningParty P → Turned P → Type 0
+  Leaves rests c p t = t ≡ record { core = c; party = p; reply = None }
+  Leaves (replies reply live) c p t = t ≡ ended_with reply c (record p { live = live })
+  Leaves (makes_step frame live) c p t = Steps c (record p { frame = frame; live = live }) t
 
-  abbrev pub TurnsAt : Bool → List ModuleCall → List Command → PoolCore P → RunningParty P → Turned P → Type 0
-  TurnsAt true modules commands c p t = BeginsKeyed p.keyed modules (slice_get commands p.done) c p t
-  TurnsAt false modules commands c p t = Steps c p t
+  abbrev pub TurnsFrom : (Opening P → Type 0) → PoolCore P → RunningParty P → Turned P → Type 0
+  TurnsFrom Opens c p t = (o : Opening P) × Opens o × Leaves o c p t
 
   -- a turn of a party
   abbrev pub Turns : List ModuleCall → List Command → PoolCore P → RunningParty P → Turned P → Type 0
-  Turns modules commands c p t = TurnsAt (is_idle p.frame.phase) modules commands c p t
+  Turns modules commands c p t = TurnsFrom (OpensAt (is_idle p.frame.phase) modules commands p) c p t

@@ -5,8 +5,8 @@ use Rattle.std.specs.Option.{option_map_or}
 use Rattle.pool_pages.specs.declared.module_types.ImageDecl.{ImageDecl}
 use Rattle.pool_pages.specs.declared.module_types.MemoryDecl.{MemoryDecl}
 use Rattle.pool_pages.specs.declared.module_types.ModuleInfo.{ModuleInfo}
+use Rattle.pool_run.specs.Acts.{MemoryOp, reads, writes, Act, requests, on_memory, drops, act_of, act_at}
 use Rattle.pool_run.specs.declared.command.Command.{Command}
-use Rattle.pool_run.specs.declared.command.Command.TheVariants.{Instantiate, Read, Write, Fill, Grow, Size, Drop}
 use Rattle.pool_run.specs.declared.input.Input.{Input}
 use Rattle.pool_run.specs.declared.input.Party.{Party}
 use Rattle.pool_run.specs.declared.input.ScheduleEntry.{ScheduleEntry}
@@ -45,51 +45,41 @@ abbrev pub memory_count : Option ModuleInfo → Option ℕ
 memory_count None = None
 memory_count (Some info) = Some (length info.memories)
 
--- how many memories the grant has that the command asks for, where it asks for one
-abbrev pub memories_granted : List ModuleInfo → Option Command → Option ℕ
-memories_granted modules None = None
-memories_granted modules (Some (Instantiate number)) = memory_count (slice_get modules number)
-memories_granted modules (Some (Read of memory at len)) = None
-memories_granted modules (Some (Write of memory at hex)) = None
-memories_granted modules (Some (Fill of memory at len byte)) = None
-memories_granted modules (Some (Grow of memory pages)) = None
-memories_granted modules (Some (Size of memory)) = None
-memories_granted modules (Some (Drop of)) = None
+-- how many memories the grant has that is requested, where one is
+abbrev pub memories_granted : List ModuleInfo → Option Act → Option ℕ
+memories_granted modules (Some (requests number)) = memory_count (slice_get modules number)
+memories_granted modules _ = None
 
 -- there is one with this number
 abbrev pub has : Option ℕ → ℕ → Bool
 has None place = false
 has (Some count) place = nat_lt place count
 
--- command `of` of the earlier ones asks for a grant that has this memory
+-- command `of` of the earlier ones requests a grant that has this memory
 abbrev pub names_memory : List ModuleInfo → List Command → ℕ → ℕ → Bool
-names_memory modules earlier of memory = has (memories_granted modules (slice_get earlier of)) memory
+names_memory modules earlier of memory = has (memories_granted modules (act_at earlier of)) memory
 
--- the command asks for a grant
-abbrev pub asks_for_grant : Option Command → Bool
-asks_for_grant None = false
-asks_for_grant (Some (Instantiate number)) = true
-asks_for_grant (Some (Read of memory at len)) = false
-asks_for_grant (Some (Write of memory at hex)) = false
-asks_for_grant (Some (Fill of memory at len byte)) = false
-asks_for_grant (Some (Grow of memory pages)) = false
-asks_for_grant (Some (Size of memory)) = false
-asks_for_grant (Some (Drop of)) = false
+-- a grant is requested
+abbrev pub requests_grant : Option Act → Bool
+requests_grant (Some (requests number)) = true
+requests_grant _ = false
 
--- the command can stand after the earlier ones of its party
-abbrev pub is_valid_after : List ModuleInfo → List Command → Command → Bool
-is_valid_after modules earlier (Instantiate number) = nat_lt number (length modules)
-is_valid_after modules earlier (Read of memory at len) = nat_le len most_bytes && names_memory modules earlier of memory
-is_valid_after modules earlier (Write of memory at hex) = nat_le (length hex) most_bytes && names_memory modules earlier of memory
-is_valid_after modules earlier (Fill of memory at len byte) = names_memory modules earlier of memory
-is_valid_after modules earlier (Grow of memory pages) = names_memory modules earlier of memory
-is_valid_after modules earlier (Size of memory) = names_memory modules earlier of memory
-is_valid_after modules earlier (Drop of) = asks_for_grant (slice_get earlier of)
+-- it reads or writes no more bytes than a command may
+abbrev pub is_short : MemoryOp → Bool
+is_short (reads at len) = nat_le len most_bytes
+is_short (writes at bytes) = nat_le (length bytes) most_bytes
+is_short _ = true
+
+-- a command that does this can stand after the earlier ones of its party
+abbrev pub is_valid_act : List ModuleInfo → List Command → Act → Bool
+is_valid_act modules earlier (requests number) = nat_lt number (length modules)
+is_valid_act modules earlier (on_memory of k op) = is_short op && names_memory modules earlier of k
+is_valid_act modules earlier (drops of) = requests_grant (act_at earlier of)
 
 -- so can each of the commands, after the earlier ones and those before it
 abbrev pub are_valid_after : List ModuleInfo → List Command → List Command → Bool
 are_valid_after modules earlier [] = true
-are_valid_after modules earlier (command ∷ rest) = is_valid_after modules earlier command && are_valid_after modules (earlier ++ command ∷ []) rest
+are_valid_after modules earlier (command ∷ rest) = is_valid_act modules earlier (act_of command) && are_valid_after modules (earlier ++ command ∷ []) rest
 
 -- its home is one of those that there are, and its commands are valid one after another
 abbrev pub is_valid_party : List ModuleInfo → Party → Bool

@@ -10,8 +10,8 @@ use Rattle.pool_alloc.specs.declared.frame.ModuleCall.{ModuleCall}
 use Rattle.pool_run.specs.Private.{Terms}
 use Rattle.pool_run.specs.Rooms.{World}
 use Rattle.pool_run.specs.Ties.{IsAskedFor}
+use Rattle.pool_run.specs.Acts.{Act, requests, act_of}
 use Rattle.pool_run.specs.declared.command.Command.{Command}
-use Rattle.pool_run.specs.declared.command.Command.TheVariants.{Instantiate, Read, Write, Fill, Grow, Size, Drop}
 
 -- the pool has the settings and as many slots as the world says, and one stripe
 pub record IsWorldOf {P : Type 0} (w : World) (c : PoolCore P) : Type 0 where
@@ -37,15 +37,10 @@ pub record IsCallFor (t : Terms) (s : Settings) (number : ℕ) (m : ModuleCall) 
 abbrev pub AreCallsFor : Terms → Settings → List ModuleCall → Type 0
 AreCallsFor t s modules = (number : ℕ) → IfSome (slice_get modules number) (IsCallFor t s number)
 
--- a module that the command names is one of so many
-abbrev pub NamesModule : ℕ → Command → Type 0
-NamesModule count (Instantiate number) = number < count
-NamesModule count (Read of memory at len) = Unit {0}
-NamesModule count (Write of memory at bytes) = Unit {0}
-NamesModule count (Fill of memory at len byte) = Unit {0}
-NamesModule count (Grow of memory pages) = Unit {0}
-NamesModule count (Size of memory) = Unit {0}
-NamesModule count (Drop of) = Unit {0}
+-- a module that is requested is one of so many
+abbrev pub NamesModule : ℕ → Act → Type 0
+NamesModule count (requests number) = number < count
+NamesModule count _ = Unit {0}
 
 abbrev pub NameModules : ℕ → List Command → Type 0
-NameModules count commands = (k : ℕ) → IfSome (slice_get commands k) (NamesModule count)
+NameModules count commands = (k : ℕ) → IfSome (slice_get commands k) (λ command. NamesModule count (act_of command))

@@ -26,6 +26,7 @@ pub(crate) fn make_calls<M: PageMaker>(
     ensures calls { IfOk result (λ v. AreMadeCalls tunables.now (M.told maker.old).page modules.now v.items) }
     ensures same { OnOk result (M.told maker.new ≡ M.told maker.old) }
     ensures maker { M.told maker.new ≡ record (M.told maker.old) { behind = (M.told maker.new).behind; faults = (M.told maker.new).faults } }
+    ensures borrows { M.borrows maker.new ≡ M.borrows maker.old }
     ensures fault { result ≡ Err RunFault.PageFault → ModulesFault tunables.now (M.told maker.old).page modules.now (M.told maker.old) (M.told maker.new) }
     ensures own { OnOk result (images_listed tunables.now (M.told maker.old).page 0 (M.told maker.old).listed modules.now ≡ false) }
     ensures unlisted { OnOk result (IfSome (M.told maker.old).plan (λ plan. images_listed tunables.now (M.told maker.old).page 0 plan modules.now ≡ false)) }
@@ -58,6 +59,7 @@ fn make_call<M: PageMaker>(
     ensures call { IfOk result (IsMadeCall tunables.now (M.told maker.old).page number info.now) }
     ensures same { OnOk result (M.told maker.new ≡ M.told maker.old) }
     ensures maker { M.told maker.new ≡ record (M.told maker.old) { behind = (M.told maker.new).behind; faults = (M.told maker.new).faults } }
+    ensures borrows { M.borrows maker.new ≡ M.borrows maker.old }
     ensures fault { result ≡ Err RunFault.PageFault → ModuleFaults tunables.now (M.told maker.old).page number info.now (M.told maker.old) (M.told maker.new) }
     ensures own { OnOk result (module_listed tunables.now (M.told maker.old).page number (M.told maker.old).listed info.now ≡ false) }
     ensures unlisted { OnOk result (IfSome (M.told maker.old).plan (λ plan. module_listed tunables.now (M.told maker.old).page number plan info.now ≡ false)) }

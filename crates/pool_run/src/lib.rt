@@ -1,6 +1,7 @@
 //! A run of the pool: the input, the parties' commands and the replies.
 #![tactic(auto)]
 
+mod act;
 mod at_once;
 mod built;
 mod calls;

@@ -28,6 +28,7 @@ pub(crate) fn make_pool<P: Pages, M: PageMaker<Region = P>>(
     ensures unlisted { OnOk result (IfSome (M.told pages.old).plan (λ plan. list_any (region_listed plan) (makings_of input.now.config.limits.total_memories) ≡ false)) }
     ensures rules { OnOk result (broken_rule input.now ≡ None) }
     ensures refused { IfErr result (NamesRule (broken_rule input.now)) }
+    ensures borrows { M.borrows pages.new ≡ M.borrows pages.old }
     ensures fault { result ≡ Err RunFault.PageFault → FaultsInMaking input.now (M.told pages.old) (M.told pages.new) }
 {
     let page = pages.page();

@@ -63,6 +63,7 @@ impl<P: Pages> Run<P> {
         ensures same { OnOk result (M.told pages.new ≡ M.told pages.old) }
         ensures bad_input { (result ≡ Err RunFault.BadInput) ↔ (is_valid input.now ≡ false) }
         ensures bad_config { (e : BadConfig) → (result ≡ Err (RunFault.BadConfig e)) ↔ ((is_valid input.now ≡ true) × (broken_rule input.now ≡ Some e)) }
+        ensures borrows { M.borrows pages.new ≡ M.borrows pages.old }
         ensures fault { result ≡ Err RunFault.PageFault → FaultsInMaking input.now (M.told pages.old) (M.told pages.new) }
     {
         if !is_valid(input) {
@@ -86,6 +87,7 @@ impl<P: Pages> Run<P> {
         ensures same { OnOk result (M.told pages.new ≡ maker) }
         ensures rules { OnOk result (broken_rule input.now ≡ None) }
         ensures refused { IfErr result (NamesRule (broken_rule input.now)) }
+        ensures borrows { M.borrows pages.new ≡ M.borrows pages.old }
         ensures fault { result ≡ Err RunFault.PageFault → FaultsInMaking input.now maker (M.told pages.new) }
     {
         let core = match make_pool(alloc, input, pages) {
@@ -133,7 +135,7 @@ impl<P: Pages> Run<P> {
         ghost before: { SoFar }
         requires run { IsRunOf before.of input.now.parties (told_state self.old before.told) }
         requires inside { party < length input.now.parties }
-        ensures turn { TurnsOf before.of.world.maker before.of.modules before.of.inputs party (told_state self.old before.told) (told_state self.new (replies_after party result before.told)) }
+        ensures turn { TurnsOf before.of.modules before.of.inputs party (told_state self.old before.told) (told_state self.new (replies_after party result before.told)) }
         ensures run { IsRunOf before.of input.now.parties (told_state self.new (replies_after party result before.told)) }
         ensures advances { Advances before.of.modules (commands_of before.of.inputs party) party (told_state self.old before.told) (told_state self.new (replies_after party result before.told)) }
     {

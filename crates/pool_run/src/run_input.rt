@@ -6,7 +6,7 @@ ghost use Rattle.pool_alloc.specs.Sums.{metrics_of};
 ghost use Rattle.pool_run.specs.Built.{broken_rule, is_built};
 ghost use Rattle.pool_run.specs.Numbers.{calls_of_run};
 ghost use Rattle.pool_run.specs.Progress.{IsRunOf};
-ghost use Rattle.pool_run.specs.Runs.{IsMadeRun, IsRun, Performs, FaultsInMaking, MayFaultInMaking, with_faults, NamesRule};
+ghost use Rattle.pool_run.specs.Runs.{IsMadeRun, IsRun, Performs, FaultsInMaking, HasFaultedMaking, with_faults, NamesRule};
 ghost use Rattle.pool_run.specs.RunsMade.{Background};
 ghost use Rattle.pool_run.specs.Schedules.{turns_of};
 ghost use Rattle.pool_run.specs.Validity.{is_valid};
@@ -26,7 +26,7 @@ fn perform<P: Pages>(run: &mut ToldRun<P>, alloc: Global, input: &Input)
     ghost of: { Background }
     requires run { IsRunOf of input.now.parties run.old }
     requires valid { is_valid input.now ≡ true }
-    ensures performs { Performs input.now.finish of.world.maker of.modules of.inputs (turns_of input.now.schedule) run.old run.new }
+    ensures performs { Performs input.now.finish of.modules of.inputs (turns_of input.now.schedule) run.old run.new }
     ensures run { IsRunOf of input.now.parties run.new }
 {
     follow(run, alloc, input, input.schedule.as_slice());
@@ -95,6 +95,7 @@ fn run_by<P: Pages, M: PageMaker<Region = P>>(
     requires valid { is_valid input.now ≡ true }
     ensures ok { IfOk result (λ output. IsRun P input.now maker output) }
     ensures same { OnOk result (M.told pages.new ≡ maker) }
+    ensures borrows { M.borrows pages.new ≡ M.borrows pages.old }
     ensures fault { result ≡ Err RunFault.PageFault → FaultsInMaking input.now maker (M.told pages.new) }
     ensures rules { OnOk result (broken_rule input.now ≡ None) }
     ensures refused { IfErr result (NamesRule (broken_rule input.now)) }
@@ -116,6 +117,7 @@ fn run_with<P: Pages, M: PageMaker<Region = P>>(
     requires valid { is_valid input.now ≡ true }
     ensures ok { IfOk result (λ output. IsRun P input.now (M.told pages.old) output) }
     ensures same { OnOk result (M.told pages.new ≡ M.told pages.old) }
+    ensures borrows { M.borrows pages.new ≡ M.borrows pages.old }
     ensures fault { result ≡ Err RunFault.PageFault → FaultsInMaking input.now (M.told pages.old) (M.told pages.new) }
     ensures rules { OnOk result (broken_rule input.now ≡ None) }
     ensures refused { IfErr result (NamesRule (broken_rule input.now)) }
@@ -128,6 +130,8 @@ fn run_with<P: Pages, M: PageMaker<Region = P>>(
 /// its reply. The replies are in the order of the parties and of their commands. Makings and page calls fail where the
 /// input lists them. Nothing is run where the input isn't valid, which is tested first, or a rule of its settings is
 /// broken, where a region or an image can't be made, or where there is no memory for the run and the lists of its replies.
+///
+/// A page fault comes only where the input lists a making, or where the maker counted one of its own, whatever it tells.
 pub fn run_schedule<M: PageMaker>(
     alloc: Global,
     input: &Input,
@@ -137,7 +141,8 @@ pub fn run_schedule<M: PageMaker>(
     ensures ok { IfOk result (IsRun (Failing M.Region) input.now (with_faults input.now (M.told pages.old))) }
     ensures bad_input { (result ≡ Err RunFault.BadInput) ↔ (is_valid input.now ≡ false) }
     ensures bad_config { (e : BadConfig) → (result ≡ Err (RunFault.BadConfig e)) ↔ ((is_valid input.now ≡ true) × (broken_rule input.now ≡ Some e)) }
-    ensures fault { result ≡ Err RunFault.PageFault → MayFaultInMaking input.now (M.told pages.old) }
+    ensures fault { result ≡ Err RunFault.PageFault → HasFaultedMaking input.now (M.told pages.old) (M.told pages.new) }
+    ensures faults { OnOk result ((M.told pages.new).faults ≡ (M.told pages.old).faults) }
 {
     if !is_valid(input) {
         return Err(RunFault::BadInput);
@@ -145,7 +150,10 @@ pub fn run_schedule<M: PageMaker>(
     match PageSize::new(input.page) {
         Ok(page) => {
             let mut maker = FailingMaker::new(pages, page, input.faults.as_slice());
-            run_with(alloc, input, &mut maker)
+            let answer = run_with(alloc, input, &mut maker);
+            // given back before the list is dropped, so that the prover knows whose count it is
+            let _pages = maker.into_maker();
+            answer
         }
         Err(rule) => Err(RunFault::BadConfig(rule)),
     }

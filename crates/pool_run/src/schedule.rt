@@ -15,7 +15,7 @@ fn repeat<P: Pages>(run: &mut ToldRun<P>, alloc: Global, input: &Input, i: usize
     ghost of: { Background }
     requires run { IsRunOf of input.now.parties run.old }
     requires inside { i < length input.now.parties }
-    ensures folds { Folds of.world.maker of.modules of.inputs (replicate times i) run.old run.new }
+    ensures folds { Folds of.modules of.inputs (replicate times i) run.old run.new }
     ensures run { IsRunOf of input.now.parties run.new }
 {
     for turn in 0..times {
@@ -33,7 +33,7 @@ pub(crate) fn follow<P: Pages>(
     ghost of: { Background }
     requires run { IsRunOf of input.now.parties run.old }
     requires entries { (k : ℕ) (d : ScheduleEntry) → k < length schedule.now → (slice_index_or schedule.now k d).party < length input.now.parties }
-    ensures folds { Folds of.world.maker of.modules of.inputs (turns_of schedule.now) run.old run.new }
+    ensures folds { Folds of.modules of.inputs (turns_of schedule.now) run.old run.new }
     ensures run { IsRunOf of input.now.parties run.new }
 {
     for at in 0..schedule.len() {
@@ -47,7 +47,7 @@ fn end_call<P: Pages>(run: &mut ToldRun<P>, alloc: Global, input: &Input, i: usi
     ghost of: { Background }
     requires run { IsRunOf of input.now.parties run.old }
     requires inside { i < length input.now.parties }
-    ensures turns { TurnsSome of.world.maker of.modules of.inputs i run.old run.new }
+    ensures turns { TurnsSome of.modules of.inputs i run.old run.new }
     ensures run { IsRunOf of input.now.parties run.new }
     ensures idle { is_busy (slice_get run.new.parties i) ≡ false }
     ensures begun { calls_begun (slice_get run.new.parties i) ≡ calls_begun (slice_get run.old.parties i) }
@@ -62,7 +62,7 @@ fn next_call<P: Pages>(run: &mut ToldRun<P>, alloc: Global, input: &Input, i: us
     ghost of: { Background }
     requires run { IsRunOf of input.now.parties run.old }
     requires inside { i < length input.now.parties }
-    ensures turns { TurnsSome of.world.maker of.modules of.inputs i run.old run.new }
+    ensures turns { TurnsSome of.modules of.inputs i run.old run.new }
     ensures run { IsRunOf of input.now.parties run.new }
     ensures idle { is_busy (slice_get run.new.parties i) ≡ false }
     ensures begun { calls_begun (slice_get run.new.parties i) ≡ calls_begun (slice_get run.old.parties i) + one_if (begins_call (length (commands_of of.inputs i)) (slice_get run.old.parties i)) }
@@ -76,7 +76,7 @@ fn finish_party<P: Pages>(run: &mut ToldRun<P>, alloc: Global, input: &Input, i:
     ghost of: { Background }
     requires run { IsRunOf of input.now.parties run.old }
     requires inside { i < length input.now.parties }
-    ensures turns { TurnsSome of.world.maker of.modules of.inputs i run.old run.new }
+    ensures turns { TurnsSome of.modules of.inputs i run.old run.new }
     ensures run { IsRunOf of input.now.parties run.new }
     ensures finished { IfSome (slice_get run.new.parties i) (HasNothingLeft (commands_of of.inputs i)) }
 {
@@ -92,7 +92,7 @@ fn finish_party<P: Pages>(run: &mut ToldRun<P>, alloc: Global, input: &Input, i:
 pub(crate) fn finish<P: Pages>(run: &mut ToldRun<P>, alloc: Global, input: &Input)
     ghost of: { Background }
     requires run { IsRunOf of input.now.parties run.old }
-    ensures finishes { FinishesRun of.world.maker of.modules of.inputs run.old run.new }
+    ensures finishes { FinishesRun of.modules of.inputs run.old run.new }
     ensures run { IsRunOf of input.now.parties run.new }
 {
     for i in 0..input.parties.len() {

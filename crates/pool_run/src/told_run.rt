@@ -50,7 +50,7 @@ impl<P: Pages> ToldRun<P> {
         requires told { before.told ≡ self.old.replies }
         requires run { IsRunOf before.of input.now.parties self.old }
         requires inside { party < length input.now.parties }
-        ensures turn { TurnsOf before.of.world.maker before.of.modules before.of.inputs party self.old self.new }
+        ensures turn { TurnsOf before.of.modules before.of.inputs party self.old self.new }
         ensures run { IsRunOf before.of input.now.parties self.new }
         ensures advances { Advances before.of.modules (commands_of before.of.inputs party) party self.old self.new }
     {

@@ -1,15 +1,16 @@
 ghost use Rattle.std.specs.Prelude.{◌≡◌, ◌+◌, ◌^◌, ◌<◌, ◌≤◌, [], length, map, slice_get, slice_index_or, IfOk, None, Some};
 ghost use Rattle.pool_pages.specs.MakerTold.{MakerTold};
-ghost use Rattle.pool_alloc.specs.Calls.{IsIdle, IsGrantOf, IfGranted, begun_call};
+ghost use Rattle.pool_alloc.specs.Calls.{IsIdle, IfGranted, begun_call};
 ghost use Rattle.pool_alloc.specs.Steps.{memories_wanted};
-ghost use Rattle.pool_alloc.specs.Stepping.{CanStep, CanCount, IsSameSize, is_idle};
-ghost use Rattle.pool_run.specs.AtOnce.{Makes};
+ghost use Rattle.pool_alloc.specs.Stepping.{CanStep, CanCount, is_idle};
+ghost use Rattle.pool_run.specs.AtOnce.{given_act};
 ghost use Rattle.pool_run.specs.PartyRules.{rule_of};
-ghost use Rattle.pool_run.specs.Ties.{CanTurn, IsSoundTurn, IsReserved};
-ghost use Rattle.pool_run.specs.Turns.{IsShareOf, leases_of, granted_reply, answered, slots_after, StepsUnder, Steps, Returns, Asks, Begins, BeginsKeyed, Turns};
+ghost use Rattle.pool_run.specs.Ties.{CanTurn, IsReserved};
+ghost use Rattle.pool_run.specs.Turns.{IsShareOf, leases_of, granted_reply, answered, slots_after, StepsUnder, Steps, makes_step, drop_opening, OpensRequest, OpensAct, OpensNext, TurnsFrom, Turns};
 ghost use Rattle.pool_run.specs.Worlds.{IsFit, AreFit, NamesModule, NameModules};
 
-use crate::at_once::{Move, make_move, read, size};
+use crate::act::{Act, act_of};
+use crate::at_once::act_on;
 use crate::command::Command;
 use crate::input::PartyLimits;
 use crate::limiter::limiter_of;
@@ -43,8 +44,6 @@ pub fn turn_of<P: Pages>(
     requires small { party.old.done + 1 < 2 ^ 64 }
     requires reserved { IsReserved party.old.frame slots.old }
     ensures turn { Turns modules.now commands.now core.old party.old (record { core = core.new; party = party.new; reply = result }) }
-    ensures sound { IsSoundTurn maker (record { core = core.new; party = party.new; reply = result }) }
-    ensures size { IsSameSize core.old core.new }
     ensures reserved { IsReserved party.new.frame slots.new }
 {
     if is_idle(&party.frame) {
@@ -73,7 +72,7 @@ fn step_call<P: Pages>(
     requires counts { CanCount core.old }
     requires small { party.old.done + 1 < 2 ^ 64 }
     requires reserved { IsReserved party.old.frame slots.old }
-    ensures makes { Makes maker (Steps core.old party.old) core.old (record { core = core.new; party = party.new; reply = result }) }
+    ensures steps { Steps core.old party.old (record { core = core.new; party = party.new; reply = result }) }
     ensures reserved { IsReserved party.new.frame slots.new }
 {
     let outcome = step_under(alloc, core, &mut party.frame, party.limits);
@@ -90,10 +89,7 @@ fn step_under<P: Pages>(
     ghost maker: { MakerTold }
     requires can { CanStep maker core.old frame.old }
     requires counts { CanCount core.old }
-    ensures row { StepsUnder (rule_of limits) core.old frame.old (record { core = core.new; frame = frame.new; outcome = result }) }
-    ensures can { CanStep maker core.new frame.new }
-    ensures granted { IfGranted (IsGrantOf maker core.old.settings (memories_wanted frame.old.asked)) result }
-    ensures size { IsSameSize core.old core.new }
+    ensures { StepsUnder (rule_of limits) core.old frame.old (record { core = core.new; frame = frame.new; outcome = result }) }
 {
     let mut heaps = NoHeaps::new();
     match limits {
@@ -190,14 +186,14 @@ fn begin_next<P: Pages>(
     requires small { party.old.done + 1 < 2 ^ 64 }
     requires idle { IsIdle party.old.frame }
     requires reserved { IsReserved party.old.frame slots.old }
-    ensures makes { Makes maker (BeginsKeyed party.old.keyed modules.now (slice_get commands.now party.old.done) core.old party.old) core.old (record { core = core.new; party = party.new; reply = result }) }
+    ensures turn { TurnsFrom (OpensNext modules.now (slice_get commands.now party.old.done) party.old.keyed party.old) core.old party.old (record { core = core.new; party = party.new; reply = result }) }
     ensures reserved { IsReserved party.new.frame slots.new }
 {
     match commands.get(party.done) {
         None => None,
         Some(command) => {
             if party.keyed {
-                begin(alloc, core, modules, command, party, slots)
+                begin(alloc, core, modules, &act_of(command), party, slots)
             } else {
                 draw_key(alloc, core, party, slots)
             }
@@ -218,19 +214,19 @@ fn draw_key<P: Pages>(
     requires small { party.old.done + 1 < 2 ^ 64 }
     requires idle { IsIdle party.old.frame }
     requires reserved { IsReserved party.old.frame slots.old }
-    ensures makes { Makes maker (Steps core.old (record party.old { frame = begun_call Call.Key party.old.frame })) core.old (record { core = core.new; party = party.new; reply = result }) }
+    ensures turn { TurnsFrom (λ o. o ≡ makes_step (begun_call Call.Key party.old.frame) party.old.live) core.old party.old (record { core = core.new; party = party.new; reply = result }) }
     ensures reserved { IsReserved party.new.frame slots.new }
 {
     party.frame.begin(Call::Key);
     step_call(alloc, core, party, slots)
 }
 
-// Makes the first step of a command.
+// Makes the first step of a command that does this.
 fn begin<P: Pages>(
     alloc: Global,
     core: &mut PoolCore<P>,
     modules: &[ModuleCall],
-    command: &Command,
+    act: &Act,
     party: &mut RunningParty<P>,
     slots: &mut ReservedVec<u32>,
 ) -> Option<Reply>
@@ -238,73 +234,22 @@ fn begin<P: Pages>(
     requires can { CanTurn maker core.old party.old }
     requires counts { CanCount core.old }
     requires calls { AreFit core.old.settings modules.now }
-    requires named { NamesModule (length modules.now) command.now }
+    requires named { NamesModule (length modules.now) (given_act act.now) }
     requires place { party.old.done < length party.old.live }
     requires small { party.old.done + 1 < 2 ^ 64 }
     requires idle { IsIdle party.old.frame }
     requires reserved { IsReserved party.old.frame slots.old }
-    ensures makes { Makes maker (Begins modules.now command.now core.old party.old) core.old (record { core = core.new; party = party.new; reply = result }) }
+    ensures turn { TurnsFrom (OpensAct modules.now (given_act act.now) party.old) core.old party.old (record { core = core.new; party = party.new; reply = result }) }
     ensures reserved { IsReserved party.new.frame slots.new }
 {
-    match command {
-        Command::Instantiate { module } => ask(alloc, core, &modules[*module], party, slots),
-        Command::Read {
-            of,
-            memory,
-            at,
-            len,
-        } => {
-            let reply = read(alloc, &party.live, *of, *memory, *at, *len);
+    match act {
+        Act::Request { module } => ask(alloc, core, &modules[*module], party, slots),
+        Act::OnMemory { of, memory, op } => {
+            let reply = act_on(alloc, &mut party.live, *of, *memory, op, party.limits);
             party.done += 1;
             Some(reply)
         }
-        Command::Write {
-            of,
-            memory,
-            at,
-            hex,
-        } => {
-            let bytes = hex.as_slice();
-            let reply = make_move(
-                &mut party.live,
-                *of,
-                *memory,
-                &Move::Write { at: *at, bytes },
-            );
-            party.done += 1;
-            Some(reply)
-        }
-        Command::Fill {
-            of,
-            memory,
-            at,
-            len,
-            byte,
-        } => {
-            let by = Move::Fill {
-                at: *at,
-                len: *len,
-                byte: *byte,
-            };
-            let reply = make_move(&mut party.live, *of, *memory, &by);
-            party.done += 1;
-            Some(reply)
-        }
-        Command::Grow { of, memory, pages } => {
-            let by = Move::Grow {
-                pages: *pages,
-                limits: party.limits,
-            };
-            let reply = make_move(&mut party.live, *of, *memory, &by);
-            party.done += 1;
-            Some(reply)
-        }
-        Command::Size { of, memory } => {
-            let reply = size(&party.live, *of, *memory);
-            party.done += 1;
-            Some(reply)
-        }
-        Command::Drop { of } => give_back(alloc, core, party, slots, *of),
+        Act::Drop { of } => give_back(alloc, core, party, slots, *of),
     }
 }
 
@@ -324,16 +269,20 @@ fn ask<P: Pages>(
     requires small { party.old.done + 1 < 2 ^ 64 }
     requires idle { IsIdle party.old.frame }
     requires reserved { IsReserved party.old.frame slots.old }
-    ensures makes { Makes maker (Asks (Some kept.now) core.old party.old) core.old (record { core = core.new; party = party.new; reply = result }) }
+    ensures turn { TurnsFrom (OpensRequest (Some kept.now) party.old) core.old party.old (record { core = core.new; party = party.new; reply = result }) }
     ensures reserved { IsReserved party.new.frame slots.new }
 {
-    let Ok((call, reserved)) = prepare(alloc, kept) else {
-        party.done += 1;
-        return Some(Reply::Refused(Refusal::Alloc(Cause::Memory)));
-    };
-    *slots = reserved;
-    party.frame.begin(Call::Module(call));
-    step_call(alloc, core, party, slots)
+    match prepare(alloc, kept) {
+        Err(_) => {
+            party.done += 1;
+            Some(Reply::Refused(Refusal::Alloc(Cause::Memory)))
+        }
+        Ok(prepared) => {
+            *slots = prepared.1;
+            party.frame.begin(Call::Module(prepared.0));
+            step_call(alloc, core, party, slots)
+        }
+    }
 }
 
 // The same call, and the list for the slots of its grant.
@@ -376,7 +325,7 @@ fn give_back<P: Pages>(
     requires small { party.old.done + 1 < 2 ^ 64 }
     requires idle { IsIdle party.old.frame }
     requires reserved { IsReserved party.old.frame slots.old }
-    ensures makes { Makes maker (Returns (slice_index_or party.old.live of None) of core.old party.old) core.old (record { core = core.new; party = party.new; reply = result }) }
+    ensures turn { TurnsFrom (λ o. o ≡ drop_opening (slice_index_or party.old.live of None) of party.old) core.old party.old (record { core = core.new; party = party.new; reply = result }) }
     ensures reserved { IsReserved party.new.frame slots.new }
 {
     match party.live.take(of) {

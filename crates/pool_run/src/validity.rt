@@ -1,8 +1,11 @@
-ghost use Rattle.std.specs.Prelude.{◌≡◌, [], List, length, nat_le, nat_lt, take};
-ghost use Rattle.std.specs.List.{list_all, slice_get};
+ghost use Rattle.std.specs.Prelude.{◌≡◌, [], length, nat_le, nat_lt};
+ghost use Rattle.std.specs.List.{list_all};
 ghost use Rattle.pool_run.specs.Schedules.{turns_of};
-ghost use Rattle.pool_run.specs.Validity.{is_valid, is_valid_memory, is_valid_module, are_valid_modules, is_valid_schedule, is_valid_party, is_valid_after, are_valid_after, asks_for_grant, names_memory, homes, most_memories, most_modules, most_parties, most_steps, most_commands, most_bytes};
+ghost use Rattle.pool_run.specs.Acts.{act_at};
+ghost use Rattle.pool_run.specs.AtOnce.{given_act, given_op};
+ghost use Rattle.pool_run.specs.Validity.{is_valid, is_valid_memory, is_valid_module, are_valid_modules, is_valid_schedule, is_valid_party, is_valid_act, are_valid_after, is_short, names_memory, requests_grant, most_steps};
 
+use crate::act::{Act, MemoryOp, act_of};
 use crate::command::Command;
 use crate::input::{Input, Party, ScheduleEntry};
 use pool_pages::{MemoryDecl, ModuleInfo};
@@ -28,8 +31,8 @@ pub const MOST_COMMANDS: usize = 100_000;
 /// How many bytes a command may read or write, and an image may have.
 pub const MOST_BYTES: usize = 1_048_576;
 
-fn asks_for_grant(earlier: &[Command], of: usize) -> bool
-    ensures { result ≡ asks_for_grant (slice_get earlier.now of) }
+fn requests_grant(earlier: &[Command], of: usize) -> bool
+    ensures { result ≡ requests_grant (act_at earlier.now of) }
 {
     matches!(earlier.get(of), Some(Command::Instantiate { .. }))
 }
@@ -46,27 +49,25 @@ fn names_memory(modules: &[ModuleInfo], earlier: &[Command], of: usize, memory: 
     }
 }
 
-fn is_valid_after(modules: &[ModuleInfo], earlier: &[Command], command: &Command) -> bool
-    ensures { result ≡ is_valid_after modules.now earlier.now command.now }
+fn is_short(op: &MemoryOp) -> bool
+    ensures { result ≡ is_short (given_op op.now) }
 {
-    match command {
-        Command::Instantiate { module } => *module < modules.len(),
-        Command::Read {
-            of,
-            memory,
-            len,
-            ..
-        } => { *len <= MOST_BYTES && names_memory(modules, earlier, *of, *memory) }
-        Command::Write {
-            of,
-            memory,
-            hex,
-            ..
-        } => { hex.len() <= MOST_BYTES && names_memory(modules, earlier, *of, *memory) }
-        Command::Fill { of, memory, .. }
-        | Command::Grow { of, memory, .. }
-        | Command::Size { of, memory } => names_memory(modules, earlier, *of, *memory),
-        Command::Drop { of } => asks_for_grant(earlier, *of),
+    match op {
+        MemoryOp::Read { len, .. } => *len <= MOST_BYTES,
+        MemoryOp::Write { bytes, .. } => bytes.len() <= MOST_BYTES,
+        _ => true,
+    }
+}
+
+fn is_valid_act(modules: &[ModuleInfo], earlier: &[Command], act: &Act) -> bool
+    ensures { result ≡ is_valid_act modules.now earlier.now (given_act act.now) }
+{
+    match act {
+        Act::Request { module } => *module < modules.len(),
+        Act::OnMemory { of, memory, op } => {
+            is_short(op) && names_memory(modules, earlier, *of, *memory)
+        }
+        Act::Drop { of } => requests_grant(earlier, *of),
     }
 }
 
@@ -74,7 +75,7 @@ fn are_valid(modules: &[ModuleInfo], commands: &[Command]) -> bool
     ensures { result ≡ are_valid_after modules.now [] commands.now }
 {
     for (k, command) in commands.iter().enumerate() {
-        if !is_valid_after(modules, &commands[..k], command) {
+        if !is_valid_act(modules, &commands[..k], &act_of(command)) {
             return false;
         }
     }

@@ -47,4 +47,5 @@ loop-info-preserved g c =
       own = one_unlisted c.args.tunables.now told.page c.args.modules.now c.loop-info.info-index c.info-item.result (Some told.listed) there c.loop-info.invariant.own (subst O number (subst W c.loop-info.invariant.maker c.in-Ok-make_call.ensures.own));
       unlisted = one_unlisted c.args.tunables.now told.page c.args.modules.now c.loop-info.info-index c.info-item.result told.plan there c.loop-info.invariant.unlisted (subst U number (subst V c.loop-info.invariant.maker c.in-Ok-make_call.ensures.unlisted));
       maker = c.in-Ok-make_call.ensures.same ∙ c.loop-info.invariant.maker;
+      borrows = c.in-Ok-make_call.ensures.borrows ∙ c.loop-info.invariant.borrows;
     }

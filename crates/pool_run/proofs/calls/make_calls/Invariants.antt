@@ -12,4 +12,5 @@ invariant-loop-info g l = record {
   own : AreUnlisted l.tunables (g.M.PageMaker.told l.fn.maker).page l.modules l.info-index (g.M.PageMaker.told l.fn.maker).listed;
   unlisted : IfSome (g.M.PageMaker.told l.fn.maker).plan (AreUnlisted l.tunables (g.M.PageMaker.told l.fn.maker).page l.modules l.info-index);
   maker : g.M.PageMaker.told l.maker ≡ g.M.PageMaker.told l.fn.maker;
+  borrows : g.M.PageMaker.borrows l.maker ≡ g.M.PageMaker.borrows l.fn.maker;
 }

@@ -3,7 +3,7 @@ use Rattle.std.specs.Prelude.{slice_index_or}
 use Rattle.pool_run.specs.RunsMade.{party_made_for}
 use Rattle.pool_run.specs.declared.input.Party.{Party}
 use Rattle.pool_run.specs.declared.running_party.RunningParty.{RunningParty}
-use Rattle.pool_run.proofs.RunMade.{map_more, map_all}
+use Rattle.pool_run.proofs.RunMade.{all_passed, map_more, map_all}
 use Rattle.pool_run.proofs.run.make_parties.Goals as goal
 
 pub make_party-requires-clause-home : goal.make_party-requires-clause-home
@@ -32,5 +32,5 @@ loop-at-preserved g c =
 
 pub returns : goal.returns
 returns g c =
-    let all : length c.args.parties.now ≤ c.loop-at.at = omega arith in
+    let all : length c.args.parties.now ≤ c.loop-at.at = all_passed c.loop-at.at _ _ c.loop-at.invariant.all c.loop-at-test.false in
     c.loop-at.invariant.made ∙ map_all (party_made_for c.args.core.now.settings) c.args.parties.now c.loop-at.at all

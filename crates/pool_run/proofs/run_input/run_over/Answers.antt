@@ -25,4 +25,4 @@ returns g c =
     let P : Type 0 = g.row.P.Denot in
     let s : RunState P = c.in_ok-told.told in
     let made : s ≡ told_state c.args.run (nothing_told c.args.input.now.parties) = made_run c.args.input.now c.args.run c.as_slice-parties.result.now s c.as_slice-parties.ensures c.in_ok-told.ensures in
-    is_run c.args.input.now g.maker c.args.run s c.perform.new.run c.output_of.result c.requires.1.1.0 c.requires.1.0 made c.perform.ensures.performs c.perform.ensures.run.way.holds c.output_of.ensures.replies c.output_of.ensures.metrics c.output_of.ensures.calls
+    is_run c.args.input.now g.maker c.args.run s c.perform.new.run c.output_of.result c.requires.1.1.0 c.requires.1.0 made c.perform.ensures.performs c.output_of.ensures.replies c.output_of.ensures.metrics c.output_of.ensures.calls

@@ -9,7 +9,7 @@ ghost-turn g a = record { of = g.of; told = a.self.now.replies }
 -- some turns so far, and no call more
 abbrev pub invariant-loop-alloc : goal.invariant-loop-alloc
 invariant-loop-alloc g l = record {
-  turns : TurnsSome g.of.world.maker g.of.modules g.of.inputs l.i l.fn.run l.run;
+  turns : TurnsSome g.of.modules g.of.inputs l.i l.fn.run l.run;
   run : IsRunOf g.of l.input.parties l.run;
   begun : calls_begun (slice_get l.run.parties l.i) ≡ calls_begun (slice_get l.fn.run.parties l.i);
 }

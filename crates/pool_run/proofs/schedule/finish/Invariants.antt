@@ -8,6 +8,6 @@ ghost-finish_party g a = g.of
 -- the parties so far have nothing left
 abbrev pub invariant-loop-i : goal.invariant-loop-i
 invariant-loop-i g l = record {
-  finishes : FinishesBelow g.of.world.maker g.of.modules g.of.inputs l.i l.fn.run l.run;
+  finishes : FinishesBelow g.of.modules g.of.inputs l.i l.fn.run l.run;
   run : IsRunOf g.of l.input.parties l.run;
 }

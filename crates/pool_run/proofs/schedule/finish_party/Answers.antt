@@ -31,7 +31,7 @@ loop-alloc-smaller g c =
 
 pub loop-alloc-preserved : goal.loop-alloc-preserved
 loop-alloc-preserved g c = record {
-  turns = some_on g.of.world.maker g.of.modules g.of.inputs c.args.i c.args.run.now c.loop-alloc.run c.next_call.new.run c.loop-alloc.invariant.turns c.next_call.ensures.turns;
+  turns = some_on g.of.modules g.of.inputs c.args.i c.args.run.now c.loop-alloc.run c.next_call.new.run c.loop-alloc.invariant.turns c.next_call.ensures.turns;
   run = c.next_call.ensures.run;
   idle = c.next_call.ensures.idle;
   count = c.loop-alloc.invariant.count;

@@ -13,7 +13,7 @@ ghost-next_call g a = g.of
 -- some turns so far, after which no call of the party is under way
 abbrev pub invariant-loop-alloc : goal.invariant-loop-alloc
 invariant-loop-alloc g l = record {
-  turns : TurnsSome g.of.world.maker g.of.modules g.of.inputs l.i l.fn.run l.run;
+  turns : TurnsSome g.of.modules g.of.inputs l.i l.fn.run l.run;
   run : IsRunOf g.of l.input.parties l.run;
   idle : is_busy (slice_get l.run.parties l.i) ≡ false;
   count : l.count ≡ length (commands_of g.of.inputs l.i);

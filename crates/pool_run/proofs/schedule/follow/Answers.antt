@@ -18,16 +18,16 @@ loop-at-preserved g c =
     let schedule : List ScheduleEntry = c.args.schedule.now in
     let none : ScheduleEntry = record { party = 0; times = 0 } in
     let entry : ScheduleEntry = slice_index_or schedule i none in
-    let F : List ℕ → Type 0 = λ turns. Folds g.of.world.maker g.of.modules g.of.inputs turns c.args.run.now c.repeat.new.run in
+    let F : List ℕ → Type 0 = λ turns. Folds g.of.modules g.of.inputs turns c.args.run.now c.repeat.new.run in
     record {
       folds =
           subst F (turns_more schedule i none c.loop-at-test.true)
-          (folds_on g.of.world.maker g.of.modules g.of.inputs (turns_of (take i schedule)) (replicate entry.times entry.party) c.args.run.now c.loop-at.run c.repeat.new.run c.loop-at.invariant.folds c.repeat.ensures.folds);
+          (folds_on g.of.modules g.of.inputs (turns_of (take i schedule)) (replicate entry.times entry.party) c.args.run.now c.loop-at.run c.repeat.new.run c.loop-at.invariant.folds c.repeat.ensures.folds);
       run = c.repeat.ensures.run;
     }
 
 pub returns-clause-folds : goal.returns-clause-folds
 returns-clause-folds g c =
     let schedule : List ScheduleEntry = c.args.schedule.now in
-    let F : List ℕ → Type 0 = λ turns. Folds g.of.world.maker g.of.modules g.of.inputs turns c.args.run.now c.loop-at.run in
+    let F : List ℕ → Type 0 = λ turns. Folds g.of.modules g.of.inputs turns c.args.run.now c.loop-at.run in
     subst F (turns_all schedule c.loop-at.at (omega (arith, c.loop-at-test.false))) c.loop-at.invariant.folds

@@ -10,6 +10,6 @@ ghost-repeat g a = g.of
 -- the turns of the entries so far
 abbrev pub invariant-loop-at : goal.invariant-loop-at
 invariant-loop-at g l = record {
-  folds : Folds g.of.world.maker g.of.modules g.of.inputs (turns_of (take l.at l.schedule)) l.fn.run l.run;
+  folds : Folds g.of.modules g.of.inputs (turns_of (take l.at l.schedule)) l.fn.run l.run;
   run : IsRunOf g.of l.input.parties l.run;
 }

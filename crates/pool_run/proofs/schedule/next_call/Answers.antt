@@ -4,5 +4,5 @@ use Rattle.pool_run.proofs.schedule.next_call.Goals as goal
 
 pub returns-clause-turns : goal.returns-clause-turns
 returns-clause-turns g c =
-    let first : TurnsSome g.of.world.maker g.of.modules g.of.inputs c.args.i c.args.run.now c.turn.new.self = some_more g.of.world.maker g.of.modules g.of.inputs c.args.i c.args.run.now c.args.run.now c.turn.new.self (some_none g.of.world.maker g.of.modules g.of.inputs c.args.i c.args.run.now) c.turn.ensures.turn in
-    some_on g.of.world.maker g.of.modules g.of.inputs c.args.i c.args.run.now c.turn.new.self c.end_call.new.run first c.end_call.ensures.turns
+    let first : TurnsSome g.of.modules g.of.inputs c.args.i c.args.run.now c.turn.new.self = some_more g.of.modules g.of.inputs c.args.i c.args.run.now c.args.run.now c.turn.new.self (some_none g.of.modules g.of.inputs c.args.i c.args.run.now) c.turn.ensures.turn in
+    some_on g.of.modules g.of.inputs c.args.i c.args.run.now c.turn.new.self c.end_call.new.run first c.end_call.ensures.turns

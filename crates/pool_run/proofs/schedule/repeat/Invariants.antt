@@ -9,6 +9,6 @@ ghost-turn g a = record { of = g.of; told = a.self.now.replies }
 -- the turns so far
 abbrev pub invariant-loop-turn : goal.invariant-loop-turn
 invariant-loop-turn g l = record {
-  folds : Folds g.of.world.maker g.of.modules g.of.inputs (replicate l.turn l.i) l.fn.run l.run;
+  folds : Folds g.of.modules g.of.inputs (replicate l.turn l.i) l.fn.run l.run;
   run : IsRunOf g.of l.input.parties l.run;
 }

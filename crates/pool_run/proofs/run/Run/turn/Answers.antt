@@ -52,7 +52,7 @@ invariant_of-self g c =
     let same : commands ≡ commands_of g.before.of.inputs i = c.as_slice-commands.ensures ∙ commands_read g.before.of.inputs given c.as_slice-parties.result.now i q run.inputs c.as_slice-parties.ensures c.requires.1.1 in
     let t : Turned P = record { core = c.turn_of.new.core; party = c.turn_of.new.party; reply = c.turn_of.result } in
     let T : List ModuleCall → Type 0 = λ modules. Turns modules commands s.core p t in
-    let after = turn_after g.before.of given commands i p s t run c.self.invariant.0 there same (subst T c.as_slice-modules.ensures.value c.turn_of.ensures.turn) c.turn_of.ensures.sound in
+    let after = turn_after g.before.of given commands i p s t run c.self.invariant.0 there same (subst T c.as_slice-modules.ensures.value c.turn_of.ensures.turn) in
     (after.kept, turned_reserved s.parties c.self.inside.slots.items i t.party c.turn_of.new.slots below c.self.invariant.1 c.turn_of.ensures.reserved)
 
 pub returns : goal.returns
@@ -70,5 +70,5 @@ returns g c =
     let same : commands ≡ commands_of g.before.of.inputs i = c.as_slice-commands.ensures ∙ commands_read g.before.of.inputs given c.as_slice-parties.result.now i q run.inputs c.as_slice-parties.ensures c.requires.1.1 in
     let t : Turned P = record { core = c.turn_of.new.core; party = c.turn_of.new.party; reply = c.turn_of.result } in
     let T : List ModuleCall → Type 0 = λ modules. Turns modules commands s.core p t in
-    let after = turn_after g.before.of given commands i p s t run c.self.invariant.0 there same (subst T c.as_slice-modules.ensures.value c.turn_of.ensures.turn) c.turn_of.ensures.sound in
+    let after = turn_after g.before.of given commands i p s t run c.self.invariant.0 there same (subst T c.as_slice-modules.ensures.value c.turn_of.ensures.turn) in
     rw (← c.self.view_is) (record { turn = after.turn; run = after.run; advances = after.advances })

@@ -45,7 +45,7 @@ returns g c =
     let below : i < length told = omega (arith, c.requires.1.1.1, c.self.invariant.count, was.parties) in
     let more : lists_of c.add_reply.new.told.items ≡ replies_after i c.turn-reply.result g.before.told = ap lists_of c.add_reply.ensures ∙ told_more i c.turn-reply.result told below ∙ ap (replies_after i c.turn-reply.result) (sym same) in
     let All : RunState P → List (List Reply) → Type 0 = λ s rs.
-    TurnsOf g.before.of.world.maker g.before.of.modules g.before.of.inputs i s (told_state new rs)
+    TurnsOf g.before.of.modules g.before.of.inputs i s (told_state new rs)
     × IsRunOf g.before.of c.args.input.now.parties (told_state new rs)
     × Advances g.before.of.modules (commands_of g.before.of.inputs i) i s (told_state new rs) in
     let all : All c.args.self.now (lists_of c.add_reply.new.told.items) = subst (λ s. All s (lists_of c.add_reply.new.told.items)) is (subst (All (told_state run g.before.told)) (sym more) (c.turn-reply.ensures.turn, c.turn-reply.ensures.run, c.turn-reply.ensures.advances)) in

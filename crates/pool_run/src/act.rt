@@ -1,0 +1,92 @@
+ghost use Rattle.std.specs.Prelude.{◌≡◌};
+ghost use Rattle.pool_run.specs.Acts.{act_of};
+ghost use Rattle.pool_run.specs.AtOnce.{given_act};
+
+use crate::command::Command;
+
+/// What a command does with a memory of a live grant.
+#[derive(Drop)]
+pub(crate) enum MemoryOp<'a> {
+    Read { at: u64, len: usize },
+    Write { at: u64, bytes: &'a [u8] },
+    Fill { at: u64, len: u64, byte: u8 },
+    Grow { pages: u64 },
+    Size,
+}
+
+/// What a command does: commands that do alike have one case.
+#[derive(Drop)]
+pub(crate) enum Act<'a> {
+    /// Requests an instance of the module with this number.
+    Request {
+        module: usize,
+    },
+    /// Does something with memory `memory` of the grant of command `of`.
+    OnMemory {
+        of: usize,
+        memory: usize,
+        op: MemoryOp<'a>,
+    },
+    /// Gives the grant of command `of` back.
+    Drop {
+        of: usize,
+    },
+}
+
+/// What the command does.
+pub(crate) fn act_of(command: &Command) -> Act<'_>
+    ensures { given_act result ≡ act_of command.now }
+{
+    match command {
+        Command::Instantiate { module } => Act::Request { module: *module },
+        Command::Read {
+            of,
+            memory,
+            at,
+            len,
+        } => Act::OnMemory {
+            of: *of,
+            memory: *memory,
+            op: MemoryOp::Read { at: *at, len: *len },
+        },
+        Command::Write {
+            of,
+            memory,
+            at,
+            hex,
+        } => Act::OnMemory {
+            of: *of,
+            memory: *memory,
+            op: MemoryOp::Write {
+                at: *at,
+                bytes: hex.as_slice(),
+            },
+        },
+        Command::Fill {
+            of,
+            memory,
+            at,
+            len,
+            byte,
+        } => Act::OnMemory {
+            of: *of,
+            memory: *memory,
+            op: MemoryOp::Fill {
+                at: *at,
+                len: *len,
+                byte: *byte,
+            },
+        },
+        Command::Grow { of, memory, pages } => Act::OnMemory {
+            of: *of,
+            memory: *memory,
+            op: MemoryOp::Grow { pages: *pages },
+        },
+        Command::Size { of, memory } => Act::OnMemory {
+            of: *of,
+            memory: *memory,
+            op: MemoryOp::Size,
+        },
+        Command::Drop { of } => Act::Drop { of: *of },
+    }
+}
