@@ -112,7 +112,7 @@ pub follows : (P : Type 0) (task : Task) (status : Status) (so sn : SourceTold) 
 follows P task status so sn ko kn mo mn ends asked = some_of so.rest (FollowsBytes status) (λ rest told. follows_at P task status so sn ko kn mo mn rest told ends asked)
 
 -- a run's text was to be written: all of it was, or a part
-pub ends_with_text : (P : Type 0) (task : Task) (text : List ℕ) (status : Status) (so sn : SourceTold) (ko kn : SinkTold) (mo mn : MakerTold) → task ≡ Run → HasRun P text so sn mo → WritesText Success text ko kn status → Ends P task status so sn ko kn mo mn
+pub ends_with_text : (P : Type 0) (task : Task) (text : List ℕ) (status : Status) (so sn : SourceTold) (ko kn : SinkTold) (mo mn : MakerTold) → task ≡ Run → HasRun P text so sn mo mn → WritesText Success text ko kn status → Ends P task status so sn ko kn mo mn
 ends_with_text P task text status so sn ko kn mo mn asked run written =
     let E : Status → Type 0 = λ s. Ends P task s so sn ko kn mo mn in
     elim written [

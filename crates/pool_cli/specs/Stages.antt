@@ -34,7 +34,7 @@ Refuses error failure.NotBuilt = ⊥
 
 -- the text of the output, or why there is none
 abbrev pub Prepares : Type 0 → Task → SourceTold → SourceTold → MakerTold → MakerTold → Result (String Global) Failure → Type 0
-Prepares P task source_old source_new maker_old maker_new (Ok text) = (task ≡ Run) × HasRun P (string_bytes text) source_old source_new maker_old
+Prepares P task source_old source_new maker_old maker_new (Ok text) = (task ≡ Run) × HasRun P (string_bytes text) source_old source_new maker_old maker_new
 Prepares P task source_old source_new maker_old maker_new (Err failure) = Fails task failure source_old source_new maker_old maker_new
 
 -- the text was written and the status stays, or a write failed
@@ -48,7 +48,7 @@ WroteLine task cause source_old source_new sink_old sink_new maker_old maker_new
 
 -- how the program ends
 abbrev pub Ends : Type 0 → Task → Status → SourceTold → SourceTold → SinkTold → SinkTold → MakerTold → MakerTold → Type 0
-Ends P task Success source_old source_new sink_old sink_new maker_old maker_new = WroteOutput P task source_old source_new sink_old sink_new maker_old
+Ends P task Success source_old source_new sink_old sink_new maker_old maker_new = WroteOutput P task source_old source_new sink_old sink_new maker_old maker_new
 Ends P task WriteFault source_old source_new sink_old sink_new maker_old maker_new = WroteLess P task source_old source_new sink_old sink_new maker_old maker_new
 Ends P task BadSettings source_old source_new sink_old sink_new maker_old maker_new = WroteBadConfig task source_old source_new sink_old sink_new
 Ends P task BadUsage source_old source_new sink_old sink_new maker_old maker_new = WroteLine task failure.BadUsage source_old source_new sink_old sink_new maker_old maker_new

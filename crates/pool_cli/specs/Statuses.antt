@@ -5,7 +5,7 @@ use Rattle.pool_pages.specs.declared.failing.Failing.{Failing}
 use Rattle.pool_pages.specs.MakerTold.{MakerTold}
 use Rattle.pool_pages.specs.Told.{Rose}
 use Rattle.pool_run.specs.Built.{broken_rule}
-use Rattle.pool_run.specs.Runs.{IsRun, MayFaultInMaking, with_faults}
+use Rattle.pool_run.specs.Runs.{IsRun, HasFaultedMaking, with_faults}
 use Rattle.pool_run.specs.declared.input.Input.{Input}
 use Rattle.pool_run.specs.declared.output.RunOutput.{RunOutput}
 use Rattle.pool_cli.specs.Lines.{config_line, line_of}
@@ -26,13 +26,14 @@ pub record HasRead (is : Reading) (source_old source_new : SourceTold) : Type 0 
   pub reads : reading bytes ≡ is
 
 -- The source was read to its end, the bytes read are an input that can be run, no rule of its settings is broken, and
--- the text is that of the output of a run of it, over regions of type P.
-pub record HasRun (P : Type 0) (text : List ℕ) (source_old source_new : SourceTold) (maker : MakerTold) : Type 0 where
+-- the text is that of the output of a run of it, over regions of type P. No making of the maker's failed.
+pub record HasRun (P : Type 0) (text : List ℕ) (source_old source_new : SourceTold) (maker_old maker_new : MakerTold) : Type 0 where
   pub input : Input
   pub output : RunOutput
   pub read : HasRead (accepted input) source_old source_new
   pub limits : broken_rule input ≡ None
-  pub run : IsRun (Failing P) input (with_faults input maker) output
+  pub run : IsRun (Failing P) input (with_faults input maker_old) output
+  pub makings : maker_new.faults ≡ maker_old.faults
   pub text_is : text ≡ output_text input output
 
 -- The source was read to its end, and the bytes read are an input that can be run but for its settings: this is the
@@ -43,12 +44,12 @@ pub record HasBadConfig (error : BadConfig) (source_old source_new : SourceTold)
   pub broken : broken_rule input ≡ Some error
 
 -- The source was read to its end, the bytes read are an input that can be run, no rule of its settings is broken, and
--- a making failed as its pool was made: where the maker with the input's faults tells its plan, that lists one.
+-- a making failed as its pool was made: the input lists one, or the maker's own count of faults rose.
 pub record HasNoPool (source_old source_new : SourceTold) (maker_old maker_new : MakerTold) : Type 0 where
   pub input : Input
   pub read : HasRead (accepted input) source_old source_new
   pub limits : broken_rule input ≡ None
-  pub making : MayFaultInMaking input maker_old
+  pub making : HasFaultedMaking input maker_old maker_new
 
 -- nothing was read
 abbrev pub Unread : SourceTold → SourceTold → Type 0
@@ -73,14 +74,14 @@ Fails task failure.NotBuilt source_old source_new maker_old maker_new = AsksForM
 -- what is to be written, and why: the text of an output, or the line of a failure
 abbrev pub IsToWrite : Type 0 → Task → List ℕ → SourceTold → SourceTold → MakerTold → MakerTold → Type 0
 IsToWrite P task text source_old source_new maker_old maker_new =
-    ((task ≡ Run) × HasRun P text source_old source_new maker_old)
+    ((task ≡ Run) × HasRun P text source_old source_new maker_old maker_new)
     ⊎ ((cause : Failure) × Fails task cause source_old source_new maker_old maker_new × (text ≡ line_of cause))
 
 -- the output of a run was written, all of it
-pub record WroteOutput (P : Type 0) (task : Task) (source_old source_new : SourceTold) (sink_old sink_new : SinkTold) (maker : MakerTold) : Type 0 where
+pub record WroteOutput (P : Type 0) (task : Task) (source_old source_new : SourceTold) (sink_old sink_new : SinkTold) (maker_old maker_new : MakerTold) : Type 0 where
   pub asked : task ≡ Run
   pub text : List ℕ
-  pub run : HasRun P text source_old source_new maker
+  pub run : HasRun P text source_old source_new maker_old maker_new
   pub wrote : Wrote text sink_old sink_new
 
 -- the settings are refused, and the line that says why was written, all of it

@@ -42,7 +42,7 @@ pub fn pool_main<S: Source, K: Sink, M: PageMaker>(
     pages: &mut M,
 ) -> Status
     // The source was read to its end, the bytes read are an input that can be run, and the bytes written are the text of the output of a run of it.
-    ensures ok { result ≡ Status.Ok → WroteOutput M.Region (task_of words.now) (S.told source.old) (S.told source.new) (K.told sink.old) (K.told sink.new) (M.told pages.old) }
+    ensures ok { result ≡ Status.Ok → WroteOutput M.Region (task_of words.now) (S.told source.old) (S.told source.new) (K.told sink.old) (K.told sink.new) (M.told pages.old) (M.told pages.new) }
     ensures bad_usage { result ≡ Status.BadUsage → (task_of words.now ≡ Unknown) × Unread (S.told source.old) (S.told source.new) × Wrote (line_of failure.BadUsage) (K.told sink.old) (K.told sink.new) }
     ensures bad_input { result ≡ Status.BadInput → (task_of words.now ≡ Run) × HasRead invalid (S.told source.old) (S.told source.new) × Wrote (line_of failure.BadInput) (K.told sink.old) (K.told sink.new) }
     // The source was read to its end, the bytes read are an input that can be run but for its settings, and the line written says which of their rules is the first that is broken.
@@ -54,8 +54,8 @@ pub fn pool_main<S: Source, K: Sink, M: PageMaker>(
     ensures too_long { result ≡ Status.TooLong → (task_of words.now ≡ Run) × ReadTooMuch (S.told source.old) (S.told source.new) × Wrote (line_of failure.TooLong) (K.told sink.old) (K.told sink.new) }
     ensures not_built { result ≡ Status.NotBuilt → AsksForMore (task_of words.now) (S.told source.old) (S.told source.new) × Wrote (line_of failure.NotBuilt) (K.told sink.old) (K.told sink.new) }
     // The other way round: what the words and the bytes lead to, unless something stands in the way. A fault of the source or
-    // of the sink is one of theirs by the clauses above, and one of a making is listed where a plan is told; so without any the
-    // status is this one, or that of want of memory.
+    // of the sink is one of theirs by the clauses above, and one of a making is listed by the input or counted by the maker; so
+    // without any the status is this one, or that of want of memory.
     ensures unknown_words { task_of words.now ≡ Unknown → (result ≡ Status.BadUsage) ⊎ (result ≡ Status.WriteFault) }
     ensures later_words { task_of words.now ≡ Later → (result ≡ Status.NotBuilt) ⊎ (result ≡ Status.WriteFault) }
     ensures by_bytes { task_of words.now ≡ Run → IfSome (S.told source.old).rest (FollowsBytes result) }

@@ -315,6 +315,18 @@ fn makings_that_are_listed(rt: HostRuntime) -> Result<(), Fail> {
     Ok(())
 }
 
+// A listed making fails over a maker that tells no plan too.
+#[test]
+fn listed_makings_of_any_maker(rt: HostRuntime) -> Result<(), Fail> {
+    for input in [IMAGE_FAULT, MEMORY_FAULT] {
+        let pages = UntoldPages::new(page()?);
+        let (ends, sink) = ended_over(rt.alloc(), "run", input, 0, 0, pages)?;
+        assert_eq!(rt; ends, Status::PageFault, "at {input}");
+        assert_eq!(rt; sink.taken(), PAGE_FAULT.as_bytes(), "at {input}");
+    }
+    Ok(())
+}
+
 const TWO_MODULES: &str =
     "{\"config\":{\"total_memories\":2},\"modules\":[{\"memories\":[{\"min\":1}]},{\"memories\":[{\"min\":1}]}],\"parties\":[{\"commands\":[{\"do\":\"instantiate\",\"module\":0},{\"do\":\"drop\",\"of\":0},{\"do\":\"instantiate\",\"module\":1},{\"do\":\"drop\",\"of\":2},{\"do\":\"instantiate\",\"module\":0}]}]}";
 

@@ -32,6 +32,7 @@ returns-in-Ok-output_text g c = (
     read = can_run c.in_ok-input.input (Ok c.in-Ok.output) _ _ c.in_ok-input.ensures.reads c.in-Ok.ensures.bad_input (λ is. cc);
     limits = no_limit (broken_rule c.in_ok-input.input) (is_valid c.in_ok-input.input) (Ok c.in-Ok.output) (is_valid_unless c.in_ok-input.input (Ok c.in-Ok.output) c.in-Ok.ensures.bad_input (λ is. cc)) c.in-Ok.ensures.bad_config (λ e is. cc);
     run = c.in-Ok.ensures.ok;
+    makings = c.in-Ok.ensures.faults;
     text_is = c.in-Ok-output_text.ensures;
   },
 )
