@@ -3,7 +3,11 @@
 #![tactic(auto)]
 
 #[cfg(test)]
+mod allocator_tests;
+#[cfg(test)]
 mod byte_count_tests;
+#[cfg(test)]
+mod dynamic_table_tests;
 #[cfg(test)]
 mod failing_tests;
 #[cfg(test)]
@@ -11,7 +15,11 @@ mod hall_tests;
 #[cfg(test)]
 mod index_tests;
 #[cfg(test)]
+mod lending_tests;
+#[cfg(test)]
 mod limit_tests;
+#[cfg(test)]
+mod malloc_tests;
 #[cfg(test)]
 mod memory_tests;
 #[cfg(test)]
@@ -20,6 +28,10 @@ mod queue_tests;
 mod region_tests;
 #[cfg(test)]
 mod settings_tests;
+#[cfg(test)]
+mod slab_tests;
+#[cfg(test)]
+mod slot_part_tests;
 #[cfg(test)]
 mod slot_tests;
 #[cfg(test)]

@@ -176,7 +176,10 @@ fn a_local_memory_has_its_type(rt: HostRuntime) -> Result<(), Fail> {
     let Ok(memory) = StaticMemory::new(SLOT, 0, Some(65_536), slot) else {
         return Err(Fail::new("the memory was refused"));
     };
-    let mut memory: LocalMemory<(), _> = LocalMemory::new(&ty, &tunables(), memory);
+    let made: Result<LocalMemory<(), _>, _> = LocalMemory::new(&ty, &tunables(), memory, None);
+    let Ok(mut memory) = made else {
+        return Err(Fail::new("there was no image to map"));
+    };
     assert_eq!(rt;
         memory.grow::<StoreLimits>(&mut (), 1, None),
         Ok(Some((0, 65_536)))

@@ -72,7 +72,7 @@ fn reset_into<P: Pages>(
 {
     let keep = HostAlignedByteCount::new(slot.region().page(), 16)?;
     let mut ranges = Ranges::new();
-    let kept = slot.clear_and_remain_ready(keep, &mut ranges)?;
+    let kept = slot.clear_and_remain_ready(false, keep, &mut ranges)?;
     queue.push_ranges(SlotId(3), ranges.as_slice());
     queue.push_memory(MemoryAllocationIndex(3), slot, kept);
     Ok(())

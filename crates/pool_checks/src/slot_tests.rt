@@ -150,7 +150,7 @@ fn reset<P: Pages>(slot: &mut MemoryImageSlot<P>, keep: usize) -> Result<usize, 
         return Err(Fail::new("all is kept"));
     }
     let mut ranges = Ranges::new();
-    let kept = slot.clear_and_remain_ready(keep, &mut ranges)?;
+    let kept = slot.clear_and_remain_ready(false, keep, &mut ranges)?;
     let range = ranges.as_slice()[0];
     let start = HostAlignedByteCount::new(page, range.start)?;
     let len = HostAlignedByteCount::new(page, range.len)?;
@@ -169,7 +169,7 @@ fn reset_whole<P: Pages>(slot: &mut MemoryImageSlot<P>, keep: usize) -> Result<u
 {
     let keep = HostAlignedByteCount::new(slot.region().page(), keep)?;
     let mut ranges = Ranges::new();
-    let kept = slot.clear_and_remain_ready(keep, &mut ranges)?;
+    let kept = slot.clear_and_remain_ready(false, keep, &mut ranges)?;
     Ok(kept)
 }
 

@@ -1,7 +1,7 @@
 ghost use Rattle.std.specs.Prelude.{◌≡◌, ◌≤◌, Some, None, IfOk, IfSome};
 ghost use Rattle.pool_pages.specs.MadeRegions.{made_told};
 ghost use Rattle.pool_table.specs.Tables.{IsRoom};
-ghost use Rattle.pool_table.specs.TableStates.{element_type_of};
+ghost use Rattle.pool_table.specs.TableStates.{IsStatic, element_type_of};
 
 use pool_limits::{GrowFault, LimiterError, StoreLimits, StoreLimitsBuilder, Trap};
 use pool_pages::{
@@ -47,7 +47,8 @@ fn room(alloc: Global) -> Result<MadeRegion, Fail>
 
 // A lazy table of this type.
 fn table(alloc: Global, element: TableElementType) -> Result<Table<MadeRegion>, Fail>
-    ensures { IfOk result (λ table. element_type_of table ≡ element) }
+    ensures element_type { IfOk result (λ table. element_type_of table ≡ element) }
+    ensures static_ { IfOk result IsStatic }
 {
     let ty = table_type(element);
     let region = room(alloc)?;
