@@ -1,3 +1,5 @@
+ghost use Rattle.std.specs.Prelude.{◌<◌};
+
 use pool_hall::SlotKind;
 use pool_index::SlotId;
 use pool_pages::{
@@ -36,7 +38,9 @@ fn a_cell_gives_its_region_out_with_numbers(rt: HostRuntime) -> Result<(), Fail>
 }
 
 // Two shards of four slots, with the numbers 10, 13, .. 31.
-fn allocator() -> Allocator {
+fn allocator() -> Allocator
+    ensures { 0 < result.step }
+{
     Allocator {
         kind: SlotKind::Memory,
         first_place: 5,
