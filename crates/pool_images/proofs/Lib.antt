@@ -9,6 +9,7 @@ pub mod Kept
 pub mod Making
 pub mod Marks
 pub mod Ordering
+pub mod PageSizes
 pub mod Pieces
 pub mod Queued
 pub mod Ready

@@ -218,6 +218,10 @@ replaced size hides image s = record (with_image image (resized size hides (with
 abbrev pub wiped : Slot → Slot
 wiped s = record (renewed (erasing s.base.bytes (size_of s)) s) { accessible = count s.region.page 0; image = None; dirty = false }
 
+-- The slot once nothing is known of it. It is wiped before anything else is asked of it, and a wipe reads none of this.
+abbrev pub forgotten : Slot → Slot
+forgotten s = record s { accessible = count s.region.page 0; image = None; dirty = false }
+
 -- the slot after bytes of it were written
 abbrev pub written_at : ℕ → List ℕ → Slot → Slot
 written_at at new s = record s { region = overwritten (s.base.bytes + at) new s.region; dirty = true }

@@ -3,7 +3,7 @@ ghost use Rattle.pool_pages.specs.Contents.{CanReach};
 ghost use Rattle.pool_pages.specs.Told.{TellsShaped, restored};
 ghost use Rattle.pool_images.specs.Orders.{Follows, wiping, resetting};
 ghost use Rattle.pool_images.specs.Resets.{given_marks, kept_by, left_by, reset_by, told_by_hand};
-ghost use Rattle.pool_images.specs.Slots.{size_of, IsSlot, IsReady, IsClean, IsLeft, IsShut, IsPart, wiped, cleared, reset_ranges, decommitted_all};
+ghost use Rattle.pool_images.specs.Slots.{size_of, IsSlot, IsReady, IsClean, IsLeft, IsShut, IsPart, forgotten, wiped, cleared, reset_ranges, decommitted_all};
 
 use crate::image_slot::MemoryImageSlot;
 use crate::ranges::{ByteRange, Ranges};
@@ -122,6 +122,17 @@ impl<P: Pages> MemoryImageSlot<P> {
         self.image = None;
         self.dirty = false;
         Ok(())
+    }
+
+    /// Notes that nothing is known of the slot, as after a page call that failed. Such a slot is only good for
+    /// `reset_with_anon_memory`, which reads nothing of what is forgotten. Makes no page call.
+    pub fn forget(&mut self)
+        ensures { self.new ≡ forgotten self.old }
+    {
+        self.fits();
+        self.accessible = self.region.page().zero();
+        self.image = None;
+        self.dirty = false;
     }
 }
 
