@@ -1,14 +1,11 @@
 -- Memories as the default creator makes them.
 use Rattle.std.proofs.Common.{◌≡◌, ℕ, ◌+◌, ◌-◌, ◌^◌, ◌<◌, ◌≤◌, Bool, true, false, List, [], ◌∷◌, length, min, refl, sym, ap, ◌∙◌, subst, inl, inr, arith, slice_range, replicate, nat_lt, Option, Some, None, Result, Ok, Err}
-use Rattle.std.specs.Prelude.{◌↔◌, ◌⊎◌, ◌==◌, ◌||◌, not, IfSome, option_map, is_some, if◌then◌else◌}
+use Rattle.std.specs.Prelude.{◌↔◌, ◌⊎◌, ◌==◌, ◌||◌, not, IfSome, is_some, if◌then◌else◌}
 use Rattle.std.specs.List.{list_any}
 use Rattle.std.proofs.lemmas.Bool.{cases_lt, lt-ltb}
 use Rattle.std.proofs.lemmas.Bool.Decides.{nat_tests}
-use Rattle.pool_pages.specs.Count.{rounded_up}
 use Rattle.pool_pages.specs.Contents.{Contents}
-use Rattle.pool_pages.specs.MakerTold.{MakerTold, Planned, calls_of, part_of, plan_for, fails_making, next_after}
-use Rattle.pool_pages.specs.Told.{passes}
-use Rattle.pool_pages.specs.declared.maker.MakeFault.TheVariants as making
+use Rattle.pool_pages.specs.MakerTold.{MakerTold, Planned, calls_of, part_of, plan_for, fails_making}
 use Rattle.pool_pages.specs.declared.module_types.MemoryTunables.{MemoryTunables}
 use Rattle.pool_pages.specs.declared.pages.RegionName.TheVariants.{OnDemand}
 use Rattle.pool_pages.specs.declared.unsupported.Unsupported.{Unsupported}
@@ -16,13 +13,13 @@ use Rattle.pool_pages.specs.declared.unsupported.Unsupported.TheVariants.{Addres
 use Rattle.pool_images.specs.Slots.{Slot, raised}
 use Rattle.pool_images.proofs.Begun.{if_mapped}
 use Rattle.pool_images.proofs.Ready.{followed, paired}
-use Rattle.pool_memory.specs.Creators.{IsAsMade, IsDesigned, IsBetween, FailsBetween, ListsBetween, HasFaulted, IsSameMaker, CreatorLeaves, mapped_design}
+use Rattle.pool_memory.specs.Creators.{IsAsMade, IsDesigned, IsBetween, ListsBetween, HasFaulted, IsSameMaker, CreatorLeaves, mapped_design}
 use Rattle.pool_memory.specs.Layouts.{Layout, layout_len, first_layout}
 use Rattle.pool_limits.specs.declared.errors.GrowError.{GrowError}
-use Rattle.pool_memory.specs.Linear.{Linear, linear_bytes}
+use Rattle.pool_memory.specs.Linear.{Linear}
 use Rattle.pool_memory.specs.Malloc.{Malloc, malloc_linear}
 use Rattle.pool_memory.specs.Mapped.{Mapped, IsMadeSlot, mapped_linear, mapped_refusal, extra_on_growth}
-use Rattle.pool_memory.specs.Moving.{CallLeaves, IsAsked, IsMadeRegion, IsMadeFor, IsRefusedFor, RefusedBy, MakingFails, FirstCallFails, MakingLeaves, region_for, first_call, next_name, slot_for}
+use Rattle.pool_memory.specs.Moving.{CallLeaves, IsAsked, MakingFails, FirstCallFails, MakingLeaves, first_call, slot_for}
 use Rattle.pool_memory.specs.declared.memory_error.MemoryError.{MemoryError}
 use Rattle.pool_memory.specs.declared.memory_error.MemoryError.TheVariants as refused
 use Rattle.pool_memory.proofs.Bytes.{zeros_part}

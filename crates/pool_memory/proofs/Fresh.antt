@@ -1,6 +1,6 @@
 -- The slot in a region that is made for a memory.
-use Rattle.std.proofs.Common.{◌≡◌, ℕ, ◌+◌, ◌-◌, ◌/◌, ◌%◌, ◌^◌, ◌<◌, ◌≤◌, Bool, true, false, List, length, refl, sym, ap, ◌∙◌, subst, inl, inr, arith, slice_range, replicate, get_or, Option, Some, None}
-use Rattle.std.specs.Prelude.{IfSome, option_map, if◌then◌else◌, slice_index_or}
+use Rattle.std.proofs.Common.{◌≡◌, ℕ, ◌+◌, ◌-◌, ◌/◌, ◌%◌, ◌^◌, ◌<◌, ◌≤◌, Bool, true, false, List, refl, sym, ap, ◌∙◌, subst, inl, inr, arith, slice_range, replicate, get_or, Option, Some, None}
+use Rattle.std.specs.Prelude.{IfSome, option_map, if◌then◌else◌}
 use Rattle.std.proofs.lemmas.Bool.{cases_lt}
 use Rattle.std.proofs.lemmas.List.{length-replicate, get_or-replicate, get_or_past}
 use Rattle.pool_pages.specs.Count.{Count, count, IsPageSize, rounded_up}
@@ -16,10 +16,10 @@ use Rattle.pool_images.specs.Slots.{Slot, SlotIdentity, IsSlot, IsClean, HasColo
 use Rattle.pool_images.proofs.Marks.{range-zeros}
 use Rattle.pool_images.proofs.Ready.{followed}
 use Rattle.pool_images.proofs.Sizes.{rounded_up_more}
-use Rattle.pool_memory.specs.Layouts.{Layout, layout_len, layout_of}
+use Rattle.pool_memory.specs.Layouts.{Layout, layout_len}
 use Rattle.pool_memory.specs.Mapped.{IsMadeSlot}
 use Rattle.pool_memory.specs.Moving.{region_for, slot_of_region, IsRegionMade, IsMadeRegion, IsRegionRefused}
-use Rattle.pool_memory.proofs.PageSizes.{whole_leaves, rounded_same}
+use Rattle.pool_images.proofs.PageSizes.{whole_leaves, rounded_same}
 use Rattle.pool_memory.proofs.Raised.{bytes_carried}
 
 -- what such a region tells, where it tells its pages

@@ -2,6 +2,7 @@ pub mod Begun
 pub mod Bytes
 pub mod Copies
 pub mod Creations
+pub mod Dynamics
 pub mod Fresh
 pub mod Growths
 pub mod Layouts
@@ -9,7 +10,6 @@ pub mod Makings
 pub mod Mallocs
 pub mod Mapped
 pub mod Moves
-pub mod PageSizes
 pub mod Raised
 pub mod Started
 pub mod Statics

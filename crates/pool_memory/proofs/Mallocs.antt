@@ -1,9 +1,8 @@
 -- A memory in a list of bytes, as it is made, written and grown.
-use Rattle.std.proofs.Common.{◌≡◌, ℕ, ◌+◌, ◌-◌, ◌*◌, ◌/◌, ◌%◌, ◌^◌, ◌<◌, ◌≤◌, ◌++◌, List, length, take, drop, min, max, refl, sym, ap, ◌∙◌, subst, inl, inr, arith, slice_range, replicate, Option, Some, None}
-use Rattle.std.specs.Prelude.{IfSome, option_map}
+use Rattle.std.proofs.Common.{◌≡◌, ℕ, ◌+◌, ◌-◌, ◌*◌, ◌/◌, ◌%◌, ◌^◌, ◌<◌, ◌≤◌, ◌++◌, List, length, take, min, max, refl, sym, ap, ◌∙◌, inl, inr, arith, slice_range, replicate, Some}
 use Rattle.std.proofs.Math.Nat.{mul-mod_left, div-mul-le_self, div-lt_iff_lt-mul}
 use Rattle.std.proofs.lemmas.Bool.{cases_lt}
-use Rattle.std.proofs.lemmas.List.{length-replicate, length-append, replicate-append-replicate, take_all, take-append-le}
+use Rattle.std.proofs.lemmas.List.{length-replicate, replicate-append-replicate, take_all, take-append-le}
 use Rattle.std.proofs.Math.Seq.{take-add}
 use Rattle.pool_pages.specs.Contents.{put}
 use Rattle.pool_pages.specs.Count.{rounded_up}
@@ -16,8 +15,8 @@ use Rattle.pool_pages.proofs.Puts.{length-put, range-put_above, range_range}
 use Rattle.pool_images.proofs.Begun.{rounded_up_above}
 use Rattle.pool_images.proofs.Marks.{range-zeros}
 use Rattle.pool_images.proofs.Sizes.{rounded_up_more}
-use Rattle.pool_memory.specs.Growing.{GrowsTo, IsUngrown}
-use Rattle.pool_memory.specs.Linear.{IsLinear, linear_bytes, ready}
+use Rattle.pool_memory.specs.Growing.{GrowsTo}
+use Rattle.pool_memory.specs.Linear.{IsLinear}
 use Rattle.pool_memory.specs.Malloc.{Malloc, IsMalloc, malloc_linear, malloc_capacity, malloc_made, malloc_grown}
 use Rattle.pool_memory.proofs.Bytes.{zeros_part}
 

@@ -9,7 +9,7 @@ use Rattle.std.proofs.lemmas.List.{take-append-drop, append-nil}
 use Rattle.pool_pages.specs.Count.{rounded_up}
 use Rattle.pool_pages.specs.Contents.{Contents, put, put_all, written}
 use Rattle.pool_pages.specs.Told.{risen}
-use Rattle.pool_images.specs.Slots.{Slot, SlotIdentity, IsSlot, IsReady, IsClean, CallFaulted, OnlyExposed, identity, limited, raised, raising, written_at}
+use Rattle.pool_images.specs.Slots.{Slot, SlotIdentity, IsSlot, IsReady, CallFaulted, OnlyExposed, identity, limited, raised, raising, written_at}
 use Rattle.pool_images.proofs.Kept.{kept_self}
 use Rattle.pool_images.proofs.Ready.{followed}
 use Rattle.pool_memory.specs.Growing.{GrowsTo, IsUngrown, IsCallPlanned}
@@ -106,6 +106,7 @@ written_is_mapped m at new fits is known below ready =
       holds = λ _. written_is_static (held_in m) at new (used_slot m.slot fits) (is.holds known) below ready;
       clean = λ made. absurd (cc made);
       known_made = λ made. absurd (cc made);
+      unmapped = λ made. absurd (cc made);
       restores = is.restores;
       whole = is.whole;
       inside = is.inside;
@@ -152,6 +153,7 @@ kept_mapped m n t fits is kept more within reached =
           subst S (sym static) (kept_static (held_in m) n (used t) (used_slot m.slot fits) (is.holds known) (used_exposed m.slot t kept) more room (reached known));
       clean = λ made. absurd (cc made);
       known_made = λ made. absurd (cc made);
+      unmapped = λ made. absurd (cc made);
       restores = ap (λ (i : SlotIdentity). i.behaviour) kept.same ∙ is.restores;
       whole = ap (λ (k : ℕ). k % t.region.page) static ∙ ap (λ (p : ℕ). m.slot.static_size % p) page ∙ is.whole;
       inside = omega (arith, base, static, len, is.inside);
@@ -166,6 +168,7 @@ sized_mapped m n fits is more within =
       holds = kept.holds;
       clean = is.clean;
       known_made = is.known_made;
+      unmapped = is.unmapped;
       restores = is.restores;
       whole = is.whole;
       inside = is.inside;
@@ -297,6 +300,7 @@ started_keeps l m t keeps same holds inside =
       };
       clean = λ made. absurd (cc made);
       known_made = λ made. absurd (cc made);
+      unmapped = λ made. absurd (cc made);
       restores = ap (λ (i : SlotIdentity). i.behaviour) same ∙ keeps.is.restores;
       whole = whole;
       inside = omega (arith, base, static, len, keeps.is.inside);

@@ -1,5 +1,5 @@
 -- A memory that moves to another region.
-use Rattle.std.proofs.Common.{◌≡◌, ℕ, ◌+◌, ◌-◌, ◌%◌, ◌^◌, ◌<◌, ◌≤◌, ◌++◌, Bool, true, false, List, length, refl, sym, ap, ◌∙◌, subst, arith, slice_range, replicate, nat_lt, Option, Some, None}
+use Rattle.std.proofs.Common.{◌≡◌, ℕ, ◌+◌, ◌-◌, ◌%◌, ◌<◌, ◌≤◌, ◌++◌, Bool, true, false, List, length, refl, sym, ap, ◌∙◌, subst, arith, slice_range, replicate, nat_lt, Option, Some, None}
 use Rattle.std.specs.Prelude.{IfSome, option_map, if◌then◌else◌}
 use Rattle.std.proofs.lemmas.Bool.{lt-ltb}
 use Rattle.std.proofs.lemmas.Bool.Decides.{nat_tests}
@@ -9,21 +9,19 @@ use Rattle.pool_images.proofs.Ready.{followed}
 use Rattle.pool_memory.proofs.Bytes.{zeros_part}
 use Rattle.pool_memory.proofs.Copies.{none_copied}
 use Rattle.pool_memory.proofs.Mapped.{used_ready}
-use Rattle.pool_memory.proofs.PageSizes.{rounded_same}
+use Rattle.pool_images.proofs.PageSizes.{rounded_same}
 use Rattle.pool_memory.proofs.Statics.{static_inside}
 use Rattle.pool_pages.specs.Count.{rounded_up}
 use Rattle.pool_pages.specs.Contents.{Contents, put}
 use Rattle.pool_pages.specs.MakerTold.{MakerTold}
-use Rattle.pool_pages.specs.declared.maker.MakeFault.TheVariants as making
-use Rattle.pool_images.specs.Slots.{Slot, SlotIdentity, IsSlot, IsSound, IsReady, IsClean, identity, size_of}
+use Rattle.pool_images.specs.Slots.{Slot, IsSlot, IsSound, size_of}
 use Rattle.pool_limits.specs.declared.errors.GrowError.{GrowError}
-use Rattle.pool_limits.specs.declared.errors.GrowError.TheVariants as failed
-use Rattle.pool_memory.specs.Copying.{OnlyWritten, IsCopied}
+use Rattle.pool_memory.specs.Copying.{IsCopied}
 use Rattle.pool_memory.specs.Growing.{GrowsTo, IsUngrown, IsGrowthFailure}
 use Rattle.pool_memory.specs.Layouts.{Layout, layout_len, layout_of, moved_layout}
-use Rattle.pool_memory.specs.Linear.{Linear, in_slot, linear_bytes}
-use Rattle.pool_memory.specs.Mapped.{Mapped, IsMapped, KeepsLayout, IsMadeSlot, HasMoved, used, held_in, mapped_linear, mapped_capacity}
-use Rattle.pool_memory.specs.Moving.{CallLeaves, PlaceLeaves, MakerLeft, MoveLeaves, IsMadeFor, IsRefusedFor, slot_for}
+use Rattle.pool_memory.specs.Linear.{Linear, linear_bytes}
+use Rattle.pool_memory.specs.Mapped.{Mapped, IsMapped, KeepsLayout, IsMadeSlot, HasMoved, used, mapped_linear, mapped_capacity}
+use Rattle.pool_memory.specs.Moving.{CallLeaves, PlaceLeaves, MakerLeft}
 use Rattle.pool_memory.specs.Static.{IsStatic}
 
 room_false : (a b : ℕ) → b ≤ a → nat_lt a b ≡ false
@@ -158,6 +156,7 @@ moved_mapped l len size extra from s t fits made more copied =
       holds = λ _. moved_static l len size from s t fits made more copied;
       clean = λ yes. absurd (cc yes);
       known_made = λ yes. absurd (cc yes);
+      unmapped = λ yes. absurd (cc yes);
       restores = ap (λ (x : Slot). x.region.behaviour) copied.written.same ∙ made.restores;
       whole = ap (λ (n : ℕ). n % t.region.page) static ∙ ap (λ (p : ℕ). s.static_size % p) page ∙ made.whole;
       inside = omega (arith, base, static, long, static_inside s fits);
@@ -196,6 +195,7 @@ new_keeps l size extra s made =
         holds = k.is.holds;
         clean = λ _. made.clean;
         known_made = λ _. refl;
+        unmapped = λ _. made.image;
         restores = k.is.restores;
         whole = k.is.whole;
         inside = k.is.inside;

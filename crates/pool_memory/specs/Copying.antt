@@ -1,5 +1,5 @@
 -- How bytes are copied from the slot of a memory to another.
-use Rattle.std.specs.Prelude.{◌≡◌, ℕ, ◌+◌, ◌≤◌, List, length, slice_range, Option, IfSome, is_some, option_map}
+use Rattle.std.specs.Prelude.{◌≡◌, ℕ, ◌+◌, ◌≤◌, List, length, slice_range, IfSome, is_some, option_map}
 use Rattle.pool_pages.specs.Contents.{put}
 use Rattle.pool_images.specs.Slots.{Slot, IsReady}
 

@@ -1,6 +1,7 @@
 pub mod Atomics
 pub mod Copying
 pub mod Creators
+pub mod Dynamic
 pub mod Growing
 pub mod Layouts
 pub mod Linear

@@ -40,6 +40,7 @@ pub record IsMapped (m : Mapped) : Type 0 where
   pub holds : m.known ≡ true → IsStatic (held_in m)
   pub clean : m.as_made ≡ true → IsClean m.slot
   pub known_made : m.as_made ≡ true → m.known ≡ true
+  pub unmapped : m.as_made ≡ true → m.slot.image ≡ None
   pub restores : m.slot.region.behaviour ≡ RestoreOriginalMapping
   pub whole : m.slot.static_size % m.slot.region.page ≡ 0
   pub inside : m.slot.base.bytes + m.slot.static_size ≤ m.slot.region.len

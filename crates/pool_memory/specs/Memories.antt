@@ -1,5 +1,5 @@
 -- A memory with its type, and what reads and writes of it answer.
-use Rattle.std.specs.Prelude.{◌≡◌, ℕ, ◌+◌, ◌^◌, ◌<◌, ◌≤◌, List, Bool, true, nat_le, if◌then◌else◌, Option, Result, Ok, Err}
+use Rattle.std.specs.Prelude.{◌≡◌, ℕ, ◌+◌, ◌^◌, ◌<◌, ◌≤◌, List, Bool, true, false, nat_le, if◌then◌else◌, Option, Result, Ok, Err}
 use Rattle.pool_pages.specs.MemoryTypes.{page_size}
 use Rattle.pool_pages.specs.declared.module_types.MemoryType.{MemoryType}
 use Rattle.pool_limits.specs.declared.errors.Trap.{Trap}
@@ -18,6 +18,7 @@ pub record IsMemoryState (m : MemoryState) : Type 0 where
   pub page : m.ty.page_size_log2 < 64
   pub room : m.linear.size + page_size m.ty ≤ 2 ^ 64
   pub moves : m.may_move ≡ true → m.linear.moves ≡ true
+  pub shared : m.ty.shared ≡ true → m.may_move ≡ false
 
 -- the slot that it lies in
 abbrev pub slot_of : MemoryState → Slot

@@ -1,7 +1,12 @@
 -- How a memory that was just made begins with an image.
-use Rattle.std.specs.Prelude.{◌≡◌, ℕ, ◌%◌, ◌==◌, Bool, true, false, ◌&&◌, Option, Some, None, IfSome}
+use Rattle.std.specs.Prelude.{◌≡◌, ℕ, ◌%◌, ◌==◌, List, Bool, true, false, ◌&&◌, Option, Some, None, IfSome}
+use Rattle.pool_pages.specs.Count.{rounded_up}
+use Rattle.pool_pages.specs.Told.{PageCall}
+use Rattle.pool_pages.specs.declared.module_types.MemoryTunables.{MemoryTunables}
+use Rattle.pool_pages.specs.declared.module_types.MemoryType.{MemoryType}
 use Rattle.pool_images.specs.Images.{Image, start}
-use Rattle.pool_images.specs.Slots.{FitsInto, IsLeft, identity}
+use Rattle.pool_images.specs.Orders.{Follows, replacing}
+use Rattle.pool_images.specs.Slots.{Slot, FitsInto, IsLeft, identity, hides}
 use Rattle.pool_memory.specs.Linear.{Linear, Storage, in_slot, stored, slot_in, is_mapped, linear_bytes}
 
 abbrev pub has_whole_pages : ℕ → Storage → Bool
@@ -29,8 +34,21 @@ pub record HasStarted (image : Image) (old new : Linear) : Type 0 where
 
 -- a call on its region failed, and nothing is known of what that holds: the memory has no bytes
 pub record HasNotStarted (old new : Linear) : Type 0 where
+  pub takes : takes_image old ≡ true
   pub same : new ≡ record old { size = 0; capacity = 0; storage = new.storage }
   pub left : IsLeft (slot_in old.storage) (slot_in new.storage)
+
+-- The calls on its region for a start with an image, and how they end, where the region tells its plan and what it holds:
+-- the bytes that the memory has and no others are made ones that can be reached, and then the image is mapped.
+abbrev pub CallsFollow : List PageCall → Bool → Slot → Slot → Type 0
+CallsFollow calls ok old new = IfSome old.region.contents (λ c. Follows calls ok old.region new.region)
+
+abbrev pub PlaceStarts : MemoryType → MemoryTunables → Image → ℕ → Bool → Storage → Storage → Type 0
+PlaceStarts ty tunables image size ok (in_slot s) new = CallsFollow (replacing (rounded_up s.region.page size) (hides ty tunables s.region.page) (Some image) s) ok s (slot_in new)
+PlaceStarts ty tunables image size ok (stored len bytes) new = Unit {0}
+
+abbrev pub StartsBy : MemoryType → MemoryTunables → Image → Bool → Linear → Linear → Type 0
+StartsBy ty tunables image ok old new = takes_image old ≡ true → PlaceStarts ty tunables image old.size ok old.storage new.storage
 
 -- the memory begins with an image, or as it was made
 abbrev pub BeginsWith : Bool → Option Image → Linear → Linear → Type 0

@@ -43,6 +43,7 @@ pub trait RuntimeMemoryCreator<M: PageMaker> {
         ensures untouched { IfOk result (λ memory. Self.Linear.untouched memory ≡ true) }
         ensures designed { IfOk result (λ memory. IfSome (designs self.now (M.told maker.old).page ty.now tunables.now minimum maximum) (λ d. IsDesigned d (Self.Linear.linear memory))) }
         ensures unsupported { (u : _) → (result ≡ Err (MemoryError.Unsupported u)) ↔ (refuses self.now (M.told maker.old).page ty.now tunables.now minimum maximum ≡ Some u) }
+        ensures borrows { M.borrows maker.new ≡ M.borrows maker.old }
         ensures maker { IsSameMaker (M.told maker.old) (M.told maker.new) }
         ensures counts { CreatorLeaves result (M.told maker.old) (M.told maker.new) };
 }
@@ -101,6 +102,7 @@ fn new_mapped<M: PageMaker>(
     ensures untouched { IfOk result (λ memory. either_untouched memory ≡ true) }
     ensures designed { IfOk result (λ memory. IsDesigned (mapped_design (M.told maker.old).page tunables.now minimum maximum) (either_linear memory)) }
     ensures unsupported { (u : _) → (result ≡ Err (MemoryError.Unsupported u)) ↔ (mapped_refusal (M.told maker.old).page tunables.now minimum ≡ Some u) }
+    ensures borrows { M.borrows maker.new ≡ M.borrows maker.old }
     ensures maker { IsSameMaker (M.told maker.old) (M.told maker.new) }
     ensures counts { CreatorLeaves result (M.told maker.old) (M.told maker.new) }
 {
@@ -121,6 +123,7 @@ fn new_malloc<M: PageMaker>(
     ensures untouched { IfOk result (λ memory. either_untouched memory ≡ true) }
     ensures designed { IfOk result (λ memory. IsDesigned (malloc_design tunables.now minimum) (either_linear memory)) }
     ensures unsupported { (u : _) → (result ≡ Err (MemoryError.Unsupported u)) ↔ (malloc_refusal tunables.now minimum ≡ Some u) }
+    ensures borrows { M.borrows _maker.new ≡ M.borrows _maker.old }
     ensures maker { IsSameMaker (M.told _maker.old) (M.told _maker.new) }
     ensures counts { CreatorLeaves result (M.told _maker.old) (M.told _maker.new) }
 {
@@ -149,6 +152,8 @@ impl<P: Pages, M: PageMaker<Region = P>> RuntimeLinearMemory<M> for LinearMemory
     ghost untouched = { either_untouched };
 
     ghost maker_told = { λ m. Some (M.told m) };
+
+    ghost maker_borrows = { M.borrows };
 
     fn byte_size(&self) -> usize {
         match self {

@@ -19,6 +19,7 @@ impl<M, L: RuntimeLinearMemory<M>> LocalMemory<M, L> {
     ) -> Result<Option<(usize, usize)>, GrowFault>
         ensures growth { GrowsAsking R.told R.leads delta_pages (self.old.linear.size, grown_size delta_pages self.old) self.old self.new (option_copied_mut limiter.entry) (option_left limiter.exit) result }
         ensures maker { GrowsMoving R.told R.leads delta_pages (self.old.linear.size, grown_size delta_pages self.old) self.old self.new (L.maker_told maker.old) (L.maker_told maker.new) (option_copied_mut limiter.entry) (option_left limiter.exit) result }
+        ensures borrows { L.maker_borrows maker.new ≡ L.maker_borrows maker.old }
     {
         match limiter {
             Some(limiter) => self.grow_asking(maker, delta_pages, limiter),
@@ -33,7 +34,8 @@ impl<M, L: RuntimeLinearMemory<M>> LocalMemory<M, L> {
         delta_pages: u64,
         limiter: &mut R,
     ) -> Result<Option<(usize, usize)>, GrowFault>
-        ensures { GrowsMoving R.told R.leads delta_pages (self.old.linear.size, grown_size delta_pages self.old) self.old self.new (L.maker_told maker.old) (L.maker_told maker.new) (Some limiter.old) (Some limiter.new) result }
+        ensures growth { GrowsMoving R.told R.leads delta_pages (self.old.linear.size, grown_size delta_pages self.old) self.old self.new (L.maker_told maker.old) (L.maker_told maker.new) (Some limiter.old) (Some limiter.new) result }
+        ensures borrows { L.maker_borrows maker.new ≡ L.maker_borrows maker.old }
     {
         let old = self.byte_size();
         let size = self.grown_size(delta_pages);
@@ -57,7 +59,8 @@ impl<M, L: RuntimeLinearMemory<M>> LocalMemory<M, L> {
         delta_pages: u64,
         limiter: &mut R,
     ) -> Result<Option<usize>, GrowFault>
-        ensures { GrowsMoving R.told R.leads delta_pages self.old.linear.size self.old self.new (L.maker_told maker.old) (L.maker_told maker.new) (Some limiter.old) (Some limiter.new) result }
+        ensures growth { GrowsMoving R.told R.leads delta_pages self.old.linear.size self.old self.new (L.maker_told maker.old) (L.maker_told maker.new) (Some limiter.old) (Some limiter.new) result }
+        ensures borrows { L.maker_borrows maker.new ≡ L.maker_borrows maker.old }
     {
         old_size(self.grow_asking(maker, delta_pages, limiter))
     }
@@ -72,6 +75,7 @@ impl<M, L: RuntimeLinearMemory<M>> LocalMemory<M, L> {
         requires more { self.old.linear.size ≤ size }
         requires room { size + page_size self.old.ty ≤ 2 ^ 64 }
         ensures growth { IsAllowedGrowth R.told R.leads (past_room size self.old) size (self.old.linear.size, size) self.old.linear self.new.linear (L.maker_told maker.old) (L.maker_told maker.new) limiter.old limiter.new result }
+        ensures borrows { L.maker_borrows maker.new ≡ L.maker_borrows maker.old }
         ensures same { self.new ≡ record self.old { linear = self.new.linear } }
     {
         let old = self.byte_size();

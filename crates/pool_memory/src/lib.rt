@@ -3,6 +3,7 @@
 
 mod atomics;
 mod creators;
+mod dynamic;
 mod growing;
 mod linear_memory;
 mod local_memory;
@@ -19,6 +20,7 @@ pub use atomics::validate_atomic_addr;
 pub use creators::{DefaultMemoryCreator, LinearMemory, RuntimeMemoryCreator};
 pub use linear_memory::RuntimeLinearMemory;
 pub use local_memory::LocalMemory;
+pub use making::granted_limits;
 pub use malloc_memory::MallocMemory;
 pub use memory::Memory;
 pub use memory_error::MemoryError;

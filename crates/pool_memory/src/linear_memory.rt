@@ -1,11 +1,12 @@
-ghost use Rattle.std.specs.Prelude.{◌≡◌, ◌+◌, ◌<◌, ◌≤◌, length, replicate, slice_range, Bool, true, false, Option, Ok, IfSome, IfOk, IfErr, OnOk, OnErr};
+ghost use Rattle.std.specs.Prelude.{◌≡◌, ◌+◌, ◌<◌, ◌≤◌, List, length, replicate, slice_range, Bool, true, false, Option, Ok, is_ok, IfSome, IfOk, IfErr, OnOk, OnErr};
 ghost use Rattle.std.specs.Arc.{arc_value};
+ghost use Rattle.std.specs.Borrow.{GName};
 ghost use Rattle.std.specs.Result.{result_err};
 ghost use Rattle.pool_pages.specs.MakerTold.{MakerTold};
 ghost use Rattle.pool_memory.specs.Linear.{Linear, IsLinear, is_mapped, linear_bytes, linear_written, ready, grown_into_ready};
 ghost use Rattle.pool_memory.specs.Growing.{GrowsTo, IsUngrown};
 ghost use Rattle.pool_memory.specs.Moving.{MakerLeft};
-ghost use Rattle.pool_memory.specs.Starting.{takes_image, ImageFits, HasStarted, HasNotStarted};
+ghost use Rattle.pool_memory.specs.Starting.{takes_image, ImageFits, HasStarted, HasNotStarted, StartsBy};
 
 use pool_images::MemoryImage;
 use pool_limits::GrowError;
@@ -21,6 +22,9 @@ pub trait RuntimeLinearMemory<M>: Drop {
 
     // what it sees of the maker, or nothing where it never calls that
     ghost maker_told: { M → Option MakerTold };
+
+    // the `&mut` that the maker holds, as it tells them, or nothing where it is never called
+    ghost maker_borrows: { M → List GName };
 
     fn byte_size(&self) -> usize
         ensures value { result ≡ (linear self.now).size }
@@ -61,7 +65,8 @@ pub trait RuntimeLinearMemory<M>: Drop {
         requires room { (linear self.old).moves ≡ false → size ≤ (linear self.old).capacity }
         ensures ok { OnOk result (GrowsTo size (linear self.old) (linear self.new)) }
         ensures err { IfErr result (λ e. IsUngrown e size (linear self.old) (linear self.new)) }
-        ensures maker { MakerLeft (result_err result) size (linear self.old) (linear self.new) (maker_told maker.old) (maker_told maker.new) };
+        ensures maker { MakerLeft (result_err result) size (linear self.old) (linear self.new) (maker_told maker.old) (maker_told maker.new) }
+        ensures borrows { maker_borrows maker.new ≡ maker_borrows maker.old };
 
     /// Makes the memory `len` bytes large, which is no less than it is and can be reached already. What is new is zeros.
     fn set_byte_size(&mut self, len: usize)
@@ -83,5 +88,6 @@ pub trait RuntimeLinearMemory<M>: Drop {
         ensures takes { IfOk result (λ taken. taken ≡ takes_image (linear self.old)) }
         ensures started { result ≡ Ok true → HasStarted (arc_value image.now) (linear self.old) (linear self.new) }
         ensures same { result ≡ Ok false → linear self.new ≡ linear self.old }
-        ensures fault { OnErr result (HasNotStarted (linear self.old) (linear self.new)) };
+        ensures fault { OnErr result (HasNotStarted (linear self.old) (linear self.new)) }
+        ensures order { StartsBy ty.now tunables.now (arc_value image.now) (is_ok result) (linear self.old) (linear self.new) };
 }

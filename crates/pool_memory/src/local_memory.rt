@@ -1,10 +1,10 @@
-ghost use Rattle.std.specs.Prelude.{◌≡◌, ◌↔◌, ◌+◌, ◌^◌, ◌<◌, ◌≤◌, ◌&&◌, length, replicate, slice_range, true, not, false, IsTrue, Option, Some, option_map, IfOk, IfErr, IfSome, OnOk, OnErr};
+ghost use Rattle.std.specs.Prelude.{◌≡◌, ◌↔◌, ◌+◌, ◌^◌, ◌<◌, ◌≤◌, ◌&&◌, length, replicate, slice_range, true, not, false, IsTrue, Option, Some, option_map, IfOk, IfErr, IfSome, OnOk, OnErr, MatchResult};
 ghost use Rattle.std.specs.Arc.{arc_value};
 ghost use Rattle.pool_pages.specs.MemoryTypes.{page_size, memory_may_move};
 ghost use Rattle.pool_memory.specs.Linear.{IsLinear, in_slot, is_mapped};
 ghost use Rattle.pool_memory.specs.Growing.{AskedPages, grown_size, past_room, exceeds};
 ghost use Rattle.pool_memory.specs.Making.{maximum_asked};
-ghost use Rattle.pool_memory.specs.Starting.{takes_image, ImageFits, HasNotStarted, BeginsWith};
+ghost use Rattle.pool_memory.specs.Starting.{takes_image, ImageFits, HasNotStarted, BeginsWith, StartsBy};
 ghost use Rattle.pool_memory.specs.Static.{CanHold};
 ghost use Rattle.pool_memory.specs.Memories.{slot_of, bytes_of, memory_written, access_answer};
 
@@ -51,6 +51,7 @@ impl<M, L: RuntimeLinearMemory<M>> LocalMemory<M, L> {
         ensures parts { IfOk result (λ m. (m.ty ≡ ty.now) × (m.may_move ≡ (memory_may_move ty.now tunables.now && (L.linear memory).moves))) }
         ensures begins { IfOk result (λ m. BeginsWith (takes_image (L.linear memory)) (option_map (λ i. arc_value i.now) image.entry) (L.linear memory) m.linear) }
         ensures fault { IfErr result (λ e. HasNotStarted (L.linear memory) (L.linear e.0)) }
+        ensures order { IfSome (option_map (λ i. arc_value i.now) image.entry) (λ i. MatchResult result (λ m. StartsBy ty.now tunables.now i true (L.linear memory) m.linear) (λ e. StartsBy ty.now tunables.now i false (L.linear memory) (L.linear e.0))) }
     {
         match image {
             None => Ok(LocalMemory::with_memory(ty, tunables, memory)),
@@ -71,6 +72,7 @@ impl<M, L: RuntimeLinearMemory<M>> LocalMemory<M, L> {
         ensures parts { IfOk result (λ m. (m.ty ≡ ty.now) × (m.may_move ≡ (memory_may_move ty.now tunables.now && (L.linear memory).moves))) }
         ensures begins { IfOk result (λ m. BeginsWith (takes_image (L.linear memory)) (Some (arc_value image.now)) (L.linear memory) m.linear) }
         ensures fault { IfErr result (λ e. HasNotStarted (L.linear memory) (L.linear e.0)) }
+        ensures order { MatchResult result (λ m. StartsBy ty.now tunables.now (arc_value image.now) true (L.linear memory) m.linear) (λ e. StartsBy ty.now tunables.now (arc_value image.now) false (L.linear memory) (L.linear e.0)) }
     {
         match memory.start_image(ty, tunables, image) {
             Ok(_takes) => Ok(LocalMemory::with_memory(ty, tunables, memory)),
@@ -78,7 +80,8 @@ impl<M, L: RuntimeLinearMemory<M>> LocalMemory<M, L> {
         }
     }
 
-    pub(crate) fn with_memory(ty: &MemoryType, tunables: &MemoryTunables, memory: L) -> Self
+    /// The memory as it is, without an image.
+    pub fn with_memory(ty: &MemoryType, tunables: &MemoryTunables, memory: L) -> Self
         requires page { ty.now.page_size_log2 < 64 }
         requires room { (L.linear memory).size + page_size ty.now ≤ 2 ^ 64 }
         ensures { result ≡ record { ty = ty.now; may_move = memory_may_move ty.now tunables.now && (L.linear memory).moves; linear = L.linear memory } }
@@ -93,7 +96,9 @@ impl<M, L: RuntimeLinearMemory<M>> LocalMemory<M, L> {
     }
 
     pub fn ty(&self) -> &MemoryType
-        ensures { result.now ≡ self.now.ty }
+        ensures value { result.now ≡ self.now.ty }
+        ensures fixed { self.now.ty.shared ≡ true → self.now.may_move ≡ false }
+        ensures room { self.now.linear.size + page_size self.now.ty ≤ 2 ^ 64 }
     {
         &self.ty
     }
@@ -177,6 +182,7 @@ impl<M, L: RuntimeLinearMemory<M>> LocalMemory<M, L> {
         requires more { self.old.linear.size ≤ size }
         requires room { size + page_size self.old.ty ≤ 2 ^ 64 }
         ensures asked { AskedPages (past_room size self.old) size self.old.linear self.new.linear (L.maker_told maker.old) (L.maker_told maker.new) result }
+        ensures borrows { L.maker_borrows maker.new ≡ L.maker_borrows maker.old }
         ensures same { self.new ≡ record self.old { linear = self.new.linear } }
     {
         if self.has_room(size) {

@@ -6,6 +6,7 @@ ghost use Rattle.pool_limits.specs.LimiterTold.{after_answer};
 ghost use Rattle.pool_limits.specs.Exchanges.{may_grow};
 ghost use Rattle.pool_images.specs.Images.{Image, start};
 ghost use Rattle.pool_images.specs.Slots.{IsBegun};
+ghost use Rattle.pool_memory.specs.Dynamic.{dynamic_limits};
 ghost use Rattle.pool_memory.specs.Static.{CanHold};
 ghost use Rattle.pool_memory.specs.Memories.{bytes_of};
 ghost use Rattle.pool_memory.specs.MemoryStates.{state_of};
@@ -57,6 +58,40 @@ fn limit_new<R: ResourceLimiter>(
     answered_limits(answer, ty)
 }
 
+// The same for a memory that a creator makes, which isn't shared.
+pub(crate) fn dynamic_limits<R: ResourceLimiter>(
+    ty: &MemoryType,
+    limiter: &mut R,
+) -> Result<(usize, Option<usize>), MemoryError>
+    requires { ty.now.page_size_log2 < 64 }
+    ensures value { result ≡ dynamic_limits (limiter_answer result) ty.now }
+    ensures asked { limiter_answer result ≡ memory_answer (R.told limiter.old).rule (limiter_answer result) (minimum_asked ty.now) (maximum_asked ty.now) }
+    ensures limiter { R.told limiter.new ≡ after_answer (limiter_answer result) (R.told limiter.old) }
+    ensures exchange { R.leads limiter.old (may_grow (minimum_question ty.now) (limiter_answer result)) limiter.new }
+    ensures granted { IfOk result (Granted ty.now) }
+{
+    let allowed = limit_new(ty, limiter);
+    unshared_limits(allowed, ty)
+}
+
+fn unshared_limits(
+    limits: Result<(usize, Option<usize>), MemoryError>,
+    ty: &MemoryType,
+) -> Result<(usize, Option<usize>), MemoryError>
+    requires value { limits ≡ limits_answer (limiter_answer limits) ty.now }
+    requires granted { IfOk limits (Granted ty.now) }
+    ensures value { result ≡ dynamic_limits (limiter_answer limits) ty.now }
+    ensures answer { limiter_answer result ≡ limiter_answer limits }
+    ensures granted { IfOk result (Granted ty.now) }
+{
+    match limits {
+        Err(MemoryError::LimiterFault(error)) => Err(MemoryError::LimiterFault(error)),
+        Err(MemoryError::LimiterDenied { min }) => Err(MemoryError::LimiterDenied { min }),
+        _ if ty.shared => Err(MemoryError::Unsupported(Unsupported::SharedOnDemand)),
+        limits => limits,
+    }
+}
+
 fn answered_limits(
     answer: Result<bool, LimiterError>,
     ty: &MemoryType,
@@ -72,7 +107,9 @@ fn answered_limits(
     }
 }
 
-fn granted_limits(ty: &MemoryType) -> Result<(usize, Option<usize>), MemoryError>
+/// With how many bytes a memory of this type begins, and how many it may have, where no limiter refuses it. Answers
+/// `Unsupported` alone: where a `u64` or the memory's addresses can't hold the minimum.
+pub fn granted_limits(ty: &MemoryType) -> Result<(usize, Option<usize>), MemoryError>
     requires { ty.now.page_size_log2 < 64 }
     ensures value { result ≡ limits_answer (Ok true) ty.now }
     ensures granted { IfOk result (Granted ty.now) }

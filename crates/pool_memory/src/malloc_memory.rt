@@ -157,7 +157,7 @@ fn first_capacity(tunables: &MemoryTunables, minimum: usize) -> Option<usize>
 }
 
 impl<M> RuntimeLinearMemory<M> for MallocMemory {
-    ghost use Rattle.std.specs.Prelude.{true, None};
+    ghost use Rattle.std.specs.Prelude.{[], true, None};
     ghost use Rattle.pool_memory.specs.Malloc.{malloc_linear};
 
     ghost linear = { malloc_linear };
@@ -165,6 +165,8 @@ impl<M> RuntimeLinearMemory<M> for MallocMemory {
     ghost untouched = { λ _. true };
 
     ghost maker_told = { λ _. None };
+
+    ghost maker_borrows = { λ _. [] };
 
     fn byte_size(&self) -> usize {
         self.size

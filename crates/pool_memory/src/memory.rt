@@ -113,6 +113,7 @@ impl<M, L: RuntimeLinearMemory<M>> Memory<M, L> {
     ) -> Result<Option<usize>, GrowFault>
         ensures growth { GrowsAsking R.told R.leads delta_pages (state_of self.old).linear.size (state_of self.old) (state_of self.new) (option_copied_mut limiter.entry) (option_left limiter.exit) result }
         ensures maker { GrowsMoving R.told R.leads delta_pages (state_of self.old).linear.size (state_of self.old) (state_of self.new) (L.maker_told maker.old) (L.maker_told maker.new) (option_copied_mut limiter.entry) (option_left limiter.exit) result }
+        ensures borrows { L.maker_borrows maker.new ≡ L.maker_borrows maker.old }
     {
         match limiter {
             Some(limiter) => self.grow_asking(maker, delta_pages, limiter),
@@ -127,7 +128,8 @@ impl<M, L: RuntimeLinearMemory<M>> Memory<M, L> {
         delta_pages: u64,
         limiter: &mut R,
     ) -> Result<Option<usize>, GrowFault>
-        ensures { GrowsMoving R.told R.leads delta_pages (state_of self.old).linear.size (state_of self.old) (state_of self.new) (L.maker_told maker.old) (L.maker_told maker.new) (Some limiter.old) (Some limiter.new) result }
+        ensures growth { GrowsMoving R.told R.leads delta_pages (state_of self.old).linear.size (state_of self.old) (state_of self.new) (L.maker_told maker.old) (L.maker_told maker.new) (Some limiter.old) (Some limiter.new) result }
+        ensures borrows { L.maker_borrows maker.new ≡ L.maker_borrows maker.old }
     {
         let Memory::Local(memory) = self;
         memory.grow_from(maker, delta_pages, limiter)

@@ -1,4 +1,4 @@
-ghost use Rattle.std.specs.Prelude.{◌≡◌, ◌<◌, ◌≤◌, true, false, Some, Ok, IfOk, IfErr, OnOk, OnErr};
+ghost use Rattle.std.specs.Prelude.{◌≡◌, ◌<◌, ◌≤◌, true, false, Some, Ok, is_ok, IfOk, IfErr, OnOk, OnErr};
 ghost use Rattle.std.specs.Arc.{arc_value};
 ghost use Rattle.std.specs.Result.{result_err};
 ghost use Rattle.pool_images.specs.Slots.{IsSlot};
@@ -6,7 +6,7 @@ ghost use Rattle.pool_memory.specs.Growing.{GrowsTo, IsUngrown};
 ghost use Rattle.pool_memory.specs.Layouts.{first_layout};
 ghost use Rattle.pool_memory.specs.Mapped.{IsMapped, IsMadeSlot, HasMoved, mapped_linear, mapped_capacity, is_reserved, extra_on_growth};
 ghost use Rattle.pool_memory.specs.Moving.{MakerLeft, MakingLeaves, slot_for};
-ghost use Rattle.pool_memory.specs.Starting.{takes_image, ImageFits, HasStarted, HasNotStarted};
+ghost use Rattle.pool_memory.specs.Starting.{takes_image, ImageFits, HasStarted, HasNotStarted, StartsBy};
 
 use crate::linear_memory::RuntimeLinearMemory;
 use crate::memory_error::MemoryError;
@@ -130,6 +130,7 @@ impl<P: Pages> MmapMemory<P> {
         ensures ok { OnOk result (GrowsTo size (mapped_linear self.old) (mapped_linear self.new)) }
         ensures err { IfErr result (λ e. IsUngrown e size (mapped_linear self.old) (mapped_linear self.new)) }
         ensures maker { MakerLeft (result_err result) size (mapped_linear self.old) (mapped_linear self.new) (Some (M.told maker.old)) (Some (M.told maker.new)) }
+        ensures borrows { M.borrows maker.new ≡ M.borrows maker.old }
     {
         let Some(layout) = self.layout.moved(size, self.extra_to_reserve_on_growth) else {
             return Err(GrowError::Overflow);
@@ -173,6 +174,7 @@ impl<P: Pages> MmapMemory<P> {
         ensures started { result ≡ Ok true → HasStarted (arc_value image.now) (mapped_linear self.old) (mapped_linear self.new) }
         ensures same { result ≡ Ok false → self.new ≡ self.old }
         ensures fault { OnErr result (HasNotStarted (mapped_linear self.old) (mapped_linear self.new)) }
+        ensures order { StartsBy ty.now tunables.now (arc_value image.now) (is_ok result) (mapped_linear self.old) (mapped_linear self.new) }
     {
         self.fits();
         if self.size % self.slot.region().page().get() != 0 {
@@ -224,6 +226,8 @@ impl<P: Pages, M: PageMaker<Region = P>> RuntimeLinearMemory<M> for MmapMemory<P
     ghost untouched = { λ m. m.as_made };
 
     ghost maker_told = { λ m. Some (M.told m) };
+
+    ghost maker_borrows = { M.borrows };
 
     fn byte_size(&self) -> usize {
         self.fits();

@@ -111,7 +111,7 @@ fn capacity_of(base_capacity: usize, maximum: Option<usize>) -> usize
 }
 
 impl<M, P: Pages> RuntimeLinearMemory<M> for StaticMemory<P> {
-    ghost use Rattle.std.specs.Prelude.{true, None};
+    ghost use Rattle.std.specs.Prelude.{[], true, None};
     ghost use Rattle.pool_memory.specs.Static.{linear_of};
 
     ghost linear = { linear_of };
@@ -119,6 +119,8 @@ impl<M, P: Pages> RuntimeLinearMemory<M> for StaticMemory<P> {
     ghost untouched = { λ _. true };
 
     ghost maker_told = { λ _. None };
+
+    ghost maker_borrows = { λ _. [] };
 
     fn byte_size(&self) -> usize {
         self.fits();

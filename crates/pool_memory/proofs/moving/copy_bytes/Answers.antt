@@ -1,4 +1,4 @@
-use Rattle.std.proofs.Common.{◌≡◌, ◌≤◌, ◌+◌, ◌-◌, ℕ, subst, arith, sym}
+use Rattle.std.proofs.Common.{◌≡◌, ◌≤◌, ◌+◌, ◌-◌, ℕ, subst, arith}
 use Rattle.pool_memory.specs.Copying.{IsCopied}
 use Rattle.pool_memory.proofs.Copies.{none_copied, more_copied}
 use Rattle.pool_memory.proofs.moving.copy_bytes.Goals as goal

@@ -1,5 +1,4 @@
-use Rattle.std.proofs.Common.{ℕ, ◌-◌, ◌≤◌}
-use Rattle.pool_images.specs.Slots.{IsSlot}
+use Rattle.std.proofs.Common.{◌-◌, ◌≤◌}
 use Rattle.pool_memory.specs.Copying.{IsCopied}
 use Rattle.pool_memory.proofs.moving.copy_bytes.Given as goal
 

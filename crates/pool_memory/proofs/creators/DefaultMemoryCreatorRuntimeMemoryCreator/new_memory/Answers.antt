@@ -1,4 +1,4 @@
-use Rattle.std.proofs.Common.{◌≡◌, Bool, true, false, sym, ◌∙◌, subst, Some, Err}
+use Rattle.std.proofs.Common.{◌≡◌, Bool, sym, ◌∙◌, subst, Some, Err}
 use Rattle.std.specs.Prelude.{◌↔◌, if◌then◌else◌}
 use Rattle.pool_pages.specs.declared.unsupported.Unsupported.{Unsupported}
 use Rattle.pool_memory.specs.Malloc.{malloc_refusal}

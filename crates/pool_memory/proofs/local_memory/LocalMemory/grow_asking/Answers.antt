@@ -41,8 +41,8 @@ asked_at leads pages old before after current size most a b first second third i
 abbrev ok_of : Bool → Result Bool LimiterError
 ok_of b = Ok b
 
-pub returns-then-delta_pages-eq0 : goal.returns-then-delta_pages-eq0
-returns-then-delta_pages-eq0 g c =
+pub returns-then-delta_pages-eq0-clause-growth : goal.returns-then-delta_pages-eq0-clause-growth
+returns-then-delta_pages-eq0-clause-growth g c =
     let old = c.args.self.now in
     let l = c.args.limiter.now in
     let told = g.R.ResourceLimiter.told in
@@ -52,16 +52,16 @@ returns-then-delta_pages-eq0 g c =
     let second : P old.linear.size c.grown_size-size.result = subst (λ (n : ℕ). P old.linear.size n) (sym c.grown_size-size.ensures.value) first in
     subst (λ (m : ℕ). P m c.grown_size-size.result) (sym c.byte_size-old.ensures.value) second
 
-pub returns-then-not-allow_growth_to : goal.returns-then-not-allow_growth_to
-returns-then-not-allow_growth_to g c =
+pub returns-then-not-allow_growth_to-clause-growth : goal.returns-then-not-allow_growth_to-clause-growth
+returns-then-not-allow_growth_to-clause-growth g c =
     let old = c.args.self.now in
     grown_past_type g.R.ResourceLimiter.told g.R.ResourceLimiter.leads c.args.delta_pages (old.linear.size, grown_size c.args.delta_pages old) old (g.L.RuntimeLinearMemory.maker_told c.args.maker.now) c.args.limiter.now c.report_failure.new.limiter c.report_failure.result
     c.if-delta_pages-eq0.false
-    (allowed_at c.ty.result.now old.ty c.grown_size-size.result (grown_size c.args.delta_pages old) false c.allow_growth_to.result c.ty.ensures c.grown_size-size.ensures.value c.allow_growth_to.ensures c.if-not-allow_growth_to.true)
+    (allowed_at c.ty.result.now old.ty c.grown_size-size.result (grown_size c.args.delta_pages old) false c.allow_growth_to.result c.ty.ensures.value c.grown_size-size.ensures.value c.allow_growth_to.ensures c.if-not-allow_growth_to.true)
     c.report_failure.ensures.answer c.report_failure.ensures.result c.report_failure.ensures.limiter c.report_failure.ensures.exchange
 
-pub returns-in-Err : goal.returns-in-Err
-returns-in-Err g c =
+pub returns-in-Err-clause-growth : goal.returns-in-Err-clause-growth
+returns-in-Err-clause-growth g c =
     let old = c.args.self.now in
     let told = g.R.ResourceLimiter.told in
     let leads = g.R.ResourceLimiter.leads in
@@ -69,13 +69,13 @@ returns-in-Err g c =
     let m = c.memory_growing.new.self in
     grown_error told leads c.args.delta_pages (old.linear.size, grown_size c.args.delta_pages old) old (g.L.RuntimeLinearMemory.maker_told c.args.maker.now) l m c.in-Err.error
     c.if-delta_pages-eq0.false
-    (allowed_at c.ty.result.now old.ty c.grown_size-size.result (grown_size c.args.delta_pages old) true c.allow_growth_to.result c.ty.ensures c.grown_size-size.ensures.value c.allow_growth_to.ensures c.if-not-allow_growth_to.false)
+    (allowed_at c.ty.result.now old.ty c.grown_size-size.result (grown_size c.args.delta_pages old) true c.allow_growth_to.result c.ty.ensures.value c.grown_size-size.ensures.value c.allow_growth_to.ensures c.if-not-allow_growth_to.false)
     (answer_at (told l) old c.grown_size-size.result (grown_size c.args.delta_pages old) c.maximum.result c.memory_growing.result (Err c.in-Err.error) c.grown_size-size.ensures.value c.maximum.ensures c.in-Err.is c.memory_growing.ensures.answer)
     (left_at (told l) (told m) c.memory_growing.result (Err c.in-Err.error) c.in-Err.is c.memory_growing.ensures.left)
     (asked_at leads c.args.delta_pages old l m c.byte_size-old.result c.grown_size-size.result c.maximum.result c.memory_growing.result (Err c.in-Err.error) c.byte_size-old.ensures.value c.grown_size-size.ensures.value c.maximum.ensures c.in-Err.is c.memory_growing.ensures.exchange)
 
-pub returns-in-Ok-false : goal.returns-in-Ok-false
-returns-in-Ok-false g c =
+pub returns-in-Ok-false-clause-growth : goal.returns-in-Ok-false-clause-growth
+returns-in-Ok-false-clause-growth g c =
     let old = c.args.self.now in
     let told = g.R.ResourceLimiter.told in
     let leads = g.R.ResourceLimiter.leads in
@@ -84,13 +84,13 @@ returns-in-Ok-false g c =
     let no : c.memory_growing.result ≡ Ok false = c.in-Ok-false.is ∙ ap ok_of c.in-Ok-false.field-0-test in
     grown_no told leads c.args.delta_pages (old.linear.size, grown_size c.args.delta_pages old) old (g.L.RuntimeLinearMemory.maker_told c.args.maker.now) l m
     c.if-delta_pages-eq0.false
-    (allowed_at c.ty.result.now old.ty c.grown_size-size.result (grown_size c.args.delta_pages old) true c.allow_growth_to.result c.ty.ensures c.grown_size-size.ensures.value c.allow_growth_to.ensures c.if-not-allow_growth_to.false)
+    (allowed_at c.ty.result.now old.ty c.grown_size-size.result (grown_size c.args.delta_pages old) true c.allow_growth_to.result c.ty.ensures.value c.grown_size-size.ensures.value c.allow_growth_to.ensures c.if-not-allow_growth_to.false)
     (answer_at (told l) old c.grown_size-size.result (grown_size c.args.delta_pages old) c.maximum.result c.memory_growing.result (Ok false) c.grown_size-size.ensures.value c.maximum.ensures no c.memory_growing.ensures.answer)
     (left_at (told l) (told m) c.memory_growing.result (Ok false) no c.memory_growing.ensures.left)
     (asked_at leads c.args.delta_pages old l m c.byte_size-old.result c.grown_size-size.result c.maximum.result c.memory_growing.result (Ok false) c.byte_size-old.ensures.value c.grown_size-size.ensures.value c.maximum.ensures no c.memory_growing.ensures.exchange)
 
-pub returns-in-Ok-true : goal.returns-in-Ok-true
-returns-in-Ok-true g c =
+pub returns-in-Ok-true-clause-growth : goal.returns-in-Ok-true-clause-growth
+returns-in-Ok-true-clause-growth g c =
     let old = c.args.self.now in
     let told = g.R.ResourceLimiter.told in
     let leads = g.R.ResourceLimiter.leads in
@@ -101,7 +101,7 @@ returns-in-Ok-true g c =
     let P : ℕ → Type 0 = λ s. IsAllowedGrowth told leads (past_room s old) s (old.linear.size, s) old.linear c.grow_allowed.new.self.linear (g.L.RuntimeLinearMemory.maker_told c.args.maker.now) (g.L.RuntimeLinearMemory.maker_told c.grow_allowed.new.maker) m n c.grow_allowed.result in
     grown_allowed told leads c.args.delta_pages (old.linear.size, grown_size c.args.delta_pages old) old (g.L.RuntimeLinearMemory.maker_told c.args.maker.now) c.grow_allowed.new.self (g.L.RuntimeLinearMemory.maker_told c.grow_allowed.new.maker) l m n c.grow_allowed.result
     c.if-delta_pages-eq0.false
-    (allowed_at c.ty.result.now old.ty c.grown_size-size.result (grown_size c.args.delta_pages old) true c.allow_growth_to.result c.ty.ensures c.grown_size-size.ensures.value c.allow_growth_to.ensures c.if-not-allow_growth_to.false)
+    (allowed_at c.ty.result.now old.ty c.grown_size-size.result (grown_size c.args.delta_pages old) true c.allow_growth_to.result c.ty.ensures.value c.grown_size-size.ensures.value c.allow_growth_to.ensures c.if-not-allow_growth_to.false)
     (answer_at (told l) old c.grown_size-size.result (grown_size c.args.delta_pages old) c.maximum.result c.memory_growing.result (Ok true) c.grown_size-size.ensures.value c.maximum.ensures yes_it_may c.memory_growing.ensures.answer)
     (left_at (told l) (told m) c.memory_growing.result (Ok true) yes_it_may c.memory_growing.ensures.left)
     (asked_at leads c.args.delta_pages old l m c.byte_size-old.result c.grown_size-size.result c.maximum.result c.memory_growing.result (Ok true) c.byte_size-old.ensures.value c.grown_size-size.ensures.value c.maximum.ensures yes_it_may c.memory_growing.ensures.exchange)

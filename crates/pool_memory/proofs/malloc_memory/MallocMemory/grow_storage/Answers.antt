@@ -1,4 +1,4 @@
-use Rattle.std.proofs.Common.{◌≡◌, ◌≤◌, ◌+◌, ◌<◌, ◌^◌, ◌-◌, ◌*◌, ◌/◌, ℕ, List, max, subst, sym, ap, ◌∙◌, arith}
+use Rattle.std.proofs.Common.{◌≡◌, ◌≤◌, ◌+◌, ◌-◌, ◌*◌, ◌/◌, ℕ, List, max, subst, sym, ap, ◌∙◌, arith}
 use Rattle.pool_pages.specs.Dense.{with_zeros}
 use Rattle.pool_memory.specs.Growing.{GrowsTo}
 use Rattle.pool_memory.specs.Malloc.{Malloc, IsMalloc, malloc_linear}

@@ -1,5 +1,4 @@
-use Rattle.std.proofs.Common.{◌≤◌, ◌+◌, ◌≡◌, ℕ, List, length, sym, subst}
-use Rattle.std.specs.Prelude.{vec_capacity}
+use Rattle.std.proofs.Common.{◌≤◌, ◌+◌, ℕ, List, length, sym, subst}
 use Rattle.pool_memory.specs.Malloc.{Malloc, IsMalloc}
 use Rattle.pool_memory.proofs.Mallocs.{written_is_malloc}
 use Rattle.pool_memory.proofs.malloc_memory.MallocMemoryRuntimeLinearMemory.write.Goals as goal

@@ -1,5 +1,4 @@
-use Rattle.std.proofs.Common.{◌≡◌, ◌≤◌, ℕ, true, false, sym, ap, ◌∙◌, subst}
-use Rattle.std.specs.Prelude.{IfSome}
+use Rattle.std.proofs.Common.{◌≤◌, ℕ, true, false, sym, subst}
 use Rattle.pool_images.specs.Slots.{Slot}
 use Rattle.pool_memory.specs.Copying.{IsCopied}
 use Rattle.pool_memory.specs.Mapped.{Mapped, HasMoved}

@@ -1,4 +1,4 @@
-use Rattle.std.proofs.Common.{◌≡◌, ◌≤◌, refl, sym, subst}
+use Rattle.std.proofs.Common.{◌≤◌, refl, sym, subst}
 use Rattle.pool_images.specs.Slots.{IsSlot}
 use Rattle.pool_memory.specs.Linear.{ready}
 use Rattle.pool_memory.specs.Mapped.{Mapped, mapped_linear}

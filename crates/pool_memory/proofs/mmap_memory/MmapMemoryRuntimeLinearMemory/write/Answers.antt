@@ -1,4 +1,4 @@
-use Rattle.std.proofs.Common.{◌≡◌, ◌≤◌, ◌+◌, length, sym, ◌∙◌, subst}
+use Rattle.std.proofs.Common.{◌≤◌, ◌+◌, length, sym, ◌∙◌, subst}
 use Rattle.pool_images.specs.Slots.{IsSlot}
 use Rattle.pool_memory.specs.Mapped.{Mapped}
 use Rattle.pool_memory.proofs.Mapped.{wrote_keeps, not_empty}
