@@ -9,7 +9,7 @@ use Rattle.pool_hall.specs.declared.view.View.{View}
 use Rattle.pool_hall.specs.Sum.{one_if}
 use Rattle.pool_hall.specs.Unit.{same, times, pick_unit}
 use Rattle.pool_hall.specs.Held.{IsHeld}
-use Rattle.pool_hall.specs.Step.{Taken, MayPut}
+use Rattle.pool_hall.specs.Step.{put_view, Taken, MayPut}
 use Rattle.pool_hall.proofs.Units.{same_self, times_append}
 use Rattle.pool_index.specs.declared.counting.ShardCounts.{ShardCounts}
 use Rattle.pool_index.specs.declared.ids.SlotId.{SlotId}
@@ -20,9 +20,10 @@ use Rattle.pool_index.specs.ShardMeans.{shard_means}
 use Rattle.pool_index.specs.Freed.{IsCounted, IsSum, all_unused, units_of_slots, HasAll}
 use Rattle.pool_index.specs.Layout.{capacity_of}
 use Rattle.pool_index.specs.MadeShards.{AreMade}
-use Rattle.pool_index.specs.Round.{HeldShard, HeldInTurn, Gives, KeepsRest}
+use Rattle.pool_index.specs.Round.{HeldShard, HeldInTurn, Gives, KeepsCounts, KeepsRest}
 use Rattle.pool_index.proofs.Allocating.{shard_there}
-use Rattle.pool_index.proofs.Puts.{may_gain}
+use Rattle.pool_index.proofs.Puts.{may_gain, units_after}
+use Rattle.pool_index.proofs.Rounds.{same_counts, rest_after}
 
 module _ (made : List ShardState) (limits : List ℕ) where
   abbrev Turns : (ShardState → ShardState) → ℕ → List ShardState → View ShardState → View ShardState → Type 0
@@ -44,6 +45,23 @@ module _ (made : List ShardState) (limits : List ℕ) where
     told = h.told;
     view = h.view;
   }
+
+  -- what the seat has then
+  module _ (p : ℕ) (r : ShardCounts) (v w : View ShardState) (h : IsHeld shard_meaning made limits p (λ x y. (y ≡ x) × IsCounted x r) v w) where
+    put_same : w ≡ put_view shard_meaning p h.before h.before v
+    put_same = h.view ∙ ap (λ (z : ShardState). put_view shard_meaning p h.before z v) h.did.0
+
+    pub look_units : (u : UnitName) → times u w.units ≡ times u v.units
+    look_units u =
+        let moves : Moves h.before h.before [] [] = record { same = record { kind = refl; first = refl; step = refl; capacity = refl; budget = refl }; sound = h.did.1.sound; cold = omega arith; flow = λ z. refl } in
+        let a = units_after shard_meaning Some shard_means made limits p h.before h.before h.before h.before refl refl v h.told [] [] moves (λ z. omega arith) w put_same u in
+        omega arith
+
+    pub look_counts : KeepsCounts v w
+    look_counts = same_counts shard_meaning p h.before h.before h.before h.before refl refl h.did.1.sound refl v w put_same
+
+    pub look_rest : KeepsRest v w
+    look_rest = rest_after shard_meaning p h.before h.after v w h.view
 
   pub in_turn_more : (left : ShardState → ShardState) (p : ℕ) (ss : List ShardState) (s : ShardState) (v u w : View ShardState) → Turns left p ss v u → HeldShard shard_meaning Some made limits (p + length ss) s (left s) u w → Turns left p (ss ++ s ∷ []) v w
   in_turn_more left p [] s v u w e held =

@@ -1,6 +1,7 @@
 -- All warm slots of a shard that is held are taken: their pick units come out of it.
 use Rattle.std.proofs.Common.{◌≡◌, ℕ, zero, suc, ◌+◌, ◌-◌, ◌*◌, ◌^◌, ◌<◌, ◌≤◌, List, [], ◌∷◌, ◌++◌, length, min, Option, Some, None, sym, refl, ap, subst, ◌∙◌, arith, length-append}
-use Rattle.std.specs.Prelude.{map, flat_map, slice_index_or, slice_set, true}
+use Rattle.std.specs.Prelude.{map, flat_map, slice_index_or, slice_set, true, All}
+use Rattle.std.proofs.lemmas.List.Elements.{All-append, All-map}
 use Rattle.std.proofs.lemmas.List.{length-map}
 use Rattle.std.proofs.lemmas.Grind.{flat_map-append}
 use Rattle.pool_hall.specs.declared.unit_name.SlotKind.{SlotKind}
@@ -16,7 +17,7 @@ use Rattle.pool_index.specs.declared.ids.SlotId.{SlotId}
 use Rattle.pool_index.specs.declared.ids.MemoryInModule.{MemoryInModule}
 use Rattle.pool_index.specs.declared.warm_slot.WarmSlot.{WarmSlot}
 use Rattle.pool_index.specs.Lists.{with_bytes, use_again}
-use Rattle.pool_index.specs.Shard.{ShardState, IsShard, IsSameShard, slot_number, after_take_warm}
+use Rattle.pool_index.specs.Shard.{ShardState, IsShard, IsSameShard, slot_number, taken_slots, after_take_warm}
 use Rattle.pool_index.specs.Part.{shard_meaning, shard_units, used_units}
 use Rattle.pool_index.specs.Moves.{Moves}
 use Rattle.pool_index.specs.ShardMeans.{shard_means}
@@ -123,6 +124,11 @@ module _ (made : List ShardState) (limits : List ℕ) (p : ℕ) (v w : View Shar
 
   pub items_more : (ss : List ShardState) → old.items ≡ flat_map taken_outside ss → new.items ≡ flat_map taken_outside (ss ++ h.before ∷ [])
   items_more ss e = ap (λ (z : TakenState). z.items) h.did.taken ∙ ap (λ (l : List (SlotId × ℕ)). l ++ taken_outside h.before) e ∙ ap (λ (l : List (SlotId × ℕ)). flat_map taken_outside ss ++ l) (sym (nil_append (taken_outside h.before))) ∙ sym (flat_map-append taken_outside ss (h.before ∷ []))
+
+  pub small_more : All (λ q. q.1 ≤ 2 ^ 32) old.items → All (λ q. q.1 ≤ 2 ^ 32) new.items
+  small_more few =
+      let here : All (λ q. q.1 ≤ 2 ^ 32) (taken_outside h.before) = All-map (λ q. q.1 ≤ 2 ^ 32) (known_outside h.before) (taken_slots h.before) (All-map (λ q. q.1 ≤ 2 ^ 32) with_bytes h.before.warm h.told.stands.fits.sound.bytes) in
+      subst (All (λ q. q.1 ≤ 2 ^ 32)) (sym (ap (λ (z : TakenState). z.items) h.did.taken)) (All-append (λ q. q.1 ≤ 2 ^ 32) old.items (taken_outside h.before) few here)
 
   pub units_more : (first : View ShardState) → ((u : UnitName) → times u w.units ≡ times u v.units + times u (units_of_slots (taken_outside h.before))) → Gains (units_of_slots old.items) first v → Gains (units_of_slots new.items) first w
   units_more first came before u =

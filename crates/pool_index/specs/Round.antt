@@ -70,6 +70,10 @@ module _ {T : Type 0} where
     pub subtracted : w.subtracted ≡ v.subtracted
     pub portions : w.portions ≡ v.portions
 
+  -- the view has each unit as often as before
+  abbrev pub KeepsUnits : View T → View T → Type 0
+  KeepsUnits v w = (u : UnitName) → times u w.units ≡ times u v.units
+
   -- the view has these units more
   abbrev pub Gains : List UnitName → View T → View T → Type 0
   Gains us v w = (u : UnitName) → times u w.units ≡ times u v.units + times u us

@@ -3,7 +3,7 @@ ghost use Rattle.std.specs.Prelude.{◌≡◌, ◌+◌, ◌^◌, ◌<◌, ◌≤
 ghost use Rattle.pool_hall.specs.Seat.{view};
 ghost use Rattle.pool_index.specs.Shard.{resident_bytes, after_take_warm};
 ghost use Rattle.pool_index.specs.Freed.{IsSum, HasAll, all_unused, taken_outside, units_of_slots};
-ghost use Rattle.pool_index.specs.Round.{KeepsRest, Gains, Gives, KeepsCounts};
+ghost use Rattle.pool_index.specs.Round.{KeepsRest, KeepsUnits, Gains, Gives, KeepsCounts};
 ghost use Rattle.pool_index.specs.Allocator.{slot_count, FoundInTurn, IsIndexSeat};
 
 use crate::allocator::{IndexSeat, ModuleAffinityIndexAllocator};
@@ -51,6 +51,9 @@ impl ModuleAffinityIndexAllocator {
         requires seat { IsIndexSeat self.now seat.old }
         ensures seat { IsIndexSeat self.now seat.new }
         ensures counted { FoundInTurn self.now (λ s. s) (λ ss. IsSum ss result) (view seat.old) (view seat.new) }
+        ensures units { KeepsUnits (view seat.old) (view seat.new) }
+        ensures counts { KeepsCounts (view seat.old) (view seat.new) }
+        ensures rest { KeepsRest (view seat.old) (view seat.new) }
     {
         let mut sum = ShardCounts {
             warm: 0,
@@ -70,6 +73,9 @@ impl ModuleAffinityIndexAllocator {
         requires seat { IsIndexSeat self.now seat.old }
         ensures seat { IsIndexSeat self.now seat.new }
         ensures counted { FoundInTurn self.now (λ s. s) (λ ss. result ≡ all_unused ss) (view seat.old) (view seat.new) }
+        ensures units { KeepsUnits (view seat.old) (view seat.new) }
+        ensures counts { KeepsCounts (view seat.old) (view seat.new) }
+        ensures rest { KeepsRest (view seat.old) (view seat.new) }
     {
         self.counts(rt, seat).is_empty
     }
@@ -79,6 +85,9 @@ impl ModuleAffinityIndexAllocator {
         requires seat { IsIndexSeat self.now seat.old }
         ensures seat { IsIndexSeat self.now seat.new }
         ensures counted { FoundInTurn self.now (λ s. s) (λ ss. result ≡ sum_by (λ s. length s.warm) ss) (view seat.old) (view seat.new) }
+        ensures units { KeepsUnits (view seat.old) (view seat.new) }
+        ensures counts { KeepsCounts (view seat.old) (view seat.new) }
+        ensures rest { KeepsRest (view seat.old) (view seat.new) }
     {
         self.counts(rt, seat).warm
     }
@@ -88,6 +97,9 @@ impl ModuleAffinityIndexAllocator {
         requires seat { IsIndexSeat self.now seat.old }
         ensures seat { IsIndexSeat self.now seat.new }
         ensures counted { FoundInTurn self.now (λ s. s) (λ ss. result ≡ sum_by resident_bytes ss) (view seat.old) (view seat.new) }
+        ensures units { KeepsUnits (view seat.old) (view seat.new) }
+        ensures counts { KeepsCounts (view seat.old) (view seat.new) }
+        ensures rest { KeepsRest (view seat.old) (view seat.new) }
     {
         self.counts(rt, seat).bytes
     }
@@ -99,6 +111,7 @@ impl ModuleAffinityIndexAllocator {
         requires room { (call.old.taken.room ≡ slot_count self.now) × (call.old.local.room ≡ self.now.slots_per_shard) }
         ensures seat { IsIndexSeat self.now seat.new }
         ensures taken { FoundInTurn self.now after_take_warm (λ ss. call.new.taken.items ≡ flat_map taken_outside ss) (view seat.old) (view seat.new) }
+        ensures bytes { All (λ p. p.1 ≤ 2 ^ 32) call.new.taken.items }
         ensures units { Gains (units_of_slots call.new.taken.items) (view seat.old) (view seat.new) }
         ensures rest { KeepsRest (view seat.old) (view seat.new) }
     {
@@ -120,6 +133,7 @@ impl ModuleAffinityIndexAllocator {
         ensures seat { IsIndexSeat self.now seat.new }
         ensures err { OnErr result (view seat.new ≡ view seat.old) }
         ensures taken { IfOk result (λ t. FoundInTurn self.now after_take_warm (λ ss. t.items ≡ flat_map taken_outside ss) (view seat.old) (view seat.new)) }
+        ensures bytes { IfOk result (λ t. All (λ p. p.1 ≤ 2 ^ 32) t.items) }
         ensures units { IfOk result (λ t. Gains (units_of_slots t.items) (view seat.old) (view seat.new)) }
         ensures rest { KeepsRest (view seat.old) (view seat.new) }
     {

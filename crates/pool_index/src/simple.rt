@@ -8,7 +8,7 @@ ghost use Rattle.pool_hall.specs.Seat.{view};
 ghost use Rattle.pool_index.specs.Layout.{slots_per_shard};
 ghost use Rattle.pool_index.specs.Part.{full_answers, shard_meaning};
 ghost use Rattle.pool_index.specs.declared.probe.Probe.TheVariants as probe;
-ghost use Rattle.pool_index.specs.Round.{round_place, found_units, IsRound, KeepsRest, Gains, Gives, KeepsCounts, NoColdPick, OneColdPick, AllMissed, AllTopped};
+ghost use Rattle.pool_index.specs.Round.{round_place, found_units, IsRound, KeepsRest, KeepsUnits, Gains, Gives, KeepsCounts, NoColdPick, OneColdPick, AllMissed, AllTopped};
 ghost use Rattle.pool_index.specs.MadeShards.{made_shards};
 ghost use Rattle.pool_index.specs.Shard.{resident_bytes};
 ghost use Rattle.pool_index.specs.Freed.{HasAll, all_unused, units_of_slots};
@@ -94,6 +94,9 @@ impl SimpleIndexAllocator {
         requires seat { IsIndexSeat self.now.0 seat.old }
         ensures seat { IsIndexSeat self.now.0 seat.new }
         ensures counted { FoundInTurn self.now.0 (λ s. s) (λ ss. result ≡ all_unused ss) (view seat.old) (view seat.new) }
+        ensures units { KeepsUnits (view seat.old) (view seat.new) }
+        ensures counts { KeepsCounts (view seat.old) (view seat.new) }
+        ensures rest { KeepsRest (view seat.old) (view seat.new) }
     {
         self.0.is_empty(rt, seat)
     }
@@ -103,6 +106,9 @@ impl SimpleIndexAllocator {
         requires seat { IsIndexSeat self.now.0 seat.old }
         ensures seat { IsIndexSeat self.now.0 seat.new }
         ensures counted { FoundInTurn self.now.0 (λ s. s) (λ ss. result ≡ sum_by (λ s. length s.warm) ss) (view seat.old) (view seat.new) }
+        ensures units { KeepsUnits (view seat.old) (view seat.new) }
+        ensures counts { KeepsCounts (view seat.old) (view seat.new) }
+        ensures rest { KeepsRest (view seat.old) (view seat.new) }
     {
         self.0.unused_warm_slots(rt, seat)
     }
@@ -112,6 +118,9 @@ impl SimpleIndexAllocator {
         requires seat { IsIndexSeat self.now.0 seat.old }
         ensures seat { IsIndexSeat self.now.0 seat.new }
         ensures counted { FoundInTurn self.now.0 (λ s. s) (λ ss. result ≡ sum_by resident_bytes ss) (view seat.old) (view seat.new) }
+        ensures units { KeepsUnits (view seat.old) (view seat.new) }
+        ensures counts { KeepsCounts (view seat.old) (view seat.new) }
+        ensures rest { KeepsRest (view seat.old) (view seat.new) }
     {
         self.0.unused_bytes_resident(rt, seat)
     }

@@ -1,11 +1,11 @@
-use Rattle.std.proofs.Common.{◌≡◌, ℕ, ◌+◌, ◌++◌, ◌∷◌, [], length, sym, subst, arith}
+use Rattle.std.proofs.Common.{◌≡◌, ℕ, ◌+◌, ◌++◌, ◌∷◌, [], length, sym, ◌∙◌, subst, arith}
 use Rattle.std.specs.Prelude.{Some}
 use Rattle.pool_hall.specs.Seat.{view}
 use Rattle.pool_index.specs.Allocator.{made_of, limits_in}
 use Rattle.pool_index.specs.Part.{shard_meaning}
 use Rattle.pool_index.specs.Round.{HeldShard}
 use Rattle.pool_index.proofs.Allocating.{as_many}
-use Rattle.pool_index.proofs.Counted.{may_look, look_held, in_turn_more, so_far_more, so_far_fits}
+use Rattle.pool_index.proofs.Counted.{may_look, look_held, look_units, look_counts, look_rest, rest_both, in_turn_more, so_far_more, so_far_fits}
 use Rattle.pool_index.proofs.allocator.ModuleAffinityIndexAllocator.counts.Goals as goal
 
 pub hold-found-requires-clause-place : goal.hold-found-requires-clause-place
@@ -43,4 +43,7 @@ loop-place-preserved g c =
         in_turn_more made limits (λ s. s) 0 so.0 h.before (view c.args.seat.now) (view c.loop-place.seat) w so.1 held,
         so_far_more _ _ _ _ _ _ c.args.self.now.made c.loop-place.place (omega arith) (view c.loop-place.seat) h.before h.told so.0 c.loop-place.sum c.hold-found.result so.2 h.did.1 c.added-total.result sums.warm sums.bytes sums.none,
       );
+      units = λ u. look_units made limits c.loop-place.place c.hold-found.result (view c.loop-place.seat) w h u ∙ c.loop-place.invariant.units u;
+      counts = λ p i. look_counts made limits c.loop-place.place c.hold-found.result (view c.loop-place.seat) w h p i ∙ c.loop-place.invariant.counts p i;
+      rest = rest_both (view c.args.seat.now) (view c.loop-place.seat) w c.loop-place.invariant.rest (look_rest made limits c.loop-place.place c.hold-found.result (view c.loop-place.seat) w h);
     }

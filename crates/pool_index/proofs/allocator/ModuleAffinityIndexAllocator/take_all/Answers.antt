@@ -8,7 +8,7 @@ use Rattle.pool_index.specs.Shard.{after_take_warm}
 use Rattle.pool_index.specs.Taken.{TakenState}
 use Rattle.pool_index.proofs.Allocating.{as_many}
 use Rattle.pool_index.proofs.Counted.{in_turn_more}
-use Rattle.pool_index.proofs.WarmUnits.{can_take, may_take, took_units, more_taken, take_held, items_more, units_more, rest_more}
+use Rattle.pool_index.proofs.WarmUnits.{can_take, may_take, took_units, more_taken, take_held, items_more, small_more, units_more, rest_more}
 use Rattle.pool_index.proofs.allocator.ModuleAffinityIndexAllocator.take_all.Goals as goal
 
 pub hold-requires-clause-place : goal.hold-requires-clause-place
@@ -49,6 +49,7 @@ loop-place-preserved g c =
       one = ap (λ (z : TakenState). z.room) h.did.left ∙ had.one;
       all = ap (λ (z : TakenState). z.room) h.did.taken ∙ had.all;
       few = more_taken _ _ _ _ _ _ c.args.self.now.made p (omega arith) h.before v h.told h.after old.taken new.taken old.local new.local h.did had.few;
+      bytes = small_more made limits p v w old.taken new.taken old.local new.local h had.bytes;
       units = units_more made limits p v w old.taken new.taken old.local new.local h (view c.args.seat.now) (took_units _ _ _ _ _ _ c.args.self.now.made p (omega arith) h.before v h.told h.after old.taken new.taken old.local new.local h.did w h.view) had.units;
       rest = rest_more made limits p v w old.taken new.taken old.local new.local h (view c.args.seat.now) had.rest;
     }

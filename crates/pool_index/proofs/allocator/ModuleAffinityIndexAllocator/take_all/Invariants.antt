@@ -1,5 +1,5 @@
-use Rattle.std.proofs.Common.{◌≡◌, ℕ, ◌*◌, ◌≤◌, List, [], length, min}
-use Rattle.std.specs.Prelude.{Some, flat_map}
+use Rattle.std.proofs.Common.{◌≡◌, ℕ, ◌*◌, ◌^◌, ◌≤◌, List, [], length, min}
+use Rattle.std.specs.Prelude.{All, Some, flat_map}
 use Rattle.pool_hall.specs.Seat.{view}
 use Rattle.pool_index.specs.Allocator.{made_of, limits_in, IsIndexSeat}
 use Rattle.pool_index.specs.Freed.{taken_outside, units_of_slots}
@@ -17,6 +17,7 @@ invariant-loop-place g l = record {
   one : l.call.local.room ≡ l.self.slots_per_shard;
   all : l.call.taken.room ≡ l.self.capacity;
   few : length l.call.taken.items ≤ min l.self.capacity (l.place * l.self.slots_per_shard);
+  bytes : All (λ p. p.1 ≤ 2 ^ 32) l.call.taken.items;
   units : Gains (units_of_slots l.call.taken.items) (view l.initial.seat) (view l.seat);
   rest : KeepsRest (view l.initial.seat) (view l.seat);
 }
