@@ -1,5 +1,5 @@
 -- A slot that is clean once ranges are decommitted has no other page that is to be.
-use Rattle.std.proofs.Common.{◌≡◌, ℕ, ◌+◌, ◌-◌, ◌*◌, ◌/◌, ◌%◌, ◌<◌, ◌≤◌, true, List, [], ◌∷◌, length, sym, ap, ◌∙◌, subst, inl, inr, arith, slice_range, Option, None, Some}
+use Rattle.std.proofs.Common.{◌≡◌, ℕ, ◌+◌, ◌-◌, ◌*◌, ◌/◌, ◌%◌, ◌<◌, ◌≤◌, List, [], ◌∷◌, length, sym, ap, ◌∙◌, subst, inl, inr, arith, slice_range, Option, None, Some}
 use Rattle.std.specs.Prelude.{IfSome, All, option_map, ◌⊎◌}
 use Rattle.std.proofs.lemmas.Bool.{cases_lt}
 use Rattle.std.proofs.lemmas.List.Elements.{All-head, All-tail}
@@ -13,10 +13,8 @@ use Rattle.pool_images.specs.declared.ranges.ByteRange.{ByteRange}
 use Rattle.pool_images.specs.Slots.{Slot, IsSlot, IsSound, IsClean, IsPart, size_of, decommitted_all}
 use Rattle.pool_images.proofs.Marks.{page_lt}
 use Rattle.pool_images.proofs.Queued.{next, fits_next}
-use Rattle.pool_slots.specs.declared.queued_range.QueueKind.TheVariants.{Memory}
-use Rattle.pool_slots.specs.Queues.{QueueState, ranges_of, LeavesClean, IsQueue, IsInSome, IsCovered, ForgetsNothing}
+use Rattle.pool_slots.specs.SlotQueues.{IsInSome}
 use Rattle.pool_slots.proofs.Plans.{both_told}
-use Rattle.pool_slots.proofs.QueueLists.{each_weaker}
 
 -- parts of two ranges that are equal are equal
 same_part : (xs ys : List ℕ) (base n at len : ℕ) → base ≤ at → at + len ≤ base + n → slice_range xs base (base + n) ≡ slice_range ys base (base + n) → slice_range xs at (at + len) ≡ slice_range ys at (at + len)
@@ -103,8 +101,3 @@ covered_of (r ∷ rs) s fits parts clean =
     let rest : IfSome (option_map (decommitted (s.base.bytes + r.start) r.len) s.region.contents) Q = covered_of rs (next r s) (fits_next r s fits first) (All-tail P r rs parts) clean in
     both_told S (λ c. Q (decommitted (s.base.bytes + r.start) r.len c)) C s.region.contents (λ c sound there. first_covered s r rs c fits first sound there)
     fits.told (from_mapped (decommitted (s.base.bytes + r.start) r.len) Q s.region.contents rest)
-
-pub forgets_nothing : (q : QueueState) → IsQueue q → ForgetsNothing q
-forgets_nothing q is =
-    each_weaker (LeavesClean q.ranges) (λ m. m.known ≡ true → IsCovered q.ranges m) q.memories
-    (λ m c known. covered_of (ranges_of Memory m.index q.ranges) m.slot (c.fits known) c.parts (c.clean known)) is.each

@@ -1,130 +1,155 @@
--- A flush: the decommits of all ranges from the first on, up to the first that fails.
-use Rattle.std.proofs.Common.{◌≡◌, ℕ, zero, suc, ◌+◌, ◌<◌, Bool, true, false, List, [], ◌∷◌, ◌++◌, length, get_or, refl, sym, ap, ◌∙◌, subst, inl, inr, arith}
-use Rattle.std.specs.Prelude.{map, ◌==◌, not, slice_set}
-use Rattle.std.specs.List.{AllZip, HoldsAt}
-use Rattle.std.proofs.lemmas.Bool.{cases_Bool, eqb-true, ne_eqb, eqb-false, or_parts}
+-- A flush: the decommits of all runs of ranges from the first on, up to the first that fails, and the return of the slots.
+use Rattle.std.proofs.Common.{◌≡◌, ℕ, ◌+◌, ◌<◌, Bool, true, false, List, [], ◌∷◌, ◌++◌, length, refl, sym, ap, ◌∙◌, subst, inl, inr, arith}
+use Rattle.std.specs.Prelude.{map, filter, not}
+use Rattle.std.specs.List.{AllZip}
+use Rattle.std.proofs.lemmas.Bool.{cases_Bool}
 use Rattle.std.proofs.lemmas.List.{append-nil, append_assoc, map-append}
 use Rattle.pool_pages.specs.Count.{Count}
-use Rattle.pool_pages.specs.Told.{PageCall, decommitting}
+use Rattle.pool_pages.specs.Told.{Told, PageCall, decommitting}
 use Rattle.pool_images.specs.declared.ranges.ByteRange.{ByteRange}
 use Rattle.pool_images.specs.Orders.{Follows}
 use Rattle.pool_images.specs.Slots.{Slot, SlotIdentity, decommitted_all}
 use Rattle.pool_images.proofs.Ordering.{follows_then}
-use Rattle.pool_slots.specs.declared.queued_range.QueueKind.{QueueKind}
-use Rattle.pool_slots.specs.declared.queued_range.QueueKind.TheVariants.{Memory, Table, Stack}
 use Rattle.pool_slots.specs.declared.queued_range.QueuedRange.{QueuedRange}
-use Rattle.pool_slots.specs.Queues.{QueuedMemory, QueueState, is_of, ranges_of, holds, is_held, HasOwners, AreDistinct, IsQueue, change_at, decommitted_at, settle, settled, first_slot, forgotten, IsLeftItem}
-use Rattle.pool_slots.specs.QueueOrders.{decommits, first_of, FollowsAt, AreInOrder}
-use Rattle.pool_slots.specs.QueueSteps.{begins_with, after_first_of, after_first, FirstFailed}
-use Rattle.pool_slots.specs.Flushes.{FollowsOwn, AreDecommitted, HasFailed, IsLostAt, AreLost}
-use Rattle.pool_slots.proofs.QueueLists.{ranges_append, ranges_here, ranges_elsewhere, change_here, change_elsewhere, apart_of_unheld, AreOwned}
+use Rattle.pool_slots.specs.declared.slot_name.SlotName.{SlotName}
+use Rattle.pool_slots.specs.SlotQueues.{Queued, Queue, front, behind, same_slot, owner, is_of, ranges_of, HasOwners, change_at, first_slot, after_run_of, after_run, IsFaulted, IsLeftBy, IsSlotLeft, forgotten_slot, settle, settled}
+use Rattle.pool_slots.specs.SlotOrders.{decommits, run_of, FollowsAt, AreInOrder}
+use Rattle.pool_slots.specs.Flushes.{FollowsOwn, AreDecommitted, IsLostAt, AreLost, first_run}
 use Rattle.pool_slots.proofs.Resets.{decommits_append, decommits_same}
-use Rattle.pool_slots.proofs.QueueSteps.{of_memory, owners_first}
-use Rattle.pool_slots.proofs.QueueRuns.{of_slot, of_kind}
-use Rattle.pool_slots.proofs.QueueOrders.{follows_none}
-use Rattle.pool_slots.proofs.QueueFirst.{first_is}
+use Rattle.pool_slots.proofs.SlotFaults.{forgotten_region}
+use Rattle.pool_slots.proofs.SlotLists.{ranges_append, change_here, change_elsewhere, AreOwned}
+use Rattle.pool_slots.proofs.SlotNames.{slot_is, slot_self}
+use Rattle.pool_slots.proofs.SlotOrders.{follows_none}
 
-held_kind : (kind : QueueKind) (n : ℕ) (ms : List QueuedMemory) → is_held kind n ms ≡ true → kind ≡ Memory
-held_kind Memory n ms held = refl
-held_kind Table n ms held = absurd cc
-held_kind Stack n ms held = absurd cc
-
--- a slot's ranges and one range more, which is of it or isn't
-last_here : (done : List QueuedRange) (r : QueuedRange) (slot : ℕ) → is_of Memory slot r ≡ true → ranges_of Memory slot (done ++ r ∷ []) ≡ ranges_of Memory slot done ++ r.range ∷ []
-last_here done r slot of =
-    let mine : List ByteRange = ranges_of Memory slot done in
-    ranges_append Memory slot done (r ∷ []) ∙ ap (λ (l : List ByteRange). mine ++ l) (ranges_here slot r [] of)
-
-last_elsewhere : (done : List QueuedRange) (r : QueuedRange) (slot : ℕ) → is_of Memory slot r ≡ false → ranges_of Memory slot (done ++ r ∷ []) ≡ ranges_of Memory slot done
-last_elsewhere done r slot other =
-    let mine : List ByteRange = ranges_of Memory slot done in
-    ranges_append Memory slot done (r ∷ []) ∙ ap (λ (l : List ByteRange). mine ++ l) (ranges_elsewhere slot r [] other) ∙ append-nil mine
-
--- one range more is decommitted
-settle_last : (done : List QueuedRange) (r : QueuedRange) (m : QueuedMemory) → r.kind ≡ Memory → change_at r.slot.0 (decommitted_at r.range) (settle done m) ≡ settle (done ++ r ∷ []) m
-settle_last done r m kind =
-    let mine : List ByteRange = ranges_of Memory m.index done in
-    elim (cases_Bool (r.slot.0 == m.index)) [
-      | inl e ↦
-          change_here r.slot.0 (decommitted_at r.range) (settle done m) e
-          ∙ ap (λ (s : Slot). record m { slot = s }) (sym (decommits_append mine (r.range ∷ []) m.slot))
-          ∙ ap (λ (l : List ByteRange). record m { slot = decommitted_all l m.slot }) (sym (last_here done r m.index (of_memory m.index r kind ∙ e)))
-      | inr e ↦
-          change_elsewhere r.slot.0 (decommitted_at r.range) (settle done m) e
-          ∙ ap (λ (l : List ByteRange). record m { slot = decommitted_all l m.slot }) (sym (last_elsewhere done r m.index (of_memory m.index r kind ∙ e)))
+-- the front of a list, and the rest
+front_split : {X : Type 0} (p : X → Bool) (xs : List X) → front p xs ++ behind p xs ≡ xs
+front_split p [] = refl
+front_split p (x ∷ xs) =
+    elim (cases_Bool (p x)) [
+      | inl e ↦ rw e (ap (λ l. x ∷ l) (front_split p xs))
+      | inr e ↦ rw e refl
     ]
 
-settle_lasts : (done : List QueuedRange) (r : QueuedRange) (ms : List QueuedMemory) → r.kind ≡ Memory → map (change_at r.slot.0 (decommitted_at r.range)) (map (settle done) ms) ≡ map (settle (done ++ r ∷ [])) ms
-settle_lasts done r [] kind = refl
-settle_lasts done r (m ∷ ms) kind = rw (settle_last done r m kind, settle_lasts done r ms kind) refl
+filter_front : {X : Type 0} (p : X → Bool) (xs : List X) → filter p (front p xs) ≡ front p xs
+filter_front p [] = refl
+filter_front p (x ∷ xs) =
+    elim (cases_Bool (p x)) [
+      | inl e ↦ rw (e, e) (ap (λ l. x ∷ l) (filter_front p xs))
+      | inr e ↦ rw e refl
+    ]
+
+filter_other : {X : Type 0} (p q : X → Bool) (xs : List X) → ((x : X) → p x ≡ true → q x ≡ false) → filter q (front p xs) ≡ []
+filter_other p q [] apart = refl
+filter_other p q (x ∷ xs) apart =
+    elim (cases_Bool (p x)) [
+      | inl e ↦ rw (e, apart x e) (filter_other p q xs apart)
+      | inr e ↦ rw e refl
+    ]
+
+-- which ranges of a run are of a slot: all or none
+run_here : (k slot : SlotName) (rs : List QueuedRange) → same_slot k slot ≡ true → ranges_of slot (front (is_of k) rs) ≡ run_of k rs
+run_here k slot rs e =
+    let f : QueuedRange → ByteRange = λ r. r.range in
+    let F : SlotName → Type 0 = λ n. ranges_of n (front (is_of k) rs) ≡ run_of k rs in
+    subst F (slot_is k slot e) (ap (map f) (filter_front (is_of k) rs))
+
+run_elsewhere : (k slot : SlotName) (rs : List QueuedRange) → same_slot k slot ≡ false → ranges_of slot (front (is_of k) rs) ≡ []
+run_elsewhere k slot rs e =
+    let f : QueuedRange → ByteRange = λ r. r.range in
+    ap (map f) (filter_other (is_of k) (is_of slot) rs (λ r of. ap (λ (n : SlotName). same_slot n slot) (slot_is (owner r) k of) ∙ e))
+
+-- one run more is decommitted
+settle_run : (k : SlotName) (done rs : List QueuedRange) (m : Queued) → change_at k (decommitted_all (run_of k rs)) (settle done m) ≡ settle (done ++ front (is_of k) rs) m
+settle_run k done rs m =
+    let run : List QueuedRange = front (is_of k) rs in
+    let mine : List ByteRange = ranges_of m.name done in
+    let all : ranges_of m.name (done ++ run) ≡ mine ++ ranges_of m.name run = ranges_append m.name done run in
+    let S : List ByteRange → Queued = λ l. record m { slot = decommitted_all l m.slot } in
+    elim (cases_Bool (same_slot k m.name)) [
+      | inl e ↦
+          change_here k (decommitted_all (run_of k rs)) (settle done m) e
+          ∙ ap (λ (s : Slot). record m { slot = s }) (sym (decommits_append mine (run_of k rs) m.slot))
+          ∙ ap S (sym (all ∙ ap (λ (l : List ByteRange). mine ++ l) (run_here k m.name rs e)))
+      | inr e ↦
+          change_elsewhere k (decommitted_all (run_of k rs)) (settle done m) e
+          ∙ ap S (sym (all ∙ ap (λ (l : List ByteRange). mine ++ l) (run_elsewhere k m.name rs e) ∙ append-nil mine))
+    ]
+
+settle_runs : (k : SlotName) (done rs : List QueuedRange) (ms : List Queued) → map (change_at k (decommitted_all (run_of k rs))) (map (settle done) ms) ≡ map (settle (done ++ front (is_of k) rs)) ms
+settle_runs k done rs [] = refl
+settle_runs k done rs (m ∷ ms) = rw (settle_run k done rs m, settle_runs k done rs ms) refl
 
 -- the calls of a slot's ranges, and then those of further ones
-follows_more : (done more : List QueuedRange) (ok : Bool) (m p : QueuedMemory) → FollowsOwn done true m (settle done m) → FollowsOwn more ok (settle done m) p → FollowsOwn (done ++ more) ok m p
+follows_more : (done more : List QueuedRange) (ok : Bool) (m p : Queued) → FollowsOwn done true m (settle done m) → FollowsOwn more ok (settle done m) p → FollowsOwn (done ++ more) ok m p
 follows_more done more ok m p first rest =
-    let f : QueuedRange → ByteRange = λ r. r.range in
-    let n : QueuedMemory = settle done m in
-    let mine : List ByteRange = ranges_of Memory m.index done in
-    let further : List ByteRange = ranges_of Memory m.index more in
+    let n : Queued = settle done m in
+    let mine : List ByteRange = ranges_of m.name done in
+    let further : List ByteRange = ranges_of m.name more in
     let same = (decommits_same mine m.slot).same in
     let start : ℕ = m.slot.base.bytes in
     let call : ByteRange → PageCall = λ r. decommitting (start + r.start) r.len in
     let F : Count → Type 0 = λ b. Follows (decommits b.bytes further) ok n.slot.region p.slot.region in
     let G : List PageCall → Type 0 = λ l. Follows l ok m.slot.region p.slot.region in
-    let all : decommits start (ranges_of Memory m.index (done ++ more)) ≡ decommits start mine ++ decommits start further =
-    ap (decommits start) (ranges_append Memory m.index done more) ∙ map-append call mine further in
+    let all : decommits start (ranges_of m.name (done ++ more)) ≡ decommits start mine ++ decommits start further =
+    ap (decommits start) (ranges_append m.name done more) ∙ map-append call mine further in
     subst G (sym all) (follows_then (decommits start mine) (decommits start further) ok m.slot.region n.slot.region p.slot.region (ap (λ (i : SlotIdentity). i.plan) same) first (subst F (ap (λ (i : SlotIdentity). i.base) same) rest))
 
--- one range is decommitted on its slot, and on no other
-one_follows : (r : QueuedRange) (n : QueuedMemory) → r.kind ≡ Memory → FollowsAt r.slot.0 (r.range ∷ []) true n (change_at r.slot.0 (decommitted_at r.range) n) → FollowsOwn (r ∷ []) true n (change_at r.slot.0 (decommitted_at r.range) n)
-one_follows r n kind at =
-    let p : QueuedMemory = change_at r.slot.0 (decommitted_at r.range) n in
-    elim (cases_Bool (r.slot.0 == n.index)) [
-      | inl e ↦
-          let C : List ByteRange → Type 0 = λ l. Follows (decommits n.slot.base.bytes l) true n.slot.region p.slot.region in
-          subst C (sym (ranges_here n.index r [] (of_memory n.index r kind ∙ e))) (at (sym (eqb-true r.slot.0 n.index e)))
-      | inr e ↦
-          let C : List ByteRange → Type 0 = λ l. Follows (decommits n.slot.base.bytes l) true n.slot.region n.slot.region in
-          let D : QueuedMemory → Type 0 = λ x. FollowsOwn (r ∷ []) true n x in
-          subst D (sym (change_elsewhere r.slot.0 (decommitted_at r.range) n e))
-          (subst C (sym (ranges_elsewhere n.index r [] (of_memory n.index r kind ∙ e))) (follows_none n.slot.region))
+-- the calls of a run are on its slot, and on no other
+run_follows : (k : SlotName) (rs : List QueuedRange) (ok : Bool) (n p : Queued) → same_slot k n.name ≡ true → FollowsAt k (run_of k rs) ok n p → FollowsOwn (front (is_of k) rs) ok n p
+run_follows k rs ok n p e at =
+    let C : List ByteRange → Type 0 = λ l. Follows (decommits n.slot.base.bytes l) ok n.slot.region p.slot.region in
+    subst C (sym (run_here k n.name rs e)) (at (sym (slot_is k n.name e)))
+
+other_follows : (k : SlotName) (rs : List QueuedRange) (n p : Queued) → same_slot k n.name ≡ false → p.slot.region ≡ n.slot.region → FollowsOwn (front (is_of k) rs) true n p
+other_follows k rs n p e same =
+    let C : List ByteRange → Type 0 = λ l. Follows (decommits n.slot.base.bytes l) true n.slot.region p.slot.region in
+    let D : Told → Type 0 = λ t. Follows [] true n.slot.region t in
+    subst C (sym (run_elsewhere k n.name rs e)) (subst D (sym same) (follows_none n.slot.region))
+
+one_follows : (k : SlotName) (rs : List QueuedRange) (n : Queued) → FollowsAt k (run_of k rs) true n (change_at k (decommitted_all (run_of k rs)) n) → FollowsOwn (front (is_of k) rs) true n (change_at k (decommitted_all (run_of k rs)) n)
+one_follows k rs n at =
+    let p : Queued = change_at k (decommitted_all (run_of k rs)) n in
+    elim (cases_Bool (same_slot k n.name)) [
+      | inl e ↦ run_follows k rs true n p e at
+      | inr e ↦ other_follows k rs n p e (ap (λ (x : Queued). x.slot.region) (change_elsewhere k (decommitted_all (run_of k rs)) n e))
     ]
 
-follows_next : (done : List QueuedRange) (r : QueuedRange) (ms : List QueuedMemory) → r.kind ≡ Memory → AllZip (FollowsOwn done true) ms (map (settle done) ms) → AreInOrder r.slot.0 (r.range ∷ []) true (map (settle done) ms) (map (change_at r.slot.0 (decommitted_at r.range)) (map (settle done) ms)) → AllZip (FollowsOwn (done ++ r ∷ []) true) ms (map (settle (done ++ r ∷ [])) ms)
-follows_next done r [] kind before now = tt
-follows_next done r (m ∷ ms) kind before now =
-    let n : QueuedMemory = settle done m in
-    let p : QueuedMemory = change_at r.slot.0 (decommitted_at r.range) n in
-    let S : QueuedMemory → Type 0 = λ x. FollowsOwn (done ++ r ∷ []) true m x in
-    (subst S (settle_last done r m kind) (follows_more done (r ∷ []) true m p before.0 (one_follows r n kind now.0)), follows_next done r ms kind before.1 now.1)
+follows_next : (k : SlotName) (done rs : List QueuedRange) (ms : List Queued) → AllZip (FollowsOwn done true) ms (map (settle done) ms) → AreInOrder k (run_of k rs) true (map (settle done) ms) (map (change_at k (decommitted_all (run_of k rs))) (map (settle done) ms)) → AllZip (FollowsOwn (done ++ front (is_of k) rs) true) ms (map (settle (done ++ front (is_of k) rs)) ms)
+follows_next k done rs [] before now = tt
+follows_next k done rs (m ∷ ms) before now =
+    let n : Queued = settle done m in
+    let p : Queued = change_at k (decommitted_all (run_of k rs)) n in
+    let S : Queued → Type 0 = λ x. FollowsOwn (done ++ front (is_of k) rs) true m x in
+    (subst S (settle_run k done rs m) (follows_more done (front (is_of k) rs) true m p before.0 (one_follows k rs n now.0)), follows_next k done rs ms before.1 now.1)
 
 -- nothing was done yet
-nothing_follows : (ms : List QueuedMemory) → AllZip (FollowsOwn [] true) ms (map (settle []) ms)
+nothing_follows : (ms : List Queued) → AllZip (FollowsOwn [] true) ms (map (settle []) ms)
 nothing_follows [] = tt
 nothing_follows (m ∷ ms) = (follows_none m.slot.region, nothing_follows ms)
 
-nothing_done : (ms : List QueuedMemory) → map (settle []) ms ≡ ms
+nothing_done : (ms : List Queued) → map (settle []) ms ≡ ms
 nothing_done [] = refl
-nothing_done (m ∷ ms) = ap (λ (l : List QueuedMemory). m ∷ l) (nothing_done ms)
+nothing_done (m ∷ ms) = ap (λ (l : List Queued). m ∷ l) (nothing_done ms)
 
 -- A flush under way: the ranges so far were decommitted, and the others are left.
-pub record IsFlushing (old now : QueueState) : Type 0 where
+pub record IsFlushing (old now : Queue) : Type 0 where
   pub done : List QueuedRange
   pub split : old.ranges ≡ done ++ now.ranges
-  pub memories : now.memories ≡ map (settle done) old.memories
-  pub order : AllZip (FollowsOwn done true) old.memories (map (settle done) old.memories)
+  pub slots : now.slots ≡ map (settle done) old.slots
+  pub order : AllZip (FollowsOwn done true) old.slots (map (settle done) old.slots)
   pub owned : HasOwners now
   pub range_room : now.range_room ≡ old.range_room
   pub slot_room : now.slot_room ≡ old.slot_room
   pub takes : now.takes ≡ old.takes
   pub appended : now.appended ≡ old.appended
 
-pub flush_begins : (q : QueueState) → HasOwners q → IsFlushing q q
+pub flush_begins : (q : Queue) → HasOwners q → IsFlushing q q
 flush_begins q owned =
     record {
       done = [];
       split = refl;
-      memories = sym (nothing_done q.memories);
-      order = nothing_follows q.memories;
+      slots = sym (nothing_done q.slots);
+      order = nothing_follows q.slots;
       owned = owned;
       range_room = refl;
       slot_room = refl;
@@ -132,135 +157,104 @@ flush_begins q owned =
       appended = refl;
     }
 
-step_of : (old now : QueueState) (ranges : List QueuedRange) → now.ranges ≡ ranges → IsFlushing old now → 0 < length ranges → AreInOrder (first_slot ranges) (first_of ranges) true now.memories (after_first_of ranges now).memories → IsFlushing old (after_first_of ranges now)
-step_of old now [] e flushing some order = absurd (omega arith)
-step_of old now (r ∷ rs) e flushing some order =
+step_of : (k : SlotName) (old now : Queue) → IsFlushing old now → HasOwners (after_run_of k now) → AreInOrder k (run_of k now.ranges) true now.slots (after_run_of k now).slots → IsFlushing old (after_run_of k now)
+step_of k old now flushing owned order =
     let done : List QueuedRange = flushing.done in
-    let change : QueuedMemory → QueuedMemory = change_at r.slot.0 (decommitted_at r.range) in
-    let H : List QueuedRange → Type 0 = λ l. AreOwned l now.memories in
-    let owned : AreOwned (r ∷ rs) now.memories = subst H e flushing.owned in
-    let kind : r.kind ≡ Memory = held_kind r.kind r.slot.0 now.memories owned.0 in
-    let O : List QueuedMemory → Type 0 = λ ms. AreInOrder r.slot.0 (r.range ∷ []) true ms (map change ms) in
+    let run : List QueuedRange = front (is_of k) now.ranges in
+    let rest : List QueuedRange = behind (is_of k) now.ranges in
+    let change : Queued → Queued = change_at k (decommitted_all (run_of k now.ranges)) in
+    let O : List Queued → Type 0 = λ ms. AreInOrder k (run_of k now.ranges) true ms (map change ms) in
     record {
-      done = done ++ r ∷ [];
-      split = flushing.split ∙ ap (λ (l : List QueuedRange). done ++ l) e ∙ sym (append_assoc done (r ∷ []) rs);
-      memories = ap (map change) flushing.memories ∙ settle_lasts done r old.memories kind;
-      order = follows_next done r old.memories kind flushing.order (subst O flushing.memories order);
-      owned = owners_first r rs now owned;
+      done = done ++ run;
+      split = flushing.split ∙ ap (λ (l : List QueuedRange). done ++ l) (sym (front_split (is_of k) now.ranges)) ∙ sym (append_assoc done run rest);
+      slots = ap (map change) flushing.slots ∙ settle_runs k done now.ranges old.slots;
+      order = follows_next k done now.ranges old.slots flushing.order (subst O flushing.slots order);
+      owned = owned;
       range_room = flushing.range_room;
       slot_room = flushing.slot_room;
       takes = flushing.takes;
       appended = flushing.appended;
     }
 
-pub flush_step : (old now new : QueueState) → IsFlushing old now → 0 < length now.ranges → new ≡ after_first now → AreInOrder (first_slot now.ranges) (first_of now.ranges) true now.memories new.memories → IsFlushing old new
-flush_step old now new flushing some is order =
-    let F : QueueState → Type 0 = λ q. IsFlushing old q in
-    let O : QueueState → Type 0 = λ q. AreInOrder (first_slot now.ranges) (first_of now.ranges) true now.memories q.memories in
-    subst F (sym is) (step_of old now now.ranges refl flushing some (subst O is order))
+pub flush_step : (old now new : Queue) → IsFlushing old now → new ≡ after_run now → HasOwners new → AreInOrder (first_slot now.ranges) (run_of (first_slot now.ranges) now.ranges) true now.slots new.slots → IsFlushing old new
+flush_step old now new flushing is owned order =
+    let k : SlotName = first_slot now.ranges in
+    let F : Queue → Type 0 = λ q. IsFlushing old q in
+    let H : Queue → Type 0 = λ q. HasOwners q in
+    let O : Queue → Type 0 = λ q. AreInOrder k (run_of k now.ranges) true now.slots q.slots in
+    subst F (sym is) (step_of k old now flushing (subst H is owned) (subst O is order))
 
-smaller_of : (ranges : List QueuedRange) (q : QueueState) → 0 < length ranges → length (after_first_of ranges q).ranges < length ranges
-smaller_of [] q some = absurd (omega arith)
-smaller_of (r ∷ rs) q some = omega arith
+behind_fewer : {X : Type 0} (p : X → Bool) (xs : List X) → length (behind p xs) < length xs + 1
+behind_fewer p [] = omega arith
+behind_fewer p (x ∷ xs) =
+    let r = behind_fewer p xs in
+    elim (cases_Bool (p x)) [
+      | inl e ↦ rw e (omega (arith, r))
+      | inr e ↦ rw e (omega arith)
+    ]
 
-pub flush_smaller : (now new : QueueState) → 0 < length now.ranges → new ≡ after_first now → length new.ranges < length now.ranges
-flush_smaller now new some is = rw is (smaller_of now.ranges now some)
+smaller_of : (ranges : List QueuedRange) → 0 < length ranges → length (behind (is_of (first_slot ranges)) ranges) < length ranges
+smaller_of [] some = absurd (omega arith)
+smaller_of (r ∷ rs) some =
+    let fewer = behind_fewer (is_of (owner r)) rs in
+    rw (slot_self (owner r)) (omega (arith, fewer))
+
+pub flush_smaller : (now new : Queue) → 0 < length now.ranges → new ≡ after_run now → length new.ranges < length now.ranges
+flush_smaller now new some is = rw is (smaller_of now.ranges some)
 
 -- all ranges were decommitted
-pub flush_over : (old now : QueueState) → IsFlushing old now → now.ranges ≡ [] → AreDecommitted old now.memories
+pub flush_over : (old now : Queue) → IsFlushing old now → now.ranges ≡ [] → AreDecommitted old now.slots
 flush_over old now flushing none =
     let all : flushing.done ≡ old.ranges = sym (flushing.split ∙ ap (λ (l : List QueuedRange). flushing.done ++ l) none ∙ append-nil flushing.done) in
-    let slots : now.memories ≡ settled old = flushing.memories ∙ ap (λ (l : List QueuedRange). map (settle l) old.memories) all in
-    let D : List QueuedRange → Type 0 = λ l. AllZip (FollowsOwn l true) old.memories (map (settle l) old.memories) in
-    let E : List QueuedMemory → Type 0 = λ l. AllZip (FollowsOwn old.ranges true) old.memories l in
+    let slots : now.slots ≡ settled old = flushing.slots ∙ ap (λ (l : List QueuedRange). map (settle l) old.slots) all in
+    let D : List QueuedRange → Type 0 = λ l. AllZip (FollowsOwn l true) old.slots (map (settle l) old.slots) in
+    let E : List Queued → Type 0 = λ l. AllZip (FollowsOwn old.ranges true) old.slots l in
     record { slots = slots; order = subst E (sym slots) (subst D all flushing.order) }
 
--- one failed
-lost_after : (done : List QueuedRange) (r : QueuedRange) (ms ps : List QueuedMemory) → AllZip (FollowsOwn done true) ms (map (settle done) ms) → AllZip (IsLostAt [] r) (map (settle done) ms) ps → AllZip (IsLostAt done r) ms ps
-lost_after done r [] [] before lost = tt
-lost_after done r [] (p ∷ ps) before lost = absurd lost
-lost_after done r (m ∷ ms) [] before lost = absurd lost
-lost_after done r (m ∷ ms) (p ∷ ps) before lost =
-    let here : IsLostAt done r m p =
-    record {
-      index = lost.0.index;
-      slot = lost.0.slot;
-      order = follows_more done (r ∷ []) (not (is_of Memory m.index r)) m p before.0 lost.0.order;
-      known = lost.0.known;
-      bytes = lost.0.bytes;
-    } in
-    (here, lost_after done r ms ps before.1 lost.1)
+drained_of : (old now : Queue) → now.ranges ≡ [] → now.range_room ≡ old.range_room → now.slot_room ≡ old.slot_room → now.takes ≡ old.takes → now.appended ≡ old.appended → now ≡ record old { ranges = []; slots = now.slots }
+drained_of old now none ranges slots takes appended =
+    λ i. record { ranges = none i; slots = now.slots; range_room = ranges i; slot_room = slots i; takes = takes i; appended = appended i }
 
-lost_of : (old now : QueueState) (ranges : List QueuedRange) (items : List QueuedMemory) → now.ranges ≡ ranges → IsFlushing old now → FirstFailed ranges now.memories items → AreLost old items
-lost_of old now [] items e flushing failed = absurd failed
-lost_of old now (r ∷ rs) items e flushing failed =
-    let L : List QueuedMemory → Type 0 = λ ms. AllZip (IsLostAt [] r) ms items in
+pub flush_same : (old now : Queue) → IsFlushing old now → now.ranges ≡ [] → now ≡ record old { ranges = []; slots = now.slots }
+flush_same old now flushing none = drained_of old now none flushing.range_room flushing.slot_room flushing.takes flushing.appended
+
+pub fault_same : (old now new : Queue) → IsFlushing old now → IsFaulted now new → new ≡ record old { ranges = []; slots = new.slots }
+fault_same old now new flushing fault = drained_of old new fault.ranges (fault.range_room ∙ flushing.range_room) (fault.slot_room ∙ flushing.slot_room) (fault.takes ∙ flushing.takes) (fault.appended ∙ flushing.appended)
+
+-- one failed
+lost_follows : (k : SlotName) (b : Bool) (rs : List QueuedRange) (n p : Queued) → same_slot k n.name ≡ b → IsLeftBy k n p → FollowsAt k (run_of k rs) false n p → FollowsOwn (front (is_of k) rs) (not b) n p
+lost_follows k true rs n p e left at = run_follows k rs false n p e at
+lost_follows k false rs n p e left at =
+    let B : Bool → Type 0 = λ b. IsSlotLeft b (forgotten_slot n.name.kind n.slot) p.slot in
+    let same : p.slot ≡ forgotten_slot n.name.kind n.slot = subst B e left.slot in
+    other_follows k rs n p e (ap (λ (s : Slot). s.region) same ∙ forgotten_region n.name.kind n.slot)
+
+lost_after : (done rs : List QueuedRange) (ms ps : List Queued) → AllZip (FollowsOwn done true) ms (map (settle done) ms) → AllZip (IsLeftBy (first_slot rs)) (map (settle done) ms) ps → AreInOrder (first_slot rs) (run_of (first_slot rs) rs) false (map (settle done) ms) ps → AllZip (IsLostAt done rs) ms ps
+lost_after done rs [] [] before left order = tt
+lost_after done rs [] (p ∷ ps) before left order = absurd left
+lost_after done rs (m ∷ ms) [] before left order = absurd left
+lost_after done rs (m ∷ ms) (p ∷ ps) before left order =
+    let k : SlotName = first_slot rs in
+    let here : IsLostAt done rs m p =
+    record {
+      left = left.0;
+      order = follows_more done (first_run rs) (not (same_slot k m.name)) m p before.0 (lost_follows k (same_slot k m.name) rs (settle done m) p refl left.0 order.0);
+    } in
+    (here, lost_after done rs ms ps before.1 left.1 order.1)
+
+pub flush_failed : (old now new : Queue) → IsFlushing old now → 0 < length now.ranges → IsFaulted now new → AreInOrder (first_slot now.ranges) (run_of (first_slot now.ranges) now.ranges) false now.slots new.slots → AreLost old new.slots
+flush_failed old now new flushing some fault order =
+    let k : SlotName = first_slot now.ranges in
+    let L : List Queued → Type 0 = λ ms. AllZip (IsLeftBy k) ms new.slots in
+    let O : List Queued → Type 0 = λ ms. AreInOrder k (run_of k now.ranges) false ms new.slots in
     record {
       done = flushing.done;
-      failed = r;
-      untried = rs;
-      split = flushing.split ∙ ap (λ (l : List QueuedRange). flushing.done ++ l) e;
-      slots = lost_after flushing.done r old.memories items flushing.order (subst L flushing.memories failed);
+      others = now.ranges;
+      split = flushing.split;
+      some = some;
+      slots = lost_after flushing.done now.ranges old.slots new.slots flushing.order (subst L flushing.slots fault.slots) (subst O flushing.slots order);
     }
 
-pub flush_failed : (old now new : QueueState) → IsFlushing old now → FirstFailed now.ranges now.memories new.memories → AreLost old new.memories
-flush_failed old now new flushing failed = lost_of old now now.ranges new.memories refl flushing failed
-
--- The decommit of the first range fails at the place of its slot, and nothing is known of any slot.
-lost_here : (r : QueuedRange) (m n : QueuedMemory) → is_of Memory m.index r ≡ true → IsLeftItem r.range m n → Follows (decommits m.slot.base.bytes (r.range ∷ [])) false m.slot.region n.slot.region → IsLostAt [] r m (forgotten n)
-lost_here r m n of left follows =
-    let B : Bool → Type 0 = λ b. HasFailed b r.range m.slot n.slot in
-    let C : Bool → Type 0 = λ b. Follows (decommits m.slot.base.bytes (r.range ∷ [])) (not b) m.slot.region n.slot.region in
-    let D : List ByteRange → Type 0 = λ l. Follows (decommits m.slot.base.bytes l) (not (is_of Memory m.index r)) m.slot.region n.slot.region in
-    record {
-      index = left.index;
-      slot = subst B (sym of) left.call;
-      order = subst D (sym (ranges_here m.index r [] of)) (subst C (sym of) follows);
-      known = refl;
-      bytes = left.bytes;
-    }
-
-lost_other : (r : QueuedRange) (m : QueuedMemory) → is_of Memory m.index r ≡ false → IsLostAt [] r m (forgotten m)
-lost_other r m other =
-    let B : Bool → Type 0 = λ b. HasFailed b r.range m.slot m.slot in
-    let C : Bool → Type 0 = λ b. Follows (decommits m.slot.base.bytes []) (not b) m.slot.region m.slot.region in
-    let D : List ByteRange → Type 0 = λ l. Follows (decommits m.slot.base.bytes l) (not (is_of Memory m.index r)) m.slot.region m.slot.region in
-    record {
-      index = refl;
-      slot = subst B (sym other) refl;
-      order = subst D (sym (ranges_elsewhere m.index r [] other)) (subst C (sym other) (follows_none m.slot.region));
-      known = refl;
-      bytes = refl;
-    }
-
-lost_rest : (r : QueuedRange) (ms : List QueuedMemory) → r.kind ≡ Memory → holds r.slot.0 ms ≡ false → AllZip (IsLostAt [] r) ms (map forgotten ms)
-lost_rest r [] kind free = tt
-lost_rest r (m ∷ ms) kind free =
-    let parts = or_parts (r.slot.0 == m.index) (holds r.slot.0 ms) free in
-    (lost_other r m (of_memory m.index r kind ∙ parts.0), lost_rest r ms kind parts.1)
-
-lost_at : (r : QueuedRange) (ms : List QueuedMemory) (i : ℕ) (d n : QueuedMemory) → r.kind ≡ Memory → i < length ms → AreDistinct ms → is_of Memory (get_or ms i d).index r ≡ true → IsLeftItem r.range (get_or ms i d) n → Follows (decommits (get_or ms i d).slot.base.bytes (r.range ∷ [])) false (get_or ms i d).slot.region (get_or (slice_set ms i n) i d).slot.region → AllZip (IsLostAt [] r) ms (map forgotten (slice_set ms i n))
-lost_at r [] i d n kind inside distinct of left follows = absurd (omega arith)
-lost_at r (m ∷ ms) zero d n kind inside distinct of left follows =
-    let H : ℕ → Type 0 = λ x. holds x ms ≡ false in
-    (lost_here r m n of left follows, lost_rest r ms kind (subst H (sym (of_slot m.index r of)) distinct.0))
-lost_at r (m ∷ ms) (suc i) d n kind inside distinct of left follows =
-    let under : i < length ms = omega arith in
-    let apart : (m.index == r.slot.0) ≡ false = ap (λ (x : ℕ). m.index == x) (of_slot (get_or ms i d).index r of) ∙ apart_of_unheld m.index ms i d under distinct.0 in
-    let other : (r.slot.0 == m.index) ≡ false = ne_eqb r.slot.0 m.index (λ same. eqb-false m.index r.slot.0 apart (sym same)) in
-    (lost_other r m (of_memory m.index r kind ∙ other), lost_at r ms i d n kind under distinct.1 of left follows)
-
-lost_set : (ms : List QueuedMemory) (r : QueuedRange) (i : ℕ) (new : List QueuedMemory) → i < length ms → AreDistinct ms → HoldsAt (λ m. is_of Memory m.index r ≡ true) ms i → ((d : QueuedMemory) → (n : QueuedMemory) × IsLeftItem r.range (get_or ms i d) n × (new ≡ slice_set ms i n)) → HoldsAt (λ m. HoldsAt (λ n. Follows (decommits m.slot.base.bytes (r.range ∷ [])) false m.slot.region n.slot.region) new i) ms i → AllZip (IsLostAt [] r) ms (map forgotten new)
-lost_set [] r i new inside distinct of left follows = absurd (omega arith)
-lost_set (m ∷ ms) r i new inside distinct of left follows =
-    let all : List QueuedMemory = m ∷ ms in
-    let here : QueuedMemory = get_or all i m in
-    let w = left m in
-    let F : List QueuedMemory → Type 0 = λ l. Follows (decommits here.slot.base.bytes (r.range ∷ [])) false here.slot.region (get_or l i m).slot.region in
-    let Z : List QueuedMemory → Type 0 = λ l. AllZip (IsLostAt [] r) all (map forgotten l) in
-    subst Z (sym w.2) (lost_at r all i m w.0 (of_kind here.index r (of m)) inside distinct (of m) w.1 (subst F w.2 (follows m m)))
-
-pub first_lost : (q : QueueState) (r : QueuedRange) (rs : List QueuedRange) (i : ℕ) (new : List QueuedMemory) → IsQueue q → q.ranges ≡ r ∷ rs → i < length q.memories → HoldsAt (λ m. begins_with m.index q.ranges ≡ true) q.memories i → ((d : QueuedMemory) → (n : QueuedMemory) × IsLeftItem r.range (get_or q.memories i d) n × (new ≡ slice_set q.memories i n)) → HoldsAt (λ m. HoldsAt (λ n. Follows (decommits m.slot.base.bytes (r.range ∷ [])) false m.slot.region n.slot.region) new i) q.memories i → FirstFailed q.ranges q.memories (map forgotten new)
-first_lost q r rs i new is e inside begins left follows =
-    let F : List QueuedRange → Type 0 = λ l. FirstFailed l q.memories (map forgotten new) in
-    subst F (sym e) (lost_set q.memories r i new inside is.distinct (λ d. first_is q.ranges r rs (get_or q.memories i d).index e (begins d)) left follows)
+pub no_ranges : (ranges : List QueuedRange) → (0 < length ranges → ⊥) → ranges ≡ []
+no_ranges [] none = refl
+no_ranges (r ∷ rs) none = absurd (none (omega arith))

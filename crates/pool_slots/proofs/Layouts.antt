@@ -2,17 +2,17 @@
 use Rattle.std.proofs.Common.{◌≡◌, ℕ, zero, suc, ◌+◌, ◌-◌, ◌*◌, ◌/◌, ◌%◌, ◌^◌, ◌<◌, ◌≤◌, nat_lt, Bool, true, false, ◌&&◌, refl, sym, ap, ◌∙◌, subst, arith, inl, inr}
 use Rattle.std.specs.Prelude.{max, min, nat_le, if◌then◌else◌}
 use Rattle.std.specs.Int.{div_ceil}
-use Rattle.std.proofs.Math.Nat.{mul-le-mul_right, mul-mod_left, mod-add-div', mod-lt}
+use Rattle.std.proofs.Math.Nat.{mul-le-mul_right, mul-mod_left}
 use Rattle.std.proofs.lemmas.Nat.{div-mul-add}
 use Rattle.std.proofs.lemmas.Grind.{div_ceil_times}
 use Rattle.std.proofs.lemmas.Bool.{cases_lt}
 use Rattle.std.proofs.lemmas.Bool.Decides.{nat_tests}
 use Rattle.pool_pages.specs.Count.{rounded_up}
 use Rattle.pool_pages.specs.SettingsRules.{is_address}
-use Rattle.pool_pages.proofs.Multiples.{whole, page_of, page_below, add_whole}
+use Rattle.pool_pages.proofs.Multiples.{whole, page_of, page_below}
 use Rattle.pool_slots.specs.declared.slab.SlabConstraints.{SlabConstraints}
 use Rattle.pool_slots.specs.declared.slab.SlabLayout.{SlabLayout}
-use Rattle.pool_slots.specs.Slabs.{HasOnePage, IsLayout, SlotsLieApart, faulting_region, guard_before, guard_behind, has_room, is_striped, layout_of, slot_offset, slot_size, stripe_count, striped_slot, stripe_distance, total_bytes}
+use Rattle.pool_slots.specs.Slabs.{IsLayout, SlotsLieApart, faulting_region, has_room, is_striped, layout_of, slot_size, stripe_count, striped_slot, stripe_distance, total_bytes}
 
 -- whole pages stay as they are
 pub rounded_whole : (page n : ℕ) → 0 < page → n % page ≡ 0 → rounded_up page n ≡ n

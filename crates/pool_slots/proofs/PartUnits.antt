@@ -1,12 +1,11 @@
 -- What the calls on cells and queues do to the units that they have given out or keep.
 use Rattle.std.proofs.Common.{◌≡◌, ℕ, ◌+◌, true, false, List, [], ◌∷◌, ◌++◌, length, refl, ap, subst, inl, inr, arith, Option, None}
-use Rattle.std.specs.Prelude.{IsSome, option_map, slice_index_or}
+use Rattle.std.specs.Prelude.{IsSome, slice_index_or}
 use Rattle.std.proofs.lemmas.Bool.{cases_lt}
 use Rattle.std.proofs.lemmas.List.{get_or_past}
-use Rattle.pool_index.specs.Shard.{after_pick, slot_number, pick_answer}
 use Rattle.pool_index.specs.declared.ids.MemoryInModule.{MemoryInModule}
 use Rattle.pool_index.specs.declared.probe.Probe.TheVariants.{Pick}
-use Rattle.pool_index.proofs.Picking.{probed_picks}
+use Rattle.pool_index.proofs.Picking.{probe_picks}
 use Rattle.pool_index.proofs.SlotUnits.{out_less}
 use Rattle.pool_hall.specs.Sum.{total}
 use Rattle.pool_hall.specs.declared.unit_name.UnitName.{UnitName}
@@ -50,7 +49,7 @@ queue_takes_count w q spare none =
     omega arith
 
 pub picks_count : PicksCount
-picks_count u want s sound same whole = (probed_picks (Pick want) s (after_pick want s) (option_map (λ p. slot_number s p.0.0) (pick_answer want s)) sound (record { answer = refl; after = refl; same = same; sound = whole })).flow u
+picks_count u want s sound = (probe_picks (Pick want) s sound).flow u
 
 pub frees_count : FreesCount
 frees_count u slot bytes s used =

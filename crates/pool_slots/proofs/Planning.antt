@@ -13,7 +13,7 @@ use Rattle.pool_slots.specs.declared.slot_name.SlotName.{SlotName}
 use Rattle.pool_slots.specs.declared.plan.Allocator.{Allocator}
 use Rattle.pool_slots.specs.declared.plan.Home.{Home}
 use Rattle.pool_slots.specs.declared.plan.Plan.{Plan}
-use Rattle.pool_slots.proofs.QueueLists.{each_both}
+use Rattle.pool_slots.proofs.Lists.{each_both}
 
 each_mapped : {X Y : Type 0} (P : Y → Type 0) (f : X → Y) (xs : List X) → AllByRecursion P (map f xs) → AllByRecursion (λ x. P (f x)) xs
 each_mapped P f [] a = tt

@@ -1,39 +1,41 @@
 -- Makings that a plan lists, one slot after the other.
-use Rattle.std.proofs.Common.{◌≡◌, ℕ, ◌+◌, ◌<◌, true, false, List, get_or, ap, ◌∙◌, inl, inr, arith, Option, Some, None}
+use Rattle.std.proofs.Common.{◌≡◌, ℕ, ◌+◌, ◌<◌, true, false, List, get_or, ap, ◌∙◌, inl, inr, arith, Bool, Option, Some, None}
 use Rattle.std.specs.Prelude.{IfSome, ◌++◌, ◌∷◌, []}
-use Rattle.std.specs.List.{range_with_len}
-use Rattle.std.proofs.lemmas.Bool.{cases_lt}
+use Rattle.std.specs.List.{list_any, range_with_len}
+use Rattle.std.proofs.lemmas.Bool.{cases_lt, false≢true}
 use Rattle.std.proofs.lemmas.List.{get_or_append_left, get_or_push, length-append}
 use Rattle.std.proofs.lemmas.List.Folds.{list_any_none, list_any_at}
 use Rattle.std.proofs.lemmas.List.FromFn.{length-range_with_len, get_or-range_with_len}
-use Rattle.pool_pages.specs.Count.{Count, count}
-use Rattle.pool_pages.specs.MakerTold.{MakerTold, Planned, fails_making, made_region}
+use Rattle.pool_pages.specs.Count.{Count}
+use Rattle.pool_pages.specs.MakerTold.{MakerTold, Planned, fails_making}
 use Rattle.pool_pages.specs.declared.pages.RegionName.TheVariants.{Memory}
 use Rattle.pool_pages.specs.declared.pages.DecommitBehavior.{DecommitBehavior}
-use Rattle.pool_slots.specs.Cells.{Cell, unmapped, taken}
-use Rattle.pool_slots.specs.Makings.{AreMade, makes_listed_regions, IsListedPoolFault, RaisesPoolBehind}
+use Rattle.pool_slots.specs.Cells.{unmapped}
+use Rattle.pool_slots.specs.RegionCells.{CellState, memory_cell, no_cell}
+use Rattle.pool_slots.specs.Makings.{AreMadeInStripes, makes_listed_regions, IsListedPoolFault, RaisesPoolFaults, RaisesPoolBehind}
+use Rattle.pool_slots.specs.Colourings.{RaisesUnlessUncoloured, RaisesBehindUnlessUncoloured, SomeUncoloured, coloured_region}
 use Rattle.pool_slots.specs.declared.errors.PoolNewError.{PoolNewError}
 use Rattle.pool_slots.specs.declared.errors.PoolNewError.TheVariants as refused
 
--- none of the first n makings is listed
-abbrev pub NoneListed : List Planned → ℕ → Type 0
-NoneListed plan n = (i : ℕ) → i < n → fails_making (Memory i) plan ≡ false
+-- so it is for none of the first n slots
+abbrev pub NoneOf : (ℕ → Bool) → ℕ → Type 0
+NoneOf f n = (i : ℕ) → i < n → f i ≡ false
 
-pub none_listed : (plan : List Planned) (total : ℕ) → NoneListed plan total → makes_listed_regions plan total ≡ false
-none_listed plan total none =
-    list_any_none (λ (i : ℕ). fails_making (Memory i) plan) (range_with_len 0 total)
+pub none_of : (f : ℕ → Bool) (total : ℕ) → NoneOf f total → list_any f (range_with_len 0 total) ≡ false
+none_of f total none =
+    list_any_none f (range_with_len 0 total)
     (λ k d below.
     let under : k < total = rw length-range_with_len at below in
     let here : get_or (range_with_len 0 total) k d ≡ k = get_or-range_with_len 0 total k d under ∙ omega arith in
     rw here (none k under))
 
-pub some_listed : (plan : List Planned) (total i : ℕ) → i < total → fails_making (Memory i) plan ≡ true → makes_listed_regions plan total ≡ true
-some_listed plan total i under listed =
+pub some_of : (f : ℕ → Bool) (total i : ℕ) → i < total → f i ≡ true → list_any f (range_with_len 0 total) ≡ true
+some_of f total i under listed =
     let here : get_or (range_with_len 0 total) i 0 ≡ i = get_or-range_with_len 0 total i 0 under ∙ omega arith in
-    list_any_at (λ (i : ℕ). fails_making (Memory i) plan) (range_with_len 0 total) i 0 (rw length-range_with_len under) (rw here listed)
+    list_any_at f (range_with_len 0 total) i 0 (rw length-range_with_len under) (rw here listed)
 
-pub none_more : (plan : List Planned) (n : ℕ) → NoneListed plan n → fails_making (Memory n) plan ≡ false → NoneListed plan (n + 1)
-none_more plan n none now k below =
+pub none_more : (f : ℕ → Bool) (n : ℕ) → NoneOf f n → f n ≡ false → NoneOf f (n + 1)
+none_more f n none now k below =
     elim (cases_lt k n) [
       | inl under ↦ none k under
       | inr from ↦ let e : k ≡ n = omega arith in rw e now
@@ -52,38 +54,71 @@ any_told P None step = tt
 any_told P (Some x) step = step x
 
 -- one cell more is made
-pub made_more : (maker : MakerTold) (behaviour : DecommitBehavior) (n : ℕ) (len : Count) (cells : List Cell) (cell : Cell) → AreMade maker behaviour n len cells → cell ≡ unmapped (made_region (Memory n) behaviour (count len.page 0) len maker) → AreMade maker behaviour (n + 1) len (cells ++ cell ∷ [])
-made_more maker behaviour n len cells cell made now =
+pub made_more : (num_stripes : ℕ) (maker : MakerTold) (behaviour : DecommitBehavior) (n : ℕ) (len : Count) (cells : List CellState) (cell : CellState) → AreMadeInStripes num_stripes maker behaviour n len cells → cell ≡ memory_cell n (unmapped (coloured_region num_stripes maker behaviour len n)) → AreMadeInStripes num_stripes maker behaviour (n + 1) len (cells ++ cell ∷ [])
+made_more num_stripes maker behaviour n len cells cell made now =
     record {
       count = length-append cells (cell ∷ []) ∙ ap (λ (k : ℕ). k + 1) made.count;
       each = λ i below.
           elim (cases_lt i n) [
-            | inl under ↦ get_or_append_left cells (cell ∷ []) taken i (omega (arith, made.count)) ∙ made.each i under
-            | inr from ↦ let e : i ≡ n = omega arith in rw e (get_or_push cells cell taken n made.count ∙ now)
+            | inl under ↦ get_or_append_left cells (cell ∷ []) no_cell i (omega (arith, made.count)) ∙ made.each i under
+            | inr from ↦ let e : i ≡ n = omega arith in rw e (get_or_push cells cell no_cell n made.count ∙ now)
           ];
     }
 
-listed_by : (plan : List Planned) (total i : ℕ) (e : PoolNewError) → i < total → IsListedPoolFault (fails_making (Memory i) plan) e → IsListedPoolFault (makes_listed_regions plan total) e
-listed_by plan total i (refused.BadConfig b) under h = h
-listed_by plan total i refused.PageFault under h = some_listed plan total i under h
-listed_by plan total i refused.Memory under h = h
+listed_by : (f : ℕ → Bool) (total i : ℕ) (e : PoolNewError) → i < total → IsListedPoolFault (f i) e → IsListedPoolFault (list_any f (range_with_len 0 total)) e
+listed_by f total i (refused.BadConfig b) under h = h
+listed_by f total i refused.PageFault under h = some_of f total i under h
+listed_by f total i refused.Memory under h = h
 
--- a making that is refused is one of all
-pub listed_of : (o : Option (List Planned)) (total i : ℕ) (e : PoolNewError) → i < total → IfSome o (λ plan. IsListedPoolFault (fails_making (Memory i) plan) e) → IfSome o (λ plan. IsListedPoolFault (makes_listed_regions plan total) e)
-listed_of o total i e under h =
-    let P : List Planned → Type 0 = λ plan. IsListedPoolFault (fails_making (Memory i) plan) e in
-    let Q : List Planned → Type 0 = λ plan. IsListedPoolFault (makes_listed_regions plan total) e in
-    mapped_told P Q o (λ plan k. listed_by plan total i e under k) h
+-- the making of a region that is refused is one of all
+pub listed_of : (f : List Planned → ℕ → Bool) (o : Option (List Planned)) (total i : ℕ) (e : PoolNewError) → i < total → IfSome o (λ plan. IsListedPoolFault (f plan i) e) → IfSome o (λ plan. IsListedPoolFault (list_any (f plan) (range_with_len 0 total)) e)
+listed_of f o total i e under h =
+    mapped_told (λ plan. IsListedPoolFault (f plan i) e) (λ plan. IsListedPoolFault (list_any (f plan) (range_with_len 0 total)) e) o (λ plan k. listed_by (f plan) total i e under k) h
 
--- so it is with what it does to the maker behind
-pub behind_of : (own : List Planned) (total i old new : ℕ) (e : PoolNewError) → i < total → RaisesPoolBehind (fails_making (Memory i) own) old new e → RaisesPoolBehind (makes_listed_regions own total) old new e
-behind_of own total i old new (refused.BadConfig b) under h = h
-behind_of own total i old new refused.PageFault under h =
+-- so it is with what it does to the maker's count of faults
+pub faults_of : (A B : Type 0) (old new : ℕ) (e : PoolNewError) → (A → B) → RaisesUnlessUncoloured A old new e → RaisesUnlessUncoloured B old new e
+faults_of A B old new (refused.BadConfig b) all h = h
+faults_of A B old new refused.PageFault all h =
     elim h [
-      | inl listed ↦ inl (some_listed own total i under listed)
-      | inr rose ↦ inr rose
+      | inl rose ↦ inl rose
+      | inr one ↦ inr (all one.0, one.1)
     ]
-behind_of own total i old new refused.Memory under h = h
+faults_of A B old new refused.Memory all h = h
+
+-- and to that of the maker behind
+pub behind_of : (A B : Type 0) (own : List Planned) (total i old new : ℕ) (e : PoolNewError) → i < total → (A → B) → RaisesBehindUnlessUncoloured A (fails_making (Memory i) own) old new e → RaisesBehindUnlessUncoloured B (makes_listed_regions own total) old new e
+behind_of A B own total i old new (refused.BadConfig b) under all h = h
+behind_of A B own total i old new refused.PageFault under all h =
+    elim h [
+      | inl made ↦ elim made [
+        | inl listed ↦ inl (inl (some_of (λ (k : ℕ). fails_making (Memory k) own) total i under listed))
+        | inr rose ↦ inl (inr rose)
+      ]
+      | inr one ↦ inr (all one.0, one.1)
+    ]
+behind_of A B own total i old new refused.Memory under all h = h
+
+-- In one stripe no region is given a colour.
+none_uncoloured : (len total : ℕ) (maker : MakerTold) → SomeUncoloured 1 len total maker → ⊥
+none_uncoloured len total maker some = false≢true some.2.some
+
+pub plain_faults : (len total : ℕ) (maker : MakerTold) (old new : ℕ) (e : PoolNewError) → RaisesUnlessUncoloured (SomeUncoloured 1 len total maker) old new e → RaisesPoolFaults old new e
+plain_faults len total maker old new (refused.BadConfig b) h = h
+plain_faults len total maker old new refused.PageFault h =
+    elim h [
+      | inl rose ↦ rose
+      | inr one ↦ absurd (none_uncoloured len total maker one.0)
+    ]
+plain_faults len total maker old new refused.Memory h = h
+
+pub plain_behind : (len total : ℕ) (maker : MakerTold) (listed : Bool) (old new : ℕ) (e : PoolNewError) → RaisesBehindUnlessUncoloured (SomeUncoloured 1 len total maker) listed old new e → RaisesPoolBehind listed old new e
+plain_behind len total maker listed old new (refused.BadConfig b) h = h
+plain_behind len total maker listed old new refused.PageFault h =
+    elim h [
+      | inl made ↦ made
+      | inr one ↦ absurd (none_uncoloured len total maker one.0)
+    ]
+plain_behind len total maker listed old new refused.Memory h = h
 
 -- a maker whose counts of faults stay tells what it told
 pub same_maker : (old new : MakerTold) → new ≡ record old { behind = new.behind; faults = new.faults } → new.behind ≡ old.behind → new.faults ≡ old.faults → new ≡ old

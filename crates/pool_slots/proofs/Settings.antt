@@ -1,5 +1,5 @@
 -- What the rules on a pool's settings say of its slab, and the layout for these settings.
-use Rattle.std.proofs.Common.{◌≡◌, ℕ, ◌+◌, ◌-◌, ◌*◌, ◌/◌, ◌%◌, ◌<◌, ◌≤◌, nat_lt, Bool, true, false, ◌&&◌, refl, sym, ap, ◌∙◌, arith, inl, inr}
+use Rattle.std.proofs.Common.{◌≡◌, ℕ, ◌+◌, ◌-◌, ◌*◌, ◌%◌, ◌<◌, ◌≤◌, nat_lt, Bool, true, false, ◌&&◌, refl, sym, ap, ◌∙◌, arith, inl, inr}
 use Rattle.std.specs.Prelude.{max, min, nat_le, if◌then◌else◌}
 use Rattle.std.specs.Int.{div_ceil}
 use Rattle.std.proofs.lemmas.Grind.{div_ceil_times}
@@ -12,7 +12,7 @@ use Rattle.pool_pages.specs.declared.module_types.Tunables.{Tunables}
 use Rattle.pool_pages.specs.declared.offered.Offered.{Offered}
 use Rattle.pool_pages.proofs.Multiples.{add_whole}
 use Rattle.pool_slots.specs.declared.slab.SlabConstraints.{SlabConstraints}
-use Rattle.pool_slots.specs.Slabs.{SettingsSpeakOfLayouts, faulting_region, guard_before, has_room, is_striped, layout_of, settings_slab, slot_size, stripe_count, striped_slot, total_bytes}
+use Rattle.pool_slots.specs.Slabs.{SettingsSpeakOfLayouts, faulting_region, guard_before, is_striped, layout_of, settings_slab, slot_size, stripe_count, striped_slot, total_bytes}
 use Rattle.pool_slots.proofs.Layouts.{rounded_above, rounded_is_whole, rounded_whole, rounded_within, share_within}
 
 -- a size is above zero as it is rounded up exactly where it was

@@ -13,14 +13,14 @@ use Rattle.pool_images.specs.declared.ranges.ByteRange.{ByteRange}
 use Rattle.pool_images.specs.Slots.{IsClean, IsPart, size_of, decommitted_all}
 use Rattle.pool_slots.specs.declared.queued_range.QueuedRange.{QueuedRange}
 use Rattle.pool_slots.specs.SlotQueues.{Queued, Queue, owner, is_of, ranges_of, holds, HasOwners, AreApart, same_slot, LeavesClean, IsReset, IsQueue, with_range, with_ranges, with_slot, after_append}
-use Rattle.pool_slots.proofs.QueueLists.{each_append, each_both}
+use Rattle.pool_slots.proofs.Lists.{each_append, each_both}
 use Rattle.pool_slots.proofs.SlotLists.{AreOwned, ranges_append, ranges_here, ranges_none, none_unheld, unheld_each, distinct_append, apart_other_way, owned_more, owned_later}
 
 clean_same : (rs ss : List QueuedRange) (m : Queued) → ranges_of m.name ss ≡ ranges_of m.name rs → LeavesClean rs m → LeavesClean ss m
 clean_same rs ss m e c =
     let P : List ByteRange → Type 0 = λ l. All (IsPart m.slot.region.page (size_of m.slot)) l in
     let C : List ByteRange → Type 0 = λ l. IsClean (decommitted_all l m.slot) in
-    record { fits = c.fits; parts = subst P (sym e) c.parts; clean = λ known. subst C (sym e) (c.clean known); zeroed = c.zeroed; bytes = c.bytes }
+    record { fits = c.fits; parts = subst P (sym e) c.parts; clean = λ known. subst C (sym e) (c.clean known); by_hand = c.by_hand; zeroed = c.zeroed; bytes = c.bytes }
 
 -- a range is pushed of a slot that isn't held
 pub queue_range : (r : QueuedRange) (q : Queue) → IsQueue q → length q.ranges < q.range_room → holds (owner r) q.slots ≡ false → IsQueue (with_range r q)
@@ -97,7 +97,7 @@ leaves_clean kind m rs q is owned free reset =
     ∙ subst R same (own_ranges kind m.name.slot rs) in
     let P : List ByteRange → Type 0 = λ l. All (IsPart m.slot.region.page (size_of m.slot)) l in
     let C : List ByteRange → Type 0 = λ l. IsClean (decommitted_all l m.slot) in
-    record { fits = reset.fits; parts = subst P (sym all) reset.parts; clean = λ known. subst C (sym all) (reset.clean known); zeroed = reset.zeroed; bytes = reset.bytes }
+    record { fits = reset.fits; parts = subst P (sym all) reset.parts; clean = λ known. subst C (sym all) (reset.clean known); by_hand = reset.by_hand; zeroed = reset.zeroed; bytes = reset.bytes }
 
 own_owned : (kind : QueueKind) (m : Queued) (rs : List ByteRange) (ms : List Queued) → m.name.kind ≡ slot_kind kind → AreOwned (map (range_of kind m.name.slot) rs) (ms ++ m ∷ [])
 own_owned kind m [] ms is = tt

@@ -2,7 +2,7 @@
 use Rattle.std.proofs.Common.{◌≡◌, true}
 use Rattle.pool_slots.specs.SlotQueues.{Queue, ranges_of, LeavesClean, IsQueue, IsCovered, ForgetsNothing}
 use Rattle.pool_slots.proofs.Coverings.{covered_of}
-use Rattle.pool_slots.proofs.QueueLists.{each_weaker}
+use Rattle.pool_slots.proofs.Lists.{each_weaker}
 
 pub forgets_nothing : (q : Queue) → IsQueue q → ForgetsNothing q
 forgets_nothing q is =

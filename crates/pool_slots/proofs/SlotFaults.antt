@@ -2,18 +2,20 @@
 use Rattle.std.proofs.Common.{◌≡◌, ℕ, zero, suc, ◌+◌, ◌<◌, Bool, false, List, [], ◌∷◌, ◌++◌, length, get_or, take, drop, refl, sym, ap, ◌∙◌, subst, arith}
 use Rattle.std.specs.Prelude.{map, slice_set}
 use Rattle.std.specs.List.{AllZip}
+use Rattle.std.proofs.Math.Nat.{zero-mod}
 use Rattle.std.proofs.lemmas.Bool.{or_parts}
 use Rattle.std.proofs.lemmas.List.{append_assoc, length-append, length-map, length-take-le, length-drop, map_more, take-map, get_or-map, get_or_default}
 use Rattle.std.proofs.lemmas.List.Edits.{map_over_more}
 use Rattle.pool_images.specs.declared.ranges.ByteRange.{ByteRange}
-use Rattle.pool_images.specs.Slots.{IsSlot}
+use Rattle.pool_hall.specs.declared.unit_name.SlotKind.{SlotKind}
+use Rattle.pool_hall.specs.declared.unit_name.SlotKind.TheVariants as of_slot
+use Rattle.pool_images.specs.Slots.{Slot, IsSlot, IsLeft, forgotten as forgotten_memory}
 use Rattle.pool_pages.specs.declared.pages.PageCalls.{PageCalls}
 use Rattle.pool_pages.specs.CallSums.{added}
 use Rattle.pool_slots.specs.declared.queued_range.QueueKind.{QueueKind}
 use Rattle.pool_slots.specs.declared.queued_range.QueuedRange.{QueuedRange}
 use Rattle.pool_slots.specs.declared.slot_name.SlotName.{SlotName}
-use Rattle.pool_slots.specs.Queues.{IsSlotLeft}
-use Rattle.pool_slots.specs.SlotQueues.{Queued, QueuedList, Queue, same_slot, holds, AreDistinct, CanBeZeroed, with_range, with_ranges, forgotten, calls_held, IsLeftItem, IsLeftBy}
+use Rattle.pool_slots.specs.SlotQueues.{IsSlotLeft, Queued, QueuedList, Queue, same_kind, same_slot, holds, AreDistinct, CanBeZeroed, with_range, with_ranges, forgotten, forgotten_slot, calls_held, IsLeftItem, IsLeftBy}
 use Rattle.pool_slots.proofs.Fresh.{calls_more}
 use Rattle.pool_slots.proofs.SlotLists.{apart_of_unheld}
 use Rattle.pool_slots.proofs.SlotNames.{slot_if, slot_other_way}
@@ -47,25 +49,82 @@ held_more ms i d inside =
     let more = calls_more (map f ms) i (f d) (omega (arith, length-map ms f)) in
     rw (here, take-map f i ms, take-map f (i + 1) ms) at more
 
+-- what is forgotten of a slot: nothing of its region, and it fits its region still
+pub forgotten_region : (kind : SlotKind) (s : Slot) → (forgotten_slot kind s).region ≡ s.region
+forgotten_region of_slot.Memory s = refl
+forgotten_region of_slot.Table s = refl
+forgotten_region of_slot.Stack s = refl
+forgotten_region of_slot.Heap s = refl
+
+forgotten_memory_fits : (s : Slot) → IsSlot s → IsSlot (forgotten_memory s)
+forgotten_memory_fits s is = record {
+  sizes = record {
+    page_size = is.sizes.page_size;
+    base_page = is.sizes.base_page;
+    base_whole = is.sizes.base_whole;
+    accessible_page = refl;
+    accessible_whole = zero-mod s.region.page;
+    inside = is.sizes.inside;
+    bounded = is.sizes.bounded;
+    roomy = is.sizes.roomy;
+    within = omega arith;
+    image = tt;
+  };
+  told = is.told;
+}
+
+forgotten_fits : (kind : SlotKind) (s : Slot) → IsSlot s → IsSlot (forgotten_slot kind s)
+forgotten_fits of_slot.Memory s is = forgotten_memory_fits s is
+forgotten_fits of_slot.Table s is = is
+forgotten_fits of_slot.Stack s is = is
+forgotten_fits of_slot.Heap s is = is
+
+forgotten_zeroed : (kind : SlotKind) (n : ℕ) (s : Slot) → same_kind of_slot.Memory kind ≡ false → CanBeZeroed n s → CanBeZeroed n (forgotten_slot kind s)
+forgotten_zeroed of_slot.Memory n s other z = absurd cc
+forgotten_zeroed of_slot.Table n s other z = z
+forgotten_zeroed of_slot.Stack n s other z = z
+forgotten_zeroed of_slot.Heap n s other z = z
+
+-- it is forgotten once
+pub forgotten_again : (kind : SlotKind) (s : Slot) → forgotten_slot kind s ≡ forgotten_slot kind (forgotten_slot kind s)
+forgotten_again of_slot.Memory s = refl
+forgotten_again of_slot.Table s = refl
+forgotten_again of_slot.Stack s = refl
+forgotten_again of_slot.Heap s = refl
+
+forgotten_left : (kind : SlotKind) (s t : Slot) → IsLeft s t → IsLeft (forgotten_slot kind s) (forgotten_slot kind t)
+forgotten_left of_slot.Memory s t left = record { same = left.same; rose = left.rose; listed = left.listed }
+forgotten_left of_slot.Table s t left = left
+forgotten_left of_slot.Stack s t left = left
+forgotten_left of_slot.Heap s t left = left
+
 -- Of the slots one was left by a fault, and nothing is known of any. What can be zeroed by hand still can be.
 pub record IsLeftStill (k : SlotName) (old new : Queued) : Type 0 where
   pub left : IsLeftBy k old new
   pub fits : IsSlot old.slot → IsSlot new.slot
-  pub zeroed : (n : ℕ) → CanBeZeroed n old.slot → CanBeZeroed n new.slot
+  pub zeroed : (n : ℕ) → same_kind of_slot.Memory old.name.kind ≡ false → CanBeZeroed n old.slot → CanBeZeroed n new.slot
 
 left_other : (k : SlotName) (m : Queued) → same_slot k m.name ≡ false → IsLeftStill k m (forgotten m)
 left_other k m e =
-    let B : Bool → Type 0 = λ b. IsSlotLeft b m.slot m.slot in
-    record { left = record { same = refl; slot = subst B (sym e) refl }; fits = λ f. f; zeroed = λ n z. z }
+    let s : Slot = forgotten_slot m.name.kind m.slot in
+    let B : Bool → Type 0 = λ b. IsSlotLeft b s s in
+    record {
+      left = record { same = ap (λ (t : Slot). record m { slot = t; known = false }) (forgotten_again m.name.kind m.slot); slot = subst B (sym e) refl };
+      fits = forgotten_fits m.name.kind m.slot;
+      zeroed = λ n. forgotten_zeroed m.name.kind n m.slot;
+    }
 
 left_here : (k : SlotName) (r : ByteRange) (m n : Queued) → m.name ≡ k → IsLeftItem r m n → IsLeftStill k m (forgotten n)
 left_here k r m n e left =
-    let B : Bool → Type 0 = λ b. IsSlotLeft b m.slot n.slot in
-    record {
-      left = record { same = ap forgotten left.same; slot = subst B (sym (slot_if k m.name (sym e))) left.slot.left };
-      fits = λ _. left.slot.fits;
-      zeroed = left.slot.zeroed;
-    }
+    let kind : SlotKind = m.name.kind in
+    let B : Bool → Type 0 = λ b. IsSlotLeft b (forgotten_slot kind m.slot) (forgotten_slot kind n.slot) in
+    let P : Queued → Type 0 = λ x. IsLeftStill k m x in
+    let is : forgotten n ≡ record m { slot = forgotten_slot kind n.slot; known = false } = ap forgotten left.same in
+    subst P (sym is) (record {
+      left = record { same = ap (λ (t : Slot). record m { slot = t; known = false }) (forgotten_again kind n.slot); slot = subst B (sym (slot_if k m.name (sym e))) (forgotten_left kind m.slot n.slot left.slot.left) };
+      fits = λ _. forgotten_fits kind n.slot left.slot.fits;
+      zeroed = λ b other z. forgotten_zeroed kind b n.slot other (left.slot.zeroed b z);
+    })
 
 left_rest : (k : SlotName) (ms : List Queued) → holds k ms ≡ false → AllZip (IsLeftStill k) ms (map forgotten ms)
 left_rest k [] free = tt

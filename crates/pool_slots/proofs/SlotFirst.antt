@@ -1,19 +1,17 @@
 -- What the decommit of the first range makes of a queue, by the place of its slot.
-use Rattle.std.proofs.Common.{◌≡◌, ℕ, ◌<◌, true, false, List, [], ◌∷◌, length, get_or, refl, sym, ap, ◌∙◌, subst, arith, Option}
+use Rattle.std.proofs.Common.{◌≡◌, ℕ, ◌<◌, true, false, List, [], ◌∷◌, length, get_or, refl, sym, ap, ◌∙◌, subst, arith, Option, None, Some}
 use Rattle.std.specs.Prelude.{map, slice_set, All, IfSome}
 use Rattle.std.specs.List.{AllByRecursion, AllZip, HoldsAt}
-use Rattle.std.proofs.lemmas.Option.{IfSome_then}
 use Rattle.std.proofs.lemmas.List.Elements.{All-head, All-nil}
+use Rattle.pool_hall.specs.declared.unit_name.SlotKind.{SlotKind}
+use Rattle.pool_hall.specs.declared.unit_name.SlotKind.TheVariants as of_slot
 use Rattle.pool_images.specs.declared.ranges.ByteRange.{ByteRange}
 use Rattle.pool_images.specs.Slots.{IsPart, size_of}
 use Rattle.pool_slots.specs.declared.queued_range.QueuedRange.{QueuedRange}
 use Rattle.pool_slots.specs.declared.slot_name.SlotName.{SlotName}
-use Rattle.pool_slots.specs.Queues.{decommitted_at}
-use Rattle.pool_slots.specs.SlotQueues.{Queued, QueuedList, Queue, owner, is_of, ranges_of, holds, AreDistinct, CanBeZeroed, LeavesClean, IsQueue, change_at, forgotten, IsLeftItem, IsLeftBy}
+use Rattle.pool_slots.specs.SlotQueues.{decommitted_at, Queued, QueuedList, Queue, owner, is_of, ranges_of, holds, AreDistinct, CanBeZeroed, MayBeByHand, LeavesClean, IsQueue, same_kind, change_at, forgotten, IsLeftItem, IsLeftBy}
 use Rattle.pool_slots.specs.SlotSteps.{begins_with, after_first_of, after_first}
-use Rattle.pool_slots.proofs.QueueLists.{each_at}
-use Rattle.pool_slots.proofs.QueueOrders.{zip_weaker}
-use Rattle.pool_slots.proofs.QueueRuns.{zip_length}
+use Rattle.pool_slots.proofs.Lists.{each_at, zip_weaker, zip_length}
 use Rattle.pool_slots.proofs.SlotFaults.{IsLeftStill, left_at}
 use Rattle.pool_slots.proofs.SlotLists.{ranges_here, set_is_change}
 use Rattle.pool_slots.proofs.SlotNames.{slot_is}
@@ -76,15 +74,25 @@ distinct_left k [] (n ∷ ns) a d = absurd a
 distinct_left k (m ∷ ms) [] a d = absurd a
 distinct_left k (m ∷ ms) (n ∷ ns) a d = (ap (λ (x : SlotName). holds x ns) (left_name k m n a.0) ∙ holds_left k m.name ms ns a.1 ∙ d.0, distinct_left k ms ns a.1 d.1)
 
+-- what is zeroed by hand is no memory
+zeroed_left : (kind : SlotKind) (o : Option ℕ) (P Q : ℕ → Type 0) → MayBeByHand kind o → IfSome o P → ((n : ℕ) → same_kind of_slot.Memory kind ≡ false → P n → Q n) → IfSome o Q
+zeroed_left kind None P Q may some f = tt
+zeroed_left of_slot.Memory (Some n) P Q may some f = absurd cc
+zeroed_left of_slot.Table (Some n) P Q may some f = f n refl some
+zeroed_left of_slot.Stack (Some n) P Q may some f = f n refl some
+zeroed_left of_slot.Heap (Some n) P Q may some f = f n refl some
+
 unknown_clean : (k : SlotName) (ranges : List QueuedRange) (m n : Queued) → IsLeftStill k m n → LeavesClean ranges m → LeavesClean [] n
 unknown_clean k ranges m n left c =
     let unknown : n.known ≡ false = ap (λ (x : Queued). x.known) left.left.same in
     let Z : Option ℕ → Type 0 = λ o. IfSome o (λ b. CanBeZeroed b n.slot) in
+    let M : Queued → Type 0 = λ x. MayBeByHand x.name.kind x.by_hand in
     record {
       fits = left.fits c.fits;
       parts = All-nil (IsPart n.slot.region.page (size_of n.slot));
       clean = λ known. absurd (cc (known, unknown));
-      zeroed = subst Z (sym (ap (λ (x : Queued). x.by_hand) left.left.same)) (IfSome_then m.by_hand c.zeroed left.zeroed);
+      by_hand = subst M (sym left.left.same) c.by_hand;
+      zeroed = subst Z (sym (ap (λ (x : Queued). x.by_hand) left.left.same)) (zeroed_left m.name.kind m.by_hand (λ b. CanBeZeroed b m.slot) (λ b. CanBeZeroed b n.slot) c.by_hand c.zeroed left.zeroed);
       bytes = let same : n.bytes ≡ m.bytes = ap (λ (x : Queued). x.bytes) left.left.same in rw same c.bytes;
     }
 

@@ -10,7 +10,7 @@ use Rattle.pool_images.specs.Slots.{Slot}
 use Rattle.pool_slots.specs.declared.queued_range.QueuedRange.{QueuedRange}
 use Rattle.pool_slots.specs.declared.slot_name.SlotName.{SlotName}
 use Rattle.pool_slots.specs.SlotQueues.{Queued, same_slot, owner, is_of, ranges_of, holds, AreDistinct, AreApart, change_at}
-use Rattle.pool_slots.proofs.QueueLists.{each_weaker, each_both, each_known, filter_append, filter_none}
+use Rattle.pool_slots.proofs.Lists.{each_weaker, each_both, each_known, filter_append, filter_none}
 use Rattle.pool_slots.proofs.SlotNames.{slot_if, slots_apart, slot_not, slot_cases, slot_other_way}
 
 pub ranges_append : (slot : SlotName) (xs ys : List QueuedRange) → ranges_of slot (xs ++ ys) ≡ ranges_of slot xs ++ ranges_of slot ys

@@ -1,25 +1,41 @@
 -- The decommits of a run in their order: those of its ranges, one after the other.
-use Rattle.std.proofs.Common.{◌≡◌, ℕ, zero, suc, ◌+◌, ◌<◌, Bool, true, false, List, [], ◌∷◌, length, get_or, refl, sym, ap, ◌∙◌, subst, arith}
-use Rattle.std.specs.Prelude.{map, slice_set}
+use Rattle.std.proofs.Common.{◌≡◌, ℕ, zero, suc, ◌+◌, ◌<◌, Bool, true, false, List, [], ◌∷◌, length, get_or, refl, sym, ap, ◌∙◌, subst, arith, Option, Some, None}
+use Rattle.std.specs.Prelude.{map, slice_set, if◌then◌else◌, IfSome}
 use Rattle.std.specs.List.{AllZip, HoldsAt}
-use Rattle.std.proofs.lemmas.Bool.{or_parts}
-use Rattle.pool_pages.specs.Told.{decommitting}
+use Rattle.std.proofs.lemmas.Bool.{or_parts, true≢false}
+use Rattle.std.proofs.lemmas.Option.{IfSome_then}
+use Rattle.pool_pages.specs.Told.{Told, PageCall, succeeded, passes, decommitting}
 use Rattle.pool_images.specs.Slots.{SlotIdentity}
-use Rattle.pool_images.specs.Orders.{Follows}
+use Rattle.pool_images.specs.Orders.{Follows, failed, outcome}
 use Rattle.pool_images.specs.declared.ranges.ByteRange.{ByteRange}
 use Rattle.pool_images.proofs.Ordering.{follows_then}
 use Rattle.pool_slots.specs.declared.queued_range.QueuedRange.{QueuedRange}
 use Rattle.pool_slots.specs.declared.slot_name.SlotName.{SlotName}
-use Rattle.pool_slots.specs.Queues.{decommitted_at}
-use Rattle.pool_slots.specs.QueueOrders.{decommits}
-use Rattle.pool_slots.specs.SlotQueues.{Queued, Queue, same_slot, owner, is_of, holds, AreDistinct, IsQueue, change_at, first_slot, forgotten}
-use Rattle.pool_slots.specs.SlotOrders.{run_of, first_of, FollowsAt, AreInOrder}
+use Rattle.pool_slots.specs.SlotQueues.{decommitted_at, Queued, Queue, same_slot, owner, is_of, holds, AreDistinct, IsQueue, change_at, first_slot, forgotten}
+use Rattle.pool_slots.specs.SlotOrders.{decommits, run_of, first_of, FollowsAt, AreInOrder}
 use Rattle.pool_slots.specs.SlotSteps.{begins_with, after_first_of, after_first}
-use Rattle.pool_slots.proofs.QueueOrders.{follows_none, follows_failed, zip_and, zip_weaker}
-use Rattle.pool_slots.proofs.QueueRuns.{zip_same, zip_both, zip_map}
+use Rattle.pool_slots.proofs.Lists.{zip_and, zip_weaker, zip_same, zip_both, zip_map}
+use Rattle.pool_slots.proofs.SlotFaults.{forgotten_region}
 use Rattle.pool_slots.proofs.SlotLists.{apart_of_unheld}
 use Rattle.pool_slots.proofs.SlotNames.{slot_is, slot_not, slots_apart}
 use Rattle.pool_slots.proofs.SlotRuns.{IsKeptBy, kept_by_self, kept_more}
+
+-- no calls at all
+none_told : (plan : Option (List ℕ)) (t : Told) → IfSome plan (λ p. ◌≡◌ {A = Bool × Told} (true, t) (true, t))
+none_told None t = tt
+none_told (Some p) t = refl
+
+-- a first call that fails is the last
+fault_ends : (b : Bool) (new : Told) (one all end : Bool × Told) → one.0 ≡ true → ◌≡◌ {A = Bool × Told} (false, new) (if b then one else end) → ◌≡◌ {A = Bool × Told} (false, new) (if b then all else end)
+fault_ends true new one all end ok e = absurd (true≢false (sym ok ∙ sym (ap (λ (p : Bool × Told). p.0) e)))
+fault_ends false new one all end ok e = e
+
+pub follows_none : (t : Told) → Follows [] true t t
+follows_none t = none_told t.plan t
+
+pub follows_failed : (x : PageCall) (ys : List PageCall) (old new : Told) → Follows (x ∷ []) false old new → Follows (x ∷ ys) false old new
+follows_failed x ys old new first =
+    IfSome_then old.plan first (λ plan e. fault_ends (passes plan x old) new (true, succeeded x old) (outcome plan ys (succeeded x old)) (false, failed x old) refl e)
 
 -- The slot at a place is the only one with its name.
 order_other : (k : SlotName) (ranges : List ByteRange) (ok : Bool) (m : Queued) → same_slot k m.name ≡ false → FollowsAt k ranges ok m m
@@ -58,8 +74,13 @@ order_first q r rs i ok new is e inside begins set follows =
     subst Z (sym e) (order_set q.slots r i ok new inside is.distinct (subst B e begins) set follows)
 
 -- what is known of a slot doesn't matter
+forgotten_follows : (k : SlotName) (ranges : List ByteRange) (ok : Bool) (m n : Queued) → FollowsAt k ranges ok m n → FollowsAt k ranges ok m (forgotten n)
+forgotten_follows k ranges ok m n follows e =
+    let F : Told → Type 0 = λ t. Follows (decommits m.slot.base.bytes ranges) ok m.slot.region t in
+    subst F (sym (forgotten_region n.name.kind n.slot)) (follows e)
+
 pub order_forgotten : (k : SlotName) (ranges : List ByteRange) (ok : Bool) (ms new : List Queued) → AreInOrder k ranges ok ms new → AreInOrder k ranges ok ms (map forgotten new)
-order_forgotten k ranges ok ms new order = zip_map (FollowsAt k ranges ok) (FollowsAt k ranges ok) forgotten ms new (λ m n f. f) order
+order_forgotten k ranges ok ms new order = zip_map (FollowsAt k ranges ok) (FollowsAt k ranges ok) forgotten ms new (forgotten_follows k ranges ok) order
 
 -- one range, and more after it
 order_next : (k : SlotName) (r : ByteRange) (rs : List ByteRange) (ok : Bool) (m n p : Queued) → FollowsAt k (r ∷ []) true m n × IsKeptBy k m n → FollowsAt k rs ok n p → FollowsAt k (r ∷ rs) ok m p

@@ -10,7 +10,7 @@ use Rattle.pool_slots.specs.declared.slot_name.SlotName.{SlotName}
 use Rattle.pool_slots.specs.declared.queued_range.QueuedRange.{QueuedRange}
 use Rattle.pool_slots.specs.SlotQueues.{Queued, QueuedList, Queue, same_kind, same_slot, holds, AreDistinct, CanBeZeroed, LeavesClean, IsQueue, IsSettled, first_of_kind, others_of_kind, is_to_zero, zeroed_by, zeroed, zeroed_slot, first_zeroed}
 use Rattle.pool_slots.proofs.ByHand.{zeroed_clean, zeroed_still, zeroed_fits}
-use Rattle.pool_slots.proofs.QueueLists.{each_weaker}
+use Rattle.pool_slots.proofs.Lists.{each_weaker}
 
 -- the others hold no more, and each of them was there
 unheld_others : (kind : SlotKind) (n : SlotName) (ms : List Queued) → holds n ms ≡ false → holds n (others_of_kind kind ms) ≡ false
@@ -130,6 +130,7 @@ zeroed_leaves (Some n) m e c =
       fits = zeroed_fits n m.slot can;
       parts = All-nil (IsPart m.slot.region.page (size_of (zeroed_slot n m.slot)));
       clean = λ known. zeroed_clean n m.slot can;
+      by_hand = c.by_hand;
       zeroed = subst W (sym e) (zeroed_still n m.slot can);
       bytes = c.bytes;
     }

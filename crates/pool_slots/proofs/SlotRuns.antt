@@ -5,15 +5,16 @@ use Rattle.std.specs.List.{AllZip, HoldsAt}
 use Rattle.std.proofs.lemmas.Bool.{cases_Bool}
 use Rattle.std.proofs.lemmas.List.{length-map, get_or-map}
 use Rattle.pool_pages.specs.Told.{decommitting}
+use Rattle.pool_hall.specs.declared.unit_name.SlotKind.{SlotKind}
+use Rattle.pool_hall.specs.declared.unit_name.SlotKind.TheVariants as of_slot
 use Rattle.pool_images.specs.declared.ranges.ByteRange.{ByteRange}
 use Rattle.pool_images.specs.Slots.{Slot, decommitted_all}
 use Rattle.pool_images.proofs.Identity.{IsLike, like_self}
 use Rattle.pool_slots.specs.declared.queued_range.QueuedRange.{QueuedRange}
 use Rattle.pool_slots.specs.declared.slot_name.SlotName.{SlotName}
-use Rattle.pool_slots.specs.Queues.{front, behind, decommitted_at, IsSlotLeft}
-use Rattle.pool_slots.specs.SlotQueues.{Queued, Queue, same_slot, owner, is_of, holds, HasOwners, change_at, first_slot, after_run_of, IsFaulted, IsLeftBy}
+use Rattle.pool_slots.specs.SlotQueues.{front, behind, decommitted_at, IsSlotLeft, Queued, Queue, same_slot, owner, is_of, holds, HasOwners, change_at, first_slot, after_run_of, IsFaulted, IsLeftBy, forgotten_slot}
 use Rattle.pool_slots.specs.SlotSteps.{begins_with, after_first_of, after_first}
-use Rattle.pool_slots.proofs.QueueRuns.{zip_same, zip_both, zip_map}
+use Rattle.pool_slots.proofs.Lists.{zip_same, zip_both, zip_map}
 use Rattle.pool_slots.proofs.Resets.{like_called, left_after}
 use Rattle.pool_slots.proofs.SlotLists.{change_name, change_here, change_elsewhere, AreOwned}
 use Rattle.pool_slots.proofs.SlotNames.{slot_is}
@@ -100,13 +101,20 @@ slot_left : (b : Bool) (s t u : Slot) → IsLike s t → (b ≡ false → t ≡ 
 slot_left true s t u kept other left = left_after s t u kept left
 slot_left false s t u kept other left = left ∙ other refl
 
+like_forgotten : (kind : SlotKind) (s t : Slot) → IsLike s t → IsLike (forgotten_slot kind s) (forgotten_slot kind t)
+like_forgotten of_slot.Memory s t like = record { same = like.same; faults = like.faults }
+like_forgotten of_slot.Table s t like = like
+like_forgotten of_slot.Stack s t like = like
+like_forgotten of_slot.Heap s t like = like
+
 -- a fault after some decommits of the same run is one of the whole run
 pub left_by : (k : SlotName) (m n p : Queued) → IsKeptBy k m n → IsLeftBy k n p → IsLeftBy k m p
 left_by k m n p kept left =
-    let S : SlotName → Type 0 = λ i. IsSlotLeft (same_slot k i) n.slot p.slot in
+    let kind : SlotKind = m.name.kind in
+    let S : SlotName → Type 0 = λ i. IsSlotLeft (same_slot k i) (forgotten_slot i.kind n.slot) p.slot in
     record {
-      same = left.same ∙ ap (λ (x : Queued). record x { slot = p.slot; known = false }) kept.same;
-      slot = slot_left (same_slot k m.name) m.slot n.slot p.slot kept.slot kept.other (subst S (kept_name k m n kept) left.slot);
+      same = left.same ∙ ap (λ (x : Queued). record x { slot = forgotten_slot x.name.kind p.slot; known = false }) kept.same;
+      slot = slot_left (same_slot k m.name) (forgotten_slot kind m.slot) (forgotten_slot kind n.slot) p.slot (like_forgotten kind m.slot n.slot kept.slot) (λ other. ap (forgotten_slot kind) (kept.other other)) (subst S (kept_name k m n kept) left.slot);
     }
 
 -- A run under way: what is left of it leads to the same queue, and only the slot at this place has changed.
@@ -174,6 +182,7 @@ run_faulted k i old now new running begins first fault =
     record {
       ranges = fault.ranges;
       slots = subst M (sym first) (zip_both (IsKeptBy k) (IsLeftBy k) (IsLeftBy k) old.slots now.slots new.slots (left_by k) running.kept (subst L here fault.slots));
+      sound = fault.sound;
       range_room = fault.range_room ∙ running.range_room;
       slot_room = fault.slot_room ∙ running.slot_room;
       takes = fault.takes ∙ running.takes;

@@ -9,11 +9,10 @@ use Rattle.pool_images.specs.declared.ranges.ByteRange.{ByteRange}
 use Rattle.pool_images.specs.Slots.{IsClean, IsPart, size_of, decommitted_all}
 use Rattle.pool_images.proofs.Queued.{fits_next}
 use Rattle.pool_slots.specs.declared.queued_range.QueuedRange.{QueuedRange}
-use Rattle.pool_slots.specs.Queues.{decommitted_at}
-use Rattle.pool_slots.specs.SlotQueues.{Queued, Queue, same_slot, owner, ranges_of, HasOwners, LeavesClean, IsQueue, change_at}
+use Rattle.pool_slots.specs.SlotQueues.{decommitted_at, Queued, Queue, same_slot, owner, ranges_of, HasOwners, LeavesClean, IsQueue, change_at}
 use Rattle.pool_slots.specs.SlotSteps.{after_first_of}
 use Rattle.pool_slots.proofs.ByHand.{zeroed_next}
-use Rattle.pool_slots.proofs.QueueLists.{each_map}
+use Rattle.pool_slots.proofs.Lists.{each_map}
 use Rattle.pool_slots.proofs.SlotLists.{ranges_here, ranges_elsewhere, change_name, change_here, change_elsewhere, distinct_map, owned_map}
 
 clean_first : (r : QueuedRange) (rs : List QueuedRange) (m : Queued) → LeavesClean (r ∷ rs) m → LeavesClean rs (change_at (owner r) (decommitted_at r.range) m)
@@ -28,6 +27,7 @@ clean_first r rs m c =
             fits = fits_next r.range m.slot c.fits (All-head P r.range (ranges_of m.name rs) parts);
             parts = All-tail P r.range (ranges_of m.name rs) parts;
             clean = λ known. let done : IsClean (decommitted_all (ranges_of m.name (r ∷ rs)) m.slot) = c.clean known in rw here at done;
+            by_hand = c.by_hand;
             zeroed = IfSome_then m.by_hand c.zeroed (λ n z. zeroed_next n r.range m.slot (All-head P r.range (ranges_of m.name rs) parts) z);
             bytes = c.bytes;
           })
@@ -38,6 +38,7 @@ clean_first r rs m c =
             fits = c.fits;
             parts = rw elsewhere at c.parts;
             clean = λ known. let done : IsClean (decommitted_all (ranges_of m.name (r ∷ rs)) m.slot) = c.clean known in rw elsewhere at done;
+            by_hand = c.by_hand;
             zeroed = c.zeroed;
             bytes = c.bytes;
           })

@@ -4,7 +4,7 @@ use Rattle.pool_hall.specs.Sum.{one_if, total}
 use Rattle.pool_hall.specs.Unit.{same, times}
 use Rattle.pool_index.specs.Part.{slot_unit, shard_units}
 use Rattle.pool_index.specs.Round.{found_units}
-use Rattle.pool_index.specs.Shard.{ShardState, IsShard, IsSameShard, use_of, slot_number, pick_answer, after_pick, after_free}
+use Rattle.pool_index.specs.Shard.{ShardState, IsShard, use_of, slot_number, pick_answer, after_pick, after_free}
 use Rattle.pool_index.specs.declared.ids.MemoryInModule.{MemoryInModule}
 use Rattle.pool_index.specs.declared.ids.SlotId.{SlotId}
 use Rattle.pool_hall.specs.declared.unit_name.UnitName.{UnitName}
@@ -40,7 +40,7 @@ module _ {P : Type 0} where
 
 -- A pick gives out the right to the slot that it answers, and a free takes back that to the slot that is freed.
 abbrev pub PicksCount : Type 0
-PicksCount = (u : UnitName) (want : Option MemoryInModule) (s : ShardState) → IsShard s → IsSameShard s (after_pick want s) → IsShard (after_pick want s) →
+PicksCount = (u : UnitName) (want : Option MemoryInModule) (s : ShardState) → IsShard s →
     times u (shard_units (after_pick want s)) ≡ times u (shard_units s) + times u (found_units s.kind (option_map (λ p. slot_number s p.0.0) (pick_answer want s)))
 
 abbrev pub FreesCount : Type 0

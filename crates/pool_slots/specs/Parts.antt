@@ -1,35 +1,16 @@
 -- The parts of a pool, and what their calls answer and leave.
-use Rattle.std.specs.Prelude.{◌≡◌, ℕ, ◌+◌, ◌^◌, ◌<◌, ◌≤◌, Bool, false, nat_le, if◌then◌else◌, List, [], length, slice_index_or, slice_set, Option, None, IsSome, option_map}
+use Rattle.std.specs.Prelude.{ℕ, ◌^◌, ◌<◌, ◌≤◌, Bool, false, List, [], length, slice_index_or, slice_set, Option, None, IsSome, option_map}
 use Rattle.pool_index.specs.Shard.{use_of, pick_answer, after_pick, affine_answer, after_affine_pick, taken_slots, after_free, slot_number}
 use Rattle.pool_index.specs.declared.ids.MemoryInModule.{MemoryInModule}
 use Rattle.pool_index.specs.declared.ids.SlotId.{SlotId}
 use Rattle.pool_hall.specs.declared.unit_name.SlotKind.TheVariants as of_slot
 use Rattle.pool_slots.specs.Cells.{Cell, taken}
 use Rattle.pool_slots.specs.RegionCells.{CellState, cell_made, cell_numbers, cell_emptied, cell_filled}
-use Rattle.pool_slots.specs.SlotQueues.{Queue, HasOwners, AreApart, IsSpareOf, after_append, after_take, taken_into, drained}
+use Rattle.pool_slots.specs.QueueMerges.{CanMerge, fills, merged, merged_local}
+use Rattle.pool_slots.specs.SlotQueues.{Queue, IsSpareOf, after_take, taken_into}
 use Rattle.pool_slots.specs.declared.slot_name.RegionNumbers.{RegionNumbers}
 use Rattle.pool_slots.specs.declared.part.PoolPart.{PoolPart}
 use Rattle.pool_slots.specs.declared.part.PoolPart.TheVariants.{Shard, Memory, Table, Stack, Queue as queue_part}
-
--- the local queue can be appended to the other, and take the whole of it then
-pub record CanMerge (queue local : Queue) : Type 0 where
-  pub ranges : length queue.ranges + length local.ranges ≤ queue.range_room
-  pub slots : length queue.slots + length local.slots ≤ queue.slot_room
-  pub owners : HasOwners queue
-  pub local_owners : HasOwners local
-  pub apart : AreApart queue.slots local.slots
-  pub range_room : local.range_room ≡ queue.range_room
-  pub slot_room : local.slot_room ≡ queue.slot_room
-
--- a merge fills a batch; the queue and the local queue after it
-abbrev pub fills : ℕ → Queue → Queue → Bool
-fills batch local q = nat_le batch (length (after_append q local).ranges)
-
-abbrev pub merged : Bool → Queue → Queue → Queue
-merged full local q = if full then drained (after_append q local) else after_append q local
-
-abbrev pub merged_local : Bool → Queue → Queue → Queue
-merged_local full local q = if full then taken_into (drained local) (after_append q local) else drained local
 
 module _ {P : Type 0} where
   -- the part is a shard, or a cell

@@ -54,6 +54,13 @@ cell_numbers c = numbers_by c.out c.name.kind c.holds
 abbrev pub cell_made : SlotName → Cell → CellState
 cell_made name held = record { name = name; holds = held; unknown_puts = 0; out = record { faults = 0; erases = 0 } }
 
+-- the cell of memory slot i as it is made, with this in it; and an empty one, where it doesn't matter which
+abbrev pub memory_cell : ℕ → Cell → CellState
+memory_cell i held = cell_made (record { kind = of_slot.Memory; slot = i }) held
+
+abbrev pub no_cell : CellState
+no_cell = memory_cell 0 taken
+
 -- what it holds is taken out, and goes with its numbers
 abbrev pub cell_emptied : CellState → CellState
 cell_emptied c = record c { holds = taken; out = cell_numbers c }

@@ -1,7 +1,7 @@
 -- How the memory slots of a slab are laid out, in stripes of protection keys where there are keys.
 use Rattle.std.specs.Prelude.{◌≡◌, ℕ, ◌+◌, ◌-◌, ◌*◌, ◌/◌, ◌%◌, ◌^◌, ◌<◌, ◌≤◌, max, min, Bool, ◌&&◌, nat_le, nat_lt, if◌then◌else◌}
 use Rattle.std.specs.Int.{div_ceil}
-use Rattle.pool_pages.specs.Count.{Count, count, rounded_up}
+use Rattle.pool_pages.specs.Count.{count, rounded_up}
 use Rattle.pool_pages.specs.SettingsRules.{is_address, keys_used, slab_stripes, slab_slot, slab_bytes, slab_fits, rounds_up}
 use Rattle.pool_pages.specs.declared.config.PoolingAllocationConfig.{PoolingAllocationConfig}
 use Rattle.pool_pages.specs.declared.module_types.Tunables.{Tunables}

@@ -1,13 +1,16 @@
 -- The decommits that a queue makes, in their order, and how they end under a plan.
-use Rattle.std.specs.Prelude.{◌≡◌, List, [], ◌∷◌, map, Bool}
+use Rattle.std.specs.Prelude.{◌≡◌, ℕ, ◌+◌, List, [], ◌∷◌, map, Bool}
 use Rattle.std.specs.List.{AllZip}
+use Rattle.pool_pages.specs.Told.{PageCall, decommitting}
 use Rattle.pool_images.specs.declared.ranges.ByteRange.{ByteRange}
 use Rattle.pool_images.specs.Orders.{Follows}
 use Rattle.pool_slots.specs.declared.slot_name.SlotName.{SlotName}
 use Rattle.pool_slots.specs.declared.queued_range.QueuedRange.{QueuedRange}
-use Rattle.pool_slots.specs.Queues.{front}
-use Rattle.pool_slots.specs.QueueOrders.{decommits}
-use Rattle.pool_slots.specs.SlotQueues.{Queued, is_of}
+use Rattle.pool_slots.specs.SlotQueues.{Queued, front, is_of}
+
+-- the decommits of ranges that are counted from a base
+abbrev pub decommits : ℕ → List ByteRange → List PageCall
+decommits base ranges = map (λ r. decommitting (base + r.start) r.len) ranges
 
 -- the ranges at the front that are of this slot
 abbrev pub run_of : SlotName → List QueuedRange → List ByteRange

@@ -9,9 +9,8 @@ use Rattle.pool_pages.specs.Contents.{IsIn, page_bytes, page_origin}
 use Rattle.pool_pages.specs.Told.{Told, decommitting, overwritten}
 use Rattle.pool_pages.specs.declared.pages.PageCalls.{PageCalls}
 use Rattle.pool_images.specs.declared.ranges.ByteRange.{ByteRange}
-use Rattle.pool_images.specs.Slots.{Slot, IsSlot, IsReady, IsClean, IsLeft, IsPart, CallFaulted, Holds, size_of, decommitted_all}
+use Rattle.pool_images.specs.Slots.{Slot, IsSlot, IsReady, IsClean, IsLeft, IsPart, CallFaulted, Holds, size_of, called, decommitted_all, forgotten as forgotten_memory}
 use Rattle.pool_slots.specs.Cells.{all_calls}
-use Rattle.pool_slots.specs.Queues.{IsInSome, IsSlotLeft, front, behind}
 use Rattle.pool_slots.specs.SlotNames.{slot_kind}
 use Rattle.pool_slots.specs.declared.queued_range.QueueKind.{QueueKind}
 use Rattle.pool_slots.specs.declared.queued_range.QueuedRange.{QueuedRange}
@@ -40,6 +39,11 @@ pub record Queued : Type 0 where
   pub bytes : ℕ
   pub by_hand : Option ℕ
   pub numbers : RegionNumbers
+
+-- ranges in order, and room for so many
+pub record RangeList : Type 0 where
+  pub items : List QueuedRange
+  pub room : ℕ
 
 -- such slots in order, and room for so many
 pub record QueuedList : Type 0 where
@@ -115,12 +119,18 @@ pub record CanBeZeroed (n : ℕ) (s : Slot) : Type 0 where
 abbrev pub zeroed_slot : ℕ → Slot → Slot
 zeroed_slot n s = record s { region = overwritten s.base.bytes (replicate n 0) s.region }
 
+-- a memory is never zeroed by hand
+abbrev pub MayBeByHand : SlotKind → Option ℕ → Type 0
+MayBeByHand of_slot.Memory by_hand = by_hand ≡ None
+MayBeByHand _ by_hand = Unit {0}
+
 -- The slot's ranges are whole pages of it, and once they are decommitted, a known slot is clean. A slot that is zeroed by
 -- hand where a decommit fails can be, at all times.
 pub record LeavesClean (ranges : List QueuedRange) (m : Queued) : Type 0 where
   pub fits : IsSlot m.slot
   pub parts : All (IsPart m.slot.region.page (size_of m.slot)) (ranges_of m.name ranges)
   pub clean : m.known ≡ true → IsClean (decommitted_all (ranges_of m.name ranges) m.slot)
+  pub by_hand : MayBeByHand m.name.kind m.by_hand
   pub zeroed : IfSome m.by_hand (λ n. CanBeZeroed n m.slot)
   pub bytes : m.bytes ≤ 2 ^ 32
 
@@ -129,6 +139,7 @@ pub record IsReset (ranges : List ByteRange) (m : Queued) : Type 0 where
   pub fits : IsSlot m.slot
   pub parts : All (IsPart m.slot.region.page (size_of m.slot)) ranges
   pub clean : m.known ≡ true → IsClean (decommitted_all ranges m.slot)
+  pub by_hand : MayBeByHand m.name.kind m.by_hand
   pub zeroed : IfSome m.by_hand (λ n. CanBeZeroed n m.slot)
   pub bytes : m.bytes ≤ 2 ^ 32
 
@@ -138,6 +149,11 @@ pub record IsQueue (q : Queue) : Type 0 where
   pub slot_room : length q.slots ≤ q.slot_room
   pub distinct : AreDistinct q.slots
   pub each : AllByRecursion (LeavesClean q.ranges) q.slots
+
+-- page k is in one of the ranges, which are counted from a base
+abbrev pub IsInSome : ℕ → ℕ → ℕ → List ByteRange → Type 0
+IsInSome base page k [] = ⊥
+IsInSome base page k (r ∷ rs) = IsIn (base + r.start) r.len page k ⊎ IsInSome base page k rs
 
 -- each page of the slot holds what it goes back to, or is in a range of the slot
 abbrev pub IsCovered : List QueuedRange → Queued → Type 0
@@ -180,6 +196,15 @@ abbrev pub first_slot : List QueuedRange → SlotName
 first_slot [] = record { kind = of_slot.Memory; slot = 0 }
 first_slot (r ∷ rs) = owner r
 
+-- the elements up to the first that fails the test, and those from there on
+abbrev pub front : {X : Type 0} → (X → Bool) → List X → List X
+front test [] = []
+front test (x ∷ xs) = if test x then x ∷ front test xs else []
+
+abbrev pub behind : {X : Type 0} → (X → Bool) → List X → List X
+behind test [] = []
+behind test (x ∷ xs) = if test x then behind test xs else x ∷ xs
+
 -- the slots, of which the one with this name is changed
 abbrev pub change_at : SlotName → (Slot → Slot) → Queued → Queued
 change_at name change m = if same_slot name m.name then record m { slot = change m.slot } else m
@@ -195,15 +220,30 @@ after_run_of name q = record q {
 abbrev pub after_run : Queue → Queue
 after_run q = after_run_of (first_slot q.ranges) q
 
+-- A slot once nothing is known of it. A memory's is forgotten; a table's or a stack's region is the slot that it was.
+abbrev pub forgotten_slot : SlotKind → Slot → Slot
+forgotten_slot of_slot.Memory s = forgotten_memory s
+forgotten_slot _ s = s
+
+abbrev pub forgotten : Queued → Queued
+forgotten m = record m { slot = forgotten_slot m.name.kind m.slot; known = false }
+
+-- a fault in a call on this slot, or in none on it
+abbrev pub IsSlotLeft : Bool → Slot → Slot → Type 0
+IsSlotLeft true old new = IsLeft old new
+IsSlotLeft false old new = new ≡ old
+
 -- nothing is known of the slot any more, since a call on the slot with this name failed
 pub record IsLeftBy (faulted : SlotName) (old new : Queued) : Type 0 where
-  pub same : new ≡ record old { slot = new.slot; known = false }
-  pub slot : IsSlotLeft (same_slot faulted old.name) old.slot new.slot
+  pub same : new ≡ record old { slot = forgotten_slot old.name.kind new.slot; known = false }
+  pub slot : IsSlotLeft (same_slot faulted old.name) (forgotten_slot old.name.kind old.slot) new.slot
 
--- a decommit of the first run failed: all ranges are dropped, and nothing is known of any slot
+-- a decommit of the first run failed: all ranges are dropped, nothing is known of any slot, and each can still be zeroed by
+-- hand that is zeroed so
 pub record IsFaulted (old new : Queue) : Type 0 where
   pub ranges : new.ranges ≡ []
   pub slots : AllZip (IsLeftBy (first_slot old.ranges)) old.slots new.slots
+  pub sound : IsQueue new
   pub range_room : new.range_room ≡ old.range_room
   pub slot_room : new.slot_room ≡ old.slot_room
   pub takes : new.takes ≡ old.takes
@@ -226,9 +266,9 @@ pub record AreSettled (items : List Queued) : Type 0 where
   pub distinct : AreDistinct items
   pub each : AllByRecursion IsSettled items
 
--- nothing is known of the slot any more
-abbrev pub forgotten : Queued → Queued
-forgotten m = record m { known = false }
+-- the slot once a range of it was decommitted, and after a fault in that
+abbrev pub decommitted_at : ByteRange → Slot → Slot
+decommitted_at r s = called (decommitting (s.base.bytes + r.start) r.len) s
 
 -- A slot after a fault in the decommit of a range of it. What can be zeroed by hand still can be.
 pub record IsLeftSlot (r : ByteRange) (old new : Slot) : Type 0 where

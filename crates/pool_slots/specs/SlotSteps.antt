@@ -2,8 +2,7 @@
 use Rattle.std.specs.Prelude.{List, [], ◌∷◌, map, Bool, false}
 use Rattle.pool_slots.specs.declared.slot_name.SlotName.{SlotName}
 use Rattle.pool_slots.specs.declared.queued_range.QueuedRange.{QueuedRange}
-use Rattle.pool_slots.specs.Queues.{decommitted_at}
-use Rattle.pool_slots.specs.SlotQueues.{Queue, is_of, owner, change_at}
+use Rattle.pool_slots.specs.SlotQueues.{decommitted_at, Queue, is_of, owner, change_at}
 
 -- the first range is of this slot
 abbrev pub begins_with : SlotName → List QueuedRange → Bool

@@ -1,33 +1,34 @@
-ghost use Rattle.std.specs.Prelude.{◌≡◌, ◌+◌, ◌<◌, ◌≤◌, ◌==◌, ◌^◌, [], ◌∷◌, ◌++◌, length, ℕ, List, nat_lt, false, true, is_ok, IfOk, IfSome, OnOk, OnErr, MatchOption, slice_index_or};
-ghost use Rattle.std.specs.List.{HoldsAt};
+ghost use Rattle.std.specs.Prelude.{◌≡◌, ◌+◌, ◌<◌, ◌≤◌, ◌==◌, ◌^◌, [], ◌∷◌, ◌++◌, length, ℕ, List, false, true, is_ok, IfOk, IfSome, OnOk, OnErr, MatchOption, slice_index_or};
+ghost use Rattle.std.specs.List.{HoldsAt, list_any};
 ghost use Rattle.pool_images.specs.declared.ranges.ByteRange.{ByteRange};
-ghost use Rattle.pool_slots.specs.Queues.{QueuedMemory, QueueState, empty_queue, drained, is_held, holds, HasOwners, AreDistinct, AreApart, LeavesClean, ForgetsNothing, with_range, with_ranges, with_memory, after_append, after_take, taken_into, IsSpareOf, after_run, after_run_of, IsFaulted, AreSettled, IsSettled, calls_held, first_slot};
-ghost use Rattle.pool_slots.specs.Flushes.{IsFlushed};
-ghost use Rattle.pool_slots.specs.QueueOrders.{run_of, first_of, AreInOrder};
-ghost use Rattle.pool_slots.specs.QueueSteps.{begins_with, after_first, FirstFailed};
-ghost use Rattle.pool_slots.specs.declared.queued_range.QueueKind.TheVariants.{Memory};
+ghost use Rattle.pool_slots.specs.SlotNames.{slot_kind};
+ghost use Rattle.pool_slots.specs.QueueMerges.{CanMerge, fills, merged, merged_local};
+ghost use Rattle.pool_slots.specs.SlotQueues.{Queued, Queue, empty_queue, drained, same_slot, owner, holds, HasOwners, AreDistinct, AreApart, LeavesClean, IsReset, ForgetsNothing, with_range, with_ranges, with_slot, after_append, after_take, taken_into, IsSpareOf, after_run, after_run_of, IsFaulted, IsSettled, calls_held, first_slot, first_of_kind, others_of_kind, is_to_zero, first_zeroed};
+ghost use Rattle.pool_slots.specs.SlotOrders.{run_of, first_of, AreInOrder};
+ghost use Rattle.pool_slots.specs.SlotSteps.{begins_with, after_first};
 
-use crate::allocation_index::MemoryAllocationIndex;
-use crate::memory_items::{MemoryItem, MemoryItems};
 use crate::queued_range::{QueueKind, QueuedRange};
+use crate::queued_slot::QueuedSlot;
 use crate::range_items::RangeItems;
-use crate::slot_return::SlotReturn;
-use pool_images::{ByteRange, MemoryImageSlot};
-use pool_index::SlotId;
+use crate::slot_items::SlotItems;
+use crate::slot_name::{SlotName, same_slot};
+use pool_images::ByteRange;
+use pool_index::{SlotId, SlotKind};
 use pool_pages::{HostAlignedByteCount, PageCalls, PageFault, Pages};
 use std::alloc::{AllocError, Global};
 use std::marker::Model;
 use std::mem;
 
-/// The slots that were given back and not reset yet, with the ranges of them that are to be decommitted (Wasmtime's
-/// `decommit_queue.rs`). A slot's ranges are pushed before the slot. All memory is taken when the queue is made.
+/// The slots of every kind that were given back and not reset yet, with the ranges of them that are to be decommitted
+/// (Wasmtime's `decommit_queue.rs`). A slot's ranges are pushed before the slot. All memory is taken when the queue is made.
 ///
-/// A flush decommits the ranges in order and then gives the slots back. It can be made in one call, or in its parts: one
-/// `decommit_run` for each run of ranges of one slot, and then one `pop_memory` for each slot.
+/// A flush is made in its parts: one `decommit_run` for each run of ranges of one slot, up to the first fault; then, for
+/// memories, tables and stacks in turn, one `zero_next` for each slot that is still to be zeroed by hand, and one
+/// `pop` for each slot.
 #[derive(Drop)]
 pub struct DecommitQueue<P: Pages> {
     ranges: RangeItems,
-    memories: MemoryItems<P>,
+    slots: SlotItems<P>,
     // Where the search for the slot of a run begins.
     cursor: usize,
     takes: u64,
@@ -35,13 +36,13 @@ pub struct DecommitQueue<P: Pages> {
 }
 
 impl<P: Pages> Model for DecommitQueue<P> {
-    ghost use Rattle.pool_slots.specs.Queues.{QueueState, IsQueue};
+    ghost use Rattle.pool_slots.specs.SlotQueues.{Queue, IsQueue};
 
-    ghost Value = { QueueState };
+    ghost Value = { Queue };
 
-    ghost view = { λ q. record { ranges = q.ranges.items; memories = q.memories.items; range_room = q.ranges.room; slot_room = q.memories.room; takes = q.takes; appended = q.appended } };
+    ghost view = { λ q. record { ranges = q.ranges.items; slots = q.slots.items; range_room = q.ranges.room; slot_room = q.slots.room; takes = q.takes; appended = q.appended } };
 
-    ghost invariant = { λ q. IsQueue (record { ranges = q.ranges.items; memories = q.memories.items; range_room = q.ranges.room; slot_room = q.memories.room; takes = q.takes; appended = q.appended }) };
+    ghost invariant = { λ q. IsQueue (record { ranges = q.ranges.items; slots = q.slots.items; range_room = q.ranges.room; slot_room = q.slots.room; takes = q.takes; appended = q.appended }) };
 }
 
 impl<P: Pages> DecommitQueue<P> {
@@ -49,11 +50,11 @@ impl<P: Pages> DecommitQueue<P> {
     pub fn new(alloc: Global, ranges: usize, slots: usize) -> Result<Self, AllocError>
         ensures { IfOk result (λ q. q ≡ empty_queue ranges slots) }
     {
-        let memories = MemoryItems::new(alloc, slots)?;
+        let slots = SlotItems::new(alloc, slots)?;
         let ranges = RangeItems::new(alloc, ranges)?;
         Ok(DecommitQueue {
             ranges,
-            memories,
+            slots,
             cursor: 0,
             takes: 0,
             appended: 0,
@@ -69,7 +70,7 @@ impl<P: Pages> DecommitQueue<P> {
         len: HostAlignedByteCount,
     )
         requires room { length self.old.ranges < self.old.range_room }
-        requires not_held { is_held kind slot.0 self.old.memories ≡ false }
+        requires not_held { holds (record { kind = slot_kind kind; slot = slot.0 }) self.old.slots ≡ false }
         ensures { self.new ≡ with_range (record { kind = kind; slot = slot; range = record { start = start.bytes; len = len.bytes } }) self.old }
     {
         let range = ByteRange {
@@ -79,15 +80,15 @@ impl<P: Pages> DecommitQueue<P> {
         self.push_range(QueuedRange { kind, slot, range });
     }
 
-    /// Notes ranges of a memory's slot, in order, before the slot itself is pushed.
-    pub fn push_ranges(&mut self, slot: SlotId, ranges: &[ByteRange])
+    /// Notes ranges of a slot, in order, before the slot itself is pushed.
+    pub fn push_ranges(&mut self, kind: QueueKind, slot: SlotId, ranges: &[ByteRange])
         requires room { length self.old.ranges + length ranges.now ≤ self.old.range_room }
-        requires not_held { holds slot.0 self.old.memories ≡ false }
-        ensures { self.new ≡ with_ranges slot.0 ranges.now self.old }
+        requires not_held { holds (record { kind = slot_kind kind; slot = slot.0 }) self.old.slots ≡ false }
+        ensures { self.new ≡ with_ranges kind slot.0 ranges.now self.old }
     {
         for at in 0..ranges.len() {
             self.push_range(QueuedRange {
-                kind: QueueKind::Memory,
+                kind,
                 slot,
                 range: range_at(ranges, at),
             });
@@ -96,40 +97,45 @@ impl<P: Pages> DecommitQueue<P> {
 
     fn push_range(&mut self, range: QueuedRange)
         requires room { length self.old.ranges < self.old.range_room }
-        requires not_held { is_held range.kind range.slot.0 self.old.memories ≡ false }
+        requires not_held { holds (owner range) self.old.slots ≡ false }
         ensures { self.new ≡ with_range range self.old }
     {
         self.ranges.push(range);
     }
 
-    /// Takes a slot that is clean once the ranges that were pushed for it are decommitted, and that keeps so many bytes
-    /// resident.
-    pub fn push_memory(
-        &mut self,
-        index: MemoryAllocationIndex,
-        slot: MemoryImageSlot<P>,
-        bytes: usize,
-    )
-        requires room { length self.old.memories < self.old.slot_room }
-        requires not_held { holds index.0 self.old.memories ≡ false }
-        requires clean { LeavesClean self.old.ranges (record { index = index.0; slot = slot; known = true; bytes = bytes }) }
-        ensures { self.new ≡ with_memory (record { index = index.0; slot = slot; known = true; bytes = bytes }) self.old }
+    /// Takes a slot that is clean, where that is known, once the ranges that were pushed for it are decommitted.
+    pub fn push(&mut self, item: QueuedSlot<P>)
+        requires room { length self.old.slots < self.old.slot_room }
+        requires not_held { holds item.name self.old.slots ≡ false }
+        requires clean { LeavesClean self.old.ranges item }
+        ensures { self.new ≡ with_slot item self.old }
     {
-        self.memories.push(MemoryItem {
-            index,
-            slot,
-            known: true,
-            bytes,
-        });
+        self.slots.push(item);
         self.appended = self.appended.wrapping_add(1);
+    }
+
+    /// Takes a slot behind the ranges that its reset left, in order.
+    pub fn push_reset(&mut self, kind: QueueKind, item: QueuedSlot<P>, ranges: &[ByteRange])
+        requires kind { item.name.kind ≡ slot_kind kind }
+        requires range_room { length self.old.ranges + length ranges.now ≤ self.old.range_room }
+        requires slot_room { length self.old.slots < self.old.slot_room }
+        requires owners { HasOwners self.old }
+        requires not_held { holds item.name self.old.slots ≡ false }
+        requires reset { IsReset ranges.now item }
+        ensures pushed { self.new ≡ with_slot item (with_ranges kind item.name.slot ranges.now self.old) }
+        ensures owners { HasOwners self.new }
+    {
+        let slot = item.number();
+        self.push_ranges(kind, SlotId(slot), ranges);
+        self.push(item);
     }
 
     /// What holds of each queue, for a proof to cite: nothing of a known slot is forgotten. It does nothing.
     pub fn queue_law(&self)
         ensures forgets_nothing { ForgetsNothing self.now }
-        ensures distinct { AreDistinct self.now.memories }
+        ensures distinct { AreDistinct self.now.slots }
         ensures range_room { length self.now.ranges ≤ self.now.range_room }
-        ensures slot_room { length self.now.memories ≤ self.now.slot_room }
+        ensures slot_room { length self.now.slots ≤ self.now.slot_room }
     {
         // A read, at which the proof learns what the queue keeps.
         let _ranges = self.ranges.len();
@@ -145,20 +151,20 @@ impl<P: Pages> DecommitQueue<P> {
 
     /// Whether no slot is held.
     pub fn is_empty(&self) -> bool
-        ensures value { result ≡ (length self.now.memories == 0) }
-        ensures within { length self.now.memories ≤ self.now.slot_room }
-        ensures distinct { AreDistinct self.now.memories }
+        ensures value { result ≡ (length self.now.slots == 0) }
+        ensures within { length self.now.slots ≤ self.now.slot_room }
+        ensures distinct { AreDistinct self.now.slots }
     {
-        self.memories.is_empty()
+        self.slots.is_empty()
     }
 
     /// The calls made so far on the regions of the slots, together.
     pub fn page_calls(&self) -> PageCalls
-        ensures { result ≡ calls_held self.now.memories }
+        ensures { result ≡ calls_held self.now.slots }
     {
         let mut calls = PageCalls::none();
-        for at in 0..self.memories.len() {
-            calls = calls.plus(self.memories.get(at).page_calls());
+        for at in 0..self.slots.len() {
+            calls = calls.plus(self.slots.get(at).page_calls());
         }
         calls
     }
@@ -166,16 +172,16 @@ impl<P: Pages> DecommitQueue<P> {
     /// Moves the other queue's ranges and slots behind these. The other queue is empty then.
     pub fn append(&mut self, other: &mut DecommitQueue<P>)
         requires range_room { length self.old.ranges + length other.old.ranges ≤ self.old.range_room }
-        requires slot_room { length self.old.memories + length other.old.memories ≤ self.old.slot_room }
+        requires slot_room { length self.old.slots + length other.old.slots ≤ self.old.slot_room }
         requires owners { HasOwners self.old }
         requires other_owners { HasOwners other.old }
-        requires apart { AreApart self.old.memories other.old.memories }
+        requires apart { AreApart self.old.slots other.old.slots }
         ensures joined { self.new ≡ after_append self.old other.old }
         ensures empty { other.new ≡ drained other.old }
         ensures owners { HasOwners self.new }
     {
-        self.appended = self.appended.wrapping_add(other.memories.len() as u64);
-        self.memories.append(&mut other.memories);
+        self.appended = self.appended.wrapping_add(other.slots.len() as u64);
+        self.slots.append(&mut other.slots);
         self.ranges.append(&mut other.ranges);
     }
 
@@ -197,7 +203,23 @@ impl<P: Pages> DecommitQueue<P> {
         ensures taken { spare.new ≡ taken_into spare.old self.old }
     {
         mem::swap(&mut self.ranges, &mut spare.ranges);
-        mem::swap(&mut self.memories, &mut spare.memories);
+        mem::swap(&mut self.slots, &mut spare.slots);
+    }
+
+    /// Appends the local queue, and moves the whole queue into it where there are as many ranges as a batch then. Answers
+    /// whether it did. That is no take.
+    pub fn merge(&mut self, local: &mut DecommitQueue<P>, batch: usize) -> bool
+        requires { CanMerge self.old local.old }
+        ensures value { result ≡ fills batch local.old self.old }
+        ensures after { self.new ≡ merged result local.old self.old }
+        ensures local { local.new ≡ merged_local result local.old self.old }
+    {
+        self.append(local);
+        let full = self.raw_len() >= batch;
+        if full {
+            self.swap(local);
+        }
+        full
     }
 
     /// Decommits the ranges at the front that are of one slot, in order. Ranges of no length make no page call. Where a
@@ -210,7 +232,7 @@ impl<P: Pages> DecommitQueue<P> {
         requires owners { HasOwners self.old }
         ensures ok { OnOk result (self.new ≡ after_run self.old) }
         ensures err { OnErr result (IsFaulted self.old self.new) }
-        ensures order { AreInOrder (first_slot self.old.ranges) (run_of (first_slot self.old.ranges) self.old.ranges) (is_ok result) self.old.memories self.new.memories }
+        ensures order { AreInOrder (first_slot self.old.ranges) (run_of (first_slot self.old.ranges) self.old.ranges) (is_ok result) self.old.slots self.new.slots }
         ensures owners { HasOwners self.new }
     {
         let slot = self.first_slot();
@@ -219,14 +241,14 @@ impl<P: Pages> DecommitQueue<P> {
         self.decommit_all_of(slot, at)
     }
 
-    fn first_slot(&self) -> SlotId
+    fn first_slot(&self) -> SlotName
         requires { 0 < length self.now.ranges }
-        ensures { result.0 ≡ first_slot self.now.ranges }
+        ensures { result ≡ first_slot self.now.ranges }
     {
         let Some(first) = self.ranges.first() else {
             unreachable!()
         };
-        first.slot
+        owner(first)
     }
 
     fn begin_at(&mut self, at: usize)
@@ -236,14 +258,14 @@ impl<P: Pages> DecommitQueue<P> {
     }
 
     // Decommits the ranges at the front that are of the slot at this place.
-    fn decommit_all_of(&mut self, slot: SlotId, at: usize) -> Result<(), PageFault>
-        requires first { first_slot self.old.ranges ≡ slot.0 }
-        requires inside { at < length self.old.memories }
-        requires index { HoldsAt (λ m. m.index ≡ slot.0) self.old.memories at }
+    fn decommit_all_of(&mut self, slot: SlotName, at: usize) -> Result<(), PageFault>
+        requires first { first_slot self.old.ranges ≡ slot }
+        requires inside { at < length self.old.slots }
+        requires index { HoldsAt (λ m. m.name ≡ slot) self.old.slots at }
         requires owners { HasOwners self.old }
-        ensures ok { OnOk result (self.new ≡ after_run_of slot.0 self.old) }
+        ensures ok { OnOk result (self.new ≡ after_run_of slot self.old) }
         ensures err { OnErr result (IsFaulted self.old self.new) }
-        ensures order { AreInOrder slot.0 (run_of slot.0 self.old.ranges) (is_ok result) self.old.memories self.new.memories }
+        ensures order { AreInOrder slot (run_of slot self.old.ranges) (is_ok result) self.old.slots self.new.slots }
         ensures owners { HasOwners self.new }
     {
         while self.continues(slot) {
@@ -252,13 +274,13 @@ impl<P: Pages> DecommitQueue<P> {
         Ok(())
     }
 
-    // The place of the slot that holds this number.
-    fn place_of(&self, slot: SlotId) -> usize
-        requires { holds slot.0 self.now.memories ≡ true }
-        ensures inside { result < length self.now.memories }
-        ensures index { HoldsAt (λ m. m.index ≡ slot.0) self.now.memories result }
+    // The place of the slot with this name.
+    fn place_of(&self, slot: SlotName) -> usize
+        requires { holds slot self.now.slots ≡ true }
+        ensures inside { result < length self.now.slots }
+        ensures index { HoldsAt (λ m. m.name ≡ slot) self.now.slots result }
     {
-        let len = self.memories.len();
+        let len = self.slots.len();
         let from = self.cursor.min(len);
         match self.place_within(slot, from, len) {
             Some(at) => at,
@@ -269,13 +291,14 @@ impl<P: Pages> DecommitQueue<P> {
         }
     }
 
-    // The place of the slot with this number, among some.
-    fn place_within(&self, slot: SlotId, from: usize, to: usize) -> Option<usize>
-        requires { to ≤ length self.now.memories }
-        ensures { MatchOption result ((k : ℕ) → from ≤ k → k < to → HoldsAt (λ m. (slot.0 == m.index) ≡ false) self.now.memories k) (λ at. (at < to) × HoldsAt (λ m. m.index ≡ slot.0) self.now.memories at) }
+    // The place of the slot with this name, among some.
+    #[tactic(auto, using(crate::proofs::SlotNames::slot_at_last))]
+    fn place_within(&self, slot: SlotName, from: usize, to: usize) -> Option<usize>
+        requires { to ≤ length self.now.slots }
+        ensures { MatchOption result ((k : ℕ) → from ≤ k → k < to → HoldsAt (λ m. same_slot slot m.name ≡ false) self.now.slots k) (λ at. (at < to) × HoldsAt (λ m. m.name ≡ slot) self.now.slots at) }
     {
         for at in from..to {
-            if slot.0 == self.memories.get(at).index.0 {
+            if same_slot(slot, self.slots.get(at).name()) {
                 return Some(at);
             }
         }
@@ -284,113 +307,65 @@ impl<P: Pages> DecommitQueue<P> {
 
     // Decommits the first range, which is of the slot at this place.
     fn decommit_first(&mut self, at: usize) -> Result<(), PageFault>
-        requires inside { at < length self.old.memories }
+        requires inside { at < length self.old.slots }
         requires some { 0 < length self.old.ranges }
-        requires index { HoldsAt (λ m. begins_with m.index self.old.ranges ≡ true) self.old.memories at }
+        requires index { HoldsAt (λ m. begins_with m.name self.old.ranges ≡ true) self.old.slots at }
         ensures ok { OnOk result (self.new ≡ after_first self.old) }
         ensures err { OnErr result (IsFaulted self.old self.new) }
-        ensures failed { OnErr result (FirstFailed self.old.ranges self.old.memories self.new.memories) }
-        ensures order { AreInOrder (first_slot self.old.ranges) (first_of self.old.ranges) (is_ok result) self.old.memories self.new.memories }
+        ensures order { AreInOrder (first_slot self.old.ranges) (first_of self.old.ranges) (is_ok result) self.old.slots self.new.slots }
     {
         let Some(first) = self.ranges.pop_front() else {
             unreachable!()
         };
-        match self.memories.decommit(at, first.range) {
+        match self.slots.decommit(at, first.range) {
             Ok(()) => Ok(()),
             Err(fault) => {
                 self.ranges.clear();
-                self.memories.forget();
+                self.slots.forget();
                 Err(fault)
             }
         }
     }
 
-    // Decommits all ranges, up to the first that fails.
-    fn decommit_all(&mut self)
-        requires owners { HasOwners self.old }
-        ensures ranges { self.new.ranges ≡ [] }
-        ensures memories { IsFlushed self.old self.new.memories }
-        ensures same { self.new ≡ record self.old { ranges = []; memories = self.new.memories } }
-    {
-        while self.raw_len() > 0 {
-            let Ok(()) = self.decommit_next() else {
-                return;
-            };
-        }
-    }
-
-    // Decommits the first range.
-    fn decommit_next(&mut self) -> Result<(), PageFault>
-        requires some { 0 < length self.old.ranges }
-        requires owners { HasOwners self.old }
-        ensures ok { OnOk result (self.new ≡ after_first self.old) }
-        ensures err { OnErr result (IsFaulted self.old self.new) }
-        ensures failed { OnErr result (FirstFailed self.old.ranges self.old.memories self.new.memories) }
-        ensures order { AreInOrder (first_slot self.old.ranges) (first_of self.old.ranges) (is_ok result) self.old.memories self.new.memories }
-    {
-        let at = self.place_of_first();
-        self.begin_at(at);
-        self.decommit_first(at)
-    }
-
-    // The place of the slot that the first range is of.
-    fn place_of_first(&self) -> usize
-        requires some { 0 < length self.now.ranges }
-        requires owners { HasOwners self.now }
-        ensures inside { result < length self.now.memories }
-        ensures index { HoldsAt (λ m. begins_with m.index self.now.ranges ≡ true) self.now.memories result }
-    {
-        let slot = self.first_slot();
-        self.place_of(slot)
-    }
-
-    // Gives all slots back to their pool.
-    fn give_back<D: SlotReturn<P>>(&mut self, pool: &mut D)
-        requires ranges { self.old.ranges ≡ [] }
-        requires accepted { D.accepts self.old.memories pool.old }
-        ensures empty { self.new ≡ record self.old { memories = [] } }
-        ensures returned { D.returns self.old.memories pool.old pool.new }
-    {
-        self.cursor = 0;
-        pool.memories(&mut self.memories);
-    }
-
-    // Whether the first range is of this memory's slot.
-    fn continues(&self, slot: SlotId) -> bool
-        ensures { result ≡ begins_with slot.0 self.now.ranges }
+    // Whether the first range is of this slot.
+    fn continues(&self, slot: SlotName) -> bool
+        ensures { result ≡ begins_with slot self.now.ranges }
     {
         match self.ranges.first() {
-            Some(range) => range.kind == QueueKind::Memory && range.slot == slot,
+            Some(range) => same_slot(owner(range), slot),
             None => false,
         }
     }
 
-    /// Takes out the first slot. It is clean where it is known. The others don't move.
-    pub fn pop_memory(&mut self) -> Option<MemoryItem<P>>
+    /// Zeroes by hand the first slot of a kind of which nothing is known since a decommit failed, where its kind is zeroed so.
+    /// It is clean then. Answers whether there was one.
+    pub fn zero_next(&mut self, kind: SlotKind) -> bool
         requires { self.old.ranges ≡ [] }
-        ensures value { MatchOption result ((self.old.memories ≡ []) × (self.new ≡ self.old)) (λ m. (self.old.memories ≡ m ∷ self.new.memories) × (self.new ≡ record self.old { memories = self.new.memories })) }
+        ensures value { result ≡ list_any (is_to_zero kind) self.old.slots }
+        ensures zeroed { self.new ≡ record self.old { slots = first_zeroed kind self.old.slots } }
+    {
+        self.slots.zero_first(kind)
+    }
+
+    /// Takes out the first slot of a kind. It is clean where it is known. The others keep their order.
+    pub fn pop(&mut self, kind: SlotKind) -> Option<QueuedSlot<P>>
+        requires { self.old.ranges ≡ [] }
+        ensures value { result ≡ first_of_kind kind self.old.slots }
+        ensures others { self.new ≡ record self.old { slots = others_of_kind kind self.old.slots } }
         ensures settled { IfSome result IsSettled }
     {
         self.cursor = 0;
-        self.memories.pop_front()
+        self.slots.take_first(kind)
     }
+}
 
-    /// Decommits all ranges, and gives the slots back to their pool. The queue is empty then. Answers whether it held a
-    /// slot. After the first decommit that fails, the further ranges are not tried, and the slots go back as unknown.
-    pub fn flush<D: SlotReturn<P>>(&mut self, pool: &mut D) -> bool
-        requires owners { HasOwners self.old }
-        requires accepted { (items : List QueuedMemory) → IsFlushed self.old items → D.accepts items pool.old }
-        ensures value { result ≡ nat_lt 0 (length self.old.memories) }
-        ensures empty { self.new ≡ drained self.old }
-        ensures returned { result ≡ true → (items : List QueuedMemory) × IsFlushed self.old items × D.returns items pool.old pool.new }
-        ensures same { result ≡ false → pool.new ≡ pool.old }
-    {
-        if self.is_empty() {
-            return false;
-        }
-        self.decommit_all();
-        self.give_back(pool);
-        true
+// The slot that a range is of.
+fn owner(range: QueuedRange) -> SlotName
+    ensures { result ≡ owner range }
+{
+    SlotName {
+        kind: range.kind.slot_kind(),
+        slot: range.slot.0,
     }
 }
 

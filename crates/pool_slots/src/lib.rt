@@ -3,14 +3,16 @@
 
 mod allocation_index;
 mod cells;
+mod colouring;
 mod decommit_queue;
 mod errors;
+mod flush;
 mod heap_maker;
 mod making;
-mod memory_items;
 mod part;
 mod plain_slot;
 mod plan;
+mod plan_maker;
 mod queued_range;
 mod queued_slot;
 mod range_items;
@@ -18,7 +20,6 @@ mod region_cell;
 mod slab;
 mod slot_items;
 mod slot_name;
-mod slot_queue;
 mod slot_return;
 mod stack;
 mod striping;
@@ -26,24 +27,26 @@ mod table_sizes;
 mod unit_laws;
 
 pub use allocation_index::MemoryAllocationIndex;
-pub use cells::{ImageSlot, MemoryCell};
+pub use cells::ImageSlot;
+pub use colouring::{coloured_regions_are_fresh, stripe_colour};
 pub use decommit_queue::DecommitQueue;
 pub use errors::{AllocError, ConcurrencyKind, PoolConcurrencyLimitError, PoolNewError};
 pub use heap_maker::{GcHeap, HeapMakeFault, HeapMaker, NoHeap, NoHeaps};
-pub use making::make_cells;
-pub use memory_items::{MemoryItem, MemoryItems};
+pub use making::{make_cells, make_striped_cells};
 pub use part::{PartList, PoolPart};
 pub use plain_slot::{PlainSlot, zeroed_slots_read_zeros};
 pub use plan::{Allocator, Home, Plan, slots_are_at_home};
+pub use plan_maker::{PlanSettings, make_plan};
 pub use queued_range::{QueueKind, QueuedRange};
 pub use queued_slot::{HeldSlot, QueuedSlot};
 pub use region_cell::{RegionCell, StackCell, TableCell};
 pub use slab::{SlabConstraints, SlabLayout, calculate, settings_speak_of_layouts};
 pub use slot_items::SlotItems;
 pub use slot_name::{OfKinds, RegionNumbers, SlotName};
-pub use slot_queue::SlotQueue;
 pub use slot_return::SlotReturn;
 pub use stack::Stack;
 pub use striping::{StripedAllocationIndex, numberings_agree};
 pub use table_sizes::data_size;
-pub use unit_laws::units_follow_parts;
+pub use unit_laws::{
+    units_are_out_once, units_follow_calls, units_follow_lists, units_follow_parts,
+};

@@ -2,12 +2,12 @@ ghost use Rattle.std.specs.Prelude.{◌≡◌, ◌+◌, ◌^◌, ◌<◌, ◌≤
 ghost use Rattle.pool_slots.specs.Cells.{IsCleanOnceUsed};
 ghost use Rattle.pool_slots.specs.CellOf.{cell_of};
 ghost use Rattle.pool_slots.specs.SlotQueues.{Queue};
-ghost use Rattle.pool_slots.specs.Parts.{IsShardPart, IsCellPart, CanFree, CanMerge, CanMergeInto, CanTakeInto, picked_number, picked_from, affine_number, affine_picked_from, freed_in, held_in, numbers_in, region_taken, region_put, fills, merged, merged_local, fills_batch, merged_into, local_after_merge, queue_taken, local_after_take, part_at, with_part, IsAt};
+ghost use Rattle.pool_slots.specs.Parts.{IsShardPart, IsCellPart, CanFree, CanMergeInto, CanTakeInto, picked_number, picked_from, affine_number, affine_picked_from, freed_in, held_in, numbers_in, region_taken, region_put, fills_batch, merged_into, local_after_merge, queue_taken, local_after_take, part_at, with_part, IsAt};
 
 use crate::cells::ImageSlot;
+use crate::decommit_queue::DecommitQueue;
 use crate::region_cell::RegionCell;
 use crate::slot_name::RegionNumbers;
-use crate::slot_queue::SlotQueue;
 use pool_index::{MemoryInModule, Shard, SlotId, Steps};
 use pool_pages::Pages;
 use std::marker::Model;
@@ -20,7 +20,7 @@ pub enum PoolPart<P: Pages> {
     Memory(RegionCell<P>),
     Table(RegionCell<P>),
     Stack(RegionCell<P>),
-    Queue(SlotQueue<P>),
+    Queue(DecommitQueue<P>),
 }
 
 impl<P: Pages> PoolPart<P> {
@@ -105,20 +105,20 @@ impl<P: Pages> PoolPart<P> {
 
     /// Appends the local queue to a queue, and moves the whole queue into it where there are as many ranges as a batch then.
     /// Answers whether it did. That is no take.
-    pub fn merge(&mut self, local: &mut SlotQueue<P>, batch: usize) -> bool
+    pub fn merge(&mut self, local: &mut DecommitQueue<P>, batch: usize) -> bool
         requires { CanMergeInto local.old self.old }
         ensures answer { result ≡ fills_batch batch local.old self.old }
         ensures after { self.new ≡ merged_into batch local.old self.old }
         ensures local { local.new ≡ local_after_merge batch local.old self.old }
     {
         match self {
-            PoolPart::Queue(queue) => merge_into(queue, local, batch),
+            PoolPart::Queue(queue) => queue.merge(local, batch),
             _ => unreachable!(),
         }
     }
 
     /// Takes a whole queue into the local one, which is empty and has the same room.
-    pub fn take_queue(&mut self, local: &mut SlotQueue<P>)
+    pub fn take_queue(&mut self, local: &mut DecommitQueue<P>)
         requires { CanTakeInto local.old self.old }
         ensures after { self.new ≡ queue_taken self.old }
         ensures local { local.new ≡ local_after_take local.old self.old }
@@ -128,20 +128,6 @@ impl<P: Pages> PoolPart<P> {
             _ => unreachable!(),
         }
     }
-}
-
-fn merge_into<P: Pages>(queue: &mut SlotQueue<P>, local: &mut SlotQueue<P>, batch: usize) -> bool
-    requires { CanMerge queue.old local.old }
-    ensures value { result ≡ fills batch local.old queue.old }
-    ensures after { queue.new ≡ merged result local.old queue.old }
-    ensures local { local.new ≡ merged_local result local.old queue.old }
-{
-    queue.append(local);
-    let full = queue.raw_len() >= batch;
-    if full {
-        queue.swap(local);
-    }
-    full
 }
 
 /// The parts of a pool, by their places.
@@ -219,7 +205,7 @@ impl<P: Pages> PartList<P> {
     }
 
     /// `PoolPart::merge` of the part at a place.
-    pub fn merge(&mut self, place: u32, local: &mut SlotQueue<P>, batch: usize) -> bool
+    pub fn merge(&mut self, place: u32, local: &mut DecommitQueue<P>, batch: usize) -> bool
         requires { IsAt (CanMergeInto local.old) place self.old }
         ensures answer { result ≡ fills_batch batch local.old (part_at place self.old) }
         ensures after { self.new ≡ with_part place (merged_into batch local.old) self.old }
@@ -230,7 +216,7 @@ impl<P: Pages> PartList<P> {
     }
 
     /// `PoolPart::take_queue` of the part at a place.
-    pub fn take_queue(&mut self, place: u32, local: &mut SlotQueue<P>)
+    pub fn take_queue(&mut self, place: u32, local: &mut DecommitQueue<P>)
         requires { IsAt (CanTakeInto local.old) place self.old }
         ensures after { self.new ≡ with_part place queue_taken self.old }
         ensures local { local.new ≡ local_after_take local.old (part_at place self.old) }

@@ -1,10 +1,8 @@
 ghost use Rattle.std.specs.Prelude.{◌≡◌, ◌+◌, ◌%◌, ◌≤◌, [], length, min, replicate, slice_range, All, IfSome};
 ghost use Rattle.pool_images.specs.Slots.{IsPart, IsClean, size_of, decommitted_all};
-ghost use Rattle.pool_slots.specs.HeldSlots.{held_slot, by_hand_of};
 ghost use Rattle.pool_slots.specs.PlainSlots.{IsPlain, IsUnusedFrom, plain_written, top_kept, top_reset, below_top, bottom_reset, above_bottom, CleanSlotsReadZeros, ZeroedSlotsAreClean};
 ghost use Rattle.pool_slots.specs.SlotQueues.{plain_slot};
 
-use crate::queued_slot::HeldSlot;
 use pool_images::{ByteRange, Ranges};
 use pool_pages::{HostAlignedByteCount, PageRegion, Pages};
 use std::marker::Model;
@@ -130,12 +128,11 @@ impl<P: Pages> PlainSlot<P> {
         kept
     }
 
-    /// As a queue holds it; so many bytes are zeroed by hand where a decommit fails, if it is zeroed so.
-    pub fn into_held(self, by_hand: Option<usize>) -> HeldSlot<P>
-        ensures slot { held_slot result ≡ self }
-        ensures by_hand { by_hand_of result ≡ by_hand }
+    /// The region, and where in it the slot begins, as a queue holds it.
+    pub fn into_parts(self) -> (PageRegion<P>, HostAlignedByteCount)
+        ensures { plain_slot result.1.bytes result.0 ≡ self }
     {
-        HeldSlot::Plain(self.region, self.base, by_hand)
+        (self.region, self.base)
     }
 
     /// The region.

@@ -3,10 +3,9 @@ ghost use Rattle.std.specs.Option.{option_map_or};
 ghost use Rattle.pool_pages.specs.Told.{Faulted, TellsShaped, succeeded, decommitting};
 ghost use Rattle.pool_images.specs.Orders.{Follows};
 ghost use Rattle.pool_images.specs.Slots.{IsPart, IsSlot, CallFaulted, size_of};
-ghost use Rattle.pool_slots.specs.Queues.{decommitted_at};
-ghost use Rattle.pool_slots.specs.QueueOrders.{decommits};
-ghost use Rattle.pool_slots.specs.HeldSlots.{held_slot, by_hand_of};
-ghost use Rattle.pool_slots.specs.SlotQueues.{plain_slot, CanBeZeroed, IsLeftSlot, IsLeftItem, zeroed_slot, is_to_zero, zeroed};
+ghost use Rattle.pool_slots.specs.SlotQueues.{decommitted_at, plain_slot, CanBeZeroed, IsLeftSlot, IsLeftItem, zeroed_slot, is_to_zero, zeroed, forgotten, forgotten_slot};
+ghost use Rattle.pool_slots.specs.SlotOrders.{decommits};
+ghost use Rattle.pool_slots.specs.HeldSlots.{held_slot, held_kind, by_hand_of};
 
 use crate::slot_name::{RegionNumbers, SlotName, same_kind};
 use pool_images::{ByteRange, MemoryImageSlot};
@@ -18,16 +17,19 @@ use std::marker::Model;
 #[derive(Drop)]
 pub enum HeldSlot<P: Pages> {
     /// The slot of a memory, with the image that is mapped in it.
-    Image(MemoryImageSlot<P>),
-    /// The region of a table or a stack, which begins at this byte of it, and how many bytes from there on are zeroed by
-    /// hand where a decommit fails, unless it isn't zeroed at all.
-    Plain(PageRegion<P>, HostAlignedByteCount, Option<usize>),
+    Memory(MemoryImageSlot<P>),
+    /// The region of a table, which begins at this byte of it, and how many bytes from there on are zeroed by hand where a
+    /// decommit fails, unless it isn't zeroed at all.
+    Table(PageRegion<P>, HostAlignedByteCount, Option<usize>),
+    /// The region of a stack, likewise.
+    Stack(PageRegion<P>, HostAlignedByteCount, Option<usize>),
 }
 
 /// A slot on its way back to its pool.
 #[derive(Drop)]
 pub struct QueuedSlot<P: Pages> {
-    pub name: SlotName,
+    /// The slot's number among those of its kind.
+    pub slot: u32,
     pub held: HeldSlot<P>,
     /// Whether the slot is clean, once its ranges in the same queue are decommitted.
     pub known: bool,
@@ -42,9 +44,9 @@ impl<P: Pages> Model for QueuedSlot<P> {
 
     ghost Value = { Queued };
 
-    ghost use Rattle.pool_slots.specs.HeldSlots.{held_slot, by_hand_of};
+    ghost use Rattle.pool_slots.specs.HeldSlots.{held_slot, held_kind, by_hand_of};
 
-    ghost view = { λ m. record { name = m.name; slot = held_slot m.held; known = m.known; bytes = m.bytes; by_hand = by_hand_of m.held; numbers = m.numbers } };
+    ghost view = { λ m. record { name = record { kind = held_kind m.held; slot = m.slot }; slot = held_slot m.held; known = m.known; bytes = m.bytes; by_hand = by_hand_of m.held; numbers = m.numbers } };
 }
 
 impl<P: Pages> QueuedSlot<P> {
@@ -52,7 +54,16 @@ impl<P: Pages> QueuedSlot<P> {
     pub fn number(&self) -> u32
         ensures { result ≡ self.now.name.slot }
     {
-        self.name.slot
+        self.slot
+    }
+
+    pub fn name(&self) -> SlotName
+        ensures { result ≡ self.now.name }
+    {
+        SlotName {
+            kind: self.held.kind(),
+            slot: self.slot,
+        }
     }
 
     /// The calls made so far on the slot's region.
@@ -60,8 +71,9 @@ impl<P: Pages> QueuedSlot<P> {
         ensures { result ≡ self.now.slot.region.calls }
     {
         match &self.held {
-            HeldSlot::Image(slot) => slot.region().calls(),
-            HeldSlot::Plain(region, _, _) => region.calls(),
+            HeldSlot::Memory(slot) => slot.region().calls(),
+            HeldSlot::Table(region, _, _) => region.calls(),
+            HeldSlot::Stack(region, _, _) => region.calls(),
         }
     }
 
@@ -80,16 +92,25 @@ impl<P: Pages> QueuedSlot<P> {
     pub(crate) fn is_to_zero(&self, kind: SlotKind) -> bool
         ensures { result ≡ is_to_zero kind self.now }
     {
-        same_kind(kind, self.name.kind) && self.is_zeroed_by_hand() && !self.known
+        same_kind(kind, self.held.kind()) && self.is_zeroed_by_hand() && !self.known
     }
 
     fn is_zeroed_by_hand(&self) -> bool
         ensures { result ≡ is_some self.now.by_hand }
     {
         match &self.held {
-            HeldSlot::Image(_) => false,
-            HeldSlot::Plain(_, _, by_hand) => by_hand.is_some(),
+            HeldSlot::Memory(_) => false,
+            HeldSlot::Table(_, _, by_hand) => by_hand.is_some(),
+            HeldSlot::Stack(_, _, by_hand) => by_hand.is_some(),
         }
+    }
+
+    // Nothing is known of the slot from now on.
+    pub(crate) fn forget(&mut self)
+        ensures { self.new ≡ forgotten self.old }
+    {
+        self.known = false;
+        forget_held(&mut self.held);
     }
 
     // Zeroes the slot by hand, where it is one that is zeroed so.
@@ -103,6 +124,30 @@ impl<P: Pages> QueuedSlot<P> {
     }
 }
 
+impl<P: Pages> HeldSlot<P> {
+    /// What the slot is for.
+    pub fn kind(&self) -> SlotKind
+        ensures { result ≡ held_kind self.now }
+    {
+        match self {
+            HeldSlot::Memory(_) => SlotKind::Memory,
+            HeldSlot::Table(_, _, _) => SlotKind::Table,
+            HeldSlot::Stack(_, _, _) => SlotKind::Stack,
+        }
+    }
+}
+
+// Nothing is known of what is held from now on.
+fn forget_held<P: Pages>(held: &mut HeldSlot<P>)
+    ensures slot { held_slot held.new ≡ forgotten_slot (held_kind held.old) (held_slot held.old) }
+    ensures kind { held_kind held.new ≡ held_kind held.old }
+    ensures by_hand { by_hand_of held.new ≡ by_hand_of held.old }
+{
+    if let HeldSlot::Memory(slot) = held {
+        slot.forget();
+    }
+}
+
 // Decommits a range of what is held.
 fn decommit_held<P: Pages>(held: &mut HeldSlot<P>, range: ByteRange) -> Result<(), PageFault>
     requires part { IsPart (held_slot held.old).region.page (size_of (held_slot held.old)) range }
@@ -110,11 +155,13 @@ fn decommit_held<P: Pages>(held: &mut HeldSlot<P>, range: ByteRange) -> Result<(
     ensures ok { OnOk result (held_slot held.new ≡ decommitted_at range (held_slot held.old)) }
     ensures err { OnErr result (IsLeftSlot range (held_slot held.old) (held_slot held.new)) }
     ensures order { Follows (decommits (held_slot held.old).base.bytes (range ∷ [])) (is_ok result) (held_slot held.old).region (held_slot held.new).region }
+    ensures kind { held_kind held.new ≡ held_kind held.old }
     ensures by_hand { by_hand_of held.new ≡ by_hand_of held.old }
 {
     match held {
-        HeldSlot::Image(slot) => decommit_image(slot, range),
-        HeldSlot::Plain(region, base, _) => decommit_plain(region, *base, range),
+        HeldSlot::Memory(slot) => decommit_image(slot, range),
+        HeldSlot::Table(region, base, _) => decommit_plain(region, *base, range),
+        HeldSlot::Stack(region, base, _) => decommit_plain(region, *base, range),
     }
 }
 
@@ -188,11 +235,13 @@ fn zero_held<P: Pages>(held: &mut HeldSlot<P>) -> bool
     requires { IfSome (by_hand_of held.old) (λ n. CanBeZeroed n (held_slot held.old)) }
     ensures value { result ≡ is_some (by_hand_of held.old) }
     ensures slot { held_slot held.new ≡ option_map_or (λ n. zeroed_slot n (held_slot held.old)) (by_hand_of held.old) (held_slot held.old) }
+    ensures kind { held_kind held.new ≡ held_kind held.old }
     ensures by_hand { by_hand_of held.new ≡ by_hand_of held.old }
 {
     match held {
-        HeldSlot::Image(_) => false,
-        HeldSlot::Plain(region, base, by_hand) => zero_plain(region, *base, *by_hand),
+        HeldSlot::Memory(_) => false,
+        HeldSlot::Table(region, base, by_hand) => zero_plain(region, *base, *by_hand),
+        HeldSlot::Stack(region, base, by_hand) => zero_plain(region, *base, *by_hand),
     }
 }
 

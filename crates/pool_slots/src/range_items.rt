@@ -22,7 +22,7 @@ pub(crate) struct RangeItems {
 
 impl Model for RangeItems {
     ghost use Rattle.std.specs.Prelude.{◌+◌, ◌≤◌, length, drop};
-    ghost use Rattle.pool_slots.specs.Queues.{RangeList};
+    ghost use Rattle.pool_slots.specs.SlotQueues.{RangeList};
 
     ghost Value = { RangeList };
 

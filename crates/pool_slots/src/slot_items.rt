@@ -2,9 +2,8 @@ ghost use Rattle.std.specs.Prelude.{◌≡◌, ◌+◌, ◌<◌, ◌≤◌, ◌=
 ghost use Rattle.std.specs.List.{AllByRecursion, HoldsAt, list_any};
 ghost use Rattle.pool_images.specs.Orders.{Follows};
 ghost use Rattle.pool_images.specs.Slots.{IsPart, IsSlot, size_of};
-ghost use Rattle.pool_slots.specs.Queues.{decommitted_at};
-ghost use Rattle.pool_slots.specs.QueueOrders.{decommits};
-ghost use Rattle.pool_slots.specs.SlotQueues.{Queued, CanBeZeroed, same_kind, first_of_kind, others_of_kind, forgotten, IsLeftItem, is_to_zero, first_zeroed, zeroed};
+ghost use Rattle.pool_slots.specs.SlotQueues.{decommitted_at, Queued, CanBeZeroed, same_kind, first_of_kind, others_of_kind, forgotten, IsLeftItem, is_to_zero, first_zeroed, zeroed};
+ghost use Rattle.pool_slots.specs.SlotOrders.{decommits};
 
 use crate::queued_slot::QueuedSlot;
 use crate::slot_name::same_kind;
@@ -99,7 +98,7 @@ impl<P: Pages> SlotItems<P> {
         requires { at < length self.now.items }
         ensures { HoldsAt (λ m. result ≡ same_kind kind m.name.kind) self.now.items at }
     {
-        same_kind(kind, self.list[at].name.kind)
+        same_kind(kind, self.list[at].name().kind)
     }
 
     /// Moves all of the other list behind these.
@@ -140,7 +139,7 @@ impl<P: Pages> SlotItems<P> {
         ensures { HoldsAt (λ m. self.new ≡ record self.old { items = slice_set self.old.items at (forgotten m) }) self.old.items at }
     {
         let item = &mut self.list[at];
-        item.known = false;
+        item.forget();
     }
 
     /// Zeroes by hand the first slot of a kind that is still to be zeroed. Answers whether there was one.

@@ -5,10 +5,9 @@ ghost use Rattle.pool_slots.specs.SlotQueues.{plain_slot};
 ghost use Rattle.pool_slots.specs.HeldSlots.{stack_item};
 
 use crate::plain_slot::PlainSlot;
-use crate::queued_slot::QueuedSlot;
-use crate::slot_name::{RegionNumbers, SlotName};
+use crate::queued_slot::{HeldSlot, QueuedSlot};
+use crate::slot_name::RegionNumbers;
 use pool_images::Ranges;
-use pool_index::SlotKind;
 use pool_pages::{HostAlignedByteCount, Pages};
 use std::marker::Model;
 
@@ -98,12 +97,10 @@ impl<P: Pages> Stack<P> {
     {
         let len = self.slot.len();
         let by_hand = if self.zeroing { Some(len) } else { None };
+        let (region, base) = self.slot.into_parts();
         QueuedSlot {
-            name: SlotName {
-                kind: SlotKind::Stack,
-                slot: self.index,
-            },
-            held: self.slot.into_held(by_hand),
+            slot: self.index,
+            held: HeldSlot::Stack(region, base, by_hand),
             known: self.zeroing,
             bytes,
             numbers,

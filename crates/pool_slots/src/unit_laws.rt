@@ -1,4 +1,7 @@
+ghost use Rattle.pool_slots.specs.ListUnits.{AwayFollows, KeptFollows, AwayOnce, PickCounts, FreeCounts, TakeCounts, PutCounts, MergeCounts, QueueTakeCounts};
 ghost use Rattle.pool_slots.specs.PartUnits.{PicksCount, FreesCount, TakesCount, PutsCount, AppendsCount, QueueTakesCount};
+
+use pool_pages::Pages;
 
 /// No unit is made or lost where slots are picked and freed, where regions leave their cells and come back, and where
 /// queues are appended and taken. It does nothing.
@@ -10,4 +13,27 @@ pub fn units_follow_parts()
     ensures put { PutsCount }
     ensures appended { AppendsCount }
     ensures queue_taken { QueueTakesCount }
+{}
+
+/// What one part of a pool gives out, takes back or keeps, all parts together do. It does nothing.
+#[tactic(auto, using(crate::proofs::ListUnits::away_follows, crate::proofs::ListUnits::kept_follows))]
+pub fn units_follow_lists<P: Pages>()
+    ensures away { AwayFollows P }
+    ensures kept { KeptFollows P }
+{}
+
+/// What each call on the part at a place makes of the units that all parts have given out and keep. It does nothing.
+pub fn units_follow_calls<P: Pages>()
+    ensures pick { PickCounts P }
+    ensures free { FreeCounts P }
+    ensures take { TakeCounts P }
+    ensures put { PutCounts P }
+    ensures merge { MergeCounts P }
+    ensures queue_take { QueueTakeCounts P }
+{}
+
+/// Over a pool whose parts stand where a right plan has them, no slot is given out twice, and no region of a slot, whatever
+/// numbers their units tell. It does nothing.
+pub fn units_are_out_once<P: Pages>()
+    ensures { AwayOnce P }
 {}

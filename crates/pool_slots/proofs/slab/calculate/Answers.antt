@@ -1,4 +1,4 @@
-use Rattle.std.proofs.Common.{◌≡◌, ℕ, ◌<◌, Bool, true, ◌&&◌, sym, ap, ◌∙◌, subst, arith}
+use Rattle.std.proofs.Common.{◌≡◌, ◌<◌, Bool, true, ◌&&◌, sym, ap, ◌∙◌, subst, arith}
 use Rattle.pool_pages.specs.SettingsRules.{is_address}
 use Rattle.pool_slots.specs.declared.slab.SlabConstraints.{SlabConstraints}
 use Rattle.pool_slots.specs.declared.slab.SlabLayout.{SlabLayout}

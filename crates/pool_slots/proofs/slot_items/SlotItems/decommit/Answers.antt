@@ -4,8 +4,7 @@ use Rattle.std.specs.List.{HoldsAt}
 use Rattle.std.proofs.lemmas.List.{get_or_read}
 use Rattle.std.proofs.lemmas.Result.{on_ok_weaker, on_err_weaker}
 use Rattle.pool_images.specs.Slots.{IsPart, IsSlot, size_of}
-use Rattle.pool_slots.specs.Queues.{decommitted_at}
-use Rattle.pool_slots.specs.SlotQueues.{Queued, IsLeftItem}
+use Rattle.pool_slots.specs.SlotQueues.{decommitted_at, Queued, IsLeftItem}
 use Rattle.pool_slots.proofs.slot_items.SlotItems.decommit.Goals as goal
 
 pub decommit-requires-clause-part : goal.decommit-requires-clause-part

@@ -1,0 +1,162 @@
+-- A plan with one allocator for each kind is right: its blocks lie in a line, and each slot is at home.
+use Rattle.std.proofs.Common.{◌≡◌, ℕ, ◌+◌, ◌-◌, ◌*◌, ◌/◌, ◌%◌, ◌^◌, ◌<◌, ◌≤◌, true, List, [], ◌∷◌, ◌++◌, refl, sym, ap, ◌∙◌, subst, inl, inr, arith}
+use Rattle.std.specs.Prelude.{map, nat_le, nat_lt, min}
+use Rattle.std.specs.List.{AllByRecursion}
+use Rattle.std.proofs.lemmas.Bool.{and_from, lt-ltb, le-leb}
+use Rattle.std.proofs.Math.Nat.{div-add-mod, mod-lt}
+use Rattle.pool_hall.specs.declared.unit_name.SlotKind.{SlotKind}
+use Rattle.pool_hall.specs.declared.unit_name.SlotKind.TheVariants.{Memory, Table, Stack, Heap}
+use Rattle.pool_slots.specs.SlotNames.{of_kind}
+use Rattle.pool_slots.specs.Plans.{allocators_of, allocators, queue_role, heaps_role, cells_block, has_number, have_number, home_among, home_of, IsAtHome, Block, shards_block, AreBesides, AreSeparate, IsAllocator, IsPlacedAllocator, AreAllocators, IsPlanned}
+use Rattle.pool_slots.specs.PlansMade.{HoldSlots, HaveShards, shards_from, shards_planned, places_planned, allocator_planned, IsPlanOf, home_planned, FollowOneAnother}
+use Rattle.pool_slots.specs.declared.slot_name.OfKinds.{OfKinds}
+use Rattle.pool_slots.specs.declared.slot_name.SlotName.{SlotName}
+use Rattle.pool_slots.specs.declared.plan.Allocator.{Allocator}
+use Rattle.pool_slots.specs.declared.plan.Plan.{Plan}
+use Rattle.pool_slots.specs.declared.plan_maker.PlanSettings.{PlanSettings}
+use Rattle.pool_slots.proofs.Planning.{slots_are_at_home}
+use Rattle.pool_slots.proofs.Lists.{each_weaker, each_append}
+
+-- each block begins where the one before it ends, or later
+abbrev AreInLine : ℕ → List Block → ℕ → Type 0
+AreInLine p [] q = p ≤ q
+AreInLine p (b ∷ bs) q = (p ≤ b.first) × AreInLine (b.first + b.count) bs q
+
+beyond : (p : ℕ) (bs : List Block) (q : ℕ) → AreInLine p bs q → AllByRecursion (λ b. p ≤ b.first) bs
+beyond p [] q line = tt
+beyond p (b ∷ bs) q line =
+    (line.0, each_weaker (λ d. b.first + b.count ≤ d.first) (λ d. p ≤ d.first) bs (λ d from. let here = line.0 in omega (arith, here, from)) (beyond (b.first + b.count) bs q line.1))
+
+rises : (p : ℕ) (bs : List Block) (q : ℕ) → AreInLine p bs q → p ≤ q
+rises p [] q line = line
+rises p (b ∷ bs) q line = let here = line.0 in let rest = rises (b.first + b.count) bs q line.1 in omega (arith, here, rest)
+
+below : (p : ℕ) (bs : List Block) (q : ℕ) → AreInLine p bs q → AllByRecursion (λ b. b.first + b.count ≤ q) bs
+below p [] q line = tt
+below p (b ∷ bs) q line = (rises (b.first + b.count) bs q line.1, below (b.first + b.count) bs q line.1)
+
+separate : (p : ℕ) (bs : List Block) (q : ℕ) → AreInLine p bs q → AreSeparate bs
+separate p [] q line = tt
+separate p (b ∷ bs) q line =
+    (each_weaker (λ d. b.first + b.count ≤ d.first) (AreBesides b) bs (λ d from. inl from) (beyond (b.first + b.count) bs q line.1), separate (b.first + b.count) bs q line.1)
+
+-- blocks in a line, and behind them in the list others that lie before them
+separate_behind : (s : ℕ) (bs ds : List Block) → AllByRecursion (λ b. s ≤ b.first) bs → AllByRecursion (λ d. d.first + d.count ≤ s) ds → AreSeparate bs → AreSeparate ds → AreSeparate (bs ++ ds)
+separate_behind s [] ds from to mine theirs = theirs
+separate_behind s (b ∷ bs) ds from to mine theirs =
+    let here = from.0 in (
+      each_append (AreBesides b) bs ds mine.0 (each_weaker (λ d. d.first + d.count ≤ s) (AreBesides b) ds (λ d under. inr (omega (arith, here, under))) to),
+      separate_behind s bs ds from.1 to mine.1 theirs,
+    )
+
+-- the blocks behind the shards, and those of the shards
+abbrev four : PlanSettings → List Allocator
+four s = allocator_planned s Memory ∷ allocator_planned s Table ∷ allocator_planned s Stack ∷ allocator_planned s Heap ∷ []
+
+shards_line : (s : PlanSettings) → AreInLine 0 (map shards_block (four s)) (shards_planned s)
+shards_line s = (omega arith, (omega arith, (omega arith, (omega arith, omega arith))))
+
+four_are : (s : PlanSettings) (plan : Plan) → IsPlanOf s plan → allocators plan ≡ four s
+four_are s plan is =
+    let m : plan.memories.items ≡ allocator_planned s Memory ∷ [] = is.allocators Memory in
+    let t : plan.tables.items ≡ allocator_planned s Table ∷ [] = is.allocators Table in
+    let k : plan.stacks.items ≡ allocator_planned s Stack ∷ [] = is.allocators Stack in
+    let h : plan.heaps.items ≡ allocator_planned s Heap ∷ [] = is.allocators Heap in
+    rw (m, t, k, h) refl
+
+abbrev behind_shards : Plan → List Block
+behind_shards plan = cells_block plan Memory ∷ cells_block plan Table ∷ cells_block plan Stack
+    ∷ record { first = plan.first_queue; count = plan.queues; role = λ i. queue_role }
+    ∷ record { first = plan.heap_list; count = min 1 plan.totals.heap; role = λ i. heaps_role }
+    ∷ []
+
+cells_line : (s : PlanSettings) (plan : Plan) → IsPlanOf s plan → AreInLine (shards_planned s) (behind_shards plan) (places_planned s)
+cells_line s plan is =
+    let cm : plan.cells.memory ≡ shards_planned s = ap (λ (o : OfKinds). o.memory) is.cells in
+    let ct : plan.cells.table ≡ shards_planned s + s.totals.memory = ap (λ (o : OfKinds). o.table) is.cells in
+    let cs : plan.cells.stack ≡ shards_planned s + s.totals.memory + s.totals.table = ap (λ (o : OfKinds). o.stack) is.cells in
+    let m : plan.totals.memory ≡ s.totals.memory = ap (λ (o : OfKinds). o.memory) is.totals in
+    let t : plan.totals.table ≡ s.totals.table = ap (λ (o : OfKinds). o.table) is.totals in
+    let k : plan.totals.stack ≡ s.totals.stack = ap (λ (o : OfKinds). o.stack) is.totals in
+    let h : min 1 plan.totals.heap ≡ min 1 s.totals.heap = ap (λ (o : OfKinds). min 1 o.heap) is.totals in
+    let q = is.first_queue in
+    let n = is.queues in
+    let l = is.heap_list in
+    (omega (arith, cm), (omega (arith, cm, ct, m), (omega (arith, ct, cs, t), (omega (arith, cs, k, q), (omega (arith, q, n, l), omega (arith, l, h))))))
+
+-- the one allocator of a kind has each number below its total
+whole_steps : (n : ℕ) → ((n - 0) % 1 ≡ 0) × ((n - 0) / 1 ≡ n)
+whole_steps n =
+    let none : (n - 0) % 1 < 1 = mod-lt (n - 0) (omega arith) in
+    let split : 1 * ((n - 0) / 1) + (n - 0) % 1 ≡ n - 0 = div-add-mod (n - 0) 1 in
+    (omega arith, omega arith)
+
+has_each : (s : PlanSettings) (kind : SlotKind) (n : ℕ) → n < of_kind kind s.totals → has_number (allocator_planned s kind) n ≡ true
+has_each s kind n inside =
+    let w = whole_steps n in
+    rw (w.0, w.1) (and_from (nat_le 0 n) (nat_lt n (of_kind kind s.totals)) (le-leb 0 n (omega arith)) (lt-ltb n (of_kind kind s.totals) inside))
+
+holds_of : (s : PlanSettings) (kind : SlotKind) → HaveShards s → HoldSlots (of_kind kind s.totals) (of_kind kind s.shards) (of_kind kind s.slots_per_shard)
+holds_of s Memory have = have.memory
+holds_of s Table have = have.table
+holds_of s Stack have = have.stack
+holds_of s Heap have = have.heap
+
+allocator_is : (s : PlanSettings) (kind : SlotKind) → HaveShards s → IsAllocator kind (of_kind kind s.totals) (allocator_planned s kind)
+allocator_is s kind have =
+    let holds = holds_of s kind have in
+    record { kind_is = refl; some = holds.some; apart = omega arith; covered = holds.covered; below = λ k inside. omega (arith, inside) }
+
+allocators_are : (s : PlanSettings) (kind : SlotKind) → HaveShards s → AreAllocators kind (of_kind kind s.totals) (allocator_planned s kind ∷ [])
+allocators_are s kind have = record { each = (allocator_is s kind have, tt); one = λ n inside. rw (has_each s kind n inside) refl }
+
+pub planned : (s : PlanSettings) (plan : Plan) → HaveShards s → IsPlanOf s plan → IsPlanned plan (places_planned s)
+planned s plan have is =
+    let shards : AreInLine 0 (map shards_block (allocators plan)) (shards_planned s) = rw (four_are s plan is) (shards_line s) in
+    let cells = cells_line s plan is in
+    let ends : shards_planned s ≤ places_planned s = rises (shards_planned s) (behind_shards plan) (places_planned s) cells in
+    record {
+      separate =
+          separate_behind (shards_planned s) (behind_shards plan) (map shards_block (allocators plan)) (beyond (shards_planned s) (behind_shards plan) (places_planned s) cells)
+          (below 0 (map shards_block (allocators plan)) (shards_planned s) shards)
+          (separate (shards_planned s) (behind_shards plan) (places_planned s) cells)
+          (separate 0 (map shards_block (allocators plan)) (shards_planned s) shards);
+      inside =
+          each_append (λ b. b.first + b.count ≤ places_planned s) (behind_shards plan) (map shards_block (allocators plan)) (below (shards_planned s) (behind_shards plan) (places_planned s) cells)
+          (each_weaker (λ b. b.first + b.count ≤ shards_planned s) (λ b. b.first + b.count ≤ places_planned s) (map shards_block (allocators plan)) (λ b under. omega (arith, under, ends))
+          (below 0 (map shards_block (allocators plan)) (shards_planned s) shards));
+      slots = λ kind.
+          let A : List Allocator → Type 0 = λ l. AreAllocators kind (of_kind kind plan.totals) l in
+          subst A (sym (is.allocators kind)) (rw is.totals (allocators_are s kind have));
+    }
+
+-- its shards have places that are numbers of 32 bits
+first_fits : (s : PlanSettings) (kind : SlotKind) → of_kind kind (shards_from s) + of_kind kind s.shards ≤ places_planned s
+first_fits s Memory = omega arith
+first_fits s Table = omega arith
+first_fits s Stack = omega arith
+first_fits s Heap = omega arith
+
+pub placed : (s : PlanSettings) (plan : Plan) → HaveShards s → places_planned s < 2 ^ 32 → IsPlanOf s plan → (kind : SlotKind) → AllByRecursion IsPlacedAllocator (allocators_of plan kind)
+placed s plan have fits is kind =
+    let holds = holds_of s kind have in
+    let first = first_fits s kind in
+    let A : List Allocator → Type 0 = λ l. AllByRecursion IsPlacedAllocator l in
+    subst A (sym (is.allocators kind)) (record { some = holds.some; apart = omega arith; covered = holds.covered; places = omega (arith, first, fits) }, tt)
+
+home_by : (s : PlanSettings) (name : SlotName) → name.slot < of_kind name.kind s.totals → home_among (allocator_planned s name.kind ∷ []) name.slot ≡ home_planned s name
+home_by s name inside =
+    let w = whole_steps name.slot in
+    rw (has_each s name.kind name.slot inside, w.1) refl
+
+pub follow : (s : PlanSettings) (plan : Plan) → IsPlanOf s plan → FollowOneAnother s plan
+follow s plan is = record {
+  one = λ name inside. ap (λ (l : List Allocator). have_number l name.slot) (is.allocators name.kind) ∙ rw (has_each s name.kind name.slot inside) refl;
+  homes = λ name inside. ap (λ (l : List Allocator). home_among l name.slot) (is.allocators name.kind) ∙ home_by s name inside;
+  queues = λ home tried. rw (is.first_queue, is.queues, is.shared) refl;
+}
+
+pub at_home : (s : PlanSettings) (plan : Plan) → HaveShards s → IsPlanOf s plan → (name : SlotName) → name.slot < of_kind name.kind s.totals → IsAtHome plan name (home_of plan name)
+at_home s plan have is name inside =
+    let B : OfKinds → Type 0 = λ o. name.slot < of_kind name.kind o in
+    slots_are_at_home plan (places_planned s) name (planned s plan have is) (subst B (sym is.totals) inside)

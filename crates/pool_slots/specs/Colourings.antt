@@ -1,0 +1,66 @@
+-- The colours of memory slots, how the region of a slot is given its colour, and when that fails.
+use Rattle.std.specs.Prelude.{◌≡◌, ℕ, ◌+◌, ◌^◌, ◌<◌, ◌≤◌, ◌⊎◌, ◌==◌, ◌||◌, List, Bool, true, false, nat_lt, if◌then◌else◌, Option, None, Some, IsSome, IfSome}
+use Rattle.std.specs.List.{list_any, range_with_len}
+use Rattle.pool_pages.specs.Count.{Count, count as count_of, rounded_up}
+use Rattle.pool_pages.specs.Told.{Told, Rose}
+use Rattle.pool_images.specs.Slots.{coloured, IsFresh}
+use Rattle.pool_pages.specs.MakerTold.{MakerTold, Planned, calls_of, fails_making, made_region, plan_for}
+use Rattle.pool_pages.specs.declared.pages.RegionName.TheVariants.{Memory}
+use Rattle.pool_pages.specs.declared.pages.DecommitBehavior.{DecommitBehavior}
+use Rattle.pool_slots.specs.Slabs.{stripe_of}
+use Rattle.pool_slots.specs.declared.errors.PoolNewError.{PoolNewError}
+use Rattle.pool_slots.specs.declared.errors.PoolNewError.TheVariants as refused
+
+-- The colour of a slot: where there are two stripes or more, the number of its stripe and one more. Otherwise it has none,
+-- and its pages have the colour 0, with which they are made.
+abbrev pub stripe_colour : ℕ → ℕ → Option ℕ
+stripe_colour num_stripes slot = if nat_lt 1 num_stripes then Some (stripe_of slot num_stripes + 1) else None
+
+-- the region of memory slot i as it is made, and then given its colour throughout, where it has one
+abbrev pub coloured_region : ℕ → MakerTold → DecommitBehavior → Count → ℕ → Told
+coloured_region num_stripes maker behaviour len i = coloured (stripe_colour num_stripes i) 0 len.bytes (made_region (Memory i) behaviour (count_of len.page 0) len maker)
+
+-- The giving of the colour is the first call on a region. It is among those that fail; on a region without pages there is
+-- no call.
+abbrev pub fails_colouring : Option ℕ → ℕ → List ℕ → Bool
+fails_colouring None len calls = false
+fails_colouring (Some colour) len calls = if len == 0 then false else list_any (λ call. call == 1) calls
+
+-- the making of the region of slot i is listed as one that fails, or the giving of its colour
+abbrev pub fails_region : Option ℕ → ℕ → ℕ → List Planned → Bool
+fails_region None len i plan = fails_making (Memory i) plan
+fails_region (Some colour) len i plan = fails_making (Memory i) plan || fails_colouring (Some colour) len (calls_of (Memory i) plan)
+
+-- so it is with the region of some slot
+abbrev pub fails_some_region : ℕ → ℕ → ℕ → List Planned → Bool
+fails_some_region num_stripes len total plan = list_any (λ i. fails_region (stripe_colour num_stripes i) len i plan) (range_with_len 0 total)
+
+-- The giving of the colour failed on the region of slot i, which was made. Where that region tells which calls fail, this
+-- is one.
+pub record IsUncoloured (colour : Option ℕ) (len i : ℕ) (maker : MakerTold) : Type 0 where
+  pub some : IsSome colour
+  pub pages : 0 < len
+  pub listed : IfSome (plan_for (Memory i) maker) (λ calls. fails_colouring colour len calls ≡ true)
+
+-- so it is with the region of some slot
+abbrev pub SomeUncoloured : ℕ → ℕ → ℕ → MakerTold → Type 0
+SomeUncoloured num_stripes len total maker = (i : ℕ) × (i < total) × IsUncoloured (stripe_colour num_stripes i) len i maker
+
+-- What a refusal does to the maker's count of faults: a page fault raises it, unless it is a colour that couldn't be
+-- given; that counts with the region, which is gone. Want of memory leaves the count, and no other refusal comes.
+abbrev pub RaisesUnlessUncoloured : Type 0 → ℕ → ℕ → PoolNewError → Type 0
+RaisesUnlessUncoloured uncoloured old new (refused.BadConfig e) = ⊥
+RaisesUnlessUncoloured uncoloured old new refused.PageFault = Rose old new ⊎ (uncoloured × (new ≡ old))
+RaisesUnlessUncoloured uncoloured old new refused.Memory = new ≡ old
+
+-- What it does to the count of the maker behind: a page fault raises that, unless the making is one that the maker's own
+-- list has, or it is a colour that couldn't be given.
+abbrev pub RaisesBehindUnlessUncoloured : Type 0 → Bool → ℕ → ℕ → PoolNewError → Type 0
+RaisesBehindUnlessUncoloured uncoloured listed old new (refused.BadConfig e) = ⊥
+RaisesBehindUnlessUncoloured uncoloured listed old new refused.PageFault = ((listed ≡ true) ⊎ Rose old new) ⊎ (uncoloured × (new ≡ old))
+RaisesBehindUnlessUncoloured uncoloured listed old new refused.Memory = new ≡ old
+
+-- An image slot in its colour can be made of the region of each memory slot, as it is when it was given that colour.
+abbrev pub ColouredRegionsAreFresh : Type 0
+ColouredRegionsAreFresh = (num_stripes i : ℕ) (maker : MakerTold) (behaviour : DecommitBehavior) (page static_size : ℕ) → 0 < page → static_size + page ≤ 2 ^ 64 →
+    IsFresh (count_of page 0) (count_of page 0) static_size (stripe_colour num_stripes i) (coloured_region num_stripes maker behaviour (count_of page (rounded_up page static_size)) i)

@@ -1,0 +1,89 @@
+-- The plan of a pool that has one allocator for each kind of slot: the shards come first, then the cells, the queues, and
+-- the list of heaps.
+use Rattle.std.specs.Prelude.{◌≡◌, ℕ, ◌+◌, ◌*◌, ◌/◌, ◌%◌, ◌<◌, ◌≤◌, ◌∷◌, [], min, false}
+use Rattle.pool_hall.specs.declared.unit_name.SlotKind.{SlotKind}
+use Rattle.pool_slots.specs.SlotNames.{of_kind}
+use Rattle.pool_slots.specs.Plans.{allocators_of, have_number, home_of, queue_tried}
+use Rattle.pool_slots.specs.declared.slot_name.OfKinds.{OfKinds}
+use Rattle.pool_slots.specs.declared.slot_name.SlotName.{SlotName}
+use Rattle.pool_slots.specs.declared.plan.Allocator.{Allocator}
+use Rattle.pool_slots.specs.declared.plan.Home.{Home}
+use Rattle.pool_slots.specs.declared.plan.Plan.{Plan}
+use Rattle.pool_slots.specs.declared.plan_maker.PlanSettings.{PlanSettings}
+
+-- so many shards with so many slots each hold this number of slots
+pub record HoldSlots (total shards each : ℕ) : Type 0 where
+  pub some : 0 < each
+  pub covered : total ≤ shards * each
+
+-- the shards of each kind hold its slots
+pub record HaveShards (s : PlanSettings) : Type 0 where
+  pub memory : HoldSlots s.totals.memory s.shards.memory s.slots_per_shard.memory
+  pub table : HoldSlots s.totals.table s.shards.table s.slots_per_shard.table
+  pub stack : HoldSlots s.totals.stack s.shards.stack s.slots_per_shard.stack
+  pub heap : HoldSlots s.totals.heap s.shards.heap s.slots_per_shard.heap
+
+-- the place of the first shard of each kind, that of the first cell of each kind, and how many places come before the cells
+abbrev pub shards_from : PlanSettings → OfKinds
+shards_from s = record {
+  memory = 0;
+  table = s.shards.memory;
+  stack = s.shards.memory + s.shards.table;
+  heap = s.shards.memory + s.shards.table + s.shards.stack;
+}
+
+abbrev pub shards_planned : PlanSettings → ℕ
+shards_planned s = s.shards.memory + s.shards.table + s.shards.stack + s.shards.heap
+
+abbrev pub queues_from : PlanSettings → ℕ
+queues_from s = shards_planned s + s.totals.memory + s.totals.table + s.totals.stack
+
+abbrev pub cells_from : PlanSettings → OfKinds
+cells_from s = record {
+  memory = shards_planned s;
+  table = shards_planned s + s.totals.memory;
+  stack = shards_planned s + s.totals.memory + s.totals.table;
+  heap = queues_from s;
+}
+
+-- the place after the queues, where the list of heaps is if there are heaps, and the number of places
+abbrev pub heaps_from : PlanSettings → ℕ
+heaps_from s = queues_from s + s.queues
+
+abbrev pub places_planned : PlanSettings → ℕ
+places_planned s = heaps_from s + min 1 s.totals.heap
+
+-- the one allocator of a kind
+abbrev pub allocator_planned : PlanSettings → SlotKind → Allocator
+allocator_planned s kind = record {
+  kind = kind;
+  first_place = of_kind kind (shards_from s);
+  shards = of_kind kind s.shards;
+  slots_per_shard = of_kind kind s.slots_per_shard;
+  first = 0;
+  step = 1;
+  capacity = of_kind kind s.totals;
+}
+
+-- the plan is that of these settings
+pub record IsPlanOf (s : PlanSettings) (plan : Plan) : Type 0 where
+  pub allocators : (kind : SlotKind) → allocators_of plan kind ≡ allocator_planned s kind ∷ []
+  pub cells : plan.cells ≡ cells_from s
+  pub totals : plan.totals ≡ s.totals
+  pub first_queue : plan.first_queue ≡ queues_from s
+  pub queues : plan.queues ≡ s.queues
+  pub heap_list : plan.heap_list ≡ heaps_from s
+  pub shared : plan.owned ≡ false
+
+-- In such a plan each slot is that of its kind's allocator, slots follow one another through the shards, and queues are tried
+-- in a round.
+abbrev pub home_planned : PlanSettings → SlotName → Home
+home_planned s name = record {
+  place = of_kind name.kind (shards_from s) + name.slot / of_kind name.kind s.slots_per_shard;
+  local = record { 0 = name.slot % of_kind name.kind s.slots_per_shard };
+}
+
+pub record FollowOneAnother (s : PlanSettings) (plan : Plan) : Type 0 where
+  pub one : (name : SlotName) → name.slot < of_kind name.kind s.totals → have_number (allocators_of plan name.kind) name.slot ≡ 1
+  pub homes : (name : SlotName) → name.slot < of_kind name.kind s.totals → home_of plan name ≡ home_planned s name
+  pub queues : (home tried : ℕ) → queue_tried plan home tried ≡ queues_from s + (home + tried) % s.queues
