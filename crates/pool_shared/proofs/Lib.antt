@@ -1,3 +1,6 @@
+pub mod Bounded
 pub mod Distinct
+pub mod Growth
 pub mod Lawful
+pub mod Making
 pub mod Marking
