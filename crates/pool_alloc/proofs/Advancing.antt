@@ -2,7 +2,7 @@
 use Rattle.std.proofs.Common.{◌≡◌, true, false, List, length, sym, ap, subst, ◌∙◌, Option, Some, None, Ok}
 use Rattle.std.specs.Prelude.{IfSome, slice_get}
 use Rattle.pool_memory.specs.Linear.{no_slot as no_image_slot}
-use Rattle.pool_slots.specs.Queues.{empty_queue}
+use Rattle.pool_slots.specs.SlotQueues.{empty_queue}
 use Rattle.pool_limits.specs.Exchanges.{Exchange, Exchanged}
 use Rattle.pool_limits.specs.LimiterTold.{LimiterTold}
 use Rattle.pool_alloc.specs.Answers.{MayBeTold, IsPlanned, AsksOf, LimiterHears}

@@ -15,10 +15,10 @@ use Rattle.pool_alloc.specs.declared.frame.Phase.TheVariants.{Idle, Key, Validat
 use Rattle.pool_pages.specs.declared.unsupported.Unsupported.{Unsupported}
 use Rattle.pool_index.specs.Shard.{ShardState, slot_number, after_pick, pick_answer}
 use Rattle.pool_index.specs.declared.ids.SlotId.{SlotId}
-use Rattle.pool_slots.specs.Queues.{QueueState, after_take, taken_into}
+use Rattle.pool_slots.specs.SlotQueues.{Queue, after_take, taken_into}
 use Rattle.pool_slots.specs.declared.errors.AllocError.{AllocError}
 use Rattle.pool_slots.specs.declared.errors.AllocError.TheVariants as refusal
-use Rattle.pool_slots.proofs.QueueRuns.{no_slots}
+use Rattle.pool_slots.proofs.SlotRuns.{no_slots}
 use Rattle.pool_alloc.specs.Bounds.{PoolSizes, give_back_bound, pool_sizes, flush_left, memories_left}
 use Rattle.pool_alloc.specs.Leases.{Lease}
 use Rattle.pool_alloc.specs.Places.{right_to, queued_count, leased_count, freed_count}
@@ -27,7 +27,7 @@ use Rattle.pool_alloc.specs.Rows.{key_row, refused_at_once, reserved, validated,
 use Rattle.pool_alloc.specs.Searches.{AreFull, AreEmpty, IsSearchedBy}
 use Rattle.pool_alloc.specs.Sound.{IsCore, IsShared, IsLeaseOf, IsToGrant, AreBegun}
 use Rattle.pool_alloc.specs.Stages.{uncounted, asks, stage_by, IsUntested, Goes}
-use Rattle.pool_alloc.specs.Steps.{memories_wanted, images_wanted, wanted, nth_shard, nth_queue, with_shard, with_queue, counting_instances, shard_tried, queue_tried}
+use Rattle.pool_alloc.specs.Steps.{memories_wanted, images_wanted, wanted, nth_shard, nth_queue, with_shard, with_queue, counting_instances, shard_tried, queue_tried, queue_place}
 use Rattle.pool_alloc.specs.Turns.{goes, next, flush, search, Row, failing, no_slot_left}
 use Rattle.pool_alloc.proofs.CoreChanges.{core_with_shard, core_with_queue, core_with_counters}
 use Rattle.pool_alloc.proofs.FlushSteps.{few_in_queue, flush_few}
@@ -36,12 +36,14 @@ use Rattle.pool_alloc.proofs.Hands.{empty_length, Hand, in_phase, hand, held_of,
 use Rattle.pool_alloc.proofs.KeptCounts.{kept_shard, kept_queue}
 use Rattle.pool_alloc.proofs.LocalQueues.{taken_shared, taken_local, local_of_shared}
 use Rattle.pool_alloc.proofs.Picks.{picked_sound, picked_same, picked_inside}
-use Rattle.pool_alloc.proofs.Searching.{tried_full, still_full, taken_empty, was_empty}
+use Rattle.pool_alloc.proofs.Searching.{tried_full, still_full, taken_empty, was_empty, still_empty, full_beside}
 use Rattle.pool_alloc.proofs.SlotCounts.{picked_count, pick_counts}
 use Rattle.pool_alloc.proofs.Stages.{tried_is_shard, tried_is_queue}
 use Rattle.pool_alloc.proofs.Supporting.{supported}
 use Rattle.pool_alloc.proofs.Telling.{told_weaker}
 use Rattle.pool_alloc.proofs.Ways.{Can, aims_grant, same_times, first_memory, next_round, next_queue, kept_part, same_way, fails_way}
+use Rattle.pool_alloc.proofs.PoolParts.{sound_shard, sound_queue, shard_part, queue_part}
+use Rattle.pool_slots.specs.declared.part.PoolPart.TheVariants as part
 
 -- what a pick has in hand
 abbrev picked_hand : ShardState → Option (SlotId × ℕ) → Hand
@@ -169,6 +171,7 @@ module _ {P : Type 0} (maker : MakerTold) (old new : LimiterTold) where
       let e : Frame P = in_phase (Pick tried) f in
       let settled = can.frame.shape.0 in
       let allocating = can.frame.shape.1 in
+      let empty = still_empty f.queues (shard_tried tried c.settings f) (part.Shard next_shard) c f (omega (arith, tried_is_shard maker tried c f can.core)) in
       let kept = kept_part maker old new c e d (in_phase Idle f) core (held_of maker c.settings e can.frame) refl refl refl in
       let stays = same_way maker old new c e f.ending (length f.objects.items) in
       either_ready maker old new c e d (in_phase Idle f) (nat_lt (tried + 1) c.settings.shards) (goes (Pick (tried + 1))) search
@@ -178,7 +181,7 @@ module _ {P : Type 0} (maker : MakerTold) (old new : LimiterTold) where
         even = even;
         fewer = omega (arith, can.frame.shape.2);
         way = stays;
-        searched = λ s. (s.0, (full refl s.1).1);
+        searched = λ s. (empty s.0, (full refl s.1).1);
       })
       (λ last.
       let round : c.settings.shards ≤ tried + 1 = ltb-false _ _ last in
@@ -197,28 +200,28 @@ module _ {P : Type 0} (maker : MakerTold) (old new : LimiterTold) where
             none = λ s. nothing_kept maker c f can.core (λ j below. s.0 j (omega (arith, below, gone))) (λ j below. (full refl s.1).0 j (omega (arith, below, round)));
           })),
         );
-        searched = λ s. (s.0, λ j below. (full refl s.1).1 j (omega (arith, below, round)));
+        searched = λ s. (empty s.0, λ j below. (full refl s.1).1 j (omega (arith, below, round)));
       })
 
-  pub pick_ready : (tried : ℕ) (c : PoolCore P) (f : Frame P) → Can maker (Pick tried) c f → Shows (Pick tried) c f (in_shard (shard_tried tried c.settings f) c (pick_on c.settings tried (nth_shard (shard_tried tried c.settings f) c.shards) (in_phase Idle f)))
+  pub pick_ready : (tried : ℕ) (c : PoolCore P) (f : Frame P) → Can maker (Pick tried) c f → Shows (Pick tried) c f (in_shard (shard_tried tried c.settings f) c (pick_on c.settings tried (nth_shard (shard_tried tried c.settings f) c) (in_phase Idle f)))
   pick_ready tried c f can =
       let j : ℕ = shard_tried tried c.settings f in
-      let shard : ShardState = nth_shard j c.shards in
-      let below : j < length c.shards = tried_is_shard maker tried c f can.core in
-      let sound = can.core.shards j below in
+      let shard : ShardState = nth_shard j c in
+      let below : j < c.settings.shards = tried_is_shard maker tried c f can.core in
+      let sound = sound_shard maker j c can.core below in
       picked_ready tried (pick_answer (wanted f) shard) shard (after_pick (wanted f) shard) c f can
-      (core_with_shard maker j (after_pick (wanted f) shard) c can.core (picked_sound (wanted f) shard sound) (picked_same (wanted f) shard))
-      (told_weaker (λ p. p.0.0 < shard.capacity) (λ p. slot_number shard p.0.0 < c.settings.slots) (pick_answer (wanted f) shard) (λ p within. omega (arith, (can.core.layout.back j p.0.0 below within).0, can.core.cells_made)) (picked_inside (wanted f) shard sound))
-      (record { places = λ t. omega (arith, kept_shard t j (after_pick (wanted f) shard) c below, pick_counts t (wanted f) shard sound); instances = omega arith; memories = omega arith })
+      (core_with_shard maker j (after_pick (wanted f) shard) c can.core below (picked_sound (wanted f) shard sound) (picked_same (wanted f) shard))
+      (told_weaker (λ p. p.0.0 < shard.capacity) (λ p. slot_number shard p.0.0 < c.settings.slots) (pick_answer (wanted f) shard) (λ p within. omega (arith, (can.core.layout.back j p.0.0 below within).0)) (picked_inside (wanted f) shard sound))
+      (record { places = λ t. omega (arith, kept_shard t j (after_pick (wanted f) shard) c (shard_part maker j c can.core below), pick_counts t (wanted f) shard sound); instances = omega arith; memories = omega arith })
       (λ none full. let more = tried_full maker tried c f can.core none full in (more, still_full maker (tried + 1) tried c f can.core none more))
 
   -- A queue is taken.
-  pub take_queue_ready : (c : PoolCore P) (f : Frame P) → Can maker TakeQueue c f → Shows TakeQueue c f (in_queue (queue_tried f.queues c.settings f) c (take_queue_on (nth_queue (queue_tried f.queues c.settings f) c.queues) (in_phase Idle f)))
+  pub take_queue_ready : (c : PoolCore P) (f : Frame P) → Can maker TakeQueue c f → Shows TakeQueue c f (in_queue (queue_tried f.queues c.settings f) c (take_queue_on (nth_queue (queue_tried f.queues c.settings f) c) (in_phase Idle f)))
   take_queue_ready c f can =
       let i : ℕ = queue_tried f.queues c.settings f in
-      let q : QueueState = nth_queue i c.queues in
-      let below : i < length c.queues = tried_is_queue maker f.queues c f can.core in
-      let shared : IsShared maker c.settings q = can.core.queues i below in
+      let q : Queue = nth_queue i c in
+      let below : i < c.settings.queues = tried_is_queue maker f.queues c f can.core in
+      let shared : IsShared maker c.settings q = sound_queue maker i c can.core below in
       let d : PoolCore P = with_queue i (after_take q) c in
       let e : Frame P = in_phase TakeQueue f in
       let has : Frame P = record f { phase = Idle; local = taken_into f.local q; queues = f.queues + 1 } in
@@ -236,15 +239,15 @@ module _ {P : Type 0} (maker : MakerTold) (old new : LimiterTold) where
         objects = can.frame.objects;
       })
       refl refl refl in
-      let even : Even maker old new c e (hand {P = P} next) d has = record { places = λ t. omega (arith, kept_queue t i (after_take q) c below, ap (queued_count t) settled.no_slots); instances = omega arith; memories = omega arith } in
-      let few = flush_few z (length c.cells) has.local f.freed shared.grouped (few_in_queue maker i c e can below) in
+      let even : Even maker old new c e (hand {P = P} next) d has = record { places = λ t. omega (arith, kept_queue t i (after_take q) c (queue_part maker i c can.core below), ap (queued_count t) settled.no_slots); instances = omega arith; memories = omega arith } in
+      let few = flush_few z c.settings.slots has.local f.freed shared.grouped (few_in_queue maker i c e can below) in
       let stays = same_way maker old new c e f.ending (length f.objects.items) in
-      either_ready maker old new c e d has (length q.memories == 0) search flush
+      either_ready maker old new c e d has (length q.slots == 0) search flush
       (λ none.
-      let empty = empty_length q.memories none in
+      let empty = empty_length q.slots none in
       record {
         kept = kept;
-        shape = (record { no_ranges = no_slots q.ranges q.memories empty shared.owners; no_slots = empty; none_freed = settled.none_freed }, record { ending = can.frame.shape.1.ending; to_grant = to_grant; more = can.frame.shape.1.more });
+        shape = (record { no_ranges = no_slots q.ranges q.slots empty shared.owners; no_slots = empty; none_freed = settled.none_freed }, record { ending = can.frame.shape.1.ending; to_grant = to_grant; more = can.frame.shape.1.more });
         even = even;
         fewer = omega (arith, next_queue z f.queues 0 (6 + memories_left z f.asked f.objects) can.frame.shape.2 (omega arith));
         way = (
@@ -257,7 +260,7 @@ module _ {P : Type 0} (maker : MakerTold) (old new : LimiterTold) where
             none = λ s. nothing_kept maker c f can.core (λ j under. was_empty f.queues c f empty s.0 j (omega (arith, under, gone))) s.1;
           })),
         );
-        searched = λ s. (taken_empty maker f.queues (after_take q) c f can.core refl s.0, s.1);
+        searched = λ s. (taken_empty maker f.queues (after_take q) c f can.core refl s.0, full_beside maker c.settings.shards (queue_place c.settings i) (part.Queue (after_take q)) c f can.core (omega arith) s.1);
       })
       (λ some.
       let S : Ending → Type 0 = λ x. IsSearchedBy x (AreEmpty (f.queues + 1) d has) in
@@ -265,7 +268,7 @@ module _ {P : Type 0} (maker : MakerTold) (old new : LimiterTold) where
         kept = kept;
         shape = aims_grant c.settings f.ending f.asked (f.queues + 1) f.objects can.frame.shape.1.ending to_grant;
         even = even;
-        fewer = omega (arith, few, can.core.cells_made, next_round z f.ending (f.queues + 1) f.asked f.objects can.frame.shape.1.ending, next_queue z f.queues (flush_left z has.local f.freed) (6 + memories_left z f.asked f.objects) can.frame.shape.2 (omega (arith, few, can.core.cells_made)));
+        fewer = omega (arith, few, next_round z f.ending (f.queues + 1) f.asked f.objects can.frame.shape.1.ending, next_queue z f.queues (flush_left z has.local f.freed) (6 + memories_left z f.asked f.objects) can.frame.shape.2 (omega (arith, few)));
         way = stays;
         searched = λ s. subst S (sym can.frame.shape.1.ending) (taken_empty maker f.queues (after_take q) c f can.core refl s.0);
       })

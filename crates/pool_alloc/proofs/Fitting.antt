@@ -26,8 +26,8 @@ module _ {P : Type 0} where
   -- Where a step conserves, what the frame has still fits.
   pub fits_after : (c : PoolCore P) (f : Frame P) (a : After P) → FitsCore c f → Conserves c f a → IsSameSize c a.core → FitsCore a.core a.frame
   fits_after c f a fits b size = record {
-    once = λ t. omega (arith, fits.once t, b.places t, ap (made_count t) size.cells);
-    home = λ k some. omega (arith, fits.once (right_to k), made_once (right_to k) (length c.cells), b.places (right_to k), b.places (region_of k), granted_regions k a.outcome, fits.home k (omega (arith, b.places (right_to k))));
+    once = λ t. omega (arith, fits.once t, b.places t, ap (λ (s : Settings). made_count t s.slots) size.settings);
+    home = λ k some. omega (arith, fits.once (right_to k), made_once (right_to k) c.settings.slots, b.places (right_to k), b.places (region_of k), granted_regions k a.outcome, fits.home k (omega (arith, b.places (right_to k))));
     instances = omega (arith, fits.instances, b.instances);
     memories = omega (arith, fits.memories, b.memories);
   }

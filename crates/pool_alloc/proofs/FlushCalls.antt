@@ -2,7 +2,7 @@
 use Rattle.std.proofs.Common.{◌≡◌, ℕ, ◌<◌, ◌≤◌, true, false, length, refl, sym, subst, arith}
 use Rattle.std.specs.Prelude.{◌==◌}
 use Rattle.std.proofs.lemmas.Bool.{eq-eqb, ne_eqb}
-use Rattle.pool_slots.specs.Queues.{QueueState}
+use Rattle.pool_slots.specs.SlotQueues.{Queue}
 use Rattle.pool_alloc.specs.Answers.{FlushTold, FlushPlanned}
 use Rattle.pool_alloc.specs.Rows.{FlushStep, run, put, free, flush_step, flush_row}
 use Rattle.pool_alloc.specs.Steps.{StepGiven}
@@ -16,13 +16,13 @@ some_ranges n some = ne_eqb n 0 (λ e. omega (arith, some, e))
 no_ranges : (n : ℕ) → n ≤ 0 → (n == 0) ≡ true
 no_ranges n none = eq-eqb n 0 (omega (arith, none))
 
-pub flush_runs : (local : QueueState) → 0 < length local.ranges → flush_step local ≡ run
+pub flush_runs : (local : Queue) → 0 < length local.ranges → flush_step local ≡ run
 flush_runs local some = rw (some_ranges (length local.ranges) some) refl
 
-pub flush_puts : (local : QueueState) → length local.ranges ≤ 0 → (length local.memories == 0) ≡ false → flush_step local ≡ put
+pub flush_puts : (local : Queue) → length local.ranges ≤ 0 → (length local.slots == 0) ≡ false → flush_step local ≡ put
 flush_puts local none some = rw (no_ranges (length local.ranges) none, some) refl
 
-pub flush_frees : (local : QueueState) → length local.ranges ≤ 0 → (length local.memories == 0) ≡ true → flush_step local ≡ free
+pub flush_frees : (local : Queue) → length local.ranges ≤ 0 → (length local.slots == 0) ≡ true → flush_step local ≡ free
 flush_frees local none no_slots = rw (no_ranges (length local.ranges) none, no_slots) refl
 
 module _ {P : Type 0} where

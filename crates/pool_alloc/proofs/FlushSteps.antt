@@ -1,12 +1,12 @@
 -- What a flush does, and what each part of it leaves.
 use Rattle.std.proofs.Common.{◌≡◌, ◌≢◌, ℕ, zero, suc, ◌+◌, ◌*◌, ◌/◌, ◌<◌, ◌≤◌, Bool, true, false, List, [], ◌∷◌, ◌++◌, length, refl, sym, ap, ◌∙◌, subst, inl, inr, arith}
-use Rattle.std.specs.Prelude.{◌==◌, not, nat_lt, filter, min, sum_by}
+use Rattle.std.specs.Prelude.{◌==◌, nat_lt, filter, min, sum_by}
 use Rattle.std.proofs.lemmas.Bool.{eq-eqb, ne_eqb, eqb-true, lt-ltb, cases_eq, cases_lt, cases_Bool}
 use Rattle.std.proofs.lemmas.List.Elements.{length_all_zip}
 use Rattle.std.proofs.lemmas.List.Sums.{get_or-le-sum_by, sum_by-cons, sum_by_push}
 use Rattle.pool_pages.specs.MakerTold.{MakerTold}
 use Rattle.pool_index.specs.Shard.{one_if}
-use Rattle.pool_slots.specs.Queues.{QueueState, QueuedMemory, empty_queue, after_append, after_run, first_slot, IsLeftBy, HasOwners}
+use Rattle.pool_slots.specs.SlotQueues.{Queue, Queued, empty_queue, after_append, after_run, first_slot, IsLeftBy}
 use Rattle.pool_slots.specs.declared.queued_range.QueuedRange.{QueuedRange}
 use Rattle.pool_alloc.specs.Answers.{Decommits}
 use Rattle.pool_alloc.specs.Bounds.{PoolSizes, pool_sizes, waiting_for, shards_waiting, flush_left}
@@ -20,7 +20,7 @@ use Rattle.pool_alloc.specs.declared.pool_core.Settings.{Settings}
 use Rattle.pool_alloc.specs.declared.frame.Frame.{Frame}
 use Rattle.pool_alloc.specs.declared.frame.FreedSlot.{FreedSlot}
 use Rattle.pool_alloc.proofs.Below.{few_queued}
-use Rattle.pool_alloc.proofs.KeptCounts.{kept_slots}
+use Rattle.pool_alloc.proofs.KeptCounts.{queue_kept}
 use Rattle.pool_alloc.proofs.QueueCounts.{queued_joined, run_numbers, faulted_numbers}
 use Rattle.pool_alloc.proofs.Runs.{runs_fewer}
 use Rattle.pool_alloc.proofs.SlotIdentity.{length_after_run}
@@ -54,15 +54,15 @@ first_has_some s (x ∷ y ∷ rest) some =
     ]
 
 -- how many shards some slots wait for, where as many wait for each, or for fewer
-shards_agree : (z : PoolSizes) (n : ℕ) (ms ns : List QueuedMemory) (xs ys : List FreedSlot) → ((j : ℕ) → j < n → waiting_for z j ns ys ≡ waiting_for z j ms xs) → shards_waiting z n ns ys ≡ shards_waiting z n ms xs
+shards_agree : (z : PoolSizes) (n : ℕ) (ms ns : List Queued) (xs ys : List FreedSlot) → ((j : ℕ) → j < n → waiting_for z j ns ys ≡ waiting_for z j ms xs) → shards_waiting z n ns ys ≡ shards_waiting z n ms xs
 shards_agree z zero ms ns xs ys same = refl
 shards_agree z (suc n) ms ns xs ys same =
     omega (arith, ap (λ (k : ℕ). one_if (nat_lt 0 k)) (same n (omega arith)), shards_agree z n ms ns xs ys (λ j below. same j (omega (arith, below))))
 
-pub shards_same : (z : PoolSizes) (n : ℕ) (ms ns : List QueuedMemory) (xs ys : List FreedSlot) → ((j : ℕ) → waiting_for z j ns ys ≡ waiting_for z j ms xs) → shards_waiting z n ns ys ≡ shards_waiting z n ms xs
+pub shards_same : (z : PoolSizes) (n : ℕ) (ms ns : List Queued) (xs ys : List FreedSlot) → ((j : ℕ) → waiting_for z j ns ys ≡ waiting_for z j ms xs) → shards_waiting z n ns ys ≡ shards_waiting z n ms xs
 shards_same z n ms ns xs ys same = shards_agree z n ms ns xs ys (λ j below. same j)
 
-shards_less : (z : PoolSizes) (n j : ℕ) (ms ns : List QueuedMemory) (xs ys : List FreedSlot) → j < n → 0 < waiting_for z j ms xs → waiting_for z j ns ys ≡ 0 → ((i : ℕ) → i ≢ j → waiting_for z i ns ys ≡ waiting_for z i ms xs) → shards_waiting z n ns ys + 1 ≤ shards_waiting z n ms xs
+shards_less : (z : PoolSizes) (n j : ℕ) (ms ns : List Queued) (xs ys : List FreedSlot) → j < n → 0 < waiting_for z j ms xs → waiting_for z j ns ys ≡ 0 → ((i : ℕ) → i ≢ j → waiting_for z i ns ys ≡ waiting_for z i ms xs) → shards_waiting z n ns ys + 1 ≤ shards_waiting z n ms xs
 shards_less z zero j ms ns xs ys below some none others = absurd (omega (arith, below))
 shards_less z (suc n) j ms ns xs ys below some none others =
     elim (cases_eq j n) [
@@ -79,7 +79,7 @@ one_at_most : (b : Bool) → one_if b ≤ 1
 one_at_most true = omega arith
 one_at_most false = omega arith
 
-shards_few : (z : PoolSizes) (n : ℕ) (ms : List QueuedMemory) (xs : List FreedSlot) → shards_waiting z n ms xs ≤ n
+shards_few : (z : PoolSizes) (n : ℕ) (ms : List Queued) (xs : List FreedSlot) → shards_waiting z n ms xs ≤ n
 shards_few z zero ms xs = omega arith
 shards_few z (suc n) ms xs = omega (arith, one_at_most (nat_lt 0 (waiting_for z n ms xs)), shards_few z n ms xs)
 
@@ -133,65 +133,64 @@ elsewhere_same s i j (x ∷ xs) other =
     ]
 
 -- what a flush does is no more than three steps a slot and one a shard
-pub flush_few : (z : PoolSizes) (slots : ℕ) (local : QueueState) (freed : Reserved FreedSlot) → IsGrouped local → length local.memories ≤ slots → flush_left z local freed ≤ 3 * slots + z.all_shards
-flush_few z slots local freed grouped few = omega (arith, grouped, few, shards_few z z.all_shards local.memories freed.items)
+pub flush_few : (z : PoolSizes) (slots : ℕ) (local : Queue) (freed : Reserved FreedSlot) → IsGrouped local → length local.slots ≤ slots → flush_left z local freed ≤ 3 * slots + z.all_shards
+flush_few z slots local freed grouped few = omega (arith, grouped, few, shards_few z z.all_shards local.slots freed.items)
 
 runs_some : (rs : List QueuedRange) → 0 < length rs → 1 ≤ runs rs
 runs_some [] some = absurd (omega arith)
 runs_some (r ∷ rs) some = omega arith
 
 -- a run less is left after it was decommitted, or after a decommit failed
-pub decommit_fewer : (z : PoolSizes) (fault : Bool) (old new : QueueState) (freed : Reserved FreedSlot) → Decommits fault old new → HasOwners old → 0 < length old.ranges → flush_left z new freed + 1 ≤ flush_left z old freed
-decommit_fewer z true old new freed faulted owners some =
+pub decommit_fewer : (z : PoolSizes) (fault : Bool) (old new : Queue) (freed : Reserved FreedSlot) → Decommits fault old new → 0 < length old.ranges → flush_left z new freed + 1 ≤ flush_left z old freed
+decommit_fewer z true old new freed faulted some =
     omega (
       arith,
       runs_some old.ranges some,
       ap runs faulted.ranges,
-      length_all_zip (IsLeftBy (first_slot old.ranges)) old.memories new.memories faulted.memories,
-      shards_same z z.all_shards old.memories new.memories freed.items freed.items (λ j. omega (arith, faulted_numbers (λ k. one_if (k / z.slots_per_shard == j)) old new faulted)),
+      length_all_zip (IsLeftBy (first_slot old.ranges)) old.slots new.slots faulted.slots,
+      shards_same z z.all_shards old.slots new.slots freed.items freed.items (λ j. omega (arith, faulted_numbers (λ k. one_if (k / z.slots_per_shard == j)) old new faulted)),
     )
-decommit_fewer z false old new freed run owners some =
-    let F : QueueState → Type 0 = λ q. flush_left z q freed + 1 ≤ flush_left z old freed in
+decommit_fewer z false old new freed run some =
+    let F : Queue → Type 0 = λ q. flush_left z q freed + 1 ≤ flush_left z old freed in
     subst F (sym run)
     (omega (
       arith,
-      runs_fewer old.ranges old.memories some owners,
+      runs_fewer old.ranges some,
       length_after_run old,
-      shards_same z z.all_shards old.memories (after_run old).memories freed.items freed.items (λ j. omega (arith, run_numbers (λ k. one_if (k / z.slots_per_shard == j)) old)),
+      shards_same z z.all_shards old.slots (after_run old).slots freed.items freed.items (λ j. omega (arith, run_numbers (λ k. one_if (k / z.slots_per_shard == j)) old)),
     ))
 
 -- a region less is to be put back once one was, and its slot still waits
-pub put_fewer : (z : PoolSizes) (m : QueuedMemory) (rest ms : List QueuedMemory) (xs : List FreedSlot) → ms ≡ m ∷ rest → shards_waiting z z.all_shards rest (xs ++ record { slot = m.index; bytes = m.bytes } ∷ []) ≡ shards_waiting z z.all_shards ms xs
+pub put_fewer : (z : PoolSizes) (m : Queued) (rest ms : List Queued) (xs : List FreedSlot) → ms ≡ m ∷ rest → shards_waiting z z.all_shards rest (xs ++ record { slot = m.name.slot; bytes = m.bytes } ∷ []) ≡ shards_waiting z z.all_shards ms xs
 put_fewer z m rest ms xs is =
-    let x : FreedSlot = record { slot = m.index; bytes = m.bytes } in
+    let x : FreedSlot = record { slot = m.name.slot; bytes = m.bytes } in
     shards_same z z.all_shards ms rest xs (xs ++ x ∷ [])
     (λ j.
     let of : ℕ → ℕ = λ k. one_if (k / z.slots_per_shard == j) in
-    omega (arith, ap (sum_by (λ (q : QueuedMemory). of q.index)) is, sum_by-cons (λ (q : QueuedMemory). of q.index) m rest, sum_by_push (λ (y : FreedSlot). of y.slot) xs x))
+    omega (arith, ap (sum_by (λ (q : Queued). of q.name.slot)) is, sum_by-cons (λ (q : Queued). of q.name.slot) m rest, sum_by_push (λ (y : FreedSlot). of y.slot) xs x))
 
 module _ {P : Type 0} where
   -- a shard less waits once its slots are freed
-  pub free_fewer : (c : PoolCore P) (ms : List QueuedMemory) (xs : List FreedSlot) → ms ≡ [] → 0 < length xs → first_shard c.settings xs < c.settings.shards → shards_waiting (pool_sizes c) c.settings.shards ms (freed_elsewhere c.settings (first_shard c.settings xs) xs) + 1 ≤ shards_waiting (pool_sizes c) c.settings.shards ms xs
+  pub free_fewer : (c : PoolCore P) (ms : List Queued) (xs : List FreedSlot) → ms ≡ [] → 0 < length xs → first_shard c.settings xs < c.settings.shards → shards_waiting (pool_sizes c) c.settings.shards ms (freed_elsewhere c.settings (first_shard c.settings xs) xs) + 1 ≤ shards_waiting (pool_sizes c) c.settings.shards ms xs
   free_fewer c ms xs none some below =
       let s : Settings = c.settings in
       let j : ℕ = first_shard s xs in
       shards_less (pool_sizes c) s.shards j ms ms xs (freed_elsewhere s j xs) below
       (omega (arith, passing (λ x. shard_of s x.slot == j) xs, first_has_some s xs some))
-      (omega (arith, ap (sum_by (λ (m : QueuedMemory). one_if (m.index / s.slots_per_shard == j))) none, elsewhere_none s j xs))
+      (omega (arith, ap (sum_by (λ (m : Queued). one_if (m.name.slot / s.slots_per_shard == j))) none, elsewhere_none s j xs))
       (λ i other. omega (arith, elsewhere_same s i j xs other))
 
-  pub few_in_queue : (maker : MakerTold) (i : ℕ) (c : PoolCore P) (f : Frame P) → CanStep maker c f → i < length c.queues → length (nth_queue i c.queues).memories ≤ length c.cells
+  pub few_in_queue : (maker : MakerTold) (i : ℕ) (c : PoolCore P) (f : Frame P) → CanStep maker c f → i < c.settings.queues → length (nth_queue i c).slots ≤ c.settings.slots
   few_in_queue maker i c f can below =
-      few_queued (length c.cells) (nth_queue i c.queues).memories
-      (λ k. omega (arith, can.fits.once (right_to k), kept_slots k c, get_or-le-sum_by (λ (q : QueueState). queued_count (right_to k) q.memories) c.queues i (empty_queue 0 0) below))
+      few_queued c.settings.slots (nth_queue i c).slots
+      (λ k. omega (arith, can.fits.once (right_to k), queue_kept maker (right_to k) i c can.core below))
 
-  pub few_in_both : (maker : MakerTold) (i : ℕ) (c : PoolCore P) (f : Frame P) → CanStep maker c f → i < length c.queues → length (after_append (nth_queue i c.queues) f.local).memories ≤ length c.cells
+  pub few_in_both : (maker : MakerTold) (i : ℕ) (c : PoolCore P) (f : Frame P) → CanStep maker c f → i < c.settings.queues → length (after_append (nth_queue i c) f.local).slots ≤ c.settings.slots
   few_in_both maker i c f can below =
-      few_queued (length c.cells) (after_append (nth_queue i c.queues) f.local).memories
+      few_queued c.settings.slots (after_append (nth_queue i c) f.local).slots
       (λ k. omega (
         arith,
-        queued_joined (right_to k) (nth_queue i c.queues).memories f.local.memories,
+        queued_joined (right_to k) (nth_queue i c).slots f.local.slots,
         can.fits.once (right_to k),
-        kept_slots k c,
-        get_or-le-sum_by (λ (q : QueueState). queued_count (right_to k) q.memories) c.queues i (empty_queue 0 0) below,
+        queue_kept maker (right_to k) i c can.core below,
       ))

@@ -17,7 +17,7 @@ use Rattle.pool_alloc.specs.declared.pool_core.PoolCore.{PoolCore}
 use Rattle.pool_alloc.specs.declared.pool_core.Settings.{Settings}
 use Rattle.pool_alloc.proofs.Frees.{HasPlace, AreOnce, frees_more, used_in_turn}
 use Rattle.pool_alloc.proofs.Held.{place_of, made_once, held_is_inside}
-use Rattle.pool_alloc.proofs.KeptCounts.{kept_slots}
+use Rattle.pool_alloc.proofs.KeptCounts.{shard_kept}
 use Rattle.pool_alloc.proofs.QueueCounts.{freed_first, freed_parted}
 use Rattle.pool_alloc.proofs.SlotCounts.{slot_once}
 
@@ -30,43 +30,43 @@ first_at_most s x [] = omega arith
 first_at_most s x (y ∷ rest) = omega arith
 
 module _ {P : Type 0} where
-  places_among : (maker : MakerTold) (j : ℕ) (c : PoolCore P) (xs : List FreedSlot) → IsCore maker c → ((k : ℕ) → 1 ≤ freed_count (right_to k) xs → k < length c.cells) → AllByRecursion (λ x. HasPlace c.settings (nth_shard j c.shards) x.slot) (freed_of c.settings j xs)
+  places_among : (maker : MakerTold) (j : ℕ) (c : PoolCore P) (xs : List FreedSlot) → IsCore maker c → ((k : ℕ) → 1 ≤ freed_count (right_to k) xs → k < c.settings.slots) → AllByRecursion (λ x. HasPlace c.settings (nth_shard j c) x.slot) (freed_of c.settings j xs)
   places_among maker j c [] core inside = tt
   places_among maker j c (x ∷ xs) core inside =
-      let H : ℕ → Type 0 = λ i. HasPlace c.settings (nth_shard i c.shards) x.slot in
-      let below : x.slot < length c.cells = inside x.slot (omega (arith, freed_first (right_to x.slot) x xs, slot_once x.slot)) in
-      each_if (λ (y : FreedSlot). HasPlace c.settings (nth_shard j c.shards) y.slot) (shard_of c.settings x.slot == j) x (freed_of c.settings j xs)
+      let H : ℕ → Type 0 = λ i. HasPlace c.settings (nth_shard i c) x.slot in
+      let below : x.slot < c.settings.slots = inside x.slot (omega (arith, freed_first (right_to x.slot) x xs, slot_once x.slot)) in
+      each_if (λ (y : FreedSlot). HasPlace c.settings (nth_shard j c) y.slot) (shard_of c.settings x.slot == j) x (freed_of c.settings j xs)
       (λ same. subst H (eqb-true _ _ same) (place_of maker c x.slot core below))
       (places_among maker j c xs core (λ k some. inside k (omega (arith, freed_first (right_to k) x xs))))
 
   -- Each slot that a frame frees is one of the pool, and those of a shard have their places there.
-  pub freed_inside : (k : ℕ) (c : PoolCore P) (f : Frame P) → FitsCore c f → 1 ≤ freed_count (right_to k) f.freed.items → k < length c.cells
+  pub freed_inside : (k : ℕ) (c : PoolCore P) (f : Frame P) → FitsCore c f → 1 ≤ freed_count (right_to k) f.freed.items → k < c.settings.slots
   freed_inside k c f fits some = held_is_inside k c f fits (omega arith)
 
-  pub freed_places : (maker : MakerTold) (j : ℕ) (c : PoolCore P) (f : Frame P) → IsCore maker c → FitsCore c f → AllByRecursion (λ x. HasPlace c.settings (nth_shard j c.shards) x.slot) (freed_of c.settings j f.freed.items)
+  pub freed_places : (maker : MakerTold) (j : ℕ) (c : PoolCore P) (f : Frame P) → IsCore maker c → FitsCore c f → AllByRecursion (λ x. HasPlace c.settings (nth_shard j c) x.slot) (freed_of c.settings j f.freed.items)
   freed_places maker j c f core fits = places_among maker j c f.freed.items core (λ k some. freed_inside k c f fits some)
 
   -- None is unused, and none is freed twice.
-  pub freed_once : (j : ℕ) (c : PoolCore P) (f : Frame P) → FitsCore c f → j < length c.shards → AreOnce (nth_shard j c.shards) (freed_of c.settings j f.freed.items)
-  freed_once j c f fits below k =
-      omega (arith, fits.once (right_to k), made_once (right_to k) (length c.cells), kept_slots k c, get_or-le-sum_by (free_count (right_to k)) c.shards j (fresh_shard memory_kind 0 1 0 0) below, freed_parted (right_to k) (λ x. shard_of c.settings x.slot == j) f.freed.items)
+  pub freed_once : (maker : MakerTold) (j : ℕ) (c : PoolCore P) (f : Frame P) → IsCore maker c → FitsCore c f → j < c.settings.shards → AreOnce (nth_shard j c) (freed_of c.settings j f.freed.items)
+  freed_once maker j c f core fits below k =
+      omega (arith, fits.once (right_to k), made_once (right_to k) c.settings.slots, shard_kept maker (right_to k) j c core below, freed_parted (right_to k) (λ x. shard_of c.settings x.slot == j) f.freed.items)
 
   -- so a shard has them all once they are freed
-  pub freed_counts : (t : Thing) (maker : MakerTold) (j : ℕ) (c : PoolCore P) (f : Frame P) → IsCore maker c → FitsCore c f → j < length c.shards → free_count t (after_frees c.settings (freed_of c.settings j f.freed.items) (nth_shard j c.shards)) ≡ free_count t (nth_shard j c.shards) + freed_count t (freed_of c.settings j f.freed.items)
+  pub freed_counts : (t : Thing) (maker : MakerTold) (j : ℕ) (c : PoolCore P) (f : Frame P) → IsCore maker c → FitsCore c f → j < c.settings.shards → free_count t (after_frees c.settings (freed_of c.settings j f.freed.items) (nth_shard j c)) ≡ free_count t (nth_shard j c) + freed_count t (freed_of c.settings j f.freed.items)
   freed_counts t maker j c f core fits below =
-      frees_more t c.settings (freed_of c.settings j f.freed.items) (nth_shard j c.shards) (freed_places maker j c f core fits) (freed_once j c f fits below)
+      frees_more t c.settings (freed_of c.settings j f.freed.items) (nth_shard j c) (freed_places maker j c f core fits) (freed_once maker j c f core fits below)
 
-  first_below : (maker : MakerTold) (c : PoolCore P) (xs : List FreedSlot) → IsCore maker c → 0 < length xs → ((k : ℕ) → 1 ≤ freed_count (right_to k) xs → k < length c.cells) → first_shard c.settings xs < length c.shards
+  first_below : (maker : MakerTold) (c : PoolCore P) (xs : List FreedSlot) → IsCore maker c → 0 < length xs → ((k : ℕ) → 1 ≤ freed_count (right_to k) xs → k < c.settings.slots) → first_shard c.settings xs < c.settings.shards
   first_below maker c [] core some inside = absurd (omega arith)
   first_below maker c (x ∷ xs) core some inside =
-      let below : x.slot < length c.cells = inside x.slot (omega (arith, freed_first (right_to x.slot) x xs, slot_once x.slot)) in
+      let below : x.slot < c.settings.slots = inside x.slot (omega (arith, freed_first (right_to x.slot) x xs, slot_once x.slot)) in
       omega (arith, first_at_most c.settings x xs, (core.layout.inside x.slot below).0)
 
   -- The shard whose slots are freed first is one of the pool.
-  pub first_is_shard : (maker : MakerTold) (c : PoolCore P) (f : Frame P) → IsCore maker c → FitsCore c f → 0 < length f.freed.items → first_shard c.settings f.freed.items < length c.shards
+  pub first_is_shard : (maker : MakerTold) (c : PoolCore P) (f : Frame P) → IsCore maker c → FitsCore c f → 0 < length f.freed.items → first_shard c.settings f.freed.items < c.settings.shards
   first_is_shard maker c f core fits some = first_below maker c f.freed.items core some (λ k more. freed_inside k c f fits more)
 
   -- Each slot of a shard is used when its turn comes, whatever was freed before it.
-  pub freed_in_turn : (maker : MakerTold) (j : ℕ) (c : PoolCore P) (f : Frame P) → IsCore maker c → FitsCore c f → j < length c.shards → AreUsedInTurn c.settings (freed_of c.settings j f.freed.items) (nth_shard j c.shards)
+  pub freed_in_turn : (maker : MakerTold) (j : ℕ) (c : PoolCore P) (f : Frame P) → IsCore maker c → FitsCore c f → j < c.settings.shards → AreUsedInTurn c.settings (freed_of c.settings j f.freed.items) (nth_shard j c)
   freed_in_turn maker j c f core fits below =
-      used_in_turn c.settings (freed_of c.settings j f.freed.items) (nth_shard j c.shards) (freed_places maker j c f core fits) (freed_once j c f fits below)
+      used_in_turn c.settings (freed_of c.settings j f.freed.items) (nth_shard j c) (freed_places maker j c f core fits) (freed_once maker j c f core fits below)

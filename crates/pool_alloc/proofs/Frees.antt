@@ -3,7 +3,7 @@ use Rattle.std.proofs.Common.{◌≡◌, ℕ, ◌+◌, ◌<◌, ◌≤◌, true,
 use Rattle.std.specs.List.{AllByRecursion}
 use Rattle.std.proofs.lemmas.Bool.{true_from_ne_false}
 use Rattle.pool_index.specs.Shard.{ShardState, after_free, is_used, slot_number}
-use Rattle.pool_slots.proofs.QueueLists.{each_weaker}
+use Rattle.pool_slots.proofs.Lists.{each_weaker}
 use Rattle.pool_alloc.specs.Freeing.{AreUsedInTurn}
 use Rattle.pool_alloc.specs.Places.{Thing, right_to, slot_count, unused_count, free_count, freed_count}
 use Rattle.pool_alloc.specs.Steps.{local_of, after_frees}

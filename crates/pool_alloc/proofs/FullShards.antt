@@ -7,17 +7,21 @@ use Rattle.std.proofs.lemmas.List.Sums.{sum_by-cons, count_by-le-length}
 use Rattle.std.proofs.lemmas.Nat.{mod-mul-add, div-add-mod'}
 use Rattle.std.proofs.Math.Nat.{mod-lt}
 use Rattle.pool_pages.specs.MakerTold.{MakerTold}
-use Rattle.pool_alloc.specs.Sound.{IsCore}
+use Rattle.pool_alloc.specs.Sound.{IsCore, IsPartAt}
 use Rattle.pool_index.specs.Shard.{ShardState, warm_at, next_cold, IsShard, choice, affine_choice, warm_choice, cold_choice, slot_and_bytes, pick_answer, one_if, is_used}
 use Rattle.pool_index.specs.declared.ids.MemoryInModule.{MemoryInModule}
 use Rattle.pool_index.specs.declared.warm_slot.WarmSlot.{WarmSlot}
-use Rattle.pool_slots.specs.Queues.{QueueState, empty_queue}
-use Rattle.pool_alloc.specs.Places.{right_to, unused_count, free_count, queued_count, kept_count}
-use Rattle.pool_alloc.specs.Steps.{nth_shard, nth_queue}
+use Rattle.pool_slots.specs.SlotQueues.{Queue, empty_queue}
+use Rattle.pool_alloc.specs.Places.{right_to, unused_count, free_count, queued_count, kept_count, part_count}
+use Rattle.pool_alloc.specs.Steps.{nth_shard, nth_queue, shard_in, queue_in, queue_place}
 use Rattle.pool_alloc.specs.declared.pool_core.PoolCore.{PoolCore}
 use Rattle.pool_alloc.specs.declared.frame.Frame.{Frame}
-use Rattle.pool_alloc.proofs.KeptCounts.{kept_slots}
 use Rattle.pool_alloc.specs.Searches.{HasNoSlot, AreFull, AreEmpty}
+use Rattle.pool_alloc.proofs.RegionCounts.{cell_slots}
+use Rattle.pool_slots.specs.Parts.{part_at}
+use Rattle.pool_slots.specs.declared.part.PoolPart.{PoolPart}
+use Rattle.pool_alloc.specs.declared.pool_core.Settings.{Settings}
+use Rattle.pool_slots.specs.declared.part.PoolPart.TheVariants as part
 
 -- neither of two choices was there
 neither : {X : Type 0} (a b : Option X) → option_or a b ≡ None → (a ≡ None) × (b ≡ None)
@@ -89,19 +93,28 @@ sum_none of [] d none = refl
 sum_none of (x ∷ xs) d none = omega (arith, sum_by-cons of x xs, none 0 (omega arith), sum_none of xs d (λ i below. none (suc i) (omega (arith, below))))
 
 module _ {P : Type 0} where
+  -- A part has no slot where it is a shard that has none, an empty queue, or a cell.
+  part_none : (maker : MakerTold) (s : Settings) (k p : ℕ) (x : PoolPart P) → IsPartAt maker s p x → (p < s.shards → free_count (right_to k) (shard_in x) ≡ 0) → (s.shards + s.slots ≤ p → (queue_in x).slots ≡ []) → part_count (right_to k) x ≡ 0
+  part_none maker s k p (part.Shard shard) is full empty = full is.0
+  part_none maker s k p (part.Memory cell) is full empty = cell_slots k cell
+  part_none maker s k p (part.Queue q) is full empty = ap (queued_count (right_to k)) (empty is.0)
+  part_none maker s k p (part.Table cell) is full empty = absurd is
+  part_none maker s k p (part.Stack cell) is full empty = absurd is
+
   -- Where all shards were tried, and all queues taken, the pool has no slot.
   pub nothing_kept : (maker : MakerTold) (c : PoolCore P) (f : Frame P) → IsCore maker c → AreEmpty c.settings.queues c f → AreFull c.settings.shards c f → (k : ℕ) → kept_count (right_to k) c ≡ 0
   nothing_kept maker c f core empty full k =
-      let shards : sum_by (free_count (right_to k)) c.shards ≡ 0 =
-      sum_none (free_count (right_to k)) c.shards (nth_shard 0 [])
-      (λ i below.
-      let place = around f.home i c.settings.shards (omega (arith, below, core.shards_made)) in
-      let S : ℕ → Type 0 = λ n. free_count (right_to k) (nth_shard n c.shards) ≡ 0 in
-      subst S place.2 (full place.0 place.1 k)) in
-      let queues : sum_by (λ q. queued_count (right_to k) q.memories) c.queues ≡ 0 =
-      sum_none (λ (q : QueueState). queued_count (right_to k) q.memories) c.queues (empty_queue 0 0)
-      (λ i below.
-      let place = around f.home i c.settings.queues (omega (arith, below, core.queues_made)) in
-      let S : ℕ → Type 0 = λ n. (nth_queue n c.queues).memories ≡ [] in
-      ap (queued_count (right_to k)) (subst S place.2 (empty place.0 place.1))) in
-      omega (arith, kept_slots k c, shards, queues)
+      let s : Settings = c.settings in
+      sum_none (part_count (right_to k)) c.parts (part_at 0 [])
+      (λ p below. part_none maker s k p (part_at p c.parts) (core.parts p below)
+      (λ shard.
+      let place = around f.home p s.shards shard in
+      let S : ℕ → Type 0 = λ n. free_count (right_to k) (nth_shard n c) ≡ 0 in
+      subst S place.2 (full place.0 place.1 k))
+      (λ from.
+      let i : ℕ = p - (s.shards + s.slots) in
+      let there : queue_place s i ≡ p = omega (arith, from) in
+      let place = around f.home i s.queues (omega (arith, below, core.number, from)) in
+      let S : ℕ → Type 0 = λ n. (nth_queue n c).slots ≡ [] in
+      let Q : ℕ → Type 0 = λ q. (queue_in (part_at q c.parts)).slots ≡ [] in
+      subst Q there (subst S place.2 (empty place.0 place.1))))

@@ -6,9 +6,9 @@ use Rattle.std.proofs.lemmas.List.{nil_from_length}
 use Rattle.std.proofs.lemmas.List.Elements.{All-nil, All-head, All-tail, All-same}
 use Rattle.pool_pages.specs.MakerTold.{MakerTold}
 use Rattle.pool_limits.specs.LimiterTold.{LimiterTold}
-use Rattle.pool_slots.specs.Queues.{QueueState}
+use Rattle.pool_slots.specs.SlotQueues.{Queue}
 use Rattle.pool_slots.specs.declared.errors.AllocError.{AllocError}
-use Rattle.pool_slots.proofs.QueueRuns.{no_slots}
+use Rattle.pool_slots.proofs.SlotRuns.{no_slots}
 use Rattle.pool_alloc.proofs.QueueCounts.{leased_first}
 use Rattle.pool_alloc.specs.Bounds.{PoolSizes, give_back_bound, pool_sizes, flush_left, returns_left, queues_left, next_left, steps_at, steps_left}
 use Rattle.pool_alloc.specs.Calls.{IsGrantOf, IfGranted}
@@ -29,7 +29,7 @@ use Rattle.pool_alloc.specs.declared.frame.Frame.{Frame}
 use Rattle.pool_alloc.specs.declared.frame.FreedSlot.{FreedSlot}
 use Rattle.pool_alloc.specs.declared.frame.Grant.{Grant}
 use Rattle.pool_alloc.specs.declared.frame.Grant.TheVariants.{Instance}
-use Rattle.pool_alloc.specs.declared.frame.ModuleCall.{ModuleCall}
+use Rattle.pool_alloc.specs.Asked.{ModuleAsked}
 use Rattle.pool_alloc.specs.declared.frame.Outcome.{Outcome}
 use Rattle.pool_alloc.specs.declared.frame.Outcome.TheVariants as answer
 use Rattle.pool_alloc.specs.declared.frame.Phase.{Phase}
@@ -47,10 +47,10 @@ some_length [] e = absurd (eqb-false 0 0 e refl)
 some_length (x ∷ xs) e = omega arith
 
 -- what a frame has, in whatever phase
-pub record IsHeld (maker : MakerTold) (s : Settings) (in_stripe : ℕ) (local : QueueState) (freed : Reserved FreedSlot) (leases : List Lease) : Type 0 where
+pub record IsHeld (maker : MakerTold) (s : Settings) (in_stripe : ℕ) (local : Queue) (freed : Reserved FreedSlot) (leases : List Lease) : Type 0 where
   pub stripe : in_stripe < s.stripes
   pub queue : IsLocal maker s local
-  pub freed_room : (freed.room ≡ 2 * s.batch) × (length freed.items + length local.memories ≤ 2 * s.batch)
+  pub freed_room : (freed.room ≡ 2 * s.batch) × (length freed.items + length local.slots ≤ 2 * s.batch)
   pub freed_bytes : All (λ x. x.bytes ≤ 2 ^ 32) freed.items
   pub objects : All (IsLeaseOf maker s) leases
 
@@ -82,7 +82,7 @@ module _ {P : Type 0} where
 
   -- what a frame has but for its next step
   abbrev pub listed_count : Thing → Frame P → ℕ
-  listed_count t f = leased_count t f.objects.items + queued_count t f.local.memories + freed_count t f.freed.items
+  listed_count t f = leased_count t f.objects.items + queued_count t f.local.slots + freed_count t f.freed.items
 
   -- what a turn has in hand
   abbrev pub hand : Turn P → Hand
@@ -255,9 +255,9 @@ module _ {P : Type 0} (maker : MakerTold) (old new : LimiterTold) (d : PoolCore 
   -- the instance is whole: the call ends with it
   whole_ready : (c : PoolCore P) (f : Frame P) → Kept c f → HasNoneWaiting f → IsToGrant c.settings f.asked f.queues f.objects → Even (hand {P = P} next) c f → 1 ≤ steps_left d e → GoesNow (asks (admitted (length f.objects.items))) None → length (memories_wanted f.asked) ≤ length f.objects.items → Ready c (record f { objects = no_room }) (ends (answer.Granted (Instance (record { memories = f.objects }))))
   whole_ready c f kept settled to_grant even fewer way all =
-      let W : Option ModuleCall → Type 0 = λ a. length f.objects.items ≡ length (memories_wanted a) in
-      let B : Option ModuleCall → Type 0 = λ a. AreBegun c.settings a f.objects.items in
-      let A : Settings → Option ModuleCall → Type 0 = λ s a. AreSupported s (memories_wanted a) (images_wanted a) in
+      let W : Option ModuleAsked → Type 0 = λ a. length f.objects.items ≡ length (memories_wanted a) in
+      let B : Option ModuleAsked → Type 0 = λ a. AreBegun c.settings a f.objects.items in
+      let A : Settings → Option ModuleAsked → Type 0 = λ s a. AreSupported s (memories_wanted a) (images_wanted a) in
       let supported : A d.settings e.asked = subst (A d.settings) kept.asked (subst (λ (s : Settings). A s f.asked) kept.settings to_grant.supported) in
       let long : W e.asked = subst W kept.asked (omega (arith, all, to_grant.few)) in
       record {
@@ -306,9 +306,9 @@ module _ {P : Type 0} (maker : MakerTold) (old new : LimiterTold) (d : PoolCore 
 
   flushed : (c : PoolCore P) (f : Frame P) → Kept c f → is_flushed f ≡ true → HasNoneWaiting f
   flushed c f kept done =
-      let both = and_parts (length f.local.memories == 0) (length f.freed.items == 0) done in
-      let none : f.local.memories ≡ [] = empty_length f.local.memories both.0 in
-      record { no_ranges = no_slots f.local.ranges f.local.memories none kept.held.queue.owners; no_slots = none; none_freed = empty_length f.freed.items both.1 }
+      let both = and_parts (length f.local.slots == 0) (length f.freed.items == 0) done in
+      let none : f.local.slots ≡ [] = empty_length f.local.slots both.0 in
+      record { no_ranges = no_slots f.local.ranges f.local.slots none kept.held.queue.owners; no_slots = none; none_freed = empty_length f.freed.items both.1 }
 
   -- What a turn leaves is as the row shows.
   pub after_ok : (c : PoolCore P) (f : Frame P) (t : Turn P) → Ready c f t → RowOk (finished c (after c.settings f t))

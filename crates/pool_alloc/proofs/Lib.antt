@@ -19,6 +19,8 @@ pub mod MadePools
 pub mod Makings
 pub mod OneParts
 pub mod Picks
+pub mod PoolParts
+pub mod Popped
 pub mod QueueCounts
 pub mod QueueRuns
 pub mod Refusing

@@ -14,20 +14,21 @@ use Rattle.pool_alloc.specs.Own.{made_of, made_of_limits, made_for}
 use Rattle.pool_alloc.specs.Rows.{was_made, made_by}
 use Rattle.pool_alloc.specs.declared.pool_core.PoolCore.{PoolCore}
 use Rattle.pool_alloc.specs.declared.frame.Frame.{Frame}
+use Rattle.pool_alloc.specs.declared.frame.TakenSlot.{TakenSlot}
 
-module _ {P : Type 0} (M L : Type 0) (slot : ℕ) (held : Slot) (c : PoolCore P) (f : Frame P) where
+module _ {P : Type 0} (M L : Type 0) (at : TakenSlot) (held : Slot) (c : PoolCore P) (f : Frame P) where
   made_static_in : (b : Bool) (ty : MemoryType) (m : Static)
-      → made_by {M = M} {L = L} slot (made_memory ty (if b then Ok m else Err (held, InitialSize))) c f ≡ was_made slot held (made_of ty (if b then Ok m else Err (held, InitialSize))) c f
+      → made_by {M = M} {L = L} at (made_memory ty (if b then Ok m else Err (held, InitialSize))) c f ≡ was_made at held (made_of ty (if b then Ok m else Err (held, InitialSize))) c f
   made_static_in true ty m = refl
   made_static_in false ty m = refl
 
   made_limits_in : (limits : Result (ℕ × Option ℕ) MemoryError) (ty : MemoryType) (room : ℕ)
-      → made_by {M = M} {L = L} slot (made_within limits ty room held) c f ≡ was_made slot held (made_of_limits limits ty room held) c f
+      → made_by {M = M} {L = L} at (made_within limits ty room held) c f ≡ was_made at held (made_of_limits limits ty room held) c f
   made_limits_in (Err e) ty room = refl
   made_limits_in (Ok l) ty room = made_static_in (nat_le l.0 room) ty (record { slot = held; size = l.0; capacity = static_capacity room l.1 })
 
   pub made_in_code : (answer : Result Bool LimiterError) (room : ℕ) (o : Option MemoryDecl) (r : Result (Memory M L) (Slot × MemoryError))
       → IfSome o (λ decl. r ≡ static_answer answer decl.ty room held)
-      → IfSome o (λ decl. made_by slot r c f ≡ was_made slot held (made_for room answer held o) c f)
+      → IfSome o (λ decl. made_by at r c f ≡ was_made at held (made_for room answer held o) c f)
   made_in_code answer room None r told = told
-  made_in_code answer room (Some decl) r told = ap (λ (x : Result (Memory M L) (Slot × MemoryError)). made_by slot x c f) told ∙ made_limits_in (limits_answer answer decl.ty) decl.ty room
+  made_in_code answer room (Some decl) r told = ap (λ (x : Result (Memory M L) (Slot × MemoryError)). made_by at x c f) told ∙ made_limits_in (limits_answer answer decl.ty) decl.ty room

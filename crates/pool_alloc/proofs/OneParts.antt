@@ -1,13 +1,13 @@
 -- Each row changes one part of the pool, or none.
-use Rattle.std.proofs.Common.{◌≡◌, ℕ, ◌+◌, Bool, true, false, List, [], ◌∷◌, length, refl, sym, subst, inl, inr, Option, Some, None, Result, Ok, Err}
+use Rattle.std.proofs.Common.{ℕ, ◌+◌, Bool, true, false, List, [], ◌∷◌, length, refl, sym, subst, inl, inr, Option, Some, None, Result, Ok, Err}
 use Rattle.pool_pages.specs.declared.unsupported.Unsupported.{Unsupported}
 use Rattle.pool_images.specs.Slots.{Slot}
 use Rattle.pool_index.specs.Shard.{ShardState}
 use Rattle.pool_limits.specs.LimiterTold.{LimiterTold}
 use Rattle.pool_memory.specs.Memories.{MemoryState}
-use Rattle.pool_slots.specs.Cells.{Cell}
+use Rattle.pool_slots.specs.RegionCells.{CellState}
 use Rattle.std.specs.Prelude.{nat_le}
-use Rattle.pool_slots.specs.Queues.{QueueState, QueuedMemory, after_append, drained}
+use Rattle.pool_slots.specs.SlotQueues.{Queue, Queued, after_append, drained}
 use Rattle.pool_slots.specs.declared.errors.AllocError.{AllocError}
 use Rattle.pool_alloc.specs.Leases.{Lease}
 use Rattle.pool_alloc.specs.Rows.{FlushStep, run, put, free, flush_step, merged, in_queue, reserved, validated, counted, paged, was_made, was_reset, put_region_row, flush_row, row_of}
@@ -17,16 +17,17 @@ use Rattle.pool_alloc.specs.Turns.{After}
 use Rattle.pool_alloc.specs.declared.pool_core.PoolCore.{PoolCore}
 use Rattle.pool_alloc.specs.declared.frame.Frame.{Frame}
 use Rattle.pool_alloc.specs.declared.frame.Phase.{Phase}
+use Rattle.pool_alloc.specs.declared.frame.TakenSlot.{TakenSlot}
 use Rattle.pool_alloc.specs.declared.frame.Phase.TheVariants.{Idle, Key, Validate, CountInstance, Pick, TakeQueue, TakeRegion, Empty, Instantiate, MakeMemory, CountMemory, PutUnknown, FreeUnknown, UncountMemory, Reset, Merge, Flush, UncountInstance}
 
 module _ {P : Type 0} where
   one_shard : (j : ℕ) (shard : ShardState) (c : PoolCore P) → ChangesOnePart c (with_shard j shard c)
   one_shard j shard c = inr (inl (j, shard, refl))
 
-  one_cell : (slot : ℕ) (cell : Cell) (c : PoolCore P) → ChangesOnePart c (with_cell slot cell c)
+  one_cell : (slot : ℕ) (cell : CellState) (c : PoolCore P) → ChangesOnePart c (with_cell slot cell c)
   one_cell slot cell c = inr (inr (inl (slot, cell, refl)))
 
-  one_queue : (i : ℕ) (queue : QueueState) (c : PoolCore P) → ChangesOnePart c (with_queue i queue c)
+  one_queue : (i : ℕ) (queue : Queue) (c : PoolCore P) → ChangesOnePart c (with_queue i queue c)
   one_queue i queue c = inr (inr (inr (inl (i, queue, refl))))
 
   one_reserved : (wants : Bool) (c : PoolCore P) (f : Frame P) → ChangesOnePart c (reserved wants c f).part
@@ -41,11 +42,11 @@ module _ {P : Type 0} where
   one_counted true c f = inr (inr (inr (inr (c.counters.core_instances + 1, inr (inl refl)))))
   one_counted false c f = inr (inr (inr (inr (c.counters.core_instances + 1, inr (inl refl)))))
 
-  one_paged : (fault : Bool) (slot : ℕ) (held : Slot) (next : Phase P) (c : PoolCore P) (f : Frame P) → ChangesOnePart c (paged fault slot held next c f).part
+  one_paged : (fault : Bool) (slot : TakenSlot) (held : Slot) (next : Phase P) (c : PoolCore P) (f : Frame P) → ChangesOnePart c (paged fault slot held next c f).part
   one_paged true slot held next c f = inl refl
   one_paged false slot held next c f = inl refl
 
-  one_made : (slot : ℕ) (held : Slot) (r : Result MemoryState AllocError) (c : PoolCore P) (f : Frame P) → ChangesOnePart c (was_made slot held r c f).part
+  one_made : (slot : TakenSlot) (held : Slot) (r : Result MemoryState AllocError) (c : PoolCore P) (f : Frame P) → ChangesOnePart c (was_made slot held r c f).part
   one_made slot held (Ok memory) c f = inl refl
   one_made slot held (Err e) c f = inl refl
 
@@ -53,17 +54,17 @@ module _ {P : Type 0} where
   one_reset true held lease c f = inl refl
   one_reset false held lease c f = inl refl
 
-  one_merged : (b : Bool) (i : ℕ) (queue : QueueState) (c : PoolCore P) (f : Frame P) → ChangesOnePart c (in_queue i c (merged b queue f)).part
+  one_merged : (b : Bool) (i : ℕ) (queue : Queue) (c : PoolCore P) (f : Frame P) → ChangesOnePart c (in_queue i c (merged b queue f)).part
   one_merged true i queue c f = one_queue i _ c
   one_merged false i queue c f = one_queue i _ c
 
-  one_put : (ms : List QueuedMemory) (c : PoolCore P) (f : Frame P) → ChangesOnePart c (put_region_row ms c f).part
+  one_put : (ms : List Queued) (c : PoolCore P) (f : Frame P) → ChangesOnePart c (put_region_row ms c f).part
   one_put [] c f = inl refl
-  one_put (m ∷ rest) c f = one_cell m.index _ c
+  one_put (m ∷ rest) c f = one_cell m.name.slot _ c
 
-  one_flushed : (step : FlushStep) (queue : QueueState) (c : PoolCore P) (f : Frame P) → ChangesOnePart c (flush_row step queue c f).part
+  one_flushed : (step : FlushStep) (queue : Queue) (c : PoolCore P) (f : Frame P) → ChangesOnePart c (flush_row step queue c f).part
   one_flushed run queue c f = inl refl
-  one_flushed put queue c f = one_put f.local.memories c f
+  one_flushed put queue c f = one_put f.local.slots c f
   one_flushed free queue c f = one_shard _ _ c
 
   one_part : (g : StepGiven) (p : Phase P) (c : PoolCore P) (f : Frame P) → ChangesOnePart c (row_of g p c f).part
@@ -78,13 +79,13 @@ module _ {P : Type 0} where
   one_part g (Instantiate slot held) c f = one_paged g.fault slot g.slot _ c f
   one_part g (MakeMemory slot held) c f = one_made slot held _ c f
   one_part g (CountMemory lease) c f = inr (inr (inr (inr (_, inr (inr refl)))))
-  one_part g (PutUnknown slot held) c f = one_cell slot _ c
+  one_part g (PutUnknown slot held) c f = one_cell slot.slot _ c
   one_part g (FreeUnknown slot) c f = one_shard _ _ c
   one_part g (UncountMemory lease) c f = inr (inr (inr (inr (_, inr (inr refl)))))
   one_part g (Reset lease) c f = one_reset g.fault g.slot lease c f
   one_part g Merge c f =
       let i : ℕ = queue_tried 0 c.settings f in
-      let whole : QueueState = after_append (nth_queue i c.queues) f.local in
+      let whole : Queue = after_append (nth_queue i c) f.local in
       one_merged (nat_le c.settings.batch (length whole.ranges)) i whole c (record f { local = drained f.local })
   one_part g Flush c f = one_flushed (flush_step f.local) g.queue c f
   one_part g UncountInstance c f = inr (inr (inr (inr (_, inr (inl refl)))))

@@ -3,13 +3,14 @@ use Rattle.std.proofs.Common.{◌≡◌, ℕ, ◌+◌, ◌≤◌, Bool, true, fa
 use Rattle.std.specs.Prelude.{map, filter, sum_by, if◌then◌else◌, not}
 use Rattle.std.specs.List.{AllZip}
 use Rattle.std.proofs.lemmas.Bool.{cases_eq, or_from}
-use Rattle.std.proofs.lemmas.Bool.Decides.{nat_tests}
 use Rattle.std.proofs.lemmas.List.Sums.{sum_by-cons, sum_by-append, sum_by_push}
 use Rattle.std.proofs.lemmas.List.Filters.{sum_by-filter_both}
-use Rattle.pool_slots.specs.Queues.{QueueState, QueuedMemory, holds, AreApart, after_run, IsLeftBy, IsFaulted, first_slot}
+use Rattle.pool_slots.specs.SlotQueues.{Queue, Queued, holds, AreApart, after_run, IsLeftBy, IsFaulted, first_slot}
 use Rattle.pool_alloc.specs.Leases.{Lease}
 use Rattle.pool_alloc.specs.Places.{Thing, right_to, region_of, slot_count, both_count, queued_count, leased_count, freed_count}
 use Rattle.pool_alloc.specs.declared.frame.FreedSlot.{FreedSlot}
+use Rattle.pool_slots.proofs.SlotNames.{slot_not}
+use Rattle.pool_slots.specs.declared.slot_name.SlotName.{SlotName}
 use Rattle.pool_alloc.proofs.SlotCounts.{slot_once}
 
 -- sums of numbers that agree, and of none
@@ -22,8 +23,8 @@ sum_by_none f none [] = refl
 sum_by_none f none (x ∷ xs) = omega (arith, sum_by-cons f x xs, none x, sum_by_none f none xs)
 
 -- a slot in a queue, and that of a lease, has its region
-pub queued_regions : (k : ℕ) (ms : List QueuedMemory) → queued_count (region_of k) ms ≡ queued_count (right_to k) ms
-queued_regions k ms = sum_by_agree (λ (m : QueuedMemory). both_count (region_of k) m.index) (λ (m : QueuedMemory). both_count (right_to k) m.index) (λ m. omega arith) ms
+pub queued_regions : (k : ℕ) (ms : List Queued) → queued_count (region_of k) ms ≡ queued_count (right_to k) ms
+queued_regions k ms = sum_by_agree (λ (m : Queued). both_count (region_of k) m.name.slot) (λ (m : Queued). both_count (right_to k) m.name.slot) (λ m. omega arith) ms
 
 pub leased_regions : (k : ℕ) (ls : List Lease) → leased_count (region_of k) ls ≡ leased_count (right_to k) ls
 leased_regions k ls = sum_by_agree (λ (l : Lease). both_count (region_of k) l.index) (λ (l : Lease). both_count (right_to k) l.index) (λ l. omega arith) ls
@@ -33,8 +34,8 @@ pub freed_regions : (k : ℕ) (xs : List FreedSlot) → freed_count (region_of k
 freed_regions k xs = sum_by_none (λ (x : FreedSlot). slot_count (region_of k) x.slot) (λ x. refl) xs
 
 -- one more or less at the front
-pub queued_first : (t : Thing) (m : QueuedMemory) (ms : List QueuedMemory) → queued_count t (m ∷ ms) ≡ both_count t m.index + queued_count t ms
-queued_first t m ms = sum_by-cons (λ (x : QueuedMemory). both_count t x.index) m ms
+pub queued_first : (t : Thing) (m : Queued) (ms : List Queued) → queued_count t (m ∷ ms) ≡ both_count t m.name.slot + queued_count t ms
+queued_first t m ms = sum_by-cons (λ (x : Queued). both_count t x.name.slot) m ms
 
 pub leased_first : (t : Thing) (l : Lease) (ls : List Lease) → leased_count t (l ∷ ls) ≡ both_count t l.index + leased_count t ls
 leased_first t l ls = sum_by-cons (λ (x : Lease). both_count t x.index) l ls
@@ -43,8 +44,8 @@ pub freed_first : (t : Thing) (x : FreedSlot) (xs : List FreedSlot) → freed_co
 freed_first t x xs = sum_by-cons (λ (y : FreedSlot). slot_count t y.slot) x xs
 
 -- one more at the end
-pub queued_last : (t : Thing) (ms : List QueuedMemory) (m : QueuedMemory) → queued_count t (ms ++ m ∷ []) ≡ queued_count t ms + both_count t m.index
-queued_last t ms m = sum_by_push (λ (x : QueuedMemory). both_count t x.index) ms m
+pub queued_last : (t : Thing) (ms : List Queued) (m : Queued) → queued_count t (ms ++ m ∷ []) ≡ queued_count t ms + both_count t m.name.slot
+queued_last t ms m = sum_by_push (λ (x : Queued). both_count t x.name.slot) ms m
 
 pub leased_last : (t : Thing) (ls : List Lease) (l : Lease) → leased_count t (ls ++ l ∷ []) ≡ leased_count t ls + both_count t l.index
 leased_last t ls l = sum_by_push (λ (x : Lease). both_count t x.index) ls l
@@ -53,59 +54,59 @@ pub freed_last : (t : Thing) (xs : List FreedSlot) (x : FreedSlot) → freed_cou
 freed_last t xs x = sum_by_push (λ (y : FreedSlot). slot_count t y.slot) xs x
 
 -- two queues' slots
-pub queued_joined : (t : Thing) (ms ns : List QueuedMemory) → queued_count t (ms ++ ns) ≡ queued_count t ms + queued_count t ns
-queued_joined t ms ns = sum_by-append (λ (x : QueuedMemory). both_count t x.index) ms ns
+pub queued_joined : (t : Thing) (ms ns : List Queued) → queued_count t (ms ++ ns) ≡ queued_count t ms + queued_count t ns
+queued_joined t ms ns = sum_by-append (λ (x : Queued). both_count t x.name.slot) ms ns
 
 -- those that pass a test, and the others
 pub freed_parted : (t : Thing) (p : FreedSlot → Bool) (xs : List FreedSlot) → freed_count t (filter p xs) + freed_count t (filter (λ x. not (p x)) xs) ≡ freed_count t xs
 freed_parted t p xs = sum_by-filter_both p (λ x. not (p x)) (λ x. refl) (λ (y : FreedSlot). slot_count t y.slot) xs
 
 -- slots whose numbers stay are counted as before
-numbers_zip : (of : ℕ → ℕ) (R : QueuedMemory → QueuedMemory → Type 0) → ((a b : QueuedMemory) → R a b → b.index ≡ a.index) → (ms ns : List QueuedMemory) → AllZip R ms ns → sum_by (λ m. of m.index) ns ≡ sum_by (λ m. of m.index) ms
+numbers_zip : (of : ℕ → ℕ) (R : Queued → Queued → Type 0) → ((a b : Queued) → R a b → b.name.slot ≡ a.name.slot) → (ms ns : List Queued) → AllZip R ms ns → sum_by (λ m. of m.name.slot) ns ≡ sum_by (λ m. of m.name.slot) ms
 numbers_zip of R same [] [] z = refl
 numbers_zip of R same [] (n ∷ ns) z = absurd z
 numbers_zip of R same (m ∷ ms) [] z = absurd z
 numbers_zip of R same (m ∷ ms) (n ∷ ns) z =
-    omega (arith, ap of (same m n z.0), sum_by-cons (λ (x : QueuedMemory). of x.index) m ms, sum_by-cons (λ (x : QueuedMemory). of x.index) n ns, numbers_zip of R same ms ns z.1)
+    omega (arith, ap of (same m n z.0), sum_by-cons (λ (x : Queued). of x.name.slot) m ms, sum_by-cons (λ (x : Queued). of x.name.slot) n ns, numbers_zip of R same ms ns z.1)
 
-numbers_map : (of : ℕ → ℕ) (f : QueuedMemory → QueuedMemory) → ((m : QueuedMemory) → (f m).index ≡ m.index) → (ms : List QueuedMemory) → sum_by (λ m. of m.index) (map f ms) ≡ sum_by (λ m. of m.index) ms
+numbers_map : (of : ℕ → ℕ) (f : Queued → Queued) → ((m : Queued) → (f m).name.slot ≡ m.name.slot) → (ms : List Queued) → sum_by (λ m. of m.name.slot) (map f ms) ≡ sum_by (λ m. of m.name.slot) ms
 numbers_map of f same [] = refl
 numbers_map of f same (m ∷ ms) =
-    omega (arith, ap of (same m), sum_by-cons (λ (x : QueuedMemory). of x.index) m ms, sum_by-cons (λ (x : QueuedMemory). of x.index) (f m) (map f ms), numbers_map of f same ms)
+    omega (arith, ap of (same m), sum_by-cons (λ (x : Queued). of x.name.slot) m ms, sum_by-cons (λ (x : Queued). of x.name.slot) (f m) (map f ms), numbers_map of f same ms)
 
-changed_index : (b : Bool) (m n : QueuedMemory) → n.index ≡ m.index → (if b then n else m).index ≡ m.index
+changed_index : (b : Bool) (m n : Queued) → n.name.slot ≡ m.name.slot → (if b then n else m).name.slot ≡ m.name.slot
 changed_index true m n same = same
 changed_index false m n same = refl
 
 -- so a decommit leaves the slots of a queue, and so does one that fails
-pub run_numbers : (of : ℕ → ℕ) (q : QueueState) → sum_by (λ m. of m.index) (after_run q).memories ≡ sum_by (λ m. of m.index) q.memories
-run_numbers of q = numbers_map of _ (λ m. changed_index _ m _ refl) q.memories
+pub run_numbers : (of : ℕ → ℕ) (q : Queue) → sum_by (λ m. of m.name.slot) (after_run q).slots ≡ sum_by (λ m. of m.name.slot) q.slots
+run_numbers of q = numbers_map of _ (λ m. changed_index _ m _ refl) q.slots
 
-pub faulted_numbers : (of : ℕ → ℕ) (old new : QueueState) → IsFaulted old new → sum_by (λ m. of m.index) new.memories ≡ sum_by (λ m. of m.index) old.memories
-faulted_numbers of old new faulted = numbers_zip of (IsLeftBy (first_slot old.ranges)) (λ a b left. left.index) old.memories new.memories faulted.memories
+pub faulted_numbers : (of : ℕ → ℕ) (old new : Queue) → IsFaulted old new → sum_by (λ m. of m.name.slot) new.slots ≡ sum_by (λ m. of m.name.slot) old.slots
+faulted_numbers of old new faulted = numbers_zip of (IsLeftBy (first_slot old.ranges)) (λ a b left. ap (λ (m : Queued). m.name.slot) left.same) old.slots new.slots faulted.slots
 
-pub run_counts : (t : Thing) (q : QueueState) → queued_count t (after_run q).memories ≡ queued_count t q.memories
+pub run_counts : (t : Thing) (q : Queue) → queued_count t (after_run q).slots ≡ queued_count t q.slots
 run_counts t q = run_numbers (both_count t) q
 
-pub faulted_counts : (t : Thing) (old new : QueueState) → IsFaulted old new → queued_count t new.memories ≡ queued_count t old.memories
+pub faulted_counts : (t : Thing) (old new : Queue) → IsFaulted old new → queued_count t new.slots ≡ queued_count t old.slots
 faulted_counts t old new faulted = faulted_numbers (both_count t) old new faulted
 
 -- a slot that isn't counted isn't held
-pub not_held : (k : ℕ) (ms : List QueuedMemory) → queued_count (right_to k) ms ≡ 0 → holds k ms ≡ false
-not_held k [] none = refl
-not_held k (m ∷ ms) none =
-    let first = queued_first (right_to k) m ms in
-    elim (cases_eq k m.index) [
+pub not_held : (name : SlotName) (ms : List Queued) → queued_count (right_to name.slot) ms ≡ 0 → holds name ms ≡ false
+not_held name [] none = refl
+not_held name (m ∷ ms) none =
+    let first = queued_first (right_to name.slot) m ms in
+    elim (cases_eq name.slot m.name.slot) [
       | inl e ↦
-          let one : slot_count (right_to k) m.index ≡ 1 = ap (slot_count (right_to k)) (sym e) ∙ slot_once k in
+          let one : slot_count (right_to name.slot) m.name.slot ≡ 1 = ap (slot_count (right_to name.slot)) (sym e) ∙ slot_once name.slot in
           absurd (omega arith)
-      | inr other ↦ or_from _ (holds k ms) (grind (arith, nat_tests)) (not_held k ms (omega arith))
+      | inr other ↦ or_from _ (holds name ms) (slot_not name m.name (λ e. other (ap (λ (n : SlotName). n.slot) e))) (not_held name ms (omega arith))
     ]
 
 -- two queues that have no slot both hold no slot both
-pub apart_by_count : (these those : List QueuedMemory) → ((k : ℕ) → queued_count (right_to k) these + queued_count (right_to k) those ≤ 1) → AreApart these those
+pub apart_by_count : (these those : List Queued) → ((k : ℕ) → queued_count (right_to k) these + queued_count (right_to k) those ≤ 1) → AreApart these those
 apart_by_count [] those once = tt
 apart_by_count (m ∷ ms) those once = (
-  not_held m.index those (omega (arith, once m.index, queued_first (right_to m.index) m ms, slot_once m.index)),
+  not_held m.name those (omega (arith, once m.name.slot, queued_first (right_to m.name.slot) m ms, slot_once m.name.slot)),
   apart_by_count ms those (λ k. omega (arith, once k, queued_first (right_to k) m ms)),
 )

@@ -8,7 +8,7 @@ use Rattle.pool_pages.specs.Told.{Told}
 use Rattle.pool_pages.specs.MemoryTypes.{minimum_byte_size}
 use Rattle.pool_pages.specs.declared.module_types.MemoryDecl.{MemoryDecl}
 use Rattle.pool_images.specs.Images.{Image}
-use Rattle.pool_images.specs.Slots.{Slot, IsFresh, hides}
+use Rattle.pool_images.specs.Slots.{Slot, IsFresh, forgotten, hides}
 use Rattle.pool_index.specs.Shard.{ShardState, after_free}
 use Rattle.pool_pages.specs.MemoryTypes.{allow_growth_to}
 use Rattle.pool_pages.specs.declared.unsupported.Unsupported.TheVariants.{InitialSize, AddressSpace, MemoryMinimum}
@@ -18,6 +18,7 @@ use Rattle.pool_memory.specs.Static.{static_capacity}
 use Rattle.pool_memory.specs.Making.{maximum_asked}
 use Rattle.pool_memory.specs.declared.memory_error.MemoryError.TheVariants as unmade
 use Rattle.pool_slots.specs.Cells.{Cell, unmapped, unknown, previously_used, taken, is_taken}
+use Rattle.pool_slots.specs.RegionCells.{CellState, cell_numbers, cell_emptied, cell_filled}
 use Rattle.pool_slots.specs.declared.errors.AllocError.{AllocError}
 use Rattle.pool_slots.specs.declared.errors.AllocError.TheVariants as refusal
 use Rattle.pool_memory.proofs.Makings.{least_most}
@@ -31,6 +32,7 @@ use Rattle.pool_alloc.specs.declared.pool_core.Settings.{Settings}
 use Rattle.pool_alloc.specs.declared.frame.Ending.{Ending}
 use Rattle.pool_alloc.specs.declared.frame.Frame.{Frame}
 use Rattle.pool_alloc.specs.declared.frame.Phase.{Phase}
+use Rattle.pool_alloc.specs.declared.frame.TakenSlot.{TakenSlot}
 use Rattle.pool_alloc.specs.declared.frame.Phase.TheVariants.{Idle, TakeRegion, Empty, Instantiate, MakeMemory, CountMemory, PutUnknown, FreeUnknown}
 use Rattle.pool_alloc.specs.Answers.{AsksForMemory}
 use Rattle.pool_alloc.specs.Bounds.{pool_sizes, memories_left, steps_at, steps_left}
@@ -41,7 +43,7 @@ use Rattle.pool_alloc.specs.Own.{made_of, made_of_limits, made_for, memory_made}
 use Rattle.pool_alloc.specs.Places.{Thing, right_to, slot_count, both_count, phase_count, phase_instances, phase_memories}
 use Rattle.pool_alloc.specs.Rows.{in_cell, in_shard, region_next, take_region_on, paged, empty_row, instantiate_row, was_made, make_memory_row, count_memory_row, put_unknown_on, free_unknown_on}
 use Rattle.pool_alloc.specs.Searches.{AreEmpty, IsSearchedBy, IsSearchedAt, IsSearched}
-use Rattle.pool_alloc.specs.Sound.{IsPoolCell, IsCore, IsLeaseOf, IsToGrant, IsAllocating, HasNoneWaiting, IsShapedAt, IsSupported, HasSlot, HasBegun, IsMadeOf, IsNew}
+use Rattle.pool_alloc.specs.Sound.{IsInPoolCell, IsCore, IsLeaseOf, IsToGrant, IsAllocating, HasNoneWaiting, IsShapedAt, IsSupported, HasSlot, HasBegun, IsMadeOf, IsNew}
 use Rattle.pool_alloc.specs.Stages.{Stage, refusing, stage_by, stage_at, Goes}
 use Rattle.pool_alloc.specs.Stepping.{is_idle}
 use Rattle.pool_alloc.specs.Steps.{memories_wanted, images_wanted, image_wanted, nth_shard, nth_cell, shard_of, local_of, with_shard, with_cell, counting_memories}
@@ -57,6 +59,7 @@ use Rattle.pool_alloc.proofs.ShardFrees.{IsShardOf, freed_shard}
 use Rattle.pool_alloc.proofs.Stages.{picked_is_home, unknown_is_away, unknown_is_used}
 use Rattle.pool_alloc.proofs.Telling.{told_both, told_weaker, told_there}
 use Rattle.pool_alloc.proofs.Ways.{Can, searched_back, push_at, aims_grant, aims_back, next_memory, next_returns, kept_part, same_way, fails_way, made_way}
+use Rattle.pool_alloc.proofs.PoolParts.{sound_shard, sound_cell, shard_part}
 
 one_instantiated : (fault : Bool) (initial : ℕ) (hide : Bool) (image : Option Image) (old new : Slot) → InstantiatesAs fault initial hide image old new → IsOneSlot old new
 one_instantiated true initial hide image old new told = told.same
@@ -127,13 +130,13 @@ some_used (Some x) e = refl
 
 module _ {P : Type 0} where
   -- A region that was never used can be made an image slot of.
-  fresh_cell : (maker : MakerTold) (slot : ℕ) (cell : Cell) (c : PoolCore P) → IsCore maker c → IsPoolCell maker c.settings.behaviour c.settings.max_memory_size slot cell → (region : Told) → cell ≡ unmapped region → IsFresh (count c.settings.page 0) (count c.settings.page 0) c.settings.max_memory_size None region
+  fresh_cell : (maker : MakerTold) (slot : ℕ) (cell : Cell) (c : PoolCore P) → IsCore maker c → IsInPoolCell maker c.settings.behaviour c.settings.max_memory_size slot cell → (region : Told) → cell ≡ unmapped region → IsFresh (count c.settings.page 0) (count c.settings.page 0) c.settings.max_memory_size None region
   fresh_cell maker slot cell c core holds region is =
-      let C : Cell → Type 0 = λ x. IsPoolCell maker c.settings.behaviour c.settings.max_memory_size slot x in
+      let C : Cell → Type 0 = λ x. IsInPoolCell maker c.settings.behaviour c.settings.max_memory_size slot x in
       fresh_made maker c.settings.behaviour c.settings.page c.settings.max_memory_size slot region core.page core.settings.bounded (subst C is holds)
 
-  pub region_is_fresh : (maker : MakerTold) (slot : ℕ) (c : PoolCore P) → IsCore maker c → slot < length c.cells → (region : Told) → nth_cell slot c.cells ≡ unmapped region → IsFresh (count c.settings.page 0) (count c.settings.page 0) c.settings.max_memory_size None region
-  region_is_fresh maker slot c core inside region is = fresh_cell maker slot (nth_cell slot c.cells) c core (core.cells slot inside) region is
+  pub region_is_fresh : (maker : MakerTold) (slot : ℕ) (c : PoolCore P) → IsCore maker c → slot < c.settings.slots → (region : Told) → (nth_cell slot c).holds ≡ unmapped region → IsFresh (count c.settings.page 0) (count c.settings.page 0) c.settings.max_memory_size None region
+  region_is_fresh maker slot c core inside region is = fresh_cell maker slot (nth_cell slot c).holds c core (sound_cell maker slot c core inside).holds region is
 
   one_told : (s : Settings) (fault : Bool) (new had : Slot) (f : Frame P) → IsAllocating s f → IfAllocated f (λ decl. InstantiatesFor s decl fault (image_wanted f) had new) → IsOneSlot had new
   one_told s fault new had f allocating told =
@@ -165,51 +168,58 @@ module _ {P : Type 0} (maker : MakerTold) (old new : LimiterTold) where
   Shows p c f r = IsReadyRow maker old new c (in_phase p f) r
 
   -- The region leaves its cell.
-  taken_kept : (slot : ℕ) (c : PoolCore P) (f : Frame P) → Can maker (TakeRegion slot) c f → Kept maker old new c (in_phase (TakeRegion slot) f) (with_cell slot taken c) (in_phase Idle f)
-  taken_kept slot c f can = kept_part maker old new c (in_phase (TakeRegion slot) f) (with_cell slot taken c) (in_phase Idle f) (core_with_cell maker slot taken c can.core tt) (held_of maker c.settings (in_phase (TakeRegion slot) f) can.frame) refl refl refl
+  abbrev emptied : ℕ → PoolCore P → PoolCore P
+  emptied slot c = with_cell slot (cell_emptied (nth_cell slot c)) c
 
-  taken_even : (slot : ℕ) (c : PoolCore P) (f : Frame P) → Can maker (TakeRegion slot) c f → Even maker old new c (in_phase (TakeRegion slot) f) (record { things = λ t. both_count t slot; instances = 1; memories = 0 }) (with_cell slot taken c) (in_phase Idle f)
-  taken_even slot c f can = record { places = λ t. omega (arith, kept_without t slot c (picked_is_home slot c f can.fits)); instances = omega arith; memories = omega arith }
+  taken_kept : (slot : ℕ) (c : PoolCore P) (f : Frame P) → Can maker (TakeRegion slot) c f → Kept maker old new c (in_phase (TakeRegion slot) f) (emptied slot c) (in_phase Idle f)
+  taken_kept slot c f can =
+      let was = sound_cell maker slot c can.core can.frame.shape.2 in
+      kept_part maker old new c (in_phase (TakeRegion slot) f) (emptied slot c) (in_phase Idle f) (core_with_cell maker slot (cell_emptied (nth_cell slot c)) c can.core can.frame.shape.2 (record { name = was.name; holds = tt })) (held_of maker c.settings (in_phase (TakeRegion slot) f) can.frame) refl refl refl
 
-  holds_ready : (slot : ℕ) (cell : Cell) (c : PoolCore P) (f : Frame P) → Can maker (TakeRegion slot) c f → IsPoolCell maker c.settings.behaviour c.settings.max_memory_size slot cell → is_taken cell ≡ false → Ready maker old new c (in_phase (TakeRegion slot) f) (with_cell slot taken c) (in_phase Idle f) (region_next c.settings slot cell)
-  holds_ready slot (unmapped region) c f can holds there = record {
-    kept = taken_kept slot c f can;
-    shape = (refl, (can.frame.shape.0, can.frame.shape.1, record { inside = can.frame.shape.2; region = slot_made maker c.settings.behaviour c.settings.page c.settings.max_memory_size slot region can.core.page holds }, clean_made maker c.settings.behaviour c.settings.page c.settings.max_memory_size slot region can.core.page holds));
-    even = taken_even slot c f can;
+  taken_even : (slot : ℕ) (c : PoolCore P) (f : Frame P) → Can maker (TakeRegion slot) c f → Even maker old new c (in_phase (TakeRegion slot) f) (record { things = λ t. both_count t slot; instances = 1; memories = 0 }) (emptied slot c) (in_phase Idle f)
+  taken_even slot c f can = record { places = λ t. omega (arith, kept_without maker t slot c can.core can.frame.shape.2 (picked_is_home maker slot c f can.core can.fits)); instances = omega arith; memories = omega arith }
+
+  holds_ready : (at : TakenSlot) (held : Cell) (c : PoolCore P) (f : Frame P) → Can maker (TakeRegion at.slot) c f → IsInPoolCell maker c.settings.behaviour c.settings.max_memory_size at.slot held → is_taken held ≡ false → Ready maker old new c (in_phase (TakeRegion at.slot) f) (emptied at.slot c) (in_phase Idle f) (region_next c.settings at held)
+  holds_ready at (unmapped region) c f can holds there = record {
+    kept = taken_kept at.slot c f can;
+    shape = (refl, (can.frame.shape.0, can.frame.shape.1, record { inside = can.frame.shape.2; region = slot_made maker c.settings.behaviour c.settings.page c.settings.max_memory_size at.slot region can.core.page holds }, clean_made maker c.settings.behaviour c.settings.page c.settings.max_memory_size at.slot region can.core.page holds));
+    even = taken_even at.slot c f can;
     fewer = omega arith;
-    way = same_way maker old new c (in_phase (TakeRegion slot) f) f.ending (length f.objects.items);
+    way = same_way maker old new c (in_phase (TakeRegion at.slot) f) f.ending (length f.objects.items);
     searched = λ s. tt;
   }
-  holds_ready slot (unknown had) c f can holds there = record {
-    kept = taken_kept slot c f can;
+  holds_ready at (unknown had) c f can holds there = record {
+    kept = taken_kept at.slot c f can;
     shape = (refl, (can.frame.shape.0, can.frame.shape.1, record { inside = can.frame.shape.2; region = holds }));
-    even = taken_even slot c f can;
+    even = taken_even at.slot c f can;
     fewer = omega arith;
-    way = same_way maker old new c (in_phase (TakeRegion slot) f) f.ending (length f.objects.items);
+    way = same_way maker old new c (in_phase (TakeRegion at.slot) f) f.ending (length f.objects.items);
     searched = λ s. tt;
   }
-  holds_ready slot (previously_used had) c f can holds there = record {
-    kept = taken_kept slot c f can;
+  holds_ready at (previously_used had) c f can holds there = record {
+    kept = taken_kept at.slot c f can;
     shape = (refl, (can.frame.shape.0, can.frame.shape.1, record { inside = can.frame.shape.2; region = holds.0 }, holds.1));
-    even = taken_even slot c f can;
+    even = taken_even at.slot c f can;
     fewer = omega arith;
-    way = same_way maker old new c (in_phase (TakeRegion slot) f) f.ending (length f.objects.items);
+    way = same_way maker old new c (in_phase (TakeRegion at.slot) f) f.ending (length f.objects.items);
     searched = λ s. tt;
   }
-  holds_ready slot taken c f can holds there = absurd cc
+  holds_ready at taken c f can holds there = absurd cc
 
-  pub take_region_ready : (slot : ℕ) (c : PoolCore P) (f : Frame P) → Can maker (TakeRegion slot) c f → Shows (TakeRegion slot) c f (in_cell slot c (take_region_on c.settings slot (nth_cell slot c.cells) (in_phase Idle f)))
-  take_region_ready slot c f can = holds_ready slot (nth_cell slot c.cells) c f can (can.core.cells slot (omega (arith, can.frame.shape.2, can.core.cells_made))) (picked_is_home slot c f can.fits)
+  pub take_region_ready : (slot : ℕ) (c : PoolCore P) (f : Frame P) → Can maker (TakeRegion slot) c f → Shows (TakeRegion slot) c f (in_cell slot c (take_region_on c.settings slot (nth_cell slot c) (in_phase Idle f)))
+  take_region_ready slot c f can =
+      let cell : CellState = nth_cell slot c in
+      holds_ready (record { slot = slot; numbers = cell_numbers cell }) cell.holds c f can (sound_cell maker slot c can.core can.frame.shape.2).holds (picked_is_home maker slot c f can.core can.fits)
 
   -- A page call of the slot in hand failed, or the call goes on with it.
-  paged_ready : (p phase : Phase P) (fault : Bool) (slot : ℕ) (had held : Slot) (c : PoolCore P) (f : Frame P) →
+  paged_ready : (p phase : Phase P) (fault : Bool) (at : TakenSlot) (had held : Slot) (c : PoolCore P) (f : Frame P) →
       Can maker p c f →
       HasNoneWaiting f →
       IsAllocating c.settings (in_phase p f) →
-      HasSlot maker c.settings slot had →
+      HasSlot maker c.settings at.slot had →
       IsOneSlot had held →
-      ((t : Thing) → phase_count t p ≡ both_count t slot) →
-      ((t : Thing) → phase_count t phase ≡ both_count t slot) →
+      ((t : Thing) → phase_count t p ≡ both_count t at.slot) →
+      ((t : Thing) → phase_count t phase ≡ both_count t at.slot) →
       (phase_instances p ≡ 1) × (phase_instances phase ≡ 1) →
       (phase_memories p ≡ 0) × (phase_memories phase ≡ 0) →
       (stage_at p f.ending (length f.objects.items) ≡ stage_by f.ending (length f.objects.items)) × (stage_at phase f.ending (length f.objects.items) ≡ stage_by f.ending (length f.objects.items)) →
@@ -217,10 +227,10 @@ module _ {P : Type 0} (maker : MakerTold) (old new : LimiterTold) where
       (fault ≡ false → (is_idle phase ≡ false) × IsShapedAt maker c.settings phase (in_phase phase f)) →
       (steps_at (pool_sizes c) phase (in_phase phase f) + 1 ≤ steps_left c (in_phase p f)) × (3 + memories_left (pool_sizes c) f.asked f.objects ≤ steps_left c (in_phase p f)) →
       (IsSearched c (in_phase p f) → IsSearchedAt phase c (in_phase phase f)) →
-      IsReadyRow maker old new c (in_phase p f) (paged fault slot held phase c (in_phase Idle f))
-  paged_ready p phase true slot had held c f can settled allocating has one here there counted none stages left shape steps searched = record {
+      IsReadyRow maker old new c (in_phase p f) (paged fault at held phase c (in_phase Idle f))
+  paged_ready p phase true at had held c f can settled allocating has one here there counted none stages left shape steps searched = record {
     kept = kept_part maker old new c (in_phase p f) c _ can.core (held_of maker c.settings (in_phase p f) can.frame) refl refl refl;
-    shape = (refl, (settled, refl, has_of_one maker c.settings slot had held one has));
+    shape = (refl, (settled, refl, has_of_one maker c.settings at.slot had (forgotten held) one has));
     even = record { places = λ t. omega (arith, here t); instances = omega (arith, counted.0); memories = omega (arith, none.0) };
     fewer = omega (arith, steps.1);
     way = subst (λ (x : Stage). Goes maker old new c (in_phase p f) x (refusing refusal.PageFault) None) (sym stages.0)
@@ -228,7 +238,7 @@ module _ {P : Type 0} (maker : MakerTold) (old new : LimiterTold) where
           is = refl;
           number = refl;
           allocating = allocating;
-          slot = slot;
+          slot = at.slot;
           old = had;
           new = held;
           region = has;
@@ -237,7 +247,7 @@ module _ {P : Type 0} (maker : MakerTold) (old new : LimiterTold) where
         }))));
     searched = λ s. tt;
   }
-  paged_ready p phase false slot had held c f can settled allocating has one here there counted none stages left shape steps searched = record {
+  paged_ready p phase false at had held c f can settled allocating has one here there counted none stages left shape steps searched = record {
     kept = kept_part maker old new c (in_phase p f) c _ can.core (held_of maker c.settings (in_phase p f) can.frame) refl refl refl;
     shape = shape refl;
     even = record { places = λ t. omega (arith, here t, there t); instances = omega (arith, counted.0, counted.1); memories = omega (arith, none.0, none.1) };
@@ -248,13 +258,13 @@ module _ {P : Type 0} (maker : MakerTold) (old new : LimiterTold) where
   }
 
   -- The slot is emptied.
-  pub empty_ready : (fault : Bool) (held : Slot) (slot : ℕ) (had : Slot) (c : PoolCore P) (f : Frame P) → Can maker (Empty slot had) c f → Empties fault had held → Shows (Empty slot had) c f (empty_row fault held slot c (in_phase Idle f))
-  empty_ready fault held slot had c f can told =
+  pub empty_ready : (fault : Bool) (held : Slot) (at : TakenSlot) (had : Slot) (c : PoolCore P) (f : Frame P) → Can maker (Empty at had) c f → Empties fault had held → Shows (Empty at had) c f (empty_row fault held at c (in_phase Idle f))
+  empty_ready fault held at had c f can told =
       let one = one_emptied fault had held told in
-      paged_ready (Empty slot had) (Instantiate slot held) fault slot had held c f can can.frame.shape.0 can.frame.shape.1 can.frame.shape.2 one
+      paged_ready (Empty at had) (Instantiate at held) fault at had held c f can can.frame.shape.0 can.frame.shape.1 can.frame.shape.2 one
       (λ t. refl) (λ t. refl) (refl, refl) (refl, refl) (refl, refl)
       (left_emptied fault had held told)
-      (λ done. (refl, (can.frame.shape.0, can.frame.shape.1, has_of_one maker c.settings slot had held one can.frame.shape.2, clean_emptied fault had held told done)))
+      (λ done. (refl, (can.frame.shape.0, can.frame.shape.1, has_of_one maker c.settings at.slot had held one can.frame.shape.2, clean_emptied fault had held told done)))
       (omega arith, omega arith) (λ s. tt)
 
   -- The slot is instantiated.
@@ -264,18 +274,18 @@ module _ {P : Type 0} (maker : MakerTold) (old new : LimiterTold) where
       (told_weaker (λ decl. InstantiatesFor s decl fault (image_wanted f) had held) (λ decl. IsLeft had held) (slice_get (memories_wanted f.asked) (length f.objects.items))
       (λ decl tells. left_instantiated s decl fault (image_wanted f) had held tells is) told)
 
-  pub instantiate_ready : (fault : Bool) (held : Slot) (slot : ℕ) (had : Slot) (c : PoolCore P) (f : Frame P) → Can maker (Instantiate slot had) c f → IfAllocated f (λ decl. InstantiatesFor c.settings decl fault (image_wanted f) had held) → Shows (Instantiate slot had) c f (instantiate_row fault held slot c (in_phase Idle f))
-  instantiate_ready fault held slot had c f can told =
-      let one = one_told c.settings fault held had (in_phase (Instantiate slot had) f) can.frame.shape.1 told in
-      paged_ready (Instantiate slot had) (MakeMemory slot held) fault slot had held c f can can.frame.shape.0 can.frame.shape.1 can.frame.shape.2 one
+  pub instantiate_ready : (fault : Bool) (held : Slot) (at : TakenSlot) (had : Slot) (c : PoolCore P) (f : Frame P) → Can maker (Instantiate at had) c f → IfAllocated f (λ decl. InstantiatesFor c.settings decl fault (image_wanted f) had held) → Shows (Instantiate at had) c f (instantiate_row fault held at c (in_phase Idle f))
+  instantiate_ready fault held at had c f can told =
+      let one = one_told c.settings fault held had (in_phase (Instantiate at had) f) can.frame.shape.1 told in
+      paged_ready (Instantiate at had) (MakeMemory at held) fault at had held c f can can.frame.shape.0 can.frame.shape.1 can.frame.shape.2 one
       (λ t. refl) (λ t. refl) (refl, refl) (refl, refl) (refl, refl)
-      (left_told c.settings (Instantiate slot had) fault had held f can.frame.shape.1 told)
+      (left_told c.settings (Instantiate at had) fault had held f can.frame.shape.1 told)
       (λ done. (
         refl,
         (
           can.frame.shape.0,
           can.frame.shape.1,
-          has_of_one maker c.settings slot had held one can.frame.shape.2,
+          has_of_one maker c.settings at.slot had held one can.frame.shape.2,
           told_weaker (λ decl. InstantiatesFor c.settings decl fault (image_wanted f) had held) (λ decl. HasBegun (image_wanted f) held decl) (slice_get (memories_wanted f.asked) (length f.objects.items))
               (λ decl tells. begun_as c.settings decl fault (image_wanted f) had held done tells) told,
         ),
@@ -283,10 +293,10 @@ module _ {P : Type 0} (maker : MakerTold) (old new : LimiterTold) where
       (omega arith, omega arith) (λ s. tt)
 
   -- The memory is made.
-  made_ready : (slot : ℕ) (had : Slot) (given : Result Bool LimiterError) (r : Result MemoryState AllocError) (c : PoolCore P) (f : Frame P) → Can maker (MakeMemory slot had) c f → IfAllocated f (AsksForMemory given old new) → memory_made c.settings (memories_wanted f.asked) (length f.objects.items) given had ≡ r → IfOk r (IsMadeIn c.settings.max_memory_size (memories_wanted f.asked) (length f.objects.items) had) → Shows (MakeMemory slot had) c f (was_made slot had r c (in_phase Idle f))
-  made_ready slot had given (Ok memory) c f can asked is in_slot =
-      let e : Frame P = in_phase (MakeMemory slot had) f in
-      let H : Slot → Type 0 = λ s. HasSlot maker c.settings slot s in
+  made_ready : (at : TakenSlot) (had : Slot) (given : Result Bool LimiterError) (r : Result MemoryState AllocError) (c : PoolCore P) (f : Frame P) → Can maker (MakeMemory at had) c f → IfAllocated f (AsksForMemory given old new) → memory_made c.settings (memories_wanted f.asked) (length f.objects.items) given had ≡ r → IfOk r (IsMadeIn c.settings.max_memory_size (memories_wanted f.asked) (length f.objects.items) had) → Shows (MakeMemory at had) c f (was_made at had r c (in_phase Idle f))
+  made_ready at had given (Ok memory) c f can asked is in_slot =
+      let e : Frame P = in_phase (MakeMemory at had) f in
+      let H : Slot → Type 0 = λ s. HasSlot maker c.settings at.slot s in
       let begins : IfAllocated f (IsNew c.settings.max_memory_size (image_wanted f) memory) = memory_new c.settings.max_memory_size f had memory in_slot can.frame.shape.3 in
       let has : H (slot_of memory) = subst H (sym in_slot.slot) can.frame.shape.2 in
       record {
@@ -297,20 +307,20 @@ module _ {P : Type 0} (maker : MakerTold) (old new : LimiterTold) where
         way = made_way maker old new c e f.ending (length f.objects.items) can.frame.shape.1.ending (inr (refl, memory, record { number = refl; allocating = can.frame.shape.1; given = given; held = had; asked = asked; is = is }));
         searched = λ s. tt;
       }
-  made_ready slot had given (Err x) c f can asked is in_slot =
-      let e : Frame P = in_phase (MakeMemory slot had) f in
+  made_ready at had given (Err x) c f can asked is in_slot =
+      let e : Frame P = in_phase (MakeMemory at had) f in
       record {
         kept = kept_part maker old new c e c _ can.core (held_of maker c.settings e can.frame) refl refl refl;
-        shape = (refl, (can.frame.shape.0, refl, can.frame.shape.2));
+        shape = (refl, (can.frame.shape.0, refl, has_of_one maker c.settings at.slot had (forgotten had) refl can.frame.shape.2));
         even = record { places = λ t. omega arith; instances = omega arith; memories = omega arith };
         fewer = omega arith;
         way = fails_way maker old new c e f.ending (length f.objects.items) x can.frame.shape.1.ending (inr (inr (record { number = refl; allocating = can.frame.shape.1; given = given; held = had; asked = asked; is = is })));
         searched = λ s. tt;
       }
 
-  pub make_memory_ready : (given : Result Bool LimiterError) (slot : ℕ) (had : Slot) (c : PoolCore P) (f : Frame P) → Can maker (MakeMemory slot had) c f → IfAllocated f (AsksForMemory given old new) → Shows (MakeMemory slot had) c f (make_memory_row given slot had c (in_phase Idle f))
-  make_memory_ready given slot had c f can asked =
-      made_ready slot had given (memory_made c.settings (memories_wanted f.asked) (length f.objects.items) given had) c f can asked refl
+  pub make_memory_ready : (given : Result Bool LimiterError) (at : TakenSlot) (had : Slot) (c : PoolCore P) (f : Frame P) → Can maker (MakeMemory at had) c f → IfAllocated f (AsksForMemory given old new) → Shows (MakeMemory at had) c f (make_memory_row given at had c (in_phase Idle f))
+  make_memory_ready given at had c f can asked =
+      made_ready at had given (memory_made c.settings (memories_wanted f.asked) (length f.objects.items) given had) c f can asked refl
       (made_in c.settings (memories_wanted f.asked) (length f.objects.items) given had)
 
   -- The memory is granted.
@@ -349,35 +359,36 @@ module _ {P : Type 0} (maker : MakerTold) (old new : LimiterTold) where
       }
 
   -- The region of a slot of which nothing is known is put back,
-  pub put_unknown_ready : (slot : ℕ) (held : Slot) (c : PoolCore P) (f : Frame P) → Can maker (PutUnknown slot held) c f → Shows (PutUnknown slot held) c f (in_cell slot c (put_unknown_on slot held (nth_cell slot c.cells) (in_phase Idle f)))
-  put_unknown_ready slot held c f can =
-      let e : Frame P = in_phase (PutUnknown slot held) f in
-      let inside : slot < length c.cells = omega (arith, can.frame.shape.2.inside, can.core.cells_made) in
+  pub put_unknown_ready : (at : TakenSlot) (held : Slot) (c : PoolCore P) (f : Frame P) → Can maker (PutUnknown at held) c f → Shows (PutUnknown at held) c f (in_cell at.slot c (put_unknown_on at.slot held (nth_cell at.slot c) (in_phase Idle f)))
+  put_unknown_ready at held c f can =
+      let e : Frame P = in_phase (PutUnknown at held) f in
+      let inside : at.slot < c.settings.slots = omega (arith, can.frame.shape.2.inside) in
+      let cell : CellState = cell_filled (unknown held) (nth_cell at.slot c) in
       record {
-        kept = kept_part maker old new c e (with_cell slot (unknown held) c) (in_phase Idle f) (core_with_cell maker slot (unknown held) c can.core can.frame.shape.2.region) (held_of maker c.settings e can.frame) refl refl refl;
+        kept = kept_part maker old new c e (with_cell at.slot cell c) (in_phase Idle f) (core_with_cell maker at.slot cell c can.core inside (record { name = (sound_cell maker at.slot c can.core inside).name; holds = can.frame.shape.2.region })) (held_of maker c.settings e can.frame) refl refl refl;
         shape = (refl, (can.frame.shape.0, can.frame.shape.1, can.frame.shape.2.inside));
-        even = record { places = λ t. omega (arith, kept_with t slot (unknown held) c inside (unknown_is_away slot held c f can.fits) refl); instances = omega arith; memories = omega arith };
+        even = record { places = λ t. omega (arith, kept_with maker t at.slot cell c can.core inside refl (unknown_is_away maker at held c f can.core can.fits) refl); instances = omega arith; memories = omega arith };
         fewer = omega arith;
         way = same_way maker old new c e f.ending (length f.objects.items);
         searched = λ s. tt;
       }
 
   -- and the slot freed.
-  pub free_unknown_ready : (slot : ℕ) (c : PoolCore P) (f : Frame P) → Can maker (FreeUnknown slot) c f → Shows (FreeUnknown slot) c f (in_shard (shard_of c.settings slot) c (free_unknown_on c.settings slot (nth_shard (shard_of c.settings slot) c.shards) (in_phase Idle f)))
+  pub free_unknown_ready : (slot : ℕ) (c : PoolCore P) (f : Frame P) → Can maker (FreeUnknown slot) c f → Shows (FreeUnknown slot) c f (in_shard (shard_of c.settings slot) c (free_unknown_on c.settings slot (nth_shard (shard_of c.settings slot) c) (in_phase Idle f)))
   free_unknown_ready slot c f can =
       let e : Frame P = in_phase (FreeUnknown slot) f in
       let j : ℕ = shard_of c.settings slot in
-      let shard : ShardState = nth_shard j c.shards in
-      let inside : slot < length c.cells = omega (arith, can.frame.shape.2, can.core.cells_made) in
+      let shard : ShardState = nth_shard j c in
+      let inside : slot < c.settings.slots = omega (arith, can.frame.shape.2) in
       let place = place_of maker c slot can.core inside in
       let used = unknown_is_used maker slot c f can in
       let freed : ShardState = after_free (local_of c.settings slot) 0 shard in
-      let there : j < length c.shards = (can.core.layout.inside slot inside).0 in
-      let next_shard : IsShardOf shard freed = freed_shard (local_of c.settings slot) 0 shard (can.core.shards j there) (some_used _ used) (omega arith) in
+      let there : j < c.settings.shards = (can.core.layout.inside slot inside).0 in
+      let next_shard : IsShardOf shard freed = freed_shard (local_of c.settings slot) 0 shard (sound_shard maker j c can.core there) (some_used _ used) (omega arith) in
       record {
-        kept = kept_part maker old new c e (with_shard j freed c) (in_phase Idle f) (core_with_shard maker j freed c can.core next_shard.sound next_shard.same) (held_of maker c.settings e can.frame) refl refl refl;
+        kept = kept_part maker old new c e (with_shard j freed c) (in_phase Idle f) (core_with_shard maker j freed c can.core there next_shard.sound next_shard.same) (held_of maker c.settings e can.frame) refl refl refl;
         shape = (can.frame.shape.0, aims_back c.settings f.ending f.asked f.queues f.objects can.frame.shape.1);
-        even = record { places = λ t. omega (arith, kept_shard t j freed c there, free_more t (local_of c.settings slot) 0 shard place.inside used, ap (slot_count t) place.number); instances = omega arith; memories = omega arith };
+        even = record { places = λ t. omega (arith, kept_shard t j freed c (shard_part maker j c can.core there), free_more t (local_of c.settings slot) 0 shard place.inside used, ap (slot_count t) place.number); instances = omega arith; memories = omega arith };
         fewer = omega (arith, next_returns (pool_sizes c) f.ending f.queues f.asked f.objects can.frame.shape.1);
         way = same_way maker old new c e f.ending (length f.objects.items);
         searched = λ s. searched_back f.ending _ can.frame.shape.1;

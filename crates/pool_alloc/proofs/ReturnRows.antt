@@ -1,5 +1,5 @@
 -- The rows of a give-back, and of a flush.
-use Rattle.std.proofs.Common.{◌≡◌, ℕ, ◌+◌, ◌*◌, ◌-◌, ◌^◌, ◌<◌, ◌≤◌, Bool, true, false, List, [], ◌∷◌, ◌++◌, length, refl, sym, ap, subst, ◌∙◌, inl, inr, arith, All}
+use Rattle.std.proofs.Common.{◌≡◌, ℕ, ◌+◌, ◌-◌, ◌^◌, ◌<◌, ◌≤◌, Bool, true, false, List, [], ◌∷◌, ◌++◌, length, refl, sym, ap, subst, ◌∙◌, inl, inr, arith, All}
 use Rattle.std.specs.Prelude.{◌==◌, ◌||◌, ◌&&◌, not, nat_le, nat_lt, filter, if◌then◌else◌}
 use Rattle.std.proofs.lemmas.Bool.{cases_lt, leb-false, or_parts}
 use Rattle.std.proofs.lemmas.List.{length_push, length-append}
@@ -11,27 +11,29 @@ use Rattle.pool_alloc.specs.declared.pool_core.PoolCore.{PoolCore}
 use Rattle.pool_alloc.specs.declared.frame.Frame.{Frame}
 use Rattle.pool_alloc.specs.declared.frame.FreedSlot.{FreedSlot}
 use Rattle.pool_alloc.specs.declared.frame.Phase.{Phase}
+use Rattle.pool_alloc.specs.declared.frame.TakenSlot.{TakenSlot}
 use Rattle.pool_alloc.specs.declared.frame.Phase.TheVariants.{Idle, UncountMemory, Reset, Merge, Flush, UncountInstance}
 use Rattle.pool_pages.specs.declared.pages.DecommitBehavior.{DecommitBehavior}
 use Rattle.pool_pages.specs.declared.pages.DecommitBehavior.TheVariants.{Zero, RestoreOriginalMapping}
-use Rattle.pool_images.specs.Slots.{Slot, IsClean, left_ranges, reset_slot}
+use Rattle.pool_images.specs.Slots.{Slot, IsClean, forgotten, left_ranges, reset_slot}
 use Rattle.pool_images.specs.declared.ranges.ByteRange.{ByteRange}
 use Rattle.pool_index.specs.Shard.{ShardState}
 use Rattle.pool_memory.specs.Memories.{slot_of as image_slot_of}
 use Rattle.pool_slots.specs.Cells.{unknown, previously_used, is_taken}
-use Rattle.pool_slots.specs.Queues.{QueueState, QueuedMemory, LeavesClean, taken_into, drained, after_append}
+use Rattle.pool_slots.specs.RegionCells.{CellState, cell_filled}
+use Rattle.pool_slots.specs.SlotQueues.{Queue, Queued, LeavesClean, taken_into, drained, after_append}
 use Rattle.pool_alloc.specs.Answers.{Decommits, Resets, FlushTold}
 use Rattle.pool_alloc.specs.Bounds.{pool_sizes}
 use Rattle.pool_alloc.specs.Freeing.{AreUsedInTurn}
-use Rattle.pool_alloc.specs.Leases.{Lease}
+use Rattle.pool_alloc.specs.Leases.{Lease, slot_taken}
 use Rattle.pool_alloc.specs.Own.{slot_ended, reset_into}
 use Rattle.pool_alloc.specs.Places.{Thing, both_count, queued_count}
 use Rattle.pool_alloc.specs.Reserved.{with_item}
 use Rattle.pool_alloc.specs.Rows.{FlushStep, run, put, free, flush_step, merged, merge_on, in_queue, uncount_memory_row, was_reset, uncount_instance_row, decommit_row, put_region_row, free_row, flush_row}
-use Rattle.pool_alloc.specs.Sound.{IsPoolCell, IsPoolSlot, IsCore, IsShared, IsLocal, IsQueuedOf}
-use Rattle.pool_alloc.specs.Steps.{StepGiven, nth_shard, nth_queue, shard_of, freed_of, freed_elsewhere, first_shard, after_frees, cell_returned, queue_tried, with_shard, with_cell, with_queue}
+use Rattle.pool_alloc.specs.Sound.{IsInPoolCell, IsPoolSlot, IsCore, IsShared, IsLocal, IsQueuedOf}
+use Rattle.pool_alloc.specs.Steps.{StepGiven, nth_shard, nth_cell, nth_queue, shard_of, freed_of, freed_elsewhere, first_shard, after_frees, cell_returned, queue_tried, with_shard, with_cell, with_queue, cell_place}
 use Rattle.pool_alloc.specs.Turns.{goes, next, flush, Row, is_flushed}
-use Rattle.pool_alloc.proofs.CoreChanges.{core_with_shard, core_past_shards, core_with_cell, core_with_queue, core_with_counters}
+use Rattle.pool_alloc.proofs.CoreChanges.{core_with_shard, core_with_cell, core_with_queue, core_with_counters}
 use Rattle.pool_alloc.proofs.FlushSteps.{few_in_both, flush_few, decommit_fewer, put_fewer, free_fewer}
 use Rattle.pool_alloc.proofs.FreedSlots.{freed_counts}
 use Rattle.pool_alloc.proofs.Hands.{empty_length, some_length, in_phase, hand, held_of, Even, Kept, IsReadyRow, either_ready}
@@ -43,9 +45,13 @@ use Rattle.pool_alloc.proofs.ShardFrees.{IsShardOf, frees_shard}
 use Rattle.pool_alloc.proofs.SlotIdentity.{one_reset, slot_of_one}
 use Rattle.pool_alloc.proofs.Stages.{tried_is_queue, local_is_apart, first_can_be_put, first_can_be_freed}
 use Rattle.pool_alloc.specs.Stepping.{grant_count, grant_instances, grant_memories}
-use Rattle.pool_alloc.proofs.Ways.{Can, searched_back, none_granted, none_counted, aims_back, next_returns, kept_part, same_way, ends_way}
+use Rattle.pool_alloc.proofs.Ways.{Can, searched_back, none_granted, none_counted, aims_back, next_returns, kept_part, same_way, ends_way, searched_still}
+use Rattle.pool_alloc.proofs.PoolParts.{sound_shard, sound_cell, sound_queue, shard_part, queue_part}
+use Rattle.pool_alloc.proofs.Searching.{still_empty}
+use Rattle.pool_alloc.specs.Searches.{AreEmpty}
+use Rattle.pool_slots.specs.declared.part.PoolPart.TheVariants as part
 
-returned_if : (maker : MakerTold) (behaviour : DecommitBehavior) (static_size i : ℕ) (known : Bool) (s : Slot) → IsPoolSlot maker behaviour static_size i s → (known ≡ true → IsClean s) → IsPoolCell maker behaviour static_size i (if known then previously_used s else unknown s)
+returned_if : (maker : MakerTold) (behaviour : DecommitBehavior) (static_size i : ℕ) (known : Bool) (s : Slot) → IsPoolSlot maker behaviour static_size i s → (known ≡ true → IsClean s) → IsInPoolCell maker behaviour static_size i (if known then previously_used s else unknown s)
 returned_if maker behaviour static_size i true s of clean = (of, clean refl)
 returned_if maker behaviour static_size i false s of clean = of
 
@@ -62,48 +68,44 @@ fewer : (p : FreedSlot → Bool) (xs : List FreedSlot) → length (filter (λ x.
 fewer p xs = omega (arith, length-filter_both p (λ (x : FreedSlot). not (p x)) (λ x. refl) xs)
 
 -- a reset puts the slot of its memory into the queue
-reset_counts : (t : Thing) (keep index : ℕ) (slot : Slot) (q : QueueState) → queued_count t (reset_into keep index slot q).memories ≡ queued_count t q.memories + both_count t index
-reset_counts t keep index slot q = queued_last t q.memories _
+reset_counts : (t : Thing) (keep : ℕ) (at : TakenSlot) (slot : Slot) (q : Queue) → queued_count t (reset_into keep at slot q).slots ≡ queued_count t q.slots + both_count t at.slot
+reset_counts t keep at slot q = queued_last t q.slots _
 
 -- a cell to which a region is returned has it
 returned_has : (b : Bool) (slot : Slot) → is_taken (if b then previously_used slot else unknown slot) ≡ false
 returned_has true slot = refl
 returned_has false slot = refl
 
-decommit_counts : (t : Thing) (fault : Bool) (old new : QueueState) → Decommits fault old new → queued_count t new.memories ≡ queued_count t old.memories
+decommit_counts : (t : Thing) (fault : Bool) (old new : Queue) → Decommits fault old new → queued_count t new.slots ≡ queued_count t old.slots
 decommit_counts t true old new told = faulted_counts t old new told
-decommit_counts t false old new told = ap (λ (q : QueueState). queued_count t q.memories) told ∙ run_counts t old
+decommit_counts t false old new told = ap (λ (q : Queue). queued_count t q.slots) told ∙ run_counts t old
 
 -- what the next part of a flush finds
-pub record Finds (local : QueueState) (step : FlushStep) : Type 0 where
+pub record Finds (local : Queue) (step : FlushStep) : Type 0 where
   pub ranges : step ≡ run → 0 < length local.ranges
   pub put_none : step ≡ put → local.ranges ≡ []
-  pub put_some : step ≡ put → 0 < length local.memories
+  pub put_some : step ≡ put → 0 < length local.slots
   pub free_ranges : step ≡ free → local.ranges ≡ []
-  pub free_slots : step ≡ free → local.memories ≡ []
+  pub free_slots : step ≡ free → local.slots ≡ []
 
-finds_by : (local : QueueState) (a b : Bool) → (a ≡ true → local.ranges ≡ []) → (a ≡ false → 0 < length local.ranges) → (b ≡ true → local.memories ≡ []) → (b ≡ false → 0 < length local.memories) → Finds local (if a then (if b then free else put) else run)
+finds_by : (local : Queue) (a b : Bool) → (a ≡ true → local.ranges ≡ []) → (a ≡ false → 0 < length local.ranges) → (b ≡ true → local.slots ≡ []) → (b ≡ false → 0 < length local.slots) → Finds local (if a then (if b then free else put) else run)
 finds_by local true true none some empty more = record { ranges = λ e. absurd cc; put_none = λ e. absurd cc; put_some = λ e. absurd cc; free_ranges = λ e. none refl; free_slots = λ e. empty refl }
 finds_by local true false none some empty more = record { ranges = λ e. absurd cc; put_none = λ e. none refl; put_some = λ e. more refl; free_ranges = λ e. absurd cc; free_slots = λ e. absurd cc }
 finds_by local false b none some empty more = record { ranges = λ e. some refl; put_none = λ e. absurd cc; put_some = λ e. absurd cc; free_ranges = λ e. absurd cc; free_slots = λ e. absurd cc }
 
-pub finds : (local : QueueState) → Finds local (flush_step local)
-finds local = finds_by local (length local.ranges == 0) (length local.memories == 0) (λ e. empty_length local.ranges e) (λ e. some_length local.ranges e) (λ e. empty_length local.memories e) (λ e. some_length local.memories e)
+pub finds : (local : Queue) → Finds local (flush_step local)
+finds local = finds_by local (length local.ranges == 0) (length local.slots == 0) (λ e. empty_length local.ranges e) (λ e. some_length local.ranges e) (λ e. empty_length local.slots e) (λ e. some_length local.slots e)
 
 module _ {P : Type 0} where
-  core_after_frees : (maker : MakerTold) (j : ℕ) (slots : List FreedSlot) (c : PoolCore P) → IsCore maker c → AreUsedInTurn c.settings slots (nth_shard j c.shards) → All (λ x. x.bytes ≤ 2 ^ 32) slots → IsCore maker (with_shard j (after_frees c.settings slots (nth_shard j c.shards)) c)
-  core_after_frees maker j slots c core used small =
-      elim (cases_lt j (length c.shards)) [
-        | inl below ↦
-            let new : IsShardOf (nth_shard j c.shards) (after_frees c.settings slots (nth_shard j c.shards)) = frees_shard c.settings slots (nth_shard j c.shards) (core.shards j below) used small in
-            core_with_shard maker j (after_frees c.settings slots (nth_shard j c.shards)) c core new.sound new.same
-        | inr past ↦ core_past_shards maker j (after_frees c.settings slots (nth_shard j c.shards)) c core past
-      ]
+  core_after_frees : (maker : MakerTold) (j : ℕ) (slots : List FreedSlot) (c : PoolCore P) → IsCore maker c → j < c.settings.shards → AreUsedInTurn c.settings slots (nth_shard j c) → All (λ x. x.bytes ≤ 2 ^ 32) slots → IsCore maker (with_shard j (after_frees c.settings slots (nth_shard j c)) c)
+  core_after_frees maker j slots c core below used small =
+      let new : IsShardOf (nth_shard j c) (after_frees c.settings slots (nth_shard j c)) = frees_shard c.settings slots (nth_shard j c) (sound_shard maker j c core below) used small in
+      core_with_shard maker j (after_frees c.settings slots (nth_shard j c)) c core below new.sound new.same
 
   -- something is left of a flush that has no slots queued: freed ones
-  pub some_freed : (f : Frame P) → is_flushed f ≡ false → f.local.memories ≡ [] → 0 < length f.freed.items
+  pub some_freed : (f : Frame P) → is_flushed f ≡ false → f.local.slots ≡ [] → 0 < length f.freed.items
   some_freed f more none =
-      let M : List QueuedMemory → Type 0 = λ ms. ((length ms == 0) && (length f.freed.items == 0)) ≡ false in
+      let M : List Queued → Type 0 = λ ms. ((length ms == 0) && (length f.freed.items == 0)) ≡ false in
       let left : (length f.freed.items == 0) ≡ false = subst M none more in
       some_length f.freed.items left
 
@@ -125,13 +127,13 @@ module _ {P : Type 0} (maker : MakerTold) (old new : LimiterTold) where
       }
 
   -- The memory is reset, or a page call of that failed.
-  pub reset_ready : (fault : Bool) (held : Slot) (lease : Lease) (c : PoolCore P) (f : Frame P) → Can maker (Reset lease) c f → Resets fault c.settings.keep_resident.bytes lease.index (image_slot_of lease.memory) held → Shows (Reset lease) c f (was_reset fault held lease c (in_phase Idle f))
+  pub reset_ready : (fault : Bool) (held : Slot) (lease : Lease) (c : PoolCore P) (f : Frame P) → Can maker (Reset lease) c f → Resets fault c.settings.keep_resident.bytes (slot_taken lease) (image_slot_of lease.memory) held → Shows (Reset lease) c f (was_reset fault held lease c (in_phase Idle f))
   reset_ready true held lease c f can told =
       let e : Frame P = in_phase (Reset lease) f in
       let of = can.frame.shape.2 in
       record {
         kept = kept_part maker old new c e c (in_phase Idle f) can.core (held_of maker c.settings e can.frame) refl refl refl;
-        shape = (refl, (can.frame.shape.0, can.frame.shape.1, record { inside = of.inside; region = slot_of_one maker c.settings.behaviour c.settings.max_memory_size lease.index (image_slot_of lease.memory) held told.1.same of.slot }));
+        shape = (refl, (can.frame.shape.0, can.frame.shape.1, record { inside = of.inside; region = slot_of_one maker c.settings.behaviour c.settings.max_memory_size lease.index (image_slot_of lease.memory) (forgotten held) told.1.same of.slot }));
         even = record { places = λ t. omega arith; instances = omega arith; memories = omega arith };
         fewer = omega (arith, can.core.settings.shards.0);
         way = same_way maker old new c e f.ending (length f.objects.items);
@@ -146,13 +148,13 @@ module _ {P : Type 0} (maker : MakerTold) (old new : LimiterTold) where
       let slot : Slot = image_slot_of lease.memory in
       let still : IsPoolSlot maker c.settings.behaviour c.settings.max_memory_size lease.index (reset_slot slot.region.behaviour keep slot) = slot_of_one maker c.settings.behaviour c.settings.max_memory_size lease.index slot (reset_slot slot.region.behaviour keep slot) (one_reset slot.region.behaviour keep slot) of.slot in
       let ranges : List ByteRange = left_ranges slot.region.behaviour keep slot.accessible.bytes in
-      let is = reset_local maker c.settings ranges (slot_ended keep lease.index slot) f.local can.core.settings can.frame.queue settled.no_ranges settled.no_slots (omega (arith, one_range slot.region.behaviour keep slot.accessible.bytes, can.core.settings.batch.0)) still told.1 in
-      let q : QueueState = reset_into keep lease.index slot f.local in
+      let is = reset_local maker c.settings ranges (slot_ended keep (slot_taken lease) slot) f.local can.core.settings can.frame.queue settled.no_ranges settled.no_slots (omega (arith, one_range slot.region.behaviour keep slot.accessible.bytes, can.core.settings.batch.0)) (record { kind = refl; slot = still }) told.1 in
+      let q : Queue = reset_into keep (slot_taken lease) slot f.local in
       let has : Frame P = record f { phase = Idle; local = q } in
       let kept : Kept maker old new c e c has = kept_part maker old new c e c has can.core
       (record { stripe = can.frame.stripe; queue = is.queue; freed_room = (can.frame.freed_room.0, omega (arith, is.one, can.core.settings.batch.0, ap (length {A = FreedSlot}) settled.none_freed)); freed_bytes = can.frame.freed_bytes; objects = can.frame.objects })
       refl refl refl in
-      let even : Even maker old new c e (hand {P = P} next) c has = record { places = λ t. omega (arith, reset_counts t keep lease.index slot f.local); instances = omega arith; memories = omega arith } in
+      let even : Even maker old new c e (hand {P = P} next) c has = record { places = λ t. omega (arith, reset_counts t keep (slot_taken lease) slot f.local); instances = omega arith; memories = omega arith } in
       let few = flush_few (pool_sizes c) c.settings.slots q f.freed is.queue.grouped (omega (arith, is.one, of.inside)) in
       let stays = same_way maker old new c e f.ending (length f.objects.items) in
       either_ready maker old new c e c has ((length q.ranges == 0) || nat_le c.settings.batch (length q.ranges)) flush (goes Merge)
@@ -176,17 +178,17 @@ module _ {P : Type 0} (maker : MakerTold) (old new : LimiterTold) where
       })
 
   -- The local queue is appended.
-  merged_ready : (b : Bool) (c : PoolCore P) (f : Frame P) → Can maker Merge c f → nat_le c.settings.batch (length (after_append (nth_queue (queue_tried 0 c.settings f) c.queues) f.local).ranges) ≡ b → Shows Merge c f (in_queue (queue_tried 0 c.settings f) c (merged b (after_append (nth_queue (queue_tried 0 c.settings f) c.queues) f.local) (record f { phase = Idle; local = drained f.local })))
+  merged_ready : (b : Bool) (c : PoolCore P) (f : Frame P) → Can maker Merge c f → nat_le c.settings.batch (length (after_append (nth_queue (queue_tried 0 c.settings f) c) f.local).ranges) ≡ b → Shows Merge c f (in_queue (queue_tried 0 c.settings f) c (merged b (after_append (nth_queue (queue_tried 0 c.settings f) c) f.local) (record f { phase = Idle; local = drained f.local })))
   merged_ready true c f can is =
       let e : Frame P = in_phase Merge f in
       let i : ℕ = queue_tried 0 c.settings f in
-      let q : QueueState = nth_queue i c.queues in
-      let whole : QueueState = after_append q f.local in
-      let below : i < length c.queues = tried_is_queue maker 0 c f can.core in
+      let q : Queue = nth_queue i c in
+      let whole : Queue = after_append q f.local in
+      let below : i < c.settings.queues = tried_is_queue maker 0 c f can.core in
       let shape = can.frame.shape in
-      let shared : IsShared maker c.settings q = can.core.queues i below in
-      let both : IsLocal maker c.settings whole = joined_local maker c.settings q f.local shared can.frame.queue (local_is_apart i c e can.fits below) shape.2 shape.4 in
-      let slots : length whole.memories ≡ length q.memories + length f.local.memories = length-append q.memories f.local.memories in
+      let shared : IsShared maker c.settings q = sound_queue maker i c can.core below in
+      let both : IsLocal maker c.settings whole = joined_local maker c.settings q f.local shared can.frame.queue (local_is_apart maker i c e can.core can.fits below) shape.2 shape.4 in
+      let slots : length whole.slots ≡ length q.slots + length f.local.slots = length-append q.slots f.local.slots in
       let has : Frame P = record f { phase = Idle; local = taken_into (drained f.local) whole } in
       record {
         kept = kept_part maker old new c e (with_queue i (drained whole) c) has
@@ -200,20 +202,20 @@ module _ {P : Type 0} (maker : MakerTold) (old new : LimiterTold) where
             })
             refl refl refl;
         shape = aims_back c.settings f.ending f.asked f.queues f.objects shape.0;
-        even = record { places = λ t. omega (arith, kept_queue t i (drained whole) c below, queued_joined t q.memories f.local.memories); instances = omega arith; memories = omega arith };
-        fewer = omega (arith, flush_few (pool_sizes c) (length c.cells) (taken_into (drained f.local) whole) f.freed both.grouped (few_in_both maker i c e can below), can.core.cells_made, next_returns (pool_sizes c) f.ending f.queues f.asked f.objects shape.0);
+        even = record { places = λ t. omega (arith, kept_queue t i (drained whole) c (queue_part maker i c can.core below), queued_joined t q.slots f.local.slots); instances = omega arith; memories = omega arith };
+        fewer = omega (arith, flush_few (pool_sizes c) c.settings.slots (taken_into (drained f.local) whole) f.freed both.grouped (few_in_both maker i c e can below), next_returns (pool_sizes c) f.ending f.queues f.asked f.objects shape.0);
         way = same_way maker old new c e f.ending (length f.objects.items);
         searched = λ s. searched_back f.ending _ shape.0;
       }
   merged_ready false c f can is =
       let e : Frame P = in_phase Merge f in
       let i : ℕ = queue_tried 0 c.settings f in
-      let q : QueueState = nth_queue i c.queues in
-      let whole : QueueState = after_append q f.local in
-      let below : i < length c.queues = tried_is_queue maker 0 c f can.core in
+      let q : Queue = nth_queue i c in
+      let whole : Queue = after_append q f.local in
+      let below : i < c.settings.queues = tried_is_queue maker 0 c f can.core in
       let shape = can.frame.shape in
-      let shared : IsShared maker c.settings q = can.core.queues i below in
-      let both : IsLocal maker c.settings whole = joined_local maker c.settings q f.local shared can.frame.queue (local_is_apart i c e can.fits below) shape.2 shape.4 in
+      let shared : IsShared maker c.settings q = sound_queue maker i c can.core below in
+      let both : IsLocal maker c.settings whole = joined_local maker c.settings q f.local shared can.frame.queue (local_is_apart maker i c e can.core can.fits below) shape.2 shape.4 in
       let has : Frame P = record f { phase = Idle; local = drained f.local } in
       record {
         kept = kept_part maker old new c e (with_queue i whole c) has
@@ -227,14 +229,14 @@ module _ {P : Type 0} (maker : MakerTold) (old new : LimiterTold) where
             })
             refl refl refl;
         shape = (record { no_ranges = refl; no_slots = refl; none_freed = shape.1 }, aims_back c.settings f.ending f.asked f.queues f.objects shape.0);
-        even = record { places = λ t. omega (arith, kept_queue t i whole c below, queued_joined t q.memories f.local.memories); instances = omega arith; memories = omega arith };
+        even = record { places = λ t. omega (arith, kept_queue t i whole c (queue_part maker i c can.core below), queued_joined t q.slots f.local.slots); instances = omega arith; memories = omega arith };
         fewer = omega (arith, next_returns (pool_sizes c) f.ending f.queues f.asked f.objects shape.0);
         way = same_way maker old new c e f.ending (length f.objects.items);
         searched = λ s. searched_back f.ending _ shape.0;
       }
 
-  pub merge_ready : (c : PoolCore P) (f : Frame P) → Can maker Merge c f → Shows Merge c f (in_queue (queue_tried 0 c.settings f) c (merge_on c.settings (nth_queue (queue_tried 0 c.settings f) c.queues) (in_phase Idle f)))
-  merge_ready c f can = merged_ready (nat_le c.settings.batch (length (after_append (nth_queue (queue_tried 0 c.settings f) c.queues) f.local).ranges)) c f can refl
+  pub merge_ready : (c : PoolCore P) (f : Frame P) → Can maker Merge c f → Shows Merge c f (in_queue (queue_tried 0 c.settings f) c (merge_on c.settings (nth_queue (queue_tried 0 c.settings f) c) (in_phase Idle f)))
+  merge_ready c f can = merged_ready (nat_le c.settings.batch (length (after_append (nth_queue (queue_tried 0 c.settings f) c) f.local).ranges)) c f can refl
 
   -- The instance is given back, and the call ends.
   pub uncount_instance_ready : (c : PoolCore P) (f : Frame P) → Can maker UncountInstance c f → Shows UncountInstance c f (uncount_instance_row c (in_phase Idle f))
@@ -250,7 +252,7 @@ module _ {P : Type 0} (maker : MakerTold) (old new : LimiterTold) where
       }
 
   -- Ranges are decommitted.
-  decommit_ready : (fault : Bool) (queue : QueueState) (c : PoolCore P) (f : Frame P) → Can maker Flush c f → Decommits fault f.local queue → 0 < length f.local.ranges → Shows Flush c f (decommit_row queue c (in_phase Idle f))
+  decommit_ready : (fault : Bool) (queue : Queue) (c : PoolCore P) (f : Frame P) → Can maker Flush c f → Decommits fault f.local queue → 0 < length f.local.ranges → Shows Flush c f (decommit_row queue c (in_phase Idle f))
   decommit_ready fault queue c f can told some =
       let e : Frame P = in_phase Flush f in
       let still : IsStillLocal maker c.settings f.local queue = decommitted_local maker c.settings fault f.local queue told can.frame.queue in
@@ -261,28 +263,29 @@ module _ {P : Type 0} (maker : MakerTold) (old new : LimiterTold) where
             refl refl refl;
         shape = can.frame.shape.0;
         even = record { places = λ t. omega (arith, decommit_counts t fault f.local queue told); instances = omega arith; memories = omega arith };
-        fewer = omega (arith, decommit_fewer (pool_sizes c) fault f.local queue f.freed told can.frame.queue.owners some);
+        fewer = omega (arith, decommit_fewer (pool_sizes c) fault f.local queue f.freed told some);
         way = same_way maker old new c e f.ending (length f.objects.items);
         searched = λ s. s;
       }
 
   -- A region is put back.
-  put_ready : (memories : List QueuedMemory) (c : PoolCore P) (f : Frame P) → Can maker Flush c f → f.local.ranges ≡ [] → f.local.memories ≡ memories → 0 < length memories → Shows Flush c f (put_region_row memories c (in_phase Idle f))
+  put_ready : (slots : List Queued) (c : PoolCore P) (f : Frame P) → Can maker Flush c f → f.local.ranges ≡ [] → f.local.slots ≡ slots → 0 < length slots → Shows Flush c f (put_region_row slots c (in_phase Idle f))
   put_ready [] c f can none is some = absurd (omega arith)
   put_ready (m ∷ rest) c f can none is some =
       let e : Frame P = in_phase Flush f in
-      let Q : QueuedMemory → Type 0 = IsQueuedOf maker c.settings.behaviour c.settings.max_memory_size in
-      let of = All-head Q m rest (All-same Q (m ∷ rest) f.local.memories (sym is) can.frame.queue.regions) in
+      let Q : Queued → Type 0 = IsQueuedOf maker c.settings.behaviour c.settings.max_memory_size in
+      let of = All-head Q m rest (All-same Q (m ∷ rest) f.local.slots (sym is) can.frame.queue.regions) in
       let leaves : LeavesClean [] m = first_leaves m rest f.local none is can.frame.queue.queue in
-      let x : FreedSlot = record { slot = m.index; bytes = m.bytes } in
-      let d : PoolCore P = with_cell m.index (cell_returned m) c in
-      let has : Frame P = record f { phase = Idle; local = record f.local { memories = rest }; freed = with_item x f.freed } in
-      let long : length f.local.memories ≡ length (m ∷ rest) = ap (length {A = QueuedMemory}) is in
+      let x : FreedSlot = record { slot = m.name.slot; bytes = m.bytes } in
+      let cell : CellState = cell_filled (cell_returned m) (nth_cell m.name.slot c) in
+      let d : PoolCore P = with_cell m.name.slot cell c in
+      let has : Frame P = record f { phase = Idle; local = record f.local { slots = rest }; freed = with_item x f.freed } in
+      let long : length f.local.slots ≡ length (m ∷ rest) = ap (length {A = Queued}) is in
       let more : length (f.freed.items ++ x ∷ []) ≡ length f.freed.items + 1 = length_push f.freed.items x in
-      let can_put = first_can_be_put c f m rest can.fits is in
+      let can_put = first_can_be_put maker c f m rest can.core can.fits is in
       record {
         kept = kept_part maker old new c e d has
-            (core_with_cell maker m.index (cell_returned m) c can.core (returned_if maker c.settings.behaviour c.settings.max_memory_size m.index m.known m.slot of.slot leaves.clean))
+            (core_with_cell maker m.name.slot cell c can.core can_put.inside (record { name = (sound_cell maker m.name.slot c can.core can_put.inside).name; holds = returned_if maker c.settings.behaviour c.settings.max_memory_size m.name.slot m.known m.slot of.slot leaves.clean }))
             (record {
               stripe = can.frame.stripe;
               queue = rest_local maker c.settings m rest f.local none is can.frame.queue;
@@ -292,26 +295,26 @@ module _ {P : Type 0} (maker : MakerTold) (old new : LimiterTold) where
             })
             refl refl refl;
         shape = can.frame.shape.0;
-        even = record { places = λ t. omega (arith, ap (queued_count t) is, queued_first t m rest, kept_with t m.index (cell_returned m) c can_put.inside can_put.away (returned_has m.known m.slot), freed_last t f.freed.items x); instances = omega arith; memories = omega arith };
-        fewer = omega (arith, more, long, put_fewer (pool_sizes c) m rest f.local.memories f.freed.items is);
+        even = record { places = λ t. omega (arith, ap (queued_count t) is, queued_first t m rest, kept_with maker t m.name.slot cell c can.core can_put.inside refl can_put.away (returned_has m.known m.slot), freed_last t f.freed.items x); instances = omega arith; memories = omega arith };
+        fewer = omega (arith, more, long, put_fewer (pool_sizes c) m rest f.local.slots f.freed.items is);
         way = same_way maker old new c e f.ending (length f.objects.items);
-        searched = λ s. s;
+        searched = searched_still f.ending (AreEmpty f.queues c f) (AreEmpty f.queues d f) (still_empty f.queues (cell_place c.settings m.name.slot) (part.Memory cell) c f (omega (arith, can_put.inside)));
       }
 
   -- The slots of one shard are freed.
-  free_ready : (c : PoolCore P) (f : Frame P) → Can maker Flush c f → f.local.ranges ≡ [] → f.local.memories ≡ [] → Shows Flush c f (free_row c (in_phase Idle f))
+  free_ready : (c : PoolCore P) (f : Frame P) → Can maker Flush c f → f.local.ranges ≡ [] → f.local.slots ≡ [] → Shows Flush c f (free_row c (in_phase Idle f))
   free_ready c f can none no_slots =
       let e : Frame P = in_phase Flush f in
       let some : 0 < length f.freed.items = some_freed f can.frame.shape.1 no_slots in
       let first = first_can_be_freed maker c f can some in
       let j : ℕ = first_shard c.settings f.freed.items in
-      let shard : ShardState = after_frees c.settings (freed_of c.settings j f.freed.items) (nth_shard j c.shards) in
+      let shard : ShardState = after_frees c.settings (freed_of c.settings j f.freed.items) (nth_shard j c) in
       let d : PoolCore P = with_shard j shard c in
       let has : Frame P = record f { phase = Idle; freed = record f.freed { items = freed_elsewhere c.settings j f.freed.items } } in
       let less : length (freed_elsewhere c.settings j f.freed.items) ≤ length f.freed.items = fewer (λ x. shard_of c.settings x.slot == j) f.freed.items in
       record {
         kept = kept_part maker old new c e d has
-            (core_after_frees maker j (freed_of c.settings j f.freed.items) c can.core first.used (All-filter (λ x. shard_of c.settings x.slot == j) (λ x. x.bytes ≤ 2 ^ 32) f.freed.items can.frame.freed_bytes))
+            (core_after_frees maker j (freed_of c.settings j f.freed.items) c can.core first.shard first.used (All-filter (λ x. shard_of c.settings x.slot == j) (λ x. x.bytes ≤ 2 ^ 32) f.freed.items can.frame.freed_bytes))
             (record {
               stripe = can.frame.stripe;
               queue = can.frame.queue;
@@ -321,15 +324,15 @@ module _ {P : Type 0} (maker : MakerTold) (old new : LimiterTold) where
             })
             refl refl refl;
         shape = can.frame.shape.0;
-        even = record { places = λ t. omega (arith, kept_shard t j shard c first.shard, freed_counts t maker j c e can.core can.fits first.shard, freed_parted t (λ x. shard_of c.settings x.slot == j) f.freed.items); instances = omega arith; memories = omega arith };
-        fewer = omega (arith, free_fewer c f.local.memories f.freed.items no_slots some (omega (arith, first.shard, can.core.shards_made)));
+        even = record { places = λ t. omega (arith, kept_shard t j shard c (shard_part maker j c can.core first.shard), freed_counts t maker j c e can.core can.fits first.shard, freed_parted t (λ x. shard_of c.settings x.slot == j) f.freed.items); instances = omega arith; memories = omega arith };
+        fewer = omega (arith, free_fewer c f.local.slots f.freed.items no_slots some (omega (arith, first.shard)));
         way = same_way maker old new c e f.ending (length f.objects.items);
-        searched = λ s. s;
+        searched = searched_still f.ending (AreEmpty f.queues c f) (AreEmpty f.queues d f) (still_empty f.queues j (part.Shard shard) c f (omega (arith, first.shard)));
       }
 
   flush_ready_by : (step : FlushStep) (g : StepGiven) (c : PoolCore P) (f : Frame P) → Can maker Flush c f → Finds f.local step → FlushTold step g f.local → Shows Flush c f (flush_row step g.queue c (in_phase Idle f))
   flush_ready_by run g c f can found told = decommit_ready g.fault g.queue c f can told (found.ranges refl)
-  flush_ready_by put g c f can found told = put_ready f.local.memories c f can (found.put_none refl) refl (found.put_some refl)
+  flush_ready_by put g c f can found told = put_ready f.local.slots c f can (found.put_none refl) refl (found.put_some refl)
   flush_ready_by free g c f can found told = free_ready c f can (found.free_ranges refl) (found.free_slots refl)
 
   pub flush_ready : (g : StepGiven) (c : PoolCore P) (f : Frame P) → Can maker Flush c f → FlushTold (flush_step f.local) g f.local → Shows Flush c f (flush_row (flush_step f.local) g.queue c (in_phase Idle f))

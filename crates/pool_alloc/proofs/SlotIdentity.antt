@@ -15,8 +15,10 @@ use Rattle.pool_images.specs.Slots.{Slot, IsFresh, IsClean, IsReady, Holds, HasC
 use Rattle.pool_images.proofs.Identity.{told_same, same_called}
 use Rattle.pool_images.proofs.Marks.{range-zeros}
 use Rattle.pool_slots.specs.Cells.{region_made}
-use Rattle.pool_slots.specs.Queues.{QueueState, QueuedMemory, IsLeftBy, IsSlotLeft, is_of, front, first_slot, change_at, after_run}
-use Rattle.pool_slots.specs.declared.queued_range.QueueKind.TheVariants.{Memory}
+use Rattle.pool_hall.specs.declared.unit_name.SlotKind.{SlotKind}
+use Rattle.pool_hall.specs.declared.unit_name.SlotKind.TheVariants.{Memory, Table, Stack, Heap}
+use Rattle.pool_slots.specs.declared.slot_name.SlotName.{SlotName}
+use Rattle.pool_slots.specs.SlotQueues.{IsSlotLeft, front, Queue, Queued, IsLeftBy, forgotten_slot, is_of, first_slot, change_at, after_run}
 use Rattle.pool_alloc.specs.Own.{image_made}
 use Rattle.pool_alloc.specs.Sound.{IsPoolSlot, IsQueuedOf}
 use Rattle.pool_alloc.proofs.Telling.{replicated, told_weaker}
@@ -113,38 +115,45 @@ fresh_made maker behaviour page static_size i region paged bounded is =
     subst (λ (n : ℕ). P n region) (sym paged) (subst (P maker.page) (sym is) made)
 
 -- Queued slots stay those of their regions as ranges of one are decommitted.
-changed_if : (maker : MakerTold) (behaviour : DecommitBehavior) (static_size : ℕ) (change : Slot → Slot) (m : QueuedMemory) (b : Bool) → ((s : Slot) → IsOneSlot s (change s)) → IsQueuedOf maker behaviour static_size m → IsQueuedOf maker behaviour static_size (if b then record m { slot = change m.slot } else m)
-changed_if maker behaviour static_size change m true one of = record { slot = slot_of_one maker behaviour static_size m.index m.slot (change m.slot) (one m.slot) of.slot }
+changed_if : (maker : MakerTold) (behaviour : DecommitBehavior) (static_size : ℕ) (change : Slot → Slot) (m : Queued) (b : Bool) → ((s : Slot) → IsOneSlot s (change s)) → IsQueuedOf maker behaviour static_size m → IsQueuedOf maker behaviour static_size (if b then record m { slot = change m.slot } else m)
+changed_if maker behaviour static_size change m true one of = record { kind = of.kind; slot = slot_of_one maker behaviour static_size m.name.slot m.slot (change m.slot) (one m.slot) of.slot }
 changed_if maker behaviour static_size change m false one of = of
 
-queued_changed : (maker : MakerTold) (behaviour : DecommitBehavior) (static_size slot : ℕ) (ranges : List ByteRange) (ms : List QueuedMemory) → All (IsQueuedOf maker behaviour static_size) ms → All (IsQueuedOf maker behaviour static_size) (map (change_at slot (decommitted_all ranges)) ms)
+queued_changed : (maker : MakerTold) (behaviour : DecommitBehavior) (static_size : ℕ) (slot : SlotName) (ranges : List ByteRange) (ms : List Queued) → All (IsQueuedOf maker behaviour static_size) ms → All (IsQueuedOf maker behaviour static_size) (map (change_at slot (decommitted_all ranges)) ms)
 queued_changed maker behaviour static_size slot ranges [] of = All-nil (IsQueuedOf maker behaviour static_size)
 queued_changed maker behaviour static_size slot ranges (m ∷ ms) of =
-    let P : QueuedMemory → Type 0 = IsQueuedOf maker behaviour static_size in
+    let P : Queued → Type 0 = IsQueuedOf maker behaviour static_size in
     All-cons P (change_at slot (decommitted_all ranges) m) (map (change_at slot (decommitted_all ranges)) ms)
     (changed_if maker behaviour static_size (decommitted_all ranges) m _ (λ s. one_decommitted s ranges) (All-head P m ms of))
     (queued_changed maker behaviour static_size slot ranges ms (All-tail P m ms of))
 
-pub queued_after_run : (maker : MakerTold) (behaviour : DecommitBehavior) (static_size : ℕ) (q : QueueState) → All (IsQueuedOf maker behaviour static_size) q.memories → All (IsQueuedOf maker behaviour static_size) (after_run q).memories
-queued_after_run maker behaviour static_size q of = queued_changed maker behaviour static_size (first_slot q.ranges) (map (λ r. r.range) (front (is_of Memory (first_slot q.ranges)) q.ranges)) q.memories of
+pub queued_after_run : (maker : MakerTold) (behaviour : DecommitBehavior) (static_size : ℕ) (q : Queue) → All (IsQueuedOf maker behaviour static_size) q.slots → All (IsQueuedOf maker behaviour static_size) (after_run q).slots
+queued_after_run maker behaviour static_size q of = queued_changed maker behaviour static_size (first_slot q.ranges) (map (λ r. r.range) (front (is_of (first_slot q.ranges)) q.ranges)) q.slots of
 
-pub length_after_run : (q : QueueState) → length (after_run q).memories ≡ length q.memories
-length_after_run q = length-map q.memories (change_at (first_slot q.ranges) (decommitted_all (map (λ r. r.range) (front (is_of Memory (first_slot q.ranges)) q.ranges))))
+pub length_after_run : (q : Queue) → length (after_run q).slots ≡ length q.slots
+length_after_run q = length-map q.slots (change_at (first_slot q.ranges) (decommitted_all (map (λ r. r.range) (front (is_of (first_slot q.ranges)) q.ranges))))
 
 -- and where a call on one failed
+one_unknown : (kind : SlotKind) (s : Slot) → IsOneSlot s (forgotten_slot kind s)
+one_unknown Memory s = refl
+one_unknown Table s = refl
+one_unknown Stack s = refl
+one_unknown Heap s = refl
+
 left_if : (b : Bool) (old new : Slot) → IsSlotLeft b old new → IsOneSlot old new
 left_if true old new left = left.same
 left_if false old new same = ap (λ (s : Slot). identity s) same
 
-queued_left : (maker : MakerTold) (behaviour : DecommitBehavior) (static_size faulted : ℕ) (old new : QueuedMemory) → IsLeftBy faulted old new → IsQueuedOf maker behaviour static_size old → IsQueuedOf maker behaviour static_size new
+queued_left : (maker : MakerTold) (behaviour : DecommitBehavior) (static_size : ℕ) (faulted : SlotName) (old new : Queued) → IsLeftBy faulted old new → IsQueuedOf maker behaviour static_size old → IsQueuedOf maker behaviour static_size new
 queued_left maker behaviour static_size faulted old new left of =
-    let I : ℕ → Type 0 = λ i. IsPoolSlot maker behaviour static_size i new.slot in
-    record { slot = subst I (sym left.index) (slot_of_one maker behaviour static_size old.index old.slot new.slot (left_if _ old.slot new.slot left.slot) of.slot) }
+    let I : SlotName → Type 0 = λ n. (n.kind ≡ Memory) × IsPoolSlot maker behaviour static_size n.slot new.slot in
+    let is = subst I (sym (ap (λ (m : Queued). m.name) left.same)) (of.kind, slot_of_one maker behaviour static_size old.name.slot old.slot new.slot (left_if _ (forgotten_slot old.name.kind old.slot) new.slot left.slot ∙ one_unknown old.name.kind old.slot) of.slot) in
+    record { kind = is.0; slot = is.1 }
 
-pub queued_faulted : (maker : MakerTold) (behaviour : DecommitBehavior) (static_size faulted : ℕ) (olds news : List QueuedMemory) → AllZip (IsLeftBy faulted) olds news → All (IsQueuedOf maker behaviour static_size) olds → All (IsQueuedOf maker behaviour static_size) news
+pub queued_faulted : (maker : MakerTold) (behaviour : DecommitBehavior) (static_size : ℕ) (faulted : SlotName) (olds news : List Queued) → AllZip (IsLeftBy faulted) olds news → All (IsQueuedOf maker behaviour static_size) olds → All (IsQueuedOf maker behaviour static_size) news
 queued_faulted maker behaviour static_size faulted [] [] left of = of
 queued_faulted maker behaviour static_size faulted [] (n ∷ ns) left of = absurd left
 queued_faulted maker behaviour static_size faulted (m ∷ ms) [] left of = absurd left
 queued_faulted maker behaviour static_size faulted (m ∷ ms) (n ∷ ns) left of =
-    let P : QueuedMemory → Type 0 = IsQueuedOf maker behaviour static_size in
+    let P : Queued → Type 0 = IsQueuedOf maker behaviour static_size in
     All-cons P n ns (queued_left maker behaviour static_size faulted m n left.0 (All-head P m ms of)) (queued_faulted maker behaviour static_size faulted ms ns left.1 (All-tail P m ms of))

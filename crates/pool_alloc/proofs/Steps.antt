@@ -1,5 +1,5 @@
 -- What the code of a step needs follows of what holds between steps, and what a step leaves is as its row shows.
-use Rattle.std.proofs.Common.{◌≡◌, ℕ, ◌+◌, ◌<◌, ◌≤◌, true, false, length, get_or, refl, sym, ap, subst, ◌∙◌, arith, Option, Some, None}
+use Rattle.std.proofs.Common.{◌≡◌, ℕ, ◌+◌, ◌<◌, ◌≤◌, true, false, ◌∷◌, length, get_or, refl, sym, ap, subst, ◌∙◌, arith, Option, Some, None}
 use Rattle.std.specs.Prelude.{IfSome, IsSome, is_some, slice_get}
 use Rattle.pool_pages.specs.MakerTold.{MakerTold}
 use Rattle.pool_pages.specs.MemoryTypes.{minimum_byte_size}
@@ -10,18 +10,20 @@ use Rattle.pool_memory.specs.Memories.{slot_of as image_slot_of}
 use Rattle.pool_alloc.specs.Answers.{MayBeTold, AsksOf}
 use Rattle.pool_alloc.specs.Bounds.{pool_sizes, steps_at, steps_left}
 use Rattle.pool_alloc.specs.Calls.{IsGrantOf, IfGranted}
-use Rattle.pool_alloc.specs.CanStep.{CanStepAt, CanFlush, HasNext, CanBegin, CanMake}
+use Rattle.pool_alloc.specs.CanStep.{CanStepAt, CanFlush, HasNext, CanBegin, CanMake, CanPlace}
 use Rattle.pool_alloc.specs.Rows.{FlushStep, run, put, free, flush_step, row_of}
 use Rattle.pool_alloc.specs.Searches.{IsSearched}
-use Rattle.pool_alloc.specs.Sound.{IsPoolSlot, IsCore, IsFrame, IsSettings, IsAllocating, IsSupported, HasSlot, HasBegun}
+use Rattle.std.proofs.lemmas.List.Elements.{All-head, All-same}
+use Rattle.pool_alloc.specs.Sound.{IsPoolSlot, IsQueuedOf, IsCore, IsFrame, IsSettings, IsAllocating, IsSupported, HasSlot, HasBegun}
 use Rattle.pool_alloc.specs.Stages.{GoesOn}
-use Rattle.pool_alloc.specs.Steps.{StepGiven, memories_wanted, images_wanted, image_wanted, queue_tried}
+use Rattle.pool_alloc.specs.Steps.{StepGiven, memories_wanted, images_wanted, image_wanted, queue_tried, shard_of, first_shard, shard_tried}
 use Rattle.pool_alloc.specs.Stepping.{CanStep, CanCount, StepsTo, Conserves, EndsWith, IsSameSize, is_idle}
 use Rattle.pool_alloc.specs.Turns.{After, stepped}
 use Rattle.pool_alloc.specs.declared.pool_core.PoolCore.{PoolCore}
 use Rattle.pool_alloc.specs.declared.pool_core.Settings.{Settings}
 use Rattle.pool_alloc.specs.declared.frame.Frame.{Frame}
-use Rattle.pool_alloc.specs.declared.frame.ModuleCall.{ModuleCall}
+use Rattle.pool_slots.specs.SlotQueues.{Queued}
+use Rattle.pool_alloc.specs.Asked.{ModuleAsked}
 use Rattle.pool_alloc.specs.declared.frame.Phase.{Phase}
 use Rattle.pool_alloc.specs.declared.frame.Phase.TheVariants.{Idle, Key, Validate, CountInstance, Pick, TakeQueue, TakeRegion, Empty, Instantiate, MakeMemory, CountMemory, PutUnknown, FreeUnknown, UncountMemory, Reset, Merge, Flush, UncountInstance}
 use Rattle.pool_alloc.proofs.AskingRows.{key_ready, validate_ready, count_instance_ready, pick_ready, take_queue_ready}
@@ -30,14 +32,15 @@ use Rattle.pool_alloc.proofs.Hands.{in_phase, RowOk, row_ok}
 use Rattle.pool_alloc.proofs.RegionRows.{region_is_fresh, take_region_ready, empty_ready, instantiate_ready, make_memory_ready, count_memory_ready, put_unknown_ready, free_unknown_ready}
 use Rattle.pool_alloc.proofs.ReturnRows.{Finds, finds, some_freed, uncount_memory_ready, reset_ready, merge_ready, uncount_instance_ready, flush_ready}
 use Rattle.pool_alloc.proofs.Rounding.{rounded_whole}
-use Rattle.pool_alloc.proofs.Stages.{tried_is_queue, local_is_spare, picked_is_home, unknown_is_used, local_is_apart, home_has_room, first_can_be_put, first_can_be_freed}
+use Rattle.pool_alloc.proofs.Stages.{tried_is_queue, local_is_spare, picked_is_home, unknown_is_used, local_is_apart, home_has_room, first_can_be_put, first_can_be_freed, tried_is_shard}
 use Rattle.pool_alloc.proofs.Telling.{told_both, told_weaker}
+use Rattle.pool_alloc.proofs.PoolParts.{shard_part, cell_part, queue_part, sound_queue}
 
 some_of : {X : Type 0} (o : Option X) → is_some o ≡ true → IsSome o
 some_of None e = absurd cc
 some_of (Some x) e = refl
 
-some_asked : (o : Option ModuleCall) (n : ℕ) → n < length (memories_wanted o) → IsSome o
+some_asked : (o : Option ModuleAsked) (n : ℕ) → n < length (memories_wanted o) → IsSome o
 some_asked None n below = absurd (omega arith)
 some_asked (Some m) n below = refl
 
@@ -87,17 +90,26 @@ module _ {P : Type 0} where
       })
       (allocating.to_grant.supported.each (length f.objects.items)) begun
 
+  can_place : (maker : MakerTold) (c : PoolCore P) → IsCore maker c → CanPlace c.settings
+  can_place maker c core = record { shards = core.settings.shards.1; slots = core.small; queues = core.settings.queues.1 }
+
   can_flush : (maker : MakerTold) (step : FlushStep) (c : PoolCore P) (f : Frame P) → CanStep maker c (in_phase Flush f) → Finds f.local step → CanFlush step c (in_phase Flush f)
   can_flush maker run c f can found = (found.ranges refl, can.frame.queue.owners)
-  can_flush maker put c f can found = record {
-    no_ranges = found.put_none refl;
-    some = found.put_some refl;
-    inside = λ m rest is. (first_can_be_put c f m rest can.fits is).inside;
-    room = omega (arith, can.frame.freed_room.0, can.frame.freed_room.1, found.put_some refl);
-  }
+  can_flush maker put c f can found = (
+    can_place maker c can.core,
+    λ m rest is. cell_part maker m.name.slot c can.core (first_can_be_put maker c f m rest can.core can.fits is).inside,
+    record {
+      no_ranges = found.put_none refl;
+      some = found.put_some refl;
+      kind = λ m rest is.
+          let Q : Queued → Type 0 = IsQueuedOf maker c.settings.behaviour c.settings.max_memory_size in
+          (All-head Q m rest (All-same Q (m ∷ rest) f.local.slots (sym is) can.frame.queue.regions)).kind;
+      room = omega (arith, can.frame.freed_room.0, can.frame.freed_room.1, found.put_some refl);
+    },
+  )
   can_flush maker free c f can found =
       let first = first_can_be_freed maker c f can (some_freed f can.frame.shape.1 (found.free_slots refl)) in
-      record { slots = can.core.settings.slots_per_shard; inside = first.shard; used = first.used; bytes = can.frame.freed_bytes }
+      (shard_part maker (first_shard c.settings f.freed.items) c can.core first.shard, record { slots = can.core.settings.slots_per_shard; used = first.used; bytes = can.frame.freed_bytes })
 
   -- Just what the code of a step needs, phase by phase.
   can_at : (maker : MakerTold) (next : Phase P) (c : PoolCore P) (f : Frame P) → CanStep maker c (in_phase next f) → CanCount c → CanStepAt next c (in_phase next f)
@@ -106,26 +118,28 @@ module _ {P : Type 0} where
   can_at maker Validate c f can counts =
       λ k. told_weaker (λ decl. (decl.ty.page_size_log2 < 64) × IfSome (get_or (images_wanted f.asked) k None) (FitsInto c.settings.page (minimum_byte_size decl.ty))) (λ decl. decl.ty.page_size_log2 < 64) (slice_get (memories_wanted f.asked) k) (λ decl of. of.0) (can.frame.shape.2.each k)
   can_at maker CountInstance c f can counts = counts.instances
-  can_at maker (Pick tried) c f can counts = (can.frame.shape.2, can.core.settings.shards.1, can.core.shards_made, omega (arith, can.frame.shape.1.more, can.frame.shape.1.to_grant.supported.few))
+  can_at maker (Pick tried) c f can counts = (can.frame.shape.2, can.core.settings.shards.1, shard_part maker (shard_tried tried c.settings f) c can.core (tried_is_shard maker tried c f can.core), omega (arith, can.frame.shape.1.more, can.frame.shape.1.to_grant.supported.few))
   can_at maker TakeQueue c f can counts =
       let settled = can.frame.shape.0 in
       let i : ℕ = queue_tried f.queues c.settings f in
-      (can.frame.shape.2, can.core.settings.queues.1, can.core.queues_made, local_is_spare maker i c (in_phase TakeQueue f) can.core can.frame (tried_is_queue maker f.queues c f can.core) settled.no_ranges settled.no_slots)
+      (can.frame.shape.2, can_place maker c can.core, queue_part maker i c can.core (tried_is_queue maker f.queues c f can.core), local_is_spare maker i c (in_phase TakeQueue f) can.core can.frame (tried_is_queue maker f.queues c f can.core) settled.no_ranges settled.no_slots)
   can_at maker (TakeRegion slot) c f can counts =
-      let inside : slot < length c.cells = omega (arith, can.frame.shape.2, can.core.cells_made) in
-      record { inside = inside; there = picked_is_home slot c f can.fits; fresh = region_is_fresh maker slot c can.core inside }
+      let inside : slot < c.settings.slots = can.frame.shape.2 in
+      (can_place maker c can.core, cell_part maker slot c can.core inside, record { there = picked_is_home maker slot c f can.core can.fits; fresh = region_is_fresh maker slot c can.core inside })
   can_at maker (Empty slot held) c f can counts = tt
   can_at maker (Instantiate slot held) c f can counts =
-      (has_next c.settings (in_phase (Instantiate slot held) f) can.frame.shape.1, can.frame.shape.3, can_begin maker c.settings slot held (in_phase (Instantiate slot held) f) can.core.page can.core.settings can.frame.shape.1 can.frame.shape.2)
+      (has_next c.settings (in_phase (Instantiate slot held) f) can.frame.shape.1, can.frame.shape.3, can_begin maker c.settings slot.slot held (in_phase (Instantiate slot held) f) can.core.page can.core.settings can.frame.shape.1 can.frame.shape.2)
   can_at maker (MakeMemory slot held) c f can counts =
-      (has_next c.settings (in_phase (MakeMemory slot held) f) can.frame.shape.1, can_make maker c.settings slot held (in_phase (MakeMemory slot held) f) can.core.page can.core.settings can.frame.shape.1 can.frame.shape.2 can.frame.shape.3)
+      (has_next c.settings (in_phase (MakeMemory slot held) f) can.frame.shape.1, can_make maker c.settings slot.slot held (in_phase (MakeMemory slot held) f) can.core.page can.core.settings can.frame.shape.1 can.frame.shape.2 can.frame.shape.3)
   can_at maker (CountMemory lease) c f can counts = (counts.memories, omega (arith, can.frame.shape.1.more, can.frame.shape.1.to_grant.room))
-  can_at maker (PutUnknown slot held) c f can counts = omega (arith, can.frame.shape.2.inside, can.core.cells_made)
-  can_at maker (FreeUnknown slot) c f can counts = record {
-    slots = can.core.settings.slots_per_shard;
-    inside = (can.core.layout.inside slot (omega (arith, can.frame.shape.2, can.core.cells_made))).0;
-    used = some_of _ (unknown_is_used maker slot c f can);
-  }
+  can_at maker (PutUnknown slot held) c f can counts = (can_place maker c can.core, cell_part maker slot.slot c can.core can.frame.shape.2.inside)
+  can_at maker (FreeUnknown slot) c f can counts = (
+    shard_part maker (shard_of c.settings slot) c can.core (can.core.layout.inside slot can.frame.shape.2).0,
+    record {
+      slots = can.core.settings.slots_per_shard;
+      used = some_of _ (unknown_is_used maker slot c f can);
+    },
+  )
   can_at maker (UncountMemory lease) c f can counts = omega (arith, can.fits.memories)
   can_at maker (Reset lease) c f can counts =
       let settled = can.frame.shape.0 in
@@ -134,23 +148,24 @@ module _ {P : Type 0} where
         kept = can.core.settings.kept;
         no_ranges = settled.no_ranges;
         no_slots = settled.no_slots;
+        owners = can.frame.queue.owners;
         range_room = omega (arith, can.frame.queue.range_room, can.core.settings.batch.0);
         slot_room = omega (arith, can.frame.queue.slot_room, can.core.settings.batch.0);
       }
   can_at maker Merge c f can counts =
       let i : ℕ = queue_tried 0 c.settings f in
-      let below : i < length c.queues = tried_is_queue maker 0 c f can.core in
-      let shared = can.core.queues i below in
+      let below : i < c.settings.queues = tried_is_queue maker 0 c f can.core in
+      let shared = sound_queue maker i c can.core below in
       let room = home_has_room maker c f can in (
         can.core.settings.queues.0,
-        can.core.settings.queues.1,
-        can.core.queues_made,
+        can_place maker c can.core,
+        queue_part maker i c can.core below,
         record {
           ranges = room.ranges;
           slots = room.slots;
           owners = shared.owners;
           local_owners = can.frame.queue.owners;
-          apart = local_is_apart i c (in_phase Merge f) can.fits below;
+          apart = local_is_apart maker i c (in_phase Merge f) can.core can.fits below;
           range_room = can.frame.queue.range_room ∙ sym shared.range_room;
           slot_room = can.frame.queue.slot_room ∙ sym shared.slot_room;
         },
@@ -231,9 +246,6 @@ module _ {P : Type 0} (maker : MakerTold) (old new : LimiterTold) where
   pub same_size : (c : PoolCore P) (f : Frame P) (a : After P) → CanStep maker c f → StepOk c f a → IsSameSize c a.core
   same_size c f a can ok = record {
     settings = ok.settings;
-    cells = ok.core.cells_made ∙ ap (λ (s : Settings). s.slots) ok.settings ∙ sym can.core.cells_made;
-    shards = ok.core.shards_made ∙ ap (λ (s : Settings). s.shards) ok.settings ∙ sym can.core.shards_made;
-    queues = ok.core.queues_made ∙ ap (λ (s : Settings). s.queues) ok.settings ∙ sym can.core.queues_made;
   }
 
   -- What holds between steps holds after a step.

@@ -7,12 +7,12 @@ use Rattle.std.proofs.lemmas.List.Sums.{sum_by_push, sum_by-append}
 use Rattle.std.proofs.lemmas.Grind.{flat_map-append}
 use Rattle.pool_pages.specs.declared.pages.PageCalls.{PageCalls}
 use Rattle.pool_pages.specs.CallSums.{both, added}
-use Rattle.pool_slots.specs.Cells.{Cell, calls_in, calls_of_all, all_calls, sum_at_most}
-use Rattle.pool_slots.specs.Queues.{QueueState, QueuedMemory, calls_held}
+use Rattle.pool_slots.specs.Cells.{all_calls, sum_at_most}
 use Rattle.pool_slots.proofs.Fresh.{same_calls}
-use Rattle.pool_alloc.specs.Sums.{calls_of_queues, calls_of_leases}
+use Rattle.pool_alloc.specs.Sums.{calls_of_leases, part_calls, calls_of_parts}
 use Rattle.pool_alloc.specs.Leases.{Lease}
 use Rattle.pool_memory.specs.Memories.{slot_of}
+use Rattle.pool_slots.specs.declared.part.PoolPart.{PoolPart}
 
 one_more : (s x t m : ℕ) → t ≡ s + x → min (min s m + x) m ≡ min t m
 one_more s x t m e = omega arith
@@ -56,19 +56,8 @@ next_added {X} of xs i d inside =
     ∙ ap all_calls (sym (map-append of (take i xs) (get_or xs i d ∷ [])))
     ∙ ap (λ (l : List X). all_calls (map of l)) (sym (take_more xs i d inside))
 
-pub cells_more : (cells : List Cell) (i : ℕ) (d : Cell) → i < length cells → added (calls_of_all (take i cells)) (calls_in (get_or cells i d)) ≡ calls_of_all (take (i + 1) cells)
-cells_more cells i d inside = next_added calls_in cells i d inside
+pub parts_more : {P : Type 0} (parts : List (PoolPart P)) (i : ℕ) (d : PoolPart P) → i < length parts → added (calls_of_parts (take i parts)) (part_calls (get_or parts i d)) ≡ calls_of_parts (take (i + 1) parts)
+parts_more parts i d inside = next_added part_calls parts i d inside
 
 pub leases_more : (leases : List Lease) (i : ℕ) (d : Lease) → i < length leases → added (calls_of_leases (take i leases)) (slot_of (get_or leases i d).memory).region.calls ≡ calls_of_leases (take (i + 1) leases)
 leases_more leases i d inside = next_added (λ (l : Lease). (slot_of l.memory).region.calls) leases i d inside
-
--- the slots of one queue more
-pub queues_more : (queues : List QueueState) (i : ℕ) (d : QueueState) → i < length queues → added (calls_of_queues (take i queues)) (calls_held (get_or queues i d).memories) ≡ calls_of_queues (take (i + 1) queues)
-queues_more queues i d inside =
-    let of : QueuedMemory → PageCalls = λ m. m.slot.region.calls in
-    let slots : QueueState → List QueuedMemory = λ q. q.memories in
-    let had : List QueuedMemory = flat_map slots (take i queues) in
-    let more : List QueuedMemory = (get_or queues i d).memories in
-    let all : flat_map slots (take (i + 1) queues) ≡ had ++ more =
-    ap (flat_map slots) (take_more queues i d inside) ∙ flat_map-append slots (take i queues) (get_or queues i d ∷ []) ∙ ap (λ (l : List QueuedMemory). had ++ l) (append-nil more) in
-    calls_joined (map of had) (map of more) ∙ ap all_calls (sym (map-append of had more)) ∙ ap (λ (l : List QueuedMemory). calls_held l) (sym all)

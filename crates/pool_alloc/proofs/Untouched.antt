@@ -1,5 +1,5 @@
 -- A pool as it is made has each slot and each region once, and is whole where nobody has anything.
-use Rattle.std.proofs.Common.{◌≡◌, ◌≢◌, ℕ, zero, suc, ◌+◌, ◌*◌, ◌<◌, ◌≤◌, Bool, true, false, List, [], ◌∷◌, length, Option, None, refl, sym, ap, ◌∙◌, inl, inr, arith}
+use Rattle.std.proofs.Common.{subst, ◌≡◌, ◌≢◌, ℕ, zero, suc, ◌+◌, ◌*◌, ◌<◌, ◌≤◌, Bool, true, false, List, [], ◌∷◌, length, Option, None, refl, sym, ap, ◌∙◌, inl, inr, arith, ◌-◌}
 use Rattle.std.specs.Prelude.{sum_by, slice_index_or, slice_set, is_some, if◌then◌else◌, ◌==◌}
 use Rattle.std.specs.List.{AllByRecursion}
 use Rattle.std.proofs.lemmas.Bool.{cases_lt, lt-ltb, le-ltb, eq-eqb, ne_eqb}
@@ -7,20 +7,28 @@ use Rattle.std.proofs.lemmas.List.{get_or_past, get_or-set_same}
 use Rattle.std.proofs.lemmas.List.Sums.{sum_by-cons}
 use Rattle.pool_hall.specs.declared.unit_name.SlotKind.TheVariants.{Memory as memory_kind}
 use Rattle.pool_pages.specs.MakerTold.{MakerTold}
-use Rattle.pool_index.specs.Shard.{ShardState, fresh_shard, one_if}
+use Rattle.pool_index.specs.Shard.{ShardState, fresh_shard, one_if, slot_number}
 use Rattle.pool_index.specs.declared.ids.MemoryInModule.{MemoryInModule}
-use Rattle.pool_slots.specs.Cells.{taken, is_taken}
-use Rattle.pool_slots.specs.Queues.{QueueState, empty_queue}
-use Rattle.pool_alloc.specs.Places.{Thing, right_to, region_of, slot_count, unused_count, free_count, cells_count, queued_count, kept_count, made_count}
-use Rattle.pool_alloc.specs.Sound.{IsCore}
-use Rattle.pool_alloc.specs.Steps.{nth_shard, shard_of, local_of}
+use Rattle.pool_slots.specs.Cells.{is_taken}
+use Rattle.pool_slots.specs.RegionCells.{CellState}
+use Rattle.pool_slots.specs.SlotQueues.{Queue, empty_queue}
+use Rattle.pool_alloc.specs.Places.{Thing, right_to, region_of, slot_count, unused_count, free_count, queued_count, kept_count, made_count, region_count, part_count}
+use Rattle.pool_alloc.specs.Sound.{IsCore, IsPartAt}
+use Rattle.pool_alloc.specs.Steps.{nth_shard, nth_cell, shard_of, local_of, shard_in, queue_in, cell_place, queue_place}
 use Rattle.pool_alloc.specs.Whole.{Holding, IsPartitioned, IsUntouched}
 use Rattle.pool_alloc.specs.declared.pool_core.PoolCore.{PoolCore}
-use Rattle.pool_slots.proofs.QueueLists.{each_weaker}
+use Rattle.pool_slots.proofs.Lists.{each_weaker}
 use Rattle.pool_alloc.proofs.Frees.{HasPlace}
 use Rattle.pool_alloc.proofs.Held.{place_of}
-use Rattle.pool_alloc.proofs.KeptCounts.{kept_slots, kept_regions}
-use Rattle.pool_alloc.proofs.RegionCounts.{region_once, cells_less, cell_uncounted}
+use Rattle.pool_alloc.proofs.KeptCounts.{shard_count, memory_count}
+use Rattle.pool_alloc.proofs.RegionCounts.{region_once, cell_has, cell_of_other, cell_slots}
+use Rattle.pool_alloc.proofs.PoolParts.{shard_inside, cell_inside, shard_part, cell_part, sound_shard, sound_cell}
+use Rattle.pool_alloc.proofs.SlotCounts.{unused_regions}
+use Rattle.pool_slots.specs.Parts.{part_at}
+use Rattle.pool_slots.specs.declared.part.PoolPart.{PoolPart}
+use Rattle.pool_slots.specs.declared.slot_name.SlotName.{SlotName}
+use Rattle.pool_alloc.specs.declared.pool_core.Settings.{Settings}
+use Rattle.pool_slots.specs.declared.part.PoolPart.TheVariants as part
 
 -- nothing at all
 pub record HasNothing (h : Holding) : Type 0 where
@@ -72,57 +80,90 @@ made_out : (k total : ℕ) → total ≤ k → made_count (right_to k) total ≡
 made_out k total past = ap one_if (le-ltb k total past)
 
 module _ {P : Type 0} where
-  none_queued : (t : Thing) (c : PoolCore P) → IsUntouched c → sum_by (λ q. queued_count t q.memories) c.queues ≡ 0
-  none_queued t c untouched = sum_of_none (λ (q : QueueState). queued_count t q.memories) c.queues (empty_queue 0 0) (λ i below. ap (queued_count t) (untouched.none_queued i below))
+  -- A part of a pool as it is made has neither slots nor regions but its own.
+  other_slots : (maker : MakerTold) (s : Settings) (k p : ℕ) (x : PoolPart P) → IsPartAt maker s p x → ((l : ℕ) → p < s.shards → l < (shard_in x).capacity → slot_number (shard_in x) l ≡ k → ⊥) → (s.shards + s.slots ≤ p → (queue_in x).slots ≡ []) → part_count (right_to k) x ≡ 0
+  other_slots maker s k p (part.Shard shard) is other empty = none_unused k shard.first shard.step shard.used (λ l inside e. other l is.0 (omega (arith, inside, is.1.entries)) e)
+  other_slots maker s k p (part.Memory cell) is other empty = cell_slots k cell
+  other_slots maker s k p (part.Queue q) is other empty = ap (queued_count (right_to k)) (empty is.0)
+  other_slots maker s k p (part.Table cell) is other empty = absurd is
+  other_slots maker s k p (part.Stack cell) is other empty = absurd is
 
-  -- The number of a slot is that of one place of one shard.
-  other_shard : (maker : MakerTold) (c : PoolCore P) (j k : ℕ) → IsCore maker c → j < length c.shards → ((l : ℕ) → l < (nth_shard j c.shards).capacity → (nth_shard j c.shards).first + l * (nth_shard j c.shards).step ≡ k → ⊥) → free_count (right_to k) (nth_shard j c.shards) ≡ 0
-  other_shard maker c j k core below other =
-      let s : ShardState = nth_shard j c.shards in
-      none_unused k s.first s.step s.used (λ l inside e. other l (omega (arith, inside, (core.shards j below).entries)) e)
+  other_regions : (maker : MakerTold) (s : Settings) (k p : ℕ) (x : PoolPart P) → IsPartAt maker s p x → (p ≡ cell_place s k → ⊥) → (s.shards + s.slots ≤ p → (queue_in x).slots ≡ []) → part_count (region_of k) x ≡ 0
+  other_regions maker s k p (part.Shard shard) is other empty = unused_regions k shard.first shard.step shard.used
+  other_regions maker s k p (part.Memory cell) is other empty =
+      let named : cell.name.slot ≡ p - s.shards = ap (λ (n : SlotName). n.slot) is.2.name in
+      cell_of_other k cell (λ e. other (omega (arith, is.0, e, named)))
+  other_regions maker s k p (part.Queue q) is other empty = ap (queued_count (region_of k)) (empty is.0)
+  other_regions maker s k p (part.Table cell) is other empty = absurd is
+  other_regions maker s k p (part.Stack cell) is other empty = absurd is
 
-  slots_inside : (maker : MakerTold) (c : PoolCore P) (k : ℕ) → IsCore maker c → IsUntouched c → k < length c.cells → sum_by (free_count (right_to k)) c.shards ≡ 1
+  region_past : (maker : MakerTold) (s : Settings) (k p : ℕ) (x : PoolPart P) → IsPartAt maker s p x → s.slots ≤ k → (s.shards + s.slots ≤ p → (queue_in x).slots ≡ []) → part_count (region_of k) x ≡ 0
+  region_past maker s k p (part.Shard shard) is past empty = unused_regions k shard.first shard.step shard.used
+  region_past maker s k p (part.Memory cell) is past empty =
+      let named : cell.name.slot ≡ p - s.shards = ap (λ (n : SlotName). n.slot) is.2.name in
+      cell_of_other k cell (λ e. omega (arith, is.0, is.1, e, named, past))
+  region_past maker s k p (part.Queue q) is past empty = ap (queued_count (region_of k)) (empty is.0)
+  region_past maker s k p (part.Table cell) is past empty = absurd is
+  region_past maker s k p (part.Stack cell) is past empty = absurd is
+
+  -- each queue is empty
+  empty_at : (maker : MakerTold) (c : PoolCore P) (p : ℕ) → IsCore maker c → IsUntouched c → p < length c.parts → c.settings.shards + c.settings.slots ≤ p → (queue_in (part_at p c.parts)).slots ≡ []
+  empty_at maker c p core untouched below from =
+      let i : ℕ = p - (c.settings.shards + c.settings.slots) in
+      let Q : ℕ → Type 0 = λ q. (queue_in (part_at q c.parts)).slots ≡ [] in
+      subst Q {x = queue_place c.settings i} {y = p} (omega (arith, from)) (untouched.none_queued i (omega (arith, below, core.number, from)))
+
+  slots_inside : (maker : MakerTold) (c : PoolCore P) (k : ℕ) → IsCore maker c → IsUntouched c → k < c.settings.slots → kept_count (right_to k) c ≡ 1
   slots_inside maker c k core untouched below =
       let j : ℕ = shard_of c.settings k in
       let inside = core.layout.inside k below in
-      let s : ShardState = nth_shard j c.shards in
+      let s : ShardState = nth_shard j c in
+      let sound = sound_shard maker j c core inside.0 in
       let place : HasPlace c.settings s k = place_of maker c k core below in
-      sum_of_one (free_count (right_to k)) c.shards (fresh_shard memory_kind 0 1 0 0) j inside.0
-      (one_unused k s.first s.step s.used (local_of c.settings k).0 place.inside (ap is_some (untouched.unused j (local_of c.settings k).0 inside.0)) place.number
+      sum_of_one (part_count (right_to k)) c.parts (part_at 0 []) j (shard_inside maker j c core inside.0)
+      (shard_count (right_to k) (part_at j c.parts) (shard_part maker j c core inside.0).part
+      ∙ one_unused k s.first s.step s.used (local_of c.settings k).0 place.inside (ap is_some (untouched.unused j (local_of c.settings k).0 inside.0)) place.number
       (λ m here e.
-      let back = core.layout.back j m inside.0 (omega (arith, here, (core.shards j inside.0).entries)) in
+      let back = core.layout.back j m inside.0 (omega (arith, here, sound.entries)) in
       sym back.2 ∙ ap (λ n. (local_of c.settings n).0) e))
-      (λ i here other. other_shard maker c i k core here (λ l there e. other (sym (core.layout.back i l here there).1 ∙ ap (shard_of c.settings) e)))
+      (λ p here other.
+      other_slots maker c.settings k p (part_at p c.parts) (core.parts p here)
+      (λ l from there e. other (sym (core.layout.back p l from there).1 ∙ ap (shard_of c.settings) e))
+      (empty_at maker c p core untouched here))
 
-  slots_outside : (maker : MakerTold) (c : PoolCore P) (k : ℕ) → IsCore maker c → length c.cells ≤ k → sum_by (free_count (right_to k)) c.shards ≡ 0
-  slots_outside maker c k core past =
-      sum_of_none (free_count (right_to k)) c.shards (fresh_shard memory_kind 0 1 0 0)
-      (λ j here. other_shard maker c j k core here (λ l there e. omega (arith, (core.layout.back j l here there).0, e)))
+  slots_outside : (maker : MakerTold) (c : PoolCore P) (k : ℕ) → IsCore maker c → IsUntouched c → c.settings.slots ≤ k → kept_count (right_to k) c ≡ 0
+  slots_outside maker c k core untouched past =
+      sum_of_none (part_count (right_to k)) c.parts (part_at 0 [])
+      (λ p here.
+      other_slots maker c.settings k p (part_at p c.parts) (core.parts p here)
+      (λ l from there e. omega (arith, (core.layout.back p l from there).0, e, past))
+      (empty_at maker c p core untouched here))
 
-  regions_inside : (c : PoolCore P) (k : ℕ) → IsUntouched c → k < length c.cells → cells_count (region_of k) 0 c.cells ≡ 1
-  regions_inside c k untouched below =
-      omega (
-        arith,
-        cells_less (region_of k) 0 c.cells k (untouched.home k below),
-        cell_uncounted k 0 (slice_set c.cells k taken) k (omega arith) (ap is_taken (get_or-set_same c.cells k taken taken below)),
-        ap (λ n. one_if (k == n)) {x = 0 + k} {y = k} (omega arith),
-        region_once k,
-      )
+  regions_inside : (maker : MakerTold) (c : PoolCore P) (k : ℕ) → IsCore maker c → IsUntouched c → k < c.settings.slots → kept_count (region_of k) c ≡ 1
+  regions_inside maker c k core untouched below =
+      let p : ℕ = cell_place c.settings k in
+      let cell : CellState = nth_cell k c in
+      let named : cell.name.slot ≡ k = ap (λ (n : SlotName). n.slot) (sound_cell maker k c core below).name in
+      sum_of_one (part_count (region_of k)) c.parts (part_at 0 []) p (cell_inside maker k c core below)
+      (memory_count (region_of k) (part_at p c.parts) (cell_part maker k c core below).part ∙ cell_has (region_of k) cell (untouched.home k below) ∙ ap (region_count (region_of k)) named ∙ region_once k)
+      (λ q here other. other_regions maker c.settings k q (part_at q c.parts) (core.parts q here) other (empty_at maker c q core untouched here))
 
-  regions_outside : (c : PoolCore P) (k : ℕ) → length c.cells ≤ k → cells_count (region_of k) 0 c.cells ≡ 0
-  regions_outside c k past = cell_uncounted k 0 c.cells k (omega arith) (ap is_taken (get_or_past c.cells k taken past))
+  regions_outside : (maker : MakerTold) (c : PoolCore P) (k : ℕ) → IsCore maker c → IsUntouched c → c.settings.slots ≤ k → kept_count (region_of k) c ≡ 0
+  regions_outside maker c k core untouched past =
+      sum_of_none (part_count (region_of k)) c.parts (part_at 0 [])
+      (λ q here. region_past maker c.settings k q (part_at q c.parts) (core.parts q here) past (empty_at maker c q core untouched here))
 
   -- A pool as it is made has all that is made.
-  pub untouched_has_all : (maker : MakerTold) (t : Thing) (c : PoolCore P) → IsCore maker c → IsUntouched c → kept_count t c ≡ made_count t (length c.cells)
+  pub untouched_has_all : (maker : MakerTold) (t : Thing) (c : PoolCore P) → IsCore maker c → IsUntouched c → kept_count t c ≡ made_count t c.settings.slots
   untouched_has_all maker (right_to k) c core untouched =
-      elim (cases_lt k (length c.cells)) [
-        | inl below ↦ omega (arith, kept_slots k c, none_queued (right_to k) c untouched, slots_inside maker c k core untouched below, made_in k (length c.cells) below)
-        | inr past ↦ omega (arith, kept_slots k c, none_queued (right_to k) c untouched, slots_outside maker c k core past, made_out k (length c.cells) past)
+      elim (cases_lt k c.settings.slots) [
+        | inl below ↦ slots_inside maker c k core untouched below ∙ sym (made_in k c.settings.slots below)
+        | inr past ↦ slots_outside maker c k core untouched past ∙ sym (made_out k c.settings.slots past)
       ]
   untouched_has_all maker (region_of k) c core untouched =
-      elim (cases_lt k (length c.cells)) [
-        | inl below ↦ omega (arith, kept_regions k c, none_queued (right_to k) c untouched, regions_inside c k untouched below, made_in k (length c.cells) below)
-        | inr past ↦ omega (arith, kept_regions k c, none_queued (right_to k) c untouched, regions_outside c k past, made_out k (length c.cells) past)
+      elim (cases_lt k c.settings.slots) [
+        | inl below ↦ regions_inside maker c k core untouched below ∙ sym (made_in k c.settings.slots below)
+        | inr past ↦ regions_outside maker c k core untouched past ∙ sym (made_out k c.settings.slots past)
       ]
 
   -- So it is whole with those who have nothing.

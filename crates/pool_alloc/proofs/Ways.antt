@@ -25,7 +25,7 @@ use Rattle.pool_alloc.specs.declared.pool_core.Settings.{Settings}
 use Rattle.pool_alloc.specs.declared.frame.Ending.{Ending}
 use Rattle.pool_alloc.specs.declared.frame.Ending.TheVariants.{Granted as granted, Returned as returned, Refused as refused}
 use Rattle.pool_alloc.specs.declared.frame.Frame.{Frame}
-use Rattle.pool_alloc.specs.declared.frame.ModuleCall.{ModuleCall}
+use Rattle.pool_alloc.specs.Asked.{ModuleAsked}
 use Rattle.pool_alloc.specs.declared.frame.Phase.{Phase}
 use Rattle.pool_alloc.proofs.Hands.{one_more, in_phase, Held, Kept}
 
@@ -37,18 +37,23 @@ push_at Q (y ∷ ys) x each last zero = each 0
 push_at Q (y ∷ ys) x each last (suc k) = push_at (λ i. Q (suc i)) ys x (λ i. each (suc i)) last k
 
 -- nor does it search
+pub searched_still : (e : Ending) (old new : Type 0) → (old → new) → IsSearchedBy e old → IsSearchedBy e new
+searched_still granted old new still known = still known
+searched_still returned old new still known = tt
+searched_still (refused x) old new still known = tt
+
 pub searched_back : (e : Ending) (known : Type 0) → is_granting e ≡ false → IsSearchedBy e known
 searched_back granted known back = absurd cc
 searched_back returned known back = tt
 searched_back (refused x) known back = tt
 
 -- a call that gives back aims at nothing else
-pub aims_back : (s : Settings) (e : Ending) (asked : Option ModuleCall) (queues : ℕ) (objects : Reserved Lease) → is_granting e ≡ false → Aims s e asked queues objects
+pub aims_back : (s : Settings) (e : Ending) (asked : Option ModuleAsked) (queues : ℕ) (objects : Reserved Lease) → is_granting e ≡ false → Aims s e asked queues objects
 aims_back s granted asked queues objects back = absurd cc
 aims_back s returned asked queues objects back = tt
 aims_back s (refused x) asked queues objects back = tt
 
-pub aims_grant : (s : Settings) (e : Ending) (asked : Option ModuleCall) (queues : ℕ) (objects : Reserved Lease) → e ≡ granted → IsToGrant s asked queues objects → Aims s e asked queues objects
+pub aims_grant : (s : Settings) (e : Ending) (asked : Option ModuleAsked) (queues : ℕ) (objects : Reserved Lease) → e ≡ granted → IsToGrant s asked queues objects → Aims s e asked queues objects
 aims_grant s e asked queues objects is to_grant = let A : Ending → Type 0 = λ x. Aims s x asked queues objects in subst A (sym is) to_grant
 
 pub same_times : (m n x : ℕ) → m ≡ n → m * x ≡ n * x
@@ -83,7 +88,7 @@ at_most_if true m n most = most refl
 at_most_if false m n most = omega arith
 
 -- another memory is granted, and there is a next one, or none
-pub next_memory : (z : PoolSizes) (e : Ending) (asked : Option ModuleCall) (lease : Lease) (objects : Reserved Lease) → e ≡ granted → next_left z e 0 asked (with_item lease objects) ≤ memories_left z asked objects
+pub next_memory : (z : PoolSizes) (e : Ending) (asked : Option ModuleAsked) (lease : Lease) (objects : Reserved Lease) → e ≡ granted → next_left z e 0 asked (with_item lease objects) ≤ memories_left z asked objects
 next_memory z e asked lease objects is =
     let k : ℕ = length (memories_wanted asked) in
     let n : ℕ = length objects.items in
@@ -95,7 +100,7 @@ next_memory z e asked lease objects is =
     (λ more. let there : M (length (objects.items ++ lease ∷ [])) = subst M (sym long) (following_left z k n (omega (arith, ltb-true _ _ more, long))) in omega (arith, there)))
 
 -- the first memory is allocated, or there is none
-pub first_memory : (z : PoolSizes) (e : Ending) (queues : ℕ) (asked : Option ModuleCall) (objects : Reserved Lease) → e ≡ granted → queues ≡ 0 → objects.items ≡ [] → next_left z e queues asked objects + 1 ≤ 2 + length (memories_wanted asked) * (allocation_bound z + give_back_bound z)
+pub first_memory : (z : PoolSizes) (e : Ending) (queues : ℕ) (asked : Option ModuleAsked) (objects : Reserved Lease) → e ≡ granted → queues ≡ 0 → objects.items ≡ [] → next_left z e queues asked objects + 1 ≤ 2 + length (memories_wanted asked) * (allocation_bound z + give_back_bound z)
 first_memory z e queues asked objects is none_taken none =
     let k : ℕ = length (memories_wanted asked) in
     let most : ℕ = 1 + k * (allocation_bound z + give_back_bound z) in
@@ -109,12 +114,12 @@ first_memory z e queues asked objects is none_taken none =
     omega (arith, few)
 
 -- the search goes on with a round of picks
-pub next_round : (z : PoolSizes) (e : Ending) (queues : ℕ) (asked : Option ModuleCall) (objects : Reserved Lease) → e ≡ granted → next_left z e queues asked objects ≤ picks_left z queues 0 asked objects
+pub next_round : (z : PoolSizes) (e : Ending) (queues : ℕ) (asked : Option ModuleAsked) (objects : Reserved Lease) → e ≡ granted → next_left z e queues asked objects ≤ picks_left z queues 0 asked objects
 next_round z e queues asked objects is =
     let E : Ending → Type 0 = λ x. next_left z x queues asked objects ≤ picks_left z queues 0 asked objects in
     subst E (sym is) (at_most_if (nat_lt (length objects.items) (length (memories_wanted asked))) (picks_left z queues 0 asked objects) (picks_left z queues 0 asked objects) (λ more. omega arith))
 
-pub next_returns : (z : PoolSizes) (e : Ending) (queues : ℕ) (asked : Option ModuleCall) (objects : Reserved Lease) → is_granting e ≡ false → next_left z e queues asked objects ≡ returns_left z objects
+pub next_returns : (z : PoolSizes) (e : Ending) (queues : ℕ) (asked : Option ModuleAsked) (objects : Reserved Lease) → is_granting e ≡ false → next_left z e queues asked objects ≡ returns_left z objects
 next_returns z granted queues asked objects back = absurd cc
 next_returns z returned queues asked objects back = refl
 next_returns z (refused x) queues asked objects back = refl

@@ -47,13 +47,13 @@ module _ {P : Type 0} where
   whole_fits c f hs i d rest whole each below is slots = record {
     once = λ t. omega (arith, whole.places t, is.places t, get_or-le-sum_by (λ (h : Holding). h.places t) hs i d below);
     home = λ k some.
-        let both : made_count (region_of k) (length c.cells) ≡ made_count (right_to k) (length c.cells) = refl in
+        let both : made_count (region_of k) c.settings.slots ≡ made_count (right_to k) c.settings.slots = refl in
         omega (
           arith,
           both,
           whole.places (right_to k),
           whole.places (region_of k),
-          made_once (right_to k) (length c.cells),
+          made_once (right_to k) c.settings.slots,
           is.places (right_to k),
           is.places (region_of k),
           slots k,
@@ -66,7 +66,7 @@ module _ {P : Type 0} where
   -- No slot is with two of them.
   pub slots_apart : (c : PoolCore P) (hs : List Holding) (i j k : ℕ) (d : Holding) → IsPartitioned (λ h. h) c hs → i < length hs → j < length hs → i ≢ j → (slice_index_or hs i d).places (right_to k) + (slice_index_or hs j d).places (right_to k) ≤ 1
   slots_apart c hs i j k d whole below also other =
-      omega (arith, whole.places (right_to k), made_once (right_to k) (length c.cells), two_of_sum (λ (h : Holding). h.places (right_to k)) hs i j d below also other)
+      omega (arith, whole.places (right_to k), made_once (right_to k) c.settings.slots, two_of_sum (λ (h : Holding). h.places (right_to k)) hs i j d below also other)
 
   -- A call has the slot of each of its regions.
   pub call_has_slots : (f : Frame P) → HasSlots (held_by f)

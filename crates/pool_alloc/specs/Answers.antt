@@ -13,16 +13,18 @@ use Rattle.pool_limits.specs.LimiterTold.{LimiterTold, after_answer}
 use Rattle.pool_limits.specs.declared.errors.LimiterError.{LimiterError}
 use Rattle.pool_memory.specs.Making.{minimum_asked, maximum_asked, minimum_question}
 use Rattle.pool_memory.specs.Static.{CanHold}
-use Rattle.pool_slots.specs.Queues.{QueueState, LeavesClean, after_run, first_slot, IsFaulted}
-use Rattle.pool_slots.specs.QueueOrders.{run_of, AreInOrder}
+use Rattle.pool_slots.specs.SlotQueues.{Queue, LeavesClean, after_run, first_slot, IsFaulted}
+use Rattle.pool_slots.specs.SlotOrders.{run_of, AreInOrder}
 use Rattle.pool_memory.specs.Memories.{slot_of}
 use Rattle.pool_alloc.specs.Modules.{IfAllocated}
+use Rattle.pool_alloc.specs.Leases.{slot_taken}
 use Rattle.pool_alloc.specs.Own.{slot_ended, reset_listed}
 use Rattle.pool_alloc.specs.Steps.{StepGiven, image_wanted}
 use Rattle.pool_alloc.specs.Rows.{FlushStep, run, flush_step}
 use Rattle.pool_alloc.specs.declared.pool_core.Settings.{Settings}
 use Rattle.pool_alloc.specs.declared.frame.Frame.{Frame}
 use Rattle.pool_alloc.specs.declared.frame.Phase.{Phase}
+use Rattle.pool_alloc.specs.declared.frame.TakenSlot.{TakenSlot}
 use Rattle.pool_alloc.specs.declared.frame.Phase.TheVariants.{Empty, Instantiate, MakeMemory, Reset, Flush}
 
 -- a slot is emptied, and clean then, or a call on its region failed
@@ -32,9 +34,9 @@ Empties false old new = (new ≡ wiped old) × IsClean new
 
 -- A slot that was in use is reset, and is clean once what that leaves is decommitted, or a call on its region failed. None
 -- does where pages go back to a mapped image.
-abbrev pub Resets : Bool → ℕ → ℕ → Slot → Slot → Type 0
-Resets true keep index old new = (old.region.behaviour ≡ Zero) × IsLeft old new
-Resets false keep index old new = (new ≡ (slot_ended keep index old).slot) × LeavesClean (reset_listed keep index old) (slot_ended keep index old)
+abbrev pub Resets : Bool → ℕ → TakenSlot → Slot → Slot → Type 0
+Resets true keep at old new = (old.region.behaviour ≡ Zero) × IsLeft old new
+Resets false keep at old new = (new ≡ (slot_ended keep at old).slot) × LeavesClean (reset_listed keep at.slot old) (slot_ended keep at old)
 
 -- What is so of an instantiation where the slot has the wanted image already, or what where it hasn't. Where its pages
 -- aren't told it is one of both.
@@ -66,7 +68,7 @@ pub record AsksForMemory (given : Result Bool LimiterError) (old new : LimiterTo
   pub left : new ≡ after_answer given old
 
 -- the next ranges of one slot are decommitted, or a decommit failed
-abbrev pub Decommits : Bool → QueueState → QueueState → Type 0
+abbrev pub Decommits : Bool → Queue → Queue → Type 0
 Decommits true old new = IsFaulted old new
 Decommits false old new = new ≡ after_run old
 
@@ -86,42 +88,42 @@ abbrev pub FollowsReset : ℕ → Bool → Slot → Slot → Type 0
 FollowsReset keep fault old new = Follows (resetting old.region.behaviour old) (not fault) (set_by_hand old.region.behaviour keep old) new.region
 
 -- the decommits of the next ranges of one slot, likewise
-abbrev pub FollowsRun : Bool → QueueState → QueueState → Type 0
-FollowsRun fault old new = AreInOrder (first_slot old.ranges) (run_of (first_slot old.ranges) old.ranges) (not fault) old.memories new.memories
+abbrev pub FollowsRun : Bool → Queue → Queue → Type 0
+FollowsRun fault old new = AreInOrder (first_slot old.ranges) (run_of (first_slot old.ranges) old.ranges) (not fault) old.slots new.slots
 
 -- a step of a flush, where it decommits ranges
-abbrev pub FlushTold : FlushStep → StepGiven → QueueState → Type 0
+abbrev pub FlushTold : FlushStep → StepGiven → Queue → Type 0
 FlushTold run g local = Decommits g.fault local g.queue
 FlushTold _ g local = Unit {0}
 
-abbrev pub FlushPlanned : FlushStep → StepGiven → QueueState → Type 0
+abbrev pub FlushPlanned : FlushStep → StepGiven → Queue → Type 0
 FlushPlanned run g local = FollowsRun g.fault local g.queue
 FlushPlanned _ g local = Unit {0}
 
 module _ {P : Type 0} where
   -- the given answers may come in this phase
   abbrev pub MayBeTold : Settings → StepGiven → Phase P → Frame P → Type 0
-  MayBeTold s g (Empty slot held) f = Empties g.fault held g.slot
-  MayBeTold s g (Instantiate slot held) f = IfAllocated f (λ decl. InstantiatesFor s decl g.fault (image_wanted f) held g.slot)
-  MayBeTold s g (Reset lease) f = Resets g.fault s.keep_resident.bytes lease.index (slot_of lease.memory) g.slot
+  MayBeTold s g (Empty at held) f = Empties g.fault held g.slot
+  MayBeTold s g (Instantiate at held) f = IfAllocated f (λ decl. InstantiatesFor s decl g.fault (image_wanted f) held g.slot)
+  MayBeTold s g (Reset lease) f = Resets g.fault s.keep_resident.bytes (slot_taken lease) (slot_of lease.memory) g.slot
   MayBeTold s g Flush f = FlushTold (flush_step f.local) g f.local
   MayBeTold s g _ f = Unit {0}
 
   -- what the step makes of the limiter: only the making of a memory asks it
   abbrev pub AsksOf : LimiterTold → LimiterTold → StepGiven → Phase P → Frame P → Type 0
-  AsksOf old new g (MakeMemory slot held) f = IfAllocated f (AsksForMemory g.limiter old new)
+  AsksOf old new g (MakeMemory at held) f = IfAllocated f (AsksForMemory g.limiter old new)
   AsksOf old new g _ f = new ≡ old
 
   -- What passes between the step and the limiter, of which this is told: the making of a memory asks it once, and no
   -- other step speaks to it.
   abbrev pub LimiterHears : (List Exchange → Type 0) → StepGiven → Phase P → Frame P → Type 0
-  LimiterHears Passes g (MakeMemory slot held) f = IfAllocated f (λ decl. Passes (may_grow (minimum_question decl.ty) g.limiter ∷ []))
+  LimiterHears Passes g (MakeMemory at held) f = IfAllocated f (λ decl. Passes (may_grow (minimum_question decl.ty) g.limiter ∷ []))
   LimiterHears Passes g _ f = Passes []
 
   -- whether a page call of the step failed is as the regions' plans say, where they are told
   abbrev pub IsPlanned : Settings → StepGiven → Phase P → Frame P → Type 0
-  IsPlanned s g (Empty slot held) f = Follows (wiping held) (not g.fault) held.region g.slot.region
-  IsPlanned s g (Instantiate slot held) f = IfAllocated f (λ decl. FollowsPlanFor s decl g.fault (image_wanted f) held g.slot)
+  IsPlanned s g (Empty at held) f = Follows (wiping held) (not g.fault) held.region g.slot.region
+  IsPlanned s g (Instantiate at held) f = IfAllocated f (λ decl. FollowsPlanFor s decl g.fault (image_wanted f) held g.slot)
   IsPlanned s g (Reset lease) f = FollowsReset s.keep_resident.bytes g.fault (slot_of lease.memory) g.slot
   IsPlanned s g Flush f = FlushPlanned (flush_step f.local) g f.local
   IsPlanned s g _ f = Unit {0}

@@ -1,6 +1,6 @@
 -- How many steps a call makes at most, by the sizes of the pool alone, and how many it still makes.
-use Rattle.std.specs.Prelude.{ℕ, List, [], ◌∷◌, ◌+◌, ◌*◌, ◌-◌, length, nat_lt, if◌then◌else◌, Option, Some, ◌/◌, ◌==◌, zero, suc, sum_by}
-use Rattle.pool_slots.specs.Queues.{QueueState, QueuedMemory}
+use Rattle.std.specs.Prelude.{ℕ, List, ◌+◌, ◌*◌, ◌-◌, length, nat_lt, if◌then◌else◌, Option, Some, ◌/◌, ◌==◌, zero, suc, sum_by}
+use Rattle.pool_slots.specs.SlotQueues.{Queue, Queued}
 use Rattle.pool_index.specs.Shard.{one_if}
 use Rattle.pool_alloc.specs.Leases.{Lease}
 use Rattle.pool_alloc.specs.Reserved.{Reserved}
@@ -14,7 +14,7 @@ use Rattle.pool_alloc.specs.declared.frame.Ending.{Ending}
 use Rattle.pool_alloc.specs.declared.frame.Ending.TheVariants.{Granted as granted, Returned as returned, Refused as refused}
 use Rattle.pool_alloc.specs.declared.frame.Frame.{Frame}
 use Rattle.pool_alloc.specs.declared.frame.FreedSlot.{FreedSlot}
-use Rattle.pool_alloc.specs.declared.frame.ModuleCall.{ModuleCall}
+use Rattle.pool_alloc.specs.Asked.{ModuleAsked}
 use Rattle.pool_alloc.specs.declared.frame.Phase.{Phase}
 use Rattle.pool_alloc.specs.declared.frame.Phase.TheVariants.{Idle, Key, Validate, CountInstance, Pick, TakeQueue, TakeRegion, Empty, Instantiate, MakeMemory, CountMemory, PutUnknown, FreeUnknown, UncountMemory, Reset, Merge, Flush, UncountInstance}
 
@@ -48,18 +48,18 @@ abbrev pub return_bound : PoolSizes → ℕ → ℕ
 return_bound z memories = 1 + memories * give_back_bound z
 
 -- how many slots wait for shard j: those that are queued, and those that are to be freed
-abbrev pub waiting_for : PoolSizes → ℕ → List QueuedMemory → List FreedSlot → ℕ
-waiting_for z j queued freed = sum_by (λ m. one_if (m.index / z.slots_per_shard == j)) queued + sum_by (λ x. one_if (x.slot / z.slots_per_shard == j)) freed
+abbrev pub waiting_for : PoolSizes → ℕ → List Queued → List FreedSlot → ℕ
+waiting_for z j queued freed = sum_by (λ m. one_if (m.name.slot / z.slots_per_shard == j)) queued + sum_by (λ x. one_if (x.slot / z.slots_per_shard == j)) freed
 
 -- for how many of the first n shards some do
-abbrev pub shards_waiting : PoolSizes → ℕ → List QueuedMemory → List FreedSlot → ℕ
+abbrev pub shards_waiting : PoolSizes → ℕ → List Queued → List FreedSlot → ℕ
 shards_waiting z zero queued freed = 0
 shards_waiting z (suc n) queued freed = one_if (nat_lt 0 (waiting_for z n queued freed)) + shards_waiting z n queued freed
 
 -- What is left of a flush: each run of ranges, each region that is to be put back, and each shard of which slots are to be
 -- freed, however many.
-abbrev pub flush_left : PoolSizes → QueueState → Reserved FreedSlot → ℕ
-flush_left z local freed = runs local.ranges + length local.memories + shards_waiting z z.all_shards local.memories freed.items
+abbrev pub flush_left : PoolSizes → Queue → Reserved FreedSlot → ℕ
+flush_left z local freed = runs local.ranges + length local.slots + shards_waiting z z.all_shards local.slots freed.items
 
 -- the memories that are still to be given back, and the instance
 abbrev pub returns_left : PoolSizes → Reserved Lease → ℕ
@@ -67,20 +67,20 @@ returns_left z returning = return_bound z (length returning.items)
 
 -- What is left once the memory that is allocated is granted or refused: the module's other memories, and that all which
 -- are granted until then may be given back.
-abbrev pub memories_left : PoolSizes → Option ModuleCall → Reserved Lease → ℕ
+abbrev pub memories_left : PoolSizes → Option ModuleAsked → Reserved Lease → ℕ
 memories_left z asked objects = (length (memories_wanted asked) - (length objects.items + 1)) * (allocation_bound z + give_back_bound z) + return_bound z (length objects.items + 1)
 
 -- what is left of an allocation where so many queues were gone through: their flushes with the rounds of picks after them,
 -- and six steps with the slot
-abbrev pub queues_left : PoolSizes → ℕ → Option ModuleCall → Reserved Lease → ℕ
+abbrev pub queues_left : PoolSizes → ℕ → Option ModuleAsked → Reserved Lease → ℕ
 queues_left z queues asked objects = (z.queues - queues) * (flush_bound z + z.shards) + (6 + memories_left z asked objects)
 
 -- and where so many shards were tried then
-abbrev pub picks_left : PoolSizes → ℕ → ℕ → Option ModuleCall → Reserved Lease → ℕ
+abbrev pub picks_left : PoolSizes → ℕ → ℕ → Option ModuleAsked → Reserved Lease → ℕ
 picks_left z queues tried asked objects = (z.shards - tried) + queues_left z queues asked objects
 
 -- what is left of a call where its ending says what is next
-abbrev pub next_left : PoolSizes → Ending → ℕ → Option ModuleCall → Reserved Lease → ℕ
+abbrev pub next_left : PoolSizes → Ending → ℕ → Option ModuleAsked → Reserved Lease → ℕ
 next_left z granted queues asked objects = if nat_lt (length objects.items) (length (memories_wanted asked)) then picks_left z queues 0 asked objects else 0
 next_left z returned queues asked objects = returns_left z objects
 next_left z (refused e) queues asked objects = returns_left z objects
@@ -108,11 +108,11 @@ module _ {P : Type 0} where
   steps_at z (Pick tried) f = picks_left z f.queues tried f.asked f.objects
   steps_at z TakeQueue f = queues_left z f.queues f.asked f.objects
   steps_at z (TakeRegion slot) f = 6 + memories_left z f.asked f.objects
-  steps_at z (Empty slot held) f = 5 + memories_left z f.asked f.objects
-  steps_at z (Instantiate slot held) f = 4 + memories_left z f.asked f.objects
-  steps_at z (MakeMemory slot held) f = 3 + memories_left z f.asked f.objects
+  steps_at z (Empty at held) f = 5 + memories_left z f.asked f.objects
+  steps_at z (Instantiate at held) f = 4 + memories_left z f.asked f.objects
+  steps_at z (MakeMemory at held) f = 3 + memories_left z f.asked f.objects
   steps_at z (CountMemory lease) f = 1 + memories_left z f.asked f.objects
-  steps_at z (PutUnknown slot held) f = 2 + returns_left z f.objects
+  steps_at z (PutUnknown at held) f = 2 + returns_left z f.objects
   steps_at z (FreeUnknown slot) f = 1 + returns_left z f.objects
   steps_at z (UncountMemory lease) f = give_back_bound z + returns_left z f.objects
   steps_at z (Reset lease) f = 1 + flush_bound z + returns_left z f.objects

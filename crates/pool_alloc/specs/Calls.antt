@@ -1,7 +1,7 @@
 -- A party's calls: its frame as made, what a call begins with, and what it grants.
 use Rattle.std.specs.Prelude.{◌≡◌, ℕ, ◌*◌, [], length, All, Option, Some, None}
 use Rattle.pool_pages.specs.MakerTold.{MakerTold}
-use Rattle.pool_slots.specs.Queues.{empty_queue}
+use Rattle.pool_slots.specs.SlotQueues.{empty_queue}
 use Rattle.pool_alloc.specs.Reserved.{no_room}
 use Rattle.pool_alloc.specs.Steps.{memories_wanted, images_wanted}
 use Rattle.pool_alloc.specs.Turns.{returned_next}
@@ -9,7 +9,7 @@ use Rattle.pool_alloc.specs.Sound.{IsLeaseOf, AreImagesOf, AreBegun}
 use Rattle.pool_alloc.specs.Modules.{HasImages}
 use Rattle.pool_alloc.specs.declared.pool_core.Settings.{Settings}
 use Rattle.pool_alloc.specs.declared.frame.Frame.{Frame}
-use Rattle.pool_alloc.specs.declared.frame.ModuleCall.{ModuleCall}
+use Rattle.pool_alloc.specs.Asked.{ModuleAsked}
 use Rattle.pool_alloc.specs.declared.frame.Phase.TheVariants.{Idle, Key, Validate}
 use Rattle.pool_alloc.specs.declared.frame.Ending.TheVariants.{Granted as granted, Returned as returned}
 use Rattle.pool_alloc.specs.declared.frame.Grant.{Grant}
@@ -43,7 +43,7 @@ module _ {P : Type 0} where
   IsGrant maker s (Instance lease) = All (IsLeaseOf maker s) lease.memories.items
 
   -- and it has a memory for each that was asked for, which begins as that is to
-  abbrev pub IsGrantOf : MakerTold → Settings → Option ModuleCall → Grant P → Type 0
+  abbrev pub IsGrantOf : MakerTold → Settings → Option ModuleAsked → Grant P → Type 0
   IsGrantOf maker s asked (Instance lease) = All (IsLeaseOf maker s) lease.memories.items × (length lease.memories.items ≡ length (memories_wanted asked)) × AreBegun s asked lease.memories.items
 
   -- what is granted, if a call ends with a grant

@@ -7,36 +7,45 @@ use Rattle.pool_pages.specs.declared.module_types.MemoryDecl.{MemoryDecl}
 use Rattle.pool_images.specs.Images.{Image}
 use Rattle.pool_images.specs.Slots.{Slot, IsClean, IsFresh, FitsInto}
 use Rattle.pool_index.specs.Shard.{ShardState, use_of}
+use Rattle.pool_hall.specs.declared.unit_name.SlotKind.TheVariants.{Memory as memory_kind}
 use Rattle.pool_memory.specs.Memories.{slot_of}
 use Rattle.pool_memory.specs.Static.{CanHold}
-use Rattle.pool_slots.specs.Cells.{Cell, is_taken, unmapped}
-use Rattle.pool_slots.specs.Queues.{QueueState, QueuedMemory, HasOwners, AreApart, IsSpareOf}
+use Rattle.pool_slots.specs.Cells.{is_taken, unmapped}
+use Rattle.pool_slots.specs.RegionCells.{CellState}
+use Rattle.pool_slots.specs.SlotQueues.{Queue, Queued, HasOwners, IsSpareOf}
 use Rattle.pool_alloc.specs.Freeing.{AreUsedInTurn}
 use Rattle.pool_alloc.specs.Modules.{HasImages, IfAllocated}
 use Rattle.pool_alloc.specs.Reserved.{Reserved}
 use Rattle.pool_alloc.specs.Rows.{FlushStep, run, put, free, flush_step}
 use Rattle.pool_alloc.specs.Turns.{is_granting}
-use Rattle.pool_alloc.specs.Steps.{memories_wanted, image_wanted, nth_shard, nth_cell, nth_queue, shard_of, local_of, freed_of, first_shard, queue_tried}
+use Rattle.pool_slots.specs.QueueMerges.{CanMerge}
+use Rattle.pool_slots.specs.Parts.{IsAt, IsShardPart}
+use Rattle.pool_alloc.specs.Steps.{memories_wanted, image_wanted, IsMemoryPart, IsQueuePart, cell_place, queue_place, nth_shard, nth_cell, nth_queue, shard_of, local_of, freed_of, first_shard, shard_tried, queue_tried}
 use Rattle.pool_alloc.specs.declared.pool_core.PoolCore.{PoolCore}
 use Rattle.pool_alloc.specs.declared.pool_core.Settings.{Settings}
 use Rattle.pool_alloc.specs.declared.frame.Frame.{Frame}
 use Rattle.pool_alloc.specs.declared.frame.FreedSlot.{FreedSlot}
-use Rattle.pool_alloc.specs.declared.frame.ModuleCall.{ModuleCall}
+use Rattle.pool_alloc.specs.Asked.{ModuleAsked}
 use Rattle.pool_alloc.specs.declared.frame.Phase.{Phase}
 use Rattle.pool_alloc.specs.declared.frame.Phase.TheVariants.{Idle, Key, Validate, CountInstance, Pick, TakeQueue, TakeRegion, Empty, Instantiate, MakeMemory, CountMemory, PutUnknown, FreeUnknown, UncountMemory, Reset, Merge, Flush, UncountInstance}
+
+-- the places of parts are numbers that the code can compute
+pub record CanPlace (s : Settings) : Type 0 where
+  pub shards : s.shards < 2 ^ 32
+  pub slots : s.slots < 2 ^ 32
+  pub queues : s.queues < 2 ^ 32
 
 -- the sizes of a module's memories can be computed
 abbrev pub CanValidate : List MemoryDecl → Type 0
 CanValidate decls = (k : ℕ) → IfSome (slice_get decls k) (λ decl. decl.ty.page_size_log2 < 64)
 
--- the region lies in its cell; one that was never used is as it was made
-pub record CanTakeRegion (slot : ℕ) (cells : List Cell) (s : Settings) : Type 0 where
-  pub inside : slot < length cells
-  pub there : is_taken (nth_cell slot cells) ≡ false
-  pub fresh : (region : Told) → nth_cell slot cells ≡ unmapped region → IsFresh (count s.page 0) (count s.page 0) s.max_memory_size None region
+-- the region lies in the cell; one that was never used is as it was made
+pub record CanTakeRegion (s : Settings) (cell : CellState) : Type 0 where
+  pub there : is_taken cell.holds ≡ false
+  pub fresh : (region : Told) → cell.holds ≡ unmapped region → IsFresh (count s.page 0) (count s.page 0) s.max_memory_size None region
 
 -- a memory of the module is the next one
-pub record HasNext (call : Option ModuleCall) (granted : ℕ) : Type 0 where
+pub record HasNext (call : Option ModuleAsked) (granted : ℕ) : Type 0 where
   pub asked : IsSome call
   pub images : HasImages call
   pub small : granted < 2 ^ 32
@@ -57,50 +66,39 @@ pub record CanMake (s : Settings) (held : Slot) (decl : MemoryDecl) : Type 0 whe
   pub room : rounded_up held.region.page s.max_memory_size ≤ held.static_size
 
 -- a slot of a shard is used
-pub record CanFreeOne (slot : ℕ) (s : Settings) (shards : List ShardState) : Type 0 where
+pub record CanFreeOne (slot : ℕ) (s : Settings) (shard : ShardState) : Type 0 where
   pub slots : 0 < s.slots_per_shard
-  pub inside : shard_of s slot < length shards
-  pub used : IsSome (use_of (nth_shard (shard_of s slot) shards) (local_of s slot).0)
+  pub used : IsSome (use_of shard (local_of s slot).0)
 
 -- the local queue is empty, and has room
-pub record CanReset (s : Settings) (held : Slot) (local : QueueState) : Type 0 where
+pub record CanReset (s : Settings) (held : Slot) (local : Queue) : Type 0 where
   pub page : s.keep_resident.page ≡ held.region.page
   pub kept : s.keep_resident.bytes ≤ 2 ^ 32
   pub no_ranges : local.ranges ≡ []
-  pub no_slots : local.memories ≡ []
+  pub no_slots : local.slots ≡ []
+  pub owners : HasOwners local
   pub range_room : 0 < local.range_room
   pub slot_room : 0 < local.slot_room
 
--- the local queue can be appended, and the whole queue taken into it then
-pub record CanMerge (queue local : QueueState) : Type 0 where
-  pub ranges : length queue.ranges + length local.ranges ≤ queue.range_room
-  pub slots : length queue.memories + length local.memories ≤ queue.slot_room
-  pub owners : HasOwners queue
-  pub local_owners : HasOwners local
-  pub apart : AreApart queue.memories local.memories
-  pub range_room : local.range_room ≡ queue.range_room
-  pub slot_room : local.slot_room ≡ queue.slot_room
-
--- the first slot of the queue has a cell, and there is room among those to be freed
-pub record CanPutNext (slots : ℕ) (local : QueueState) (freed : Reserved FreedSlot) : Type 0 where
+-- the first slot of the queue is a memory's, and there is room among those to be freed
+pub record CanPutNext (local : Queue) (freed : Reserved FreedSlot) : Type 0 where
   pub no_ranges : local.ranges ≡ []
-  pub some : 0 < length local.memories
-  pub inside : (m : QueuedMemory) (rest : List QueuedMemory) → local.memories ≡ m ∷ rest → m.index < slots
+  pub some : 0 < length local.slots
+  pub kind : (m : Queued) (rest : List Queued) → local.slots ≡ m ∷ rest → m.name.kind ≡ memory_kind
   pub room : length freed.items < freed.room
 
 -- the slots are used in their shard
-pub record CanFree (s : Settings) (freed : List FreedSlot) (shards : List ShardState) : Type 0 where
+pub record CanFree (s : Settings) (freed : List FreedSlot) (shard : ShardState) : Type 0 where
   pub slots : 0 < s.slots_per_shard
-  pub inside : first_shard s freed < length shards
-  pub used : AreUsedInTurn s (freed_of s (first_shard s freed) freed) (nth_shard (first_shard s freed) shards)
+  pub used : AreUsedInTurn s (freed_of s (first_shard s freed) freed) shard
   pub bytes : All (λ x. x.bytes ≤ 2 ^ 32) freed
 
 module _ {P : Type 0} where
   -- just the next part of a flush
   abbrev pub CanFlush : FlushStep → PoolCore P → Frame P → Type 0
   CanFlush run c f = (0 < length f.local.ranges) × HasOwners f.local
-  CanFlush put c f = CanPutNext (length c.cells) f.local f.freed
-  CanFlush free c f = CanFree c.settings f.freed.items c.shards
+  CanFlush put c f = CanPlace c.settings × ((m : Queued) (rest : List Queued) → f.local.slots ≡ m ∷ rest → IsAt IsMemoryPart (cell_place c.settings m.name.slot) c.parts) × CanPutNext f.local f.freed
+  CanFlush free c f = IsAt IsShardPart (first_shard c.settings f.freed.items) c.parts × CanFree c.settings f.freed.items (nth_shard (first_shard c.settings f.freed.items) c)
 
   -- in each phase
   abbrev pub CanStepAt : Phase P → PoolCore P → Frame P → Type 0
@@ -108,17 +106,17 @@ module _ {P : Type 0} where
   CanStepAt Key c f = 0 < c.settings.stripes
   CanStepAt Validate c f = CanValidate (memories_wanted f.asked)
   CanStepAt CountInstance c f = c.counters.core_instances + 1 < 2 ^ 64
-  CanStepAt (Pick tried) c f = (tried < c.settings.shards) × (c.settings.shards < 2 ^ 32) × (length c.shards ≡ c.settings.shards) × (length f.objects.items < 2 ^ 32)
-  CanStepAt TakeQueue c f = (f.queues < c.settings.queues) × (c.settings.queues < 2 ^ 32) × (length c.queues ≡ c.settings.queues) × IsSpareOf (nth_queue (queue_tried f.queues c.settings f) c.queues) f.local
-  CanStepAt (TakeRegion slot) c f = CanTakeRegion slot c.cells c.settings
-  CanStepAt (Empty slot held) c f = Unit {0}
-  CanStepAt (Instantiate slot held) c f = HasNext f.asked (length f.objects.items) × IsClean held × IfAllocated f (CanBegin held (image_wanted f))
-  CanStepAt (MakeMemory slot held) c f = HasNext f.asked (length f.objects.items) × IfAllocated f (CanMake c.settings held)
+  CanStepAt (Pick tried) c f = (tried < c.settings.shards) × (c.settings.shards < 2 ^ 32) × IsAt IsShardPart (shard_tried tried c.settings f) c.parts × (length f.objects.items < 2 ^ 32)
+  CanStepAt TakeQueue c f = (f.queues < c.settings.queues) × CanPlace c.settings × IsAt IsQueuePart (queue_place c.settings (queue_tried f.queues c.settings f)) c.parts × IsSpareOf (nth_queue (queue_tried f.queues c.settings f) c) f.local
+  CanStepAt (TakeRegion slot) c f = CanPlace c.settings × IsAt IsMemoryPart (cell_place c.settings slot) c.parts × CanTakeRegion c.settings (nth_cell slot c)
+  CanStepAt (Empty at held) c f = Unit {0}
+  CanStepAt (Instantiate at held) c f = HasNext f.asked (length f.objects.items) × IsClean held × IfAllocated f (CanBegin held (image_wanted f))
+  CanStepAt (MakeMemory at held) c f = HasNext f.asked (length f.objects.items) × IfAllocated f (CanMake c.settings held)
   CanStepAt (CountMemory lease) c f = (c.counters.memories + 1 < 2 ^ 64) × (length f.objects.items < f.objects.room)
-  CanStepAt (PutUnknown slot held) c f = slot < length c.cells
-  CanStepAt (FreeUnknown slot) c f = CanFreeOne slot c.settings c.shards
+  CanStepAt (PutUnknown at held) c f = CanPlace c.settings × IsAt IsMemoryPart (cell_place c.settings at.slot) c.parts
+  CanStepAt (FreeUnknown slot) c f = IsAt IsShardPart (shard_of c.settings slot) c.parts × CanFreeOne slot c.settings (nth_shard (shard_of c.settings slot) c)
   CanStepAt (UncountMemory lease) c f = 0 < c.counters.memories
   CanStepAt (Reset lease) c f = CanReset c.settings (slot_of lease.memory) f.local
-  CanStepAt Merge c f = (0 < c.settings.queues) × (c.settings.queues < 2 ^ 32) × (length c.queues ≡ c.settings.queues) × CanMerge (nth_queue (queue_tried 0 c.settings f) c.queues) f.local
+  CanStepAt Merge c f = (0 < c.settings.queues) × CanPlace c.settings × IsAt IsQueuePart (queue_place c.settings (queue_tried 0 c.settings f)) c.parts × CanMerge (nth_queue (queue_tried 0 c.settings f) c) f.local
   CanStepAt Flush c f = CanFlush (flush_step f.local) c f
   CanStepAt UncountInstance c f = (0 < c.counters.core_instances) × (is_granting f.ending ≡ false)

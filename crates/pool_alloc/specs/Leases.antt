@@ -7,12 +7,19 @@ use Rattle.pool_limits.specs.declared.errors.GrowFault.{GrowFault}
 use Rattle.pool_limits.specs.declared.errors.Trap.{Trap}
 use Rattle.pool_memory.specs.Growing.{GrowsAsking}
 use Rattle.pool_memory.specs.Memories.{MemoryState, slot_of, memory_written, access_answer}
+use Rattle.pool_slots.specs.declared.slot_name.RegionNumbers.{RegionNumbers}
 use Rattle.pool_alloc.specs.Reserved.{Reserved}
+use Rattle.pool_alloc.specs.declared.frame.TakenSlot.{TakenSlot}
 
--- a memory that was granted, and the number of its slot
+-- a memory that was granted, the number of its slot, and the numbers that its region went out with
 pub record Lease : Type 0 where
   pub index : ℕ
   pub memory : MemoryState
+  pub numbers : RegionNumbers
+
+-- the slot with those numbers
+abbrev pub slot_taken : Lease → TakenSlot
+slot_taken l = record { slot = l.index; numbers = l.numbers }
 
 -- the memory can be read and written, is no larger than it may be, and stays where it is
 pub record IsUsable (m : MemoryState) : Type 0 where
@@ -23,16 +30,16 @@ pub record IsUsable (m : MemoryState) : Type 0 where
 
 -- bytes of the memory were written, or it is as before where they pass its size
 pub record IsWritten (at : ℕ) (bytes : List ℕ) (old new : Lease) (result : Result (Unit {0}) Trap) : Type 0 where
-  pub index : new.index ≡ old.index
+  pub same : new ≡ record old { memory = new.memory }
   pub answer : result ≡ access_answer (at + length bytes) old.memory.linear.size
   pub written : OnOk result (new.memory ≡ memory_written at bytes old.memory)
-  pub same : OnErr result (new.memory ≡ old.memory)
+  pub unwritten : OnErr result (new.memory ≡ old.memory)
   pub memory : IsUsable new.memory
 
 -- The memory was asked to grow by so many of its pages, and this was the answer. The limiter was in the first of these
 -- states, and is left in the other.
 pub record IsGrown {R : Type 0} (told : R → LimiterTold) (leads : R → Exchange → R → Type 0) (pages : ℕ) (old new : Lease) (before after : R) (answer : Result (Option ℕ) GrowFault) : Type 0 where
-  pub index : new.index ≡ old.index
+  pub same : new ≡ record old { memory = new.memory }
   pub growth : GrowsAsking told leads pages old.memory.linear.size old.memory new.memory (Some before) (Some after) answer
   pub memory : IsUsable new.memory
 

@@ -1,5 +1,5 @@
 -- A pool as it is made.
-use Rattle.std.specs.Prelude.{◌≡◌, ◌⊎◌, ℕ, ◌*◌, ◌<◌, List, [], ◌∷◌, length, max, Bool, true, Option, Some, None}
+use Rattle.std.specs.Prelude.{◌≡◌, ◌⊎◌, ℕ, ◌+◌, ◌*◌, ◌<◌, List, [], ◌∷◌, length, max, Bool, true, Option, Some, None}
 use Rattle.pool_pages.specs.Count.{count, rounded_up}
 use Rattle.pool_pages.specs.MakerTold.{MakerTold}
 use Rattle.pool_pages.specs.Told.{Rose}
@@ -11,11 +11,14 @@ use Rattle.pool_pages.specs.declared.offered.Offered.{Offered}
 use Rattle.pool_pages.specs.declared.pages.DecommitBehavior.{DecommitBehavior}
 use Rattle.pool_hall.specs.declared.unit_name.SlotKind.TheVariants.{Memory as memory_kind}
 use Rattle.pool_index.specs.Shard.{fresh_shard}
-use Rattle.pool_slots.specs.Cells.{Cell, unmapped, region_made}
-use Rattle.pool_slots.specs.Queues.{empty_queue}
+use Rattle.pool_slots.specs.Cells.{unmapped, region_made}
+use Rattle.pool_slots.specs.RegionCells.{memory_cell}
+use Rattle.pool_slots.specs.Parts.{part_at}
+use Rattle.pool_slots.specs.declared.part.PoolPart.{PoolPart}
+use Rattle.pool_slots.specs.declared.part.PoolPart.TheVariants as part
+use Rattle.pool_slots.specs.SlotQueues.{empty_queue}
 use Rattle.pool_slots.specs.declared.errors.PoolNewError.{PoolNewError}
 use Rattle.pool_slots.specs.declared.errors.PoolNewError.TheVariants as refused
-use Rattle.pool_alloc.specs.Steps.{nth_cell}
 use Rattle.pool_alloc.specs.declared.pool_core.PoolCore.{PoolCore}
 use Rattle.pool_alloc.specs.declared.pool_core.Settings.{Settings}
 
@@ -38,17 +41,17 @@ settings_of page config tunables offered = record {
   tunables = record { tunables = tunables; kind = LinearMemory };
 }
 
--- each slot has a cell with its region, which was never used
-pub record HasMadeCells (maker : MakerTold) (behaviour : DecommitBehavior) (max_memory_size total : ℕ) (cells : List Cell) : Type 0 where
-  pub number : length cells ≡ total
-  pub each : (i : ℕ) → i < total → nth_cell i cells ≡ unmapped (region_made maker behaviour max_memory_size i)
+-- one shard, a cell for each slot with its region, which was never used, and one queue
+pub record HasMadeParts {P : Type 0} (maker : MakerTold) (behaviour : DecommitBehavior) (max_memory_size total warm batch : ℕ) (parts : List (PoolPart P)) : Type 0 where
+  pub number : length parts ≡ 1 + (total + 1)
+  pub shard : part_at 0 parts ≡ part.Shard (fresh_shard memory_kind 0 1 total warm)
+  pub cells : (i : ℕ) → i < total → part_at (1 + i) parts ≡ part.Memory (memory_cell i (unmapped (region_made maker behaviour max_memory_size i)))
+  pub queue : part_at (1 + total) parts ≡ part.Queue (empty_queue (2 * batch) (2 * batch))
 
 -- Every slot is cold and has its region in its cell, the one queue is empty, and nothing is counted.
 pub record IsMadeCore {P : Type 0} (maker : MakerTold) (config : PoolingAllocationConfig) (tunables : Tunables) (offered : Offered) (c : PoolCore P) : Type 0 where
   pub settings : c.settings ≡ settings_of maker.page config tunables offered
-  pub shards : c.shards ≡ fresh_shard memory_kind 0 1 config.limits.total_memories config.max_unused_warm_slots ∷ []
-  pub cells : HasMadeCells maker c.settings.behaviour c.settings.max_memory_size config.limits.total_memories c.cells
-  pub queues : c.queues ≡ empty_queue (2 * config.decommit_batch_size) (2 * config.decommit_batch_size) ∷ []
+  pub parts : HasMadeParts maker c.settings.behaviour c.settings.max_memory_size config.limits.total_memories config.max_unused_warm_slots config.decommit_batch_size c.parts
   pub counters : c.counters ≡ record { key = 0; core_instances = 0; memories = 0 }
 
 -- No pool is made where a rule of the settings is broken, and then the refusal names the first.

@@ -1,14 +1,13 @@
 -- The module of which an instance is asked for.
 use Rattle.std.specs.Prelude.{◌≡◌, length, slice_get, Option, IfSome}
-use Rattle.std.specs.Arc.{arc_value}
 use Rattle.pool_pages.specs.declared.module_types.MemoryDecl.{MemoryDecl}
 use Rattle.pool_alloc.specs.Steps.{memories_wanted}
 use Rattle.pool_alloc.specs.declared.frame.Frame.{Frame}
-use Rattle.pool_alloc.specs.declared.frame.ModuleCall.{ModuleCall}
+use Rattle.pool_alloc.specs.Asked.{ModuleAsked}
 
 -- where images are given, there is a place for each memory
-abbrev pub HasImages : Option ModuleCall → Type 0
-HasImages asked = IfSome asked (λ m. IfSome m.images (λ images. length (arc_value images) ≡ length (arc_value m.info).memories))
+abbrev pub HasImages : Option ModuleAsked → Type 0
+HasImages asked = IfSome asked (λ m. IfSome m.images (λ images. length images ≡ length m.info.memories))
 
 module _ {P : Type 0} where
   -- the memory that is allocated

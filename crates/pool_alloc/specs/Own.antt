@@ -12,11 +12,13 @@ use Rattle.pool_memory.specs.Static.{Static, made_static}
 use Rattle.pool_memory.specs.Making.{limits_answer, fixed_in}
 use Rattle.pool_memory.specs.declared.memory_error.MemoryError.{MemoryError}
 use Rattle.pool_memory.specs.declared.memory_error.MemoryError.TheVariants as unmade
-use Rattle.pool_slots.specs.Queues.{QueueState, QueuedMemory, with_memory}
+use Rattle.pool_slots.specs.SlotQueues.{Queue, Queued, with_slot}
 use Rattle.pool_slots.specs.declared.queued_range.QueuedRange.{QueuedRange}
 use Rattle.pool_slots.specs.declared.queued_range.QueueKind.TheVariants as queued
 use Rattle.pool_slots.specs.declared.errors.AllocError.{AllocError}
 use Rattle.pool_slots.specs.declared.errors.AllocError.TheVariants as refusal
+use Rattle.pool_hall.specs.declared.unit_name.SlotKind.TheVariants.{Memory as memory_kind}
+use Rattle.pool_alloc.specs.declared.frame.TakenSlot.{TakenSlot}
 use Rattle.pool_alloc.specs.declared.pool_core.Settings.{Settings}
 
 -- the image slot that is made of a region that was never used
@@ -32,12 +34,14 @@ image_made page static_size region = record {
 }
 
 -- the slot of a memory that has ended, once it was reset so that as many of its bytes as are wanted stay resident
-abbrev pub slot_ended : ℕ → ℕ → Slot → QueuedMemory
-slot_ended keep index slot = record {
-  index = index;
+abbrev pub slot_ended : ℕ → TakenSlot → Slot → Queued
+slot_ended keep at slot = record {
+  name = record { kind = memory_kind; slot = at.slot };
   slot = reset_slot slot.region.behaviour keep slot;
   known = true;
   bytes = kept_bytes slot.region.behaviour keep slot.accessible.bytes;
+  by_hand = None;
+  numbers = at.numbers;
 }
 
 -- what is to be decommitted of it then
@@ -45,8 +49,8 @@ abbrev pub reset_listed : ℕ → ℕ → Slot → List QueuedRange
 reset_listed keep index slot = map (λ r. record { kind = queued.Memory; slot = record { 0 = index }; range = r }) (left_ranges slot.region.behaviour keep slot.accessible.bytes)
 
 -- the local queue with these ranges and that slot
-abbrev pub reset_into : ℕ → ℕ → Slot → QueueState → QueueState
-reset_into keep index slot q = with_memory (slot_ended keep index slot) (record q { ranges = q.ranges ++ reset_listed keep index slot })
+abbrev pub reset_into : ℕ → TakenSlot → Slot → Queue → Queue
+reset_into keep at slot q = with_slot (slot_ended keep at slot) (record q { ranges = q.ranges ++ reset_listed keep at.slot slot })
 
 -- why a memory isn't made, as the refusal of an allocation
 abbrev pub refusal_of : MemoryError → AllocError

@@ -2,8 +2,11 @@
 use Rattle.std.specs.Prelude.{ℕ, ◌+◌, ◌==◌, List, [], ◌∷◌, length, sum_by, Option, is_some, nat_lt, if◌then◌else◌}
 use Rattle.pool_index.specs.Shard.{ShardState, one_if}
 use Rattle.pool_index.specs.declared.ids.MemoryInModule.{MemoryInModule}
-use Rattle.pool_slots.specs.Cells.{Cell, is_taken}
-use Rattle.pool_slots.specs.Queues.{QueuedMemory}
+use Rattle.pool_slots.specs.Cells.{is_taken}
+use Rattle.pool_slots.specs.RegionCells.{CellState}
+use Rattle.pool_slots.specs.declared.part.PoolPart.{PoolPart}
+use Rattle.pool_slots.specs.declared.part.PoolPart.TheVariants as part
+use Rattle.pool_slots.specs.SlotQueues.{Queued}
 use Rattle.pool_alloc.specs.Leases.{Lease}
 use Rattle.pool_alloc.specs.declared.pool_core.PoolCore.{PoolCore}
 use Rattle.pool_alloc.specs.declared.frame.Frame.{Frame}
@@ -36,14 +39,13 @@ unused_count t first step (u ∷ uses) = (if is_some u then 0 else slot_count t 
 abbrev pub free_count : Thing → ShardState → ℕ
 free_count t s = unused_count t s.first s.step s.used
 
--- cells have the regions that nobody took: the first of these is slot i's
-abbrev pub cells_count : Thing → ℕ → List Cell → ℕ
-cells_count t i [] = 0
-cells_count t i (cell ∷ cells) = (if is_taken cell then 0 else region_count t i) + cells_count t (i + 1) cells
+-- a cell has its region where nobody took it
+abbrev pub cell_count : Thing → CellState → ℕ
+cell_count t cell = if is_taken cell.holds then 0 else region_count t cell.name.slot
 
 -- a queue has its slots with their regions
-abbrev pub queued_count : Thing → List QueuedMemory → ℕ
-queued_count t memories = sum_by (λ m. both_count t m.index) memories
+abbrev pub queued_count : Thing → List Queued → ℕ
+queued_count t slots = sum_by (λ m. both_count t m.name.slot) slots
 
 -- and so has a list of leases
 abbrev pub leased_count : Thing → List Lease → ℕ
@@ -58,18 +60,24 @@ made_count (right_to k) total = one_if (nat_lt k total)
 made_count (region_of k) total = one_if (nat_lt k total)
 
 module _ {P : Type 0} where
-  -- what the parts of the pool have
+  -- what a part has, and all parts of the pool together
+  abbrev pub part_count : Thing → PoolPart P → ℕ
+  part_count t (part.Shard s) = free_count t s
+  part_count t (part.Memory cell) = cell_count t cell
+  part_count t (part.Queue q) = queued_count t q.slots
+  part_count t _ = 0
+
   abbrev pub kept_count : Thing → PoolCore P → ℕ
-  kept_count t c = sum_by (free_count t) c.shards + cells_count t 0 c.cells + sum_by (λ q. queued_count t q.memories) c.queues
+  kept_count t c = sum_by (part_count t) c.parts
 
   -- what a call has taken for its next step
   abbrev pub phase_count : Thing → Phase P → ℕ
   phase_count t (TakeRegion slot) = slot_count t slot
-  phase_count t (Empty slot held) = both_count t slot
-  phase_count t (Instantiate slot held) = both_count t slot
-  phase_count t (MakeMemory slot held) = both_count t slot
+  phase_count t (Empty at held) = both_count t at.slot
+  phase_count t (Instantiate at held) = both_count t at.slot
+  phase_count t (MakeMemory at held) = both_count t at.slot
   phase_count t (CountMemory lease) = both_count t lease.index
-  phase_count t (PutUnknown slot held) = both_count t slot
+  phase_count t (PutUnknown at held) = both_count t at.slot
   phase_count t (FreeUnknown slot) = slot_count t slot
   phase_count t (UncountMemory lease) = both_count t lease.index
   phase_count t (Reset lease) = both_count t lease.index
@@ -77,7 +85,7 @@ module _ {P : Type 0} where
 
   -- what a party's call has
   abbrev pub frame_count : Thing → Frame P → ℕ
-  frame_count t f = leased_count t f.objects.items + queued_count t f.local.memories + freed_count t f.freed.items + phase_count t f.phase
+  frame_count t f = leased_count t f.objects.items + queued_count t f.local.slots + freed_count t f.freed.items + phase_count t f.phase
 
   -- how many instances a call has counted, and how many memories
   abbrev pub phase_instances : Phase P → ℕ

@@ -1,19 +1,19 @@
 -- Ranges of one slot that lie together in a queue.
 use Rattle.std.specs.Prelude.{ℕ, ◌+◌, ◌≤◌, List, [], ◌∷◌, length, if◌then◌else◌}
-use Rattle.pool_slots.specs.Queues.{QueueState, is_of}
-use Rattle.pool_slots.specs.declared.queued_range.QueueKind.{QueueKind}
+use Rattle.pool_slots.specs.SlotQueues.{Queue, is_of, owner}
+use Rattle.pool_slots.specs.declared.slot_name.SlotName.{SlotName}
 use Rattle.pool_slots.specs.declared.queued_range.QueuedRange.{QueuedRange}
 
 -- How many runs of ranges of one slot there are in a list, where a range of this slot stands before it. A flush decommits
 -- a run with each step.
-abbrev pub runs_after : QueueKind → ℕ → List QueuedRange → ℕ
-runs_after kind slot [] = 0
-runs_after kind slot (r ∷ rs) = (if is_of kind slot r then 0 else 1) + runs_after r.kind r.slot.0 rs
+abbrev pub runs_after : SlotName → List QueuedRange → ℕ
+runs_after name [] = 0
+runs_after name (r ∷ rs) = (if is_of name r then 0 else 1) + runs_after (owner r) rs
 
 abbrev pub runs : List QueuedRange → ℕ
 runs [] = 0
-runs (r ∷ rs) = 1 + runs_after r.kind r.slot.0 rs
+runs (r ∷ rs) = 1 + runs_after (owner r) rs
 
 -- the ranges of each slot lie together, so there are no more runs than slots
-abbrev pub IsGrouped : QueueState → Type 0
-IsGrouped q = runs q.ranges ≤ length q.memories
+abbrev pub IsGrouped : Queue → Type 0
+IsGrouped q = runs q.ranges ≤ length q.slots

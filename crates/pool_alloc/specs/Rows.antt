@@ -2,7 +2,7 @@
 -- with which turn it ends.
 use Rattle.std.specs.Prelude.{ℕ, ◌+◌, ◌-◌, ◌%◌, ◌^◌, ◌==◌, ◌||◌, List, [], ◌∷◌, length, Bool, true, false, nat_lt, nat_le, if◌then◌else◌, Option, Some, None, Result, Ok, Err}
 use Rattle.pool_pages.specs.declared.unsupported.Unsupported.{Unsupported}
-use Rattle.pool_images.specs.Slots.{Slot}
+use Rattle.pool_images.specs.Slots.{Slot, forgotten}
 use Rattle.pool_index.specs.Shard.{ShardState, pick_answer, after_pick, after_free, slot_number}
 use Rattle.pool_index.specs.declared.ids.SlotId.{SlotId}
 use Rattle.pool_limits.specs.declared.errors.LimiterError.{LimiterError}
@@ -11,12 +11,13 @@ use Rattle.pool_memory.specs.MemoryStates.{state_of}
 use Rattle.pool_memory.specs.declared.memory.Memory.{Memory}
 use Rattle.pool_memory.specs.declared.memory_error.MemoryError.{MemoryError}
 use Rattle.pool_slots.specs.Cells.{Cell, unmapped, unknown, previously_used, taken}
-use Rattle.pool_slots.specs.Queues.{QueueState, QueuedMemory, after_append, after_take, taken_into, drained}
+use Rattle.pool_slots.specs.RegionCells.{CellState, cell_numbers, cell_emptied, cell_filled}
+use Rattle.pool_slots.specs.SlotQueues.{Queue, Queued, after_append, after_take, taken_into, drained}
 use Rattle.pool_slots.specs.declared.errors.AllocError.{AllocError}
 use Rattle.pool_slots.specs.declared.errors.AllocError.TheVariants as refusal
 use Rattle.pool_slots.specs.declared.errors.ConcurrencyKind.TheVariants.{CoreInstances}
 use Rattle.pool_alloc.specs.Reserved.{with_item}
-use Rattle.pool_alloc.specs.Leases.{Lease}
+use Rattle.pool_alloc.specs.Leases.{Lease, slot_taken}
 use Rattle.pool_alloc.specs.Own.{image_made, reset_into, refusal_of, memory_made}
 use Rattle.pool_alloc.specs.Refusals.{memories_refused}
 use Rattle.pool_alloc.specs.Steps.{StepGiven, memories_wanted, nth_shard, nth_cell, nth_queue, shard_of, local_of, freed_of, freed_elsewhere, first_shard, after_frees, with_shard, with_cell, with_queue, counting_keys, counting_instances, counting_memories, wanted, cell_returned, shard_tried, queue_tried}
@@ -25,6 +26,7 @@ use Rattle.pool_alloc.specs.declared.pool_core.PoolCore.{PoolCore}
 use Rattle.pool_alloc.specs.declared.pool_core.Settings.{Settings}
 use Rattle.pool_alloc.specs.declared.frame.Frame.{Frame}
 use Rattle.pool_alloc.specs.declared.frame.Phase.{Phase}
+use Rattle.pool_alloc.specs.declared.frame.TakenSlot.{TakenSlot}
 use Rattle.pool_alloc.specs.declared.frame.Phase.TheVariants.{Idle, Key, Validate, CountInstance, Pick, TakeQueue, TakeRegion, Empty, Instantiate, MakeMemory, CountMemory, PutUnknown, FreeUnknown, UncountMemory, Reset, Merge, Flush, UncountInstance}
 use Rattle.pool_alloc.specs.declared.frame.Ending.{Ending}
 use Rattle.pool_alloc.specs.declared.frame.Ending.TheVariants.{Refused as refused}
@@ -37,8 +39,8 @@ pub data FlushStep : Type 0 where
   put : FlushStep
   free : FlushStep
 
-abbrev pub flush_step : QueueState → FlushStep
-flush_step local = if length local.ranges == 0 then (if length local.memories == 0 then free else put) else run
+abbrev pub flush_step : Queue → FlushStep
+flush_step local = if length local.ranges == 0 then (if length local.slots == 0 then free else put) else run
 
 -- The rows that change one part: what each leaves of the part, of the frame, and its turn.
 module _ {P : Type 0} where
@@ -67,57 +69,57 @@ module _ {P : Type 0} where
   }
 
   -- A region leaves its cell. An image slot is made of one that was never used.
-  abbrev pub region_next : Settings → ℕ → Cell → Turn P
-  region_next s slot (unmapped region) = goes (Instantiate slot (image_made s.page s.max_memory_size region))
-  region_next s slot (unknown held) = goes (Empty slot held)
-  region_next s slot (previously_used held) = goes (Instantiate slot held)
-  region_next s slot taken = goes Idle
+  abbrev pub region_next : Settings → TakenSlot → Cell → Turn P
+  region_next s at (unmapped region) = goes (Instantiate at (image_made s.page s.max_memory_size region))
+  region_next s at (unknown held) = goes (Empty at held)
+  region_next s at (previously_used held) = goes (Instantiate at held)
+  region_next s at taken = goes Idle
 
-  abbrev pub take_region_on : Settings → ℕ → Cell → Frame P → Row Cell P
-  take_region_on s slot cell f = record { part = taken; frame = f; turn = region_next s slot cell }
+  abbrev pub take_region_on : Settings → ℕ → CellState → Frame P → Row CellState P
+  take_region_on s slot cell f = record { part = cell_emptied cell; frame = f; turn = region_next s (record { slot = slot; numbers = cell_numbers cell }) cell.holds }
 
   -- A region goes back into its cell, and nothing is known of it.
-  abbrev pub put_unknown_on : ℕ → Slot → Cell → Frame P → Row Cell P
-  put_unknown_on slot held cell f = record { part = unknown held; frame = f; turn = goes (FreeUnknown slot) }
+  abbrev pub put_unknown_on : ℕ → Slot → CellState → Frame P → Row CellState P
+  put_unknown_on slot held cell f = record { part = cell_filled (unknown held) cell; frame = f; turn = goes (FreeUnknown slot) }
 
   -- A slot that was in the local queue goes back into its cell, and waits to be freed.
-  abbrev pub region_put : QueuedMemory → Frame P → Row Cell P
-  region_put m f = record {
-    part = cell_returned m;
-    frame = record f { freed = with_item (record { slot = m.index; bytes = m.bytes }) f.freed };
+  abbrev pub region_put : Queued → CellState → Frame P → Row CellState P
+  region_put m cell f = record {
+    part = cell_filled (cell_returned m) cell;
+    frame = record f { freed = with_item (record { slot = m.name.slot; bytes = m.bytes }) f.freed };
     turn = flush;
   }
 
-  abbrev pub put_region_on : QueuedMemory → List QueuedMemory → Frame P → Row Cell P
-  put_region_on m rest f = region_put m (record f { local = record f.local { memories = rest } })
+  abbrev pub put_region_on : Queued → List Queued → CellState → Frame P → Row CellState P
+  put_region_on m rest cell f = region_put m cell (record f { local = record f.local { slots = rest } })
 
   -- A queue is taken whole. It is flushed where it holds something.
-  abbrev pub take_queue_on : QueueState → Frame P → Row QueueState P
+  abbrev pub take_queue_on : Queue → Frame P → Row Queue P
   take_queue_on queue f = record {
     part = after_take queue;
     frame = record f { local = taken_into f.local queue; queues = f.queues + 1 };
-    turn = if length queue.memories == 0 then search else flush;
+    turn = if length queue.slots == 0 then search else flush;
   }
 
   -- The local queue is appended. Where there are as many ranges as a batch then, the whole queue comes into the local one
   -- and is flushed. That is no take of the queue.
-  abbrev pub merged : Bool → QueueState → Frame P → Row QueueState P
+  abbrev pub merged : Bool → Queue → Frame P → Row Queue P
   merged true whole f = record { part = drained whole; frame = record f { local = taken_into f.local whole }; turn = flush }
   merged false whole f = record { part = whole; frame = f; turn = next }
 
-  abbrev pub merge_on : Settings → QueueState → Frame P → Row QueueState P
+  abbrev pub merge_on : Settings → Queue → Frame P → Row Queue P
   merge_on s queue f =
-      let whole : QueueState = after_append queue f.local in
+      let whole : Queue = after_append queue f.local in
       merged (nat_le s.batch (length whole.ranges)) whole (record f { local = drained f.local })
 
   -- a row on one part, in the pool
   abbrev pub in_shard : ℕ → PoolCore P → Row ShardState P → Row (PoolCore P) P
   in_shard j c r = lifted (λ shard. with_shard j shard c) r
 
-  abbrev pub in_cell : ℕ → PoolCore P → Row Cell P → Row (PoolCore P) P
+  abbrev pub in_cell : ℕ → PoolCore P → Row CellState P → Row (PoolCore P) P
   in_cell slot c r = lifted (λ cell. with_cell slot cell c) r
 
-  abbrev pub in_queue : ℕ → PoolCore P → Row QueueState P → Row (PoolCore P) P
+  abbrev pub in_queue : ℕ → PoolCore P → Row Queue P → Row (PoolCore P) P
   in_queue i c r = lifted (λ queue. with_queue i queue c) r
 
 -- the refusal of an instance
@@ -160,28 +162,28 @@ module _ {P : Type 0} where
   count_instance_row c f = counted (nat_lt c.counters.core_instances c.settings.max_core_instances) c f
 
   -- A page call on the region in hand failed: it is put back, and the call fails. Else it goes on so.
-  abbrev pub paged : Bool → ℕ → Slot → Phase P → PoolCore P → Frame P → Row (PoolCore P) P
-  paged true slot held phase c f = record { part = c; frame = failing refusal.PageFault f; turn = goes (PutUnknown slot held) }
-  paged false slot held phase c f = record { part = c; frame = f; turn = goes phase }
+  abbrev pub paged : Bool → TakenSlot → Slot → Phase P → PoolCore P → Frame P → Row (PoolCore P) P
+  paged true at held phase c f = record { part = c; frame = failing refusal.PageFault f; turn = goes (PutUnknown at (forgotten held)) }
+  paged false at held phase c f = record { part = c; frame = f; turn = goes phase }
 
-  abbrev pub empty_row : Bool → Slot → ℕ → PoolCore P → Frame P → Row (PoolCore P) P
-  empty_row fault held slot c f = paged fault slot held (Instantiate slot held) c f
+  abbrev pub empty_row : Bool → Slot → TakenSlot → PoolCore P → Frame P → Row (PoolCore P) P
+  empty_row fault held at c f = paged fault at held (Instantiate at held) c f
 
-  abbrev pub instantiate_row : Bool → Slot → ℕ → PoolCore P → Frame P → Row (PoolCore P) P
-  instantiate_row fault held slot c f = paged fault slot held (MakeMemory slot held) c f
+  abbrev pub instantiate_row : Bool → Slot → TakenSlot → PoolCore P → Frame P → Row (PoolCore P) P
+  instantiate_row fault held at c f = paged fault at held (MakeMemory at held) c f
 
   -- The limiter is asked, and the memory made.
-  abbrev pub was_made : ℕ → Slot → Result MemoryState AllocError → PoolCore P → Frame P → Row (PoolCore P) P
-  was_made slot held (Ok memory) c f = record { part = c; frame = f; turn = goes (CountMemory (record { index = slot; memory = memory })) }
-  was_made slot held (Err e) c f = record { part = c; frame = failing e f; turn = goes (PutUnknown slot held) }
+  abbrev pub was_made : TakenSlot → Slot → Result MemoryState AllocError → PoolCore P → Frame P → Row (PoolCore P) P
+  was_made at held (Ok memory) c f = record { part = c; frame = f; turn = goes (CountMemory (record { index = at.slot; memory = memory; numbers = at.numbers })) }
+  was_made at held (Err e) c f = record { part = c; frame = failing e f; turn = goes (PutUnknown at (forgotten held)) }
 
   -- the same of what the code's making answers
-  abbrev pub made_by : {M L : Type 0} → ℕ → Result (Memory M L) (Slot × MemoryError) → PoolCore P → Frame P → Row (PoolCore P) P
-  made_by slot (Ok memory) c f = was_made slot (slot_of (state_of memory)) (Ok (state_of memory)) c f
-  made_by slot (Err left) c f = was_made slot left.0 (Err (refusal_of left.1)) c f
+  abbrev pub made_by : {M L : Type 0} → TakenSlot → Result (Memory M L) (Slot × MemoryError) → PoolCore P → Frame P → Row (PoolCore P) P
+  made_by at (Ok memory) c f = was_made at (slot_of (state_of memory)) (Ok (state_of memory)) c f
+  made_by at (Err left) c f = was_made at left.0 (Err (refusal_of left.1)) c f
 
-  abbrev pub make_memory_row : Result Bool LimiterError → ℕ → Slot → PoolCore P → Frame P → Row (PoolCore P) P
-  make_memory_row given slot held c f = was_made slot held (memory_made c.settings (memories_wanted f.asked) (length f.objects.items) given held) c f
+  abbrev pub make_memory_row : Result Bool LimiterError → TakenSlot → Slot → PoolCore P → Frame P → Row (PoolCore P) P
+  make_memory_row given at held c f = was_made at held (memory_made c.settings (memories_wanted f.asked) (length f.objects.items) given held) c f
 
   -- The memory is granted. The search for the next one's slot begins anew.
   abbrev pub count_memory_row : Lease → PoolCore P → Frame P → Row (PoolCore P) P
@@ -197,13 +199,13 @@ module _ {P : Type 0} where
 
   -- The memory is reset into the local queue. That is flushed where it has no range or as many as a batch, and else
   -- appended to the home queue. Where a page call of the reset failed, nothing is known of the slot.
-  abbrev pub reset_turn : ℕ → QueueState → Turn P
+  abbrev pub reset_turn : ℕ → Queue → Turn P
   reset_turn batch local = if (length local.ranges == 0) || nat_le batch (length local.ranges) then flush else goes Merge
 
   abbrev pub was_reset : Bool → Slot → Lease → PoolCore P → Frame P → Row (PoolCore P) P
-  was_reset true held lease c f = record { part = c; frame = f; turn = goes (PutUnknown lease.index held) }
+  was_reset true held lease c f = record { part = c; frame = f; turn = goes (PutUnknown (slot_taken lease) (forgotten held)) }
   was_reset false held lease c f =
-      let local : QueueState = reset_into c.settings.keep_resident.bytes lease.index (slot_of lease.memory) f.local in
+      let local : Queue = reset_into c.settings.keep_resident.bytes (slot_taken lease) (slot_of lease.memory) f.local in
       record { part = c; frame = record f { local = local }; turn = reset_turn c.settings.batch local }
 
   -- the answer that a call ends with once all is given back
@@ -215,19 +217,19 @@ module _ {P : Type 0} where
   uncount_instance_row c f = record { part = counting_instances (c.counters.core_instances - 1) c; frame = f; turn = ends (answer_of f.ending) }
 
   -- The rows of a flush. The ranges of one slot are decommitted, which leaves this queue.
-  abbrev pub decommit_row : QueueState → PoolCore P → Frame P → Row (PoolCore P) P
+  abbrev pub decommit_row : Queue → PoolCore P → Frame P → Row (PoolCore P) P
   decommit_row queue c f = record { part = c; frame = record f { local = queue }; turn = flush }
 
-  abbrev pub put_region_row : List QueuedMemory → PoolCore P → Frame P → Row (PoolCore P) P
+  abbrev pub put_region_row : List Queued → PoolCore P → Frame P → Row (PoolCore P) P
   put_region_row [] c f = record { part = c; frame = f; turn = goes Idle }
-  put_region_row (m ∷ rest) c f = in_cell m.index c (put_region_on m rest f)
+  put_region_row (m ∷ rest) c f = in_cell m.name.slot c (put_region_on m rest (nth_cell m.name.slot c) f)
 
   abbrev pub free_row : PoolCore P → Frame P → Row (PoolCore P) P
-  free_row c f = let j : ℕ = first_shard c.settings f.freed.items in in_shard j c (free_on c.settings j (nth_shard j c.shards) f)
+  free_row c f = let j : ℕ = first_shard c.settings f.freed.items in in_shard j c (free_on c.settings j (nth_shard j c) f)
 
-  abbrev pub flush_row : FlushStep → QueueState → PoolCore P → Frame P → Row (PoolCore P) P
+  abbrev pub flush_row : FlushStep → Queue → PoolCore P → Frame P → Row (PoolCore P) P
   flush_row run queue c f = decommit_row queue c f
-  flush_row put queue c f = put_region_row f.local.memories c f
+  flush_row put queue c f = put_region_row f.local.slots c f
   flush_row free queue c f = free_row c f
 
 -- The table.
@@ -237,18 +239,18 @@ module _ {P : Type 0} where
   row_of g Key c f = key_row c f
   row_of g Validate c f = validate_row g.wants c f
   row_of g CountInstance c f = count_instance_row c f
-  row_of g (Pick tried) c f = let j : ℕ = shard_tried tried c.settings f in in_shard j c (pick_on c.settings tried (nth_shard j c.shards) f)
-  row_of g TakeQueue c f = let i : ℕ = queue_tried f.queues c.settings f in in_queue i c (take_queue_on (nth_queue i c.queues) f)
-  row_of g (TakeRegion slot) c f = in_cell slot c (take_region_on c.settings slot (nth_cell slot c.cells) f)
-  row_of g (Empty slot held) c f = empty_row g.fault g.slot slot c f
-  row_of g (Instantiate slot held) c f = instantiate_row g.fault g.slot slot c f
-  row_of g (MakeMemory slot held) c f = make_memory_row g.limiter slot held c f
+  row_of g (Pick tried) c f = let j : ℕ = shard_tried tried c.settings f in in_shard j c (pick_on c.settings tried (nth_shard j c) f)
+  row_of g TakeQueue c f = let i : ℕ = queue_tried f.queues c.settings f in in_queue i c (take_queue_on (nth_queue i c) f)
+  row_of g (TakeRegion slot) c f = in_cell slot c (take_region_on c.settings slot (nth_cell slot c) f)
+  row_of g (Empty at held) c f = empty_row g.fault g.slot at c f
+  row_of g (Instantiate at held) c f = instantiate_row g.fault g.slot at c f
+  row_of g (MakeMemory at held) c f = make_memory_row g.limiter at held c f
   row_of g (CountMemory lease) c f = count_memory_row lease c f
-  row_of g (PutUnknown slot held) c f = in_cell slot c (put_unknown_on slot held (nth_cell slot c.cells) f)
-  row_of g (FreeUnknown slot) c f = let j : ℕ = shard_of c.settings slot in in_shard j c (free_unknown_on c.settings slot (nth_shard j c.shards) f)
+  row_of g (PutUnknown at held) c f = in_cell at.slot c (put_unknown_on at.slot held (nth_cell at.slot c) f)
+  row_of g (FreeUnknown slot) c f = let j : ℕ = shard_of c.settings slot in in_shard j c (free_unknown_on c.settings slot (nth_shard j c) f)
   row_of g (UncountMemory lease) c f = uncount_memory_row lease c f
   row_of g (Reset lease) c f = was_reset g.fault g.slot lease c f
-  row_of g Merge c f = let i : ℕ = queue_tried 0 c.settings f in in_queue i c (merge_on c.settings (nth_queue i c.queues) f)
+  row_of g Merge c f = let i : ℕ = queue_tried 0 c.settings f in in_queue i c (merge_on c.settings (nth_queue i c) f)
   row_of g Flush c f = flush_row (flush_step f.local) g.queue c f
   row_of g UncountInstance c f = uncount_instance_row c f
 

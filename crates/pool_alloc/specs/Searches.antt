@@ -22,10 +22,10 @@ IsSearchedBy _ known = Unit {0}
 module _ {P : Type 0} where
   -- so it is of the first n shards that are tried, and the first n queues that are taken are empty
   abbrev pub AreFull : ℕ → PoolCore P → Frame P → Type 0
-  AreFull n c f = (j : ℕ) → j < n → HasNoSlot (nth_shard (shard_tried j c.settings f) c.shards)
+  AreFull n c f = (j : ℕ) → j < n → HasNoSlot (nth_shard (shard_tried j c.settings f) c)
 
   abbrev pub AreEmpty : ℕ → PoolCore P → Frame P → Type 0
-  AreEmpty n c f = (j : ℕ) → j < n → (nth_queue (queue_tried j c.settings f) c.queues).memories ≡ []
+  AreEmpty n c f = (j : ℕ) → j < n → (nth_queue (queue_tried j c.settings f) c).slots ≡ []
 
   -- Where the next shard is tried, those tried before are full, and the queues that were taken before are empty.
   abbrev pub IsSearchedAt : Phase P → PoolCore P → Frame P → Type 0

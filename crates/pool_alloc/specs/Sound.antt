@@ -1,5 +1,5 @@
 -- What holds of the pool's parts, and of a party's frame, between steps.
-use Rattle.std.specs.Prelude.{◌≡◌, ℕ, ◌+◌, ◌*◌, ◌%◌, ◌^◌, ◌<◌, ◌≤◌, List, [], length, slice_get, slice_index_or, All, false, Option, None, IsSome, IfSome}
+use Rattle.std.specs.Prelude.{◌≡◌, ℕ, ◌+◌, ◌-◌, ◌*◌, ◌%◌, ◌^◌, ◌<◌, ◌≤◌, List, [], length, slice_get, slice_index_or, All, false, Option, None, IsSome, IfSome}
 use Rattle.pool_pages.specs.Count.{IsPageSize}
 use Rattle.pool_pages.specs.MakerTold.{MakerTold}
 use Rattle.pool_pages.specs.MemoryTypes.{minimum_byte_size, refused_limits}
@@ -8,11 +8,16 @@ use Rattle.pool_pages.specs.declared.pages.DecommitBehavior.{DecommitBehavior}
 use Rattle.pool_images.specs.Images.{Image}
 use Rattle.pool_images.specs.Slots.{Slot, IsClean, IsBegun, FitsInto}
 use Rattle.pool_index.specs.Shard.{IsShard, ShardState, slot_number}
+use Rattle.pool_hall.specs.declared.unit_name.SlotKind.TheVariants.{Memory as memory_kind}
 use Rattle.pool_memory.specs.Memories.{MemoryState, slot_of as image_slot_of}
 use Rattle.pool_memory.specs.Making.{maximum_asked}
 use Rattle.pool_memory.specs.Static.{CanHold, static_capacity}
 use Rattle.pool_slots.specs.Cells.{Cell, IsCell, IsSlotOf, region_made}
-use Rattle.pool_slots.specs.Queues.{QueueState, QueuedMemory, HasOwners, IsQueue}
+use Rattle.pool_slots.specs.RegionCells.{CellState}
+use Rattle.pool_slots.specs.Parts.{part_at}
+use Rattle.pool_slots.specs.declared.part.PoolPart.{PoolPart}
+use Rattle.pool_slots.specs.declared.part.PoolPart.TheVariants as part
+use Rattle.pool_slots.specs.SlotQueues.{Queue, Queued, HasOwners, IsQueue}
 use Rattle.pool_alloc.specs.Reserved.{Reserved}
 use Rattle.pool_alloc.specs.Leases.{Lease, IsUsable}
 use Rattle.pool_alloc.specs.Modules.{HasImages, IfAllocated}
@@ -25,7 +30,7 @@ use Rattle.pool_alloc.specs.declared.pool_core.Settings.{Settings}
 use Rattle.pool_alloc.specs.declared.frame.Ending.{Ending}
 use Rattle.pool_alloc.specs.declared.frame.Ending.TheVariants.{Granted as granted, Returned as returned, Refused as refused}
 use Rattle.pool_alloc.specs.declared.frame.Frame.{Frame}
-use Rattle.pool_alloc.specs.declared.frame.ModuleCall.{ModuleCall}
+use Rattle.pool_alloc.specs.Asked.{ModuleAsked}
 use Rattle.pool_alloc.specs.declared.frame.FreedSlot.{FreedSlot}
 use Rattle.pool_alloc.specs.declared.frame.Phase.{Phase}
 use Rattle.pool_alloc.specs.declared.frame.Phase.TheVariants.{Idle, Key, Validate, CountInstance, Pick, TakeQueue, TakeRegion, Empty, Instantiate, MakeMemory, CountMemory, PutUnknown, FreeUnknown, UncountMemory, Reset, Merge, Flush, UncountInstance}
@@ -45,48 +50,55 @@ pub record IsSettings (s : Settings) : Type 0 where
   pub memories : s.max_memories_per_module < 2 ^ 32
 
 -- each slot of the pool has a place in one shard, and each place of a shard is a slot of the pool
-pub record IsLaidOut (s : Settings) (total : ℕ) (shards : List ShardState) : Type 0 where
-  pub some : 0 < length shards
-  pub inside : (slot : ℕ) → slot < total → (shard_of s slot < length shards) × ((local_of s slot).0 < (nth_shard (shard_of s slot) shards).capacity)
-  pub number : (slot : ℕ) → slot < total → slot_number (nth_shard (shard_of s slot) shards) (local_of s slot).0 ≡ slot
-  pub back : (j k : ℕ) → j < length shards → k < (nth_shard j shards).capacity → (slot_number (nth_shard j shards) k < total) × (shard_of s (slot_number (nth_shard j shards) k) ≡ j) × ((local_of s (slot_number (nth_shard j shards) k)).0 ≡ k)
+pub record IsLaidOut (s : Settings) (shard : ℕ → ShardState) : Type 0 where
+  pub inside : (slot : ℕ) → slot < s.slots → (shard_of s slot < s.shards) × ((local_of s slot).0 < (shard (shard_of s slot)).capacity)
+  pub number : (slot : ℕ) → slot < s.slots → slot_number (shard (shard_of s slot)) (local_of s slot).0 ≡ slot
+  pub back : (j k : ℕ) → j < s.shards → k < (shard j).capacity → (slot_number (shard j) k < s.slots) × (shard_of s (slot_number (shard j) k) ≡ j) × ((local_of s (slot_number (shard j) k)).0 ≡ k)
 
 -- the image slot of memory slot i of the pool: the one that was made of its region, without a colour
 abbrev pub IsPoolSlot : MakerTold → DecommitBehavior → ℕ → ℕ → Slot → Type 0
 IsPoolSlot maker behaviour static_size i slot = IsSlotOf (region_made maker behaviour static_size i) None static_size slot
 
--- and what its cell may hold
-abbrev pub IsPoolCell : MakerTold → DecommitBehavior → ℕ → ℕ → Cell → Type 0
-IsPoolCell maker behaviour static_size i cell = IsCell (region_made maker behaviour static_size i) None static_size cell
+-- what its cell may hold, and its cell
+abbrev pub IsInPoolCell : MakerTold → DecommitBehavior → ℕ → ℕ → Cell → Type 0
+IsInPoolCell maker behaviour static_size i held = IsCell (region_made maker behaviour static_size i) None static_size held
+
+pub record IsPoolCell (maker : MakerTold) (behaviour : DecommitBehavior) (static_size i : ℕ) (cell : CellState) : Type 0 where
+  pub name : cell.name ≡ record { kind = memory_kind; slot = i }
+  pub holds : IsInPoolCell maker behaviour static_size i cell.holds
 
 -- a slot in a queue is that of a region of the pool
-pub record IsQueuedOf (maker : MakerTold) (behaviour : DecommitBehavior) (static_size : ℕ) (m : QueuedMemory) : Type 0 where
-  pub slot : IsPoolSlot maker behaviour static_size m.index m.slot
+pub record IsQueuedOf (maker : MakerTold) (behaviour : DecommitBehavior) (static_size : ℕ) (m : Queued) : Type 0 where
+  pub kind : m.name.kind ≡ memory_kind
+  pub slot : IsPoolSlot maker behaviour static_size m.name.slot m.slot
 
 -- A shared queue has fewer ranges than a batch, no more slots than ranges, and room for twice the batch. The ranges of each
 -- slot lie together.
-pub record IsShared (maker : MakerTold) (s : Settings) (q : QueueState) : Type 0 where
+pub record IsShared (maker : MakerTold) (s : Settings) (q : Queue) : Type 0 where
   pub owners : HasOwners q
   pub short : length q.ranges + 1 ≤ s.batch
-  pub slots : length q.memories ≤ length q.ranges
+  pub slots : length q.slots ≤ length q.ranges
   pub range_room : q.range_room ≡ 2 * s.batch
   pub slot_room : q.slot_room ≡ 2 * s.batch
-  pub regions : All (IsQueuedOf maker s.behaviour s.max_memory_size) q.memories
+  pub regions : All (IsQueuedOf maker s.behaviour s.max_memory_size) q.slots
   pub queue : IsQueue q
   pub grouped : IsGrouped q
+
+-- The part at a place is what the place is for: shards first, then the cells of the slots, then the queues.
+abbrev pub IsPartAt : {P : Type 0} → MakerTold → Settings → ℕ → PoolPart P → Type 0
+IsPartAt maker s p (part.Shard shard) = (p < s.shards) × IsShard shard
+IsPartAt maker s p (part.Memory cell) = (s.shards ≤ p) × (p < s.shards + s.slots) × IsPoolCell maker s.behaviour s.max_memory_size (p - s.shards) cell
+IsPartAt maker s p (part.Queue queue) = (s.shards + s.slots ≤ p) × IsShared maker s queue
+IsPartAt maker s p _ = ⊥
 
 -- what holds of the pool's parts between steps, whatever parties do
 pub record IsCore {P : Type 0} (maker : MakerTold) (c : PoolCore P) : Type 0 where
   pub settings : IsSettings c.settings
   pub page : c.settings.page ≡ maker.page
-  pub shards : (j : ℕ) → j < length c.shards → IsShard (nth_shard j c.shards)
-  pub layout : IsLaidOut c.settings (length c.cells) c.shards
-  pub shards_made : length c.shards ≡ c.settings.shards
-  pub cells_made : length c.cells ≡ c.settings.slots
-  pub queues_made : length c.queues ≡ c.settings.queues
-  pub small : length c.cells < 2 ^ 32
-  pub cells : (i : ℕ) → i < length c.cells → IsPoolCell maker c.settings.behaviour c.settings.max_memory_size i (nth_cell i c.cells)
-  pub queues : (i : ℕ) → i < length c.queues → IsShared maker c.settings (nth_queue i c.queues)
+  pub number : length c.parts ≡ c.settings.shards + (c.settings.slots + c.settings.queues)
+  pub parts : (p : ℕ) → p < length c.parts → IsPartAt maker c.settings p (part_at p c.parts)
+  pub layout : IsLaidOut c.settings (λ j. nth_shard j c)
+  pub small : c.settings.slots < 2 ^ 32
 
 -- a lease of the pool: its memory lies in the region of its slot
 pub record IsLeaseOf (maker : MakerTold) (s : Settings) (l : Lease) : Type 0 where
@@ -95,11 +107,11 @@ pub record IsLeaseOf (maker : MakerTold) (s : Settings) (l : Lease) : Type 0 whe
   pub memory : IsUsable l.memory
 
 -- the slots that a party has on their way back
-pub record IsLocal (maker : MakerTold) (s : Settings) (q : QueueState) : Type 0 where
+pub record IsLocal (maker : MakerTold) (s : Settings) (q : Queue) : Type 0 where
   pub owners : HasOwners q
   pub range_room : q.range_room ≡ 2 * s.batch
   pub slot_room : q.slot_room ≡ 2 * s.batch
-  pub regions : All (IsQueuedOf maker s.behaviour s.max_memory_size) q.memories
+  pub regions : All (IsQueuedOf maker s.behaviour s.max_memory_size) q.slots
   pub queue : IsQueue q
   pub grouped : IsGrouped q
 
@@ -142,24 +154,24 @@ pub record IsNew (room : ℕ) (image : Option Image) (m : MemoryState) (decl : M
   pub made : IsMadeOf room m decl
 
 -- nothing is queued or waits to be freed
-pub record NothingWaits (local : QueueState) (freed : Reserved FreedSlot) : Type 0 where
+pub record NothingWaits (local : Queue) (freed : Reserved FreedSlot) : Type 0 where
   pub no_ranges : local.ranges ≡ []
-  pub no_slots : local.memories ≡ []
+  pub no_slots : local.slots ≡ []
   pub none_freed : freed.items ≡ []
 
 -- nor is anything granted or given back
-pub record NothingHeld (local : QueueState) (freed : Reserved FreedSlot) (objects : Reserved Lease) : Type 0 where
+pub record NothingHeld (local : Queue) (freed : Reserved FreedSlot) (objects : Reserved Lease) : Type 0 where
   pub settled : NothingWaits local freed
   pub no_objects : objects.items ≡ []
 
 -- the memories that were granted so far begin as asked
-abbrev pub AreBegun : Settings → Option ModuleCall → List Lease → Type 0
+abbrev pub AreBegun : Settings → Option ModuleAsked → List Lease → Type 0
 AreBegun s asked leases =
     (k : ℕ) → IfSome (slice_get leases k) (λ lease. IfSome (slice_get (memories_wanted asked) k) (IsNew s.max_memory_size (slice_index_or (images_wanted asked) k None) lease.memory))
 
 -- A call that is to be granted an instance: its module is supported, what it was granted so far begins as asked, and it
 -- has taken no more queues than there are.
-pub record IsToGrant (s : Settings) (asked : Option ModuleCall) (queues : ℕ) (objects : Reserved Lease) : Type 0 where
+pub record IsToGrant (s : Settings) (asked : Option ModuleAsked) (queues : ℕ) (objects : Reserved Lease) : Type 0 where
   pub supported : AreSupported s (memories_wanted asked) (images_wanted asked)
   pub images : HasImages asked
   pub room : objects.room ≡ length (memories_wanted asked)
@@ -168,20 +180,20 @@ pub record IsToGrant (s : Settings) (asked : Option ModuleCall) (queues : ℕ) (
   pub taken : queues ≤ s.queues
 
 -- a request is to be granted, and there is a next memory
-pub record GrantsMore (s : Settings) (aim : Ending) (asked : Option ModuleCall) (queues : ℕ) (objects : Reserved Lease) : Type 0 where
+pub record GrantsMore (s : Settings) (aim : Ending) (asked : Option ModuleAsked) (queues : ℕ) (objects : Reserved Lease) : Type 0 where
   pub ending : aim ≡ granted
   pub to_grant : IsToGrant s asked queues objects
   pub more : length objects.items < length (memories_wanted asked)
 
 -- a request as it begins, and once its module was tested
-pub record IsRequest (aim : Ending) (asked : Option ModuleCall) (queues : ℕ) : Type 0 where
+pub record IsRequest (aim : Ending) (asked : Option ModuleAsked) (queues : ℕ) : Type 0 where
   pub ending : aim ≡ granted
   pub none_taken : queues ≡ 0
   pub asked_for : IsSome asked
   pub images : HasImages asked
 
 -- by its ending, what a call has beside its next step
-abbrev pub Aims : Settings → Ending → Option ModuleCall → ℕ → Reserved Lease → Type 0
+abbrev pub Aims : Settings → Ending → Option ModuleAsked → ℕ → Reserved Lease → Type 0
 Aims s granted asked queues objects = IsToGrant s asked queues objects
 Aims s returned asked queues objects = Unit {0}
 Aims s (refused e) asked queues objects = Unit {0}
@@ -205,7 +217,7 @@ module _ {P : Type 0} where
 
   -- the freed slots and those still queued have room
   abbrev pub HasFreedRoom : Settings → Frame P → Type 0
-  HasFreedRoom s f = (f.freed.room ≡ 2 * s.batch) × (length f.freed.items + length f.local.memories ≤ 2 * s.batch)
+  HasFreedRoom s f = (f.freed.room ≡ 2 * s.batch) × (length f.freed.items + length f.local.slots ≤ 2 * s.batch)
 
   abbrev pub IsRequested : Frame P → Type 0
   IsRequested f = IsRequest f.ending f.asked f.queues
@@ -219,15 +231,15 @@ module _ {P : Type 0} where
   IsShapedAt maker s (Pick tried) f = HasNoneWaiting f × IsAllocating s f × (tried < s.shards)
   IsShapedAt maker s TakeQueue f = HasNoneWaiting f × IsAllocating s f × (f.queues < s.queues)
   IsShapedAt maker s (TakeRegion slot) f = HasNoneWaiting f × IsAllocating s f × (slot < s.slots)
-  IsShapedAt maker s (Empty slot held) f = HasNoneWaiting f × IsAllocating s f × HasSlot maker s slot held
-  IsShapedAt maker s (Instantiate slot held) f = HasNoneWaiting f × IsAllocating s f × HasSlot maker s slot held × IsClean held
-  IsShapedAt maker s (MakeMemory slot held) f = HasNoneWaiting f × IsAllocating s f × HasSlot maker s slot held × IfAllocated f (HasBegun (image_wanted f) held)
+  IsShapedAt maker s (Empty at held) f = HasNoneWaiting f × IsAllocating s f × HasSlot maker s at.slot held
+  IsShapedAt maker s (Instantiate at held) f = HasNoneWaiting f × IsAllocating s f × HasSlot maker s at.slot held × IsClean held
+  IsShapedAt maker s (MakeMemory at held) f = HasNoneWaiting f × IsAllocating s f × HasSlot maker s at.slot held × IfAllocated f (HasBegun (image_wanted f) held)
   IsShapedAt maker s (CountMemory lease) f = HasNoneWaiting f × IsAllocating s f × IsLeaseOf maker s lease × IfAllocated f (IsNew s.max_memory_size (image_wanted f) lease.memory)
-  IsShapedAt maker s (PutUnknown slot held) f = HasNoneWaiting f × IsReturning f × HasSlot maker s slot held
+  IsShapedAt maker s (PutUnknown at held) f = HasNoneWaiting f × IsReturning f × HasSlot maker s at.slot held
   IsShapedAt maker s (FreeUnknown slot) f = HasNoneWaiting f × IsReturning f × (slot < s.slots)
   IsShapedAt maker s (UncountMemory lease) f = HasNoneWaiting f × IsReturning f × IsLeaseOf maker s lease
   IsShapedAt maker s (Reset lease) f = HasNoneWaiting f × IsReturning f × IsLeaseOf maker s lease
-  IsShapedAt maker s Merge f = IsReturning f × (f.freed.items ≡ []) × (length f.local.memories ≡ 1) × (0 < length f.local.ranges) × (length f.local.ranges + 1 ≤ s.batch)
+  IsShapedAt maker s Merge f = IsReturning f × (f.freed.items ≡ []) × (length f.local.slots ≡ 1) × (0 < length f.local.ranges) × (length f.local.ranges + 1 ≤ s.batch)
   IsShapedAt maker s Flush f = IsAiming s f × (is_flushed f ≡ false)
   IsShapedAt maker s UncountInstance f = IsAtRest f × IsReturning f
 
@@ -243,7 +255,7 @@ module _ {P : Type 0} where
   -- What the frame has fits what the pool has: nothing is in both, the region of each slot that the pool or the frame
   -- has is with one of them too, and what the frame has counted is counted.
   pub record FitsCore (c : PoolCore P) (f : Frame P) : Type 0 where
-    pub once : (t : Thing) → kept_count t c + frame_count t f ≤ made_count t (length c.cells)
+    pub once : (t : Thing) → kept_count t c + frame_count t f ≤ made_count t c.settings.slots
     pub home : (i : ℕ) → 0 < kept_count (right_to i) c + frame_count (right_to i) f → 0 < kept_count (region_of i) c + frame_count (region_of i) f
     pub instances : phase_instances f.phase ≤ c.counters.core_instances
     pub memories : frame_memories f ≤ c.counters.memories

@@ -110,15 +110,15 @@ module _ {P : Type 0} where
   Follows old new c f (admitted n) (admitted m) = (m ≡ n) ⊎ ((m ≡ n + 1) × (memory : MemoryState) × Makes old new c f n (Ok memory))
   Follows old new c f _ _ = ⊥
 
-  -- How a step may take a call on from one stage to another, with this answer. A grant is of all memories that are asked
-  -- for, which are supported.
+  -- How a step may take a call on from one stage to another, with this answer. Only the test of its module ends a request
+  -- at once with a refusal. A grant is of all memories that are asked for, which are supported.
   abbrev pub Goes : MakerTold → LimiterTold → LimiterTold → PoolCore P → Frame P → Stage → Stage → Option (Outcome P) → Type 0
   Goes maker old new c f no_call no_call None = Unit {0}
   Goes maker old new c f keys no_call (Some answer.Key) = Unit {0}
   Goes maker old new c f (asks p) (asks q) None = Follows old new c f p q
   Goes maker old new c f (asks p) (refusing e) None = Raises maker old new c f p e
-  Goes maker old new c f (asks p) no_call (Some (answer.Refused e)) = Raises maker old new c f p e
   Goes maker old new c f (asks p) no_call (Some (answer.Granted grant)) = Follows old new c f p (admitted (length (memories_wanted f.asked))) × AreSupported c.settings (memories_wanted f.asked) (images_wanted f.asked)
+  Goes maker old new c f (asks untested) no_call (Some (answer.Refused e)) = Raises maker old new c f untested e
   Goes maker old new c f returning returning None = Unit {0}
   Goes maker old new c f returning no_call (Some answer.Returned) = Unit {0}
   Goes maker old new c f (refusing e) (refusing d) None = d ≡ e

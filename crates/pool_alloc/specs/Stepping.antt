@@ -5,8 +5,8 @@ use Rattle.pool_limits.specs.Exchanges.{Exchange}
 use Rattle.pool_limits.specs.LimiterTold.{LimiterTold}
 use Rattle.pool_alloc.specs.Steps.{StepGiven, with_shard, with_cell, with_queue, counting_keys, counting_instances, counting_memories}
 use Rattle.pool_index.specs.Shard.{ShardState}
-use Rattle.pool_slots.specs.Cells.{Cell}
-use Rattle.pool_slots.specs.Queues.{QueueState}
+use Rattle.pool_slots.specs.RegionCells.{CellState}
+use Rattle.pool_slots.specs.SlotQueues.{Queue}
 use Rattle.pool_alloc.specs.Turns.{After}
 use Rattle.pool_alloc.specs.Rows.{row}
 use Rattle.pool_alloc.specs.Answers.{MayBeTold, IsPlanned, AsksOf, LimiterHears}
@@ -62,22 +62,19 @@ module _ {P : Type 0} where
     pub instances : a.core.counters.core_instances + phase_instances f.phase ≡ c.counters.core_instances + (phase_instances a.frame.phase + count_granted grant_instances a.outcome)
     pub memories : a.core.counters.memories + frame_memories f ≡ c.counters.memories + (frame_memories a.frame + count_granted grant_memories a.outcome)
 
-  -- What no step changes: the settings, and how many slots, shards and queues there are.
+  -- What no step changes: the settings, and so how many slots, shards and queues there are.
   pub record IsSameSize (old new : PoolCore P) : Type 0 where
     pub settings : new.settings ≡ old.settings
-    pub cells : length new.cells ≡ length old.cells
-    pub shards : length new.shards ≡ length old.shards
-    pub queues : length new.queues ≡ length old.queues
 
   -- A step changes one part of the pool, or none: a shard, the cell of a slot, a queue, or a counter.
   abbrev pub ChangesShard : PoolCore P → PoolCore P → Type 0
   ChangesShard old new = (j : ℕ) × (shard : ShardState) × (new ≡ with_shard j shard old)
 
   abbrev pub ChangesCell : PoolCore P → PoolCore P → Type 0
-  ChangesCell old new = (slot : ℕ) × (cell : Cell) × (new ≡ with_cell slot cell old)
+  ChangesCell old new = (slot : ℕ) × (cell : CellState) × (new ≡ with_cell slot cell old)
 
   abbrev pub ChangesQueue : PoolCore P → PoolCore P → Type 0
-  ChangesQueue old new = (i : ℕ) × (queue : QueueState) × (new ≡ with_queue i queue old)
+  ChangesQueue old new = (i : ℕ) × (queue : Queue) × (new ≡ with_queue i queue old)
 
   abbrev pub ChangesCounter : PoolCore P → PoolCore P → Type 0
   ChangesCounter old new = (n : ℕ) × ((new ≡ counting_keys n old) ⊎ ((new ≡ counting_instances n old) ⊎ (new ≡ counting_memories n old)))

@@ -1,8 +1,5 @@
 -- What the steps of a call read: what is asked for, and the parts of the pool.
 use Rattle.std.specs.Prelude.{ℕ, ◌+◌, ◌/◌, ◌%◌, ◌==◌, List, [], ◌∷◌, length, filter, min, slice_index_or, slice_set, Bool, not, Option, Some, None, Result, if◌then◌else◌}
-use Rattle.std.specs.Arc.{arc_value}
-use Rattle.std.specs.declared.sync.Arc.{Arc}
-use Rattle.std.specs.declared.alloc.Global.{Global}
 use Rattle.pool_pages.specs.declared.module_types.MemoryDecl.{MemoryDecl}
 use Rattle.pool_images.specs.Images.{Image}
 use Rattle.pool_images.specs.Slots.{Slot}
@@ -11,12 +8,16 @@ use Rattle.pool_index.specs.declared.ids.MemoryInModule.{MemoryInModule}
 use Rattle.pool_index.specs.declared.ids.SlotId.{SlotId}
 use Rattle.pool_hall.specs.declared.unit_name.SlotKind.TheVariants.{Memory as memory_kind}
 use Rattle.pool_limits.specs.declared.errors.LimiterError.{LimiterError}
-use Rattle.pool_slots.specs.Cells.{Cell, unknown, previously_used, taken}
-use Rattle.pool_slots.specs.Queues.{QueueState, QueuedMemory, empty_queue}
+use Rattle.pool_slots.specs.Cells.{Cell, unknown, previously_used}
+use Rattle.pool_slots.specs.RegionCells.{CellState}
+use Rattle.pool_slots.specs.Parts.{part_at, cell_of_part}
+use Rattle.pool_slots.specs.declared.part.PoolPart.{PoolPart}
+use Rattle.pool_slots.specs.declared.part.PoolPart.TheVariants as part
+use Rattle.pool_slots.specs.SlotQueues.{Queue, Queued, empty_queue}
 use Rattle.pool_alloc.specs.declared.pool_core.PoolCore.{PoolCore}
 use Rattle.pool_alloc.specs.declared.pool_core.Settings.{Settings}
 use Rattle.pool_alloc.specs.declared.frame.Frame.{Frame}
-use Rattle.pool_alloc.specs.declared.frame.ModuleCall.{ModuleCall}
+use Rattle.pool_alloc.specs.Asked.{ModuleAsked}
 use Rattle.pool_alloc.specs.declared.frame.FreedSlot.{FreedSlot}
 
 -- What a step is told from outside the table: whether memory was wanting, whether a page call of the step failed, what
@@ -25,31 +26,28 @@ pub record StepGiven : Type 0 where
   pub wants : Bool
   pub fault : Bool
   pub slot : Slot
-  pub queue : QueueState
+  pub queue : Queue
   pub limiter : Result Bool LimiterError
 
 -- the memories of the module that is asked for, and their images
-abbrev pub memories_wanted : Option ModuleCall → List MemoryDecl
+abbrev pub memories_wanted : Option ModuleAsked → List MemoryDecl
 memories_wanted None = []
-memories_wanted (Some m) = (arc_value m.info).memories
+memories_wanted (Some m) = m.info.memories
 
-abbrev pub images_made : Option (Arc (List (Option Image)) Global) → List (Option Image)
+abbrev pub images_made : Option (List (Option Image)) → List (Option Image)
 images_made None = []
-images_made (Some images) = arc_value images
+images_made (Some images) = images
 
-abbrev pub images_wanted : Option ModuleCall → List (Option Image)
+abbrev pub images_wanted : Option ModuleAsked → List (Option Image)
 images_wanted None = []
 images_wanted (Some m) = images_made m.images
 
--- shard j, and queue i; past the end it doesn't matter which
-abbrev pub nth_shard : ℕ → List ShardState → ShardState
-nth_shard j shards = slice_index_or shards j (fresh_shard memory_kind 0 1 0 0)
+-- the places of shard j, of the cell of a slot, and of queue i: the shards are first, then the cells, then the queues
+abbrev pub cell_place : Settings → ℕ → ℕ
+cell_place s slot = s.shards + slot
 
-abbrev pub nth_queue : ℕ → List QueueState → QueueState
-nth_queue i queues = slice_index_or queues i (empty_queue 0 0)
-
-abbrev pub nth_cell : ℕ → List Cell → Cell
-nth_cell i cells = slice_index_or cells i taken
+abbrev pub queue_place : Settings → ℕ → ℕ
+queue_place s i = s.shards + (s.slots + i)
 
 -- the shard that has a slot of the pool, and the slot's number there
 abbrev pub shard_of : Settings → ℕ → ℕ
@@ -77,24 +75,55 @@ after_frees s [] shard = shard
 after_frees s (x ∷ rest) shard = after_frees s rest (after_free (local_of s x.slot) x.bytes shard)
 
 -- which memory of the module that is asked for has this number
-abbrev pub wanted_of : Option ModuleCall → ℕ → Option MemoryInModule
+abbrev pub wanted_of : Option ModuleAsked → ℕ → Option MemoryInModule
 wanted_of None index = None
 wanted_of (Some m) index = Some (record { 0 = m.id; 1 = record { 0 = index } })
 
 -- what a region's cell holds once the memory is given back
-abbrev pub cell_returned : QueuedMemory → Cell
+abbrev pub cell_returned : Queued → Cell
 cell_returned m = if m.known then previously_used m.slot else unknown m.slot
 
 module _ {P : Type 0} where
-  -- the pool with one shard, one cell or one queue changed
+  -- the part is the cell of a memory, or a queue
+  abbrev pub IsMemoryPart : PoolPart P → Type 0
+  IsMemoryPart (part.Memory cell) = Unit {0}
+  IsMemoryPart _ = ⊥
+
+  abbrev pub IsQueuePart : PoolPart P → Type 0
+  IsQueuePart (part.Queue q) = Unit {0}
+  IsQueuePart _ = ⊥
+
+  -- the shard, and the queue, that a part is; where it is none, it doesn't matter which
+  abbrev pub shard_in : PoolPart P → ShardState
+  shard_in (part.Shard s) = s
+  shard_in _ = fresh_shard memory_kind 0 1 0 0
+
+  abbrev pub queue_in : PoolPart P → Queue
+  queue_in (part.Queue q) = q
+  queue_in _ = empty_queue 0 0
+
+  -- shard j, the cell of a slot, and queue i
+  abbrev pub nth_shard : ℕ → PoolCore P → ShardState
+  nth_shard j c = shard_in (part_at j c.parts)
+
+  abbrev pub nth_cell : ℕ → PoolCore P → CellState
+  nth_cell slot c = cell_of_part (part_at (cell_place c.settings slot) c.parts)
+
+  abbrev pub nth_queue : ℕ → PoolCore P → Queue
+  nth_queue i c = queue_in (part_at (queue_place c.settings i) c.parts)
+
+  -- the pool with one part changed: a shard, a cell or a queue
+  abbrev pub with_part : ℕ → PoolPart P → PoolCore P → PoolCore P
+  with_part place x c = record c { parts = slice_set c.parts place x }
+
   abbrev pub with_shard : ℕ → ShardState → PoolCore P → PoolCore P
-  with_shard j shard c = record c { shards = slice_set c.shards j shard }
+  with_shard j shard c = with_part j (part.Shard shard) c
 
-  abbrev pub with_cell : ℕ → Cell → PoolCore P → PoolCore P
-  with_cell slot cell c = record c { cells = slice_set c.cells slot cell }
+  abbrev pub with_cell : ℕ → CellState → PoolCore P → PoolCore P
+  with_cell slot cell c = with_part (cell_place c.settings slot) (part.Memory cell) c
 
-  abbrev pub with_queue : ℕ → QueueState → PoolCore P → PoolCore P
-  with_queue i queue c = record c { queues = slice_set c.queues i queue }
+  abbrev pub with_queue : ℕ → Queue → PoolCore P → PoolCore P
+  with_queue i queue c = with_part (queue_place c.settings i) (part.Queue queue) c
 
   -- the pool with another number of its key counter, another count of instances, or of memories
   abbrev pub counting_keys : ℕ → PoolCore P → PoolCore P

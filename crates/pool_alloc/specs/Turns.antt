@@ -66,8 +66,9 @@ module _ {P : Type 0} where
   abbrev pub goes_to : Frame P → Phase P → Left P
   goes_to f phase = record { frame = record f { phase = phase }; outcome = None }
 
+  -- a call that ends leaves nothing of itself
   abbrev pub ends_with : Frame P → Outcome P → Left P
-  ends_with f outcome = record { frame = record f { phase = Idle; asked = None }; outcome = Some outcome }
+  ends_with f outcome = record { frame = record f { phase = Idle; asked = None; ending = returned; queues = 0 }; outcome = Some outcome }
 
   -- the next of these memories is given back, or else the instance
   abbrev pub returned_next : List Lease → Frame P → Left P
@@ -88,7 +89,7 @@ module _ {P : Type 0} where
 
   -- the local queue is flushed, and its slots are free
   abbrev pub is_flushed : Frame P → Bool
-  is_flushed f = (length f.local.memories == 0) && (length f.freed.items == 0)
+  is_flushed f = (length f.local.slots == 0) && (length f.freed.items == 0)
 
   abbrev pub flush_next : Frame P → Left P
   flush_next f = if is_flushed f then next_by f.ending f else goes_to f Flush

@@ -31,14 +31,14 @@ module _ {P : Type 0} where
   -- Each thing is in one place: with the pool, or with one of those that hold something. The counters are the numbers
   -- of what they have counted.
   pub record IsPartitioned {X : Type 0} (has : X → Holding) (c : PoolCore P) (holders : List X) : Type 0 where
-    pub places : (t : Thing) → kept_count t c + sum_by (λ x. (has x).places t) holders ≡ made_count t (length c.cells)
+    pub places : (t : Thing) → kept_count t c + sum_by (λ x. (has x).places t) holders ≡ made_count t c.settings.slots
     pub instances : c.counters.core_instances ≡ sum_by (λ x. (has x).instances) holders
     pub memories : c.counters.memories ≡ sum_by (λ x. (has x).memories) holders
 
   -- No slot is used, each region is in its cell, and nothing is queued or counted, as where the pool is made.
   pub record IsUntouched (c : PoolCore P) : Type 0 where
-    pub unused : (j k : ℕ) → j < length c.shards → use_of (nth_shard j c.shards) k ≡ None
-    pub home : (i : ℕ) → i < length c.cells → is_taken (nth_cell i c.cells) ≡ false
-    pub none_queued : (i : ℕ) → i < length c.queues → (nth_queue i c.queues).memories ≡ []
+    pub unused : (j k : ℕ) → j < c.settings.shards → use_of (nth_shard j c) k ≡ None
+    pub home : (i : ℕ) → i < c.settings.slots → is_taken (nth_cell i c).holds ≡ false
+    pub none_queued : (i : ℕ) → i < c.settings.queues → (nth_queue i c).slots ≡ []
     pub instances : c.counters.core_instances ≡ 0
     pub memories : c.counters.memories ≡ 0

@@ -3,13 +3,14 @@ ghost use Rattle.pool_pages.specs.Count.{count};
 ghost use Rattle.pool_images.specs.Slots.{IsFresh};
 ghost use Rattle.pool_index.specs.Shard.{use_of};
 ghost use Rattle.pool_slots.specs.Cells.{is_taken, unmapped};
-ghost use Rattle.pool_slots.specs.Queues.{IsSpareOf};
-ghost use Rattle.pool_alloc.specs.CanStep.{CanTakeRegion, CanFreeOne};
+ghost use Rattle.pool_slots.specs.SlotQueues.{IsSpareOf};
+ghost use Rattle.pool_slots.specs.Parts.{IsAt, IsShardPart};
+ghost use Rattle.pool_alloc.specs.CanStep.{CanPlace, CanTakeRegion, CanFreeOne};
 ghost use Rattle.pool_alloc.specs.Rows.{key_row, count_instance_row, pick_on, in_shard, take_queue_on, in_queue, take_region_on, in_cell, count_memory_row, put_unknown_on, free_unknown_on};
-ghost use Rattle.pool_alloc.specs.Steps.{nth_shard, nth_cell, nth_queue, shard_of, local_of, shard_tried, queue_tried};
+ghost use Rattle.pool_alloc.specs.Steps.{IsMemoryPart, IsQueuePart, cell_place, queue_place, nth_shard, nth_cell, nth_queue, shard_of, local_of, shard_tried, queue_tried};
 ghost use Rattle.pool_alloc.specs.Turns.{After, stepped};
 
-use crate::frame::{Frame, Outcome, Phase};
+use crate::frame::{Frame, Outcome, TakenSlot};
 use crate::freeing::shard_of;
 use crate::lease::MemoryLease;
 use crate::pool_core::{PoolCore, Settings};
@@ -39,6 +40,22 @@ pub(crate) fn queue_tried<P: Pages>(settings: &Settings, frame: &Frame<P>, queue
     (frame.home as usize + queues) % settings.queues
 }
 
+// The place of a slot's cell, and that of a queue.
+pub(crate) fn cell_place(settings: &Settings, slot: u32) -> usize
+    requires { CanPlace settings.now }
+    ensures { result ≡ cell_place settings.now slot }
+{
+    settings.shards + slot as usize
+}
+
+pub(crate) fn queue_place(settings: &Settings, queue: usize) -> usize
+    requires places { CanPlace settings.now }
+    requires inside { queue < settings.now.queues }
+    ensures { result ≡ queue_place settings.now queue }
+{
+    settings.shards + (settings.slots + queue)
+}
+
 impl<P: Pages> PoolCore<P> {
     // Draws a number from the key counter: it gives the party its stripe.
     pub(crate) fn draw_key(&mut self, frame: &mut Frame<P>) -> Option<Outcome<P>>
@@ -48,9 +65,7 @@ impl<P: Pages> PoolCore<P> {
         let drawn = self.counters.key;
         self.counters.key = drawn.wrapping_add(1);
         frame.stripe = (drawn % self.settings.stripes as u64) as u32;
-        frame.phase = Phase::Idle;
-        frame.asked = None;
-        Some(Outcome::Key)
+        frame.end(Outcome::Key)
     }
 
     // Counts the instance, also where there are too many.
@@ -79,32 +94,36 @@ impl<P: Pages> PoolCore<P> {
     pub(crate) fn pick(&mut self, frame: &mut Frame<P>, tried: usize) -> Option<Outcome<P>>
         requires tried { tried < self.old.settings.shards }
         requires small { self.old.settings.shards < 2 ^ 32 }
-        requires shards { length self.old.shards ≡ self.old.settings.shards }
+        requires shard { IsAt IsShardPart (shard_tried tried self.old.settings frame.old) self.old.parts }
         requires few { length frame.old.objects.items < 2 ^ 32 }
-        ensures { ◌≡◌ {A = After P} (record { core = self.new; frame = frame.new; outcome = result }) (stepped (in_shard (shard_tried tried self.old.settings frame.old) self.old (pick_on self.old.settings tried (nth_shard (shard_tried tried self.old.settings frame.old) self.old.shards) frame.old))) }
+        ensures { ◌≡◌ {A = After P} (record { core = self.new; frame = frame.new; outcome = result }) (stepped (in_shard (shard_tried tried self.old.settings frame.old) self.old (pick_on self.old.settings tried (nth_shard (shard_tried tried self.old.settings frame.old) self.old) frame.old))) }
     {
         let place = shard_tried(&self.settings, frame, tried);
-        self.shards.pick(place, &self.settings, frame, tried)
+        self.parts.pick(place, &self.settings, frame, tried)
     }
 
     // Takes the whole next queue. It is flushed where it holds something.
     pub(crate) fn take_queue(&mut self, alloc: Global, frame: &mut Frame<P>) -> Option<Outcome<P>>
         requires taken { frame.old.queues < self.old.settings.queues }
-        requires small { self.old.settings.queues < 2 ^ 32 }
-        requires queues { length self.old.queues ≡ self.old.settings.queues }
-        requires spare { IsSpareOf (nth_queue (queue_tried frame.old.queues self.old.settings frame.old) self.old.queues) frame.old.local }
-        ensures { ◌≡◌ {A = After P} (record { core = self.new; frame = frame.new; outcome = result }) (stepped (in_queue (queue_tried frame.old.queues self.old.settings frame.old) self.old (take_queue_on (nth_queue (queue_tried frame.old.queues self.old.settings frame.old) self.old.queues) frame.old))) }
+        requires places { CanPlace self.old.settings }
+        requires queue { IsAt IsQueuePart (queue_place self.old.settings (queue_tried frame.old.queues self.old.settings frame.old)) self.old.parts }
+        requires spare { IsSpareOf (nth_queue (queue_tried frame.old.queues self.old.settings frame.old) self.old) frame.old.local }
+        ensures { ◌≡◌ {A = After P} (record { core = self.new; frame = frame.new; outcome = result }) (stepped (in_queue (queue_tried frame.old.queues self.old.settings frame.old) self.old (take_queue_on (nth_queue (queue_tried frame.old.queues self.old.settings frame.old) self.old) frame.old))) }
     {
-        let place = queue_tried(&self.settings, frame, frame.queues);
-        self.queues.take(place, &self.settings, alloc, frame)
+        let queue = queue_tried(&self.settings, frame, frame.queues);
+        let place = queue_place(&self.settings, queue);
+        self.parts.take_queue(place, &self.settings, alloc, frame)
     }
 
     // Takes the region of a slot out of its cell.
     pub(crate) fn take_region(&mut self, frame: &mut Frame<P>, slot: u32) -> Option<Outcome<P>>
-        requires { CanTakeRegion slot self.old.cells self.old.settings }
-        ensures { ◌≡◌ {A = After P} (record { core = self.new; frame = frame.new; outcome = result }) (stepped (in_cell slot self.old (take_region_on self.old.settings slot (nth_cell slot self.old.cells) frame.old))) }
+        requires places { CanPlace self.old.settings }
+        requires cell { IsAt IsMemoryPart (cell_place self.old.settings slot) self.old.parts }
+        requires can { CanTakeRegion self.old.settings (nth_cell slot self.old) }
+        ensures { ◌≡◌ {A = After P} (record { core = self.new; frame = frame.new; outcome = result }) (stepped (in_cell slot self.old (take_region_on self.old.settings slot (nth_cell slot self.old) frame.old))) }
     {
-        self.cells.take_region(slot, &self.settings, frame)
+        let place = cell_place(&self.settings, slot);
+        self.parts.take_region(place, &self.settings, frame, slot)
     }
 
     // Grants a memory. The search for the next one's slot begins anew.
@@ -128,13 +147,16 @@ impl<P: Pages> PoolCore<P> {
     pub(crate) fn put_unknown(
         &mut self,
         frame: &mut Frame<P>,
-        slot: u32,
+        at: TakenSlot,
         held: MemoryImageSlot<P>,
     ) -> Option<Outcome<P>>
-        requires { slot < length self.old.cells }
-        ensures { ◌≡◌ {A = After P} (record { core = self.new; frame = frame.new; outcome = result }) (stepped (in_cell slot self.old (put_unknown_on slot held (nth_cell slot self.old.cells) frame.old))) }
+        requires places { CanPlace self.old.settings }
+        requires cell { IsAt IsMemoryPart (cell_place self.old.settings at.slot) self.old.parts }
+        ensures { ◌≡◌ {A = After P} (record { core = self.new; frame = frame.new; outcome = result }) (stepped (in_cell at.slot self.old (put_unknown_on at.slot held (nth_cell at.slot self.old) frame.old))) }
     {
-        self.cells.put_unknown(slot, &self.settings, frame, held)
+        let place = cell_place(&self.settings, at.slot);
+        self.parts
+            .put_unknown(place, &self.settings, frame, at.slot, held)
     }
 
     // Frees a slot of which nothing is known.
@@ -144,11 +166,12 @@ impl<P: Pages> PoolCore<P> {
         frame: &mut Frame<P>,
         slot: u32,
     ) -> Option<Outcome<P>>
-        requires { CanFreeOne slot self.old.settings self.old.shards }
-        ensures { ◌≡◌ {A = After P} (record { core = self.new; frame = frame.new; outcome = result }) (stepped (in_shard (shard_of self.old.settings slot) self.old (free_unknown_on self.old.settings slot (nth_shard (shard_of self.old.settings slot) self.old.shards) frame.old))) }
+        requires shard { IsAt IsShardPart (shard_of self.old.settings slot) self.old.parts }
+        requires can { CanFreeOne slot self.old.settings (nth_shard (shard_of self.old.settings slot) self.old) }
+        ensures { ◌≡◌ {A = After P} (record { core = self.new; frame = frame.new; outcome = result }) (stepped (in_shard (shard_of self.old.settings slot) self.old (free_unknown_on self.old.settings slot (nth_shard (shard_of self.old.settings slot) self.old) frame.old))) }
     {
         let place = shard_of(&self.settings, slot);
-        self.shards
+        self.parts
             .free_unknown(place, &self.settings, alloc, frame, slot)
     }
 }

@@ -1,36 +1,40 @@
-ghost use Rattle.std.specs.Prelude.{◌≡◌, ◌<◌, length, false, List};
+ghost use Rattle.std.specs.Prelude.{◌≡◌, ◌<◌, length, true, false, List, if◌then◌else◌};
 ghost use Rattle.pool_pages.specs.Count.{count};
-ghost use Rattle.pool_images.specs.Slots.{IsFresh};
-ghost use Rattle.pool_slots.specs.Cells.{Cell, is_taken, unmapped, IsCleanOnceUsed};
+ghost use Rattle.pool_images.specs.Slots.{IsClean, IsFresh};
+ghost use Rattle.pool_slots.specs.Cells.{is_taken, unmapped, unknown, previously_used, IsCleanOnceUsed};
+ghost use Rattle.pool_slots.specs.RegionCells.{CellState};
 ghost use Rattle.pool_slots.specs.CellOf.{cell_of};
-ghost use Rattle.pool_slots.specs.Queues.{QueuedMemory, IsSettled};
+ghost use Rattle.pool_slots.specs.SlotQueues.{Queued, IsSettled};
 ghost use Rattle.pool_alloc.specs.Own.{image_made};
 ghost use Rattle.pool_alloc.specs.Rows.{take_region_on, put_unknown_on, region_put};
 ghost use Rattle.pool_alloc.specs.Steps.{cell_returned};
 ghost use Rattle.pool_alloc.specs.Turns.{PartAfter, part_after};
 
-use crate::frame::{Frame, FreedSlot, Outcome, Phase};
+use crate::frame::{Frame, FreedSlot, Outcome, Phase, TakenSlot};
 use crate::pool_core::Settings;
 use pool_images::MemoryImageSlot;
+use pool_index::SlotKind;
 use pool_pages::{PageRegion, Pages};
-use pool_slots::{ImageSlot, MemoryCell, MemoryItem};
+use pool_slots::{HeldSlot, ImageSlot, QueuedSlot, RegionCell};
 use std::alloc::Global;
 
 // Takes the region of a slot out of its cell. An image slot is made of a region that was never used.
 pub(crate) fn take_region<P: Pages>(
-    cell: &mut MemoryCell<P>,
+    cell: &mut RegionCell<P>,
     settings: &Settings,
     frame: &mut Frame<P>,
     slot: u32,
 ) -> Option<Outcome<P>>
-    requires there { is_taken cell.old ≡ false }
-    requires fresh { (region : _) → cell.old ≡ unmapped region → IsFresh (count settings.now.page 0) (count settings.now.page 0) settings.now.max_memory_size None region }
-    ensures { ◌≡◌ {A = PartAfter Cell P} (record { part = cell.new; frame = frame.new; outcome = result }) (part_after settings.now (take_region_on settings.now slot cell.old frame.old)) }
+    requires there { is_taken cell.old.holds ≡ false }
+    requires fresh { (region : _) → cell.old.holds ≡ unmapped region → IsFresh (count settings.now.page 0) (count settings.now.page 0) settings.now.max_memory_size None region }
+    ensures { ◌≡◌ {A = PartAfter CellState P} (record { part = cell.new; frame = frame.new; outcome = result }) (part_after settings.now (take_region_on settings.now slot cell.old frame.old)) }
 {
-    frame.phase = match cell.take() {
-        ImageSlot::Unmapped(region) => Phase::Instantiate(slot, image_slot_of(settings, region)),
-        ImageSlot::Unknown(held) => Phase::Empty(slot, held),
-        ImageSlot::PreviouslyUsed(held) => Phase::Instantiate(slot, held),
+    let (held, numbers) = cell.take();
+    let at = TakenSlot { slot, numbers };
+    frame.phase = match held {
+        ImageSlot::Unmapped(region) => Phase::Instantiate(at, image_slot_of(settings, region)),
+        ImageSlot::Unknown(held) => Phase::Empty(at, held),
+        ImageSlot::PreviouslyUsed(held) => Phase::Instantiate(at, held),
         ImageSlot::Taken => unreachable!(),
     };
     None
@@ -53,13 +57,13 @@ fn image_slot_of<P: Pages>(settings: &Settings, region: PageRegion<P>) -> Memory
 
 // Puts the region of a slot back. Nothing is known of it.
 pub(crate) fn put_unknown<P: Pages>(
-    cell: &mut MemoryCell<P>,
+    cell: &mut RegionCell<P>,
     settings: &Settings,
     frame: &mut Frame<P>,
     slot: u32,
     held: MemoryImageSlot<P>,
 ) -> Option<Outcome<P>>
-    ensures { ◌≡◌ {A = PartAfter Cell P} (record { part = cell.new; frame = frame.new; outcome = result }) (part_after settings.now (put_unknown_on slot held cell.old frame.old)) }
+    ensures { ◌≡◌ {A = PartAfter CellState P} (record { part = cell.new; frame = frame.new; outcome = result }) (part_after settings.now (put_unknown_on slot held cell.old frame.old)) }
 {
     let _page = settings.page;
     cell.put(ImageSlot::Unknown(held));
@@ -69,17 +73,18 @@ pub(crate) fn put_unknown<P: Pages>(
 
 // Puts the region of a slot back that was in the local queue. The slot waits to be freed then.
 pub(crate) fn put_region<P: Pages>(
-    cell: &mut MemoryCell<P>,
+    cell: &mut RegionCell<P>,
     settings: &Settings,
     alloc: Global,
     frame: &mut Frame<P>,
-    item: MemoryItem<P>,
+    item: QueuedSlot<P>,
 ) -> Option<Outcome<P>>
+    requires memory { item.name.kind ≡ SlotKind.Memory }
     requires settled { IsSettled item }
     requires room { length frame.old.freed.items < frame.old.freed.room }
-    ensures { ◌≡◌ {A = PartAfter Cell P} (record { part = cell.new; frame = frame.new; outcome = result }) (part_after settings.now (region_put item frame.old)) }
+    ensures { ◌≡◌ {A = PartAfter CellState P} (record { part = cell.new; frame = frame.new; outcome = result }) (part_after settings.now (region_put item cell.old frame.old)) }
 {
-    let slot = item.index.0;
+    let slot = item.number();
     let bytes = item.bytes;
     cell.put(cell_returned(item));
     frame.freed.push(FreedSlot { slot, bytes });
@@ -87,14 +92,27 @@ pub(crate) fn put_region<P: Pages>(
 }
 
 // What a region's cell holds once its memory is given back.
-fn cell_returned<P: Pages>(item: MemoryItem<P>) -> ImageSlot<P>
-    requires { IsSettled item }
+fn cell_returned<P: Pages>(item: QueuedSlot<P>) -> ImageSlot<P>
+    requires memory { item.name.kind ≡ SlotKind.Memory }
+    requires settled { IsSettled item }
     ensures value { cell_of result ≡ cell_returned item }
     ensures clean { IsCleanOnceUsed (cell_of result) }
 {
-    if item.known {
-        ImageSlot::PreviouslyUsed(item.slot)
+    let known = item.known;
+    match item.held {
+        HeldSlot::Memory(slot) => slot_returned(known, slot),
+        _ => unreachable!(),
+    }
+}
+
+fn slot_returned<P: Pages>(known: bool, slot: MemoryImageSlot<P>) -> ImageSlot<P>
+    requires { known ≡ true → IsClean slot }
+    ensures value { cell_of result ≡ (if known then previously_used slot else unknown slot) }
+    ensures clean { IsCleanOnceUsed (cell_of result) }
+{
+    if known {
+        ImageSlot::PreviouslyUsed(slot)
     } else {
-        ImageSlot::Unknown(item.slot)
+        ImageSlot::Unknown(slot)
     }
 }

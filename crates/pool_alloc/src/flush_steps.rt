@@ -1,29 +1,35 @@
-ghost use Rattle.std.specs.Prelude.{◌≡◌, ◌<◌, ◌≤◌, ◌^◌, length, Bool};
-ghost use Rattle.pool_slots.specs.Queues.{QueueState, HasOwners};
+ghost use Rattle.std.specs.Prelude.{◌≡◌, ◌<◌, ◌≤◌, ◌^◌, [], ◌∷◌, length, List, Bool};
+ghost use Rattle.pool_hall.specs.declared.unit_name.SlotKind.TheVariants.{Memory as memory_kind};
+ghost use Rattle.pool_slots.specs.SlotQueues.{Queue, Queued, HasOwners, IsSettled};
 ghost use Rattle.pool_alloc.specs.Answers.{FlushTold, FlushPlanned, Decommits, FollowsRun};
-ghost use Rattle.pool_alloc.specs.CanStep.{CanMerge, CanPutNext, CanFree, CanFlush};
+ghost use Rattle.pool_alloc.specs.CanStep.{CanPlace, CanPutNext, CanFree, CanFlush};
 ghost use Rattle.pool_alloc.specs.Rows.{flush_step, in_queue, merge_on, decommit_row, put_region_row, free_row, flush_row};
-ghost use Rattle.pool_alloc.specs.Steps.{StepGiven, nth_queue, queue_tried};
+ghost use Rattle.pool_slots.specs.QueueMerges.{CanMerge};
+ghost use Rattle.pool_slots.specs.Parts.{IsAt, IsShardPart};
+ghost use Rattle.pool_alloc.specs.Steps.{StepGiven, IsMemoryPart, IsQueuePart, cell_place, queue_place, nth_shard, nth_queue, first_shard, queue_tried};
 ghost use Rattle.pool_alloc.specs.Turns.{After, stepped};
 
-use crate::allocate_steps::queue_tried;
+use crate::allocate_steps::{cell_place, queue_place, queue_tried};
 use crate::frame::{Frame, Outcome};
 use crate::freeing::first_shard;
 use crate::pool_core::PoolCore;
+use pool_index::SlotKind;
 use pool_pages::Pages;
+use pool_slots::{DecommitQueue, QueuedSlot};
 use std::alloc::Global;
 
 impl<P: Pages> PoolCore<P> {
     // Appends the local queue to the home queue.
     pub(crate) fn merge(&mut self, alloc: Global, frame: &mut Frame<P>) -> Option<Outcome<P>>
         requires some { 0 < self.old.settings.queues }
-        requires small { self.old.settings.queues < 2 ^ 32 }
-        requires queues { length self.old.queues ≡ self.old.settings.queues }
-        requires can { CanMerge (nth_queue (queue_tried 0 self.old.settings frame.old) self.old.queues) frame.old.local }
-        ensures { ◌≡◌ {A = After P} (record { core = self.new; frame = frame.new; outcome = result }) (stepped (in_queue (queue_tried 0 self.old.settings frame.old) self.old (merge_on self.old.settings (nth_queue (queue_tried 0 self.old.settings frame.old) self.old.queues) frame.old))) }
+        requires places { CanPlace self.old.settings }
+        requires queue { IsAt IsQueuePart (queue_place self.old.settings (queue_tried 0 self.old.settings frame.old)) self.old.parts }
+        requires can { CanMerge (nth_queue (queue_tried 0 self.old.settings frame.old) self.old) frame.old.local }
+        ensures { ◌≡◌ {A = After P} (record { core = self.new; frame = frame.new; outcome = result }) (stepped (in_queue (queue_tried 0 self.old.settings frame.old) self.old (merge_on self.old.settings (nth_queue (queue_tried 0 self.old.settings frame.old) self.old) frame.old))) }
     {
-        let place = queue_tried(&self.settings, frame, 0);
-        self.queues.merge(place, &self.settings, alloc, frame)
+        let queue = queue_tried(&self.settings, frame, 0);
+        let place = queue_place(&self.settings, queue);
+        self.parts.merge(place, &self.settings, alloc, frame)
     }
 
     // The next part of a flush.
@@ -44,7 +50,7 @@ impl<P: Pages> PoolCore<P> {
     fn decommit(&mut self, alloc: Global, frame: &mut Frame<P>) -> Option<Outcome<P>>
         requires some { 0 < length frame.old.local.ranges }
         requires owners { HasOwners frame.old.local }
-        ensures { (fault : Bool) × (queue : QueueState) × Decommits fault frame.old.local queue × FollowsRun fault frame.old.local queue × (◌≡◌ {A = After P} (record { core = self.new; frame = frame.new; outcome = result }) (stepped (decommit_row queue self.old frame.old))) }
+        ensures { (fault : Bool) × (queue : Queue) × Decommits fault frame.old.local queue × FollowsRun fault frame.old.local queue × (◌≡◌ {A = After P} (record { core = self.new; frame = frame.new; outcome = result }) (stepped (decommit_row queue self.old frame.old))) }
     {
         let _fault = frame.local.decommit_run().is_err();
         frame.flush(alloc, &self.settings)
@@ -52,23 +58,41 @@ impl<P: Pages> PoolCore<P> {
 
     // Puts the first region of the local queue back into its cell.
     fn put_region(&mut self, alloc: Global, frame: &mut Frame<P>) -> Option<Outcome<P>>
-        requires { CanPutNext (length self.old.cells) frame.old.local frame.old.freed }
-        ensures { ◌≡◌ {A = After P} (record { core = self.new; frame = frame.new; outcome = result }) (stepped (put_region_row frame.old.local.memories self.old frame.old)) }
+        requires places { CanPlace self.old.settings }
+        requires cell { (m : Queued) (rest : List Queued) → frame.old.local.slots ≡ m ∷ rest → IsAt IsMemoryPart (cell_place self.old.settings m.name.slot) self.old.parts }
+        requires can { CanPutNext frame.old.local frame.old.freed }
+        ensures { ◌≡◌ {A = After P} (record { core = self.new; frame = frame.new; outcome = result }) (stepped (put_region_row frame.old.local.slots self.old frame.old)) }
     {
-        let Some(item) = frame.local.pop_memory() else {
-            unreachable!()
-        };
-        let slot = item.index.0;
-        self.cells
-            .put_region(slot, &self.settings, alloc, frame, item)
+        let item = pop_memory(&mut frame.local);
+        let slot = item.number();
+        let place = cell_place(&self.settings, slot);
+        self.parts
+            .put_region(place, &self.settings, alloc, frame, item)
     }
 
     // Frees the slots of the first shard that has some of them.
     fn free(&mut self, alloc: Global, frame: &mut Frame<P>) -> Option<Outcome<P>>
-        requires { CanFree self.old.settings frame.old.freed.items self.old.shards }
+        requires shard { IsAt IsShardPart (first_shard self.old.settings frame.old.freed.items) self.old.parts }
+        requires can { CanFree self.old.settings frame.old.freed.items (nth_shard (first_shard self.old.settings frame.old.freed.items) self.old) }
         ensures { ◌≡◌ {A = After P} (record { core = self.new; frame = frame.new; outcome = result }) (stepped (free_row self.old frame.old)) }
     {
         let shard = first_shard(&self.settings, &frame.freed);
-        self.shards.free(shard, &self.settings, alloc, frame)
+        self.parts.free(shard, &self.settings, alloc, frame)
+    }
+}
+
+// Takes out the first slot of a queue that has no ranges, where it is a memory's.
+#[tactic(auto, using(crate::proofs::Popped::first_popped, crate::proofs::Popped::some_popped))]
+fn pop_memory<P: Pages>(local: &mut DecommitQueue<P>) -> QueuedSlot<P>
+    requires none { local.old.ranges ≡ [] }
+    requires some { 0 < length local.old.slots }
+    requires kind { (m : Queued) (rest : List Queued) → local.old.slots ≡ m ∷ rest → m.name.kind ≡ memory_kind }
+    ensures first { local.old.slots ≡ result ∷ local.new.slots }
+    ensures same { local.new ≡ record local.old { slots = local.new.slots } }
+    ensures settled { IsSettled result }
+{
+    match local.pop(SlotKind::Memory) {
+        Some(item) => item,
+        None => unreachable!(),
     }
 }

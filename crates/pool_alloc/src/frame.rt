@@ -2,7 +2,8 @@ use crate::lease::{InstanceLease, MemoryLease};
 use crate::reserved::ReservedList;
 use pool_images::{MemoryImageSlot, ModuleMemoryImages};
 use pool_pages::{CompiledModuleId, ModuleInfo, Pages};
-use pool_slots::{AllocError, DecommitQueue};
+use pool_slots::{AllocError, DecommitQueue, RegionNumbers};
+use std::marker::Model;
 use std::sync::Arc;
 
 /// An instance of a module that is asked for. The images are those of `info` at the page of the core's regions.
@@ -12,6 +13,17 @@ pub struct ModuleCall {
     pub images: Option<Arc<ModuleMemoryImages>>,
     /// The name of the compiled module, for the affinity of its slots.
     pub id: CompiledModuleId,
+}
+
+impl Model for ModuleCall {
+    ghost use Rattle.pool_alloc.specs.Asked.{ModuleAsked};
+
+    ghost Value = { ModuleAsked };
+
+    ghost use Rattle.std.specs.Prelude.{option_map};
+    ghost use Rattle.std.specs.Arc.{arc_value};
+
+    ghost view = { λ m. record { info = arc_value m.info; images = option_map arc_value m.images; id = m.id } };
 }
 
 /// What a party holds after a call that was granted.
@@ -53,6 +65,13 @@ pub struct FreedSlot {
     pub bytes: usize,
 }
 
+/// A slot of which the region was taken, by its number in the pool, and what the region's unit tells since.
+#[derive(Clone, Copy, Debug, PartialEq, Eq)]
+pub struct TakenSlot {
+    pub slot: u32,
+    pub numbers: RegionNumbers,
+}
+
 /// The step that a party makes next, with what it has taken for it. A slot is named by its number in the pool.
 #[derive(Drop)]
 pub enum Phase<P: Pages> {
@@ -69,13 +88,13 @@ pub enum Phase<P: Pages> {
     TakeQueue,
     TakeRegion(u32),
     /// Empty an image slot of which nothing is known.
-    Empty(u32, MemoryImageSlot<P>),
-    Instantiate(u32, MemoryImageSlot<P>),
+    Empty(TakenSlot, MemoryImageSlot<P>),
+    Instantiate(TakenSlot, MemoryImageSlot<P>),
     /// Ask the limiter, and make the memory.
-    MakeMemory(u32, MemoryImageSlot<P>),
+    MakeMemory(TakenSlot, MemoryImageSlot<P>),
     CountMemory(MemoryLease<P>),
     /// Put the region of a slot back, as one of which nothing is known.
-    PutUnknown(u32, MemoryImageSlot<P>),
+    PutUnknown(TakenSlot, MemoryImageSlot<P>),
     FreeUnknown(u32),
     /// Count a memory that is given back as no grant any more.
     UncountMemory(MemoryLease<P>),

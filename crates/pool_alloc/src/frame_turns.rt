@@ -1,5 +1,5 @@
 ghost use Rattle.std.specs.Prelude.{◌≡◌, ◌<◌, length};
-ghost use Rattle.pool_alloc.specs.Turns.{Left, next, flush, search, after, failing, granted_next, returned_next, next_by, is_flushed};
+ghost use Rattle.pool_alloc.specs.Turns.{Left, next, flush, search, after, ends_with, failing, granted_next, returned_next, next_by, is_flushed};
 
 use crate::frame::{Ending, Frame, Grant, Outcome, Phase};
 use crate::lease::InstanceLease;
@@ -17,6 +17,17 @@ impl<P: Pages> Frame<P> {
         ensures { self.new ≡ failing error self.old }
     {
         self.ending = Ending::Refused(error);
+    }
+
+    // The call ends with this answer, and leaves nothing of itself.
+    pub(crate) fn end(&mut self, outcome: Outcome<P>) -> Option<Outcome<P>>
+        ensures { ◌≡◌ {A = Left P} (record { frame = self.new; outcome = result }) (ends_with self.old outcome) }
+    {
+        self.phase = Phase::Idle;
+        self.asked = None;
+        self.ending = Ending::Returned;
+        self.queues = 0;
+        Some(outcome)
     }
 
     // What the ending says is next.
@@ -46,9 +57,7 @@ impl<P: Pages> Frame<P> {
             return None;
         }
         let memories = mem::replace(&mut self.objects, ReservedList::none(alloc));
-        self.phase = Phase::Idle;
-        self.asked = None;
-        Some(Outcome::Granted(Grant::Instance(InstanceLease { memories })))
+        self.end(Outcome::Granted(Grant::Instance(InstanceLease { memories })))
     }
 
     // The next memory is given back, or else the instance.

@@ -10,7 +10,7 @@ ghost use Rattle.pool_alloc.specs.CanStep.{HasNext, CanBegin};
 ghost use Rattle.pool_alloc.specs.Modules.{IfAllocated};
 ghost use Rattle.pool_alloc.specs.declared.pool_core.PoolCore.{PoolCore};
 
-use crate::frame::{Frame, ModuleCall, Outcome, Phase};
+use crate::frame::{Frame, ModuleCall, Outcome, Phase, TakenSlot};
 use crate::pool_core::PoolCore;
 use pool_images::{MemoryImage, MemoryImageSlot};
 use pool_pages::{DefinedMemoryIndex, MemoryTunables, MemoryType, Pages};
@@ -21,7 +21,7 @@ impl ModuleCall {
     // The image of a memory, where there is one.
     fn image(&self, memory: usize) -> Option<&Arc<MemoryImage>>
         requires small { memory < 2 ^ 32 }
-        requires inside { IfSome self.now.images (λ images. memory < length (arc_value images)) }
+        requires inside { IfSome self.now.images (λ images. memory < length images) }
         ensures { option_map (λ image. arc_value image.now) result ≡ slice_index_or (images_wanted (Some self.now)) memory None }
     {
         match &self.images {
@@ -36,17 +36,17 @@ impl<P: Pages> PoolCore<P> {
     pub(crate) fn instantiate(
         &mut self,
         frame: &mut Frame<P>,
-        slot: u32,
+        at: TakenSlot,
         held: MemoryImageSlot<P>,
     ) -> Option<Outcome<P>>
         requires next { HasNext frame.old.asked (length frame.old.objects.items) }
         requires clean { IsClean held }
         requires can { IfAllocated frame.old (CanBegin held (image_wanted frame.old)) }
-        ensures { (fault : Bool) × (after : Slot) × IfAllocated frame.old (λ decl. InstantiatesFor self.old.settings decl fault (image_wanted frame.old) held after) × IfAllocated frame.old (λ decl. FollowsPlanFor self.old.settings decl fault (image_wanted frame.old) held after) × (◌≡◌ {A = After P} (record { core = self.new; frame = frame.new; outcome = result }) (stepped (instantiate_row fault after slot self.old frame.old))) }
+        ensures { (fault : Bool) × (after : Slot) × IfAllocated frame.old (λ decl. InstantiatesFor self.old.settings decl fault (image_wanted frame.old) held after) × IfAllocated frame.old (λ decl. FollowsPlanFor self.old.settings decl fault (image_wanted frame.old) held after) × (◌≡◌ {A = After P} (record { core = self.new; frame = frame.new; outcome = result }) (stepped (instantiate_row fault after at self.old frame.old))) }
     {
         let mut held = held;
         let fault = self.begin(frame, &mut held);
-        begun(frame, fault, slot, held)
+        begun(frame, fault, at, held)
     }
 
     // Whether a page call failed.
@@ -95,16 +95,18 @@ fn begin_memory<P: Pages>(
 fn begun<P: Pages>(
     frame: &mut Frame<P>,
     fault: bool,
-    slot: u32,
+    at: TakenSlot,
     held: MemoryImageSlot<P>,
 ) -> Option<Outcome<P>>
-    ensures { (c : PoolCore P) → ◌≡◌ {A = After P} (record { core = c; frame = frame.new; outcome = result }) (stepped (instantiate_row fault held slot c frame.old)) }
+    ensures { (c : PoolCore P) → ◌≡◌ {A = After P} (record { core = c; frame = frame.new; outcome = result }) (stepped (instantiate_row fault held at c frame.old)) }
 {
+    let mut held = held;
     if fault {
+        held.forget();
         frame.fail(AllocError::PageFault);
-        frame.phase = Phase::PutUnknown(slot, held);
+        frame.phase = Phase::PutUnknown(at, held);
     } else {
-        frame.phase = Phase::MakeMemory(slot, held);
+        frame.phase = Phase::MakeMemory(at, held);
     }
     None
 }

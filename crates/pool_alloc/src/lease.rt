@@ -7,7 +7,7 @@ use crate::reserved::ReservedList;
 use pool_limits::{GrowFault, ResourceLimiter, Trap};
 use pool_memory::{Memory, StaticMemory};
 use pool_pages::{PageCalls, Pages};
-use pool_slots::MemoryAllocationIndex;
+use pool_slots::{MemoryAllocationIndex, RegionNumbers};
 use std::marker::Model;
 
 /// A memory that was granted, and its slot. It must be given back, or its slot stays used for good.
@@ -15,6 +15,8 @@ use std::marker::Model;
 pub struct MemoryLease<P: Pages> {
     pub index: MemoryAllocationIndex,
     pub memory: Memory<(), StaticMemory<P>>,
+    /// What the unit of the memory's region tells since it left its cell.
+    pub numbers: RegionNumbers,
 }
 
 impl<P: Pages> Model for MemoryLease<P> {
@@ -23,7 +25,7 @@ impl<P: Pages> Model for MemoryLease<P> {
 
     ghost Value = { Lease };
 
-    ghost view = { λ l. record { index = l.index.0; memory = state_of l.memory } };
+    ghost view = { λ l. record { index = l.index.0; memory = state_of l.memory; numbers = l.numbers } };
 }
 
 impl<P: Pages> MemoryLease<P> {

@@ -14,6 +14,7 @@ mod lease;
 mod make_step;
 mod making;
 mod metrics;
+mod part_steps;
 mod parts;
 mod pool_core;
 mod queue_steps;
@@ -24,7 +25,7 @@ mod shard_steps;
 mod step;
 mod validate_step;
 
-pub use frame::{Call, Frame, Grant, ModuleCall, Outcome, Phase};
+pub use frame::{Call, Frame, Grant, ModuleCall, Outcome, Phase, TakenSlot};
 pub use lease::{InstanceLease, MemoryLease};
 pub use metrics::Metrics;
 pub use pool_core::{Counters, PoolCore, Settings};

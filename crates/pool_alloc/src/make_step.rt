@@ -15,7 +15,7 @@ ghost use Rattle.pool_alloc.specs.Rows.{made_by, make_memory_row};
 ghost use Rattle.pool_alloc.specs.Turns.{After, stepped};
 ghost use Rattle.pool_alloc.specs.declared.pool_core.PoolCore.{PoolCore};
 
-use crate::frame::{Frame, Outcome, Phase};
+use crate::frame::{Frame, Outcome, Phase, TakenSlot};
 use crate::lease::MemoryLease;
 use crate::pool_core::{PoolCore, Settings};
 use pool_images::MemoryImageSlot;
@@ -32,16 +32,16 @@ impl<P: Pages> PoolCore<P> {
     pub(crate) fn make_memory<L: ResourceLimiter>(
         &mut self,
         frame: &mut Frame<P>,
-        slot: u32,
+        at: TakenSlot,
         held: MemoryImageSlot<P>,
         limiter: &mut L,
     ) -> Option<Outcome<P>>
         requires next { HasNext frame.old.asked (length frame.old.objects.items) }
         requires can { IfAllocated frame.old (CanMake self.old.settings held) }
-        ensures { (answer : Result Bool LimiterError) × IfAllocated frame.old (AsksForMemory answer (L.told limiter.old) (L.told limiter.new)) × IfAllocated frame.old (λ decl. Exchanged L.leads (may_grow (minimum_question decl.ty) answer ∷ []) limiter.old limiter.new) × (◌≡◌ {A = After P} (record { core = self.new; frame = frame.new; outcome = result }) (stepped (make_memory_row answer slot held self.old frame.old))) }
+        ensures { (answer : Result Bool LimiterError) × IfAllocated frame.old (AsksForMemory answer (L.told limiter.old) (L.told limiter.new)) × IfAllocated frame.old (λ decl. Exchanged L.leads (may_grow (minimum_question decl.ty) answer ∷ []) limiter.old limiter.new) × (◌≡◌ {A = After P} (record { core = self.new; frame = frame.new; outcome = result }) (stepped (make_memory_row answer at held self.old frame.old))) }
     {
         let making = self.make(frame, held, limiter);
-        was_made(frame, slot, making)
+        was_made(frame, at, making)
     }
 
     // The memory that is allocated.
@@ -93,17 +93,19 @@ fn make_memory<P: Pages, L: ResourceLimiter>(
 }
 
 // What comes after a making.
-fn was_made<P: Pages>(frame: &mut Frame<P>, slot: u32, making: Making<P>) -> Option<Outcome<P>>
-    ensures { (c : PoolCore P) → ◌≡◌ {A = After P} (record { core = c; frame = frame.new; outcome = result }) (stepped (made_by slot making c frame.old)) }
+fn was_made<P: Pages>(frame: &mut Frame<P>, at: TakenSlot, making: Making<P>) -> Option<Outcome<P>>
+    ensures { (c : PoolCore P) → ◌≡◌ {A = After P} (record { core = c; frame = frame.new; outcome = result }) (stepped (made_by at making c frame.old)) }
 {
     frame.phase = match making {
         Ok(memory) => Phase::CountMemory(MemoryLease {
-            index: MemoryAllocationIndex(slot),
+            index: MemoryAllocationIndex(at.slot),
             memory,
+            numbers: at.numbers,
         }),
-        Err((held, error)) => {
+        Err((mut held, error)) => {
+            held.forget();
             frame.fail(refusal_of(error));
-            Phase::PutUnknown(slot, held)
+            Phase::PutUnknown(at, held)
         }
     };
     None

@@ -1,18 +1,18 @@
-ghost use Rattle.std.specs.Prelude.{◌≡◌, ◌+◌, ◌*◌, ◌^◌, ◌<◌, ◌≤◌, [], ◌∷◌, false, None, IfOk, IfErr, IfSome, OnOk, MatchResult};
+ghost use Rattle.std.specs.Prelude.{◌≡◌, ◌+◌, ◌*◌, ◌^◌, ◌<◌, ◌≤◌, [], ◌∷◌, ◌++◌, length, map, vec_capacity, false, None, IfOk, IfErr, IfSome, OnOk, MatchResult};
 ghost use Rattle.pool_hall.specs.declared.unit_name.SlotKind.TheVariants.{Memory as memory_kind};
 ghost use Rattle.pool_pages.specs.ConfigLimits.{IsWithinLimits};
 ghost use Rattle.pool_pages.specs.MakerTold.{MakerTold};
 ghost use Rattle.pool_pages.specs.SettingsRules.{first_broken_rule};
 ghost use Rattle.pool_index.specs.Shard.{IsShard, fresh_shard};
 ghost use Rattle.pool_slots.specs.Makings.{RaisesPoolFaults, RaisesPoolBehind, makes_listed_regions, IsListedPoolFault};
-ghost use Rattle.pool_slots.specs.Queues.{empty_queue};
+ghost use Rattle.pool_slots.specs.SlotQueues.{empty_queue};
 ghost use Rattle.pool_alloc.specs.Calls.{frame_made};
-ghost use Rattle.pool_alloc.specs.Made.{settings_of, IsMadeCore, HasMadeCells, IsRefusedFor, CountsFault, NeedsFault, NeedsListed};
+ghost use Rattle.pool_alloc.specs.Made.{settings_of, IsMadeCore, IsRefusedFor, CountsFault, NeedsFault, NeedsListed};
 ghost use Rattle.pool_alloc.specs.Sound.{IsCore, IsFrame};
 ghost use Rattle.pool_alloc.specs.Whole.{IsUntouched};
 
 use crate::frame::{Ending, Frame, Phase};
-use crate::parts::{Cells, Queues, Shards};
+use crate::parts::Parts;
 use crate::pool_core::{Counters, PoolCore, Settings};
 use crate::reserved::ReservedList;
 use pool_index::{Shard, SlotKind};
@@ -20,7 +20,7 @@ use pool_pages::{
     HostAlignedByteCount, MemoryKind, MemoryTunables, Offered, PageMaker, PageSize, Pages,
     PoolingAllocationConfig, Tunables,
 };
-use pool_slots::{DecommitQueue, PoolNewError, make_cells};
+use pool_slots::{DecommitQueue, PoolNewError, PoolPart, RegionCell, make_cells};
 use std::alloc::{AllocError, Global};
 
 impl<P: Pages> PoolCore<P> {
@@ -82,14 +82,15 @@ impl<P: Pages> PoolCore<P> {
         let _bytes = page.get();
         let settings = settings_of(page, config, tunables, offered);
         let total = config.limits.total_memories;
-        let shards = make_shards(alloc, total, config.max_unused_warm_slots)?;
-        let queues = make_queues(alloc, settings.batch)?;
+        let shard = make_shard(alloc, total, config.max_unused_warm_slots)?;
+        let queue = make_queue(alloc, settings.batch)?;
+        let Ok(list) = reserve_parts(alloc, total) else {
+            return Err(PoolNewError::Memory);
+        };
         let len = HostAlignedByteCount::rounded_up_unchecked(page, settings.max_memory_size);
         let cells = make_cells(alloc, maker, offered.behaviour, total, len)?;
         Ok(PoolCore {
-            shards,
-            cells: Cells::new(cells),
-            queues,
+            parts: Parts::new(filled(list, shard, cells, queue)),
             counters: Counters {
                 key: 0,
                 core_instances: 0,
@@ -156,34 +157,68 @@ fn settings_of(
 }
 
 // All memory slots are one shard's.
-fn make_shards(alloc: Global, total: u32, warm: u32) -> Result<Shards, PoolNewError>
-    ensures made { IfOk result (λ s. s ≡ fresh_shard memory_kind 0 1 total warm ∷ []) }
+fn make_shard(alloc: Global, total: u32, warm: u32) -> Result<Shard, PoolNewError>
+    ensures made { IfOk result (λ s. s ≡ fresh_shard memory_kind 0 1 total warm) }
     ensures sound { IfOk result (λ s. IsShard (fresh_shard memory_kind 0 1 total warm)) }
     ensures memory { IfErr result (λ e. e ≡ PoolNewError.Memory) }
 {
-    let Ok(shard) = Shard::new(alloc, SlotKind::Memory, 0, 1, total, warm) else {
-        return Err(PoolNewError::Memory);
-    };
-    let mut list = Vec::new(alloc);
-    let Ok(()) = list.push(shard) else {
-        return Err(PoolNewError::Memory);
-    };
-    Ok(Shards::new(list))
+    match Shard::new(alloc, SlotKind::Memory, 0, 1, total, warm) {
+        Ok(shard) => Ok(shard),
+        Err(_) => Err(PoolNewError::Memory),
+    }
 }
 
-// One queue, with room for twice a batch.
-fn make_queues<P: Pages>(alloc: Global, batch: usize) -> Result<Queues<P>, PoolNewError>
+// A queue with room for twice a batch.
+fn make_queue<P: Pages>(alloc: Global, batch: usize) -> Result<DecommitQueue<P>, PoolNewError>
     requires { batch ≤ 4096 }
-    ensures made { IfOk result (λ q. q ≡ empty_queue (2 * batch) (2 * batch) ∷ []) }
+    ensures made { IfOk result (λ q. q ≡ empty_queue (2 * batch) (2 * batch)) }
     ensures memory { IfErr result (λ e. e ≡ PoolNewError.Memory) }
 {
     let room = 2 * batch;
-    let Ok(queue) = DecommitQueue::new(alloc, room, room) else {
-        return Err(PoolNewError::Memory);
-    };
-    let mut list = Vec::new(alloc);
-    let Ok(()) = list.push(queue) else {
-        return Err(PoolNewError::Memory);
-    };
-    Ok(Queues::new(list))
+    match DecommitQueue::new(alloc, room, room) {
+        Ok(queue) => Ok(queue),
+        Err(_) => Err(PoolNewError::Memory),
+    }
+}
+
+// An empty list with room for the cells of so many slots, one shard and one queue.
+fn reserve_parts<P: Pages>(alloc: Global, total: u32) -> Result<Vec<PoolPart<P>>, PoolNewError>
+    ensures made { IfOk result (λ v. (v.items ≡ []) × (total + 2 ≤ vec_capacity v)) }
+    ensures memory { IfErr result (λ e. e ≡ PoolNewError.Memory) }
+{
+    match Vec::with_capacity(alloc, total as usize + 2) {
+        Ok(list) => Ok(list),
+        Err(_) => Err(PoolNewError::Memory),
+    }
+}
+
+// The list of a shard, cells and a queue.
+fn filled<P: Pages>(
+    list: Vec<PoolPart<P>>,
+    shard: Shard,
+    cells: Vec<RegionCell<P>>,
+    queue: DecommitQueue<P>,
+) -> Vec<PoolPart<P>>
+    requires empty { list.items ≡ [] }
+    requires room { length cells.items + 2 ≤ vec_capacity list }
+    ensures { result.items ≡ PoolPart.Shard shard ∷ (map (λ c. PoolPart.Memory c) cells.items ++ PoolPart.Queue queue ∷ []) }
+{
+    let mut list = list;
+    list.push_reserved(PoolPart::Shard(shard));
+    let mut list = with_cells(list, cells);
+    list.push_reserved(PoolPart::Queue(queue));
+    list
+}
+
+// The list with cells behind it, and room for one part more.
+fn with_cells<P: Pages>(list: Vec<PoolPart<P>>, cells: Vec<RegionCell<P>>) -> Vec<PoolPart<P>>
+    requires { length list.items + (length cells.items + 1) ≤ vec_capacity list }
+    ensures value { result.items ≡ list.items ++ map (λ c. PoolPart.Memory c) cells.items }
+    ensures room { length result.items + 1 ≤ vec_capacity result }
+{
+    let mut list = list;
+    for cell in cells {
+        list.push_reserved(PoolPart::Memory(cell));
+    }
+    list
 }

@@ -1,5 +1,4 @@
 ghost use Rattle.std.specs.Prelude.{◌≡◌};
-ghost use Rattle.pool_pages.specs.CallSums.{added};
 ghost use Rattle.pool_alloc.specs.Sums.{metrics_of, calls_kept};
 
 use crate::pool_core::PoolCore;
@@ -36,8 +35,8 @@ impl<P: Pages> PoolCore<P> {
             tables: 0,
             stacks: 0,
             gc_heaps: 0,
-            unused_warm_memories: self.shards.unused_warm_slots(),
-            unused_memory_bytes_resident: self.shards.unused_bytes_resident(),
+            unused_warm_memories: self.parts.unused_warm_slots(),
+            unused_memory_bytes_resident: self.parts.unused_bytes_resident(),
             unused_warm_tables: 0,
             unused_table_bytes_resident: 0,
             unused_warm_stacks: 0,
@@ -49,6 +48,6 @@ impl<P: Pages> PoolCore<P> {
     pub fn page_calls(&self) -> PageCalls
         ensures { result ≡ calls_kept self.now }
     {
-        self.cells.page_calls().plus(self.queues.page_calls())
+        self.parts.page_calls()
     }
 }

@@ -1,4 +1,4 @@
-use crate::parts::{Cells, Queues, Shards};
+use crate::parts::Parts;
 use pool_pages::{DecommitBehavior, HostAlignedByteCount, MemoryTunables, PageSize, Pages};
 
 /// How many grants of a kind there are, and how many calls on the key counter there were.
@@ -35,13 +35,12 @@ pub struct Settings {
     pub tunables: MemoryTunables,
 }
 
-/// A pooling allocator without locks: its shards, the cells of its slots, its queues and its counters. Parties make
+/// A pooling allocator without locks: its parts and its counters. Parties make
 /// calls on it step by step, each in a frame of its own.
 #[derive(Drop)]
 pub struct PoolCore<P: Pages> {
-    pub shards: Shards,
-    pub cells: Cells<P>,
-    pub queues: Queues<P>,
+    /// The shards, the cells of the slots, and the queues, in this order.
+    pub parts: Parts<P>,
     pub counters: Counters,
     pub settings: Settings,
 }

@@ -1,6 +1,6 @@
-ghost use Rattle.std.specs.Prelude.{◌≡◌, ◌+◌, ◌<◌, ◌≤◌, ◌^◌, length, nat_le, if◌then◌else◌};
-ghost use Rattle.pool_slots.specs.Queues.{QueueState, IsSpareOf, after_append, taken_into, drained};
-ghost use Rattle.pool_alloc.specs.CanStep.{CanMerge};
+ghost use Rattle.std.specs.Prelude.{◌≡◌, ◌+◌, ◌<◌, ◌≤◌, ◌^◌};
+ghost use Rattle.pool_slots.specs.SlotQueues.{Queue, IsSpareOf};
+ghost use Rattle.pool_slots.specs.QueueMerges.{CanMerge};
 ghost use Rattle.pool_alloc.specs.Rows.{take_queue_on, merge_on};
 ghost use Rattle.pool_alloc.specs.Turns.{PartAfter, part_after};
 
@@ -19,7 +19,7 @@ pub(crate) fn take_queue<P: Pages>(
 ) -> Option<Outcome<P>>
     requires spare { IsSpareOf queue.old frame.old.local }
     requires taken { frame.old.queues + 1 < 2 ^ 64 }
-    ensures { ◌≡◌ {A = PartAfter QueueState P} (record { part = queue.new; frame = frame.new; outcome = result }) (part_after settings.now (take_queue_on queue.old frame.old)) }
+    ensures { ◌≡◌ {A = PartAfter Queue P} (record { part = queue.new; frame = frame.new; outcome = result }) (part_after settings.now (take_queue_on queue.old frame.old)) }
 {
     queue.take(&mut frame.local);
     frame.queues += 1;
@@ -38,31 +38,11 @@ pub(crate) fn merge<P: Pages>(
     frame: &mut Frame<P>,
 ) -> Option<Outcome<P>>
     requires { CanMerge queue.old frame.old.local }
-    ensures { ◌≡◌ {A = PartAfter QueueState P} (record { part = queue.new; frame = frame.new; outcome = result }) (part_after settings.now (merge_on settings.now queue.old frame.old)) }
+    ensures { ◌≡◌ {A = PartAfter Queue P} (record { part = queue.new; frame = frame.new; outcome = result }) (part_after settings.now (merge_on settings.now queue.old frame.old)) }
 {
-    if merge_into(queue, &mut frame.local, settings.batch) {
+    if queue.merge(&mut frame.local, settings.batch) {
         frame.flush(alloc, settings)
     } else {
         frame.next(alloc, settings)
     }
-}
-
-// Appends the local queue, and moves the whole queue into it where there are as many ranges as a batch then. That isn't
-// counted as a take. Answers whether it was.
-fn merge_into<P: Pages>(
-    queue: &mut DecommitQueue<P>,
-    local: &mut DecommitQueue<P>,
-    batch: usize,
-) -> bool
-    requires { CanMerge queue.old local.old }
-    ensures value { result ≡ nat_le batch (length (after_append queue.old local.old).ranges) }
-    ensures after { queue.new ≡ (if result then drained (after_append queue.old local.old) else after_append queue.old local.old) }
-    ensures local { local.new ≡ (if result then taken_into (drained local.old) (after_append queue.old local.old) else drained local.old) }
-{
-    queue.append(local);
-    let full = queue.raw_len() >= batch;
-    if full {
-        queue.swap(local);
-    }
-    full
 }

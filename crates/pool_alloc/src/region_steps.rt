@@ -5,7 +5,7 @@ ghost use Rattle.pool_alloc.specs.Answers.{Empties};
 ghost use Rattle.pool_alloc.specs.Rows.{empty_row, uncount_memory_row, uncount_instance_row, answer_of};
 ghost use Rattle.pool_alloc.specs.Turns.{After, stepped, is_granting};
 
-use crate::frame::{Ending, Frame, Outcome, Phase};
+use crate::frame::{Ending, Frame, Outcome, Phase, TakenSlot};
 use crate::lease::MemoryLease;
 use crate::pool_core::PoolCore;
 use pool_images::MemoryImageSlot;
@@ -17,17 +17,18 @@ impl<P: Pages> PoolCore<P> {
     pub(crate) fn empty(
         &mut self,
         frame: &mut Frame<P>,
-        slot: u32,
+        at: TakenSlot,
         held: MemoryImageSlot<P>,
     ) -> Option<Outcome<P>>
-        ensures { (fault : Bool) × (after : Slot) × Empties fault held after × Follows (wiping held) (not fault) held.region after.region × (◌≡◌ {A = After P} (record { core = self.new; frame = frame.new; outcome = result }) (stepped (empty_row fault after slot self.old frame.old))) }
+        ensures { (fault : Bool) × (after : Slot) × Empties fault held after × Follows (wiping held) (not fault) held.region after.region × (◌≡◌ {A = After P} (record { core = self.new; frame = frame.new; outcome = result }) (stepped (empty_row fault after at self.old frame.old))) }
     {
         let mut held = held;
         frame.phase = match held.reset_with_anon_memory() {
-            Ok(()) => Phase::Instantiate(slot, held),
+            Ok(()) => Phase::Instantiate(at, held),
             Err(_) => {
+                held.forget();
                 frame.fail(AllocError::PageFault);
-                Phase::PutUnknown(slot, held)
+                Phase::PutUnknown(at, held)
             }
         };
         None
@@ -53,9 +54,7 @@ impl<P: Pages> PoolCore<P> {
         ensures { ◌≡◌ {A = After P} (record { core = self.new; frame = frame.new; outcome = result }) (stepped (uncount_instance_row self.old frame.old)) }
     {
         self.counters.core_instances -= 1;
-        frame.phase = Phase::Idle;
-        frame.asked = None;
-        Some(answer_of(frame.ending))
+        frame.end(answer_of(frame.ending))
     }
 }
 

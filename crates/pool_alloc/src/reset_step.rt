@@ -1,17 +1,19 @@
-ghost use Rattle.std.specs.Prelude.{◌≡◌, ◌^◌, ◌<◌, ◌≤◌, [], Bool};
+ghost use Rattle.std.specs.Prelude.{◌≡◌, ◌^◌, ◌<◌, ◌≤◌, [], Bool, true, None};
 ghost use Rattle.pool_images.specs.Slots.{Slot};
 ghost use Rattle.pool_memory.specs.Memories.{slot_of};
+ghost use Rattle.pool_hall.specs.declared.unit_name.SlotKind.TheVariants.{Memory as memory_kind};
 ghost use Rattle.pool_alloc.specs.Answers.{Resets, FollowsReset};
 ghost use Rattle.pool_alloc.specs.CanStep.{CanReset};
+ghost use Rattle.pool_alloc.specs.Leases.{slot_taken};
 ghost use Rattle.pool_alloc.specs.Rows.{was_reset, reset_turn};
 ghost use Rattle.pool_alloc.specs.Turns.{After, Left, after, stepped};
 
-use crate::frame::{Frame, Outcome, Phase};
+use crate::frame::{Frame, Outcome, Phase, TakenSlot};
 use crate::lease::MemoryLease;
 use crate::pool_core::{PoolCore, Settings};
 use pool_images::{MemoryImageSlot, Ranges};
-use pool_index::SlotId;
 use pool_pages::Pages;
+use pool_slots::{HeldSlot, QueueKind, QueuedSlot};
 use std::alloc::Global;
 
 impl<P: Pages> PoolCore<P> {
@@ -24,19 +26,44 @@ impl<P: Pages> PoolCore<P> {
         lease: MemoryLease<P>,
     ) -> Option<Outcome<P>>
         requires { CanReset self.old.settings (slot_of lease.memory) frame.old.local }
-        ensures { (fault : Bool) × (after : Slot) × Resets fault self.old.settings.keep_resident.bytes lease.index (slot_of lease.memory) after × FollowsReset self.old.settings.keep_resident.bytes fault (slot_of lease.memory) after × (◌≡◌ {A = After P} (record { core = self.new; frame = frame.new; outcome = result }) (stepped (was_reset fault after lease self.old frame.old))) }
+        ensures { (fault : Bool) × (after : Slot) × Resets fault self.old.settings.keep_resident.bytes (slot_taken lease) (slot_of lease.memory) after × FollowsReset self.old.settings.keep_resident.bytes fault (slot_of lease.memory) after × (◌≡◌ {A = After P} (record { core = self.new; frame = frame.new; outcome = result }) (stepped (was_reset fault after lease self.old frame.old))) }
     {
-        let index = lease.index;
+        let at = slot_taken(&lease);
         let mut slot = lease.memory.unwrap_static_image();
         let mut ranges = Ranges::new();
         let keep = self.settings.keep_resident;
         let Ok(kept) = slot.clear_and_remain_ready(false, keep, &mut ranges) else {
-            frame.phase = Phase::PutUnknown(index.0, slot);
+            slot.forget();
+            frame.phase = Phase::PutUnknown(at, slot);
             return None;
         };
-        frame.local.push_ranges(SlotId(index.0), ranges.as_slice());
-        frame.local.push_memory(index, slot, kept);
+        let item = memory_queued(at, slot, kept);
+        let listed = ranges.as_slice();
+        frame.local.push_reset(QueueKind::Memory, item, listed);
         was_reset(alloc, &self.settings, frame)
+    }
+}
+
+// A memory's slot on its way back, which is clean once its ranges are decommitted, and keeps so many bytes resident.
+fn memory_queued<P: Pages>(at: TakenSlot, slot: MemoryImageSlot<P>, kept: usize) -> QueuedSlot<P>
+    ensures { result ≡ record { name = record { kind = memory_kind; slot = at.slot }; slot = slot; known = true; bytes = kept; by_hand = None; numbers = at.numbers } }
+{
+    QueuedSlot {
+        slot: at.slot,
+        held: HeldSlot::Memory(slot),
+        known: true,
+        bytes: kept,
+        numbers: at.numbers,
+    }
+}
+
+// The slot of a memory, and what the unit of its region tells.
+fn slot_taken<P: Pages>(lease: &MemoryLease<P>) -> TakenSlot
+    ensures { result ≡ slot_taken lease.now }
+{
+    TakenSlot {
+        slot: lease.index.0,
+        numbers: lease.numbers,
     }
 }
 

@@ -30,10 +30,7 @@ impl<P: Pages> PoolCore<P> {
     fn refuse_at_once(&mut self, frame: &mut Frame<P>, error: AllocError) -> Option<Outcome<P>>
         ensures { ◌≡◌ {A = After P} (record { core = self.new; frame = frame.new; outcome = result }) (stepped (refused_at_once error self.old frame.old)) }
     {
-        frame.fail(error);
-        frame.phase = Phase::Idle;
-        frame.asked = None;
-        Some(Outcome::Refused(error))
+        frame.end(Outcome::Refused(error))
     }
 
     fn reserve_grants(&mut self, alloc: Global, frame: &mut Frame<P>) -> Option<Outcome<P>>

@@ -11,10 +11,10 @@ pub returns-in-Validate : goal.returns-in-Validate
 returns-in-Validate g c = quiet g.L.ResourceLimiter.leads c.args.limiter.now _ (record nothing_told { wants = c.validate.ensures.0 }) (Validate) c.args.self.now c.args.frame.now _ c.replace.new.dest (sym c.replace.ensures.value ∙ c.in-Validate.is) c.replace.ensures.after tt tt refl refl c.validate.ensures.1
 
 pub returns-in-Empty : goal.returns-in-Empty
-returns-in-Empty g c = quiet g.L.ResourceLimiter.leads c.args.limiter.now _ (record nothing_told { fault = c.empty.ensures.0; slot = c.empty.ensures.1 }) (Empty c.in-Empty.slot c.in-Empty.held) c.args.self.now c.args.frame.now _ c.replace.new.dest (sym c.replace.ensures.value ∙ c.in-Empty.is) c.replace.ensures.after c.empty.ensures.2 c.empty.ensures.3 refl refl c.empty.ensures.4
+returns-in-Empty g c = quiet g.L.ResourceLimiter.leads c.args.limiter.now _ (record nothing_told { fault = c.empty.ensures.0; slot = c.empty.ensures.1 }) (Empty c.in-Empty.at c.in-Empty.held) c.args.self.now c.args.frame.now _ c.replace.new.dest (sym c.replace.ensures.value ∙ c.in-Empty.is) c.replace.ensures.after c.empty.ensures.2 c.empty.ensures.3 refl refl c.empty.ensures.4
 
 pub returns-in-Instantiate : goal.returns-in-Instantiate
-returns-in-Instantiate g c = quiet g.L.ResourceLimiter.leads c.args.limiter.now _ (record nothing_told { fault = c.instantiate.ensures.0; slot = c.instantiate.ensures.1 }) (Instantiate c.in-Instantiate.slot c.in-Instantiate.held) c.args.self.now c.args.frame.now _ c.replace.new.dest (sym c.replace.ensures.value ∙ c.in-Instantiate.is) c.replace.ensures.after c.instantiate.ensures.2 c.instantiate.ensures.3 refl refl c.instantiate.ensures.4
+returns-in-Instantiate g c = quiet g.L.ResourceLimiter.leads c.args.limiter.now _ (record nothing_told { fault = c.instantiate.ensures.0; slot = c.instantiate.ensures.1 }) (Instantiate c.in-Instantiate.at c.in-Instantiate.held) c.args.self.now c.args.frame.now _ c.replace.new.dest (sym c.replace.ensures.value ∙ c.in-Instantiate.is) c.replace.ensures.after c.instantiate.ensures.2 c.instantiate.ensures.3 refl refl c.instantiate.ensures.4
 
 pub returns-in-Reset : goal.returns-in-Reset
 returns-in-Reset g c = quiet g.L.ResourceLimiter.leads c.args.limiter.now _ (record nothing_told { fault = c.reset.ensures.0; slot = c.reset.ensures.1 }) (Reset c.in-Reset.lease) c.args.self.now c.args.frame.now _ c.replace.new.dest (sym c.replace.ensures.value ∙ c.in-Reset.is) c.replace.ensures.after c.reset.ensures.2 c.reset.ensures.3 refl refl c.reset.ensures.4
@@ -41,7 +41,7 @@ pub returns-in-CountMemory : goal.returns-in-CountMemory
 returns-in-CountMemory g c = quiet g.L.ResourceLimiter.leads c.args.limiter.now _ nothing_told (CountMemory c.in-CountMemory.lease) c.args.self.now c.args.frame.now _ c.replace.new.dest (sym c.replace.ensures.value ∙ c.in-CountMemory.is) c.replace.ensures.after tt tt refl refl c.count_memory.ensures
 
 pub returns-in-PutUnknown : goal.returns-in-PutUnknown
-returns-in-PutUnknown g c = quiet g.L.ResourceLimiter.leads c.args.limiter.now _ nothing_told (PutUnknown c.in-PutUnknown.slot c.in-PutUnknown.held) c.args.self.now c.args.frame.now _ c.replace.new.dest (sym c.replace.ensures.value ∙ c.in-PutUnknown.is) c.replace.ensures.after tt tt refl refl c.put_unknown.ensures
+returns-in-PutUnknown g c = quiet g.L.ResourceLimiter.leads c.args.limiter.now _ nothing_told (PutUnknown c.in-PutUnknown.at c.in-PutUnknown.held) c.args.self.now c.args.frame.now _ c.replace.new.dest (sym c.replace.ensures.value ∙ c.in-PutUnknown.is) c.replace.ensures.after tt tt refl refl c.put_unknown.ensures
 
 pub returns-in-FreeUnknown : goal.returns-in-FreeUnknown
 returns-in-FreeUnknown g c = quiet g.L.ResourceLimiter.leads c.args.limiter.now _ nothing_told (FreeUnknown c.in-FreeUnknown.slot) c.args.self.now c.args.frame.now _ c.replace.new.dest (sym c.replace.ensures.value ∙ c.in-FreeUnknown.is) c.replace.ensures.after tt tt refl refl c.free_unknown.ensures
@@ -56,4 +56,4 @@ pub returns-in-UncountInstance : goal.returns-in-UncountInstance
 returns-in-UncountInstance g c = quiet g.L.ResourceLimiter.leads c.args.limiter.now _ nothing_told (UncountInstance) c.args.self.now c.args.frame.now _ c.replace.new.dest (sym c.replace.ensures.value ∙ c.in-UncountInstance.is) c.replace.ensures.after tt tt refl refl c.uncount_instance.ensures
 
 pub returns-in-MakeMemory : goal.returns-in-MakeMemory
-returns-in-MakeMemory g c = by_row (λ passed. Exchanged g.L.ResourceLimiter.leads passed c.args.limiter.now c.make_memory.new.limiter) _ _ (record nothing_told { limiter = c.make_memory.ensures.0 }) (MakeMemory c.in-MakeMemory.slot c.in-MakeMemory.held) c.args.self.now c.args.frame.now _ c.replace.new.dest (sym c.replace.ensures.value ∙ c.in-MakeMemory.is) c.replace.ensures.after tt tt c.make_memory.ensures.1 c.make_memory.ensures.2 c.make_memory.ensures.3
+returns-in-MakeMemory g c = by_row (λ passed. Exchanged g.L.ResourceLimiter.leads passed c.args.limiter.now c.make_memory.new.limiter) _ _ (record nothing_told { limiter = c.make_memory.ensures.0 }) (MakeMemory c.in-MakeMemory.at c.in-MakeMemory.held) c.args.self.now c.args.frame.now _ c.replace.new.dest (sym c.replace.ensures.value ∙ c.in-MakeMemory.is) c.replace.ensures.after tt tt c.make_memory.ensures.1 c.make_memory.ensures.2 c.make_memory.ensures.3

@@ -1,14 +1,18 @@
 use Rattle.std.proofs.Common.{◌≡◌, ℕ, ◌+◌, ◌^◌, ◌≤◌, arith, ◌*◌, List, [], ◌∷◌, length, refl, sym, ap, subst, ◌∙◌}
 use Rattle.pool_pages.specs.Count.{IsPageSize, rounded_up}
 use Rattle.pool_pages.specs.declared.pages.DecommitBehavior.{DecommitBehavior}
-use Rattle.pool_slots.specs.Cells.{Cell, unmapped, region_made}
-use Rattle.pool_slots.specs.Queues.{empty_queue}
+use Rattle.pool_slots.specs.Cells.{unmapped, region_made}
+use Rattle.pool_slots.specs.RegionCells.{CellState, memory_cell, no_cell}
+use Rattle.pool_slots.specs.SlotQueues.{Queue, empty_queue}
 use Rattle.pool_slots.proofs.Fresh.{cells_made}
-use Rattle.pool_slots.proofs.PageSizes.{rounded_leaves}
+use Rattle.pool_images.proofs.PageSizes.{rounded_leaves}
 use Rattle.pool_alloc.specs.Made.{settings_of}
-use Rattle.pool_alloc.specs.Steps.{nth_cell}
+use Rattle.std.specs.Prelude.{◌++◌, map, slice_index_or}
+use Rattle.pool_hall.specs.declared.unit_name.SlotKind.TheVariants.{Memory as memory_kind}
+use Rattle.pool_index.specs.Shard.{ShardState, fresh_shard}
+use Rattle.pool_slots.specs.declared.part.PoolPart.TheVariants as part
 use Rattle.pool_alloc.specs.declared.pool_core.Settings.{Settings}
-use Rattle.pool_alloc.proofs.MadePools.{made_core, made_untouched}
+use Rattle.pool_alloc.proofs.MadePools.{parts_made, made_core, made_untouched}
 use Rattle.pool_alloc.proofs.pool_core.PoolCore.within_rules.Goals as goal
 
 pub rounded_up_unchecked-len-requires : goal.rounded_up_unchecked-len-requires
@@ -23,17 +27,18 @@ returns-clause-made g c =
     let batch : settings.batch ≡ config.decommit_batch_size = ap (λ (s : Settings). s.batch) c.settings_of-settings.ensures in
     let total : ℕ = config.limits.total_memories in
     let made = c.in_ok-cells.ensures.cells in
+    let warm : ℕ = config.max_unused_warm_slots in
+    let cells : List CellState = c.in_ok-cells.cells.items in
     record {
       settings = c.settings_of-settings.ensures ∙ ap (λ (n : ℕ). settings_of n config c.args.tunables.now c.args.offered.now) c.requires.page;
-      shards = c.in_ok-shards.ensures.made;
-      cells = record {
-        number = ap length c.new.ensures ∙ made.count;
-        each = λ i below.
-            let C : DecommitBehavior → List Cell → Type 0 = λ b xs. nth_cell i xs ≡ unmapped (region_made (g.M.PageMaker.told c.args.maker.now) b settings.max_memory_size i) in
-            let behaves : settings.behaviour ≡ c.args.offered.now.behaviour = ap (λ (s : Settings). s.behaviour) c.settings_of-settings.ensures in
-            subst (C settings.behaviour) (sym c.new.ensures) (subst (λ (b : DecommitBehavior). C b c.in_ok-cells.cells.items) (sym behaves) (cells_made (g.M.PageMaker.told c.args.maker.now) c.args.offered.now.behaviour c.args.page settings.max_memory_size total c.rounded_up_unchecked-len.result c.in_ok-cells.cells.items c.requires.page c.rounded_up_unchecked-len.ensures made i below));
-      };
-      queues = c.in_ok-queues.ensures.made ∙ ap (λ (n : ℕ). empty_queue (2 * n) (2 * n) ∷ []) batch;
+      parts = parts_made (g.M.PageMaker.told c.args.maker.now) settings.behaviour settings.max_memory_size total warm config.decommit_batch_size cells _ made.count
+          (λ i below.
+          let C : DecommitBehavior → Type 0 = λ b. slice_index_or cells i no_cell ≡ memory_cell i (unmapped (region_made (g.M.PageMaker.told c.args.maker.now) b settings.max_memory_size i)) in
+          let behaves : settings.behaviour ≡ c.args.offered.now.behaviour = ap (λ (s : Settings). s.behaviour) c.settings_of-settings.ensures in
+          subst C (sym behaves) (cells_made (g.M.PageMaker.told c.args.maker.now) c.args.offered.now.behaviour c.args.page settings.max_memory_size total c.rounded_up_unchecked-len.result cells c.requires.page c.rounded_up_unchecked-len.ensures made i below))
+          (c.new.ensures ∙ c.filled.ensures
+          ∙ ap (λ (s : ShardState). part.Shard s ∷ (map (λ x. part.Memory x) cells ++ part.Queue c.in_ok-queue.queue ∷ [])) c.in_ok-shard.ensures.made
+          ∙ ap (λ (q : Queue). part.Shard (fresh_shard memory_kind 0 1 total warm) ∷ (map (λ x. part.Memory x) cells ++ part.Queue q ∷ [])) (c.in_ok-queue.ensures.made ∙ ap (λ (n : ℕ). empty_queue (2 * n) (2 * n)) batch));
       counters = refl;
     }
 
@@ -41,7 +46,7 @@ pub returns-clause-core : goal.returns-clause-core
 returns-clause-core g c =
     let paged : IsPageSize (g.M.PageMaker.told c.args.maker.now).page = rw c.requires.page at c.get-bytes.ensures.valid in
     let size : c.args.config.now.limits.max_memory_size + (g.M.PageMaker.told c.args.maker.now).page ≤ 2 ^ 64 = rw c.requires.page at c.requires.size in
-    made_core (g.M.PageMaker.told c.args.maker.now) c.args.config.now c.args.tunables.now c.args.offered.now _ paged c.requires.within size c.in_ok-shards.ensures.sound (returns-clause-made g c)
+    made_core (g.M.PageMaker.told c.args.maker.now) c.args.config.now c.args.tunables.now c.args.offered.now _ paged c.requires.within size c.in_ok-shard.ensures.sound (returns-clause-made g c)
 
 pub returns-clause-untouched : goal.returns-clause-untouched
 returns-clause-untouched g c = made_untouched (g.M.PageMaker.told c.args.maker.now) c.args.config.now c.args.tunables.now c.args.offered.now _ (returns-clause-made g c)

@@ -1,0 +1,14 @@
+use Rattle.std.proofs.Common.{◌∙◌, ap, take}
+use Rattle.pool_pages.specs.declared.pages.PageCalls.{PageCalls}
+use Rattle.pool_pages.specs.CallSums.{added}
+use Rattle.pool_slots.specs.declared.part.PoolPart.{PoolPart}
+use Rattle.pool_alloc.specs.Sums.{part_calls, calls_of_parts}
+use Rattle.pool_alloc.proofs.Totals.{parts_more}
+use Rattle.pool_alloc.proofs.parts.Parts.page_calls.Goals as goal
+
+pub loop-part-preserved : goal.loop-part-preserved
+loop-part-preserved g c =
+    c.plus-calls.ensures
+    ∙ ap (λ (a : PageCalls). added a c.part_calls.result) c.loop-part.invariant
+    ∙ ap (λ (b : PageCalls). added (calls_of_parts (take c.loop-part.part-index c.deref-part-items.result.now)) b) (c.part_calls.ensures ∙ ap part_calls c.part-item.is)
+    ∙ parts_more c.deref-part-items.result.now c.loop-part.part-index c.part-item.result c.loop-part-test.true
