@@ -16,7 +16,7 @@ use Rattle.pool_alloc.specs.declared.frame.Call.TheVariants as call
 use Rattle.pool_alloc.specs.declared.frame.Frame.{Frame}
 use Rattle.pool_alloc.specs.declared.frame.Grant.{Grant}
 use Rattle.pool_alloc.specs.declared.frame.Grant.TheVariants.{Instance as instance}
-use Rattle.pool_alloc.specs.declared.frame.ModuleCall.{ModuleCall}
+use Rattle.pool_alloc.specs.Asked.{ModuleAsked}
 use Rattle.pool_alloc.specs.declared.frame.Outcome.{Outcome}
 use Rattle.pool_alloc.specs.declared.frame.Outcome.TheVariants as answer
 use Rattle.pool_alloc.proofs.BegunCalls.{idle_left, begun_bounded}
@@ -32,7 +32,6 @@ use Rattle.pool_run.specs.declared.reply.Reply.TheVariants.{Refused}
 use Rattle.pool_run.specs.declared.reply.Refusal.TheVariants.{NoSuchGrant, Alloc}
 use Rattle.pool_run.specs.declared.running_party.RunningParty.{RunningParty}
 use Rattle.pool_run.proofs.Parties.{can_step, called_key, returned_stage}
-use Rattle.pool_run.proofs.Shares.{share_for}
 use Rattle.pool_run.specs.Acts.{Act, requests, on_memory, drops, act_of}
 use Rattle.pool_run.proofs.Opened.{idle_is, IsStep, drops_opened, module_opened}
 use Rattle.pool_run.proofs.StageSteps.{is_none, none_idle, is_key}
@@ -147,21 +146,19 @@ module _ {P : Type 0} (maker : MakerTold) (c : PoolCore P) (p : RunningParty P) 
       (begun_bounded c (call.GiveBack grant) p.frame) leaves
 
   -- a request for an instance
-  requests_on : (w : World) (number : ℕ) (kept : Option ModuleCall) (o : Opening P) (t : Turned P) → IfSome kept (IsCallFor w.terms c.settings number) → OpensRequest kept p o → Leaves o c p t → p.done < length p.live → HasAdvanced 1 (bound_asked c kept) c p t
+  requests_on : (w : World) (number : ℕ) (kept : Option ModuleAsked) (o : Opening P) (t : Turned P) → IfSome kept (IsCallFor w.terms c.settings number) → OpensRequest kept p o → Leaves o c p t → p.done < length p.live → HasAdvanced 1 (bound_asked c kept) c p t
   requests_on w number None o t for opens leaves room = absurd opens
   requests_on w number (Some kept) o t for opens leaves room =
       let L : Opening P → Type 0 = λ x. Leaves x c p t in
       elim opens [
         | inl is ↦ looser 1 1 (bound_of c (call.Module kept)) c p t (omega arith) (replies_on p.live (Refused (Alloc alloc.Memory)) t (subst L is leaves))
-        | inr m ↦
-            let call_for : IsCallFor w.terms c.settings number m.0 = share_for w.terms c.settings number kept m.0 m.1 for in
-            let same : bound_of c (call.Module m.0) ≡ bound_of c (call.Module kept) = ap (λ (i : ModuleInfo). instance_bound (pool_sizes c) (length i.memories)) m.1.info in
-            begins_step (bound_of c (call.Module kept)) (begun_call (call.Module m.0) p.frame) p.live t (module_opened maker c p can idle m.0 call_for.fit room)
+        | inr is ↦
+            begins_step (bound_of c (call.Module kept)) (begun_call (call.Module kept) p.frame) p.live t (module_opened maker c p can idle kept for.fit room)
             refl
-            (omega (arith, begun_bounded c (call.Module m.0) p.frame, same)) (subst L m.2 leaves)
+            (omega (arith, begun_bounded c (call.Module kept) p.frame)) (subst L is leaves)
       ]
 
-  act_on : (w : World) (modules : List ModuleCall) (act : Act) (o : Opening P) (t : Turned P) → AreCallsFor w.terms c.settings modules → OpensAct modules act p o → Leaves o c p t → p.done < length p.live → HasAdvanced 1 (bound_begun modules act c p) c p t
+  act_on : (w : World) (modules : List ModuleAsked) (act : Act) (o : Opening P) (t : Turned P) → AreCallsFor w.terms c.settings modules → OpensAct modules act p o → Leaves o c p t → p.done < length p.live → HasAdvanced 1 (bound_begun modules act c p) c p t
   act_on w modules (requests number) o t calls opens leaves room = requests_on w number (slice_get modules number) o t (calls number) opens leaves room
   act_on w modules (on_memory of k op) o t calls opens leaves room =
       let L : Opening P → Type 0 = λ x. Leaves x c p t in
@@ -189,7 +186,7 @@ module _ {P : Type 0} (maker : MakerTold) (c : PoolCore P) (p : RunningParty P) 
       subst (HasAdvanced 1 1 c p) (sym steps.2) (drawn_by a.outcome a.core a.frame keyed on.staged.key idles on.staged.drawn)
 
   -- where there is no command left one turn is the bound
-  none_bound : (keyed : Bool) (modules : List ModuleCall) → bound_keyed keyed modules None c p ≡ 1
+  none_bound : (keyed : Bool) (modules : List ModuleAsked) → bound_keyed keyed modules None c p ≡ 1
   none_bound true modules = refl
   none_bound false modules = refl
 
@@ -207,7 +204,7 @@ module _ {P : Type 0} (maker : MakerTold) (c : PoolCore P) (p : RunningParty P) 
       let B : Bool → Bool = λ v. v && nat_lt p.done (length commands) in
       ap (λ (v : Bool). one_if (B v)) is ∙ ap one_if (has_next commands next there)
 
-  next_on : (w : World) (modules : List ModuleCall) (commands : List Command) (next : Option Command) (keyed : Bool) (o : Opening P) (t : Turned P) → AreCallsFor w.terms c.settings modules → slice_get commands p.done ≡ next → p.keyed ≡ keyed → length commands ≤ length p.live → OpensNext modules next keyed p o → Leaves o c p t → HasAdvanced (one_if (is_some next)) (bound_keyed keyed modules next c p) c p t
+  next_on : (w : World) (modules : List ModuleAsked) (commands : List Command) (next : Option Command) (keyed : Bool) (o : Opening P) (t : Turned P) → AreCallsFor w.terms c.settings modules → slice_get commands p.done ≡ next → p.keyed ≡ keyed → length commands ≤ length p.live → OpensNext modules next keyed p o → Leaves o c p t → HasAdvanced (one_if (is_some next)) (bound_keyed keyed modules next c p) c p t
   next_on w modules commands None keyed o t calls next drawn room opens leaves =
       let L : Opening P → Type 0 = λ x. Leaves x c p t in
       let bound : bound_keyed keyed modules None c p ≡ 1 = none_bound keyed modules in
@@ -219,7 +216,7 @@ module _ {P : Type 0} (maker : MakerTold) (c : PoolCore P) (p : RunningParty P) 
   next_on w modules commands (Some command) true o t calls next drawn room opens leaves = act_on w modules (act_of command) o t calls opens leaves (omega (arith, room, slice_get_within commands p.done command next))
 
 module _ {P : Type 0} where
-  advanced_at : (w : World) (modules : List ModuleCall) (commands : List Command) (c : PoolCore P) (p : RunningParty P) (o : Opening P) (t : Turned P) (b : Bool) → is_idle p.frame.phase ≡ b → AreCallsFor w.terms c.settings modules → CanTurn w.maker c p → IsReady p.frame → length commands ≤ length p.live → OpensAt b modules commands p o → Leaves o c p t → HasAdvanced (one_if (begins_by (length commands) p)) (bound_by modules commands c p) c p t
+  advanced_at : (w : World) (modules : List ModuleAsked) (commands : List Command) (c : PoolCore P) (p : RunningParty P) (o : Opening P) (t : Turned P) (b : Bool) → is_idle p.frame.phase ≡ b → AreCallsFor w.terms c.settings modules → CanTurn w.maker c p → IsReady p.frame → length commands ≤ length p.live → OpensAt b modules commands p o → Leaves o c p t → HasAdvanced (one_if (begins_by (length commands) p)) (bound_by modules commands c p) c p t
   advanced_at w modules commands c p o t true idle calls can ready room opens leaves =
       let A : ℕ → Type 0 = λ n. HasAdvanced n (bound_by modules commands c p) c p t in
       subst A (sym (counts_next w.maker c p can ready idle commands (slice_get commands p.done) refl)) (next_on w.maker c p can ready idle w modules commands (slice_get commands p.done) p.keyed o t calls refl refl room opens leaves)
@@ -230,5 +227,5 @@ module _ {P : Type 0} where
       subst A (sym none) (step_advanced w.maker (bound_by modules commands c p) c p t can ready busy (subst L opens leaves))
 
   -- How far each turn of a party takes it.
-  pub has_advanced : (w : World) (modules : List ModuleCall) (commands : List Command) (c : PoolCore P) (p : RunningParty P) (t : Turned P) → AreCallsFor w.terms c.settings modules → CanTurn w.maker c p → IsReady p.frame → length commands ≤ length p.live → Turns modules commands c p t → HasAdvanced (one_if (begins_by (length commands) p)) (bound_by modules commands c p) c p t
+  pub has_advanced : (w : World) (modules : List ModuleAsked) (commands : List Command) (c : PoolCore P) (p : RunningParty P) (t : Turned P) → AreCallsFor w.terms c.settings modules → CanTurn w.maker c p → IsReady p.frame → length commands ≤ length p.live → Turns modules commands c p t → HasAdvanced (one_if (begins_by (length commands) p)) (bound_by modules commands c p) c p t
   has_advanced w modules commands c p t calls can ready room turns = advanced_at w modules commands c p turns.0 t (is_idle p.frame.phase) refl calls can ready room turns.1 turns.2

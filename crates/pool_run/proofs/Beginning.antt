@@ -8,14 +8,14 @@ use Rattle.pool_alloc.specs.Stepping.{is_idle}
 use Rattle.pool_alloc.specs.declared.pool_core.PoolCore.{PoolCore}
 use Rattle.pool_alloc.specs.declared.frame.Call.TheVariants as call
 use Rattle.pool_alloc.specs.declared.frame.Frame.{Frame}
-use Rattle.pool_alloc.specs.declared.frame.ModuleCall.{ModuleCall}
+use Rattle.pool_alloc.specs.Asked.{ModuleAsked}
 use Rattle.pool_alloc.specs.declared.frame.Grant.{Grant}
 use Rattle.pool_alloc.specs.declared.frame.Grant.TheVariants.{Instance as instance}
 use Rattle.pool_alloc.specs.declared.frame.Phase.{Phase}
 use Rattle.pool_alloc.specs.declared.frame.Phase.TheVariants.{Key}
 use Rattle.pool_alloc.specs.Stages.{Stage, no_call, stage_at, stage_of}
 use Rattle.pool_run.specs.PartyRules.{rule_of}
-use Rattle.pool_run.specs.Private.{PrivateInstance, Grants, grant_at, MovesGrants, Drops, private_memories}
+use Rattle.pool_run.specs.Private.{PrivateInstance, Grants, grant_at, request_of, MovesGrants, Drops, private_memories}
 use Rattle.pool_run.specs.Rooms.{World, TellsOfPool}
 use Rattle.pool_run.specs.Turns.{Turned, with_reply, private_memory, LeaseMoves, private_grant, grants_of, Turns, memory_leases, Opening, replies, makes_step, drop_opening, OpensRequest, OpensAct, OpensNext, OpensAt, Leaves}
 use Rattle.pool_run.specs.Ties.{TiedAs, IsPrivate, CanTurn, IsAlone}
@@ -28,7 +28,6 @@ use Rattle.pool_run.specs.declared.reply.Refusal.TheVariants.{NoSuchGrant, Alloc
 use Rattle.pool_run.specs.declared.running_party.RunningParty.{RunningParty}
 use Rattle.pool_run.proofs.Grants.{grants_set, told_at}
 use Rattle.pool_run.proofs.Causes.{memory_cause}
-use Rattle.pool_run.proofs.Shares.{share_for}
 use Rattle.pool_run.proofs.Turning.{SeesTurn, replied, step_private}
 use Rattle.pool_run.specs.Acts.{MemoryOp, Act, requests, on_memory, drops, act_of, act_at}
 use Rattle.pool_run.specs.Objects.{object_at, with_object, MovesObject}
@@ -76,15 +75,14 @@ module _ {P : Type 0} (w : World) (start : Grants) (commands : List Command) (be
         steps_seen (begun_call (call.GiveBack grant) p.frame) new t (drops_opened w.maker c p can idle of (Some grant) has) (subst Tied (sym (returned_stage grant p.frame)) (record { of = of; act = next; there = there; ended = emptied })) follows
 
     -- a request for an instance
-    requests_seen : (number : ℕ) (kept : Option ModuleCall) (o : Opening P) (t : Turned P) → IfSome kept (IsCallFor w.terms c.settings number) → OpensRequest kept p o → Leaves o c p t → act_at commands p.done ≡ Some (requests number) → p.done < length p.live → SeesTurn w start commands before t
+    requests_seen : (number : ℕ) (kept : Option ModuleAsked) (o : Opening P) (t : Turned P) → IfSome kept (IsCallFor w.terms c.settings number) → OpensRequest kept p o → Leaves o c p t → act_at commands p.done ≡ Some (requests number) → p.done < length p.live → SeesTurn w start commands before t
     requests_seen number None o t for opens follows next room = absurd opens
     requests_seen number (Some kept) o t for opens follows next room =
         let F : Opening P → Type 0 = λ x. Leaves x c p t in
         elim opens [
-          | inl is ↦ ends_seen (requests number) p.live (Refused (Alloc alloc.Memory)) t next ((memory_cause w number private.grants).0, told_now) tt (subst F is follows)
-          | inr m ↦
-              let call_for : IsCallFor w.terms c.settings number m.0 = share_for w.terms c.settings number kept m.0 m.1 for in
-              steps_seen (begun_call (call.Module m.0) p.frame) p.live t (module_opened w.maker c p can idle m.0 call_for.fit room) (told_now, record { number = number; act = next; asked_for = call_for.asked; so_far = tt }) (subst F m.2 follows)
+          | inl is ↦ ends_seen (requests number) p.live (Refused (Alloc alloc.Memory)) t next ((memory_cause w (request_of w.terms number) private.grants).0, told_now) tt (subst F is follows)
+          | inr is ↦
+              steps_seen (begun_call (call.Module kept) p.frame) p.live t (module_opened w.maker c p can idle kept for.fit room) (told_now, record { number = number; act = next; asked_for = for.asked; so_far = tt }) (subst F is follows)
         ]
 
     -- a command on a memory
@@ -99,7 +97,7 @@ module _ {P : Type 0} (w : World) (start : Grants) (commands : List Command) (be
         (named_moves w op (object_at private_memories of k private.grants) (with_object private_memories of k) private.grants (grants_of live) reply on)
         (named_tells w op (object_at private_memories of k private.grants) (with_object private_memories of k) private.grants (grants_of live) reply on) follows
 
-    act_seen : (modules : List ModuleCall) (act : Act) (o : Opening P) (t : Turned P) → AreCallsFor w.terms c.settings modules → OpensAct modules act p o → Leaves o c p t → act_at commands p.done ≡ Some act → p.done < length p.live → SeesTurn w start commands before t
+    act_seen : (modules : List ModuleAsked) (act : Act) (o : Opening P) (t : Turned P) → AreCallsFor w.terms c.settings modules → OpensAct modules act p o → Leaves o c p t → act_at commands p.done ≡ Some act → p.done < length p.live → SeesTurn w start commands before t
     act_seen modules (requests number) o t calls opens follows next room = requests_seen number (slice_get modules number) o t (calls number) opens follows next room
     act_seen modules (on_memory of k op) o t calls opens follows next room =
         let F : Opening P → Type 0 = λ x. Leaves x c p t in
@@ -108,7 +106,7 @@ module _ {P : Type 0} (w : World) (start : Grants) (commands : List Command) (be
         let F : Opening P → Type 0 = λ x. Leaves x c p t in
         drops_seen of (slice_index_or p.live of None) t refl (subst F opens follows) next
 
-    next_seen : (modules : List ModuleCall) (next : Option Command) (keyed : Bool) (o : Opening P) (t : Turned P) → AreCallsFor w.terms c.settings modules → slice_get commands p.done ≡ next → length commands ≤ length p.live → OpensNext modules next keyed p o → Leaves o c p t → SeesTurn w start commands before t
+    next_seen : (modules : List ModuleAsked) (next : Option Command) (keyed : Bool) (o : Opening P) (t : Turned P) → AreCallsFor w.terms c.settings modules → slice_get commands p.done ≡ next → length commands ≤ length p.live → OpensNext modules next keyed p o → Leaves o c p t → SeesTurn w start commands before t
     next_seen modules None keyed o t calls next room opens follows =
         let F : Opening P → Type 0 = λ x. Leaves x c p t in
         subst (SeesTurn w start commands before) (sym (subst F opens follows)) private
@@ -118,7 +116,7 @@ module _ {P : Type 0} (w : World) (start : Grants) (commands : List Command) (be
     next_seen modules (Some command) true o t calls next room opens follows =
         act_seen modules (act_of command) o t calls opens follows (ap (option_map act_of) next) (omega (arith, room, slice_get_within commands p.done command next))
 
-  seen_at : (b : Bool) (modules : List ModuleCall) (o : Opening P) (t : Turned P) → is_idle p.frame.phase ≡ b → AreCallsFor w.terms c.settings modules → length commands ≤ length p.live → OpensAt b modules commands p o → Leaves o c p t → SeesTurn w start commands before t
+  seen_at : (b : Bool) (modules : List ModuleAsked) (o : Opening P) (t : Turned P) → is_idle p.frame.phase ≡ b → AreCallsFor w.terms c.settings modules → length commands ≤ length p.live → OpensAt b modules commands p o → Leaves o c p t → SeesTurn w start commands before t
   seen_at true modules o t idle calls room opens follows = next_seen (idle_is p.frame.phase idle) modules (slice_get commands p.done) p.keyed o t calls refl room opens follows
   seen_at false modules o t busy calls room opens follows =
       let F : Opening P → Type 0 = λ x. Leaves x c p t in
@@ -126,5 +124,5 @@ module _ {P : Type 0} (w : World) (start : Grants) (commands : List Command) (be
 
 module _ {P : Type 0} where
   -- After a turn of a party its replies are still a private run.
-  pub turn_private : (w : World) (modules : List ModuleCall) (start : Grants) (commands : List Command) (before : List Reply) (c : PoolCore P) (p : RunningParty P) (t : Turned P) → IsWorldOf w c → AreCallsFor w.terms c.settings modules → CanTurn w.maker c p → (w.alone ≡ true → IsAlone c p.frame p.live) → rule_of p.limits ≡ w.terms.rule → length commands ≤ length p.live → IsPrivate w start commands before p → Turns modules commands c p t → IsPrivate w start commands (with_reply t.reply before) t.party
+  pub turn_private : (w : World) (modules : List ModuleAsked) (start : Grants) (commands : List Command) (before : List Reply) (c : PoolCore P) (p : RunningParty P) (t : Turned P) → IsWorldOf w c → AreCallsFor w.terms c.settings modules → CanTurn w.maker c p → (w.alone ≡ true → IsAlone c p.frame p.live) → rule_of p.limits ≡ w.terms.rule → length commands ≤ length p.live → IsPrivate w start commands before p → Turns modules commands c p t → IsPrivate w start commands (with_reply t.reply before) t.party
   turn_private w modules start commands before c p t world calls can alone ruled room private turns = seen_at w start commands before c p private world can alone ruled (is_idle p.frame.phase) modules turns.0 t refl calls room turns.1 turns.2

@@ -8,7 +8,7 @@ use Rattle.std.proofs.lemmas.Option.{slice_get_within, slice_get-get_or, get_or_
 use Rattle.pool_index.specs.Shard.{one_if}
 use Rattle.pool_alloc.specs.Stepping.{IsSameSize, is_idle}
 use Rattle.pool_alloc.specs.declared.pool_core.PoolCore.{PoolCore}
-use Rattle.pool_alloc.specs.declared.frame.ModuleCall.{ModuleCall}
+use Rattle.pool_alloc.specs.Asked.{ModuleAsked}
 use Rattle.pool_alloc.proofs.BegunCalls.{steps_left_same}
 use Rattle.pool_run.specs.Folds.{RunState, with_turn}
 use Rattle.pool_run.specs.Progress.{is_busy, begins_by, calls_begun, begins_call, turns_left, bound_by, bound_next, Advances}
@@ -46,7 +46,7 @@ module _ {P : Type 0} where
   left_over c d (Some p) size = steps_left_same c d p.frame size
 
   -- The turn takes the party further in the run.
-  pub advances : (modules : List ModuleCall) (commands : List Command) (s : RunState P) (i : ℕ) (p : RunningParty P) (t : Turned P) → slice_get s.parties i ≡ Some p → IsSameSize s.core t.core → HasAdvanced (one_if (begins_by (length commands) p)) (bound_by modules commands s.core p) s.core p t → Advances modules commands i s (with_turn i t s)
+  pub advances : (modules : List ModuleAsked) (commands : List Command) (s : RunState P) (i : ℕ) (p : RunningParty P) (t : Turned P) → slice_get s.parties i ≡ Some p → IsSameSize s.core t.core → HasAdvanced (one_if (begins_by (length commands) p)) (bound_by modules commands s.core p) s.core p t → Advances modules commands i s (with_turn i t s)
   advances modules commands s i p t there size turned =
       let below : i < length s.parties = slice_get_within s.parties i p there in
       let inside : i < length (slice_set s.parties i t.party) = omega (arith, below, length-set s.parties i t.party) in

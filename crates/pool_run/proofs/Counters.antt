@@ -54,9 +54,9 @@ module _ {P : Type 0} where
       omega (arith, first, second, third, two, three, all)
 
   -- There are no more memories than slots.
-  pub few_memories : (maker : MakerTold) (c : PoolCore P) (parties : List (RunningParty P)) → IsRunning maker c parties → c.counters.memories ≤ length c.cells
+  pub few_memories : (maker : MakerTold) (c : PoolCore P) (parties : List (RunningParty P)) → IsRunning maker c parties → c.counters.memories ≤ c.settings.slots
   few_memories maker c parties running =
-      let n : ℕ = length c.cells in
+      let n : ℕ = c.settings.slots in
       let outside : (k : ℕ) → n ≤ k → made_count (right_to k) n ≡ 0 = λ k past. ap one_if (le-ltb k n past) in
       omega (
         arith,

@@ -3,7 +3,7 @@ use Rattle.std.proofs.Common.{◌≡◌, ℕ, ◌+◌, ◌<◌, ◌≤◌, List,
 use Rattle.std.specs.Prelude.{IfSome, slice_get, slice_index_or}
 use Rattle.std.proofs.lemmas.List.{length-set}
 use Rattle.std.proofs.lemmas.Option.{slice_get-get_or}
-use Rattle.pool_alloc.specs.declared.frame.ModuleCall.{ModuleCall}
+use Rattle.pool_alloc.specs.Asked.{ModuleAsked}
 use Rattle.pool_run.specs.PartyRules.{rule_of}
 use Rattle.pool_run.specs.Private.{PrivateState, StepsBy, with_grants, no_grants}
 use Rattle.pool_run.specs.Rooms.{World, PooledStep, under}
@@ -23,21 +23,21 @@ module _ {P : Type 0} where
   pub few_told : (w : World) (commands : List Command) (replies : List Reply) (p : RunningParty P) → IsRunTo w commands replies p → length replies ≤ length p.live
   few_told w commands replies p to = omega (arith, no_more_replies (PooledStep (under (rule_of p.limits) w)) 0 commands replies (with_grants (no_grants commands)) (with_grants to.private.grants) to.private.run, to.room)
 
-  turned_count : (modules : List ModuleCall) (commands : List Command) (i : ℕ) (o : Option (RunningParty P)) (s new : RunState P) → TurnsIf modules commands i o s new → length new.parties ≡ length s.parties
+  turned_count : (modules : List ModuleAsked) (commands : List Command) (i : ℕ) (o : Option (RunningParty P)) (s new : RunState P) → TurnsIf modules commands i o s new → length new.parties ≡ length s.parties
   turned_count modules commands i None s new turns = ap (λ (x : RunState P). length x.parties) turns
   turned_count modules commands i (Some p) s new turns = ap (λ (x : RunState P). length x.parties) turns.2 ∙ length-set s.parties i turns.0.party
 
   -- No party comes or goes.
-  pub folds_count : (modules : List ModuleCall) (inputs : List (List Command)) (schedule : List ℕ) (s end : RunState P) → Folds modules inputs schedule s end → length end.parties ≡ length s.parties
+  pub folds_count : (modules : List ModuleAsked) (inputs : List (List Command)) (schedule : List ℕ) (s end : RunState P) → Folds modules inputs schedule s end → length end.parties ≡ length s.parties
   folds_count modules inputs [] s end folds = ap (λ (x : RunState P). length x.parties) folds
   folds_count modules inputs (i ∷ schedule) s end folds = folds_count modules inputs schedule folds.0 end folds.2 ∙ turned_count modules (commands_of inputs i) i (slice_get s.parties i) s folds.0 folds.1
 
-  pub run_count : (modules : List ModuleCall) (inputs : List (List Command)) (schedule : List ℕ) (s end : RunState P) → Runs modules inputs schedule s end → length end.parties ≡ length s.parties
+  pub run_count : (modules : List ModuleAsked) (inputs : List (List Command)) (schedule : List ℕ) (s end : RunState P) → Runs modules inputs schedule s end → length end.parties ≡ length s.parties
   run_count modules inputs schedule s end runs =
       folds_count modules inputs (party_by_party 0 runs.finishes.counts) runs.scheduled end runs.finishes.folds ∙ folds_count modules inputs schedule s runs.scheduled runs.folds
 
   -- Where nobody has anything left each command has its reply.
-  pub all_replied : (w : World) (modules : List ModuleCall) (inputs : List (List Command)) (s : RunState P) (i : ℕ) (d : RunningParty P) → IsUnderWay w modules inputs s → IsFinished inputs s → i < length s.parties → length (replies_to i s.replies) ≡ length (commands_of inputs i)
+  pub all_replied : (w : World) (modules : List ModuleAsked) (inputs : List (List Command)) (s : RunState P) (i : ℕ) (d : RunningParty P) → IsUnderWay w modules inputs s → IsFinished inputs s → i < length s.parties → length (replies_to i s.replies) ≡ length (commands_of inputs i)
   all_replied w modules inputs s i d way finished below =
       let to = way.each i d below in
       let Left : Option (RunningParty P) → Type 0 = λ o. IfSome o (HasNothingLeft (commands_of inputs i)) in

@@ -6,7 +6,7 @@ use Rattle.std.proofs.lemmas.List.{append-nil, length_push, replicate-append-rep
 use Rattle.std.proofs.lemmas.Option.{slice_get_past}
 use Rattle.pool_index.specs.Shard.{one_if}
 use Rattle.pool_alloc.specs.Stepping.{is_idle}
-use Rattle.pool_alloc.specs.declared.frame.ModuleCall.{ModuleCall}
+use Rattle.pool_alloc.specs.Asked.{ModuleAsked}
 use Rattle.pool_run.specs.Folds.{RunState, commands_of, party_by_party, TurnsIf, TurnsOf, Folds, HasNothingLeft, FinishesRun}
 use Rattle.pool_run.specs.Progress.{is_busy, commands_done, calls_begun, begins_call, TurnsSome}
 use Rattle.pool_run.specs.declared.command.Command.{Command}
@@ -35,13 +35,13 @@ party_by_party-push i n (m ∷ counts) =
 
 module _ {P : Type 0} where
   -- no turns, one more, and more after others
-  pub some_none : (modules : List ModuleCall) (inputs : List (List Command)) (i : ℕ) (s : RunState P) → TurnsSome modules inputs i s s
+  pub some_none : (modules : List ModuleAsked) (inputs : List (List Command)) (i : ℕ) (s : RunState P) → TurnsSome modules inputs i s s
   some_none modules inputs i s = record { times = 0; folds = refl }
 
-  pub some_more : (modules : List ModuleCall) (inputs : List (List Command)) (i : ℕ) (s mid new : RunState P) → TurnsSome modules inputs i s mid → TurnsOf modules inputs i mid new → TurnsSome modules inputs i s new
+  pub some_more : (modules : List ModuleAsked) (inputs : List (List Command)) (i : ℕ) (s mid new : RunState P) → TurnsSome modules inputs i s mid → TurnsOf modules inputs i mid new → TurnsSome modules inputs i s new
   some_more modules inputs i s mid new some turns = record { times = some.times + 1; folds = repeated modules inputs i some.times s mid new some.folds turns }
 
-  pub some_on : (modules : List ModuleCall) (inputs : List (List Command)) (i : ℕ) (s mid end : RunState P) → TurnsSome modules inputs i s mid → TurnsSome modules inputs i mid end → TurnsSome modules inputs i s end
+  pub some_on : (modules : List ModuleAsked) (inputs : List (List Command)) (i : ℕ) (s mid end : RunState P) → TurnsSome modules inputs i s mid → TurnsSome modules inputs i mid end → TurnsSome modules inputs i s end
   some_on modules inputs i s mid end some more =
       let F : List ℕ → Type 0 = λ turns. Folds modules inputs turns s end in
       record {
@@ -50,11 +50,11 @@ module _ {P : Type 0} where
       }
 
   -- The other parties stay as they are.
-  turned_others : (modules : List ModuleCall) (commands : List Command) (i k : ℕ) (o : Option (RunningParty P)) (s new : RunState P) → k ≢ i → TurnsIf modules commands i o s new → slice_get new.parties k ≡ slice_get s.parties k
+  pub turned_others : (modules : List ModuleAsked) (commands : List Command) (i k : ℕ) (o : Option (RunningParty P)) (s new : RunState P) → k ≢ i → TurnsIf modules commands i o s new → slice_get new.parties k ≡ slice_get s.parties k
   turned_others modules commands i k None s new other turns = ap (λ (x : RunState P). slice_get x.parties k) turns
   turned_others modules commands i k (Some p) s new other turns = ap (λ (x : RunState P). slice_get x.parties k) turns.2 ∙ set_other s.parties i k turns.0.party other
 
-  folds_others : (modules : List ModuleCall) (inputs : List (List Command)) (i k n : ℕ) (s end : RunState P) → k ≢ i → Folds modules inputs (replicate n i) s end → slice_get end.parties k ≡ slice_get s.parties k
+  folds_others : (modules : List ModuleAsked) (inputs : List (List Command)) (i k n : ℕ) (s end : RunState P) → k ≢ i → Folds modules inputs (replicate n i) s end → slice_get end.parties k ≡ slice_get s.parties k
   folds_others modules inputs i k zero s end other folds = ap (λ (x : RunState P). slice_get x.parties k) folds
   folds_others modules inputs i k (suc n) s end other folds = folds_others modules inputs i k n folds.0 end other folds.2 ∙ turned_others modules (commands_of inputs i) i k (slice_get s.parties i) s folds.0 other folds.1
 
@@ -87,16 +87,16 @@ module _ {P : Type 0} where
   begins_there count i s below idle more = begins_some count (slice_get s.parties i) (is_there s.parties i below) idle more
 
   -- the parties below i have nothing left, after so many turns of each
-  pub record FinishesBelow (modules : List ModuleCall) (inputs : List (List Command)) (i : ℕ) (s end : RunState P) : Type 0 where
+  pub record FinishesBelow (modules : List ModuleAsked) (inputs : List (List Command)) (i : ℕ) (s end : RunState P) : Type 0 where
     pub counts : List ℕ
     pub parties : length counts ≡ i
     pub folds : Folds modules inputs (party_by_party 0 counts) s end
     pub finished : (k : ℕ) → k < i → IfSome (slice_get end.parties k) (HasNothingLeft (commands_of inputs k))
 
-  pub finishes_none : (modules : List ModuleCall) (inputs : List (List Command)) (s : RunState P) → FinishesBelow modules inputs 0 s s
+  pub finishes_none : (modules : List ModuleAsked) (inputs : List (List Command)) (s : RunState P) → FinishesBelow modules inputs 0 s s
   finishes_none modules inputs s = record { counts = []; parties = refl; folds = refl; finished = λ k below. absurd (omega (arith, below)) }
 
-  pub finishes_more : (modules : List ModuleCall) (inputs : List (List Command)) (i : ℕ) (s mid end : RunState P) → FinishesBelow modules inputs i s mid → TurnsSome modules inputs i mid end → IfSome (slice_get end.parties i) (HasNothingLeft (commands_of inputs i)) → FinishesBelow modules inputs (i + 1) s end
+  pub finishes_more : (modules : List ModuleAsked) (inputs : List (List Command)) (i : ℕ) (s mid end : RunState P) → FinishesBelow modules inputs i s mid → TurnsSome modules inputs i mid end → IfSome (slice_get end.parties i) (HasNothingLeft (commands_of inputs i)) → FinishesBelow modules inputs (i + 1) s end
   finishes_more modules inputs i s mid end below some left =
       let n : ℕ = some.times in
       let F : List ℕ → Type 0 = λ turns. Folds modules inputs turns s end in
@@ -117,7 +117,7 @@ module _ {P : Type 0} where
       }
 
   -- All of them have.
-  pub finishes_all : (modules : List ModuleCall) (inputs : List (List Command)) (i : ℕ) (s end : RunState P) → FinishesBelow modules inputs i s end → i ≡ length s.parties → length end.parties ≡ length s.parties → FinishesRun modules inputs s end
+  pub finishes_all : (modules : List ModuleAsked) (inputs : List (List Command)) (i : ℕ) (s end : RunState P) → FinishesBelow modules inputs i s end → i ≡ length s.parties → length end.parties ≡ length s.parties → FinishesRun modules inputs s end
   finishes_all modules inputs i s end below all same = record {
     counts = below.counts;
     parties = below.parties ∙ all;

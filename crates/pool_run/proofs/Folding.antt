@@ -7,7 +7,7 @@ use Rattle.std.proofs.lemmas.Option.{slice_get_within, get_or_from_slice_get}
 use Rattle.pool_alloc.specs.Stepping.{IsSameSize}
 use Rattle.pool_alloc.specs.declared.pool_core.PoolCore.{PoolCore}
 use Rattle.pool_alloc.specs.declared.pool_core.Settings.{Settings}
-use Rattle.pool_alloc.specs.declared.frame.ModuleCall.{ModuleCall}
+use Rattle.pool_alloc.specs.Asked.{ModuleAsked}
 use Rattle.pool_alloc.specs.Places.{made_count}
 use Rattle.pool_limits.specs.Growth.{GrowthRule, always}
 use Rattle.pool_alloc.proofs.Telling.{told_weaker}
@@ -32,25 +32,25 @@ use Rattle.pool_run.specs.Limits.{IsWithinCounts}
 module _ {P : Type 0} where
   -- The world stays that of the pool.
   world_over : (w : World) (c d : PoolCore P) → IsSameSize c d → IsWorldOf w c → IsWorldOf w d
-  world_over w c d size world = record { tells = world.tells; settings = world.settings ∙ sym size.settings; slots = world.slots ∙ sym size.cells; stripes = world.stripes }
+  world_over w c d size world = record { tells = world.tells; settings = world.settings ∙ sym size.settings; slots = world.slots ∙ sym (ap (λ (z : Settings). z.slots) size.settings); stripes = world.stripes }
 
   -- The world is the pool's whatever the rule of a party.
   world_under : (rule : GrowthRule) (w : World) (c : PoolCore P) → IsWorldOf w c → IsWorldOf (under rule w) c
   world_under rule w c world = record { tells = world.tells; settings = world.settings; slots = world.slots; stripes = world.stripes }
 
-calls_under : (rule : GrowthRule) (w : World) (s : Settings) (modules : List ModuleCall) → AreCallsFor w.terms s modules → AreCallsFor (under rule w).terms s modules
+calls_under : (rule : GrowthRule) (w : World) (s : Settings) (modules : List ModuleAsked) → AreCallsFor w.terms s modules → AreCallsFor (under rule w).terms s modules
 calls_under rule w s modules calls number =
     told_weaker (IsCallFor w.terms s number) (IsCallFor (under rule w).terms s number) (slice_get modules number)
-    (λ m for. record { asked = record { some = for.asked.some; module_of = for.asked.module_of; images = for.asked.images }; fit = for.fit }) (calls number)
+    (λ m for. record { asked = for.asked; fit = for.fit }) (calls number)
 
 module _ {P : Type 0} where
-  calls_over : (w : World) (modules : List ModuleCall) (c d : PoolCore P) → IsSameSize c d → AreCallsFor w.terms c.settings modules → AreCallsFor w.terms d.settings modules
+  calls_over : (w : World) (modules : List ModuleAsked) (c d : PoolCore P) → IsSameSize c d → AreCallsFor w.terms c.settings modules → AreCallsFor w.terms d.settings modules
   calls_over w modules c d size calls =
       let Calls : Settings → Type 0 = λ s. AreCallsFor w.terms s modules in
       subst Calls (sym size.settings) calls
 
   -- One party's turn.
-  run_to : (w : World) (modules : List ModuleCall) (commands : List Command) (replies : List Reply) (c : PoolCore P) (p : RunningParty P) (t : Turned P) → IsWorldOf w c → AreCallsFor w.terms c.settings modules → CanTurn w.maker c p → (w.alone ≡ true → IsAlone c p.frame p.live) → IsRunTo w commands replies p → Turns modules commands c p t → HasTurned c p t → IsRunTo w commands (with_reply t.reply replies) t.party
+  run_to : (w : World) (modules : List ModuleAsked) (commands : List Command) (replies : List Reply) (c : PoolCore P) (p : RunningParty P) (t : Turned P) → IsWorldOf w c → AreCallsFor w.terms c.settings modules → CanTurn w.maker c p → (w.alone ≡ true → IsAlone c p.frame p.live) → IsRunTo w commands replies p → Turns modules commands c p t → HasTurned c p t → IsRunTo w commands (with_reply t.reply replies) t.party
   run_to w modules commands replies c p t world calls can alone to turns turned = record {
     room = turned.room ∙ to.room;
     private =
@@ -62,12 +62,12 @@ module _ {P : Type 0} where
   -- A party that is alone stays so.
   alone_turned : (c : PoolCore P) (p : RunningParty P) (t : Turned P) → HasTurned c p t → IsAlone c p.frame p.live → IsAlone t.core t.party.frame t.party.live
   alone_turned c p t turned alone = record {
-    places = λ x. omega (arith, turned.places x, alone.places x, ap (made_count x) turned.size.cells);
+    places = λ x. omega (arith, turned.places x, alone.places x, ap (λ (z : Settings). made_count x z.slots) turned.size.settings);
     instances = omega (arith, turned.instances, alone.instances);
     searched = turned.searched alone.searched;
   }
 
-  turned_some : (w : World) (modules : List ModuleCall) (inputs : List (List Command)) (i : ℕ) (p : RunningParty P) (s : RunState P) (t : Turned P) → slice_get s.parties i ≡ Some p → IsUnderWay w modules inputs s → Turns modules (commands_of inputs i) s.core p t → IsUnderWay w modules inputs (with_turn i t s)
+  turned_some : (w : World) (modules : List ModuleAsked) (inputs : List (List Command)) (i : ℕ) (p : RunningParty P) (s : RunState P) (t : Turned P) → slice_get s.parties i ≡ Some p → IsUnderWay w modules inputs s → Turns modules (commands_of inputs i) s.core p t → IsUnderWay w modules inputs (with_turn i t s)
   turned_some w modules inputs i p s t there way turns =
       let below : i < length s.parties = slice_get_within s.parties i p there in
       let here : slice_index_or s.parties i p ≡ p = get_or_from_slice_get s.parties i p p there in
@@ -128,28 +128,28 @@ module _ {P : Type 0} where
             ];
       }
 
-  turned_if : (w : World) (modules : List ModuleCall) (inputs : List (List Command)) (i : ℕ) (o : Option (RunningParty P)) (s new : RunState P) → slice_get s.parties i ≡ o → IsUnderWay w modules inputs s → TurnsIf modules (commands_of inputs i) i o s new → IsUnderWay w modules inputs new
+  turned_if : (w : World) (modules : List ModuleAsked) (inputs : List (List Command)) (i : ℕ) (o : Option (RunningParty P)) (s new : RunState P) → slice_get s.parties i ≡ o → IsUnderWay w modules inputs s → TurnsIf modules (commands_of inputs i) i o s new → IsUnderWay w modules inputs new
   turned_if w modules inputs i None s new there way turns = subst (IsUnderWay w modules inputs) (sym turns) way
   turned_if w modules inputs i (Some p) s new there way turns = subst (IsUnderWay w modules inputs) (sym turns.2) (turned_some w modules inputs i p s turns.0 there way turns.1)
 
   -- A turn of one of the parties.
-  pub run_turned : (w : World) (modules : List ModuleCall) (inputs : List (List Command)) (i : ℕ) (s new : RunState P) → IsUnderWay w modules inputs s → TurnsOf modules inputs i s new → IsUnderWay w modules inputs new
+  pub run_turned : (w : World) (modules : List ModuleAsked) (inputs : List (List Command)) (i : ℕ) (s new : RunState P) → IsUnderWay w modules inputs s → TurnsOf modules inputs i s new → IsUnderWay w modules inputs new
   run_turned w modules inputs i s new way turns = turned_if w modules inputs i (slice_get s.parties i) s new refl way turns
 
   -- Turns in any order.
-  pub folds_under_way : (w : World) (modules : List ModuleCall) (inputs : List (List Command)) (schedule : List ℕ) (s end : RunState P) → IsUnderWay w modules inputs s → Folds modules inputs schedule s end → IsUnderWay w modules inputs end
+  pub folds_under_way : (w : World) (modules : List ModuleAsked) (inputs : List (List Command)) (schedule : List ℕ) (s end : RunState P) → IsUnderWay w modules inputs s → Folds modules inputs schedule s end → IsUnderWay w modules inputs end
   folds_under_way w modules inputs [] s end way folds = subst (IsUnderWay w modules inputs) (sym folds) way
   folds_under_way w modules inputs (i ∷ schedule) s end way folds = folds_under_way w modules inputs schedule folds.0 end (run_turned w modules inputs i s folds.0 way folds.1) folds.2
 
   -- A whole run.
-  pub run_under_way : (w : World) (modules : List ModuleCall) (inputs : List (List Command)) (schedule : List ℕ) (s end : RunState P) → IsUnderWay w modules inputs s → Runs modules inputs schedule s end → IsUnderWay w modules inputs end
+  pub run_under_way : (w : World) (modules : List ModuleAsked) (inputs : List (List Command)) (schedule : List ℕ) (s end : RunState P) → IsUnderWay w modules inputs s → Runs modules inputs schedule s end → IsUnderWay w modules inputs end
   run_under_way w modules inputs schedule s end way runs =
       folds_under_way w modules inputs (party_by_party 0 runs.finishes.counts) runs.scheduled end
       (folds_under_way w modules inputs schedule s runs.scheduled way runs.folds)
       runs.finishes.folds
 
   -- The replies to each party are a private run of its commands, and tell of the pool.
-  pub replies_pooled : (w : World) (modules : List ModuleCall) (inputs : List (List Command)) (s : RunState P) (i : ℕ) (d : RunningParty P) → IsUnderWay w modules inputs s → i < length s.parties → IsPooledRun (world_at w i) (commands_of inputs i) (replies_to i s.replies)
+  pub replies_pooled : (w : World) (modules : List ModuleAsked) (inputs : List (List Command)) (s : RunState P) (i : ℕ) (d : RunningParty P) → IsUnderWay w modules inputs s → i < length s.parties → IsPooledRun (world_at w i) (commands_of inputs i) (replies_to i s.replies)
   replies_pooled w modules inputs s i d way below =
       let to = way.each i d below in
       let rule : RunningParty P → GrowthRule = λ q. rule_of q.limits in
@@ -157,15 +157,15 @@ module _ {P : Type 0} where
       let By : GrowthRule → Type 0 = λ r. IsPooledRun (under r w) (commands_of inputs i) (replies_to i s.replies) in
       subst By same (with_grants to.private.grants, to.private.run)
 
-  pub replies_private : (w : World) (modules : List ModuleCall) (inputs : List (List Command)) (s : RunState P) (i : ℕ) (d : RunningParty P) → IsUnderWay w modules inputs s → i < length s.parties → IsPrivateRun (world_at w i).terms (commands_of inputs i) (replies_to i s.replies)
+  pub replies_private : (w : World) (modules : List ModuleAsked) (inputs : List (List Command)) (s : RunState P) (i : ℕ) (d : RunningParty P) → IsUnderWay w modules inputs s → i < length s.parties → IsPrivateRun (world_at w i).terms (commands_of inputs i) (replies_to i s.replies)
   replies_private w modules inputs s i d way below = pooled_private (world_at w i) (commands_of inputs i) (replies_to i s.replies) (replies_pooled w modules inputs s i d way below)
 
   -- Turns that follow others.
-  pub folds_on : (modules : List ModuleCall) (inputs : List (List Command)) (first second : List ℕ) (s mid end : RunState P) → Folds modules inputs first s mid → Folds modules inputs second mid end → Folds modules inputs (first ++ second) s end
+  pub folds_on : (modules : List ModuleAsked) (inputs : List (List Command)) (first second : List ℕ) (s mid end : RunState P) → Folds modules inputs first s mid → Folds modules inputs second mid end → Folds modules inputs (first ++ second) s end
   folds_on modules inputs [] second s mid end one other =
       let F : RunState P → Type 0 = λ x. Folds modules inputs second x end in
       subst F one other
   folds_on modules inputs (i ∷ first) second s mid end one other = (one.0, one.1, folds_on modules inputs first second one.0 mid end one.2 other)
 
-  pub folds_more : (modules : List ModuleCall) (inputs : List (List Command)) (schedule : List ℕ) (i : ℕ) (s mid end : RunState P) → Folds modules inputs schedule s mid → TurnsOf modules inputs i mid end → Folds modules inputs (schedule ++ i ∷ []) s end
+  pub folds_more : (modules : List ModuleAsked) (inputs : List (List Command)) (schedule : List ℕ) (i : ℕ) (s mid end : RunState P) → Folds modules inputs schedule s mid → TurnsOf modules inputs i mid end → Folds modules inputs (schedule ++ i ∷ []) s end
   folds_more modules inputs schedule i s mid end folds turns = folds_on modules inputs schedule (i ∷ []) s mid end folds (end, turns, refl)

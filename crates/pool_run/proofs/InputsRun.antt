@@ -7,22 +7,24 @@ use Rattle.std.proofs.lemmas.List.Sums.{sum_by-cons}
 use Rattle.std.proofs.lemmas.Option.{slice_get-get_or}
 use Rattle.pool_pages.specs.MakerTold.{MakerTold}
 use Rattle.pool_pages.specs.declared.module_types.ModuleInfo.{ModuleInfo}
+use Rattle.pool_pages.specs.declared.module_types.Tunables.{Tunables}
 use Rattle.pool_alloc.specs.Sound.{IsCore}
 use Rattle.pool_alloc.specs.Sums.{metrics_of}
 use Rattle.pool_alloc.specs.Whole.{IsUntouched}
 use Rattle.pool_alloc.specs.declared.frame.Grant.{Grant}
-use Rattle.pool_alloc.specs.declared.frame.ModuleCall.{ModuleCall}
+use Rattle.pool_alloc.specs.Asked.{ModuleAsked}
 use Rattle.pool_limits.specs.Growth.{GrowthRule}
 use Rattle.pool_alloc.specs.declared.pool_core.PoolCore.{PoolCore}
 use Rattle.pool_alloc.specs.declared.pool_core.Settings.{Settings}
 use Rattle.pool_run.specs.Built.{is_built}
+use Rattle.pool_run.specs.Agreeing.{IsRunnable}
 use Rattle.pool_run.specs.Folds.{RunParts, RunState, IsUnderWay, commands_of, replies_to, told_state}
-use Rattle.pool_run.specs.Made.{AreMadeCalls}
+use Rattle.pool_run.specs.Made.{calls_made}
 use Rattle.pool_run.specs.Numbers.{calls_of_run}
 use Rattle.pool_run.specs.PartyRules.{rule_of}
 use Rattle.pool_run.specs.Rooms.{World, world_at, IsPooledRun}
 use Rattle.pool_run.specs.Progress.{IsRunOf}
-use Rattle.pool_run.specs.Runs.{Performs, IsToldBy, IsMadeRun, IsRun, world_of}
+use Rattle.pool_run.specs.Runs.{Performs, IsToldBy, IsMadeRun, IsRun, world_of, HoldsFromStart}
 use Rattle.pool_run.specs.RunsMade.{Background, commands_in, party_made, party_made_for, parties_made, nothing_told, places_in}
 use Rattle.pool_run.specs.Schedules.{turns_of}
 use Rattle.pool_run.specs.Validity.{is_valid, is_valid_act, are_valid_after, most_commands}
@@ -42,6 +44,8 @@ use Rattle.pool_run.proofs.Started.{run_started}
 use Rattle.pool_run.proofs.Tests.{first, second}
 use Rattle.pool_run.proofs.Valid.{valid_parties, valid_home, few_commands, valid_commands, valid_entry}
 use Rattle.pool_run.proofs.BuiltInputs.{built_modules}
+use Rattle.pool_alloc.proofs.MadePools.{made_untouched}
+use Rattle.pool_run.proofs.MadeRuns.{core_sound}
 use Rattle.pool_run.proofs.WorldsMade.{is_world, are_calls_for}
 
 -- Each command names a module that there is.
@@ -91,6 +95,11 @@ places_below P s (p ∷ ps) few =
     let one : length p.commands ≤ most_commands = few 0 p (omega arith) in
     omega (arith, sum_by-cons places (party_made_for s p) (map (party_made_for {P = P} s) ps), places_of P s p, one, places_below P s ps (λ k d below. few (suc k) d (omega (arith, below))))
 
+-- there is a call for each module
+calls_count : (tunables : Tunables) (page n : ℕ) (ms : List ModuleInfo) → length (calls_made tunables page n ms) ≡ length ms
+calls_count tunables page n [] = refl
+calls_count tunables page n (m ∷ ms) = omega (arith, calls_count tunables page (n + 1) ms)
+
 module _ {P : Type 0} where
   pub few_places : (input : Input) (c : PoolCore P) (parties : List Party) → parties ≡ input.parties → is_valid input ≡ true → places_in (parties_made {P = P} c.settings parties) + 1 < 2 ^ 64
   few_places input c parties same valid =
@@ -99,7 +108,7 @@ module _ {P : Type 0} where
       (omega (arith, valid_parties input valid, places_below P c.settings input.parties (λ k d below. few_commands input k (get_or input.parties k d) valid (slice_get-get_or input.parties k d below))))
 
   -- The run as it is made is under way.
-  under_way : (input : Input) (maker : MakerTold) (c : PoolCore P) (modules : List ModuleCall) → IsCore maker c → IsUntouched c → IsWorldOf (world_of input maker) c → AreCallsFor (world_of input maker).terms c.settings modules → IsUnderWay (world_of input maker) modules (commands_in input.parties) (record { core = c; modules = modules; parties = parties_made c.settings input.parties; replies = nothing_told input.parties })
+  under_way : (input : Input) (maker : MakerTold) (c : PoolCore P) (modules : List ModuleAsked) → IsCore maker c → IsUntouched c → IsWorldOf (world_of input maker) c → AreCallsFor (world_of input maker).terms c.settings modules → IsUnderWay (world_of input maker) modules (commands_in input.parties) (record { core = c; modules = modules; parties = parties_made c.settings input.parties; replies = nothing_told input.parties })
   under_way input maker c modules core untouched world calls =
       let w : World = world_of input maker in
       let parties : List (RunningParty P) = map (party_made_for {P = P} c.settings) input.parties in
@@ -107,13 +116,14 @@ module _ {P : Type 0} where
       let Way : ℕ → Type 0 = λ n. IsUnderWay w modules (commands_in input.parties) (record { core = c; modules = modules; parties = parties; replies = replicate n [] }) in
       subst Way count (run_started w modules (commands_in input.parties) c parties core untouched world calls (are_made c.settings input.parties) (rules_made P c.settings input.parties) (λ alone. count ∙ eqb-true (length input.parties) 1 alone))
 
-  calls_there : (input : Input) (maker : MakerTold) (c : PoolCore P) (modules : List ModuleCall) → is_built input ≡ true → IsCore maker c → AreMadeCalls input.tunables maker.page input.modules modules → AreCallsFor (world_of input maker).terms c.settings modules
+  calls_there : (input : Input) (maker : MakerTold) (c : PoolCore P) (modules : List ModuleAsked) → is_built input ≡ true → IsCore maker c → modules ≡ calls_made input.tunables maker.page 0 input.modules → AreCallsFor (world_of input maker).terms c.settings modules
   calls_there input maker c modules built core calls = are_calls_for (world_of input maker).terms c.settings modules (built_modules input built) core.page (omega (arith, core.settings.page.at_least)) calls
 
-  made_under_way : (input : Input) (maker : MakerTold) (run : RunParts P) → is_built input ≡ true → IsMadeRun input maker run → IsUnderWay (world_of input maker) run.modules (commands_in input.parties) (told_state run (nothing_told input.parties))
-  made_under_way input maker run built made =
+  pub made_under_way : (input : Input) (maker : MakerTold) (run : RunParts P) → IsRunnable input maker → IsMadeRun input maker run → IsUnderWay (world_of input maker) run.modules (commands_in input.parties) (told_state run (nothing_told input.parties))
+  made_under_way input maker run runnable made =
+      let core : IsCore maker run.core = core_sound input maker run.core runnable made.made in
       let Way : List (RunningParty P) → Type 0 = λ ps. IsUnderWay (world_of input maker) run.modules (commands_in input.parties) (record { core = run.core; modules = run.modules; parties = ps; replies = nothing_told input.parties }) in
-      subst Way (sym made.parties) (under_way input maker run.core run.modules made.core made.untouched (is_world input maker run.core made.made) (calls_there input maker run.core run.modules built made.core made.calls))
+      subst Way (sym made.parties) (under_way input maker run.core run.modules core (made_untouched maker input.config input.tunables input.offered run.core made.made) (is_world input maker run.core made.made) (calls_there input maker run.core run.modules runnable.built core made.calls))
 
   made_count : (input : Input) (maker : MakerTold) (run : RunParts P) → IsMadeRun input maker run → length run.parties ≡ length input.parties
   made_count input maker run made = ap (length {A = RunningParty P}) made.parties ∙ length-map input.parties (party_made_for {P = P} run.core.settings)
@@ -126,24 +136,24 @@ module _ {P : Type 0} where
   abbrev pub background : Input → MakerTold → RunState P → Background
   background input maker s = record { world = world_of input maker; modules = s.modules; inputs = commands_in input.parties }
 
-  pub is_run_of : (input : Input) (maker : MakerTold) (run : RunParts P) (s : RunState P) → is_built input ≡ true → is_valid input ≡ true → IsMadeRun input maker run → s ≡ told_state run (nothing_told input.parties) → IsRunOf (background input maker s) input.parties s
-  is_run_of input maker run s built valid made is =
+  pub is_run_of : (input : Input) (maker : MakerTold) (run : RunParts P) (s : RunState P) → IsRunnable input maker → is_valid input ≡ true → IsMadeRun input maker run → s ≡ told_state run (nothing_told input.parties) → IsRunOf (background input maker s) input.parties s
+  is_run_of input maker run s runnable valid made is =
       let Of : RunState P → Type 0 = λ x. IsRunOf (background input maker x) input.parties x in
       subst Of (sym is)
       (record {
-        way = made_under_way input maker run built made;
+        way = made_under_way input maker run runnable made;
         inputs = refl;
         parties = made_count input maker run made;
-        named = parties_name input input.parties (length run.modules) refl made.calls.number valid;
+        named = parties_name input input.parties (length run.modules) refl (ap (length {A = ModuleAsked}) made.calls ∙ calls_count input.tunables maker.page 0 input.modules) valid;
       })
 
   -- The run is under way at its end, and has as many parties.
-  performed_under_way : (finish : Bool) (w : World) (modules : List ModuleCall) (inputs : List (List Command)) (schedule : List ℕ) (s end : RunState P) → IsUnderWay w modules inputs s → Performs finish modules inputs schedule s end → IsUnderWay w modules inputs end × (length end.parties ≡ length s.parties)
+  performed_under_way : (finish : Bool) (w : World) (modules : List ModuleAsked) (inputs : List (List Command)) (schedule : List ℕ) (s end : RunState P) → IsUnderWay w modules inputs s → Performs finish modules inputs schedule s end → IsUnderWay w modules inputs end × (length end.parties ≡ length s.parties)
   performed_under_way true w modules inputs schedule s end way runs = (run_under_way w modules inputs schedule s end way runs, run_count modules inputs schedule s end runs)
   performed_under_way false w modules inputs schedule s end way folds = (folds_under_way w modules inputs schedule s end way folds, folds_count modules inputs schedule s end folds)
 
   -- What the parties were told at the end of a run.
-  told_by : (finish : Bool) (w : World) (modules : List ModuleCall) (inputs : List (List Command)) (schedule : List ℕ) (s end : RunState P) (i : ℕ) (d : RunningParty P) → IsUnderWay w modules inputs s → Performs finish modules inputs schedule s end → i < length s.parties → IsToldBy finish (world_at w i).terms (commands_of inputs i) (replies_to i end.replies)
+  told_by : (finish : Bool) (w : World) (modules : List ModuleAsked) (inputs : List (List Command)) (schedule : List ℕ) (s end : RunState P) (i : ℕ) (d : RunningParty P) → IsUnderWay w modules inputs s → Performs finish modules inputs schedule s end → i < length s.parties → IsToldBy finish (world_at w i).terms (commands_of inputs i) (replies_to i end.replies)
   told_by true w modules inputs schedule s end i d way runs below =
       let ended : IsUnderWay w modules inputs end = run_under_way w modules inputs schedule s end way runs in
       let inside : i < length end.parties = omega (arith, below, run_count modules inputs schedule s end runs) in
@@ -153,10 +163,10 @@ module _ {P : Type 0} where
       replies_private w modules inputs end i d ended (omega (arith, below, folds_count modules inputs schedule s end folds))
 
   -- So the output of its end is that of a run of the input.
-  pub is_run : (input : Input) (maker : MakerTold) (run : RunParts P) (s end : RunState P) (output : RunOutput) → is_built input ≡ true → IsMadeRun input maker run → s ≡ told_state run (nothing_told input.parties)
+  pub is_run : (input : Input) (maker : MakerTold) (run : RunParts P) (s end : RunState P) (output : RunOutput) → IsRunnable input maker → IsMadeRun input maker run → s ≡ told_state run (nothing_told input.parties)
       → Performs input.finish s.modules (commands_in input.parties) (turns_of input.schedule) s end
       → output.replies ≡ end.replies → output.metrics ≡ metrics_of end.core → output.calls ≡ calls_of_run end.core end.parties → IsRun P input maker output
-  is_run input maker run s end output built made is performs replies metrics numbers =
+  is_run input maker run s end output runnable made is performs replies metrics numbers =
       let w : World = world_of input maker in
       let From : RunState P → Type 0 = λ x. Performs input.finish x.modules (commands_in input.parties) (turns_of input.schedule) x end in
       let performed : From (told_state run (nothing_told input.parties)) = subst From is performs in
@@ -165,15 +175,19 @@ module _ {P : Type 0} where
         made = made;
         end = end;
         performed = performed;
-        holds = λ turns x folds. (folds_under_way w run.modules (commands_in input.parties) turns (told_state run (nothing_told input.parties)) x (made_under_way input maker run built made) folds).holds;
         replies = replies;
         told = λ i below.
             let Told : List (List Reply) → Type 0 = λ rs. IsToldBy input.finish (world_at w i).terms (commands_of (commands_in input.parties) i) (replies_to i rs) in
-            subst Told (sym replies) (told_by input.finish w run.modules (commands_in input.parties) (turns_of input.schedule) (told_state run (nothing_told input.parties)) end i (party_made 0 None run.core.settings 0) (made_under_way input maker run built made) performed (omega (arith, below, made_count input maker run made)));
+            subst Told (sym replies) (told_by input.finish w run.modules (commands_in input.parties) (turns_of input.schedule) (told_state run (nothing_told input.parties)) end i (party_made 0 None run.core.settings 0) (made_under_way input maker run runnable made) performed (omega (arith, below, made_count input maker run made)));
         room = λ i below.
-            let ended = performed_under_way input.finish w run.modules (commands_in input.parties) (turns_of input.schedule) (told_state run (nothing_told input.parties)) end (made_under_way input maker run built made) performed in
+            let ended = performed_under_way input.finish w run.modules (commands_in input.parties) (turns_of input.schedule) (told_state run (nothing_told input.parties)) end (made_under_way input maker run runnable made) performed in
             let Told : List (List Reply) → Type 0 = λ rs. IsPooledRun (world_at w i) (commands_of (commands_in input.parties) i) (replies_to i rs) in
             subst Told (sym replies) (replies_pooled w run.modules (commands_in input.parties) end i (party_made 0 None run.core.settings 0) ended.0 (omega (arith, below, made_count input maker run made, ended.1)));
         metrics = metrics;
         calls_made = numbers;
       }
+
+  -- Whatever turns are made from its start, pool and parties are sound.
+  pub holds_from_start : (input : Input) (maker : MakerTold) → IsRunnable input maker → HoldsFromStart P input maker
+  holds_from_start input maker runnable run made turns x folds =
+      (folds_under_way (world_of input maker) run.modules (commands_in input.parties) turns (told_state run (nothing_told input.parties)) x (made_under_way input maker run runnable made) folds).holds

@@ -42,14 +42,14 @@ written_by i bytes l n result true answer is =
     ap (λ (r : Result (Unit {0}) Trap). (n.memory, write_reply r)) answer ∙ ap (λ (m : MemoryState). (m, Done)) (subst On answer is.written)
 written_by i bytes l n result false answer is =
     let On : Result (Unit {0}) Trap → Type 0 = λ r. OnErr r (n.memory ≡ l.memory) in
-    ap (λ (r : Result (Unit {0}) Trap). (n.memory, write_reply r)) answer ∙ ap (λ (m : MemoryState). (m, trapped MemoryOutOfBounds)) (subst On answer is.same)
+    ap (λ (r : Result (Unit {0}) Trap). (n.memory, write_reply r)) answer ∙ ap (λ (m : MemoryState). (m, trapped MemoryOutOfBounds)) (subst On answer is.unwritten)
 
 pub write_moves : (i : ℕ) (bytes : List ℕ) (l n : Lease) (result : Result (Unit {0}) Trap) → IsWritten i bytes l n result → MovesLease (MemoryWrites i bytes) l n (write_reply result)
-write_moves i bytes l n result is = record { index = is.index; memory = is.memory; move = written_by i bytes l n result (nat_le (i + length bytes) l.memory.linear.size) is.answer is }
+write_moves i bytes l n result is = record { same = is.same; memory = is.memory; move = written_by i bytes l n result (nat_le (i + length bytes) l.memory.linear.size) is.answer is }
 
 -- a growth of it, over a limiter that tells this rule
 pub grown_under : {R : Type 0} (told : R → LimiterTold) (leads : R → Exchange → R → Type 0) (rule : GrowthRule) (pages : ℕ) (l n : Lease) (before after : R) (answer : Result (Option ℕ) GrowFault) → IsGrown told leads pages l n before after answer → (told before).rule ≡ Some rule → GrowsUnder rule pages l n answer
-grown_under told leads rule pages l n before after answer is ruled = record { index = is.index; memory = is.memory; growth = (is.growth.0, told before, told after, ruled, is.growth.1.0) }
+grown_under told leads rule pages l n before after answer is ruled = record { same = is.same; memory = is.memory; growth = (is.growth.0, told before, told after, ruled, is.growth.1.0) }
 
 pub growth_moves : (rule : GrowthRule) (pages : ℕ) (l n : Lease) (answer : Result (Option ℕ) GrowFault) → GrowsUnder rule pages l n answer → MovesLease (MemoryGrows rule pages) l n (growth_reply answer)
-growth_moves rule pages l n answer is = record { index = is.index; memory = is.memory; move = (is.growth.0, is.growth.1, is.growth.2, answer, is.growth.3, is.growth.4, refl) }
+growth_moves rule pages l n answer is = record { same = is.same; memory = is.memory; move = (is.growth.0, is.growth.1, is.growth.2, answer, is.growth.3, is.growth.4, refl) }

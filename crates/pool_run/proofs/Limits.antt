@@ -8,7 +8,7 @@ use Rattle.pool_alloc.specs.Stepping.{count_granted, grant_instances}
 use Rattle.pool_alloc.specs.declared.pool_core.PoolCore.{PoolCore}
 use Rattle.pool_alloc.specs.declared.frame.Frame.{Frame}
 use Rattle.pool_alloc.specs.declared.frame.Grant.{Grant}
-use Rattle.pool_alloc.specs.declared.frame.ModuleCall.{ModuleCall}
+use Rattle.pool_alloc.specs.Asked.{ModuleAsked}
 use Rattle.pool_alloc.specs.declared.frame.Outcome.{Outcome}
 use Rattle.pool_alloc.specs.declared.frame.Outcome.TheVariants as answer
 use Rattle.pool_alloc.specs.declared.frame.Phase.TheVariants.{Key}
@@ -73,5 +73,5 @@ module _ {P : Type 0} (others : ℕ) (c : PoolCore P) (p : RunningParty P) (with
   follows_within maker (makes_step frame live) t is follows = step_within maker others c (record p { frame = frame; live = live }) t is.can follows (omega (arith, is.admitted, within)) (omega (arith, is.admitted, counted))
 
   -- Each turn of a party.
-  pub party_within : (w : World) (modules : List ModuleCall) (commands : List Command) (t : Turned P) → AreCallsFor w.terms c.settings modules → CanTurn w.maker c p → length commands ≤ length p.live → Turns modules commands c p t → StaysWithin t
+  pub party_within : (w : World) (modules : List ModuleAsked) (commands : List Command) (t : Turned P) → AreCallsFor w.terms c.settings modules → CanTurn w.maker c p → length commands ≤ length p.live → Turns modules commands c p t → StaysWithin t
   party_within w modules commands t calls can room turns = follows_within w.maker turns.0 t (opened w.maker c p w.terms modules commands turns.0 calls can room turns.1) turns.2

@@ -6,7 +6,7 @@ use Rattle.pool_alloc.specs.Stepping.{IsSameSize}
 use Rattle.pool_alloc.specs.Whole.{IsUntouched, IsPartitioned}
 use Rattle.pool_alloc.specs.declared.pool_core.PoolCore.{PoolCore}
 use Rattle.pool_alloc.specs.declared.pool_core.Settings.{Settings}
-use Rattle.pool_alloc.specs.declared.frame.ModuleCall.{ModuleCall}
+use Rattle.pool_alloc.specs.Asked.{ModuleAsked}
 use Rattle.pool_run.specs.Limits.{admitted_to, live_instances, IsWithinCounts}
 use Rattle.pool_run.specs.Rooms.{World}
 use Rattle.pool_run.specs.Ties.{held_by_party, IsRunning, CanTurn}
@@ -28,7 +28,7 @@ module _ {P : Type 0} where
   made_within c parties untouched whole = omega (arith, untouched.instances, admitted_is_counted c parties whole)
 
   -- A turn of one of the parties.
-  pub turn_within : (w : World) (modules : List ModuleCall) (commands : List Command) (c : PoolCore P) (parties : List (RunningParty P)) (i : ℕ) (d : RunningParty P) (t : Turned P) → AreCallsFor w.terms c.settings modules → IsRunning w.maker c parties → i < length parties → length commands ≤ length (slice_index_or parties i d).live → Turns modules commands c (slice_index_or parties i d) t → IsWithinCounts c parties → IsWithinCounts t.core (slice_set parties i t.party)
+  pub turn_within : (w : World) (modules : List ModuleAsked) (commands : List Command) (c : PoolCore P) (parties : List (RunningParty P)) (i : ℕ) (d : RunningParty P) (t : Turned P) → AreCallsFor w.terms c.settings modules → IsRunning w.maker c parties → i < length parties → length commands ≤ length (slice_index_or parties i d).live → Turns modules commands c (slice_index_or parties i d) t → IsWithinCounts c parties → IsWithinCounts t.core (slice_set parties i t.party)
   turn_within w modules commands c parties i d t calls running below room turns within =
       let p : RunningParty P = slice_index_or parties i d in
       let can : CanTurn w.maker c p = can_turn w.maker c parties i d running below in

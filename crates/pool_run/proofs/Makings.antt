@@ -16,8 +16,7 @@ use Rattle.pool_pages.specs.declared.unsupported.Unsupported.{Unsupported}
 use Rattle.pool_pages.specs.declared.unsupported.Unsupported.TheVariants.{ImageOffset}
 use Rattle.pool_images.specs.Images.{Image, first_misplaced, ends_in_minimum, makes_listed_images, images_from}
 use Rattle.pool_slots.specs.Makings.{makes_listed_regions}
-use Rattle.pool_run.specs.Made.{images_of_module}
-use Rattle.pool_run.specs.Private.{has_images}
+use Rattle.pool_run.specs.Private.{has_images, images_of}
 use Rattle.pool_run.specs.Runs.{region_listed, makings_of, module_listed, images_listed, making_listed, ModuleFaults, ModulesFault, FaultsInMaking, HasFaultedMaking, with_faults}
 use Rattle.pool_run.specs.declared.input.Input.{Input}
 
@@ -151,7 +150,7 @@ unlisted_by false listed images made is none = refl
 unlisted_by true listed images None is none = absurd cc
 unlisted_by true listed images (Some m) is none = none refl
 
-pub images_unlisted : (t : Tunables) (page n : ℕ) (m : ModuleInfo) (plan : Option (List Planned)) (made : Option (List (Option Image))) → made ≡ images_of_module t page n m → IfSome plan (λ p. IsSome made → makes_listed_images (record { 0 = n }) p m.memories ≡ false) → IfSome plan (λ p. module_listed t page n p m ≡ false)
+pub images_unlisted : (t : Tunables) (page n : ℕ) (m : ModuleInfo) (plan : Option (List Planned)) (made : Option (List (Option Image))) → made ≡ images_of t page n m.memories → IfSome plan (λ p. IsSome made → makes_listed_images (record { 0 = n }) p m.memories ≡ false) → IfSome plan (λ p. module_listed t page n p m ≡ false)
 images_unlisted t page n m None made is none = tt
 images_unlisted t page n m (Some p) made is none = unlisted_by (has_images t page m.memories) (makes_listed_images (record { 0 = n }) p m.memories) (images_from (record { 0 = n }) page 0 m.memories) made is none
 
@@ -220,7 +219,7 @@ made_by true images None is same = absurd cc
 made_by false images (Some x) is same = absurd cc
 made_by false images None is same = refl
 
-pub made_images : (t : Tunables) (page n : ℕ) (m : ModuleInfo) (made : Option (List (Option Image))) → t.memory_init_cow ≡ true → first_misplaced page m.memories ≡ None → is_some made ≡ list_all (ends_in_minimum page) m.memories → IfSome made (λ images. images ≡ images_from (record { 0 = n }) page 0 m.memories) → made ≡ images_of_module t page n m
+pub made_images : (t : Tunables) (page n : ℕ) (m : ModuleInfo) (made : Option (List (Option Image))) → t.memory_init_cow ≡ true → first_misplaced page m.memories ≡ None → is_some made ≡ list_all (ends_in_minimum page) m.memories → IfSome made (λ images. images ≡ images_from (record { 0 = n }) page 0 m.memories) → made ≡ images_of t page n m.memories
 made_images t page n m made cow begins ends is = made_by (has_images t page m.memories) (images_from (record { 0 = n }) page 0 m.memories) made (all_rest t.memory_init_cow (first_misplaced page m.memories) (list_all (ends_in_minimum page) m.memories) cow begins ∙ sym ends) is
 
 -- Where some image begins amid a page, there are none.
@@ -237,7 +236,7 @@ misplaced_none {X = X} t page m r e u is named offsets misplaced =
     let there : r ≡ Err (unmade.Unsupported (ImageOffset offset.0)) = whole ∙ ap (λ (v : Unsupported). Refused (unmade.Unsupported v)) offset.1 in
     none_with t.memory_init_cow (first_misplaced page m.memories) (list_all (ends_in_minimum page) m.memories) offset.0 ((misplaced offset.0).0 there)
 
-pub no_images : (t : Tunables) (page n : ℕ) (m : ModuleInfo) → has_images t page m.memories ≡ false → None ≡ images_of_module t page n m
+pub no_images : (t : Tunables) (page n : ℕ) (m : ModuleInfo) → has_images t page m.memories ≡ false → None ≡ images_of t page n m.memories
 no_images t page n m none = let Images : Bool → Option (List (Option Image)) = λ b. if b then Some (images_from (record { 0 = n }) page 0 m.memories) else None in sym (ap Images none)
 
 pub none_unlisted : (t : Tunables) (page n : ℕ) (m : ModuleInfo) (plan : Option (List Planned)) → has_images t page m.memories ≡ false → IfSome plan (λ p. module_listed t page n p m ≡ false)

@@ -45,7 +45,8 @@ pub lease_still : (maker : MakerTold) (s : Settings) (Moves : MemoryState → Me
 lease_still maker s Moves l new reply keeps of moves =
     let S : ℕ → Type 0 = λ k. IsPoolSlot maker s.behaviour s.max_memory_size k (slot_of new.memory) in
     let Inside : ℕ → Type 0 = λ k. k < s.slots in
-    record { inside = subst Inside (sym moves.index) of.inside; slot = subst S (sym moves.index) (keeps l new.memory reply of moves.move); memory = moves.memory }
+    let index : new.index ≡ l.index = ap (λ (x : Lease). x.index) moves.same in
+    record { inside = subst Inside (sym index) of.inside; slot = subst S (sym index) (keeps l new.memory reply of moves.move); memory = moves.memory }
 
 -- a write leaves the slot
 written_still : (i : ℕ) (new : List ℕ) (st : Storage) → IsOneSlot (slot_in st) (slot_in (storage_written i new st))
@@ -166,32 +167,55 @@ right_of : (a b : Bool) → (a || b) ≡ false → b ≡ false
 right_of true b is = absurd cc
 right_of false b is = is
 
--- A growth over a limiter that tells this rule.
+-- a growth by so many pages is past the room of a memory that stays where it is
+abbrev pub past_place : ℕ → MemoryState → Bool
+past_place pages m = exceeds (maximum_asked m.ty) (grown_size pages m) || nat_lt m.linear.capacity (grown_size pages m)
+
+-- What is so of a growth of it, over a limiter that tells this rule.
+pub record IsGrowthBy (rule : GrowthRule) (pages : ℕ) (m new : MemoryState) (g : GrowthGiven) (answer : Result (Option ℕ) GrowFault) : Type 0 where
+  pub within : past_place pages m ≡ false → grown_size pages m ≤ m.linear.capacity
+  pub leaves : LeavesBy (pages == 0) (not (allow_growth_to m.ty (grown_size pages m))) (past_place pages m) g (grown_size pages m) m.linear new.linear
+  pub asked : g.answer ≡ memory_answer (Some rule) (Ok true) (grown_size pages m) (maximum_asked m.ty)
+  pub reported : g.report ≡ memory_failure (Some rule) (Ok tt)
+  pub replies : answer ≡ result_by m.linear.size (pages == 0) (not (allow_growth_to m.ty (grown_size pages m))) (past_place pages m) g
+
+pub growth_by : (rule : GrowthRule) (pages : ℕ) (m new : MemoryState) (g : GrowthGiven) (asked left : LimiterTold) (answer : Result (Option ℕ) GrowFault) → m.may_move ≡ false → asked.rule ≡ Some rule → IsGrowth g pages m.linear.size m new asked left answer → IsGrowthBy rule pages m new g answer
+growth_by rule pages m new g asked left answer fixed told growth =
+    let size : ℕ = grown_size pages m in
+    let most : Option ℕ = maximum_asked m.ty in
+    let nothing : Bool = pages == 0 in
+    let past_type : Bool = not (allow_growth_to m.ty size) in
+    let here : past_room size m ≡ past_place pages m = ap (λ (b : Bool). exceeds most size || (not b && nat_lt m.linear.capacity size)) fixed in
+    let Leaves : Bool → Type 0 = λ b. LeavesBy nothing past_type b g size m.linear new.linear in
+    record {
+      within = λ no. ltb-false m.linear.capacity size (right_of (exceeds most size) (nat_lt m.linear.capacity size) no);
+      leaves = subst Leaves here growth.linear;
+      asked = answer_told rule asked.rule g.answer size most told growth.ruled.answer;
+      reported = failure_told rule asked.rule g.report told growth.ruled.report;
+      replies = growth.ruled.replies ∙ ap (λ (b : Bool). result_by m.linear.size nothing past_type b g) here;
+    }
+
+-- So it is as it is seen.
 grown_as : (maker : MakerTold) (behaviour : DecommitBehavior) (room pages : ℕ) (rule : GrowthRule) (l : Lease) (new : MemoryState) (g : GrowthGiven) (asked left : LimiterTold) (answer : Result (Option ℕ) GrowFault) → IsPoolSlot maker behaviour room l.index (slot_of l.memory) → l.memory.may_move ≡ false → asked.rule ≡ Some rule → IsGrowth g pages l.memory.linear.size l.memory new asked left answer
     → IsGrownAs maker behaviour room l new (growth_reply answer) (λ fault. grown_by rule fault pages (private_memory l))
 grown_as maker behaviour room pages rule l new g asked left answer of fixed told growth =
     let m : MemoryState = l.memory in
     let size : ℕ = grown_size pages m in
     let most : Option ℕ = maximum_asked m.ty in
-    let past : Bool = exceeds most size || nat_lt m.linear.capacity size in
+    let past : Bool = past_place pages m in
     let nothing : Bool = pages == 0 in
     let past_type : Bool = not (allow_growth_to m.ty size) in
-    let here : past_room size m ≡ past = ap (λ (b : Bool). exceeds most size || (not b && nat_lt m.linear.capacity size)) fixed in
-    let Leaves : Bool → Type 0 = λ b. LeavesBy nothing past_type b g size m.linear new.linear in
-    let within : past ≡ false → size ≤ m.linear.capacity = λ no. ltb-false m.linear.capacity size (right_of (exceeds most size) (nat_lt m.linear.capacity size) no) in
-    let seen = growth_seen maker behaviour room size l new.linear of nothing past_type past g within (subst Leaves here growth.linear) in
-    let replies : answer ≡ result_by m.linear.size nothing past_type past g = growth.ruled.replies ∙ ap (λ (b : Bool). result_by m.linear.size nothing past_type b g) here in
+    let by : IsGrowthBy rule pages m new g answer = growth_by rule pages m new g asked left answer fixed told growth in
+    let seen = growth_seen maker behaviour room size l new.linear of nothing past_type past g by.within by.leaves in
     let Outcome : Result Bool LimiterError → Result (Unit {0}) LimiterError → Bool → PrivateMemory × Reply =
     λ a r fault. if nothing then (private_memory l, Grown (Some m.linear.size)) else (if past_type then (private_memory l, reported r) else if_allowed a (private_memory l) (if past || fault then (private_memory l, reported r) else (memory_grown size (private_memory l), Grown (Some m.linear.size)))) in
-    let told_answer : g.answer ≡ memory_answer (Some rule) (Ok true) size most = answer_told rule asked.rule g.answer size most told growth.ruled.answer in
-    let told_report : g.report ≡ memory_failure (Some rule) (Ok tt) = failure_told rule asked.rule g.report told growth.ruled.report in
     let G : MemoryState → Type 0 = λ x. IsGrownAs maker behaviour room l x (growth_reply answer) (λ fault. grown_by rule fault pages (private_memory l)) in
     let R : Result (Option ℕ) GrowFault → Type 0 = λ r. IsGrownAs maker behaviour room l (record m { linear = new.linear }) (growth_reply r) (λ fault. grown_by rule fault pages (private_memory l)) in
-    subst G (sym growth.memory) (subst R (sym replies) (record {
+    subst G (sym growth.memory) (subst R (sym by.replies) (record {
       still = seen.still;
       fault = seen.fault;
       may = seen.may;
-      is = seen.is ∙ ap (λ (a : Result Bool LimiterError). Outcome a g.report seen.fault) told_answer ∙ ap (λ (r : Result (Unit {0}) LimiterError). Outcome (memory_answer (Some rule) (Ok true) size most) r seen.fault) told_report;
+      is = seen.is ∙ ap (λ (a : Result Bool LimiterError). Outcome a g.report seen.fault) by.asked ∙ ap (λ (r : Result (Unit {0}) LimiterError). Outcome (memory_answer (Some rule) (Ok true) size most) r seen.fault) by.reported;
     }))
 
 pub grows_stay : (maker : MakerTold) (s : Settings) (rule : GrowthRule) (pages : ℕ) → KeepsSlot maker s (MemoryGrows rule pages)

@@ -15,7 +15,7 @@ use Rattle.pool_alloc.specs.declared.frame.Call.TheVariants as call
 use Rattle.pool_alloc.specs.declared.frame.Frame.{Frame}
 use Rattle.pool_alloc.specs.declared.frame.Grant.{Grant}
 use Rattle.pool_alloc.specs.declared.frame.Grant.TheVariants.{Instance as instance}
-use Rattle.pool_alloc.specs.declared.frame.ModuleCall.{ModuleCall}
+use Rattle.pool_alloc.specs.Asked.{ModuleAsked}
 use Rattle.pool_alloc.specs.declared.frame.Phase.{Phase}
 use Rattle.pool_alloc.specs.declared.frame.Phase.TheVariants.{Idle}
 use Rattle.pool_run.specs.Acts.{MemoryOp, Act, requests, on_memory, drops, act_of}
@@ -34,7 +34,6 @@ use Rattle.pool_run.specs.declared.running_party.RunningParty.{RunningParty}
 use Rattle.pool_run.proofs.Named.{moved}
 use Rattle.pool_run.proofs.Operations.{op_index, op_keeps}
 use Rattle.pool_run.proofs.Parties.{HaveSame, grant_inside, live_grant, has_call, called_key, called_module, called_back, returned_searched, returned_stage, brings_key, brings_module, brings_grant}
-use Rattle.pool_run.proofs.Shares.{share_for}
 use Rattle.pool_run.proofs.Sounds.{lease_there, move_sound}
 
 module _ {P : Type 0} where
@@ -148,7 +147,7 @@ module _ {P : Type 0} (maker : MakerTold) (c : PoolCore P) (p : RunningParty P) 
       admitted = omega (arith, ap admitted_at (returned_stage grant p.frame), fewer_live of grant has);
     }
 
-    pub module_opened : (m : ModuleCall) → IsFit c.settings m → p.done < length p.live → IsStep (begun_call (call.Module m) p.frame) p.live
+    pub module_opened : (m : ModuleAsked) → IsFit c.settings m → p.done < length p.live → IsStep (begun_call (call.Module m) p.frame) p.live
     module_opened m fit room = record {
       can = called_module maker m c p can idle fit.images fit.places room;
       same = has_call maker (call.Module m) p.live c p can.party.sound.frame (idle, fit.images, fit.places) (brings_module m p.live);
@@ -158,15 +157,15 @@ module _ {P : Type 0} (maker : MakerTold) (c : PoolCore P) (p : RunningParty P) 
       admitted = omega arith;
     }
 
-    pub requests_opened : (t : Terms) (number : ℕ) (kept : Option ModuleCall) (o : Opening P) → IfSome kept (IsCallFor t c.settings number) → p.done < length p.live → OpensRequest kept p o → IsOpened o
+    pub requests_opened : (t : Terms) (number : ℕ) (kept : Option ModuleAsked) (o : Opening P) → IfSome kept (IsCallFor t c.settings number) → p.done < length p.live → OpensRequest kept p o → IsOpened o
     requests_opened t number None o for room opens = absurd opens
     requests_opened t number (Some kept) o for room opens =
         elim opens [
           | inl is ↦ subst IsOpened (sym is) unchanged
-          | inr m ↦ subst IsOpened (sym m.2) (module_opened m.0 (share_for t c.settings number kept m.0 m.1 for).fit room)
+          | inr is ↦ subst IsOpened (sym is) (module_opened kept for.fit room)
         ]
 
-    act_opened : (t : Terms) (modules : List ModuleCall) (act : Act) (o : Opening P) → AreCallsFor t c.settings modules → p.done < length p.live → OpensAct modules act p o → IsOpened o
+    act_opened : (t : Terms) (modules : List ModuleAsked) (act : Act) (o : Opening P) → AreCallsFor t c.settings modules → p.done < length p.live → OpensAct modules act p o → IsOpened o
     act_opened t modules (requests number) o calls room opens = requests_opened t number (slice_get modules number) o (calls number) room opens
     act_opened t modules (on_memory of k op) o calls room opens = subst IsOpened (sym opens.3) (moves_opened op of k opens.1 opens.0 opens.2)
     act_opened t modules (drops of) o calls room opens = subst IsOpened (sym opens) (drops_opened of (slice_index_or p.live of None) refl)
@@ -181,7 +180,7 @@ module _ {P : Type 0} (maker : MakerTold) (c : PoolCore P) (p : RunningParty P) 
       admitted = omega arith;
     }
 
-    next_opened : (t : Terms) (modules : List ModuleCall) (commands : List Command) (next : Option Command) (keyed : Bool) (o : Opening P) → slice_get commands p.done ≡ next → AreCallsFor t c.settings modules → length commands ≤ length p.live → OpensNext modules next keyed p o → IsOpened o
+    next_opened : (t : Terms) (modules : List ModuleAsked) (commands : List Command) (next : Option Command) (keyed : Bool) (o : Opening P) → slice_get commands p.done ≡ next → AreCallsFor t c.settings modules → length commands ≤ length p.live → OpensNext modules next keyed p o → IsOpened o
     next_opened t modules commands None keyed o next calls room opens = subst IsOpened (sym opens) tt
     next_opened t modules commands (Some command) false o next calls room opens = subst IsOpened (sym opens) key_opened
     next_opened t modules commands (Some command) true o next calls room opens = act_opened t modules (act_of command) o calls (omega (arith, room, slice_get_within commands p.done command next)) opens
@@ -190,10 +189,10 @@ module _ {P : Type 0} (maker : MakerTold) (c : PoolCore P) (p : RunningParty P) 
   step_opened can busy = record { can = can; same = same_now; room = refl; busy = busy; searched = λ s. s; admitted = omega arith }
 
   -- What each turn opens with.
-  opened_at : (b : Bool) (t : Terms) (modules : List ModuleCall) (commands : List Command) (o : Opening P) → is_idle p.frame.phase ≡ b → AreCallsFor t c.settings modules → CanTurn maker c p → length commands ≤ length p.live → OpensAt b modules commands p o → IsOpened o
+  opened_at : (b : Bool) (t : Terms) (modules : List ModuleAsked) (commands : List Command) (o : Opening P) → is_idle p.frame.phase ≡ b → AreCallsFor t c.settings modules → CanTurn maker c p → length commands ≤ length p.live → OpensAt b modules commands p o → IsOpened o
   opened_at true t modules commands o idle calls can room opens =
       next_opened can (idle_is p.frame.phase idle) t modules commands (slice_get commands p.done) p.keyed o refl calls room opens
   opened_at false t modules commands o busy calls can room opens = subst IsOpened (sym opens) (step_opened can busy)
 
-  pub opened : (t : Terms) (modules : List ModuleCall) (commands : List Command) (o : Opening P) → AreCallsFor t c.settings modules → CanTurn maker c p → length commands ≤ length p.live → OpensAt (is_idle p.frame.phase) modules commands p o → IsOpened o
+  pub opened : (t : Terms) (modules : List ModuleAsked) (commands : List Command) (o : Opening P) → AreCallsFor t c.settings modules → CanTurn maker c p → length commands ≤ length p.live → OpensAt (is_idle p.frame.phase) modules commands p o → IsOpened o
   opened t modules commands o calls can room opens = opened_at (is_idle p.frame.phase) t modules commands o refl calls can room opens

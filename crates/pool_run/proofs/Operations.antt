@@ -23,9 +23,9 @@ use Rattle.pool_run.proofs.Named.{AreSeen}
 -- The lease stays in its slot,
 pub op_index : (op : MemoryOp) (rule : GrowthRule) (l new : Lease) (reply : Reply) → LeaseMoves op rule l new reply → new.index ≡ l.index
 op_index (reads i len) rule l new reply is = ap (λ (x : Lease). x.index) is.1
-op_index (writes i bytes) rule l new reply is = is.index
-op_index (fills i len byte) rule l new reply is = is.index
-op_index (grows pages) rule l new reply is = is.index
+op_index (writes i bytes) rule l new reply is = ap (λ (x : Lease). x.index) is.same
+op_index (fills i len byte) rule l new reply is = ap (λ (x : Lease). x.index) is.same
+op_index (grows pages) rule l new reply is = ap (λ (x : Lease). x.index) is.same
 op_index asks_size rule l new reply is = ap (λ (x : Lease). x.index) is.1
 
 -- and one of the pool.
@@ -39,7 +39,7 @@ op_keeps maker s asks_size rule l new reply of is = subst (IsLeaseOf maker s) (s
 move_seen : (maker : MakerTold) (s : Settings) (Moves : MemoryState → MemoryState → Reply → Type 0) (Sees : PrivateMemory → PrivateMemory → Reply → Type 0) (l new : Lease) (reply : Reply) → IsSeen maker s Moves Sees → IsLeaseOf maker s l → MovesLease Moves l new reply → Sees (private_memory l) (private_memory new) reply
 move_seen maker s Moves Sees l new reply seen of is =
     let At : ℕ → Type 0 = λ i. Sees (private_memory l) (seen_as i new.memory) reply in
-    subst At (sym is.index) (seen l new.memory reply of is.move)
+    subst At (sym (ap (λ (x : Lease). x.index) is.same)) (seen l new.memory reply of is.move)
 
 -- a growth tells so of the pool
 grown_tells : (w : World) (pages : ℕ) (m : PrivateMemory) (reply : Reply) (fault : Bool) → (fault ≡ true → MayFault w m.slot) → reply ≡ (grown_by w.terms.rule fault pages m).1 → TellsGrowth w pages m reply

@@ -13,7 +13,7 @@ use Rattle.pool_alloc.specs.Stepping.{CanStep, grant_count, grant_instances, gra
 use Rattle.pool_alloc.specs.declared.pool_core.PoolCore.{PoolCore}
 use Rattle.pool_alloc.specs.declared.pool_core.Settings.{Settings}
 use Rattle.pool_alloc.specs.Steps.{memories_wanted, images_wanted}
-use Rattle.pool_alloc.specs.declared.frame.ModuleCall.{ModuleCall}
+use Rattle.pool_alloc.specs.Asked.{ModuleAsked}
 use Rattle.pool_alloc.specs.declared.frame.Ending.TheVariants as ending
 use Rattle.pool_alloc.specs.Leases.{Lease}
 use Rattle.pool_alloc.specs.Searches.{IsSearched}
@@ -46,7 +46,7 @@ module _ {P : Type 0} where
     frame = can.party.sound.frame;
     fits = record {
       once = λ t. omega (arith, can.fits.once t);
-      home = λ k some. omega (arith, can.fits.home k (omega arith), can.fits.once (right_to k), made_once (right_to k) (length c.cells), live_regions k p.live);
+      home = λ k some. omega (arith, can.fits.home k (omega arith), can.fits.once (right_to k), made_once (right_to k) c.settings.slots, live_regions k p.live);
       instances = omega (arith, can.fits.instances);
       memories = omega (arith, can.fits.memories);
     };
@@ -97,7 +97,7 @@ module _ {P : Type 0} where
   pub brings_key : (live : List (Option (Grant P))) → Brings call.Key live live
   brings_key live = record { places = λ t. omega arith; instances = omega arith; memories = omega arith }
 
-  pub brings_module : (m : ModuleCall) (live : List (Option (Grant P))) → Brings (call.Module m) live live
+  pub brings_module : (m : ModuleAsked) (live : List (Option (Grant P))) → Brings (call.Module m) live live
   brings_module m live = record { places = λ t. omega arith; instances = omega arith; memories = omega arith }
 
   fewer : (of : Grant P → ℕ) (live : List (Option (Grant P))) (i : ℕ) (grant : Grant P) → slice_index_or live i None ≡ Some grant → sum_by (granted_to of) (slice_set live i None) + of grant ≡ sum_by (granted_to of) live
@@ -131,7 +131,7 @@ module _ {P : Type 0} where
   pub called_key : (maker : MakerTold) (c : PoolCore P) (p : RunningParty P) → CanTurn maker c p → IsIdle p.frame → CanTurn maker c (record p { frame = begun_call call.Key p.frame })
   called_key maker c p can idle = called maker call.Key p.live c p can idle (brings_key p.live) can.party.sound.grants can.party.to_come (λ is. absurd cc)
 
-  pub called_module : (maker : MakerTold) (m : ModuleCall) (c : PoolCore P) (p : RunningParty P) → CanTurn maker c p → IsIdle p.frame → AreImagesOf c.settings (memories_wanted (Some m)) (images_wanted (Some m)) → HasImages (Some m) → p.done < length p.live → CanTurn maker c (record p { frame = begun_call (call.Module m) p.frame })
+  pub called_module : (maker : MakerTold) (m : ModuleAsked) (c : PoolCore P) (p : RunningParty P) → CanTurn maker c p → IsIdle p.frame → AreImagesOf c.settings (memories_wanted (Some m)) (images_wanted (Some m)) → HasImages (Some m) → p.done < length p.live → CanTurn maker c (record p { frame = begun_call (call.Module m) p.frame })
   called_module maker m c p can idle images each room = called maker (call.Module m) p.live c p can (idle, images, each) (brings_module m p.live) can.party.sound.grants can.party.to_come (λ is. room)
 
   -- a give-back is under way then

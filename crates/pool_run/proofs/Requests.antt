@@ -27,16 +27,16 @@ use Rattle.pool_alloc.specs.declared.pool_core.PoolCore.{PoolCore}
 use Rattle.pool_alloc.specs.declared.pool_core.Settings.{Settings}
 use Rattle.pool_alloc.specs.declared.frame.Frame.{Frame}
 use Rattle.pool_alloc.specs.declared.frame.Grant.{Grant}
-use Rattle.pool_run.specs.Private.{Grants, Terms, PrivateMemory, memories_of, image_at, begun_memory, begun_memories, own_refusal, slots_asked, rule_broken}
+use Rattle.pool_run.specs.Private.{Grants, Terms, PrivateMemory, memories_of, Want, new_memory, Request, request_of, begun_memory, begun_memories, own_refusal, slots_asked}
 use Rattle.pool_run.specs.Rooms.{World, live_count, instance_count}
 use Rattle.pool_run.specs.Turns.{grants_of, private_memory}
-use Rattle.pool_run.specs.Ties.{granted_to, IsAskedFor, HasNoRefusal, IsAdmitted, IsSoFar, HasCause, IsAlone}
+use Rattle.pool_run.specs.Ties.{granted_to, wants_asked, HasNoRefusal, IsAdmitted, IsSoFar, HasCause, IsAlone}
 use Rattle.pool_run.specs.Worlds.{IsWorldOf}
 use Rattle.pool_run.proofs.Bytes.{begun_seen}
 use Rattle.pool_run.proofs.Causes.{slots_given, instances_given, fault_given, fault_of_slot, given_cause, own_cause, broken_cause, memory_cause, first_is, asked_more, GoesWith, own_goes}
 use Rattle.pool_run.proofs.Exhausted.{live_told, instances_told, all_taken, one_free}
 use Rattle.pool_run.proofs.Moves.{answer_told}
-use Rattle.pool_run.proofs.Shares.{asked_memories}
+use Rattle.pool_run.proofs.Wants.{wants_at, wants_there, count_wanted, wanted_memories}
 
 -- what there is of an element that is told of
 told_there : {X : Type 0} (Q : Type 0) (xs : List X) (k : ℕ) → k < length xs → ((x : X) → slice_get xs k ≡ Some x → Q) → Q
@@ -61,15 +61,13 @@ abbrev pub slots_of : List Lease → List ℕ
 slots_of leases = map (λ l. l.index) leases
 
 -- leases that each begin so are memories that begin so
-all_begun : (t : Terms) (number k : ℕ) (decls : List MemoryDecl) (leases : List Lease) → length leases ≡ length decls → ((j : ℕ) (l : Lease) (decl : MemoryDecl) → slice_get leases j ≡ Some l → slice_get decls j ≡ Some decl → private_memory l ≡ begun_memory t number (k + j) decl l.index) → map private_memory leases ≡ begun_memories t number k decls (slots_of leases)
-all_begun t number k [] [] same each = refl
-all_begun t number k [] (l ∷ ls) same each = absurd (omega (arith, same))
-all_begun t number k (d ∷ ds) [] same each = absurd (omega (arith, same))
-all_begun t number k (d ∷ ds) (l ∷ ls) same each =
-    let first : private_memory l ≡ begun_memory t number k d l.index = each 0 l d refl refl ∙ ap (λ (n : ℕ). begun_memory t number n d l.index) {x = k + 0} {y = k} (omega arith) in
-    let rest : map private_memory ls ≡ begun_memories t number (k + 1) ds (slots_of ls) =
-    all_begun t number (k + 1) ds ls (omega (arith, same)) (λ j x y there asked. each (suc j) x y there asked ∙ ap (λ (n : ℕ). begun_memory t number n y x.index) {x = k + suc j} {y = (k + 1) + j} (omega arith)) in
-    ap (λ (m : PrivateMemory). m ∷ map private_memory ls) first ∙ ap (λ (ms : List PrivateMemory). begun_memory t number k d l.index ∷ ms) rest
+all_begun : (t : Terms) (wants : List Want) (leases : List Lease) → length leases ≡ length wants → ((j : ℕ) (l : Lease) (want : Want) → slice_get leases j ≡ Some l → slice_get wants j ≡ Some want → private_memory l ≡ begun_memory t l.index want) → map private_memory leases ≡ begun_memories t wants (slots_of leases)
+all_begun t [] [] same each = refl
+all_begun t [] (l ∷ ls) same each = absurd (omega (arith, same))
+all_begun t (x ∷ xs) [] same each = absurd (omega (arith, same))
+all_begun t (x ∷ xs) (l ∷ ls) same each =
+    let rest : map private_memory ls ≡ begun_memories t xs (slots_of ls) = all_begun t xs ls (omega (arith, same)) (λ j y want there asked. each (suc j) y want there asked) in
+    ap (λ (m : PrivateMemory). m ∷ map private_memory ls) (each 0 l x refl refl) ∙ ap (λ (ms : List PrivateMemory). begun_memory t l.index x ∷ ms) rest
 
 -- a party of this world with these live grants, which was told of these, and whose call is this
 module _ {P : Type 0} (w : World) (old new : LimiterTold) (c : PoolCore P) (f : Frame P) (live : List (Option (Grant P))) (told : Grants) where
@@ -77,93 +75,105 @@ module _ {P : Type 0} (w : World) (old new : LimiterTold) (c : PoolCore P) (f : 
   pub record IsBefore : Type 0 where
     pub world : IsWorldOf w c
     pub frame : IsFrame w.maker c.settings f
-    pub slots : length c.cells ≡ c.settings.slots
-    pub once : (t : Thing) → frame_count t f + sum_by (granted_to (grant_count t)) live ≤ made_count t (length c.cells)
+    pub slots : c.settings.slots ≡ c.settings.slots
+    pub once : (t : Thing) → frame_count t f + sum_by (granted_to (grant_count t)) live ≤ made_count t c.settings.slots
     pub instances : phase_instances f.phase + sum_by (granted_to grant_instances) live ≤ c.counters.core_instances
     pub alone : w.alone ≡ true → IsAlone c f live
     pub rule : old.rule ≡ Some w.terms.rule
 
-module _ {P : Type 0} (w : World) (old new : LimiterTold) (c : PoolCore P) (f : Frame P) (live : List (Option (Grant P))) (told : Grants) (is : IsBefore w old new c f live told) (seen : grants_of live ≡ told) (number : ℕ) (asked : IsAskedFor w.terms number f.asked) where
+module _ {P : Type 0} (w : World) (old new : LimiterTold) (c : PoolCore P) (f : Frame P) (live : List (Option (Grant P))) (told : Grants) (is : IsBefore w old new c f live told) (seen : grants_of live ≡ told) (number : ℕ) (asked : wants_asked f.asked ≡ (request_of w.terms number).wants) where
+  abbrev request : Request
+  request = request_of w.terms number
+
   one_stripe : c.settings.stripes ≡ 1
   one_stripe = ap (λ (s : Settings). s.stripes) (sym is.world.settings) ∙ is.world.stripes
 
-  pub same_memories : memories_wanted f.asked ≡ memories_of w.terms number
-  same_memories = asked_memories w.terms number f.asked asked
+  same_memories : memories_wanted f.asked ≡ memories_of w.terms number
+  same_memories = wanted_memories f.asked w.terms number asked
+
+  pub same_number : length (memories_wanted f.asked) ≡ length request.wants
+  same_number = sym (count_wanted (memories_wanted f.asked) (images_wanted f.asked)) ∙ ap (length {A = Want}) asked
 
   -- the rule that the module breaks
-  broken_is : (o : Option Unsupported) → memories_refused c.settings (memories_wanted f.asked) ≡ o → rule_broken w.terms number ≡ o
+  broken_is : (o : Option Unsupported) → memories_refused c.settings (memories_wanted f.asked) ≡ o → request.broken ≡ o
   broken_is o broken = ap (λ (s : Settings). memories_refused s (memories_of w.terms number)) is.world.settings ∙ ap (memories_refused c.settings) (sym same_memories) ∙ broken
 
   -- a slot is asked for the memory that is allocated
-  asked_now : (n : ℕ) → IsAdmitted w number told n → n ≡ length f.objects.items → IsAllocating c.settings f → n < slots_asked w.terms.rule (memories_of w.terms number)
+  asked_now : (n : ℕ) → IsAdmitted w request told n → n ≡ length f.objects.items → IsAllocating c.settings f → n < slots_asked w.terms.rule request.wants
   asked_now n so same allocating =
-      asked_more w.terms.rule (memories_of w.terms number) n (omega (arith, same, allocating.more, ap (length {A = MemoryDecl}) same_memories)) so.allowed
+      asked_more w.terms.rule request.wants n (omega (arith, same, allocating.more, same_number)) so.allowed
 
   -- No slot is found for a memory: where the party is alone, its live memories and those of the instance are too many.
-  none_cause : (n : ℕ) (e : AllocError) → IsAdmitted w number told n → FindsNone c f n e → HasCause w number told e
+  none_cause : (n : ℕ) (e : AllocError) → IsAdmitted w request told n → FindsNone c f n e → HasCause w request told e
   none_cause n e so none =
       let total : w.terms.slots ≡ c.settings.slots = is.world.slots ∙ is.slots in
       let full : w.alone ≡ true → w.terms.slots ≤ live_count told + n =
       λ a.
       let alone : IsAlone c f live = is.alone a in
-      let all : (k : ℕ) → leased_count (right_to k) f.objects.items + sum_by (granted_to (grant_count (right_to k))) live ≡ made_count (right_to k) (length c.cells) =
+      let all : (k : ℕ) → leased_count (right_to k) f.objects.items + sum_by (granted_to (grant_count (right_to k))) live ≡ made_count (right_to k) c.settings.slots =
       λ k. omega (arith, alone.places (right_to k), none.none alone.searched k, none.has k) in
-      omega (arith, is.world.slots, none.number, all_taken (length c.cells) f.objects.items live all, live_told live told seen) in
-      subst (HasCause w number told) (sym none.is)
-      (given_cause w number told _ so.supported (slots_given w number told c.settings.slots f.stripe c.settings.stripes n total is.frame.stripe one_stripe (asked_now n so none.number none.allocating) full))
+      omega (arith, is.world.slots, none.number, all_taken c.settings.slots f.objects.items live all, live_told live told seen) in
+      subst (HasCause w request told) (sym none.is)
+      (given_cause w request told _ so.supported (slots_given w request told c.settings.slots f.stripe c.settings.stripes n total is.frame.stripe one_stripe (asked_now n so none.number none.allocating) full))
 
   -- A call on the pages of its slot failed.
-  fault_cause : (n : ℕ) (e : AllocError) → IsAdmitted w number told n → IsPageFaulted w.maker c f n e → HasCause w number told e
+  fault_cause : (n : ℕ) (e : AllocError) → IsAdmitted w request told n → IsPageFaulted w.maker c f n e → HasCause w request told e
   fault_cause n e so fault =
-      let held : (k : ℕ) → slot_count (right_to k) fault.slot + sum_by (granted_to (grant_count (right_to k))) live ≤ made_count (right_to k) (length c.cells) = λ k. omega (arith, fault.has k, is.once (right_to k)) in
-      let inside : fault.slot < length c.cells = omega (arith, fault.region.inside, is.slots) in
-      let free : live_count told < w.terms.slots = omega (arith, one_free (length c.cells) fault.slot live held inside, live_told live told seen, is.world.slots) in
-      subst (HasCause w number told) (sym fault.is)
-      (given_cause w number told refusal.PageFault so.supported
-      (fault_given w number told n (asked_now n so fault.number fault.allocating)
-      (fault_of_slot w c.settings.behaviour c.settings.max_memory_size (length c.cells) fault.slot fault.old fault.new is.world.slots inside fault.region.region fault.left) free))
+      let held : (k : ℕ) → slot_count (right_to k) fault.slot + sum_by (granted_to (grant_count (right_to k))) live ≤ made_count (right_to k) c.settings.slots = λ k. omega (arith, fault.has k, is.once (right_to k)) in
+      let inside : fault.slot < c.settings.slots = omega (arith, fault.region.inside, is.slots) in
+      let free : live_count told < w.terms.slots = omega (arith, one_free c.settings.slots fault.slot live held inside, live_told live told seen, is.world.slots) in
+      subst (HasCause w request told) (sym fault.is)
+      (given_cause w request told refusal.PageFault so.supported
+      (fault_given w request told n (asked_now n so fault.number fault.allocating)
+      (fault_of_slot w c.settings.behaviour c.settings.max_memory_size c.settings.slots fault.slot fault.old fault.new is.world.slots inside fault.region.region fault.left) free))
 
   -- What is made of memory n goes with its own refusal.
-  made_own : (n : ℕ) (made : Result MemoryState AllocError) (decl : MemoryDecl) → slice_get (memories_wanted f.asked) n ≡ Some decl → Makes old new c f n made → GoesWith (own_refusal w.terms.rule decl.ty) made
-  made_own n made decl there makes =
+  made_own : (n : ℕ) (made : Result MemoryState AllocError) (decl : MemoryDecl) (image : Option Image) → slice_get (memories_wanted f.asked) n ≡ Some decl → Makes old new c f n made → GoesWith (own_refusal w.terms.rule (new_memory decl image)) made
+  made_own n made decl image there makes =
       let supported : IsSupported c.settings decl (slice_index_or (images_wanted f.asked) n None) = told_of (λ d. IsSupported c.settings d (slice_index_or (images_wanted f.asked) n None)) (slice_get (memories_wanted f.asked) n) decl there (makes.allocating.to_grant.supported.each n) in
       let asks : AsksForMemory makes.given old new decl = told_of (AsksForMemory makes.given old new) (slice_get (memories_wanted f.asked) n) decl there makes.asked in
-      let Made : Option MemoryDecl → Type 0 = λ o. GoesWith (own_refusal w.terms.rule decl.ty) (made_for c.settings.max_memory_size makes.given makes.held o) in
-      subst (GoesWith (own_refusal w.terms.rule decl.ty)) makes.is
-      (subst Made (sym there) (own_goes w.terms.rule makes.given decl.ty c.settings.max_memory_size makes.held (answer_told w.terms.rule old.rule makes.given (minimum_asked decl.ty) (maximum_asked decl.ty) is.rule asks.answer) supported.minimum))
+      let own : Option AllocError = own_refusal w.terms.rule (new_memory decl image) in
+      let Made : Option MemoryDecl → Type 0 = λ o. GoesWith own (made_for c.settings.max_memory_size makes.given makes.held o) in
+      subst (GoesWith own) makes.is
+      (subst Made (sym there) (own_goes w.terms.rule makes.given decl image c.settings.max_memory_size makes.held (answer_told w.terms.rule old.rule makes.given (minimum_asked decl.ty) (maximum_asked decl.ty) is.rule asks.answer) supported.minimum))
 
-  own_by : (n : ℕ) (e : AllocError) → IsAdmitted w number told n → Makes old new c f n (Err e) → HasCause w number told e
+  own_by : (n : ℕ) (e : AllocError) → IsAdmitted w request told n → Makes old new c f n (Err e) → HasCause w request told e
   own_by n e so makes =
-      told_there (HasCause w number told e) (memories_wanted f.asked) n (omega (arith, makes.number, makes.allocating.more))
+      told_there (HasCause w request told e) (memories_wanted f.asked) n (omega (arith, makes.number, makes.allocating.more))
       (λ decl there.
-      let own : own_refusal w.terms.rule decl.ty ≡ Some e = made_own n (Err e) decl there makes in
-      own_cause w number told decl.ty e so.supported own (first_is w.terms.rule (memories_of w.terms number) n decl e so.allowed (ap (λ (ds : List MemoryDecl). slice_get ds n) (sym same_memories) ∙ there) own))
+      let image : Option Image = slice_index_or (images_wanted f.asked) n None in
+      let own : own_refusal w.terms.rule (new_memory decl image) ≡ Some e = made_own n (Err e) decl image there makes in
+      let want : slice_get (wants_asked f.asked) n ≡ Some (new_memory decl image) = wants_at (memories_wanted f.asked) (images_wanted f.asked) n decl there in
+      own_cause w request told decl image e so.supported own (first_is w.terms.rule request.wants n (new_memory decl image) e so.allowed (ap (λ (ws : List Want). slice_get ws n) (sym asked) ∙ want) own))
 
-  untested_cause : (o : Option Unsupported) (e : AllocError) → memories_refused c.settings (memories_wanted f.asked) ≡ o → IsUntested o e → HasCause w number told e
-  untested_cause None e broken raises = subst (HasCause w number told) (sym raises) (memory_cause w number told)
-  untested_cause (Some rule) e broken raises = subst (HasCause w number told) (sym raises) (broken_cause w number told rule (broken_is (Some rule) broken))
+  untested_cause : (o : Option Unsupported) (e : AllocError) → memories_refused c.settings (memories_wanted f.asked) ≡ o → IsUntested o e → HasCause w request told e
+  untested_cause None e broken raises = subst (HasCause w request told) (sym raises) (memory_cause w request told)
+  untested_cause (Some rule) e broken raises = subst (HasCause w request told) (sym raises) (broken_cause w request told rule (broken_is (Some rule) broken))
 
   -- A request is refused only for a cause.
-  pub raised_cause : (p : Progress) (e : AllocError) → (p ≡ uncounted → phase_instances f.phase ≡ 0) → IsSoFar w number told p → Raises w.maker old new c f p e → HasCause w number told e
+  pub raised_cause : (p : Progress) (e : AllocError) → (p ≡ uncounted → phase_instances f.phase ≡ 0) → IsSoFar w request told p → Raises w.maker old new c f p e → HasCause w request told e
   raised_cause untested e none so raises = untested_cause (memories_refused c.settings (memories_wanted f.asked)) e refl raises
   raised_cause uncounted e none so raises =
       let most : w.terms.settings.max_core_instances ≡ c.settings.max_core_instances = ap (λ (s : Settings). s.max_core_instances) is.world.settings in
       let full : w.alone ≡ true → w.terms.settings.max_core_instances ≤ instance_count told =
       λ a. omega (arith, most, raises.1, (is.alone a).instances, none refl, instances_told live told seen) in
-      subst (HasCause w number told) (sym raises.0) (given_cause w number told _ so (instances_given w number told c.settings.max_core_instances most full))
+      subst (HasCause w request told) (sym raises.0) (given_cause w request told _ so (instances_given w request told c.settings.max_core_instances most full))
   raised_cause (admitted n) e none so raises =
       elim raises [
         | inl found ↦ none_cause n e so found
         | inr rest ↦ elim rest [ inl fault ↦ fault_cause n e so fault | inr makes ↦ own_by n e so makes ]
       ]
 
-  allowed_more : (n : ℕ) (memory : MemoryState) → IsAdmitted w number told n → Makes old new c f n (Ok memory) → HasNoRefusal w.terms number n
+  allowed_more : (n : ℕ) (memory : MemoryState) → IsAdmitted w request told n → Makes old new c f n (Ok memory) → HasNoRefusal w.terms.rule request.wants n
   allowed_more n memory so makes =
-      let Own : List MemoryDecl → Type 0 = λ ds. IfSome (slice_get ds n) (λ decl. own_refusal w.terms.rule decl.ty ≡ None) in
-      subst Own same_memories (told_each (slice_get (memories_wanted f.asked) n) (λ decl. own_refusal w.terms.rule decl.ty ≡ None) (λ decl there. made_own n (Ok memory) decl there makes))
+      let Own : List Want → Type 0 = λ ws. HasNoRefusal w.terms.rule ws n in
+      subst Own asked (told_each (slice_get (wants_asked f.asked) n) (λ want. own_refusal w.terms.rule want ≡ None)
+      (λ want at.
+      let there = wants_there (memories_wanted f.asked) (images_wanted f.asked) n want at in
+      ap (own_refusal w.terms.rule) there.is ∙ made_own n (Ok memory) there.decl (slice_index_or (images_wanted f.asked) n None) there.wanted makes))
 
   -- It goes on with what is known of it then.
-  pub goes_so_far : (p q : Progress) → IsSoFar w number told p → Follows old new c f p q → IsSoFar w number told q
+  pub goes_so_far : (p q : Progress) → IsSoFar w request told p → Follows old new c f p q → IsSoFar w request told q
   goes_so_far untested untested so follows = absurd follows
   goes_so_far untested uncounted so follows = broken_is None follows
   goes_so_far untested (admitted m) so follows = absurd follows
@@ -176,31 +186,29 @@ module _ {P : Type 0} (w : World) (old new : LimiterTold) (c : PoolCore P) (f : 
   goes_so_far (admitted n) uncounted so follows = absurd follows
   goes_so_far (admitted n) (admitted m) so follows =
       elim follows [
-        | inl same ↦ subst (IsAdmitted w number told) (sym same) so
+        | inl same ↦ subst (IsAdmitted w request told) (sym same) so
         | inr more ↦
             record {
               supported = so.supported;
               counted = so.counted;
               allowed = λ k below.
                   elim (cases_eq k n) [
-                    | inl last ↦ subst (HasNoRefusal w.terms number) (sym last) (allowed_more n more.1 so more.2)
+                    | inl last ↦ subst (HasNoRefusal w.terms.rule request.wants) (sym last) (allowed_more n more.1 so more.2)
                     | inr other ↦ so.allowed k (omega (arith, more.0, below, other))
                   ];
             }
       ]
 
-  -- What is granted begins as the module's memories do.
-  pub granted_begun : (leases : List Lease) → All (IsLeaseOf w.maker c.settings) leases → length leases ≡ length (memories_wanted f.asked) → AreBegun c.settings f.asked leases → AreSupported c.settings (memories_wanted f.asked) (images_wanted f.asked) → map private_memory leases ≡ begun_memories w.terms number 0 (memories_of w.terms number) (slots_of leases)
+  -- What is granted begins as what is asked for does.
+  pub granted_begun : (leases : List Lease) → All (IsLeaseOf w.maker c.settings) leases → length leases ≡ length (memories_wanted f.asked) → AreBegun c.settings f.asked leases → AreSupported c.settings (memories_wanted f.asked) (images_wanted f.asked) → map private_memory leases ≡ begun_memories w.terms (request_of w.terms number).wants (slots_of leases)
   granted_begun leases each count begun supported =
-      let decls : List MemoryDecl = memories_of w.terms number in
-      all_begun w.terms number 0 decls leases (count ∙ ap (length {A = MemoryDecl}) same_memories)
-      (λ j l decl there wants.
-      let wanted : slice_get (memories_wanted f.asked) j ≡ Some decl = ap (λ (ds : List MemoryDecl). slice_get ds j) same_memories ∙ wants in
+      let Begun : List Want → Type 0 = λ ws. map private_memory leases ≡ begun_memories w.terms ws (slots_of leases) in
+      subst Begun asked (all_begun w.terms (wants_asked f.asked) leases (count ∙ sym (count_wanted (memories_wanted f.asked) (images_wanted f.asked)))
+      (λ j l want there at.
       let given : Option Image = slice_index_or (images_wanted f.asked) j None in
-      let image : given ≡ image_at w.terms number j decl = told_of (λ d. slice_index_or (images_wanted f.asked) j None ≡ image_at w.terms number j d) (slice_get decls j) decl wants (asked.images j) in
+      let asks = wants_there (memories_wanted f.asked) (images_wanted f.asked) j want at in
+      let decl : MemoryDecl = asks.decl in
       let lease : IsLeaseOf w.maker c.settings l = leased (IsLeaseOf w.maker c.settings) leases j l there each in
-      let new : IsNew c.settings.max_memory_size given l.memory decl = told_of (IsNew c.settings.max_memory_size given l.memory) (slice_get (memories_wanted f.asked) j) decl wanted (told_of (λ x. IfSome (slice_get (memories_wanted f.asked) j) (IsNew c.settings.max_memory_size given x.memory)) (slice_get leases j) l there (begun j)) in
-      let fits : IfSome given (FitsInto c.settings.page (minimum_byte_size decl.ty)) = (told_of (λ d. IsSupported c.settings d given) (slice_get (memories_wanted f.asked) j) decl wanted (supported.each j)).image_fits in
-      let N : Option Image → Type 0 = λ i. IsNew c.settings.max_memory_size i l.memory decl in
-      let S : Option Image → Type 0 = λ i. IfSome i (FitsInto c.settings.page (minimum_byte_size decl.ty)) in
-      begun_seen w.terms w.maker c.settings number j decl l is.world.tells is.world.settings lease.slot (subst N image new) (subst S image fits) ∙ ap (λ (n : ℕ). begun_memory w.terms number n decl l.index) {x = j} {y = 0 + j} (omega arith))
+      let new : IsNew c.settings.max_memory_size given l.memory decl = told_of (IsNew c.settings.max_memory_size given l.memory) (slice_get (memories_wanted f.asked) j) decl asks.wanted (told_of (λ x. IfSome (slice_get (memories_wanted f.asked) j) (IsNew c.settings.max_memory_size given x.memory)) (slice_get leases j) l there (begun j)) in
+      let fits : IfSome given (FitsInto c.settings.page (minimum_byte_size decl.ty)) = (told_of (λ d. IsSupported c.settings d given) (slice_get (memories_wanted f.asked) j) decl asks.wanted (supported.each j)).image_fits in
+      begun_seen w.terms w.maker c.settings given decl l is.world.tells is.world.settings lease.slot new fits ∙ ap (begun_memory w.terms l.index) (sym asks.is)))

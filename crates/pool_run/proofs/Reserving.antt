@@ -21,7 +21,7 @@ use Rattle.pool_alloc.specs.declared.frame.Outcome.TheVariants as answer
 use Rattle.pool_run.specs.RunsMade.{AreReserved, party_made_for, parties_made}
 use Rattle.pool_run.specs.Ties.{IsReserved, is_asking}
 use Rattle.pool_alloc.specs.Stages.{stage_of}
-use Rattle.pool_alloc.specs.declared.frame.ModuleCall.{ModuleCall}
+use Rattle.pool_alloc.specs.Asked.{ModuleAsked}
 use Rattle.pool_run.specs.Turns.{Turned, leases_of, answered, slots_after}
 use Rattle.pool_run.specs.declared.input.Party.{Party}
 use Rattle.pool_run.specs.declared.reply.Reply.{Reply}
@@ -34,7 +34,7 @@ module _ {P : Type 0} where
   pub back_reserved : (grant : Grant P) (f : Frame P) (slots : Reserved ℕ) → IsReserved f slots → IsReserved (begun_call (call.GiveBack grant) f) slots
   back_reserved grant f slots reserved = record { empty = reserved.empty; room = λ asking. absurd (returned_asks grant f asking) }
 
-  granted_room : (maker : MakerTold) (s : Settings) (asked : Option ModuleCall) (room : ℕ) (o : Option (Outcome P)) → IfGranted (λ g. length (memories_wanted asked) ≤ room) o → IfGranted (IsGrantOf maker s asked) o → IfGranted (λ g. length (leases_of g) ≤ room) o
+  granted_room : (maker : MakerTold) (s : Settings) (asked : Option ModuleAsked) (room : ℕ) (o : Option (Outcome P)) → IfGranted (λ g. length (memories_wanted asked) ≤ room) o → IfGranted (IsGrantOf maker s asked) o → IfGranted (λ g. length (leases_of g) ≤ room) o
   granted_room maker s asked room (Some (answer.Granted (instance lease))) place is = omega (arith, is.1, place)
   granted_room maker s asked room _ place is = tt
 
@@ -47,7 +47,7 @@ module _ {P : Type 0} where
   after_reserved : (o : Option (Outcome P)) (f g : Frame P) (slots : Reserved ℕ) → IsReserved f slots → IsStagedStep (stage_of f) (stage_of g) o → (is_asking (stage_of g) ≡ true → g.asked ≡ f.asked) → IsReserved g (slots_after o slots)
   after_reserved None f g slots r staged same = record {
     empty = r.empty;
-    room = λ is. let R : Option ModuleCall → Type 0 = λ o. length (memories_wanted o) ≤ slots.room in subst R (sym (same is)) (r.room (staged.asking is));
+    room = λ is. let R : Option ModuleAsked → Type 0 = λ o. length (memories_wanted o) ≤ slots.room in subst R (sym (same is)) (r.room (staged.asking is));
   }
   after_reserved (Some answer.Key) f g slots r staged same = record { empty = r.empty; room = λ is. settled_place (stage_of g) (staged.settled refl) is }
   after_reserved (Some (answer.Granted grant)) f g slots r staged same = record { empty = refl; room = λ is. settled_place (stage_of g) (staged.settled refl) is }

@@ -57,9 +57,8 @@ sized n is =
       power_of_two = second (nat_le n 65536) _ rest;
     }
 
-page_by : (input : Input) (b : Bool) → is_page_size input.page ≡ b → (IsPageSize input.page → ⊥) → broken_rule input ≡ Some (PageSize input.page)
-page_by input true is isnt = absurd (isnt (sized input.page is))
-page_by input false is isnt =
+broken_page : (input : Input) → is_page_size input.page ≡ false → broken_rule input ≡ Some (PageSize input.page)
+broken_page input is =
     let rest : Option BrokenRule =
     or_else (unless (is_shard_count input.shards) (Shards input.shards))
     (or_else (unless (is_batch_size input.config.decommit_batch_size) (DecommitBatch input.config.decommit_batch_size))
@@ -68,6 +67,18 @@ page_by input false is isnt =
     (or_else (unless (keys_suffice input.config input.offered) KeysNotOffered)
     (first_broken_total input.config input.tunables input.page input.offered))))) in
     ap (λ (b : Bool). or_else (unless b (PageSize input.page)) rest) is
+
+page_by : (input : Input) (b : Bool) → is_page_size input.page ≡ b → (IsPageSize input.page → ⊥) → broken_rule input ≡ Some (PageSize input.page)
+page_by input true is isnt = absurd (isnt (sized input.page is))
+page_by input false is isnt = broken_page input is
+
+-- Where no rule is broken, the page is one.
+paged : (input : Input) (b : Bool) → is_page_size input.page ≡ b → broken_rule input ≡ None → IsPageSize input.page
+paged input true is none = sized input.page is
+paged input false is none = let wrong : Some (PageSize input.page) ≡ None = sym (broken_page input is) ∙ none in absurd cc
+
+pub page_sized : (input : Input) → broken_rule input ≡ None → IsPageSize input.page
+page_sized input none = paged input (is_page_size input.page) refl none
 
 -- A page that is no page's size is named, in an input that is valid.
 pub page_named : {X : Type 0} (input : Input) (rule e : BrokenRule) → is_valid input ≡ true → rule ≡ PageSize input.page → (IsPageSize input.page → ⊥) → (◌≡◌ {A = Result X RunFault} (Err (BadConfig rule)) (Err (BadConfig e))) ↔ ((is_valid input ≡ true) × (broken_rule input ≡ Some e))

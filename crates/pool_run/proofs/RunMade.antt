@@ -7,7 +7,7 @@ use Rattle.std.proofs.lemmas.List.Sums.{sum_by-set, get_or-le-sum_by}
 use Rattle.std.proofs.lemmas.Option.{slice_get_within, get_or_from_slice_get}
 use Rattle.pool_pages.specs.MakerTold.{MakerTold}
 use Rattle.pool_index.specs.Shard.{one_if}
-use Rattle.pool_alloc.specs.declared.frame.ModuleCall.{ModuleCall}
+use Rattle.pool_alloc.specs.Asked.{ModuleAsked}
 use Rattle.pool_alloc.specs.Stepping.{CanCount}
 use Rattle.pool_alloc.specs.declared.pool_core.PoolCore.{PoolCore}
 use Rattle.pool_run.specs.Folds.{RunState, TurnsOf, TurnsIf, with_turn, commands_of, replies_to}
@@ -35,12 +35,12 @@ use Rattle.pool_run.proofs.LimitsOfRuns.{made_within}
 use Rattle.pool_run.proofs.Running.{can_turn}
 use Rattle.pool_run.proofs.Turned.{HasTurned, has_turned}
 
-one_fits : (w : World) (s : Settings) (number : ℕ) (o : Option ModuleCall) → IfSome o (IsCallFor w.terms s number) → IfSome o (IsFit s)
+one_fits : (w : World) (s : Settings) (number : ℕ) (o : Option ModuleAsked) → IfSome o (IsCallFor w.terms s number) → IfSome o (IsFit s)
 one_fits w s number None call = tt
 one_fits w s number (Some m) call = call.fit
 
 -- a call for a module is fit
-pub are_fit : (w : World) (s : Settings) (modules : List ModuleCall) → AreCallsFor w.terms s modules → AreFit s modules
+pub are_fit : (w : World) (s : Settings) (modules : List ModuleAsked) → AreCallsFor w.terms s modules → AreFit s modules
 are_fit w s modules calls number = one_fits w s number (slice_get modules number) (calls number)
 
 -- what is made of one element more
@@ -62,7 +62,7 @@ nobody = record { home = 0; limits = None; commands = [] }
 
 module _ {P : Type 0} where
   -- a turn that was made is one of the run
-  turn_taken : (modules : List ModuleCall) (inputs : List (List Command)) (commands : List Command) (i : ℕ) (p : RunningParty P) (s : RunState P) (t : Turned P) → slice_get s.parties i ≡ Some p → commands ≡ commands_of inputs i → Turns modules commands s.core p t → TurnsOf modules inputs i s (with_turn i t s)
+  turn_taken : (modules : List ModuleAsked) (inputs : List (List Command)) (commands : List Command) (i : ℕ) (p : RunningParty P) (s : RunState P) (t : Turned P) → slice_get s.parties i ≡ Some p → commands ≡ commands_of inputs i → Turns modules commands s.core p t → TurnsOf modules inputs i s (with_turn i t s)
   turn_taken modules inputs commands i p s t there same turns =
       let If : Option (RunningParty P) → Type 0 = λ o. TurnsIf modules (commands_of inputs i) i o s (with_turn i t s) in
       let T : List Command → Type 0 = λ cs. Turns modules cs s.core p t in
@@ -78,7 +78,7 @@ module _ {P : Type 0} where
   }
 
   -- what a turn of the party wants
-  pub record CanTake (maker : MakerTold) (modules : List ModuleCall) (commands : List Command) (c : PoolCore P) (p : RunningParty P) : Type 0 where
+  pub record CanTake (maker : MakerTold) (modules : List ModuleAsked) (commands : List Command) (c : PoolCore P) (p : RunningParty P) : Type 0 where
     pub can : CanTurn maker c p
     pub counts : CanCount c
     pub calls : AreFit c.settings modules
@@ -100,7 +100,7 @@ module _ {P : Type 0} where
       let done : (slice_index_or s.parties i p).done ≡ p.done = ap (λ (q : RunningParty P). q.done) here in
       let few : 1 + length (slice_index_or s.parties i p).live ≤ places_in s.parties = get_or-le-sum_by places s.parties i p below in
       let inside : i < length given = omega (arith, below, run.parties) in
-      let N : List ModuleCall → List Command → Type 0 = λ modules cs. NameModules (length modules) cs in
+      let N : List ModuleAsked → List Command → Type 0 = λ modules cs. NameModules (length modules) cs in
       let named : N of.modules commands = subst (N of.modules) (commands_there of.inputs given i nobody run.inputs inside ∙ sym same) (run.named i nobody inside) in
       record {
         can = subst Can here (can_turn w.maker s.core s.parties i p way.holds.running below);
@@ -122,7 +122,7 @@ module _ {P : Type 0} where
   turn_after of given commands i p s t run kept there same turns =
       let w : World = of.world in
       let way = run.way in
-      let T : List ModuleCall → List Command → Type 0 = λ modules cs. Turns modules cs s.core p t in
+      let T : List ModuleAsked → List Command → Type 0 = λ modules cs. Turns modules cs s.core p t in
       let turned_so : T of.modules (commands_of of.inputs i) = subst (T of.modules) same (subst (λ modules. T modules commands) way.given turns) in
       let below : i < length s.parties = slice_get_within s.parties i p there in
       let inside : i < length (slice_set s.parties i t.party) = omega (arith, below, length-set s.parties i t.party) in
@@ -150,7 +150,7 @@ module _ {P : Type 0} where
       }
 
   -- one turn more of the same party
-  pub repeated : (modules : List ModuleCall) (inputs : List (List Command)) (i n : ℕ) (s mid new : RunState P) → Folds modules inputs (replicate n i) s mid → TurnsOf modules inputs i mid new → Folds modules inputs (replicate (n + 1) i) s new
+  pub repeated : (modules : List ModuleAsked) (inputs : List (List Command)) (i n : ℕ) (s mid new : RunState P) → Folds modules inputs (replicate n i) s mid → TurnsOf modules inputs i mid new → Folds modules inputs (replicate (n + 1) i) s new
   repeated modules inputs i n s mid new folds turns =
       let F : List ℕ → Type 0 = λ schedule. Folds modules inputs schedule s new in
       subst F (replicate_more n i) (folds_more modules inputs (replicate n i) i s mid new folds turns)

@@ -38,7 +38,7 @@ module _ {P : Type 0} where
   fits_party c parties i d whole below = record {
     once = λ t. omega (arith, whole.places t, get_or-le-sum_by (λ p. (held_by_party p).places t) parties i d below);
     home = λ k some.
-        let both : made_count (region_of k) (length c.cells) ≡ made_count (right_to k) (length c.cells) = refl in
+        let both : made_count (region_of k) c.settings.slots ≡ made_count (right_to k) c.settings.slots = refl in
         omega (arith, some, both, whole.places (right_to k), whole.places (region_of k), others_have_slots parties i k d below, get_or-le-sum_by (λ p. (held_by_party p).places (right_to k)) parties i d below);
     instances = omega (arith, whole.instances, get_or-le-sum_by (λ p. (held_by_party p).instances) parties i d below);
     memories = omega (arith, whole.memories, get_or-le-sum_by (λ p. (held_by_party p).memories) parties i d below);
@@ -54,7 +54,7 @@ module _ {P : Type 0} where
 
   whole_turned : (c : PoolCore P) (parties : List (RunningParty P)) (i : ℕ) (d : RunningParty P) (t : Turned P) → IsPartitioned held_by_party c parties → i < length parties → HasTurned c (slice_index_or parties i d) t → IsPartitioned held_by_party t.core (slice_set parties i t.party)
   whole_turned c parties i d t whole below turned = record {
-    places = λ x. omega (arith, ap (made_count x) turned.size.cells, whole.places x, turned.places x, sum_by-set (λ p. (held_by_party p).places x) parties i t.party d below);
+    places = λ x. omega (arith, ap (λ (z : Settings). made_count x z.slots) turned.size.settings, whole.places x, turned.places x, sum_by-set (λ p. (held_by_party p).places x) parties i t.party d below);
     instances = omega (arith, whole.instances, turned.instances, sum_by-set (λ p. (held_by_party p).instances) parties i t.party d below);
     memories = omega (arith, whole.memories, turned.memories, sum_by-set (λ p. (held_by_party p).memories) parties i t.party d below);
   }

@@ -5,7 +5,7 @@ use Rattle.std.proofs.lemmas.List.Elements.{All-set, All-get_or}
 use Rattle.std.proofs.lemmas.Option.{slice_get_within, get_or_from_slice_get}
 use Rattle.pool_limits.specs.LimiterTold.{LimiterTold}
 use Rattle.pool_pages.specs.MakerTold.{MakerTold}
-use Rattle.pool_alloc.specs.declared.frame.ModuleCall.{ModuleCall}
+use Rattle.pool_alloc.specs.Asked.{ModuleAsked}
 use Rattle.pool_alloc.specs.Calls.{IsGrant, IsGrantOf, IfGranted}
 use Rattle.pool_alloc.specs.Leases.{Lease}
 use Rattle.pool_alloc.specs.Sound.{IsCore, IsFrame, IsLeaseOf}
@@ -32,7 +32,7 @@ module _ {P : Type 0} where
     pub party : IsSoundParty maker t.core t.party
 
   -- A grant of as many memories as were asked for is one of the pool.
-  granted_any : (maker : MakerTold) (s : Settings) (asked : Option ModuleCall) (o : Option (Outcome P)) → IfGranted (IsGrantOf maker s asked) o → IfGranted (IsGrant maker s) o
+  granted_any : (maker : MakerTold) (s : Settings) (asked : Option ModuleAsked) (o : Option (Outcome P)) → IfGranted (IsGrantOf maker s asked) o → IfGranted (IsGrant maker s) o
   granted_any maker s asked None is = is
   granted_any maker s asked (Some answer.Key) is = is
   granted_any maker s asked (Some (answer.Granted (instance lease))) is = is.0

@@ -111,7 +111,7 @@ module _ {P : Type 0} (maker : MakerTold) (old new : LimiterTold) (c : PoolCore 
   staged keys no_call (Some answer.Key) goes = record { answer = refl; settled = λ e. refl; asking = λ e. absurd cc; granted = tt; drawn = refl; key = refl }
   staged (asks p) (asks q) None goes = record { answer = refl; settled = λ e. absurd cc; asking = λ e. refl; granted = tt; drawn = refl; key = refl }
   staged (asks p) (refusing e) None goes = record { answer = refl; settled = λ e. absurd cc; asking = λ e. absurd cc; granted = tt; drawn = refl; key = refl }
-  staged (asks p) no_call (Some (answer.Refused e)) goes = record { answer = refl; settled = λ e. refl; asking = λ e. absurd cc; granted = tt; drawn = refl; key = refl }
+  staged (asks untested) no_call (Some (answer.Refused e)) goes = record { answer = refl; settled = λ e. refl; asking = λ e. absurd cc; granted = tt; drawn = refl; key = refl }
   staged (asks p) no_call (Some (answer.Granted grant)) goes = record { answer = refl; settled = λ e. refl; asking = λ e. absurd cc; granted = refl; drawn = refl; key = refl }
   staged returning returning None goes = record { answer = refl; settled = λ e. absurd cc; asking = λ e. absurd cc; granted = tt; drawn = refl; key = refl }
   staged returning no_call (Some answer.Returned) goes = record { answer = refl; settled = λ e. refl; asking = λ e. absurd cc; granted = tt; drawn = refl; key = refl }
@@ -133,7 +133,7 @@ module _ {P : Type 0} (maker : MakerTold) (old new : LimiterTold) (c : PoolCore 
   admits others keys no_call (Some answer.Key) goes within counted = record { within = omega (arith, within) }
   admits others (asks p) (asks q) None goes within counted = record { within = omega (arith, followed_within others p q goes within counted) }
   admits others (asks p) (refusing e) None goes within counted = record { within = omega (arith, within) }
-  admits others (asks p) no_call (Some (answer.Refused e)) goes within counted = record { within = omega (arith, within) }
+  admits others (asks untested) no_call (Some (answer.Refused e)) goes within counted = record { within = omega (arith, within) }
   admits others (asks p) no_call (Some (answer.Granted (instance lease))) goes within counted = record { within = omega (arith, granted_within others (length (memories_wanted f.asked)) p goes.0 within counted) }
   admits others returning returning None goes within counted = record { within = omega (arith, within) }
   admits others returning no_call (Some answer.Returned) goes within counted = record { within = omega (arith, within) }

@@ -14,7 +14,7 @@ use Rattle.pool_alloc.specs.declared.pool_core.PoolCore.{PoolCore}
 use Rattle.pool_alloc.specs.declared.pool_core.Settings.{Settings}
 use Rattle.pool_alloc.specs.declared.frame.Frame.{Frame}
 use Rattle.pool_alloc.specs.declared.frame.Grant.{Grant}
-use Rattle.pool_alloc.specs.declared.frame.ModuleCall.{ModuleCall}
+use Rattle.pool_alloc.specs.Asked.{ModuleAsked}
 use Rattle.pool_alloc.proofs.BegunCalls.{made_frame, made_count, made_instances, made_memories}
 use Rattle.pool_alloc.proofs.Untouched.{untouched_is_whole, untouched_has_all}
 use Rattle.pool_run.specs.PartyRules.{rule_of}
@@ -124,7 +124,7 @@ module _ {P : Type 0} where
       let first : To (party_made made.home made.limits s (length commands)) = record { room = length-replicate {A = Option (Grant P)} (length commands) None; private = party_is_private P (under (rule_of made.limits) w) commands made.home made.limits s } in
       subst To (sym (is_party_made s (length commands) p made)) first
 
-  pub run_started : (w : World) (modules : List ModuleCall) (inputs : List (List Command)) (c : PoolCore P) (parties : List (RunningParty P)) → IsCore w.maker c → IsUntouched c → IsWorldOf w c → AreCallsFor w.terms c.settings modules → AreMade c.settings inputs parties → map (λ p. rule_of p.limits) parties ≡ w.rules → (w.alone ≡ true → length parties ≡ 1) → IsUnderWay w modules inputs (record { core = c; modules = modules; parties = parties; replies = replicate (length parties) [] })
+  pub run_started : (w : World) (modules : List ModuleAsked) (inputs : List (List Command)) (c : PoolCore P) (parties : List (RunningParty P)) → IsCore w.maker c → IsUntouched c → IsWorldOf w c → AreCallsFor w.terms c.settings modules → AreMade c.settings inputs parties → map (λ p. rule_of p.limits) parties ≡ w.rules → (w.alone ≡ true → length parties ≡ 1) → IsUnderWay w modules inputs (record { core = c; modules = modules; parties = parties; replies = replicate (length parties) [] })
   run_started w modules inputs c parties core untouched world calls made rules alone =
       let running : IsRunning w.maker c parties = started_running w.maker c inputs parties core untouched made in
       let within : IsWithinCounts c parties = made_within c parties untouched running.whole in

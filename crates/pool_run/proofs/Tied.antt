@@ -2,28 +2,27 @@
 use Rattle.std.proofs.Common.{◌≡◌, ℕ, ◌+◌, ◌<◌, ◌≤◌, false, List, length, map, Option, Some, None, refl, sym, ap, ◌∙◌, subst, arith, All}
 use Rattle.std.specs.Prelude.{IsSome, slice_set, sum_by}
 use Rattle.std.proofs.lemmas.List.{length-map}
-use Rattle.pool_pages.specs.declared.module_types.MemoryDecl.{MemoryDecl}
 use Rattle.pool_limits.specs.LimiterTold.{LimiterTold}
 use Rattle.pool_slots.specs.declared.errors.AllocError.{AllocError}
 use Rattle.pool_alloc.specs.Calls.{IsGrantOf, IfGranted}
 use Rattle.pool_alloc.specs.Leases.{Lease}
 use Rattle.pool_alloc.specs.Places.{right_to, made_count, phase_instances}
 use Rattle.pool_alloc.specs.Sound.{AreSupported}
-use Rattle.pool_alloc.specs.Stages.{Progress, uncounted, admitted, Stage, no_call, keys, asks, returning, refusing, Follows, Goes}
+use Rattle.pool_alloc.specs.Stages.{Progress, untested, uncounted, admitted, Stage, no_call, keys, asks, returning, refusing, Follows, Goes}
 use Rattle.pool_alloc.specs.Stepping.{grant_count}
 use Rattle.pool_alloc.specs.Steps.{memories_wanted, images_wanted}
 use Rattle.pool_alloc.specs.declared.pool_core.PoolCore.{PoolCore}
 use Rattle.pool_alloc.specs.declared.frame.Frame.{Frame}
-use Rattle.pool_alloc.specs.declared.frame.ModuleCall.{ModuleCall}
+use Rattle.pool_alloc.specs.Asked.{ModuleAsked}
 use Rattle.pool_alloc.specs.declared.frame.Grant.{Grant}
 use Rattle.pool_alloc.specs.declared.frame.Grant.TheVariants.{Instance as instance}
 use Rattle.pool_alloc.specs.declared.frame.Outcome.{Outcome}
 use Rattle.pool_alloc.specs.declared.frame.Outcome.TheVariants as answer
 use Rattle.pool_run.specs.Acts.{Act, requests, drops, act_at}
-use Rattle.pool_run.specs.Private.{PrivateMemory, PrivateInstance, Grants, grant_at, memories_of, begun_memories, MovesGrants, Drops}
+use Rattle.pool_run.specs.Private.{PrivateMemory, PrivateInstance, Grants, grant_at, Want, request_of, begun_memories, MovesGrants, Drops}
 use Rattle.pool_run.specs.Rooms.{World, TellsOfPool}
 use Rattle.pool_run.specs.Turns.{private_grant, grants_of, granted_reply, private_memory}
-use Rattle.pool_run.specs.Ties.{granted_to, IsAskedFor, IsAdmitted, IsSoFar, IsRequest, IsToRefuse, IsToReturn, TiedAs}
+use Rattle.pool_run.specs.Ties.{granted_to, wants_asked, IsAdmitted, IsSoFar, IsRequest, IsToRefuse, IsToReturn, TiedAs}
 use Rattle.pool_run.specs.declared.command.Command.{Command}
 use Rattle.pool_run.specs.declared.reply.Reply.{Reply}
 use Rattle.pool_run.specs.declared.reply.Reply.TheVariants.{Returned, Refused}
@@ -32,7 +31,7 @@ use Rattle.pool_run.proofs.Causes.{none_first}
 use Rattle.pool_run.proofs.Exhausted.{live_told, room_for}
 use Rattle.pool_run.proofs.FreeSlots.{slots_inside, slots_apart, slots_free}
 use Rattle.pool_run.proofs.Grants.{grants_set}
-use Rattle.pool_run.proofs.Requests.{slots_of, IsBefore, same_memories, raised_cause, goes_so_far, granted_begun}
+use Rattle.pool_run.proofs.Requests.{slots_of, IsBefore, same_number, raised_cause, goes_so_far, granted_begun}
 use Rattle.pool_run.proofs.StageSteps.{is_none}
 
 -- a grant that is there ends
@@ -50,7 +49,7 @@ module _ {P : Type 0} (w : World) (commands : List Command) (done : ℕ) (live :
     pub pool : TellsOfPool w told act reply
 
   -- what the party has after a step with this outcome fits what it was told
-  abbrev pub TiedBy : Stage → Option ModuleCall → Option (Outcome P) → Type 0
+  abbrev pub TiedBy : Stage → Option ModuleAsked → Option (Outcome P) → Type 0
   TiedBy t asked None = TiedAs w t commands done asked (grants_of live) told
   TiedBy t asked (Some answer.Key) = TiedAs w t commands done asked (grants_of live) told
   TiedBy t asked (Some (answer.Granted grant)) = Replies (granted_reply grant) (slice_set live done (Some grant))
@@ -64,23 +63,23 @@ module _ {P : Type 0} (w : World) (commands : List Command) (done : ℕ) (live :
   returned is = record { act = drops is.of; next = is.act; moves = dropped (grant_at told is.of) told (grants_of live) is.of is.there is.ended; pool = tt }
 
 module _ {P : Type 0} (w : World) (old new : LimiterTold) (c : PoolCore P) (f : Frame P) (commands : List Command) (done : ℕ) (live : List (Option (Grant P))) (told : Grants) (is : IsBefore w old new c f live told) where
-  all_admitted : (p : Progress) (number : ℕ) → grants_of live ≡ told → IsAskedFor w.terms number f.asked → IsSoFar w number told p → Follows old new c f p (admitted (length (memories_wanted f.asked))) → IsAdmitted w number told (length (memories_wanted f.asked))
+  all_admitted : (p : Progress) (number : ℕ) → grants_of live ≡ told → wants_asked f.asked ≡ (request_of w.terms number).wants → IsSoFar w (request_of w.terms number) told p → Follows old new c f p (admitted (length (memories_wanted f.asked))) → IsAdmitted w (request_of w.terms number) told (length (memories_wanted f.asked))
   all_admitted p number seen asked so follows = goes_so_far w old new c f live told is seen number asked p (admitted (length (memories_wanted f.asked))) so follows
 
   -- an instance is whole, and granted
-  granted : (p : Progress) (grant : Grant P) → grants_of live ≡ told → (request : IsRequest w commands done f.asked told p) → Follows old new c f p (admitted (length (memories_wanted f.asked))) → AreSupported c.settings (memories_wanted f.asked) (images_wanted f.asked) → IsGrantOf w.maker c.settings f.asked grant → ((k : ℕ) → grant_count (right_to k) grant + sum_by (granted_to (grant_count (right_to k))) live ≤ made_count (right_to k) (length c.cells)) → Replies w commands done live told (granted_reply grant) (slice_set live done (Some grant))
+  granted : (p : Progress) (grant : Grant P) → grants_of live ≡ told → (request : IsRequest w commands done f.asked told p) → Follows old new c f p (admitted (length (memories_wanted f.asked))) → AreSupported c.settings (memories_wanted f.asked) (images_wanted f.asked) → IsGrantOf w.maker c.settings f.asked grant → ((k : ℕ) → grant_count (right_to k) grant + sum_by (granted_to (grant_count (right_to k))) live ≤ made_count (right_to k) c.settings.slots) → Replies w commands done live told (granted_reply grant) (slice_set live done (Some grant))
   granted p (instance lease) seen request follows supported of apart =
       let items : List Lease = lease.memories.items in
       let grant : Grant P = instance lease in
       let n : ℕ = request.number in
-      let same : memories_wanted f.asked ≡ memories_of w.terms n = same_memories w old new c f live told is seen n request.asked_for in
-      let counts : length (memories_wanted f.asked) ≡ length (memories_of w.terms n) = ap (length {A = MemoryDecl}) same in
-      let so : IsAdmitted w n told (length (memories_wanted f.asked)) = all_admitted p n seen request.asked_for request.so_far follows in
-      let begun : List PrivateMemory = begun_memories w.terms n 0 (memories_of w.terms n) (slots_of items) in
+      let wants : List Want = (request_of w.terms n).wants in
+      let counts : length (memories_wanted f.asked) ≡ length wants = same_number w old new c f live told is seen n request.asked_for in
+      let so : IsAdmitted w (request_of w.terms n) told (length (memories_wanted f.asked)) = all_admitted p n seen request.asked_for request.so_far follows in
+      let begun : List PrivateMemory = begun_memories w.terms wants (slots_of items) in
       let memories : map private_memory items ≡ begun = granted_begun w old new c f live told is seen n request.asked_for items of.0 of.1 of.2 supported in
       let grants : grants_of (slice_set live done (Some grant)) ≡ slice_set told done (Some (record { memories = begun })) =
       grants_set live done (Some grant) ∙ ap (λ (g : Grants). slice_set g done (Some (private_grant grant))) seen ∙ ap (λ (ms : List PrivateMemory). slice_set told done (Some (record { memories = ms }))) memories in
-      let total : ℕ = length c.cells in
+      let total : ℕ = c.settings.slots in
       let Inside : ℕ → Type 0 = λ k. All (λ slot. slot < k) (slots_of items) in
       record {
         act = requests n;
@@ -88,7 +87,7 @@ module _ {P : Type 0} (w : World) (old new : LimiterTold) (c : PoolCore P) (f : 
         moves = (
           record {
             supported = so.supported;
-            allowed = none_first w.terms.rule (memories_of w.terms n) (λ k below. so.allowed k (omega (arith, below, counts)));
+            allowed = none_first w.terms.rule wants (λ k below. so.allowed k (omega (arith, below, counts)));
             count = length-map items (λ (l : Lease). l.index) ∙ of.1 ∙ counts;
           },
           refl,
@@ -106,19 +105,19 @@ module _ {P : Type 0} (w : World) (old new : LimiterTold) (c : PoolCore P) (f : 
   refuses : (p : Progress) (e : AllocError) → (p ≡ uncounted → phase_instances f.phase ≡ 0) → grants_of live ≡ told → IsRequest w commands done f.asked told p → Goes w.maker old new c f (asks p) (refusing e) None → IsToRefuse w commands done told e
   refuses p e none seen request raises = record { number = request.number; act = request.act; cause = raised_cause w old new c f live told is seen request.number request.asked_for p e none request.so_far raises }
 
-  goes_asking : (p q : Progress) (asked : Option ModuleCall) → asked ≡ f.asked → grants_of live ≡ told → IsRequest w commands done f.asked told p → Follows old new c f p q → IsRequest w commands done asked told q
+  goes_asking : (p q : Progress) (asked : Option ModuleAsked) → asked ≡ f.asked → grants_of live ≡ told → IsRequest w commands done f.asked told p → Follows old new c f p q → IsRequest w commands done asked told q
   goes_asking p q asked same seen request follows =
-      let For : Option ModuleCall → Type 0 = λ o. IsAskedFor w.terms request.number o in
+      let For : Option ModuleAsked → Type 0 = λ o. wants_asked o ≡ (request_of w.terms request.number).wants in
       record { number = request.number; act = request.act; asked_for = subst For (sym same) request.asked_for; so_far = goes_so_far w old new c f live told is seen request.number request.asked_for p q request.so_far follows }
 
   -- After each step of a call what the party has fits what it was told.
-  pub tied_by : (s t : Stage) (asked : Option ModuleCall) (o : Option (Outcome P)) → (s ≡ asks uncounted → phase_instances f.phase ≡ 0) → (is_none t ≡ false → asked ≡ f.asked) → IfGranted (IsGrantOf w.maker c.settings f.asked) o
-      → IfGranted (λ g. (k : ℕ) → grant_count (right_to k) g + sum_by (granted_to (grant_count (right_to k))) live ≤ made_count (right_to k) (length c.cells)) o → Goes w.maker old new c f s t o → TiedAs w s commands done f.asked (grants_of live) told → TiedBy w commands done live told t asked o
+  pub tied_by : (s t : Stage) (asked : Option ModuleAsked) (o : Option (Outcome P)) → (s ≡ asks uncounted → phase_instances f.phase ≡ 0) → (is_none t ≡ false → asked ≡ f.asked) → IfGranted (IsGrantOf w.maker c.settings f.asked) o
+      → IfGranted (λ g. (k : ℕ) → grant_count (right_to k) g + sum_by (granted_to (grant_count (right_to k))) live ≤ made_count (right_to k) c.settings.slots) o → Goes w.maker old new c f s t o → TiedAs w s commands done f.asked (grants_of live) told → TiedBy w commands done live told t asked o
   tied_by no_call no_call asked None none same of apart goes tied = tied
   tied_by keys no_call asked (Some answer.Key) none same of apart goes tied = tied
   tied_by (asks p) (asks q) asked None none same of apart goes tied = (tied.0, goes_asking p q asked (same refl) tied.0 tied.1 goes)
   tied_by (asks p) (refusing e) asked None none same of apart goes tied = (tied.0, refuses p e (λ e. none (ap asks e)) tied.0 tied.1 goes)
-  tied_by (asks p) no_call asked (Some (answer.Refused e)) none same of apart goes tied = refused w commands done live told e tied.0 (refuses p e (λ e. none (ap asks e)) tied.0 tied.1 goes)
+  tied_by (asks untested) no_call asked (Some (answer.Refused e)) none same of apart goes tied = refused w commands done live told e tied.0 (refuses untested e (λ e. none (ap asks e)) tied.0 tied.1 goes)
   tied_by (asks p) no_call asked (Some (answer.Granted grant)) none same of apart goes tied = granted p grant tied.0 tied.1 goes.0 goes.1 of apart
   tied_by returning returning asked None none same of apart goes tied = tied
   tied_by returning no_call asked (Some answer.Returned) none same of apart goes tied = returned w commands done live told tied

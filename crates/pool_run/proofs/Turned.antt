@@ -5,7 +5,7 @@ use Rattle.pool_pages.specs.MakerTold.{MakerTold}
 use Rattle.pool_alloc.specs.Turns.{After}
 use Rattle.pool_alloc.specs.declared.pool_core.PoolCore.{PoolCore}
 use Rattle.pool_alloc.specs.declared.frame.Frame.{Frame}
-use Rattle.pool_alloc.specs.declared.frame.ModuleCall.{ModuleCall}
+use Rattle.pool_alloc.specs.Asked.{ModuleAsked}
 use Rattle.pool_alloc.specs.declared.frame.Grant.{Grant}
 use Rattle.pool_alloc.specs.declared.frame.Outcome.{Outcome}
 use Rattle.pool_alloc.specs.declared.frame.Outcome.TheVariants as answer
@@ -47,7 +47,7 @@ module _ {P : Type 0} where
     pub searched : IsSearched c p.frame → IsSearched t.core t.party.frame
 
   same_size : (c : PoolCore P) → IsSameSize c c
-  same_size c = record { settings = refl; cells = refl; shards = refl; queues = refl }
+  same_size c = record { settings = refl }
 
   -- Nothing happened.
   stayed : (c : PoolCore P) (p : RunningParty P) → ((k : ℕ) → p.done ≤ k → slice_index_or p.live k None ≡ None) → (is_asking (stage_of p.frame) ≡ true → p.done < length p.live) → HasTurned c p (record { core = c; party = p; reply = None })
@@ -172,8 +172,8 @@ module _ {P : Type 0} (maker : MakerTold) (c : PoolCore P) (p : RunningParty P) 
 
 module _ {P : Type 0} where
   -- What each turn of a party leaves.
-  pub has_turned : (w : World) (modules : List ModuleCall) (commands : List Command) (c : PoolCore P) (p : RunningParty P) (t : Turned P) → AreCallsFor w.terms c.settings modules → CanTurn w.maker c p → length commands ≤ length p.live → Turns modules commands c p t → HasTurned c p t
+  pub has_turned : (w : World) (modules : List ModuleAsked) (commands : List Command) (c : PoolCore P) (p : RunningParty P) (t : Turned P) → AreCallsFor w.terms c.settings modules → CanTurn w.maker c p → length commands ≤ length p.live → Turns modules commands c p t → HasTurned c p t
   has_turned w modules commands c p t calls can room turns = follows_turned w.maker c p can turns.0 t (opened w.maker c p w.terms modules commands turns.0 calls can room turns.1) turns.2
 
-  pub turn_sound : (w : World) (modules : List ModuleCall) (commands : List Command) (c : PoolCore P) (p : RunningParty P) (t : Turned P) → AreCallsFor w.terms c.settings modules → CanTurn w.maker c p → length commands ≤ length p.live → Turns modules commands c p t → IsSoundTurn w.maker t
+  pub turn_sound : (w : World) (modules : List ModuleAsked) (commands : List Command) (c : PoolCore P) (p : RunningParty P) (t : Turned P) → AreCallsFor w.terms c.settings modules → CanTurn w.maker c p → length commands ≤ length p.live → Turns modules commands c p t → IsSoundTurn w.maker t
   turn_sound w modules commands c p t calls can room turns = follows_sound w.maker c p can turns.0 t (opened w.maker c p w.terms modules commands turns.0 calls can room turns.1) turns.2

@@ -71,7 +71,7 @@ module _ {P : Type 0} where
   answered_private w start commands before c p f (Some (answer.Refused e)) private settled tied = replied w start commands before p (record p { frame = f; done = p.done + 1 }) tied.act (Refused (Alloc e)) private refl (settled refl) tied.next tied.moves tied.pool
 
   -- what is granted isn't the party's yet, and is made once
-  apart : (c : PoolCore P) (f : Frame P) (live : List (Option (Grant P))) (a : After P) (o : Option (Outcome P)) → o ≡ a.outcome → ((t : Thing) → kept_count t c + (frame_count t f + sum_by (granted_to (grant_count t)) live) ≤ made_count t (length c.cells)) → Conserves c f a → IfGranted (λ g. (k : ℕ) → grant_count (right_to k) g + sum_by (granted_to (grant_count (right_to k))) live ≤ made_count (right_to k) (length c.cells)) o
+  apart : (c : PoolCore P) (f : Frame P) (live : List (Option (Grant P))) (a : After P) (o : Option (Outcome P)) → o ≡ a.outcome → ((t : Thing) → kept_count t c + (frame_count t f + sum_by (granted_to (grant_count t)) live) ≤ made_count t c.settings.slots) → Conserves c f a → IfGranted (λ g. (k : ℕ) → grant_count (right_to k) g + sum_by (granted_to (grant_count (right_to k))) live ≤ made_count (right_to k) c.settings.slots) o
   apart c f live a None is once b = tt
   apart c f live a (Some answer.Key) is once b = tt
   apart c f live a (Some (answer.Granted grant)) is once b =
@@ -92,7 +92,7 @@ module _ {P : Type 0} where
       record {
         world = world;
         frame = can.party.sound.frame;
-        slots = can.core.cells_made;
+        slots = refl;
         once = λ t. omega (arith, can.fits.once t);
         instances = omega (arith, can.fits.instances);
         alone = alone;

@@ -3,7 +3,7 @@
 use Rattle.std.specs.Prelude.{◌≡◌, ℕ, ◌+◌, ◌<◌, ◌≤◌, List, [], ◌∷◌, ◌++◌, length, map, replicate, slice_get, slice_index_or, slice_set, sum_by, true, Option, Some, None, IfSome}
 use Rattle.pool_pages.specs.MakerTold.{MakerTold}
 use Rattle.pool_alloc.specs.declared.pool_core.PoolCore.{PoolCore}
-use Rattle.pool_alloc.specs.declared.frame.ModuleCall.{ModuleCall}
+use Rattle.pool_alloc.specs.Asked.{ModuleAsked}
 use Rattle.pool_run.specs.PartyRules.{rule_of}
 use Rattle.pool_run.specs.Private.{no_grants}
 use Rattle.pool_run.specs.Rooms.{World, under}
@@ -19,13 +19,13 @@ use Rattle.pool_run.specs.declared.running_party.RunningParty.{RunningParty}
 -- what a run has: the pool, the calls for its modules, and the parties
 pub record RunParts (P : Type 0) : Type 0 where
   pub core : PoolCore P
-  pub modules : List ModuleCall
+  pub modules : List ModuleAsked
   pub parties : List (RunningParty P)
 
 -- the same, and the replies to each of the parties so far
 pub record RunState (P : Type 0) : Type 0 where
   pub core : PoolCore P
-  pub modules : List ModuleCall
+  pub modules : List ModuleAsked
   pub parties : List (RunningParty P)
   pub replies : List (List Reply)
 
@@ -65,20 +65,20 @@ module _ {P : Type 0} where
     pub instances : sum_by live_instances s.parties ≤ s.core.settings.max_core_instances
 
   -- a turn of party i, if there is one
-  abbrev pub TurnsIf : List ModuleCall → List Command → ℕ → Option (RunningParty P) → RunState P → RunState P → Type 0
+  abbrev pub TurnsIf : List ModuleAsked → List Command → ℕ → Option (RunningParty P) → RunState P → RunState P → Type 0
   TurnsIf modules commands i None s new = new ≡ s
   TurnsIf modules commands i (Some p) s new = (t : Turned P) × Turns modules commands s.core p t × (new ≡ with_turn i t s)
 
-  abbrev pub TurnsOf : List ModuleCall → List (List Command) → ℕ → RunState P → RunState P → Type 0
+  abbrev pub TurnsOf : List ModuleAsked → List (List Command) → ℕ → RunState P → RunState P → Type 0
   TurnsOf modules inputs i s new = TurnsIf modules (commands_of inputs i) i (slice_get s.parties i) s new
 
   -- turns of these parties, in order
-  abbrev pub Folds : List ModuleCall → List (List Command) → List ℕ → RunState P → RunState P → Type 0
+  abbrev pub Folds : List ModuleAsked → List (List Command) → List ℕ → RunState P → RunState P → Type 0
   Folds modules inputs [] s end = end ≡ s
   Folds modules inputs (i ∷ schedule) s end = (mid : RunState P) × TurnsOf modules inputs i s mid × Folds modules inputs schedule mid end
 
   -- This holds at a state, and after any turns from there on, of whatever parties in whatever order.
-  abbrev pub HoldsThroughout : MakerTold → List ModuleCall → List (List Command) → RunState P → Type 0
+  abbrev pub HoldsThroughout : MakerTold → List ModuleAsked → List (List Command) → RunState P → Type 0
   HoldsThroughout maker modules inputs start = (turns : List ℕ) (s : RunState P) → Folds modules inputs turns start s → HoldsBetween maker s
 
   -- the party has nothing left: no call is under way, and each of its commands has its reply
@@ -90,14 +90,14 @@ module _ {P : Type 0} where
   IsFinished inputs s = (i : ℕ) → IfSome (slice_get s.parties i) (HasNothingLeft (commands_of inputs i))
 
   -- party 0 turns until it has nothing left, then party 1, and so on
-  pub record FinishesRun (modules : List ModuleCall) (inputs : List (List Command)) (s end : RunState P) : Type 0 where
+  pub record FinishesRun (modules : List ModuleAsked) (inputs : List (List Command)) (s end : RunState P) : Type 0 where
     pub counts : List ℕ
     pub parties : length counts ≡ length s.parties
     pub folds : Folds modules inputs (party_by_party 0 counts) s end
     pub finished : IsFinished inputs end
 
   -- a whole run
-  pub record Runs (modules : List ModuleCall) (inputs : List (List Command)) (schedule : List ℕ) (s end : RunState P) : Type 0 where
+  pub record Runs (modules : List ModuleAsked) (inputs : List (List Command)) (schedule : List ℕ) (s end : RunState P) : Type 0 where
     pub scheduled : RunState P
     pub folds : Folds modules inputs schedule s scheduled
     pub finishes : FinishesRun modules inputs scheduled end
@@ -114,7 +114,7 @@ module _ {P : Type 0} where
     pub alone : (d : RunningParty P) → IsAlone s.core (slice_index_or s.parties 0 d).frame (slice_index_or s.parties 0 d).live
 
   -- What holds at each moment of a run.
-  pub record IsUnderWay (w : World) (modules : List ModuleCall) (inputs : List (List Command)) (s : RunState P) : Type 0 where
+  pub record IsUnderWay (w : World) (modules : List ModuleAsked) (inputs : List (List Command)) (s : RunState P) : Type 0 where
     pub holds : HoldsBetween w.maker s
     pub within : IsWithinCounts s.core s.parties
     pub given : s.modules ≡ modules

@@ -1,4 +1,5 @@
 pub mod Acts
+pub mod Agreeing
 pub mod AtOnce
 pub mod Built
 pub mod Folds
@@ -7,12 +8,17 @@ pub mod Made
 pub mod Numbers
 pub mod Objects
 pub mod PartyRules
+pub mod Placed
 pub mod Private
 pub mod Progress
 pub mod Rooms
 pub mod Runs
 pub mod RunsMade
 pub mod Schedules
+pub mod SharedEvents
+pub mod SharedRuns
+pub mod SharedSteps
+pub mod SharedValidity
 pub mod Ties
 pub mod Turns
 pub mod Validity

@@ -1,6 +1,6 @@
 -- What a party may see: its grants as private lists of bytes, which its commands read and write, and no pool.
-use Rattle.std.specs.Prelude.{◌≡◌, ℕ, ◌+◌, ◌-◌, ◌*◌, ◌^◌, ◌<◌, ◌≤◌, ◌==◌, ◌||◌, ◌&&◌, List, [], ◌∷◌, ◌++◌, length, slice_get, slice_index_or, slice_range, slice_set, replicate, min, ◌⊎◌, Bool, true, false, not, nat_lt, if◌then◌else◌, Option, Some, None, IfSome, is_some, option_map, Result, Ok, Err}
-use Rattle.std.specs.Option.{option_map_or}
+use Rattle.std.specs.Prelude.{◌≡◌, ℕ, ◌+◌, ◌-◌, ◌*◌, ◌^◌, ◌<◌, ◌≤◌, ◌==◌, ◌||◌, ◌&&◌, List, [], ◌∷◌, ◌++◌, length, slice_get, slice_index_or, slice_range, slice_set, replicate, min, ◌⊎◌, Bool, true, false, not, nat_lt, if◌then◌else◌, Option, Some, None, IfSome, is_some, option_map, unwrap_or, Result, Ok, Err}
+use Rattle.std.specs.Option.{option_map_or, option_or}
 use Rattle.std.specs.List.{list_all}
 use Rattle.pool_pages.specs.Contents.{put}
 use Rattle.pool_pages.specs.MemoryTypes.{minimum_byte_size, page_size, allow_growth_to}
@@ -12,7 +12,7 @@ use Rattle.pool_pages.specs.declared.unsupported.Unsupported.{Unsupported}
 use Rattle.pool_limits.specs.Growth.{GrowthRule, memory_answer, memory_failure}
 use Rattle.pool_limits.specs.declared.errors.LimiterError.{LimiterError}
 use Rattle.pool_limits.specs.declared.errors.Trap.TheVariants.{MemoryOutOfBounds}
-use Rattle.pool_images.specs.Images.{Image, image_of, start, first_misplaced, ends_in_minimum}
+use Rattle.pool_images.specs.Images.{Image, images_from, start, first_misplaced, ends_in_minimum}
 use Rattle.pool_memory.specs.Growing.{exceeds}
 use Rattle.pool_memory.specs.Making.{minimum_asked, maximum_asked, limits_answer}
 use Rattle.pool_memory.specs.Static.{static_capacity}
@@ -70,26 +70,48 @@ memories_of t number = option_map_or (λ m. m.memories) (slice_get t.modules num
 abbrev pub has_images : Tunables → ℕ → List MemoryDecl → Bool
 has_images tunables page decls = tunables.memory_init_cow && (not (is_some (first_misplaced page decls)) && list_all (ends_in_minimum page) decls)
 
--- The image that memory k of a module begins with, padded to whole pages: none where the module has no images.
-abbrev pub image_at : Terms → ℕ → ℕ → MemoryDecl → Option Image
-image_at t number k decl = if has_images t.settings.tunables.tunables t.settings.page (memories_of t number) then option_map (image_of (record { 0 = number }) t.settings.page k) decl.image else None
+-- The images of the module of this number with these memories, padded to whole pages, where it has images.
+abbrev pub images_of : Tunables → ℕ → ℕ → List MemoryDecl → Option (List (Option Image))
+images_of tunables page number decls = if has_images tunables page decls then Some (images_from (record { 0 = number }) page 0 decls) else None
+
+-- one thing that a request is for: a memory, and the image that it begins with
+pub data Want : Type 0 where
+  new_memory : MemoryDecl → Option Image → Want
+
+-- these memories, each with its image, if one is given
+abbrev pub wants_from : List MemoryDecl → List (Option Image) → List Want
+wants_from [] images = []
+wants_from (decl ∷ decls) [] = new_memory decl None ∷ wants_from decls []
+wants_from (decl ∷ decls) (image ∷ images) = new_memory decl image ∷ wants_from decls images
+
+-- a request: the first rule of the pool that it breaks, and what it is for, in order
+pub record Request : Type 0 where
+  pub broken : Option Unsupported
+  pub wants : List Want
+
+-- the request for an instance of the module of this number
+abbrev pub request_of : Terms → ℕ → Request
+request_of t number = record {
+  broken = memories_refused t.settings (memories_of t number);
+  wants = wants_from (memories_of t number) (unwrap_or (images_of t.settings.tunables.tunables t.settings.page number (memories_of t number)) []);
+}
 
 -- A memory as it begins: its minimum of bytes, which are its image at its offset and zeros elsewhere. It can become as
 -- large as a slot of the pool, or as its type allows if that is less.
-abbrev pub begun_memory : Terms → ℕ → ℕ → MemoryDecl → ℕ → PrivateMemory
-begun_memory t number k decl slot = record {
+abbrev pub begun_memory : Terms → ℕ → Want → PrivateMemory
+begun_memory t slot (new_memory decl image) = record {
   slot = slot;
   ty = decl.ty;
   size = minimum_byte_size decl.ty;
   capacity = static_capacity t.settings.max_memory_size (maximum_asked decl.ty);
-  bytes = if t.tells then Some (start (image_at t number k decl) (minimum_byte_size decl.ty)) else None;
+  bytes = if t.tells then Some (start image (minimum_byte_size decl.ty)) else None;
 }
 
--- the memories of a module from memory k on, in these slots
-abbrev pub begun_memories : Terms → ℕ → ℕ → List MemoryDecl → List ℕ → List PrivateMemory
-begun_memories t number k [] slots = []
-begun_memories t number k (decl ∷ decls) [] = []
-begun_memories t number k (decl ∷ decls) (slot ∷ slots) = begun_memory t number k decl slot ∷ begun_memories t number (k + 1) decls slots
+-- what is made for a request, in these slots
+abbrev pub begun_memories : Terms → List Want → List ℕ → List PrivateMemory
+begun_memories t [] slots = []
+begun_memories t (want ∷ wants) [] = []
+begun_memories t (want ∷ wants) (slot ∷ slots) = begun_memory t slot want ∷ begun_memories t wants slots
 
 -- the refusal in an answer, if it is one
 abbrev pub refused_by : {X : Type 0} → Result X MemoryError → Option AllocError
@@ -98,20 +120,20 @@ refused_by (Err e) = Some (refusal_of e)
 
 -- A memory's own refusal, whatever slot it gets: the limiter is asked for its minimum first, then a minimum is refused
 -- that no size can be.
-abbrev pub own_refusal : GrowthRule → MemoryType → Option AllocError
-own_refusal rule ty = refused_by (limits_answer (memory_answer (Some rule) (Ok true) (minimum_asked ty) (maximum_asked ty)) ty)
+abbrev pub own_refusal : GrowthRule → Want → Option AllocError
+own_refusal rule (new_memory decl image) = refused_by (limits_answer (memory_answer (Some rule) (Ok true) (minimum_asked decl.ty) (maximum_asked decl.ty)) decl.ty)
 
 -- that of the first memory which has one
-abbrev pub first_refusal : GrowthRule → List MemoryDecl → Option AllocError
+abbrev pub first_refusal : GrowthRule → List Want → Option AllocError
 first_refusal rule [] = None
-first_refusal rule (decl ∷ decls) = if is_some (own_refusal rule decl.ty) then own_refusal rule decl.ty else first_refusal rule decls
+first_refusal rule (want ∷ wants) = option_or (own_refusal rule want) (first_refusal rule wants)
 
 -- for how many memories a slot is taken: up to that one
-abbrev pub slots_asked : GrowthRule → List MemoryDecl → ℕ
+abbrev pub slots_asked : GrowthRule → List Want → ℕ
 slots_asked rule [] = 0
-slots_asked rule (decl ∷ decls) = 1 + (if is_some (own_refusal rule decl.ty) then 0 else slots_asked rule decls)
+slots_asked rule (want ∷ wants) = 1 + (if is_some (own_refusal rule want) then 0 else slots_asked rule wants)
 
--- What a request may meet whatever its module is: there is no memory for it, as many instances are granted as there may
+-- What a request may meet whatever it is for: there is no memory for it, as many instances are granted as there may
 -- be, no slot is free for the memory of this number, or a call on the pages of that memory's slot failed.
 pub data GivenRefusal : Type 0 where
   no_memory : GivenRefusal
@@ -133,35 +155,31 @@ IsInTime slots no_instance = Unit {0}
 IsInTime slots (no_slot i) = i < slots
 IsInTime slots (page_fault i) = i < slots
 
-abbrev pub IsGiven : Terms → ℕ → AllocError → Type 0
-IsGiven t number e = (given : GivenRefusal) × (e ≡ refused_as t given) × IsInTime (slots_asked t.rule (memories_of t number)) given
+abbrev pub IsGiven : Terms → List Want → AllocError → Type 0
+IsGiven t wants e = (given : GivenRefusal) × (e ≡ refused_as t given) × IsInTime (slots_asked t.rule wants) given
 
--- Why a request is refused: where the module breaks a rule of the pool, for that, or for want of memory; otherwise with
--- the first own refusal of its memories, or with one that is given.
-abbrev pub IsRefused : Option Unsupported → Terms → ℕ → AllocError → Type 0
-IsRefused (Some rule) t number e = (e ≡ alloc.Unsupported rule) ⊎ (e ≡ alloc.Memory)
-IsRefused None t number e = (first_refusal t.rule (memories_of t number) ≡ Some e) ⊎ IsGiven t number e
+-- Why a request is refused: where it breaks a rule of the pool, for that, or for want of memory; otherwise with the first
+-- own refusal of its memories, or with one that is given.
+abbrev pub IsRefused : Option Unsupported → Terms → List Want → AllocError → Type 0
+IsRefused (Some rule) t wants e = (e ≡ alloc.Unsupported rule) ⊎ (e ≡ alloc.Memory)
+IsRefused None t wants e = (first_refusal t.rule wants ≡ Some e) ⊎ IsGiven t wants e
 
--- the first rule of the pool that the module of this number breaks
-abbrev pub rule_broken : Terms → ℕ → Option Unsupported
-rule_broken t number = memories_refused t.settings (memories_of t number)
+abbrev pub IsCause : Terms → Request → Refusal → Type 0
+IsCause t request NoSuchGrant = ⊥
+IsCause t request (Alloc e) = IsRefused request.broken t request.wants e
 
-abbrev pub IsCause : Terms → ℕ → Refusal → Type 0
-IsCause t number NoSuchGrant = ⊥
-IsCause t number (Alloc e) = IsRefused (rule_broken t number) t number e
+-- a request is granted: nothing of it is refused, and each of its memories has a slot
+pub record IsGranted (t : Terms) (request : Request) (slots : List ℕ) : Type 0 where
+  pub supported : request.broken ≡ None
+  pub allowed : first_refusal t.rule request.wants ≡ None
+  pub count : length slots ≡ length request.wants
 
--- an instance is granted: nothing of its module is refused, and each of its memories has a slot
-pub record IsGranted (t : Terms) (number : ℕ) (slots : List ℕ) : Type 0 where
-  pub supported : rule_broken t number ≡ None
-  pub allowed : first_refusal t.rule (memories_of t number) ≡ None
-  pub count : length slots ≡ length (memories_of t number)
-
--- the reply to command n, a request for an instance of the module of this number
-abbrev pub Instantiates : Terms → ℕ → ℕ → Grants → Reply → Grants → Type 0
-Instantiates t n number grants (Instance memories tables) new =
-    IsGranted t number memories × (tables ≡ []) × (new ≡ slice_set grants n (Some (record { memories = begun_memories t number 0 (memories_of t number) memories })))
-Instantiates t n number grants (Refused refusal) new = IsCause t number refusal × (new ≡ grants)
-Instantiates t n number grants _ new = ⊥
+-- the reply to command n, which makes this request for an instance
+abbrev pub Instantiates : Terms → ℕ → Request → Grants → Reply → Grants → Type 0
+Instantiates t n request grants (Instance memories tables) new =
+    IsGranted t request memories × (tables ≡ []) × (new ≡ slice_set grants n (Some (record { memories = begun_memories t request.wants memories })))
+Instantiates t n request grants (Refused refusal) new = IsCause t request refusal × (new ≡ grants)
+Instantiates t n request grants _ new = ⊥
 
 -- the reply to a read of a live memory: so many bytes, which are its own, where those are told
 abbrev pub IsRead : PrivateMemory → ℕ → ℕ → Reply → Type 0
@@ -241,7 +259,7 @@ Drops (Some g) grants of reply new = (reply ≡ Returned) × (new ≡ slice_set 
 
 -- what command n does, its reply, and the grants before and after
 abbrev pub MovesGrants : Terms → ℕ → Grants → Act → Reply → Grants → Type 0
-MovesGrants t n grants (requests number) reply new = Instantiates t n number grants reply new
+MovesGrants t n grants (requests number) reply new = Instantiates t n (request_of t number) grants reply new
 MovesGrants t n grants (on_memory of k op) reply new = MovesObject private_memories (MemoryMoves op t.rule) of k grants reply new
 MovesGrants t n grants (drops of) reply new = Drops (grant_at grants of) grants of reply new
 

@@ -6,7 +6,7 @@ use Rattle.pool_alloc.specs.Stepping.{is_idle}
 use Rattle.pool_alloc.specs.declared.pool_core.PoolCore.{PoolCore}
 use Rattle.pool_alloc.specs.declared.frame.Call.TheVariants as call
 use Rattle.pool_alloc.specs.declared.frame.Grant.{Grant}
-use Rattle.pool_alloc.specs.declared.frame.ModuleCall.{ModuleCall}
+use Rattle.pool_alloc.specs.Asked.{ModuleAsked}
 use Rattle.pool_run.specs.Folds.{RunState, Folds, IsUnderWay}
 use Rattle.pool_run.specs.RunsMade.{Background, commands_in}
 use Rattle.pool_run.specs.Worlds.{NameModules}
@@ -50,7 +50,7 @@ module _ {P : Type 0} where
 
   -- At most how many turns a call takes, by the sizes of the pool and by what is asked for or given back alone, and one
   -- where that isn't there.
-  abbrev pub bound_asked : PoolCore P → Option ModuleCall → ℕ
+  abbrev pub bound_asked : PoolCore P → Option ModuleAsked → ℕ
   bound_asked c None = 1
   bound_asked c (Some m) = bound_of c (call.Module m)
 
@@ -58,34 +58,34 @@ module _ {P : Type 0} where
   bound_returned c None = 1
   bound_returned c (Some grant) = bound_of c (call.GiveBack grant)
 
-  abbrev pub bound_begun : List ModuleCall → Act → PoolCore P → RunningParty P → ℕ
+  abbrev pub bound_begun : List ModuleAsked → Act → PoolCore P → RunningParty P → ℕ
   bound_begun modules (requests number) c p = bound_asked c (slice_get modules number)
   bound_begun modules (on_memory of k op) c p = 1
   bound_begun modules (drops of) c p = bound_returned c (slice_index_or p.live of None)
 
   -- the same of the party's next call; its stripe is drawn in one turn
-  abbrev pub bound_keyed : Bool → List ModuleCall → Option Command → PoolCore P → RunningParty P → ℕ
+  abbrev pub bound_keyed : Bool → List ModuleAsked → Option Command → PoolCore P → RunningParty P → ℕ
   bound_keyed false modules next c p = 1
   bound_keyed true modules None c p = 1
   bound_keyed true modules (Some command) c p = bound_begun modules (act_of command) c p
 
-  abbrev pub bound_by : List ModuleCall → List Command → PoolCore P → RunningParty P → ℕ
+  abbrev pub bound_by : List ModuleAsked → List Command → PoolCore P → RunningParty P → ℕ
   bound_by modules commands c p = bound_keyed p.keyed modules (slice_get commands p.done) c p
 
-  abbrev pub bound_next : List ModuleCall → List Command → PoolCore P → Option (RunningParty P) → ℕ
+  abbrev pub bound_next : List ModuleAsked → List Command → PoolCore P → Option (RunningParty P) → ℕ
   bound_next modules commands c None = 1
   bound_next modules commands c (Some p) = bound_by modules commands c p
 
   -- A turn of party i, which has these commands, takes its call further, or begins its next. As it takes the calls of the
   -- others neither further nor back, a call takes no more turns than its bound, whatever turns of others lie between.
-  pub record Advances (modules : List ModuleCall) (commands : List Command) (i : ℕ) (s new : RunState P) : Type 0 where
+  pub record Advances (modules : List ModuleAsked) (commands : List Command) (i : ℕ) (s new : RunState P) : Type 0 where
     pub fewer : is_busy (slice_get s.parties i) ≡ true → turns_left new.core (slice_get new.parties i) + 1 ≤ turns_left s.core (slice_get s.parties i)
     pub bounded : is_busy (slice_get s.parties i) ≡ false → turns_left new.core (slice_get new.parties i) + 1 ≤ bound_next modules commands s.core (slice_get s.parties i)
     pub begun : calls_begun (slice_get new.parties i) ≡ calls_begun (slice_get s.parties i) + one_if (begins_call (length commands) (slice_get s.parties i))
     pub others : (k : ℕ) → k ≢ i → turns_left new.core (slice_get new.parties k) ≡ turns_left s.core (slice_get s.parties k)
 
   -- some turns of party i, one after another
-  pub record TurnsSome (modules : List ModuleCall) (inputs : List (List Command)) (i : ℕ) (s end : RunState P) : Type 0 where
+  pub record TurnsSome (modules : List ModuleAsked) (inputs : List (List Command)) (i : ℕ) (s end : RunState P) : Type 0 where
     pub times : ℕ
     pub folds : Folds modules inputs (replicate times i) s end
 

@@ -8,7 +8,7 @@ use Rattle.pool_slots.specs.declared.errors.AllocError.{AllocError}
 use Rattle.pool_slots.specs.declared.errors.AllocError.TheVariants as alloc
 use Rattle.pool_slots.specs.declared.errors.ConcurrencyKind.{ConcurrencyKind}
 use Rattle.pool_slots.specs.declared.errors.ConcurrencyKind.TheVariants.{MemoryStripe, CoreInstances}
-use Rattle.pool_run.specs.Private.{PrivateMemory, PrivateInstance, PrivateState, PrivateStep, Grants, Terms, grant_at, private_memories, memories_of, slots_asked, grown_by, StepsBy, with_grants, no_grants}
+use Rattle.pool_run.specs.Private.{PrivateMemory, PrivateInstance, PrivateState, PrivateStep, Grants, Terms, grant_at, private_memories, Request, request_of, slots_asked, grown_by, StepsBy, with_grants, no_grants}
 use Rattle.pool_run.specs.Objects.{object_at}
 use Rattle.pool_run.specs.Acts.{MemoryOp, grows, Act, requests, on_memory, act_of}
 use Rattle.pool_run.specs.declared.command.Command.{Command}
@@ -57,19 +57,19 @@ AllDiffer slots = (i j : ℕ) → i < length slots → j < length slots → slic
 
 -- An instance that is granted has slots of the pool, which are free and differ, and the party's own grants leave room for
 -- it.
-pub record HasRoom (w : World) (number : ℕ) (grants : Grants) (slots : List ℕ) : Type 0 where
+pub record HasRoom (w : World) (request : Request) (grants : Grants) (slots : List ℕ) : Type 0 where
   pub inside : All (λ slot. slot < w.terms.slots) slots
   pub free : All (λ slot. IsOfNoGrant slot grants) slots
   pub differ : AllDiffer slots
-  pub memories : live_count grants + length (memories_of w.terms number) ≤ w.terms.slots
+  pub memories : live_count grants + length request.wants ≤ w.terms.slots
   pub instances : instance_count grants < w.terms.settings.max_core_instances
 
 -- A party that is alone is refused for room only where all that there is of this kind is its own: instances, or the slots,
 -- with those of the memories of the request before the one for which none is free.
-abbrev pub IsFull : World → ℕ → Grants → ConcurrencyKind → Type 0
-IsFull w number grants CoreInstances = w.terms.settings.max_core_instances ≤ instance_count grants
-IsFull w number grants (MemoryStripe s) = (i : ℕ) × (i < slots_asked w.terms.rule (memories_of w.terms number)) × (w.terms.slots ≤ live_count grants + i)
-IsFull w number grants _ = ⊥
+abbrev pub IsFull : World → Request → Grants → ConcurrencyKind → Type 0
+IsFull w request grants CoreInstances = w.terms.settings.max_core_instances ≤ instance_count grants
+IsFull w request grants (MemoryStripe s) = (i : ℕ) × (i < slots_asked w.terms.rule request.wants) × (w.terms.slots ≤ live_count grants + i)
+IsFull w request grants _ = ⊥
 
 -- the plan that this slot's region is made with, where it is told, lists a call on it
 abbrev pub MayFault : World → ℕ → Type 0
@@ -79,16 +79,16 @@ abbrev pub SomeMayFault : World → Type 0
 SomeMayFault w = (i : ℕ) × (i < w.terms.slots) × MayFault w i
 
 -- A call on pages fails only on those of a slot that is free.
-abbrev pub IsForRoom : World → ℕ → Grants → AllocError → Type 0
-IsForRoom w number grants (alloc.Limit e) = w.alone ≡ true → IsFull w number grants e.kind
-IsForRoom w number grants (alloc.PageFault) = SomeMayFault w × (live_count grants < w.terms.slots)
-IsForRoom w number grants _ = Unit {0}
+abbrev pub IsForRoom : World → Request → Grants → AllocError → Type 0
+IsForRoom w request grants (alloc.Limit e) = w.alone ≡ true → IsFull w request grants e.kind
+IsForRoom w request grants (alloc.PageFault) = SomeMayFault w × (live_count grants < w.terms.slots)
+IsForRoom w request grants _ = Unit {0}
 
 -- what the reply to a request for an instance tells of room
-abbrev pub TellsRoom : World → ℕ → Grants → Reply → Type 0
-TellsRoom w number grants (Instance memories tables) = HasRoom w number grants memories
-TellsRoom w number grants (Refused (Alloc e)) = IsForRoom w number grants e
-TellsRoom w number grants _ = Unit {0}
+abbrev pub TellsRoom : World → Request → Grants → Reply → Type 0
+TellsRoom w request grants (Instance memories tables) = HasRoom w request grants memories
+TellsRoom w request grants (Refused (Alloc e)) = IsForRoom w request grants e
+TellsRoom w request grants _ = Unit {0}
 
 -- A growth ends as its rules alone would have it, or a call on the pages of its memory's slot failed.
 abbrev pub TellsGrowth : World → ℕ → PrivateMemory → Reply → Type 0
@@ -99,7 +99,7 @@ TellsMove w (grows pages) m reply = TellsGrowth w pages m reply
 TellsMove w _ m reply = Unit {0}
 
 abbrev pub TellsOfPool : World → Grants → Act → Reply → Type 0
-TellsOfPool w grants (requests number) reply = TellsRoom w number grants reply
+TellsOfPool w grants (requests number) reply = TellsRoom w (request_of w.terms number) grants reply
 TellsOfPool w grants (on_memory of k op) reply = IfSome (object_at private_memories of k grants) (λ m. TellsMove w op m reply)
 TellsOfPool w grants _ reply = Unit {0}
 

@@ -13,12 +13,10 @@ use Rattle.pool_pages.specs.declared.module_types.Tunables.{Tunables}
 use Rattle.pool_limits.specs.Growth.{GrowthRule, always}
 use Rattle.pool_images.specs.Images.{makes_listed_images}
 use Rattle.pool_alloc.specs.Made.{IsMadeCore, settings_of}
-use Rattle.pool_alloc.specs.Sound.{IsCore}
 use Rattle.pool_alloc.specs.Sums.{metrics_of}
-use Rattle.pool_alloc.specs.Whole.{IsUntouched}
-use Rattle.pool_alloc.specs.declared.frame.ModuleCall.{ModuleCall}
+use Rattle.pool_alloc.specs.Asked.{ModuleAsked}
 use Rattle.pool_run.specs.Folds.{RunParts, RunState, HoldsThroughout, Folds, Runs, commands_of, replies_to, told_state}
-use Rattle.pool_run.specs.Made.{AreMadeCalls}
+use Rattle.pool_run.specs.Made.{calls_made}
 use Rattle.pool_run.specs.Numbers.{calls_of_run}
 use Rattle.pool_run.specs.PartyRules.{rule_of}
 use Rattle.pool_run.specs.Private.{Terms, has_images, IsPrivateRun, IsWholeRun}
@@ -56,7 +54,7 @@ world_of input maker = record {
 }
 
 -- the turns of the schedule, and with `finish` those of each party until it has nothing left
-abbrev pub Performs : {P : Type 0} → Bool → List ModuleCall → List (List Command) → List ℕ → RunState P → RunState P → Type 0
+abbrev pub Performs : {P : Type 0} → Bool → List ModuleAsked → List (List Command) → List ℕ → RunState P → RunState P → Type 0
 Performs true modules inputs schedule s end = Runs modules inputs schedule s end
 Performs false modules inputs schedule s end = Folds modules inputs schedule s end
 
@@ -95,26 +93,28 @@ making_listed input plan = list_any (region_listed plan) (makings_of input.confi
 -- making for it is one that fails, by the maker's own list or by its plan.
 pub record IsMadeRun {P : Type 0} (input : Input) (maker : MakerTold) (run : RunParts P) : Type 0 where
   pub made : IsMadeCore maker input.config input.tunables input.offered run.core
-  pub core : IsCore maker run.core
-  pub untouched : IsUntouched run.core
-  pub calls : AreMadeCalls input.tunables maker.page input.modules run.modules
+  pub calls : run.modules ≡ calls_made input.tunables maker.page 0 input.modules
   pub own : making_listed input maker.listed ≡ false
   pub unlisted : IfSome maker.plan (λ plan. making_listed input plan ≡ false)
   pub parties : run.parties ≡ parties_made run.core.settings input.parties
 
 -- The output is that of a run of the input: the turns lead from the run as it is made to an end, of which the output
--- gives the replies and the numbers. Between any two turns, also in another order, pool and parties are sound.
+-- gives the replies and the numbers.
 pub record IsRun (P : Type 0) (input : Input) (maker : MakerTold) (output : RunOutput) : Type 0 where
   pub start : RunParts P
   pub made : IsMadeRun input maker start
   pub end : RunState P
   pub performed : Performs input.finish start.modules (commands_in input.parties) (turns_of input.schedule) (told_state start (nothing_told input.parties)) end
-  pub holds : HoldsThroughout maker start.modules (commands_in input.parties) (told_state start (nothing_told input.parties))
   pub replies : output.replies ≡ end.replies
   pub told : (i : ℕ) → i < length input.parties → IsToldBy input.finish (world_at (world_of input maker) i).terms (commands_of (commands_in input.parties) i) (replies_to i output.replies)
   pub room : (i : ℕ) → i < length input.parties → IsPooledRun (world_at (world_of input maker) i) (commands_of (commands_in input.parties) i) (replies_to i output.replies)
   pub metrics : output.metrics ≡ metrics_of end.core
   pub calls_made : output.calls ≡ calls_of_run end.core end.parties
+
+-- Between any two turns from a run as it is made of the input, of whatever parties in whatever order, pool and parties are
+-- sound.
+abbrev pub HoldsFromStart : Type 0 → Input → MakerTold → Type 0
+HoldsFromStart P input maker = (run : RunParts P) → IsMadeRun input maker run → HoldsThroughout maker run.modules (commands_in input.parties) (told_state run (nothing_told input.parties))
 
 -- nothing is run for what the input says
 abbrev pub is_refused : RunFault → Bool

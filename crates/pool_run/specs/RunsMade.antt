@@ -6,7 +6,7 @@ use Rattle.pool_alloc.specs.Reserved.{Reserved, with_item}
 use Rattle.pool_alloc.specs.Whole.{IsPartitioned}
 use Rattle.pool_alloc.specs.declared.pool_core.PoolCore.{PoolCore}
 use Rattle.pool_alloc.specs.declared.pool_core.Settings.{Settings}
-use Rattle.pool_alloc.specs.declared.frame.ModuleCall.{ModuleCall}
+use Rattle.pool_alloc.specs.Asked.{ModuleAsked}
 use Rattle.pool_run.specs.Rooms.{World}
 use Rattle.pool_run.specs.Limits.{IsWithinCounts}
 use Rattle.pool_run.specs.Ties.{held_by_party, IsReserved}
@@ -27,7 +27,7 @@ nothing_told parties = replicate (length parties) []
 -- what a run is of: what stays the same for all of it, the calls for its modules, and the commands of each party
 pub record Background : Type 0 where
   pub world : World
-  pub modules : List ModuleCall
+  pub modules : List ModuleAsked
   pub inputs : List (List Command)
 
 -- and what each party was told so far

@@ -1,8 +1,8 @@
 -- What a party was told, and what it has: between two turns they fit each other.
 use Rattle.std.specs.Prelude.{◌≡◌, ℕ, ◌+◌, ◌<◌, ◌≤◌, List, [], length, slice_get, slice_index_or, slice_set, sum_by, All, Bool, true, false, Option, Some, None, IsSome, IfSome, option_map}
-use Rattle.std.specs.Arc.{arc_value}
 use Rattle.pool_pages.specs.MakerTold.{MakerTold}
 use Rattle.pool_pages.specs.declared.module_types.ModuleInfo.{ModuleInfo}
+use Rattle.pool_limits.specs.Growth.{GrowthRule}
 use Rattle.pool_slots.specs.declared.errors.AllocError.{AllocError}
 use Rattle.pool_alloc.specs.Reserved.{Reserved}
 use Rattle.pool_alloc.specs.Searches.{IsSearched}
@@ -15,9 +15,9 @@ use Rattle.pool_alloc.specs.Sound.{IsCore, IsFrame}
 use Rattle.pool_alloc.specs.Whole.{Holding, IsPartitioned}
 use Rattle.pool_alloc.specs.declared.pool_core.PoolCore.{PoolCore}
 use Rattle.pool_alloc.specs.declared.frame.Frame.{Frame}
-use Rattle.pool_alloc.specs.declared.frame.ModuleCall.{ModuleCall}
+use Rattle.pool_alloc.specs.Asked.{ModuleAsked}
 use Rattle.pool_alloc.specs.declared.frame.Grant.{Grant}
-use Rattle.pool_run.specs.Private.{Grants, Terms, grant_at, memories_of, image_at, own_refusal, rule_broken, IsCause, StepsBy, with_grants}
+use Rattle.pool_run.specs.Private.{Grants, Want, wants_from, Request, request_of, grant_at, own_refusal, IsCause, StepsBy, with_grants}
 use Rattle.pool_run.specs.Rooms.{World, PooledStep, IsForRoom, instance_count}
 use Rattle.pool_run.specs.Turns.{grants_of}
 use Rattle.pool_run.specs.Acts.{requests, drops, act_at}
@@ -26,48 +26,42 @@ use Rattle.pool_run.specs.declared.reply.Reply.{Reply}
 use Rattle.pool_run.specs.declared.reply.Refusal.TheVariants.{Alloc}
 use Rattle.pool_run.specs.declared.running_party.RunningParty.{RunningParty}
 
--- what is known of the module that is asked for
-abbrev pub module_asked : Option ModuleCall → Option ModuleInfo
-module_asked asked = option_map (λ m. arc_value m.info) asked
+-- what is asked for
+abbrev pub wants_asked : Option ModuleAsked → List Want
+wants_asked asked = wants_from (memories_wanted asked) (images_wanted asked)
 
--- the module that is asked for is the one of this number, and its images are those that its memories begin with
-pub record IsAskedFor (t : Terms) (number : ℕ) (asked : Option ModuleCall) : Type 0 where
-  pub some : IsSome asked
-  pub module_of : module_asked asked ≡ slice_get t.modules number
-  pub images : (k : ℕ) → IfSome (slice_get (memories_of t number) k) (λ decl. slice_index_or (images_wanted asked) k None ≡ image_at t number k decl)
+-- thing k that is asked for has no refusal of its own
+abbrev pub HasNoRefusal : GrowthRule → List Want → ℕ → Type 0
+HasNoRefusal rule wants k = IfSome (slice_get wants k) (λ want. own_refusal rule want ≡ None)
 
--- memory k of a module has no refusal of its own
-abbrev pub HasNoRefusal : Terms → ℕ → ℕ → Type 0
-HasNoRefusal t number k = IfSome (slice_get (memories_of t number) k) (λ decl. own_refusal t.rule decl.ty ≡ None)
-
--- What is known of a request that is so far: the module broke no rule; then there was room for an instance, and none of the
+-- What is known of a request that is so far: it broke no rule; then there was room for an instance, and none of the
 -- memories that are made has a refusal of its own.
-pub record IsAdmitted (w : World) (number : ℕ) (told : Grants) (n : ℕ) : Type 0 where
-  pub supported : rule_broken w.terms number ≡ None
+pub record IsAdmitted (w : World) (request : Request) (told : Grants) (n : ℕ) : Type 0 where
+  pub supported : request.broken ≡ None
   pub counted : instance_count told < w.terms.settings.max_core_instances
-  pub allowed : (k : ℕ) → k < n → HasNoRefusal w.terms number k
+  pub allowed : (k : ℕ) → k < n → HasNoRefusal w.terms.rule request.wants k
 
-abbrev pub IsSoFar : World → ℕ → Grants → Progress → Type 0
-IsSoFar w number told untested = Unit {0}
-IsSoFar w number told uncounted = rule_broken w.terms number ≡ None
-IsSoFar w number told (admitted n) = IsAdmitted w number told n
+abbrev pub IsSoFar : World → Request → Grants → Progress → Type 0
+IsSoFar w request told untested = Unit {0}
+IsSoFar w request told uncounted = request.broken ≡ None
+IsSoFar w request told (admitted n) = IsAdmitted w request told n
 
 -- a refusal has its cause, and tells of room
-abbrev pub HasCause : World → ℕ → Grants → AllocError → Type 0
-HasCause w number told e = IsCause w.terms number (Alloc e) × IsForRoom w number told e
+abbrev pub HasCause : World → Request → Grants → AllocError → Type 0
+HasCause w request told e = IsCause w.terms request (Alloc e) × IsForRoom w request told e
 
--- the command under way requests an instance, of a module that is asked for
-pub record IsRequest (w : World) (commands : List Command) (done : ℕ) (asked : Option ModuleCall) (told : Grants) (progress : Progress) : Type 0 where
+-- the command under way requests an instance, and what is asked for is what it is for
+pub record IsRequest (w : World) (commands : List Command) (done : ℕ) (asked : Option ModuleAsked) (told : Grants) (progress : Progress) : Type 0 where
   pub number : ℕ
   pub act : act_at commands done ≡ Some (requests number)
-  pub asked_for : IsAskedFor w.terms number asked
-  pub so_far : IsSoFar w number told progress
+  pub asked_for : wants_asked asked ≡ (request_of w.terms number).wants
+  pub so_far : IsSoFar w (request_of w.terms number) told progress
 
 -- it requests one, and is to be refused
 pub record IsToRefuse (w : World) (commands : List Command) (done : ℕ) (told : Grants) (e : AllocError) : Type 0 where
   pub number : ℕ
   pub act : act_at commands done ≡ Some (requests number)
-  pub cause : HasCause w number told e
+  pub cause : HasCause w (request_of w.terms number) told e
 
 -- it gives a grant back. That ends where its give-back begins, though its reply comes later.
 pub record IsToReturn (commands : List Command) (done : ℕ) (now told : Grants) : Type 0 where
@@ -77,7 +71,7 @@ pub record IsToReturn (commands : List Command) (done : ℕ) (now told : Grants)
   pub ended : now ≡ slice_set told of None
 
 -- how what the party has now, at each stage of its call, fits what it was told
-abbrev pub TiedAs : World → Stage → List Command → ℕ → Option ModuleCall → Grants → Grants → Type 0
+abbrev pub TiedAs : World → Stage → List Command → ℕ → Option ModuleAsked → Grants → Grants → Type 0
 TiedAs w no_call commands done asked now told = now ≡ told
 TiedAs w keys commands done asked now told = now ≡ told
 TiedAs w (asks progress) commands done asked now told = (now ≡ told) × IsRequest w commands done asked told progress
@@ -129,7 +123,7 @@ module _ {P : Type 0} where
   -- What a turn relies on: what the party has fits what the pool has. Nothing is in both, the region of each slot that
   -- the pool or the party has is with one of them too, and what the party has counted is counted.
   pub record FitsParty (c : PoolCore P) (p : RunningParty P) : Type 0 where
-    pub once : (t : Thing) → kept_count t c + (held_by_party p).places t ≤ made_count t (length c.cells)
+    pub once : (t : Thing) → kept_count t c + (held_by_party p).places t ≤ made_count t c.settings.slots
     pub home : (i : ℕ) → 0 < kept_count (right_to i) c + (held_by_party p).places (right_to i) → 0 < kept_count (region_of i) c + (held_by_party p).places (region_of i)
     pub instances : (held_by_party p).instances ≤ c.counters.core_instances
     pub memories : (held_by_party p).memories ≤ c.counters.memories
@@ -148,6 +142,6 @@ module _ {P : Type 0} where
   -- A party with this call and these grants is alone: all that the pool hasn't is with it, and it has counted what is
   -- counted.
   pub record IsAlone (c : PoolCore P) (f : Frame P) (live : List (Option (Grant P))) : Type 0 where
-    pub places : (t : Thing) → kept_count t c + (frame_count t f + sum_by (granted_to (grant_count t)) live) ≡ made_count t (length c.cells)
+    pub places : (t : Thing) → kept_count t c + (frame_count t f + sum_by (granted_to (grant_count t)) live) ≡ made_count t c.settings.slots
     pub instances : c.counters.core_instances ≡ phase_instances f.phase + sum_by (granted_to grant_instances) live
     pub searched : IsSearched c f

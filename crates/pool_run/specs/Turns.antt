@@ -1,6 +1,5 @@
 -- A turn of a party in a run: the next step of its call, or the first step of its next command.
 use Rattle.std.specs.Prelude.{◌≡◌, ℕ, ◌+◌, List, [], ◌∷◌, ◌++◌, length, map, replicate, nat_le, slice_get, slice_index_or, slice_set, ◌⊎◌, Bool, true, false, if◌then◌else◌, Option, Some, None, option_map, Result, Ok, Err}
-use Rattle.std.specs.Arc.{arc_value}
 use Rattle.pool_limits.specs.Growth.{GrowthRule}
 use Rattle.pool_limits.specs.Growing.{GrowthGiven}
 use Rattle.pool_limits.specs.LimiterTold.{LimiterTold}
@@ -16,7 +15,7 @@ use Rattle.pool_alloc.specs.Turns.{After}
 use Rattle.pool_alloc.specs.Stepping.{StepsTo, is_idle}
 use Rattle.pool_alloc.specs.declared.pool_core.PoolCore.{PoolCore}
 use Rattle.pool_alloc.specs.declared.frame.Frame.{Frame}
-use Rattle.pool_alloc.specs.declared.frame.ModuleCall.{ModuleCall}
+use Rattle.pool_alloc.specs.Asked.{ModuleAsked}
 use Rattle.pool_alloc.specs.declared.frame.Call.TheVariants as call
 use Rattle.pool_alloc.specs.declared.frame.Grant.{Grant}
 use Rattle.pool_alloc.specs.declared.frame.Grant.TheVariants.{Instance as instance}
@@ -63,13 +62,13 @@ MemoryGrows rule pages old new reply =
 
 -- a lease that a limiter with this rule let grow, or didn't
 pub record GrowsUnder (rule : GrowthRule) (pages : ℕ) (l new : Lease) (answer : Result (Option ℕ) GrowFault) : Type 0 where
-  pub index : new.index ≡ l.index
+  pub same : new ≡ record l { memory = new.memory }
   pub memory : IsUsable new.memory
   pub growth : (given : GrowthGiven) × (asked : LimiterTold) × (left : LimiterTold) × (asked.rule ≡ Some rule) × IsGrowth given pages l.memory.linear.size l.memory new.memory asked left answer
 
 -- a lease whose memory moved, which can still be used
 pub record MovesLease (Moves : MemoryState → MemoryState → Reply → Type 0) (l new : Lease) (reply : Reply) : Type 0 where
-  pub index : new.index ≡ l.index
+  pub same : new ≡ record l { memory = new.memory }
   pub memory : IsUsable new.memory
   pub move : Moves l.memory new.memory reply
 
@@ -98,12 +97,6 @@ pub data Opening (P : Type 0) : Type 0 where
   rests : Opening P
   replies : Reply → List (Option (Grant P)) → Opening P
   makes_step : Frame P → List (Option (Grant P)) → Opening P
-
--- the call is for the same module with the same images
-pub record IsShareOf (kept m : ModuleCall) : Type 0 where
-  pub info : arc_value m.info ≡ arc_value kept.info
-  pub images : option_map arc_value m.images ≡ option_map arc_value kept.images
-  pub id : m.id ≡ kept.id
 
 module _ {P : Type 0} where
   abbrev pub private_grant : Grant P → PrivateInstance
@@ -156,10 +149,10 @@ module _ {P : Type 0} where
 
   -- A request: the module and its images are shared, and the reply's list is reserved, or the command ends at once for want
   -- of memory.
-  abbrev pub OpensRequest : Option ModuleCall → RunningParty P → Opening P → Type 0
+  abbrev pub OpensRequest : Option ModuleAsked → RunningParty P → Opening P → Type 0
   OpensRequest None p o = ⊥
   OpensRequest (Some kept) p o =
-      (o ≡ replies (Refused (Alloc alloc.Memory)) p.live) ⊎ ((m : ModuleCall) × IsShareOf kept m × (o ≡ makes_step (begun_call (call.Module m) p.frame) p.live))
+      (o ≡ replies (Refused (Alloc alloc.Memory)) p.live) ⊎ (o ≡ makes_step (begun_call (call.Module kept) p.frame) p.live)
 
   -- a grant that the party gives back is no longer one of its live ones
   abbrev pub drop_opening : Option (Grant P) → ℕ → RunningParty P → Opening P
@@ -167,20 +160,20 @@ module _ {P : Type 0} where
   drop_opening (Some grant) of p = makes_step (begun_call (call.GiveBack grant) p.frame) (slice_set p.live of None)
 
   -- what a command opens with, where these are the calls for the modules by number
-  abbrev pub OpensAct : List ModuleCall → Act → RunningParty P → Opening P → Type 0
+  abbrev pub OpensAct : List ModuleAsked → Act → RunningParty P → Opening P → Type 0
   OpensAct modules (requests number) p o = OpensRequest (slice_get modules number) p o
   OpensAct modules (on_memory of k op) p o =
       (reply : Reply) × (live : List (Option (Grant P))) × MovesObject memory_leases (LeaseMoves op (rule_of p.limits)) of k p.live reply live × (o ≡ replies reply live)
   OpensAct modules (drops of) p o = o ≡ drop_opening (slice_index_or p.live of None) of p
 
   -- the next command, if there is one; before its first the party draws its stripe
-  abbrev pub OpensNext : List ModuleCall → Option Command → Bool → RunningParty P → Opening P → Type 0
+  abbrev pub OpensNext : List ModuleAsked → Option Command → Bool → RunningParty P → Opening P → Type 0
   OpensNext modules None keyed p o = o ≡ rests
   OpensNext modules (Some command) false p o = o ≡ makes_step (begun_call call.Key p.frame) p.live
   OpensNext modules (Some command) true p o = OpensAct modules (act_of command) p o
 
   -- the call that is under way goes on, or the next command begins
-  abbrev pub OpensAt : Bool → List ModuleCall → List Command → RunningParty P → Opening P → Type 0
+  abbrev pub OpensAt : Bool → List ModuleAsked → List Command → RunningParty P → Opening P → Type 0
   OpensAt true modules commands p o = OpensNext modules (slice_get commands p.done) p.keyed p o
   OpensAt false modules commands p o = o ≡ makes_step p.frame p.live
 
@@ -194,5 +187,5 @@ module _ {P : Type 0} where
   TurnsFrom Opens c p t = (o : Opening P) × Opens o × Leaves o c p t
 
   -- a turn of a party
-  abbrev pub Turns : List ModuleCall → List Command → PoolCore P → RunningParty P → Turned P → Type 0
+  abbrev pub Turns : List ModuleAsked → List Command → PoolCore P → RunningParty P → Turned P → Type 0
   Turns modules commands c p t = TurnsFrom (OpensAt (is_idle p.frame.phase) modules commands p) c p t

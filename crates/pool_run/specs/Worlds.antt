@@ -6,10 +6,10 @@ use Rattle.pool_alloc.specs.Steps.{memories_wanted, images_wanted}
 use Rattle.pool_alloc.specs.Sound.{AreImagesOf}
 use Rattle.pool_alloc.specs.declared.pool_core.PoolCore.{PoolCore}
 use Rattle.pool_alloc.specs.declared.pool_core.Settings.{Settings}
-use Rattle.pool_alloc.specs.declared.frame.ModuleCall.{ModuleCall}
-use Rattle.pool_run.specs.Private.{Terms}
+use Rattle.pool_alloc.specs.Asked.{ModuleAsked}
+use Rattle.pool_run.specs.Private.{Terms, request_of}
 use Rattle.pool_run.specs.Rooms.{World}
-use Rattle.pool_run.specs.Ties.{IsAskedFor}
+use Rattle.pool_run.specs.Ties.{wants_asked}
 use Rattle.pool_run.specs.Acts.{Act, requests, act_of}
 use Rattle.pool_run.specs.declared.command.Command.{Command}
 
@@ -17,24 +17,24 @@ use Rattle.pool_run.specs.declared.command.Command.{Command}
 pub record IsWorldOf {P : Type 0} (w : World) (c : PoolCore P) : Type 0 where
   pub tells : w.terms.tells ≡ w.maker.tells
   pub settings : w.terms.settings ≡ c.settings
-  pub slots : w.terms.slots ≡ length c.cells
+  pub slots : w.terms.slots ≡ c.settings.slots
   pub stripes : w.terms.settings.stripes ≡ 1
 
 -- the images that are given are those of the module's memories
-pub record IsFit (s : Settings) (m : ModuleCall) : Type 0 where
+pub record IsFit (s : Settings) (m : ModuleAsked) : Type 0 where
   pub images : AreImagesOf s (memories_wanted (Some m)) (images_wanted (Some m))
   pub places : HasImages (Some m)
 
-abbrev pub AreFit : Settings → List ModuleCall → Type 0
+abbrev pub AreFit : Settings → List ModuleAsked → Type 0
 AreFit s modules = (number : ℕ) → IfSome (slice_get modules number) (IsFit s)
 
 -- the call is one for the module of this number
-pub record IsCallFor (t : Terms) (s : Settings) (number : ℕ) (m : ModuleCall) : Type 0 where
-  pub asked : IsAskedFor t number (Some m)
+pub record IsCallFor (t : Terms) (s : Settings) (number : ℕ) (m : ModuleAsked) : Type 0 where
+  pub asked : wants_asked (Some m) ≡ (request_of t number).wants
   pub fit : IsFit s m
 
 -- each call is one for the module of its number
-abbrev pub AreCallsFor : Terms → Settings → List ModuleCall → Type 0
+abbrev pub AreCallsFor : Terms → Settings → List ModuleAsked → Type 0
 AreCallsFor t s modules = (number : ℕ) → IfSome (slice_get modules number) (IsCallFor t s number)
 
 -- a module that is requested is one of so many

@@ -1,9 +1,9 @@
 ghost use Rattle.std.specs.Prelude.{◌≡◌, true, Err, false, IfOk, IfErr, IfSome, OnOk, option_map};
-ghost use Rattle.std.specs.Arc.{arc_value};
 ghost use Rattle.std.specs.List.{list_all};
 ghost use Rattle.pool_pages.specs.Told.{Rose};
+ghost use Rattle.std.specs.Arc.{arc_value};
 ghost use Rattle.pool_run.specs.Built.{is_built_module};
-ghost use Rattle.pool_run.specs.Made.{IsMadeCall, AreMadeCalls};
+ghost use Rattle.pool_run.specs.Made.{call_made, calls_made};
 ghost use Rattle.pool_run.specs.Runs.{ModuleFaults, ModulesFault, module_listed, images_listed, is_refused};
 
 use crate::copies::copy_of;
@@ -23,7 +23,7 @@ pub(crate) fn make_calls<M: PageMaker>(
     modules: &[ModuleInfo],
 ) -> Result<Vec<ModuleCall>, RunFault>
     requires { list_all is_built_module modules.now ≡ true }
-    ensures calls { IfOk result (λ v. AreMadeCalls tunables.now (M.told maker.old).page modules.now v.items) }
+    ensures calls { IfOk result (λ v. v.items ≡ calls_made tunables.now (M.told maker.old).page 0 modules.now) }
     ensures same { OnOk result (M.told maker.new ≡ M.told maker.old) }
     ensures maker { M.told maker.new ≡ record (M.told maker.old) { behind = (M.told maker.new).behind; faults = (M.told maker.new).faults } }
     ensures borrows { M.borrows maker.new ≡ M.borrows maker.old }
@@ -56,7 +56,7 @@ fn make_call<M: PageMaker>(
     info: &ModuleInfo,
 ) -> Result<ModuleCall, RunFault>
     requires { is_built_module info.now ≡ true }
-    ensures call { IfOk result (IsMadeCall tunables.now (M.told maker.old).page number info.now) }
+    ensures call { IfOk result (λ call. call ≡ call_made tunables.now (M.told maker.old).page number info.now) }
     ensures same { OnOk result (M.told maker.new ≡ M.told maker.old) }
     ensures maker { M.told maker.new ≡ record (M.told maker.old) { behind = (M.told maker.new).behind; faults = (M.told maker.new).faults } }
     ensures borrows { M.borrows maker.new ≡ M.borrows maker.old }
@@ -81,9 +81,7 @@ fn call_of(
     info: &ModuleInfo,
     images: Option<ModuleMemoryImages>,
 ) -> Result<ModuleCall, AllocError>
-    ensures info { IfOk result (λ call. arc_value call.info ≡ info.now) }
-    ensures images { IfOk result (λ call. option_map arc_value call.images ≡ images) }
-    ensures id { IfOk result (λ call. call.id ≡ id) }
+    ensures { IfOk result (λ call. call ≡ record { info = info.now; images = images; id = id }) }
 {
     let info = copy_of(alloc, info)?;
     Ok(ModuleCall {

@@ -1,7 +1,7 @@
 ghost use Rattle.std.specs.Prelude.{◌≡◌, true, Err, false, IfOk, IfErr, IfSome, OnOk};
 ghost use Rattle.pool_pages.specs.Told.{Rose};
 ghost use Rattle.pool_run.specs.Built.{is_built_module};
-ghost use Rattle.pool_run.specs.Made.{images_of_module};
+ghost use Rattle.pool_run.specs.Private.{images_of};
 ghost use Rattle.pool_run.specs.Runs.{ModuleFaults, module_listed, is_refused};
 
 use crate::output::RunFault;
@@ -19,7 +19,7 @@ pub(crate) fn make_images<M: PageMaker>(
     info: &ModuleInfo,
 ) -> Result<Option<ModuleMemoryImages>, RunFault>
     requires { is_built_module info.now ≡ true }
-    ensures ok { IfOk result (λ made. made ≡ images_of_module tunables.now (M.told maker.old).page number info.now) }
+    ensures ok { IfOk result (λ made. made ≡ images_of tunables.now (M.told maker.old).page number info.now.memories) }
     ensures same { OnOk result (M.told maker.new ≡ M.told maker.old) }
     ensures maker { M.told maker.new ≡ record (M.told maker.old) { behind = (M.told maker.new).behind; faults = (M.told maker.new).faults } }
     ensures borrows { M.borrows maker.new ≡ M.borrows maker.old }

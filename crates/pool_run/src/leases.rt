@@ -1,4 +1,4 @@
-ghost use Rattle.std.specs.Prelude.{◌≡◌, ◌<◌, length, replicate, slice_index_or, slice_set, None, Some, IfOk, fold, option_copied};
+ghost use Rattle.std.specs.Prelude.{◌≡◌, ◌<◌, length, replicate, slice_index_or, slice_set, None, Some, IfOk, fold};
 ghost use Rattle.pool_run.specs.Numbers.{with_grant};
 
 use pool_alloc::Grant;
@@ -37,16 +37,6 @@ impl<P: Pages> Leases<P> {
         ensures { result ≡ length self.now }
     {
         self.places.len()
-    }
-
-    /// The grant of a command, if it is live.
-    pub fn get(&self, of: usize) -> Option<&Grant<P>>
-        ensures { option_copied result ≡ slice_index_or self.now of None }
-    {
-        match self.places.get(of) {
-            Some(place) => place.as_ref(),
-            None => None,
-        }
     }
 
     /// Takes out the grant of a command.

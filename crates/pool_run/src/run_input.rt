@@ -3,10 +3,11 @@ ghost use Rattle.pool_pages.specs.MakerTold.{MakerTold};
 ghost use Rattle.pool_pages.specs.declared.bad_config.BadConfig.{BadConfig};
 ghost use Rattle.pool_pages.specs.declared.failing.Failing.{Failing};
 ghost use Rattle.pool_alloc.specs.Sums.{metrics_of};
+ghost use Rattle.pool_run.specs.Agreeing.{IsOnlyRun};
 ghost use Rattle.pool_run.specs.Built.{broken_rule, is_built};
 ghost use Rattle.pool_run.specs.Numbers.{calls_of_run};
 ghost use Rattle.pool_run.specs.Progress.{IsRunOf};
-ghost use Rattle.pool_run.specs.Runs.{IsMadeRun, IsRun, Performs, FaultsInMaking, HasFaultedMaking, with_faults, NamesRule};
+ghost use Rattle.pool_run.specs.Runs.{IsMadeRun, IsRun, HoldsFromStart, Performs, FaultsInMaking, HasFaultedMaking, with_faults, NamesRule};
 ghost use Rattle.pool_run.specs.RunsMade.{Background};
 ghost use Rattle.pool_run.specs.Schedules.{turns_of};
 ghost use Rattle.pool_run.specs.Validity.{is_valid};
@@ -58,6 +59,8 @@ fn run_over<P: Pages>(alloc: Global, input: &Input, run: Run<P>) -> Result<RunOu
     requires made { IsMadeRun input.now maker run }
     requires built { is_built input.now ≡ true }
     requires valid { is_valid input.now ≡ true }
+    requires rules { broken_rule input.now ≡ None }
+    requires page { maker.page ≡ input.now.page }
     ensures { IfOk result (IsRun P input.now maker) }
 {
     let parties = input.parties.as_slice();
@@ -73,6 +76,8 @@ fn run_to_end<P: Pages>(alloc: Global, input: &Input, run: Run<P>) -> Result<Run
     requires made { IsMadeRun input.now maker run }
     requires built { is_built input.now ≡ true }
     requires valid { is_valid input.now ≡ true }
+    requires rules { broken_rule input.now ≡ None }
+    requires page { maker.page ≡ input.now.page }
     ensures ok { IfOk result (IsRun P input.now maker) }
     ensures memory { IfErr result (λ fault. fault ≡ RunFault.Memory) }
 {
@@ -132,6 +137,8 @@ fn run_with<P: Pages, M: PageMaker<Region = P>>(
 /// broken, where a region or an image can't be made, or where there is no memory for the run and the lists of its replies.
 ///
 /// A page fault comes only where the input lists a making, or where the maker counted one of its own, whatever it tells.
+/// Where it tells what its regions hold and which of their calls fail, an input has one outcome, but for which commands
+/// find no memory (`runs_agree`). Where the slots are meanwhile `slots_have_places` says.
 pub fn run_schedule<M: PageMaker>(
     alloc: Global,
     input: &Input,
@@ -139,6 +146,8 @@ pub fn run_schedule<M: PageMaker>(
 ) -> Result<RunOutput, RunFault>
     requires built { is_built input.now ≡ true }
     ensures ok { IfOk result (IsRun (Failing M.Region) input.now (with_faults input.now (M.told pages.old))) }
+    ensures only { IfOk result (IsOnlyRun (Failing M.Region) input.now (with_faults input.now (M.told pages.old))) }
+    ensures throughout { OnOk result (HoldsFromStart (Failing M.Region) input.now (with_faults input.now (M.told pages.old))) }
     ensures bad_input { (result ≡ Err RunFault.BadInput) ↔ (is_valid input.now ≡ false) }
     ensures bad_config { (e : BadConfig) → (result ≡ Err (RunFault.BadConfig e)) ↔ ((is_valid input.now ≡ true) × (broken_rule input.now ≡ Some e)) }
     ensures fault { result ≡ Err RunFault.PageFault → HasFaultedMaking input.now (M.told pages.old) (M.told pages.new) }

@@ -6,7 +6,7 @@ ghost use Rattle.pool_alloc.specs.Stepping.{CanStep, CanCount, is_idle};
 ghost use Rattle.pool_run.specs.AtOnce.{given_act};
 ghost use Rattle.pool_run.specs.PartyRules.{rule_of};
 ghost use Rattle.pool_run.specs.Ties.{CanTurn, IsReserved};
-ghost use Rattle.pool_run.specs.Turns.{IsShareOf, leases_of, granted_reply, answered, slots_after, StepsUnder, Steps, makes_step, drop_opening, OpensRequest, OpensAct, OpensNext, TurnsFrom, Turns};
+ghost use Rattle.pool_run.specs.Turns.{leases_of, granted_reply, answered, slots_after, StepsUnder, Steps, makes_step, drop_opening, OpensRequest, OpensAct, OpensNext, TurnsFrom, Turns};
 ghost use Rattle.pool_run.specs.Worlds.{IsFit, AreFit, NamesModule, NameModules};
 
 use crate::act::{Act, act_of};
@@ -287,7 +287,7 @@ fn ask<P: Pages>(
 
 // The same call, and the list for the slots of its grant.
 fn prepare(alloc: Global, kept: &ModuleCall) -> Result<(ModuleCall, ReservedVec<u32>), AllocError>
-    ensures share { IfOk result (λ r. IsShareOf kept.now r.0) }
+    ensures share { IfOk result (λ r. r.0 ≡ kept.now) }
     ensures room { IfOk result (λ r. r.1 ≡ record { items = []; room = length (memories_wanted (Some kept.now)) }) }
 {
     let call = share(kept)?;
@@ -297,7 +297,7 @@ fn prepare(alloc: Global, kept: &ModuleCall) -> Result<(ModuleCall, ReservedVec<
 
 // The same call, sharing the module and its images.
 fn share(kept: &ModuleCall) -> Result<ModuleCall, AllocError>
-    ensures { IfOk result (λ m. IsShareOf kept.now m) }
+    ensures { IfOk result (λ m. m ≡ kept.now) }
 {
     let info = kept.info.clone()?;
     let images = match &kept.images {

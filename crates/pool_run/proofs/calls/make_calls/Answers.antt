@@ -1,8 +1,9 @@
 use Rattle.std.proofs.Common.{◌≡◌, ℕ, Err, Some, length, ap, refl, sym, ◌∙◌, subst, arith, false}
 use Rattle.std.specs.Prelude.{IfSome, slice_get}
+use Rattle.std.proofs.lemmas.List.{length-take-le, take_all}
 use Rattle.std.proofs.lemmas.Option.{slice_get_read}
 use Rattle.pool_pages.specs.MakerTold.{MakerTold}
-use Rattle.pool_run.specs.Made.{IsMadeCall}
+use Rattle.pool_run.specs.Made.{call_made, calls_made}
 use Rattle.pool_run.specs.Runs.{ModuleFaults, module_listed}
 use Rattle.pool_run.specs.declared.output.RunFault.TheVariants.{PageFault}
 use Rattle.pool_run.proofs.Makings.{module_of_all, one_unlisted, none_listed}
@@ -32,8 +33,8 @@ returns-clause-unlisted g c =
 pub loop-info-preserved : goal.loop-info-preserved
 loop-info-preserved g c =
     let number : c.len.result ≡ c.loop-info.info-index = omega (arith, c.len.ensures, c.loop-info.invariant.count) in
-    let M : MakerTold → Type 0 = λ m. IsMadeCall c.args.tunables.now m.page c.len.result c.info-item.result c.in-Ok-make_call.call in
-    let N : ℕ → Type 0 = λ k. IsMadeCall c.args.tunables.now (g.M.PageMaker.told c.args.maker.now).page k c.info-item.result c.in-Ok-make_call.call in
+    let M : MakerTold → Type 0 = λ m. c.in-Ok-make_call.call ≡ call_made c.args.tunables.now m.page c.len.result c.info-item.result in
+    let N : ℕ → Type 0 = λ k. c.in-Ok-make_call.call ≡ call_made c.args.tunables.now (g.M.PageMaker.told c.args.maker.now).page k c.info-item.result in
     let told : MakerTold = g.M.PageMaker.told c.args.maker.now in
     let U : ℕ → Type 0 = λ k. IfSome told.plan (λ p. module_listed c.args.tunables.now told.page k p c.info-item.result ≡ false) in
     let V : MakerTold → Type 0 = λ m. IfSome m.plan (λ p. module_listed c.args.tunables.now m.page c.len.result p c.info-item.result ≡ false) in
@@ -43,9 +44,13 @@ loop-info-preserved g c =
     let this = subst N number (subst M c.loop-info.invariant.maker c.in-Ok-make_call.ensures.call) in
     record {
       count = omega (arith, c.in-Ok-push.ensures.len, c.loop-info.invariant.count);
-      each = one_more c.args.tunables.now (g.M.PageMaker.told c.args.maker.now).page c.args.modules.now c.loop-info.info-index c.info-item.result c.loop-info.calls.items c.push.new.self.items c.in-Ok-make_call.call c.loop-info-test.true (sym c.loop-info.calls.ok.0 ∙ c.loop-info.invariant.count) c.info-item.is c.loop-info.invariant.each this c.in-Ok-push.ensures.items;
+      made = one_more c.args.tunables.now (g.M.PageMaker.told c.args.maker.now).page c.args.modules.now c.loop-info.info-index c.info-item.result c.loop-info.calls.items c.push.new.self.items c.in-Ok-make_call.call c.loop-info-test.true (length-take-le c.loop-info.info-index c.args.modules.now (omega (arith, c.loop-info-test.true))) c.info-item.is c.loop-info.invariant.made this c.in-Ok-push.ensures.items;
       own = one_unlisted c.args.tunables.now told.page c.args.modules.now c.loop-info.info-index c.info-item.result (Some told.listed) there c.loop-info.invariant.own (subst O number (subst W c.loop-info.invariant.maker c.in-Ok-make_call.ensures.own));
       unlisted = one_unlisted c.args.tunables.now told.page c.args.modules.now c.loop-info.info-index c.info-item.result told.plan there c.loop-info.invariant.unlisted (subst U number (subst V c.loop-info.invariant.maker c.in-Ok-make_call.ensures.unlisted));
       maker = c.in-Ok-make_call.ensures.same ∙ c.loop-info.invariant.maker;
       borrows = c.in-Ok-make_call.ensures.borrows ∙ c.loop-info.invariant.borrows;
     }
+
+pub returns-clause-calls : goal.returns-clause-calls
+returns-clause-calls g c =
+    c.loop-info.invariant.made ∙ ap (calls_made c.args.tunables.now (g.M.PageMaker.told c.args.maker.now).page 0) (take_all c.loop-info.info-index c.args.modules.now (omega (arith, c.loop-info-test.false)))

@@ -1,6 +1,6 @@
 use Rattle.std.proofs.Common.{◌≡◌, ℕ, vec_len}
-use Rattle.std.specs.Prelude.{IfSome, slice_get}
-use Rattle.pool_run.specs.Made.{IsMadeCall}
+use Rattle.std.specs.Prelude.{IfSome, take}
+use Rattle.pool_run.specs.Made.{calls_made}
 use Rattle.pool_run.proofs.Makings.{AreUnlisted}
 use Rattle.pool_run.proofs.calls.make_calls.Given as goal
 
@@ -8,7 +8,7 @@ use Rattle.pool_run.proofs.calls.make_calls.Given as goal
 abbrev pub invariant-loop-info : goal.invariant-loop-info
 invariant-loop-info g l = record {
   count : vec_len l.calls ≡ l.info-index;
-  each : (k : ℕ) → IfSome (slice_get l.calls.items k) (λ c. IfSome (slice_get l.modules k) (λ m. IsMadeCall l.tunables (g.M.PageMaker.told l.fn.maker).page k m c));
+  made : l.calls.items ≡ calls_made l.tunables (g.M.PageMaker.told l.fn.maker).page 0 (take l.info-index l.modules);
   own : AreUnlisted l.tunables (g.M.PageMaker.told l.fn.maker).page l.modules l.info-index (g.M.PageMaker.told l.fn.maker).listed;
   unlisted : IfSome (g.M.PageMaker.told l.fn.maker).plan (AreUnlisted l.tunables (g.M.PageMaker.told l.fn.maker).page l.modules l.info-index);
   maker : g.M.PageMaker.told l.maker ≡ g.M.PageMaker.told l.fn.maker;

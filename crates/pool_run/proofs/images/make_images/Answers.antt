@@ -1,7 +1,7 @@
 use Rattle.std.proofs.Common.{◌≡◌, ℕ, Some, None, Option, List, false, subst}
 use Rattle.std.specs.Prelude.{IfSome}
 use Rattle.pool_pages.specs.MakerTold.{Planned}
-use Rattle.pool_run.specs.Made.{images_of_module}
+use Rattle.pool_run.specs.Private.{images_of}
 use Rattle.pool_run.specs.Runs.{module_listed}
 use Rattle.pool_run.proofs.Makings.{made_images, images_unlisted, misplaced_none, no_images, none_unlisted}
 use Rattle.pool_run.proofs.images.make_images.Goals as goal
@@ -11,13 +11,13 @@ pub returns-clause-ok : goal.returns-clause-ok
 returns-clause-ok g c =
     elim c.match-new.branch [
       | in-Ok w ↦
-          let Made : ℕ → Type 0 = λ page. w.in-Ok.images ≡ images_of_module c.args.tunables.now page c.args.number c.args.info.now in
+          let Made : ℕ → Type 0 = λ page. w.in-Ok.images ≡ images_of c.args.tunables.now page c.args.number c.args.info.now.memories in
           let made : Made c.page-page.result = made_images c.args.tunables.now c.page-page.result c.args.number c.args.info.now w.in-Ok.images c.if-not-tunables.false w.in-Ok.ensures.begins w.in-Ok.ensures.ends w.in-Ok.ensures.images in
           rw w.result-is (subst Made c.page-page.ensures made)
       | in-Err-Memory w ↦ rw w.result-is tt
       | in-Err-PageFault w ↦ rw w.result-is tt
       | in-Err-Unsupported w ↦
-          let None_of : ℕ → Type 0 = λ page. None ≡ images_of_module c.args.tunables.now page c.args.number c.args.info.now in
+          let None_of : ℕ → Type 0 = λ page. None ≡ images_of c.args.tunables.now page c.args.number c.args.info.now.memories in
           let none : None_of c.page-page.result = no_images c.args.tunables.now c.page-page.result c.args.number c.args.info.now (misplaced_none c.args.tunables.now c.page-page.result c.args.info.now c.new.result _ _ w.in-Err-Unsupported.is w.in-Err-Unsupported.field-0-is c.new.ensures.offsets c.new.ensures.unsupported) in
           rw w.result-is (subst None_of c.page-page.ensures none)
     ]

@@ -15,7 +15,7 @@ perform-requires g c κs within =
     let P : Type 0 = g.row.P.Denot in
     let s : RunState P = c.in_ok-told.told in
     let made : s ≡ told_state c.args.run (nothing_told c.args.input.now.parties) = made_run c.args.input.now c.args.run c.as_slice-parties.result.now s c.as_slice-parties.ensures c.in_ok-told.ensures in
-    (search rules, (is_run_of c.args.input.now g.maker c.args.run s c.requires.1.1.0 c.requires.1.1.1 c.requires.1.0 made, c.requires.1.1.1))
+    (search rules, (is_run_of c.args.input.now g.maker c.args.run s (record { built = c.requires.1.1.0; rules = c.requires.1.1.1.1.0; page = c.requires.1.1.1.1.1 }) c.requires.1.1.1.0 c.requires.1.0 made, c.requires.1.1.1.0))
 
 pub output_of-requires-clause-room : goal.output_of-requires-clause-room
 output_of-requires-clause-room g c = omega (arith, c.perform.ensures.run.way.told, c.perform.ensures.run.parties, ap (length {A = Party}) c.as_slice-parties.ensures, c.in_ok-lists.ensures.capacity)
@@ -25,4 +25,4 @@ returns g c =
     let P : Type 0 = g.row.P.Denot in
     let s : RunState P = c.in_ok-told.told in
     let made : s ≡ told_state c.args.run (nothing_told c.args.input.now.parties) = made_run c.args.input.now c.args.run c.as_slice-parties.result.now s c.as_slice-parties.ensures c.in_ok-told.ensures in
-    is_run c.args.input.now g.maker c.args.run s c.perform.new.run c.output_of.result c.requires.1.1.0 c.requires.1.0 made c.perform.ensures.performs c.output_of.ensures.replies c.output_of.ensures.metrics c.output_of.ensures.calls
+    is_run c.args.input.now g.maker c.args.run s c.perform.new.run c.output_of.result (record { built = c.requires.1.1.0; rules = c.requires.1.1.1.1.0; page = c.requires.1.1.1.1.1 }) c.requires.1.0 made c.perform.ensures.performs c.output_of.ensures.replies c.output_of.ensures.metrics c.output_of.ensures.calls

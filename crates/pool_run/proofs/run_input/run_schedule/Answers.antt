@@ -1,9 +1,11 @@
-use Rattle.std.proofs.Common.{rules, ◌≡◌, ℕ, List, true, false, sym, ap, ◌∙◌}
+use Rattle.std.proofs.Common.{rules, ◌≡◌, ℕ, List, true, false, refl, sym, ap, ◌∙◌}
 use Rattle.pool_pages.specs.FaultPlans.{failing_maker, planned_faults}
 use Rattle.pool_pages.specs.MakerTold.{MakerTold}
 use Rattle.pool_pages.specs.declared.fault_plan.Fault.{Fault}
+use Rattle.pool_run.specs.Runs.{with_faults}
 use Rattle.pool_run.proofs.Makings.{fault_of_run}
 use Rattle.pool_run.proofs.RulesNamed.{page_named}
+use Rattle.pool_run.proofs.SameRuns.{only_ok, holds_ok}
 use Rattle.pool_run.proofs.run_input.run_schedule.Goals as goal
 
 pub returns-in-Ok-clause-fault : goal.returns-in-Ok-clause-fault
@@ -17,3 +19,15 @@ returns-in-Ok-clause-fault g c is =
 
 pub returns-in-Err-clause-bad_config : goal.returns-in-Err-clause-bad_config
 returns-in-Err-clause-bad_config g c e = page_named c.args.input.now c.in-Err.rule e (sym c.if-not-is_valid.ensures) c.in-Err.ensures.err (λ sized. let wrong : false ≡ true = c.in-Err.ensures.valid.1 sized in absurd cc)
+
+pub returns-in-Ok-clause-only : goal.returns-in-Ok-clause-only
+returns-in-Ok-clause-only g c =
+    let maker : MakerTold = g.M.PageMaker.told c.args.pages.now in
+    let before =
+    c.new-maker.ensures.told
+    ∙ ap (λ (page : ℕ). failing_maker maker page (planned_faults c.as_slice.result.now) maker.next maker.faults) c.in-Ok.ensures.ok
+    ∙ ap (λ (fs : List Fault). failing_maker maker c.args.input.now.page (planned_faults fs) maker.next maker.faults) c.as_slice.ensures in
+    only_ok _ c.args.input.now (with_faults c.args.input.now maker) _ c.run_with-answer.result before refl c.requires.built c.run_with-answer.ensures.rules c.run_with-answer.ensures.ok
+
+pub returns-in-Ok-clause-throughout : goal.returns-in-Ok-clause-throughout
+returns-in-Ok-clause-throughout g c = holds_ok _ c.args.input.now (with_faults c.args.input.now (g.M.PageMaker.told c.args.pages.now)) c.run_with-answer.result refl c.requires.built c.run_with-answer.ensures.rules

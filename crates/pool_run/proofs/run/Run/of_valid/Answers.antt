@@ -6,7 +6,7 @@ use Rattle.pool_pages.specs.declared.module_types.ModuleInfo.{ModuleInfo}
 use Rattle.pool_alloc.specs.Sound.{IsCore}
 use Rattle.pool_run.specs.Built.{is_built_module, broken_rule}
 use Rattle.pool_run.specs.Folds.{RunParts}
-use Rattle.pool_run.specs.Made.{AreMadeCalls}
+use Rattle.pool_run.specs.Made.{calls_made}
 use Rattle.pool_run.specs.Runs.{IsMadeRun, FaultsInMaking, region_listed, makings_of, images_listed}
 use Rattle.pool_run.specs.RunsMade.{parties_made}
 use Rattle.pool_run.specs.declared.input.Input.{Input}
@@ -47,7 +47,7 @@ returns-in-Ok-over-clause-made g c =
     let P : Type 0 = g.row.P.Denot in
     let input : Input = c.args.input.now in
     let old : MakerTold = g.M.PageMaker.told c.args.pages.now in
-    let Calls : MakerTold → List ModuleInfo → Type 0 = λ maker modules. AreMadeCalls input.tunables maker.page modules c.in-Ok-make_calls.calls.items in
+    let Calls : MakerTold → List ModuleInfo → Type 0 = λ maker modules. c.in-Ok-make_calls.calls.items ≡ calls_made input.tunables maker.page 0 modules in
     let Own : MakerTold → Type 0 = λ m. images_listed input.tunables m.page 0 m.listed c.as_slice.result.now ≡ false in
     let own : Own old = subst Own c.in-Ok.ensures.same c.in-Ok-make_calls.ensures.own in
     let Regions : MakerTold → Type 0 = λ m. IfSome m.plan (λ p. list_any (region_listed p) (makings_of input.config.limits.total_memories) ≡ false) in
@@ -58,8 +58,6 @@ returns-in-Ok-over-clause-made g c =
     let made : Made (record { core = c.in-Ok.core; modules = c.in-Ok-make_calls.calls.items; parties = parties_made c.in-Ok.core.settings c.as_slice-parties.result.now }) =
     record {
       made = c.in-Ok.ensures.made;
-      core = c.in-Ok.ensures.core;
-      untouched = c.in-Ok.ensures.untouched;
       calls = subst (λ maker. Calls maker input.modules) c.in-Ok.ensures.same (subst (Calls (g.M.PageMaker.told c.make_pool.new.pages)) c.as_slice.ensures c.in-Ok-make_calls.ensures.calls);
       own = nothing_listed input c.as_slice.result.now old.page (Some old.listed) c.as_slice.ensures c.requires.1.1.1.1.1 c.in-Ok.ensures.own own;
       unlisted = nothing_listed input c.as_slice.result.now old.page old.plan c.as_slice.ensures c.requires.1.1.1.1.1 regions images;

@@ -2,7 +2,7 @@ use Rattle.std.proofs.Common.{rules, ◌≡◌, ℕ, ◌<◌, List, length, Some
 use Rattle.std.specs.Prelude.{slice_get, slice_index_or}
 use Rattle.std.proofs.lemmas.Option.{slice_get-get_or}
 use Rattle.pool_alloc.specs.Reserved.{Reserved}
-use Rattle.pool_alloc.specs.declared.frame.ModuleCall.{ModuleCall}
+use Rattle.pool_alloc.specs.Asked.{ModuleAsked}
 use Rattle.pool_run.specs.Folds.{RunState, commands_of}
 use Rattle.pool_run.specs.Progress.{IsRunOf}
 use Rattle.pool_run.specs.Turns.{Turned, Turns}
@@ -30,7 +30,7 @@ turn_of-requires g c κs within =
     let q : Party = c.index-parties-party.result in
     let same : commands ≡ commands_of g.before.of.inputs i = c.as_slice-commands.ensures ∙ commands_read g.before.of.inputs given c.as_slice-parties.result.now i q run.inputs c.as_slice-parties.ensures c.requires.1.1 in
     let take = can_take g.before.of given commands i p s run c.self.invariant.0 there same in
-    let M : List ModuleCall → Type 0 = λ modules. AreFit s.core.settings modules × NameModules (length modules) commands in
+    let M : List ModuleAsked → Type 0 = λ modules. AreFit s.core.settings modules × NameModules (length modules) commands in
     let modules : M c.as_slice-modules.result.now = subst M (sym c.as_slice-modules.ensures.value) (take.calls, take.named) in
     let x : Reserved ℕ = c.index_mut-slots.result.now in
     let R : RunningParty P → Reserved ℕ → Type 0 = λ q slots. IsReserved q.frame slots in
@@ -51,7 +51,7 @@ invariant_of-self g c =
     let q : Party = c.index-parties-party.result in
     let same : commands ≡ commands_of g.before.of.inputs i = c.as_slice-commands.ensures ∙ commands_read g.before.of.inputs given c.as_slice-parties.result.now i q run.inputs c.as_slice-parties.ensures c.requires.1.1 in
     let t : Turned P = record { core = c.turn_of.new.core; party = c.turn_of.new.party; reply = c.turn_of.result } in
-    let T : List ModuleCall → Type 0 = λ modules. Turns modules commands s.core p t in
+    let T : List ModuleAsked → Type 0 = λ modules. Turns modules commands s.core p t in
     let after = turn_after g.before.of given commands i p s t run c.self.invariant.0 there same (subst T c.as_slice-modules.ensures.value c.turn_of.ensures.turn) in
     (after.kept, turned_reserved s.parties c.self.inside.slots.items i t.party c.turn_of.new.slots below c.self.invariant.1 c.turn_of.ensures.reserved)
 
@@ -69,6 +69,6 @@ returns g c =
     let q : Party = c.index-parties-party.result in
     let same : commands ≡ commands_of g.before.of.inputs i = c.as_slice-commands.ensures ∙ commands_read g.before.of.inputs given c.as_slice-parties.result.now i q run.inputs c.as_slice-parties.ensures c.requires.1.1 in
     let t : Turned P = record { core = c.turn_of.new.core; party = c.turn_of.new.party; reply = c.turn_of.result } in
-    let T : List ModuleCall → Type 0 = λ modules. Turns modules commands s.core p t in
+    let T : List ModuleAsked → Type 0 = λ modules. Turns modules commands s.core p t in
     let after = turn_after g.before.of given commands i p s t run c.self.invariant.0 there same (subst T c.as_slice-modules.ensures.value c.turn_of.ensures.turn) in
     rw (← c.self.view_is) (record { turn = after.turn; run = after.run; advances = after.advances })

@@ -1,0 +1,63 @@
+-- A call that ends leaves nothing of itself in its frame.
+use Rattle.std.proofs.Common.{◌≡◌, ℕ, Bool, true, false, List, [], ◌∷◌, length, Option, None, refl, sym, ap, ◌∙◌, is_some}
+use Rattle.std.specs.Prelude.{nat_lt, if◌then◌else◌}
+use Rattle.pool_alloc.specs.Asked.{ModuleAsked}
+use Rattle.pool_alloc.specs.Leases.{Lease}
+use Rattle.pool_alloc.specs.Stepping.{is_idle}
+use Rattle.pool_alloc.specs.Steps.{memories_wanted}
+use Rattle.pool_alloc.specs.Turns.{Turn, goes, ends, next, flush, search, Row, Left, failing, returned_next, granted_next, next_by, is_flushed, no_slot_left, after, stepped}
+use Rattle.pool_alloc.specs.declared.frame.Ending.{Ending}
+use Rattle.pool_alloc.specs.declared.frame.Ending.TheVariants.{Granted as granted, Returned as returned, Refused as refused}
+use Rattle.pool_alloc.specs.declared.frame.Frame.{Frame}
+use Rattle.pool_alloc.specs.declared.frame.Phase.{Phase}
+use Rattle.pool_alloc.specs.declared.frame.Phase.TheVariants.{Idle}
+use Rattle.pool_alloc.specs.declared.pool_core.PoolCore.{PoolCore}
+use Rattle.pool_alloc.specs.declared.pool_core.Settings.{Settings}
+
+-- nothing is left of a call
+pub record IsClear (asked : Option ModuleAsked) (ending : Ending) (queues : ℕ) : Type 0 where
+  pub asked_for : asked ≡ None
+  pub aim : ending ≡ returned
+  pub none_taken : queues ≡ 0
+
+module _ {P : Type 0} where
+  -- where no call is under way
+  abbrev pub IsClearIdle : Frame P → Type 0
+  IsClearIdle f = is_idle f.phase ≡ true → IsClear f.asked f.ending f.queues
+
+  -- where a call ended
+  abbrev IsClearLeft : Left P → Type 0
+  IsClearLeft l = is_some l.outcome ≡ true → IsClear l.frame.asked l.frame.ending l.frame.queues
+
+  either_clear : (b : Bool) (x y : Left P) → IsClearLeft x → IsClearLeft y → IsClearLeft (if b then x else y)
+  either_clear true x y one other = one
+  either_clear false x y one other = other
+
+  returned_clear : (items : List Lease) (f : Frame P) → IsClearLeft (returned_next items f)
+  returned_clear [] f = λ e. absurd cc
+  returned_clear (lease ∷ rest) f = λ e. absurd cc
+
+  granted_clear : (f : Frame P) → IsClearLeft (granted_next f)
+  granted_clear f = either_clear (nat_lt (length f.objects.items) (length (memories_wanted f.asked))) _ _ (λ e. absurd cc) (λ e. record { asked_for = refl; aim = refl; none_taken = refl })
+
+  next_clear : (e : Ending) (f : Frame P) → IsClearLeft (next_by e f)
+  next_clear granted f = granted_clear f
+  next_clear returned f = returned_clear f.objects.items f
+  next_clear (refused e) f = returned_clear f.objects.items f
+
+  after_clear : (s : Settings) (f : Frame P) (t : Turn P) → IsClearLeft (after s f t)
+  after_clear s f (goes phase) = λ e. absurd cc
+  after_clear s f (ends outcome) = λ e. record { asked_for = refl; aim = refl; none_taken = refl }
+  after_clear s f next = next_clear f.ending f
+  after_clear s f flush = either_clear (is_flushed f) _ _ (next_clear f.ending f) (λ e. absurd cc)
+  after_clear s f search = either_clear (nat_lt f.queues s.queues) _ _ (λ e. absurd cc) (returned_clear f.objects.items (failing (no_slot_left s f) f))
+
+  -- So a frame is after a step, where it answers.
+  pub stepped_clear : (r : Row (PoolCore P) P) → is_some (stepped r).outcome ≡ true → IsClear (stepped r).frame.asked (stepped r).frame.ending (stepped r).frame.queues
+  stepped_clear r some = after_clear r.part.settings r.frame r.turn some
+
+  -- Such a frame is what the end of a request leaves of it.
+  pub clear_is : (f : Frame P) → f.phase ≡ Idle → IsClear f.asked f.ending f.queues → record f { phase = Idle; asked = None; ending = returned; queues = 0 } ≡ f
+  clear_is f idle clear =
+      ap (λ (x : Phase P). record f { phase = x; asked = None; ending = returned; queues = 0 }) (sym idle) ∙ ap (λ (o : Option ModuleAsked). record f { asked = o; ending = returned; queues = 0 }) (sym clear.asked_for)
+      ∙ ap (λ (e : Ending). record f { ending = e; queues = 0 }) (sym clear.aim) ∙ ap (λ (n : ℕ). record f { queues = n }) (sym clear.none_taken)

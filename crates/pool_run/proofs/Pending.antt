@@ -1,0 +1,145 @@
+-- A request that passed its test is never refused for want of memory.
+use Rattle.std.proofs.Common.{◌≡◌, ◌≢◌, ℕ, ◌^◌, Bool, true, false, Option, Some, None, Result, Ok, Err, refl, sym, ap, ◌∙◌, subst, inl, inr, arith}
+use Rattle.std.specs.Prelude.{nat_le, nat_lt, if◌then◌else◌, slice_get}
+use Rattle.pool_pages.specs.MakerTold.{MakerTold}
+use Rattle.pool_pages.specs.MemoryTypes.{minimum_byte_size, allow_growth_to}
+use Rattle.pool_pages.specs.declared.module_types.MemoryType.{MemoryType}
+use Rattle.pool_pages.specs.declared.unsupported.Unsupported.{Unsupported}
+use Rattle.pool_pages.specs.declared.unsupported.Unsupported.TheVariants.{InitialSize, AddressSpace, MemoryMinimum}
+use Rattle.pool_images.specs.Slots.{Slot}
+use Rattle.pool_limits.specs.LimiterTold.{LimiterTold}
+use Rattle.pool_limits.specs.declared.errors.LimiterError.{LimiterError}
+use Rattle.pool_memory.specs.Making.{maximum_asked, limits_answer}
+use Rattle.pool_memory.specs.Memories.{MemoryState}
+use Rattle.pool_memory.specs.Static.{Static, static_capacity}
+use Rattle.pool_memory.specs.declared.memory_error.MemoryError.{MemoryError}
+use Rattle.pool_memory.specs.declared.memory_error.MemoryError.TheVariants as unmade
+use Rattle.pool_slots.specs.declared.errors.AllocError.{AllocError}
+use Rattle.pool_slots.specs.declared.errors.AllocError.TheVariants as refusal
+use Rattle.pool_alloc.specs.Own.{made_of, made_of_limits, made_for}
+use Rattle.pool_alloc.specs.Stages.{Progress, untested, uncounted, admitted, Stage, no_call, keys, asks, returning, refusing, stage_of, Raises, Goes}
+use Rattle.pool_alloc.specs.Steps.{memories_wanted}
+use Rattle.pool_alloc.specs.declared.frame.Frame.{Frame}
+use Rattle.pool_alloc.specs.declared.frame.Grant.{Grant}
+use Rattle.pool_alloc.specs.declared.frame.Grant.TheVariants.{Instance as instance}
+use Rattle.pool_alloc.specs.declared.frame.Outcome.{Outcome}
+use Rattle.pool_alloc.specs.declared.frame.Outcome.TheVariants as answer
+use Rattle.pool_alloc.specs.declared.pool_core.PoolCore.{PoolCore}
+use Rattle.pool_run.specs.Agreeing.{want_of_memory}
+use Rattle.pool_run.specs.Turns.{Turned, Steps, answered, granted_reply}
+use Rattle.pool_run.specs.Ties.{CanTurn}
+use Rattle.pool_run.specs.declared.reply.Reply.{Reply}
+use Rattle.pool_run.specs.declared.reply.Refusal.TheVariants.{Alloc}
+use Rattle.pool_run.specs.declared.reply.Reply.TheVariants.{Refused}
+use Rattle.pool_run.specs.declared.running_party.RunningParty.{RunningParty}
+use Rattle.pool_run.proofs.Parties.{can_step}
+use Rattle.pool_run.proofs.SameSteps.{at_place, get_there}
+use Rattle.pool_run.proofs.Stepped.{IsStepped, stepped}
+
+-- a memory isn't made for want of memory
+abbrev finds_none : Result MemoryState AllocError → Bool
+finds_none (Err refusal.Memory) = true
+finds_none _ = false
+
+made_finds : (b : Bool) (ty : MemoryType) (m : Static) (held : Slot) (u : Unsupported) → finds_none (made_of ty (if b then Ok m else Err (held, u))) ≡ false
+made_finds true ty m held u = refl
+made_finds false ty m held u = refl
+
+limits_find : (b allowed : Bool) (ty : MemoryType) (room : ℕ) (held : Slot)
+    → (let limits : Result (ℕ × Option ℕ) MemoryError = if b then (if allowed then Ok (minimum_byte_size ty, maximum_asked ty) else Err (unmade.Unsupported AddressSpace)) else Err (unmade.Unsupported (MemoryMinimum ty.limits.min)) in finds_none (made_of_limits limits ty room held) ≡ false)
+limits_find true true ty room held = made_finds (nat_le (minimum_byte_size ty) room) ty (record { slot = held; size = minimum_byte_size ty; capacity = static_capacity room (maximum_asked ty) }) held InitialSize
+limits_find true false ty room held = refl
+limits_find false allowed ty room held = refl
+
+answer_finds : (given : Result Bool LimiterError) (ty : MemoryType) (room : ℕ) (held : Slot) → finds_none (made_of_limits (limits_answer given ty) ty room held) ≡ false
+answer_finds (Err e) ty room held = refl
+answer_finds (Ok false) ty room held = refl
+answer_finds (Ok true) ty room held = limits_find (nat_lt (minimum_byte_size ty) (2 ^ 64)) (allow_growth_to ty (minimum_byte_size ty)) ty room held
+
+not_memory : (made : Result MemoryState AllocError) (e : AllocError) → finds_none made ≡ false → made ≡ Err e → e ≢ refusal.Memory
+not_memory made e finds is memory =
+    let wrong : false ≡ true = sym finds ∙ ap finds_none (is ∙ ap (λ (x : AllocError). Err x) memory) in
+    absurd cc
+
+refused_once : (e : AllocError) → Refused (Alloc e) ≡ want_of_memory → e ≡ refusal.Memory
+refused_once e is = cc
+
+-- the request passed its test, or is to be refused for another cause
+abbrev pub IsPast : Stage → Type 0
+IsPast (asks untested) = ⊥
+IsPast (asks uncounted) = Unit {0}
+IsPast (asks (admitted n)) = Unit {0}
+IsPast (refusing e) = e ≢ refusal.Memory
+IsPast no_call = ⊥
+IsPast keys = ⊥
+IsPast returning = ⊥
+
+-- it stays so, or ends otherwise
+abbrev pub StaysPast : {P : Type 0} → Stage → Option (Outcome P) → Type 0
+StaysPast t None = IsPast t
+StaysPast t (Some answer.Key) = ⊥
+StaysPast t (Some (answer.Granted grant)) = Unit {0}
+StaysPast t (Some answer.Returned) = Unit {0}
+StaysPast t (Some (answer.Refused e)) = e ≢ refusal.Memory
+
+module _ {P : Type 0} (maker : MakerTold) (old new : LimiterTold) (c : PoolCore P) (f : Frame P) where
+  raised_past : (p : Progress) (e : AllocError) → IsPast (asks p) → Raises maker old new c f p e → e ≢ refusal.Memory
+  raised_past untested e past raises = absurd past
+  raised_past uncounted e past raises = λ is. let wrong = sym raises.0 ∙ is in absurd cc
+  raised_past (admitted n) e past raises =
+      elim raises [
+        | inl found ↦ λ is. let wrong = sym found.is ∙ is in absurd cc
+        | inr rest ↦
+            elim rest [
+              | inl fault ↦ λ is. let wrong = sym fault.is ∙ is in absurd cc
+              | inr makes ↦
+                  at_place (slice_get (memories_wanted f.asked) n) (get_there (memories_wanted f.asked) n (omega (arith, makes.number, makes.allocating.more)))
+                  (λ decl there.
+                  let made : made_for c.settings.max_memory_size makes.given makes.held (Some decl) ≡ Err e = ap (made_for c.settings.max_memory_size makes.given makes.held) (sym there) ∙ makes.is in
+                  not_memory (made_for c.settings.max_memory_size makes.given makes.held (Some decl)) e (answer_finds makes.given decl.ty c.settings.max_memory_size makes.held) made)
+            ]
+      ]
+
+  past_goes : (s t : Stage) (o : Option (Outcome P)) → Goes maker old new c f s t o → IsPast s → StaysPast t o
+  past_goes no_call t o goes past = absurd past
+  past_goes keys t o goes past = absurd past
+  past_goes returning t o goes past = absurd past
+  past_goes (asks untested) t o goes past = absurd past
+  past_goes (asks uncounted) (asks untested) None goes past = absurd goes
+  past_goes (asks uncounted) (asks uncounted) None goes past = absurd goes
+  past_goes (asks uncounted) (asks (admitted m)) None goes past = tt
+  past_goes (asks uncounted) (refusing e) None goes past = raised_past uncounted e past goes
+  past_goes (asks uncounted) no_call (Some (answer.Granted grant)) goes past = tt
+  past_goes (asks (admitted n)) (asks untested) None goes past = absurd goes
+  past_goes (asks (admitted n)) (asks uncounted) None goes past = absurd goes
+  past_goes (asks (admitted n)) (asks (admitted m)) None goes past = tt
+  past_goes (asks (admitted n)) (refusing e) None goes past = raised_past (admitted n) e past goes
+  past_goes (asks (admitted n)) no_call (Some (answer.Granted grant)) goes past = tt
+  past_goes (refusing e) (refusing d) None goes past = λ is. past (sym goes ∙ is)
+  past_goes (refusing e) no_call (Some (answer.Refused d)) goes past = λ is. past (sym goes ∙ is)
+  past_goes _ _ _ goes past = absurd goes
+
+-- the same of a turn and its reply
+abbrev pub PastReply : Option Reply → Stage → Type 0
+PastReply None s = IsPast s
+PastReply (Some r) s = r ≢ want_of_memory
+
+module _ {P : Type 0} where
+  granted_past : (grant : Grant P) → granted_reply grant ≢ want_of_memory
+  granted_past (instance lease) = λ is. absurd cc
+
+  answered_past : (o : Option (Outcome P)) (t : Stage) (c : PoolCore P) (p : RunningParty P) → t ≡ stage_of p.frame → StaysPast t o → PastReply (answered o c p).reply (stage_of (answered o c p).party.frame)
+  answered_past None t c p is past = subst IsPast is past
+  answered_past (Some answer.Key) t c p is past = absurd past
+  answered_past (Some (answer.Granted grant)) t c p is past = granted_past grant
+  answered_past (Some answer.Returned) t c p is past = λ e. absurd cc
+  answered_past (Some (answer.Refused e)) t c p is past = λ wants. past (refused_once e wants)
+
+  -- A step of such a request.
+  pub step_past : (maker : MakerTold) (c : PoolCore P) (p : RunningParty P) (t : Turned P) → CanTurn maker c p → IsPast (stage_of p.frame) → Steps c p t → PastReply t.reply (stage_of t.party.frame)
+  step_past maker c p t can past steps =
+      let by = steps.1 in
+      let on : IsStepped maker by.0 by.1 c p.frame steps.0 = stepped maker by.0 by.1 c p.frame steps.0 (can_step maker c p can) by.3 in
+      let stays = past_goes maker by.0 by.1 c p.frame (stage_of p.frame) (stage_of steps.0.frame) steps.0.outcome on.goes.way past in
+      subst (λ (x : Turned P). PastReply x.reply (stage_of x.party.frame)) (sym steps.2)
+      (answered_past steps.0.outcome (stage_of steps.0.frame) steps.0.core (record p { frame = steps.0.frame }) refl stays)

@@ -1,0 +1,87 @@
+-- A decommit of the first ranges of a queue has one outcome, where the slots' regions tell which calls on them fail.
+use Rattle.std.proofs.Common.{◌≡◌, ℕ, Bool, true, false, List, [], ◌∷◌, IsSome, refl, sym, ap, ◌∙◌, subst, All}
+use Rattle.std.specs.Prelude.{◌||◌, not}
+use Rattle.std.specs.List.{AllZip}
+use Rattle.std.proofs.lemmas.List.Elements.{All-head, All-tail}
+use Rattle.pool_pages.specs.MakerTold.{MakerTold}
+use Rattle.pool_images.specs.Slots.{Slot}
+use Rattle.pool_images.specs.declared.ranges.ByteRange.{ByteRange}
+use Rattle.pool_slots.specs.SlotOrders.{decommits, run_of, FollowsAt, AreInOrder}
+use Rattle.pool_slots.specs.SlotQueues.{Queued, Queue, same_slot, holds, HasOwners, first_slot, forgotten_slot, IsSlotLeft, IsLeftBy, IsFaulted}
+use Rattle.pool_slots.specs.declared.queued_range.QueuedRange.{QueuedRange}
+use Rattle.pool_slots.specs.declared.slot_name.SlotName.{SlotName}
+use Rattle.pool_slots.proofs.SlotNames.{slot_is}
+use Rattle.pool_alloc.specs.Answers.{Decommits, FollowsRun}
+use Rattle.pool_alloc.specs.Sound.{IsQueuedOf, IsLocal}
+use Rattle.pool_alloc.specs.declared.pool_core.Settings.{Settings}
+use Rattle.pool_run.proofs.SameMoves.{slot_planned}
+use Rattle.pool_run.proofs.SameSlots.{follow_same, not_same, forgotten_same}
+
+-- the slots of a pool, on which a run of ranges of the one with this name is decommitted
+module _ (maker : MakerTold) (s : Settings) (planned : IsSome maker.plan) (name : SlotName) (ranges : List ByteRange) where
+  abbrev Is : Queued → Type 0
+  Is m = IsQueuedOf maker s.behaviour s.max_memory_size m
+
+  -- calls on it fail both times, or neither
+  fault_here : (a b : Bool) (m new other : Queued) → Is m → same_slot name m.name ≡ true → FollowsAt name ranges (not a) m new → FollowsAt name ranges (not b) m other → (not a ≡ not b) × (new.slot.region ≡ other.slot.region)
+  fault_here a b m new other is here one two =
+      let named : m.name ≡ name = sym (slot_is name m.name here) in
+      follow_same (decommits m.slot.base.bytes ranges) (not a) (not b) m.slot.region new.slot.region other.slot.region (slot_planned maker s m.name.slot m.slot planned is.slot) (one named) (two named)
+
+  fault_by : (v : Bool) (a b : Bool) (m new other : Queued) (ms : List Queued) → same_slot name m.name ≡ v → (v || holds name ms) ≡ true → Is m → FollowsAt name ranges (not a) m new → FollowsAt name ranges (not b) m other → (holds name ms ≡ true → a ≡ b) → a ≡ b
+  fault_by true a b m new other ms here there is one two rest = not_same a b (fault_here a b m new other is here one two).0
+  fault_by false a b m new other ms here there is one two rest = rest there
+
+  fault_same : (a b : Bool) (old new other : List Queued) → All Is old → holds name old ≡ true → AreInOrder name ranges (not a) old new → AreInOrder name ranges (not b) old other → a ≡ b
+  fault_same a b [] new other are there one two = absurd cc
+  fault_same a b (m ∷ ms) [] other are there one two = absurd one
+  fault_same a b (m ∷ ms) (n ∷ ns) [] are there one two = absurd two
+  fault_same a b (m ∷ ms) (n ∷ ns) (o ∷ os) are there one two =
+      fault_by (same_slot name m.name) a b m n o ms refl there (All-head Is m ms are) one.0 two.0 (λ rest. fault_same a b ms ns os (All-tail Is m ms are) rest one.1 two.1)
+
+  -- what is left of each slot then
+  left_by : (v : Bool) (m : Queued) (new other : Slot) → same_slot name m.name ≡ v → Is m → IsSlotLeft v (forgotten_slot m.name.kind m.slot) new → IsSlotLeft v (forgotten_slot m.name.kind m.slot) other → (v ≡ true → new.region ≡ other.region) → forgotten_slot m.name.kind new ≡ forgotten_slot m.name.kind other
+  left_by true m new other here is one two region =
+      subst (λ k. forgotten_slot k new ≡ forgotten_slot k other) (sym is.kind) (forgotten_same (forgotten_slot m.name.kind m.slot) new other one two (region refl))
+  left_by false m new other here is one two region = ap (forgotten_slot m.name.kind) (one ∙ sym two)
+
+  left_same : (old new other : List Queued) → All Is old → AreInOrder name ranges false old new → AreInOrder name ranges false old other → AllZip (IsLeftBy name) old new → AllZip (IsLeftBy name) old other → new ≡ other
+  left_same [] [] [] are one two left right = refl
+  left_same [] [] (o ∷ os) are one two left right = absurd two
+  left_same [] (n ∷ ns) other are one two left right = absurd one
+  left_same (m ∷ ms) [] other are one two left right = absurd one
+  left_same (m ∷ ms) (n ∷ ns) [] are one two left right = absurd two
+  left_same (m ∷ ms) (n ∷ ns) (o ∷ os) are one two left right =
+      let is : Is m = All-head Is m ms are in
+      let region : same_slot name m.name ≡ true → n.slot.region ≡ o.slot.region = λ here. (fault_here true true m n o is here one.0 two.0).1 in
+      let slot : forgotten_slot m.name.kind n.slot ≡ forgotten_slot m.name.kind o.slot = left_by (same_slot name m.name) m n.slot o.slot refl is left.0.slot right.0.slot region in
+      let here : n ≡ o = left.0.same ∙ ap (λ (x : Slot). record m { slot = x; known = false }) slot ∙ sym right.0.same in
+      ap (λ (x : Queued). x ∷ ns) here ∙ ap (λ (xs : List Queued). o ∷ xs) (left_same ms ns os (All-tail Is m ms are) one.1 two.1 left.1 right.1)
+
+-- the first range is of a slot that the queue holds
+first_held : (ranges : List QueuedRange) (slots : List Queued) → (ranges ≡ [] → ⊥) → HasOwners (record { ranges = ranges; slots = slots; range_room = 0; slot_room = 0; takes = 0; appended = 0 }) → holds (first_slot ranges) slots ≡ true
+first_held [] slots some owners = absurd (some refl)
+first_held (r ∷ rs) slots some owners = owners.0
+
+faulted_same : (maker : MakerTold) (s : Settings) (local new other : Queue) → IsSome maker.plan → IsLocal maker s local → FollowsRun true local new → FollowsRun true local other → IsFaulted local new → IsFaulted local other → new ≡ other
+faulted_same maker s local new other planned is one two left right =
+    let Q : List QueuedRange → List Queued → ℕ → ℕ → ℕ → ℕ → Queue = λ rs ms a b c d. record { ranges = rs; slots = ms; range_room = a; slot_room = b; takes = c; appended = d } in
+    let slots : new.slots ≡ other.slots = left_same maker s planned (first_slot local.ranges) (run_of (first_slot local.ranges) local.ranges) local.slots new.slots other.slots is.regions one two left.slots right.slots in
+    ap (λ (rs : List QueuedRange). Q rs new.slots new.range_room new.slot_room new.takes new.appended) (left.ranges ∙ sym right.ranges)
+    ∙ ap (λ (ms : List Queued). Q other.ranges ms new.range_room new.slot_room new.takes new.appended) slots
+    ∙ ap (λ (n : ℕ). Q other.ranges other.slots n new.slot_room new.takes new.appended) (left.range_room ∙ sym right.range_room)
+    ∙ ap (λ (n : ℕ). Q other.ranges other.slots other.range_room n new.takes new.appended) (left.slot_room ∙ sym right.slot_room)
+    ∙ ap (λ (n : ℕ). Q other.ranges other.slots other.range_room other.slot_room n new.appended) (left.takes ∙ sym right.takes)
+    ∙ ap (Q other.ranges other.slots other.range_room other.slot_room other.takes) (left.appended ∙ sym right.appended)
+
+decommitted : (maker : MakerTold) (s : Settings) (a b : Bool) (local new other : Queue) → IsSome maker.plan → IsLocal maker s local → a ≡ b → Decommits a local new → Decommits b local other → FollowsRun a local new → FollowsRun b local other → new ≡ other
+decommitted maker s true true local new other planned is same left right one two = faulted_same maker s local new other planned is one two left right
+decommitted maker s false false local new other planned is same left right one two = left ∙ sym right
+decommitted maker s true false local new other planned is same left right one two = absurd cc
+decommitted maker s false true local new other planned is same left right one two = absurd cc
+
+-- The next ranges of one slot are decommitted.
+pub decommit_same : (maker : MakerTold) (s : Settings) (a b : Bool) (local new other : Queue) → IsSome maker.plan → IsLocal maker s local → (local.ranges ≡ [] → ⊥) → Decommits a local new → Decommits b local other → FollowsRun a local new → FollowsRun b local other → new ≡ other
+decommit_same maker s a b local new other planned is some left right one two =
+    let same : a ≡ b = fault_same maker s planned (first_slot local.ranges) (run_of (first_slot local.ranges) local.ranges) a b local.slots new.slots other.slots is.regions (first_held local.ranges local.slots some is.owners) one two in
+    decommitted maker s a b local new other planned is same left right one two

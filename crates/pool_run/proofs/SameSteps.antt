@@ -1,0 +1,232 @@
+-- A step of a call has one outcome, where the maker tells what its regions hold and which of their calls fail, and there is
+-- memory for what is asked.
+use Rattle.std.proofs.Common.{◌≡◌, ℕ, zero, suc, ◌<◌, Bool, true, false, List, [], ◌∷◌, length, Option, Some, None, IsSome, Result, inl, inr, refl, sym, ap, ◌∙◌, subst, arith, is_some}
+use Rattle.std.specs.Prelude.{◌==◌, if◌then◌else◌, IfSome, not, slice_get}
+use Rattle.std.proofs.lemmas.Bool.{ne_eqb}
+use Rattle.pool_pages.specs.Count.{rounded_up}
+use Rattle.pool_pages.specs.MakerTold.{MakerTold}
+use Rattle.pool_pages.specs.MemoryTypes.{minimum_byte_size}
+use Rattle.pool_pages.specs.declared.pages.DecommitBehavior.{DecommitBehavior}
+use Rattle.pool_pages.specs.declared.pages.DecommitBehavior.TheVariants.{Zero, RestoreOriginalMapping}
+use Rattle.pool_images.specs.Images.{Image}
+use Rattle.pool_images.specs.Orders.{Follows, wiping, resizing, replacing, resetting, set_by_hand}
+use Rattle.pool_images.specs.Slots.{Slot, hides, reused, replaced, forgotten}
+use Rattle.pool_limits.specs.Growth.{GrowthRule}
+use Rattle.pool_limits.specs.LimiterTold.{LimiterTold}
+use Rattle.pool_limits.specs.declared.errors.LimiterError.{LimiterError}
+use Rattle.pool_memory.specs.Making.{minimum_asked, maximum_asked}
+use Rattle.pool_memory.specs.Memories.{slot_of}
+use Rattle.pool_slots.specs.SlotQueues.{Queued, Queue}
+use Rattle.pool_slots.specs.declared.queued_range.QueuedRange.{QueuedRange}
+use Rattle.pool_slots.specs.declared.errors.AllocError.TheVariants as refusal
+use Rattle.pool_alloc.specs.Answers.{Empties, Resets, InstantiatesAs, InstantiatesFor, FollowsPlan, FollowsPlanFor, FollowsReset, AsksForMemory, FlushTold, FlushPlanned, MayBeTold, IsPlanned, AsksOf}
+use Rattle.pool_alloc.specs.Leases.{Lease, slot_taken}
+use Rattle.pool_alloc.specs.Refusals.{memories_refused}
+use Rattle.pool_alloc.specs.Rows.{FlushStep, run, put, free, flush_step, paged, make_memory_row, validated, was_reset, flush_row, row_of}
+use Rattle.pool_alloc.specs.Sound.{IsFrame, IsShapedAt, HasSlot}
+use Rattle.pool_alloc.specs.Stepping.{CanStep}
+use Rattle.pool_alloc.specs.Steps.{StepGiven, memories_wanted, image_wanted}
+use Rattle.pool_alloc.specs.Turns.{After, Row, goes, failing, stepped}
+use Rattle.pool_alloc.specs.declared.frame.Frame.{Frame}
+use Rattle.pool_alloc.specs.declared.frame.Phase.{Phase}
+use Rattle.pool_alloc.specs.declared.frame.Phase.TheVariants.{Idle, Validate, Empty, Instantiate, MakeMemory, PutUnknown, Reset, Flush}
+use Rattle.pool_alloc.specs.declared.frame.TakenSlot.{TakenSlot}
+use Rattle.pool_alloc.specs.declared.pool_core.PoolCore.{PoolCore}
+use Rattle.pool_run.specs.Turns.{StepsUnder}
+use Rattle.pool_run.proofs.Moves.{answer_told}
+use Rattle.pool_run.proofs.SameFlushes.{decommit_same}
+use Rattle.pool_run.proofs.SameMoves.{slot_planned, slot_tells}
+use Rattle.pool_run.proofs.SameSlots.{follow_same, not_same, forgotten_same, one_way}
+
+-- what holds of the element at a place that is there
+pub at_place : {X A : Type 0} (o : Option X) → IsSome o → ((x : X) → o ≡ Some x → A) → A
+at_place None some each = absurd cc
+at_place (Some x) some each = each x refl
+
+held_of : {X : Type 0} (A : X → Type 0) (o : Option X) (x : X) → o ≡ Some x → IfSome o A → A x
+held_of A o x is h = subst (λ y. IfSome y A) is h
+
+pub get_there : {X : Type 0} (xs : List X) (n : ℕ) → n < length xs → IsSome (slice_get xs n)
+get_there [] n below = absurd (omega (arith, below))
+get_there (x ∷ xs) zero below = refl
+get_there (x ∷ xs) (suc n) below = get_there xs n (omega (arith, below))
+
+-- What a page call leaves of a slot: it failed both times, or neither, and what is left is the same so far as it is read.
+pub record IsSameSlot (a b : Bool) (new other : Slot) : Type 0 where
+  pub fault : a ≡ b
+  pub left : a ≡ true → forgotten new ≡ forgotten other
+  pub is : a ≡ false → new ≡ other
+
+emptied_by : (a b : Bool) (old new other : Slot) → a ≡ b → new.region ≡ other.region → Empties a old new → Empties b old other → IsSameSlot a b new other
+emptied_by true true old new other same region one two = record { fault = refl; left = λ e. forgotten_same old new other one two region; is = λ e. absurd cc }
+emptied_by false false old new other same region one two = record { fault = refl; left = λ e. absurd cc; is = λ e. one.0 ∙ sym two.0 }
+emptied_by true false old new other same region one two = absurd cc
+emptied_by false true old new other same region one two = absurd cc
+
+emptied_same : (a b : Bool) (old new other : Slot) → IsSome old.region.plan → Empties a old new → Empties b old other → Follows (wiping old) (not a) old.region new.region → Follows (wiping old) (not b) old.region other.region → IsSameSlot a b new other
+emptied_same a b old new other planned one two way also =
+    let both = follow_same (wiping old) (not a) (not b) old.region new.region other.region planned way also in
+    emptied_by a b old new other (not_same a b both.0) both.1 one two
+
+-- one that is instantiated
+module _ (initial : ℕ) (hide : Bool) (image : Option Image) (old : Slot) (tells : is_some old.region.contents ≡ true) (planned : IsSome old.region.plan) where
+  instantiated_by : (a b : Bool) (new other : Slot) → a ≡ b → new.region ≡ other.region → InstantiatesAs a initial hide image old new → InstantiatesAs b initial hide image old other → IsSameSlot a b new other
+  instantiated_by true true new other same region one two = record { fault = refl; left = λ e. forgotten_same old new other one two region; is = λ e. absurd cc }
+  instantiated_by false false new other same region one two =
+      let size : ℕ = rounded_up old.region.page initial in
+      record {
+        fault = refl;
+        left = λ e. absurd cc;
+        is = λ e.
+            elim (one_way image old (new ≡ reused size hide old) (new ≡ replaced size hide image old) (other ≡ reused size hide old) (other ≡ replaced size hide image old) tells one.slot two.slot) [
+              | inl has ↦ has.0 ∙ sym has.1
+              | inr hasnt ↦ hasnt.0 ∙ sym hasnt.1
+            ];
+      }
+  instantiated_by true false new other same region one two = absurd cc
+  instantiated_by false true new other same region one two = absurd cc
+
+  planned_same : (a b : Bool) (new other : Slot) → FollowsPlan initial hide image a old new → FollowsPlan initial hide image b old other → (not a ≡ not b) × (new.region ≡ other.region)
+  planned_same a b new other way also =
+      let size : ℕ = rounded_up old.region.page initial in
+      elim (one_way image old (Follows (resizing size hide old) (not a) old.region new.region) (Follows (replacing size hide image old) (not a) old.region new.region) (Follows (resizing size hide old) (not b) old.region other.region) (Follows (replacing size hide image old) (not b) old.region other.region) tells way also) [
+        | inl has ↦ follow_same (resizing size hide old) (not a) (not b) old.region new.region other.region planned has.0 has.1
+        | inr hasnt ↦ follow_same (replacing size hide image old) (not a) (not b) old.region new.region other.region planned hasnt.0 hasnt.1
+      ]
+
+  instantiated_same : (a b : Bool) (new other : Slot) → InstantiatesAs a initial hide image old new → InstantiatesAs b initial hide image old other → FollowsPlan initial hide image a old new → FollowsPlan initial hide image b old other → IsSameSlot a b new other
+  instantiated_same a b new other one two way also =
+      let both = planned_same a b new other way also in
+      instantiated_by a b new other (not_same a b both.0) both.1 one two
+
+-- and one that is reset
+set_planned : (behaviour : DecommitBehavior) (keep : ℕ) (s : Slot) → IsSome s.region.plan → IsSome (set_by_hand behaviour keep s).plan
+set_planned RestoreOriginalMapping keep s planned = planned
+set_planned Zero keep s planned = planned
+
+reset_by : (a b : Bool) (keep : ℕ) (at : TakenSlot) (old new other : Slot) → a ≡ b → new.region ≡ other.region → Resets a keep at old new → Resets b keep at old other → IsSameSlot a b new other
+reset_by true true keep at old new other same region one two = record { fault = refl; left = λ e. forgotten_same old new other one.1 two.1 region; is = λ e. absurd cc }
+reset_by false false keep at old new other same region one two = record { fault = refl; left = λ e. absurd cc; is = λ e. one.0 ∙ sym two.0 }
+reset_by true false keep at old new other same region one two = absurd cc
+reset_by false true keep at old new other same region one two = absurd cc
+
+reset_same : (a b : Bool) (keep : ℕ) (at : TakenSlot) (old new other : Slot) → IsSome old.region.plan → Resets a keep at old new → Resets b keep at old other → FollowsReset keep a old new → FollowsReset keep b old other → IsSameSlot a b new other
+reset_same a b keep at old new other planned one two way also =
+    let by : DecommitBehavior = old.region.behaviour in
+    let both = follow_same (resetting by old) (not a) (not b) (set_by_hand by keep old) new.region other.region (set_planned by keep old planned) way also in
+    reset_by a b keep at old new other (not_same a b both.0) both.1 one two
+
+-- a queue has ranges where they are decommitted
+abbrev is_run : FlushStep → Bool
+is_run run = true
+is_run put = false
+is_run free = false
+
+no_run : (slots : List Queued) → (if length slots == 0 then free else put) ≡ run → ⊥
+no_run [] is = let wrong : false ≡ true = ap is_run is in absurd cc
+no_run (m ∷ ms) is =
+    let none : (length (m ∷ ms) == 0) ≡ false = ne_eqb (length (m ∷ ms)) 0 (λ e. omega (arith, e)) in
+    let wrong : false ≡ true = ap (λ (b : Bool). is_run (if b then free else put)) (sym none) ∙ ap is_run is in
+    absurd cc
+
+runs_some : (local : Queue) (step : FlushStep) → flush_step local ≡ step → step ≡ run → local.ranges ≡ [] → ⊥
+runs_some local step is runs none =
+    let Step : List QueuedRange → FlushStep = λ rs. flush_step (record local { ranges = rs }) in
+    no_run local.slots (ap Step (sym none) ∙ is ∙ runs)
+
+module _ {P : Type 0} (c : PoolCore P) (f : Frame P) where
+  -- The rows under what comes of these.
+  paged_same : (a b : Bool) (at : TakenSlot) (goes_on : Slot → Phase P) (new other : Slot) → IsSameSlot a b new other → paged a at new (goes_on new) c f ≡ paged b at other (goes_on other) c f
+  paged_same true true at goes_on new other same = ap (λ (s : Slot). record { part = c; frame = failing refusal.PageFault f; turn = goes (PutUnknown at s) }) (same.left refl)
+  paged_same false false at goes_on new other same = ap (λ (s : Slot). record { part = c; frame = f; turn = goes (goes_on s) }) (same.is refl)
+  paged_same true false at goes_on new other same = let wrong : true ≡ false = same.fault in absurd cc
+  paged_same false true at goes_on new other same = let wrong : false ≡ true = same.fault in absurd cc
+
+  was_reset_same : (a b : Bool) (lease : Lease) (new other : Slot) → IsSameSlot a b new other → was_reset a new lease c f ≡ was_reset b other lease c f
+  was_reset_same true true lease new other same = ap (λ (s : Slot). record { part = c; frame = f; turn = goes (PutUnknown (slot_taken lease) s) }) (same.left refl)
+  was_reset_same false false lease new other same = refl
+  was_reset_same true false lease new other same = let wrong : true ≡ false = same.fault in absurd cc
+  was_reset_same false true lease new other same = let wrong : false ≡ true = same.fault in absurd cc
+
+-- a request's test: there alone memory may be wanting
+abbrev pub is_test : {P : Type 0} → Phase P → Bool
+is_test Validate = true
+is_test _ = false
+
+-- a step of a call over a pool whose maker tells what its regions hold, and which of their calls fail
+module _ {P : Type 0} (maker : MakerTold) (tells : maker.tells ≡ true) (planned : IsSome maker.plan) (by : GrowthRule) (c : PoolCore P) (f : Frame P) (frame : IsFrame maker c.settings f) where
+  -- the frame as the row has it
+  abbrev bare : Frame P
+  bare = record f { phase = Idle }
+
+  -- what is given in this phase
+  pub record IsGivenAt (g : StepGiven) (phase : Phase P) : Type 0 where
+    pub old : LimiterTold
+    pub new : LimiterTold
+    pub rule : old.rule ≡ Some by
+    pub told : MayBeTold c.settings g phase f
+    pub plan : IsPlanned c.settings g phase f
+    pub limiter : AsksOf old new g phase f
+
+  with_plan : (at : ℕ) (held : Slot) → HasSlot maker c.settings at held → IsSome held.region.plan
+  with_plan at held has = slot_planned maker c.settings at held planned has.region
+
+  allocated : length f.objects.items < length (memories_wanted f.asked) → IsSome (slice_get (memories_wanted f.asked) (length f.objects.items))
+  allocated more = get_there (memories_wanted f.asked) (length f.objects.items) more
+
+  flushed_same : (step : FlushStep) (g h : StepGiven) → flush_step f.local ≡ step → FlushTold step g f.local → FlushTold step h f.local → FlushPlanned step g f.local → FlushPlanned step h f.local → flush_row step g.queue c bare ≡ flush_row step h.queue c bare
+  flushed_same run g h is left right one two =
+      ap (λ (q : Queue). flush_row {P = P} run q c bare) (decommit_same maker c.settings g.fault h.fault f.local g.queue h.queue planned frame.queue (runs_some f.local run is refl) left right one two)
+  flushed_same put g h is left right one two = refl
+  flushed_same free g h is left right one two = refl
+
+  row_same : (g h : StepGiven) (phase : Phase P) → is_test phase ≡ false → IsShapedAt maker c.settings phase f → IsGivenAt g phase → IsGivenAt h phase → row_of g phase c bare ≡ row_of h phase c bare
+  row_same g h Validate test shape one two = absurd cc
+  row_same g h (Empty at held) test shape one two =
+      paged_same c bare g.fault h.fault at (λ s. Instantiate at s) g.slot h.slot (emptied_same g.fault h.fault held g.slot h.slot (with_plan at.slot held shape.2) one.told two.told one.plan two.plan)
+  row_same g h (Instantiate at held) test shape one two =
+      let image : Option Image = image_wanted f in
+      at_place (slice_get (memories_wanted f.asked) (length f.objects.items)) (allocated shape.1.more)
+      (λ decl there.
+      let Told : StepGiven → Type 0 = λ x. InstantiatesFor c.settings decl x.fault image held x.slot in
+      let Plan : StepGiven → Type 0 = λ x. FollowsPlanFor c.settings decl x.fault image held x.slot in
+      let first : Told g = held_of (λ d. InstantiatesFor c.settings d g.fault image held g.slot) _ decl there one.told in
+      let second : Told h = held_of (λ d. InstantiatesFor c.settings d h.fault image held h.slot) _ decl there two.told in
+      let way : Plan g = held_of (λ d. FollowsPlanFor c.settings d g.fault image held g.slot) _ decl there one.plan in
+      let also : Plan h = held_of (λ d. FollowsPlanFor c.settings d h.fault image held h.slot) _ decl there two.plan in
+      paged_same c bare g.fault h.fault at (λ s. MakeMemory at s) g.slot h.slot
+      (instantiated_same (minimum_byte_size decl.ty) (hides decl.ty c.settings.tunables held.region.page) image held (slot_tells maker c.settings at.slot held tells shape.2.region) (with_plan at.slot held shape.2) g.fault h.fault g.slot h.slot first second way also))
+  row_same g h (MakeMemory at held) test shape one two =
+      at_place (slice_get (memories_wanted f.asked) (length f.objects.items)) (allocated shape.1.more)
+      (λ decl there.
+      let first : AsksForMemory g.limiter one.old one.new decl = held_of (AsksForMemory g.limiter one.old one.new) _ decl there one.limiter in
+      let second : AsksForMemory h.limiter two.old two.new decl = held_of (AsksForMemory h.limiter two.old two.new) _ decl there two.limiter in
+      let least : ℕ = minimum_asked decl.ty in
+      let most : Option ℕ = maximum_asked decl.ty in
+      let same : g.limiter ≡ h.limiter = answer_told by one.old.rule g.limiter least most one.rule first.answer ∙ sym (answer_told by two.old.rule h.limiter least most two.rule second.answer) in
+      ap (λ (r : Result Bool LimiterError). make_memory_row r at held c bare) same)
+  row_same g h (Reset lease) test shape one two =
+      was_reset_same c bare g.fault h.fault lease g.slot h.slot
+      (reset_same g.fault h.fault c.settings.keep_resident.bytes (slot_taken lease) (slot_of lease.memory) g.slot h.slot (slot_planned maker c.settings lease.index (slot_of lease.memory) planned shape.2.slot) one.told two.told one.plan two.plan)
+  row_same g h Flush test shape one two = flushed_same (flush_step f.local) g h refl one.told two.told one.plan two.plan
+  row_same g h _ test shape one two = refl
+
+module _ {P : Type 0} where
+  -- A step that is no test,
+  pub step_same : (maker : MakerTold) → maker.tells ≡ true → IsSome maker.plan → (rule : GrowthRule) (c : PoolCore P) (f : Frame P) (a b : After P) → CanStep maker c f → is_test f.phase ≡ false → StepsUnder rule c f a → StepsUnder rule c f b → a ≡ b
+  step_same maker tells planned rule c f a b can test one two =
+      let left = one.3 in
+      let right = two.3 in
+      let same = row_same maker tells planned rule c f can.frame left.0 right.0 f.phase test can.frame.shape
+      (record { old = one.0; new = one.1; rule = one.2; told = left.1.told; plan = left.1.planned; limiter = left.1.limiter })
+      (record { old = two.0; new = two.1; rule = two.2; told = right.1.told; plan = right.1.planned; limiter = right.1.limiter }) in
+      left.1.is ∙ ap (λ (r : Row (PoolCore P) P). stepped r) same ∙ sym right.1.is
+
+  -- and one that is: there is memory for the list, or there is none.
+  abbrev pub tested : Bool → PoolCore P → Frame P → After P
+  tested wants c f = stepped (validated (memories_refused c.settings (memories_wanted f.asked)) wants c (record f { phase = Idle }))
+
+  pub step_tests : (rule : GrowthRule) (c : PoolCore P) (f : Frame P) (a : After P) → f.phase ≡ Validate → StepsUnder rule c f a → (wants : Bool) × (a ≡ tested wants c f)
+  step_tests rule c f a test steps =
+      let g : StepGiven = steps.3.0 in
+      (g.wants, steps.3.1.is ∙ ap (λ (x : Phase P). stepped (row_of g x c (record f { phase = Idle }))) test)

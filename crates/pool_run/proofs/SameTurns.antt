@@ -1,0 +1,248 @@
+-- A turn of a party has one outcome, or one finds no memory for what it asks for, and the other goes on.
+use Rattle.std.proofs.Common.{◌≡◌, ◌≢◌, ℕ, ◌<◌, ◌≤◌, Bool, true, false, List, length, Option, Some, None, IsSome, is_some, ◌⊎◌, refl, sym, ap, ◌∙◌, subst, inl, inr, arith}
+use Rattle.std.specs.Prelude.{◌&&◌, not, slice_get, slice_set, slice_index_or}
+use Rattle.std.specs.Option.{option_and_then}
+use Rattle.std.proofs.lemmas.Option.{slice_get_within, get_or_from_slice_get}
+use Rattle.pool_slots.specs.declared.errors.AllocError.TheVariants as alloc
+use Rattle.pool_alloc.specs.Asked.{ModuleAsked}
+use Rattle.pool_alloc.specs.Calls.{begun_call}
+use Rattle.pool_alloc.specs.Leases.{Lease}
+use Rattle.pool_pages.specs.MakerTold.{MakerTold}
+use Rattle.pool_pages.specs.declared.unsupported.Unsupported.{Unsupported}
+use Rattle.pool_alloc.specs.Refusals.{memories_refused}
+use Rattle.pool_alloc.specs.Rows.{validated, row_of}
+use Rattle.pool_alloc.specs.Stages.{stage_of}
+use Rattle.pool_alloc.specs.Steps.{memories_wanted}
+use Rattle.pool_alloc.specs.Turns.{After, stepped}
+use Rattle.pool_alloc.specs.declared.frame.Phase.{Phase}
+use Rattle.pool_alloc.specs.declared.frame.Phase.TheVariants.{Idle, Validate}
+use Rattle.pool_alloc.specs.Stepping.{CanStep, is_idle}
+use Rattle.pool_alloc.specs.declared.pool_core.PoolCore.{PoolCore}
+use Rattle.pool_alloc.specs.declared.frame.Call.TheVariants as call
+use Rattle.pool_alloc.specs.declared.frame.Frame.{Frame}
+use Rattle.pool_alloc.specs.declared.frame.Grant.{Grant}
+use Rattle.pool_alloc.specs.declared.frame.Outcome.{Outcome}
+use Rattle.pool_alloc.specs.declared.frame.Outcome.TheVariants as answer
+use Rattle.pool_run.specs.Acts.{MemoryOp, Act, requests, on_memory, drops, act_of}
+use Rattle.pool_run.specs.Agreeing.{want_of_memory}
+use Rattle.pool_run.specs.Folds.{RunState, commands_of, IsUnderWay}
+use Rattle.pool_run.specs.Objects.{object_at, MovesObject}
+use Rattle.pool_run.specs.PartyRules.{rule_of}
+use Rattle.pool_run.specs.Rooms.{World}
+use Rattle.pool_run.specs.Ties.{CanTurn}
+use Rattle.pool_run.specs.Turns.{Turned, Turns, StepsUnder, Opening, rests, replies, makes_step, ended_with, answered, after_step, LeaseMoves, memory_leases, OpensRequest, OpensAct, OpensNext, OpensAt, Leaves}
+use Rattle.pool_run.specs.declared.command.Command.{Command}
+use Rattle.pool_run.specs.declared.reply.Reply.{Reply}
+use Rattle.pool_run.specs.declared.reply.Refusal.TheVariants.{Alloc}
+use Rattle.pool_run.specs.declared.reply.Reply.TheVariants.{Refused}
+use Rattle.pool_run.specs.declared.running_party.RunningParty.{RunningParty}
+use Rattle.pool_run.proofs.Named.{moved}
+use Rattle.pool_run.proofs.Opened.{idle_is, IsOpened, opened}
+use Rattle.pool_run.proofs.Parties.{can_step}
+use Rattle.pool_run.proofs.Running.{can_turn}
+use Rattle.pool_run.proofs.SameMoves.{op_same}
+use Rattle.pool_run.proofs.Cleared.{IsClear, IsClearIdle, stepped_clear, clear_is}
+use Rattle.pool_run.proofs.Pending.{PastReply}
+use Rattle.pool_run.proofs.SameSteps.{is_test, step_same, step_tests}
+use Rattle.pool_run.proofs.StageSteps.{is_none, none_idle}
+use Rattle.pool_run.proofs.Stepped.{IsStepped, stepped as stepped_so}
+use Rattle.pool_run.proofs.Sounds.{lease_held}
+
+-- whether a phase is the test of a request
+test_is : {P : Type 0} (phase : Phase P) → is_test phase ≡ true → phase ≡ Validate
+test_is Validate e = refl
+test_is _ e = absurd cc
+
+-- a broken rule is another refusal
+unsupported_is : (rule : Unsupported) → Refused (Alloc (alloc.Unsupported rule)) ≢ want_of_memory
+unsupported_is rule = λ is. absurd cc
+
+module _ {P : Type 0} where
+  -- the first of two turns found no memory, and the other goes on, or has another reply
+  pub record IsApart (t u : Turned P) : Type 0 where
+    pub wants : t.reply ≡ Some want_of_memory
+    pub later : PastReply u.reply (stage_of u.party.frame)
+
+  -- two turns leave the same, or one of them alone found no memory
+  abbrev pub AreAlike : Turned P → Turned P → Type 0
+  AreAlike t u = (t ≡ u) ⊎ (IsApart t u ⊎ IsApart u t)
+
+  turned_round : (t u : Turned P) → AreAlike t u → AreAlike u t
+  turned_round t u are =
+      elim are [
+        | inl same ↦ inl (sym same)
+        | inr apart ↦ elim apart [ inl one ↦ inr (inr one) | inr other ↦ inr (inl other) ]
+      ]
+
+  -- The test of a request, with memory for its list or none.
+  tests_by : (o : Option Unsupported) (v w : Bool) (c : PoolCore P) (bare : Frame P) (q : RunningParty P) (t u : Turned P) → t ≡ after_step (stepped (validated o v c bare)) q → u ≡ after_step (stepped (validated o w c bare)) q → AreAlike t u
+  tests_by (Some rule) v w c bare q t u one two = inl (one ∙ sym two)
+  tests_by None true true c bare q t u one two = inl (one ∙ sym two)
+  tests_by None false false c bare q t u one two = inl (one ∙ sym two)
+  tests_by None true false c bare q t u one two = inr (inl (record { wants = ap (λ (x : Turned P). x.reply) one; later = subst (λ (x : Turned P). PastReply x.reply (stage_of x.party.frame)) (sym two) tt }))
+  tests_by None false true c bare q t u one two = inr (inr (record { wants = ap (λ (x : Turned P). x.reply) two; later = subst (λ (x : Turned P). PastReply x.reply (stage_of x.party.frame)) (sym one) tt }))
+
+-- a party in a world whose maker tells what its regions hold, and which of their calls fail
+module _ {P : Type 0} (w : World) (tells : w.maker.tells ≡ true) (planned : IsSome w.maker.plan) (c : PoolCore P) (p : RunningParty P) (can : CanTurn w.maker c p) where
+  -- Turns that open with the same.
+  step_alike : (b : Bool) (frame : Frame P) (q : RunningParty P) (t u : Turned P) → is_test frame.phase ≡ b → CanStep w.maker c frame → (one : (a : After P) × StepsUnder (rule_of p.limits) c frame a × (t ≡ after_step a q)) → (two : (a : After P) × StepsUnder (rule_of p.limits) c frame a × (u ≡ after_step a q)) → AreAlike t u
+  step_alike false frame q t u test steps one two = inl (one.2 ∙ ap (λ (a : After P). after_step a q) (step_same w.maker tells planned (rule_of p.limits) c frame one.0 two.0 steps test one.1 two.1) ∙ sym two.2)
+  step_alike true frame q t u test steps one two =
+      let first = step_tests (rule_of p.limits) c frame one.0 (test_is frame.phase test) one.1 in
+      let second = step_tests (rule_of p.limits) c frame two.0 (test_is frame.phase test) two.1 in
+      let After_of : After P → Turned P = λ a. after_step a q in
+      tests_by (memories_refused c.settings (memories_wanted frame.asked)) first.0 second.0 c (record frame { phase = Idle }) q t u (one.2 ∙ ap After_of first.1) (two.2 ∙ ap After_of second.1)
+
+  leaves_alike : (o : Opening P) (t u : Turned P) → IsOpened w.maker c p o → Leaves o c p t → Leaves o c p u → AreAlike t u
+  leaves_alike rests t u is one two = inl (one ∙ sym two)
+  leaves_alike (replies reply live) t u is one two = inl (one ∙ sym two)
+  leaves_alike (makes_step frame live) t u is one two = let q : RunningParty P = record p { frame = frame; live = live } in step_alike (is_test frame.phase) frame q t u refl (can_step w.maker c q is.can) one two
+
+  same_opening : (a b : Opening P) (t u : Turned P) → IsOpened w.maker c p a → a ≡ b → Leaves a c p t → Leaves b c p u → AreAlike t u
+  same_opening a b t u is same one two =
+      let L : Opening P → Type 0 = λ o. Leaves o c p u in
+      leaves_alike a t u is one (subst L (sym same) two)
+
+  -- A command on a memory.
+  there : (of k : ℕ) (grant : Grant P) (l : Lease) → slice_index_or p.live of None ≡ Some grant → slice_get (memory_leases.in_grant grant) k ≡ Some l → object_at memory_leases of k p.live ≡ Some l
+  there of k grant l granted is = ap (λ (o : Option (Grant P)). option_and_then (λ g. slice_get (memory_leases.in_grant g) k) o) granted ∙ is
+
+  -- the replies decide
+  replied_alike : (r q : Reply) (live other : List (Option (Grant P))) (t u : Turned P) → t ≡ ended_with r c (record p { live = live }) → u ≡ ended_with q c (record p { live = other }) → ((live ≡ other) × (r ≡ q)) ⊎ (((r ≡ want_of_memory) × (q ≢ want_of_memory)) ⊎ ((q ≡ want_of_memory) × (r ≢ want_of_memory))) → AreAlike t u
+  replied_alike r q live other t u one two are =
+      let Later : Turned P → Type 0 = λ x. PastReply x.reply (stage_of x.party.frame) in
+      let E : Reply → List (Option (Grant P)) → Turned P = λ x ls. ended_with x c (record p { live = ls }) in
+      elim are [
+        | inl same ↦ inl (one ∙ ap (E r) same.0 ∙ ap (λ (x : Reply). E x other) same.1 ∙ sym two)
+        | inr apart ↦
+            elim apart [
+              | inl is ↦ inr (inl (record { wants = ap (λ (x : Turned P). x.reply) one ∙ ap (λ (x : Reply). Some x) is.0; later = subst Later (sym two) is.1 }))
+              | inr is ↦ inr (inr (record { wants = ap (λ (x : Turned P). x.reply) two ∙ ap (λ (x : Reply). Some x) is.0; later = subst Later (sym one) is.1 }))
+            ]
+      ]
+
+  moves_alike : (op : MemoryOp) (of k : ℕ) (r q : Reply) (live other : List (Option (Grant P))) → MovesObject memory_leases (LeaseMoves op (rule_of p.limits)) of k p.live r live → MovesObject memory_leases (LeaseMoves op (rule_of p.limits)) of k p.live q other → ((live ≡ other) × (r ≡ q)) ⊎ (((r ≡ want_of_memory) × (q ≢ want_of_memory)) ⊎ ((q ≡ want_of_memory) × (r ≢ want_of_memory)))
+  moves_alike op of k r q live other one two =
+      let Move : Lease → Lease → Reply → Type 0 = LeaseMoves op (rule_of p.limits) in
+      elim (moved memory_leases Move of k p.live live r one) [
+        | inl none ↦
+            elim (moved memory_leases Move of k p.live other q two) [
+              | inl nor ↦ inl (none.same ∙ sym nor.same, none.refused ∙ sym nor.refused)
+              | inr m ↦ let wrong : None ≡ Some m.old = sym none.none ∙ there of k m.grant m.old m.granted m.there in absurd cc
+            ]
+        | inr m ↦
+            elim (moved memory_leases Move of k p.live other q two) [
+              | inl none ↦ let wrong : None ≡ Some m.old = sym none.none ∙ there of k m.grant m.old m.granted m.there in absurd cc
+              | inr n ↦
+                  let grant : m.grant ≡ n.grant = let both : Some m.grant ≡ Some n.grant = sym m.granted ∙ n.granted in cc in
+                  let At : Grant P → Type 0 = λ g. slice_get (memory_leases.in_grant g) k ≡ Some n.old in
+                  let old : m.old ≡ n.old = let both : Some m.old ≡ Some n.old = sym m.there ∙ subst At (sym grant) n.there in cc in
+                  let From : Lease → Type 0 = λ l. Move l n.changed q in
+                  let Put : Grant P → Lease → List (Option (Grant P)) = λ g l. slice_set p.live of (Some (memory_leases.put_in k l g)) in
+                  elim (op_same w.maker c.settings tells planned m.old (lease_held w.maker c p of k m.grant m.old can.party.sound m.granted m.there) op (rule_of p.limits) m.changed n.changed r q m.move (subst From (sym old) n.move)) [
+                    | inl both ↦ inl (m.is ∙ ap (λ (g : Grant P). Put g m.changed) grant ∙ ap (Put n.grant) both.0 ∙ sym n.is, both.1)
+                    | inr apart ↦ inr apart
+                  ]
+            ]
+      ]
+
+  -- A request, of which one finds no memory at once, and the other makes its test.
+  wants_by : (o : Option Unsupported) (v : Bool) (m : ModuleAsked) (t u : Turned P) → p.frame.phase ≡ Idle → IsClear p.frame.asked p.frame.ending p.frame.queues → t ≡ ended_with want_of_memory c (record p { live = p.live })
+      → u ≡ after_step (stepped (validated o v c (record (begun_call (call.Module m) p.frame) { phase = Idle }))) (record p { frame = begun_call (call.Module m) p.frame; live = p.live }) → AreAlike t u
+  wants_by (Some rule) v m t u idle clear one two =
+      inr (inl (record { wants = ap (λ (x : Turned P). x.reply) one; later = subst (λ (x : Turned P). PastReply x.reply (stage_of x.party.frame)) (sym two) (unsupported_is rule) }))
+  wants_by None true m t u idle clear one two = inl (one ∙ ap (λ (f : Frame P). ended_with want_of_memory c (record p { frame = f })) (sym (clear_is p.frame idle clear)) ∙ sym two)
+  wants_by None false m t u idle clear one two =
+      inr (inl (record { wants = ap (λ (x : Turned P). x.reply) one; later = subst (λ (x : Turned P). PastReply x.reply (stage_of x.party.frame)) (sym two) tt }))
+
+  wants_or_tests : (m : ModuleAsked) (t u : Turned P) → p.frame.phase ≡ Idle → IsClear p.frame.asked p.frame.ending p.frame.queues → Leaves (replies want_of_memory p.live) c p t → Leaves (makes_step (begun_call (call.Module m) p.frame) p.live) c p u → AreAlike t u
+  wants_or_tests m t u idle clear one two =
+      let frame : Frame P = begun_call (call.Module m) p.frame in
+      let q : RunningParty P = record p { frame = frame; live = p.live } in
+      let test = step_tests (rule_of p.limits) c frame two.0 refl two.1 in
+      wants_by (memories_refused c.settings (memories_wanted frame.asked)) test.0 m t u idle clear one (two.2 ∙ ap (λ (a : After P). after_step a q) test.1)
+
+  request_alike : (kept : Option ModuleAsked) (a b : Opening P) (t u : Turned P) → p.frame.phase ≡ Idle → IsClear p.frame.asked p.frame.ending p.frame.queues → IsOpened w.maker c p a → OpensRequest kept p a → OpensRequest kept p b → Leaves a c p t → Leaves b c p u → AreAlike t u
+  request_alike None a b t u idle clear is one two first second = absurd one
+  request_alike (Some kept) a b t u idle clear is one two first second =
+      let L : Turned P → Opening P → Type 0 = λ x o. Leaves o c p x in
+      elim one [
+        | inl wants ↦
+            elim two [
+              | inl also ↦ same_opening a b t u is (wants ∙ sym also) first second
+              | inr begins ↦ wants_or_tests kept t u idle clear (subst (L t) wants first) (subst (L u) begins second)
+            ]
+        | inr begins ↦
+            elim two [
+              | inl wants ↦ turned_round u t (wants_or_tests kept u t idle clear (subst (L u) wants second) (subst (L t) begins first))
+              | inr also ↦ same_opening a b t u is (begins ∙ sym also) first second
+            ]
+      ]
+
+  act_alike : (modules : List ModuleAsked) (act : Act) (a b : Opening P) (t u : Turned P) → p.frame.phase ≡ Idle → IsClear p.frame.asked p.frame.ending p.frame.queues → IsOpened w.maker c p a → OpensAct modules act p a → OpensAct modules act p b → Leaves a c p t → Leaves b c p u → AreAlike t u
+  act_alike modules (requests number) a b t u idle clear is one two first second = request_alike (slice_get modules number) a b t u idle clear is one two first second
+  act_alike modules (on_memory of k op) a b t u idle clear is one two first second =
+      let L : Turned P → Opening P → Type 0 = λ x o. Leaves o c p x in
+      replied_alike one.0 two.0 one.1 two.1 t u (subst (L t) one.3 first) (subst (L u) two.3 second) (moves_alike op of k one.0 two.0 one.1 two.1 one.2 two.2)
+  act_alike modules (drops of) a b t u idle clear is one two first second = same_opening a b t u is (one ∙ sym two) first second
+
+  next_alike : (modules : List ModuleAsked) (next : Option Command) (keyed : Bool) (a b : Opening P) (t u : Turned P) → p.frame.phase ≡ Idle → IsClear p.frame.asked p.frame.ending p.frame.queues → IsOpened w.maker c p a → OpensNext modules next keyed p a → OpensNext modules next keyed p b → Leaves a c p t → Leaves b c p u → AreAlike t u
+  next_alike modules None keyed a b t u idle clear is one two first second = same_opening a b t u is (one ∙ sym two) first second
+  next_alike modules (Some command) false a b t u idle clear is one two first second = same_opening a b t u is (one ∙ sym two) first second
+  next_alike modules (Some command) true a b t u idle clear is one two first second = act_alike modules (act_of command) a b t u idle clear is one two first second
+
+  opens_alike : (b : Bool) (modules : List ModuleAsked) (commands : List Command) (x y : Opening P) (t u : Turned P) → is_idle p.frame.phase ≡ b → IsClearIdle p.frame → IsOpened w.maker c p x → OpensAt b modules commands p x → OpensAt b modules commands p y → Leaves x c p t → Leaves y c p u → AreAlike t u
+  opens_alike true modules commands x y t u idle clear is one two first second = next_alike modules (slice_get commands p.done) p.keyed x y t u (idle_is p.frame.phase idle) (clear idle) is one two first second
+  opens_alike false modules commands x y t u idle clear is one two first second = same_opening x y t u is (one ∙ sym two) first second
+
+-- A turn leaves a frame clear where no call is under way.
+module _ {P : Type 0} (maker : MakerTold) (c : PoolCore P) (p : RunningParty P) where
+  answered_frame : (o : Option (Outcome P)) (d : PoolCore P) (q : RunningParty P) → (answered o d q).party.frame ≡ q.frame
+  answered_frame None d q = refl
+  answered_frame (Some answer.Key) d q = refl
+  answered_frame (Some (answer.Granted grant)) d q = refl
+  answered_frame (Some answer.Returned) d q = refl
+  answered_frame (Some (answer.Refused e)) d q = refl
+
+  step_clear : (frame : Frame P) (a : After P) → CanStep maker c frame → is_idle frame.phase ≡ false → StepsUnder (rule_of p.limits) c frame a → IsClearIdle a.frame
+  step_clear frame a can busy steps idle =
+      let on : IsStepped maker steps.0 steps.1 c frame a = stepped_so maker steps.0 steps.1 c frame a can steps.3 in
+      let none : is_none (stage_of frame) ≡ false = none_idle frame.phase frame.ending (length frame.objects.items) ∙ busy in
+      let ended : is_none (stage_of a.frame) ≡ true = none_idle a.frame.phase a.frame.ending (length a.frame.objects.items) ∙ idle in
+      let some : is_some a.outcome ≡ true = on.staged.answer ∙ ap (λ (b : Bool). not b && is_none (stage_of a.frame)) none ∙ ended in
+      let Clear : After P → Type 0 = λ x. is_some x.outcome ≡ true → IsClear x.frame.asked x.frame.ending x.frame.queues in
+      subst Clear (sym steps.3.1.is) (stepped_clear (row_of steps.3.0 frame.phase c (record frame { phase = Idle }))) some
+
+  leaves_clear : (o : Opening P) (t : Turned P) → IsOpened maker c p o → IsClearIdle p.frame → Leaves o c p t → IsClearIdle t.party.frame
+  leaves_clear rests t is clear leaves = let C : Turned P → Type 0 = λ x. IsClearIdle x.party.frame in subst C (sym leaves) clear
+  leaves_clear (replies reply live) t is clear leaves = let C : Turned P → Type 0 = λ x. IsClearIdle x.party.frame in subst C (sym leaves) clear
+  leaves_clear (makes_step frame live) t is clear leaves =
+      let q : RunningParty P = record p { frame = frame; live = live } in
+      let F : Frame P → Type 0 = λ f. IsClearIdle f in
+      let same : t.party.frame ≡ leaves.0.frame = ap (λ (x : Turned P). x.party.frame) leaves.2 ∙ answered_frame leaves.0.outcome leaves.0.core (record q { frame = leaves.0.frame }) in
+      subst F (sym same) (step_clear frame leaves.0 (can_step maker c q is.can) is.busy leaves.1)
+
+-- a party of a run
+module _ {P : Type 0} (w : World) (modules : List ModuleAsked) (inputs : List (List Command)) (i : ℕ) (p : RunningParty P) (s : RunState P) (there : slice_get s.parties i ≡ Some p) (way : IsUnderWay w modules inputs s) where
+  below : i < length s.parties
+  below = slice_get_within s.parties i p there
+
+  here : slice_index_or s.parties i p ≡ p
+  here = get_or_from_slice_get s.parties i p p there
+
+  pub can_now : CanTurn w.maker s.core p
+  can_now = let Can : RunningParty P → Type 0 = λ q. CanTurn w.maker s.core q in subst Can here (can_turn w.maker s.core s.parties i p way.holds.running below)
+
+  opened_now : (o : Opening P) → OpensAt (is_idle p.frame.phase) modules (commands_of inputs i) p o → IsOpened w.maker s.core p o
+  opened_now o opens =
+      let Room : RunningParty P → Type 0 = λ q. length (commands_of inputs i) ≤ length q.live in
+      let room : Room p = subst Room here (omega (arith, (way.each i p below).room)) in
+      opened w.maker s.core p w.terms modules (commands_of inputs i) o way.calls can_now room opens
+
+  -- Its turns from one state,
+  pub turn_alike : w.maker.tells ≡ true → IsSome w.maker.plan → (t u : Turned P) → IsClearIdle p.frame → Turns modules (commands_of inputs i) s.core p t → Turns modules (commands_of inputs i) s.core p u → AreAlike t u
+  turn_alike tells planned t u clear one two = opens_alike w tells planned s.core p can_now (is_idle p.frame.phase) modules (commands_of inputs i) one.0 two.0 t u refl clear (opened_now one.0 one.1) one.1 two.1 one.2 two.2
+
+  -- and what its frame is then.
+  pub turn_clear : (t : Turned P) → IsClearIdle p.frame → Turns modules (commands_of inputs i) s.core p t → IsClearIdle t.party.frame
+  turn_clear t clear turns = leaves_clear w.maker s.core p turns.0 t (opened_now turns.0 turns.1) clear turns.2

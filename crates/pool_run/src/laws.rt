@@ -1,0 +1,18 @@
+ghost use Rattle.pool_run.specs.Agreeing.{RunsAgree};
+ghost use Rattle.pool_run.specs.Placed.{SlotsAreInOnePlace, UsedSlotsAreNotPicked};
+
+use pool_pages::Pages;
+
+/// One input has one outcome: two runs of it in which the same commands find no memory give the same replies and
+/// numbers, over a maker that tells what its regions hold and which of their calls fail. It does nothing.
+pub fn runs_agree<P: Pages>()
+    ensures { RunsAgree P }
+{}
+
+/// Where the slots of the pool are between two turns. It does nothing.
+pub fn slots_have_places<P: Pages>()
+    // Each is in one place.
+    ensures one { SlotsAreInOnePlace P }
+    // What a pick gives is in no queue, and with no party.
+    ensures picked { UsedSlotsAreNotPicked P }
+{}
