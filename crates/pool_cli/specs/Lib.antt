@@ -6,6 +6,8 @@ pub mod Output
 pub mod Ranges
 pub mod Reading
 pub mod SettingsForms
+pub mod SharedForms
+pub mod SharedOutput
 pub mod Stages
 pub mod Statuses
 pub mod Streams

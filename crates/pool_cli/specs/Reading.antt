@@ -3,47 +3,76 @@ use Rattle.std.specs.Prelude.{◌≡◌, ℕ, List, Bool, if◌then◌else◌, O
 use Rattle.std.specs.Str.{is_utf8}
 use Rattle.serde_json.specs.Data.{Data}
 use Rattle.serde_json.specs.Read.{read}
+use Rattle.serde_json.specs.View.{view}
+use Rattle.serde_json.specs.declared.value.Value.{Value}
 use Rattle.pool_run.specs.Built.{is_built}
+use Rattle.pool_run.specs.SharedValidity.{is_valid_shared}
 use Rattle.pool_run.specs.Validity.{is_valid}
 use Rattle.pool_run.specs.declared.input.Input.{Input}
+use Rattle.pool_run.specs.declared.shared_input.SharedInput.{SharedInput}
 use Rattle.pool_cli.specs.Forms.{input_form}
 use Rattle.pool_cli.specs.Ranges.{numbers_fit}
+use Rattle.pool_cli.specs.SharedForms.{shared_form, events_fit}
 use Rattle.pool_cli.specs.declared.json_input.InputFault.{InputFault}
 use Rattle.pool_cli.specs.declared.json_input.InputFault.TheVariants.{NotBuilt, Invalid, Memory}
 
 -- JSON of a form that is not accepted so far, or an input that asks for what is not built yet; no JSON, or an input that
 -- breaks a limit or names what isn't there; or an input that can be run, but for its settings
-pub data Reading : Type 0 where
-  not_built : Reading
-  invalid : Reading
-  accepted : Input → Reading
+pub data Reading (X : Type 0) : Type 0 where
+  not_built : Reading X
+  invalid : Reading X
+  accepted : X → Reading X
+
+-- the value of a JSON text, which is in UTF-8 and nests at most 127 levels deep
+unfoldable pub json_of : List ℕ → Option Data
+json_of bytes = if is_utf8 bytes then read bytes else None
 
 -- of an input that is built, and whose numbers all fit their types
-abbrev pub reading_of_fit : Input → Reading
+abbrev pub reading_of_fit : Input → Reading Input
 reading_of_fit input = if is_valid input then accepted input else invalid
 
 -- of an input whose numbers all fit their types, or don't
-abbrev pub reading_of_input : Bool → Input → Reading
+abbrev pub reading_of_input : Bool → Input → Reading Input
 reading_of_input fit input =
     if is_built input then (if fit then reading_of_fit input else invalid)
     else not_built
 
-abbrev pub reading_of_form : Bool → Option Input → Reading
+abbrev pub reading_of_form : Bool → Option Input → Reading Input
 reading_of_form fit None = not_built
 reading_of_form fit (Some input) = reading_of_input fit input
 
--- of the value of a JSON text, which nests at most 127 levels deep
-abbrev pub reading_of_json : Option Data → Reading
+abbrev pub reading_of_json : Option Data → Reading Input
 reading_of_json None = invalid
 reading_of_json (Some value) = reading_of_form (numbers_fit value) (input_form value)
 
--- JSON is text in UTF-8
-unfoldable pub reading : List ℕ → Reading
-reading bytes = if is_utf8 bytes then reading_of_json (read bytes) else invalid
+abbrev pub reading : List ℕ → Reading Input
+reading bytes = reading_of_json (json_of bytes)
+
+-- the same of an input of events on a shared memory
+abbrev pub shared_reading_of_fit : SharedInput → Reading SharedInput
+shared_reading_of_fit input = if is_valid_shared input then accepted input else invalid
+
+abbrev pub shared_reading_of_form : Bool → Option SharedInput → Reading SharedInput
+shared_reading_of_form fit None = not_built
+shared_reading_of_form fit (Some input) = if fit then shared_reading_of_fit input else invalid
+
+abbrev pub shared_reading_of_json : Option Data → Reading SharedInput
+shared_reading_of_json None = invalid
+shared_reading_of_json (Some value) = shared_reading_of_form (events_fit value) (shared_form value)
+
+abbrev pub shared_reading : List ℕ → Reading SharedInput
+shared_reading bytes = shared_reading_of_json (json_of bytes)
+
+-- the value was read, or there is none, unless memory ran out
+abbrev pub IsJson : Option Data → Result Value InputFault → Type 0
+IsJson json (Ok value) = json ≡ Some (view value)
+IsJson json (Err NotBuilt) = ⊥
+IsJson json (Err Invalid) = json ≡ None
+IsJson json (Err Memory) = Unit {0}
 
 -- This is the reading of what was returned, unless memory ran out. Whether an input is valid is left to whoever runs it.
-abbrev pub IsReadAs : Reading → Result Input InputFault → Type 0
-IsReadAs r (Ok input) = r ≡ reading_of_fit input
-IsReadAs r (Err NotBuilt) = r ≡ not_built
-IsReadAs r (Err Invalid) = r ≡ invalid
-IsReadAs r (Err Memory) = Unit {0}
+abbrev pub IsReadAs : {X : Type 0} → (X → Reading X) → Reading X → Result X InputFault → Type 0
+IsReadAs of_fit r (Ok input) = r ≡ of_fit input
+IsReadAs of_fit r (Err NotBuilt) = r ≡ not_built
+IsReadAs of_fit r (Err Invalid) = r ≡ invalid
+IsReadAs of_fit r (Err Memory) = Unit {0}

@@ -1,25 +1,32 @@
 -- How the steps of the program end, before and as it writes. These are the contracts of its private functions: what a
 -- caller of the program is promised stands in `Statuses`.
-use Rattle.std.specs.Prelude.{◌≡◌, ℕ, List, ◌⊎◌, Result, Ok, Err, String, string_bytes}
+use Rattle.std.specs.Prelude.{◌≡◌, ℕ, List, ◌⊎◌, Result, Ok, Err, true, String, string_bytes}
 use Rattle.std.specs.declared.alloc.Global.{Global}
 use Rattle.pool_pages.specs.MakerTold.{MakerTold}
 use Rattle.pool_pages.specs.declared.bad_config.BadConfig.{BadConfig}
-use Rattle.pool_run.specs.declared.input.Input.{Input}
 use Rattle.pool_cli.specs.Lines.{config_line, line_of}
-use Rattle.pool_cli.specs.Reading.{reading_of_fit}
-use Rattle.pool_cli.specs.Statuses.{HasRead, HasRun, Fails, WroteBadConfig, WroteLess, WroteOutput}
-use Rattle.pool_cli.specs.Streams.{SourceTold, SinkTold, Wrote, WrotePart}
+use Rattle.pool_cli.specs.Reading.{Reading}
+use Rattle.pool_cli.specs.Statuses.{Format, HasRead, HasDone, Fails, WroteBadConfig, WroteLess, WroteOutput, reads_input}
+use Rattle.pool_cli.specs.Streams.{SourceTold, SinkTold, ReadWhole, Wrote, WrotePart}
+use Rattle.pool_run.specs.declared.output.RunFault.{RunFault}
+use Rattle.pool_run.specs.declared.output.RunFault.TheVariants as run
+use Rattle.pool_cli.specs.declared.json_input.InputFault.{InputFault}
+use Rattle.pool_cli.specs.declared.json_input.InputFault.TheVariants as fault
 use Rattle.pool_cli.specs.declared.failure.Failure.{Failure}
 use Rattle.pool_cli.specs.declared.failure.Failure.TheVariants as failure
 use Rattle.pool_cli.specs.declared.status.Status.{Status}
 use Rattle.pool_cli.specs.declared.status.Status.TheVariants.{Ok as Success, BadUsage, BadInput, BadConfig as BadSettings, PageFault, ReadFault, WriteFault, NoMemory, TooLong, NotBuilt}
 use Rattle.pool_cli.specs.declared.words.Task.{Task}
-use Rattle.pool_cli.specs.declared.words.Task.TheVariants.{Run}
 
--- an input was read that is built and fits, or the program fails whatever its maker does
-abbrev pub ReadsInput : SourceTold → SourceTold → Result Input Failure → Type 0
-ReadsInput source_old source_new (Ok input) = HasRead (reading_of_fit input) source_old source_new
-ReadsInput source_old source_new (Err failure) = (maker_old maker_new : MakerTold) → Fails Run failure source_old source_new maker_old maker_new
+-- the bytes were read, or each task that reads an input fails, whatever its maker does
+abbrev pub ReadsBytes : SourceTold → SourceTold → Result (List ℕ) Failure → Type 0
+ReadsBytes source_old source_new (Ok bytes) = ReadWhole bytes source_old source_new
+ReadsBytes source_old source_new (Err failure) = (task : Task) (maker_old maker_new : MakerTold) → reads_input task ≡ true → Fails task failure source_old source_new maker_old maker_new
+
+-- an input was read that fits, or the program fails whatever its maker does
+abbrev pub ReadsInput : {X : Type 0} → Task → Format X → (X → Reading X) → SourceTold → SourceTold → Result X Failure → Type 0
+ReadsInput task f of_fit source_old source_new (Ok input) = HasRead f (of_fit input) source_old source_new
+ReadsInput task f of_fit source_old source_new (Err failure) = (maker_old maker_new : MakerTold) → Fails task failure source_old source_new maker_old maker_new
 
 -- settings are refused with this error, unless memory ran out
 abbrev pub Refuses : BadConfig → Failure → Type 0
@@ -32,9 +39,22 @@ Refuses error failure.NoMemory = Unit {0}
 Refuses error failure.TooLong = ⊥
 Refuses error failure.NotBuilt = ⊥
 
+-- what a text that isn't read as an input ends the program with
+abbrev pub input_failure : InputFault → Failure
+input_failure fault.NotBuilt = failure.NotBuilt
+input_failure fault.Invalid = failure.BadInput
+input_failure fault.Memory = failure.NoMemory
+
+-- the failure of a run that isn't made
+abbrev pub IsRunFailure : RunFault → Failure → Type 0
+IsRunFailure run.BadInput f = f ≡ failure.BadInput
+IsRunFailure (run.BadConfig error) f = Refuses error f
+IsRunFailure run.PageFault f = f ≡ failure.PageFault
+IsRunFailure run.Memory f = f ≡ failure.NoMemory
+
 -- the text of the output, or why there is none
 abbrev pub Prepares : Type 0 → Task → SourceTold → SourceTold → MakerTold → MakerTold → Result (String Global) Failure → Type 0
-Prepares P task source_old source_new maker_old maker_new (Ok text) = (task ≡ Run) × HasRun P (string_bytes text) source_old source_new maker_old maker_new
+Prepares P task source_old source_new maker_old maker_new (Ok text) = HasDone P task (string_bytes text) source_old source_new maker_old maker_new
 Prepares P task source_old source_new maker_old maker_new (Err failure) = Fails task failure source_old source_new maker_old maker_new
 
 -- the text was written and the status stays, or a write failed

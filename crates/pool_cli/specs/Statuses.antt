@@ -1,55 +1,119 @@
 -- Why the program ends with a status, and what it wrote.
-use Rattle.std.specs.Prelude.{◌≡◌, ℕ, ◌≤◌, ◌<◌, List, length, ◌⊎◌, Option, Some, None, string_bytes}
+use Rattle.std.specs.Prelude.{◌≡◌, ℕ, ◌≤◌, ◌<◌, List, length, ◌⊎◌, Bool, true, false, Option, Some, None, string_bytes}
 use Rattle.pool_pages.specs.declared.bad_config.BadConfig.{BadConfig}
 use Rattle.pool_pages.specs.declared.failing.Failing.{Failing}
 use Rattle.pool_pages.specs.MakerTold.{MakerTold}
 use Rattle.pool_pages.specs.Told.{Rose}
+use Rattle.pool_run.specs.Agreeing.{IsOnlyRun}
 use Rattle.pool_run.specs.Built.{broken_rule}
-use Rattle.pool_run.specs.Runs.{IsRun, HasFaultedMaking, with_faults}
+use Rattle.pool_run.specs.Runs.{IsRun, HoldsFromStart, HasFaultedMaking, with_faults}
+use Rattle.pool_run.specs.SharedRuns.{IsSharedRun, HasNoShared, with_page, broken_page}
 use Rattle.pool_run.specs.declared.input.Input.{Input}
 use Rattle.pool_run.specs.declared.output.RunOutput.{RunOutput}
+use Rattle.pool_run.specs.declared.shared_input.SharedInput.{SharedInput}
+use Rattle.pool_run.specs.declared.shared_reply.SharedReply.{SharedReply}
 use Rattle.pool_cli.specs.Lines.{config_line, line_of}
 use Rattle.pool_cli.specs.Output.{output_text}
-use Rattle.pool_cli.specs.Reading.{Reading, not_built, invalid, accepted, reading}
+use Rattle.pool_cli.specs.Reading.{Reading, not_built, invalid, accepted, reading, shared_reading}
+use Rattle.pool_cli.specs.SharedOutput.{shared_text}
 use Rattle.pool_cli.specs.Streams.{SourceTold, SinkTold, ReadWhole, ReadTooMuch, Wrote, WrotePart, most_input}
 use Rattle.pool_cli.specs.declared.failure.Failure.{Failure}
 use Rattle.pool_cli.specs.declared.failure.Failure.TheVariants as failure
 use Rattle.pool_cli.specs.declared.status.Status.{Status}
 use Rattle.pool_cli.specs.declared.status.Status.TheVariants.{Ok as Success, BadInput, BadConfig as BadSettings, PageFault, ReadFault, WriteFault, NoMemory, TooLong, NotBuilt}
 use Rattle.pool_cli.specs.declared.words.Task.{Task}
-use Rattle.pool_cli.specs.declared.words.Task.TheVariants.{Run, Later, Unknown}
+use Rattle.pool_cli.specs.declared.words.Task.TheVariants.{Run, Shared, Later, Unknown}
+
+-- how the bytes for a task are read, and which rule of its settings an input breaks
+pub record Format (X : Type 0) : Type 0 where
+  pub reading : List ℕ → Reading X
+  pub broken : X → Option BadConfig
+
+abbrev pub run_format : Format Input
+run_format = record { reading = reading; broken = broken_rule }
+
+abbrev pub shared_format : Format SharedInput
+shared_format = record { reading = shared_reading; broken = broken_page }
 
 -- The source was read to its end, and this is what the bytes read are.
-pub record HasRead (is : Reading) (source_old source_new : SourceTold) : Type 0 where
+pub record HasRead {X : Type 0} (f : Format X) (is : Reading X) (source_old source_new : SourceTold) : Type 0 where
   pub bytes : List ℕ
   pub whole : ReadWhole bytes source_old source_new
-  pub reads : reading bytes ≡ is
+  pub reads : f.reading bytes ≡ is
 
 -- The source was read to its end, the bytes read are an input that can be run, no rule of its settings is broken, and
--- the text is that of the output of a run of it, over regions of type P. No making of the maker's failed.
+-- the text is that of the output of a run of it, over regions of type P, which is the only one in which the same commands
+-- find no memory, and sound between any two turns. No making of the maker's failed.
 pub record HasRun (P : Type 0) (text : List ℕ) (source_old source_new : SourceTold) (maker_old maker_new : MakerTold) : Type 0 where
   pub input : Input
   pub output : RunOutput
-  pub read : HasRead (accepted input) source_old source_new
+  pub read : HasRead run_format (accepted input) source_old source_new
   pub limits : broken_rule input ≡ None
   pub run : IsRun (Failing P) input (with_faults input maker_old) output
+  pub only : IsOnlyRun (Failing P) input (with_faults input maker_old) output
+  pub throughout : HoldsFromStart (Failing P) input (with_faults input maker_old)
   pub makings : maker_new.faults ≡ maker_old.faults
   pub text_is : text ≡ output_text input output
 
+-- The same of a run of events on a shared memory: the text is that of the replies to them.
+pub record HasRunShared (text : List ℕ) (source_old source_new : SourceTold) (maker_old : MakerTold) : Type 0 where
+  pub input : SharedInput
+  pub replies : List SharedReply
+  pub read : HasRead shared_format (accepted input) source_old source_new
+  pub page : broken_page input ≡ None
+  pub run : IsSharedRun input (with_page input maker_old) replies
+  pub text_is : text ≡ shared_text replies
+
+-- what the words ask for was run, and this is the text of its output
+abbrev pub HasDone : Type 0 → Task → List ℕ → SourceTold → SourceTold → MakerTold → MakerTold → Type 0
+HasDone P Run text source_old source_new maker_old maker_new = HasRun P text source_old source_new maker_old maker_new
+HasDone P Shared text source_old source_new maker_old maker_new = HasRunShared text source_old source_new maker_old
+HasDone P _ text source_old source_new maker_old maker_new = ⊥
+
+-- the words ask for a run, of which the input is read
+abbrev pub reads_input : Task → Bool
+reads_input Run = true
+reads_input Shared = true
+reads_input _ = false
+
+-- the bytes read are no JSON, or an input that breaks a limit or names what isn't there
+abbrev pub HasReadInvalid : Task → SourceTold → SourceTold → Type 0
+HasReadInvalid Run source_old source_new = HasRead run_format invalid source_old source_new
+HasReadInvalid Shared source_old source_new = HasRead shared_format invalid source_old source_new
+HasReadInvalid _ source_old source_new = ⊥
+
 -- The source was read to its end, and the bytes read are an input that can be run but for its settings: this is the
 -- first of their rules that is broken.
-pub record HasBadConfig (error : BadConfig) (source_old source_new : SourceTold) : Type 0 where
-  pub input : Input
-  pub read : HasRead (accepted input) source_old source_new
-  pub broken : broken_rule input ≡ Some error
+pub record BreaksRule {X : Type 0} (f : Format X) (error : BadConfig) (source_old source_new : SourceTold) : Type 0 where
+  pub input : X
+  pub read : HasRead f (accepted input) source_old source_new
+  pub broken : f.broken input ≡ Some error
+
+abbrev pub HasBadConfig : Task → BadConfig → SourceTold → SourceTold → Type 0
+HasBadConfig Run error source_old source_new = BreaksRule run_format error source_old source_new
+HasBadConfig Shared error source_old source_new = BreaksRule shared_format error source_old source_new
+HasBadConfig _ error source_old source_new = ⊥
 
 -- The source was read to its end, the bytes read are an input that can be run, no rule of its settings is broken, and
 -- a making failed as its pool was made: the input lists one, or the maker's own count of faults rose.
 pub record HasNoPool (source_old source_new : SourceTold) (maker_old maker_new : MakerTold) : Type 0 where
   pub input : Input
-  pub read : HasRead (accepted input) source_old source_new
+  pub read : HasRead run_format (accepted input) source_old source_new
   pub limits : broken_rule input ≡ None
   pub making : HasFaultedMaking input maker_old maker_new
+
+-- the same of the region of a shared memory
+pub record HasNoRegion (source_old source_new : SourceTold) (maker_old maker_new : MakerTold) : Type 0 where
+  pub input : SharedInput
+  pub read : HasRead shared_format (accepted input) source_old source_new
+  pub page : broken_page input ≡ None
+  pub making : HasNoShared input (with_page input maker_old) maker_new
+
+-- a making failed before anything was run
+abbrev pub HasFaulted : Task → SourceTold → SourceTold → MakerTold → MakerTold → Type 0
+HasFaulted Run source_old source_new maker_old maker_new = HasNoPool source_old source_new maker_old maker_new
+HasFaulted Shared source_old source_new maker_old maker_new = HasNoRegion source_old source_new maker_old maker_new
+HasFaulted _ source_old source_new maker_old maker_new = ⊥
 
 -- nothing was read
 abbrev pub Unread : SourceTold → SourceTold → Type 0
@@ -58,37 +122,38 @@ Unread source_old source_new = source_new ≡ source_old
 -- The words ask for what is not built yet, and nothing was read; or they ask for a run, and the bytes read are JSON of a
 -- form that is not accepted so far, or an input that asks for what is not built yet.
 abbrev pub AsksForMore : Task → SourceTold → SourceTold → Type 0
-AsksForMore task source_old source_new = ((task ≡ Later) × Unread source_old source_new) ⊎ ((task ≡ Run) × HasRead not_built source_old source_new)
+AsksForMore Run source_old source_new = HasRead run_format not_built source_old source_new
+AsksForMore Shared source_old source_new = HasRead shared_format not_built source_old source_new
+AsksForMore Later source_old source_new = Unread source_old source_new
+AsksForMore Unknown source_old source_new = ⊥
 
 -- why there is no output
 abbrev pub Fails : Task → Failure → SourceTold → SourceTold → MakerTold → MakerTold → Type 0
 Fails task failure.BadUsage source_old source_new maker_old maker_new = (task ≡ Unknown) × Unread source_old source_new
-Fails task failure.BadInput source_old source_new maker_old maker_new = (task ≡ Run) × HasRead invalid source_old source_new
-Fails task (failure.BadConfig line) source_old source_new maker_old maker_new = (task ≡ Run) × ((error : BadConfig) × HasBadConfig error source_old source_new × (string_bytes line ≡ config_line error))
-Fails task failure.PageFault source_old source_new maker_old maker_new = (task ≡ Run) × HasNoPool source_old source_new maker_old maker_new
-Fails task failure.ReadFault source_old source_new maker_old maker_new = (task ≡ Run) × Rose source_old.faults source_new.faults
-Fails task failure.NoMemory source_old source_new maker_old maker_new = task ≡ Run
-Fails task failure.TooLong source_old source_new maker_old maker_new = (task ≡ Run) × ReadTooMuch source_old source_new
+Fails task failure.BadInput source_old source_new maker_old maker_new = HasReadInvalid task source_old source_new
+Fails task (failure.BadConfig line) source_old source_new maker_old maker_new = (error : BadConfig) × HasBadConfig task error source_old source_new × (string_bytes line ≡ config_line error)
+Fails task failure.PageFault source_old source_new maker_old maker_new = HasFaulted task source_old source_new maker_old maker_new
+Fails task failure.ReadFault source_old source_new maker_old maker_new = (reads_input task ≡ true) × Rose source_old.faults source_new.faults
+Fails task failure.NoMemory source_old source_new maker_old maker_new = reads_input task ≡ true
+Fails task failure.TooLong source_old source_new maker_old maker_new = (reads_input task ≡ true) × ReadTooMuch source_old source_new
 Fails task failure.NotBuilt source_old source_new maker_old maker_new = AsksForMore task source_old source_new
 
 -- what is to be written, and why: the text of an output, or the line of a failure
 abbrev pub IsToWrite : Type 0 → Task → List ℕ → SourceTold → SourceTold → MakerTold → MakerTold → Type 0
 IsToWrite P task text source_old source_new maker_old maker_new =
-    ((task ≡ Run) × HasRun P text source_old source_new maker_old maker_new)
+    HasDone P task text source_old source_new maker_old maker_new
     ⊎ ((cause : Failure) × Fails task cause source_old source_new maker_old maker_new × (text ≡ line_of cause))
 
 -- the output of a run was written, all of it
 pub record WroteOutput (P : Type 0) (task : Task) (source_old source_new : SourceTold) (sink_old sink_new : SinkTold) (maker_old maker_new : MakerTold) : Type 0 where
-  pub asked : task ≡ Run
   pub text : List ℕ
-  pub run : HasRun P text source_old source_new maker_old maker_new
+  pub run : HasDone P task text source_old source_new maker_old maker_new
   pub wrote : Wrote text sink_old sink_new
 
 -- the settings are refused, and the line that says why was written, all of it
 pub record WroteBadConfig (task : Task) (source_old source_new : SourceTold) (sink_old sink_new : SinkTold) : Type 0 where
-  pub asked : task ≡ Run
   pub error : BadConfig
-  pub refused : HasBadConfig error source_old source_new
+  pub refused : HasBadConfig task error source_old source_new
   pub wrote : Wrote (config_line error) sink_old sink_new
 
 -- a write failed, after a part of what was to be written
@@ -107,12 +172,12 @@ status_of_limits None = Success
 status_of_limits (Some error) = BadSettings
 
 -- the status of an input that is read so, where nothing stands in the way
-abbrev pub status_of : Reading → Status
-status_of not_built = NotBuilt
-status_of invalid = BadInput
-status_of (accepted input) = status_of_limits (broken_rule input)
+abbrev pub status_of : {X : Type 0} → (X → Option BadConfig) → Reading X → Status
+status_of broken not_built = NotBuilt
+status_of broken invalid = BadInput
+status_of broken (accepted input) = status_of_limits (broken input)
 
 -- the status is the one that the bytes lead to, or a hindrance
-pub record FollowsBytes (status : Status) (bytes : List ℕ) : Type 0 where
-  pub short : length bytes ≤ most_input → (status ≡ status_of (reading bytes)) ⊎ IsHindrance status
+pub record FollowsBytes {X : Type 0} (f : Format X) (status : Status) (bytes : List ℕ) : Type 0 where
+  pub short : length bytes ≤ most_input → (status ≡ status_of f.broken (f.reading bytes)) ⊎ IsHindrance status
   pub long : most_input < length bytes → (status ≡ TooLong) ⊎ IsHindrance status

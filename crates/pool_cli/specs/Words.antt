@@ -5,7 +5,7 @@ use Rattle.std.specs.Char.{is_ascii_digit}
 use Rattle.std.specs.List.{list_all}
 use Rattle.std.specs.Str.{bytes_eq}
 use Rattle.pool_cli.specs.declared.words.Task.{Task}
-use Rattle.pool_cli.specs.declared.words.Task.TheVariants.{Run, Later, Unknown}
+use Rattle.pool_cli.specs.declared.words.Task.TheVariants.{Run, Shared, Later, Unknown}
 
 -- the number that decimal digits write after those of n
 abbrev pub number_after : ℕ → List ℕ → ℕ
@@ -19,7 +19,8 @@ is_number text = nat_lt 0 (length text) && list_all is_ascii_digit text && nat_l
 abbrev pub one_word : List ℕ → Task
 one_word word =
     if bytes_eq word (codes "run") then Run
-    else if bytes_eq word (codes "threads") || bytes_eq word (codes "shared") then Later
+    else if bytes_eq word (codes "shared") then Shared
+    else if bytes_eq word (codes "threads") then Later
     else Unknown
 
 abbrev pub two_words : List ℕ → List ℕ → Task
@@ -27,7 +28,7 @@ two_words first second =
     if bytes_eq first (codes "run") && bytes_eq second (codes "on-demand") || bytes_eq first (codes "load") && is_number second then Later
     else Unknown
 
--- `run` is built; `run on-demand`, `threads`, `shared` and `load` with a number are not yet; there is nothing else
+-- `run` and `shared` are built; `run on-demand`, `threads` and `load` with a number are not yet; there is nothing else
 abbrev pub task_of : List (String Global) → Task
 task_of [] = Unknown
 task_of (word ∷ []) = one_word (string_bytes word)

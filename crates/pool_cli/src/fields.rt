@@ -55,7 +55,8 @@ pub fn number_or(default: u64, field: Option<&Value>) -> Option<u64>
     }
 }
 
-fn number_or_null(value: &Value) -> Option<Option<u64>>
+/// A whole number, or null.
+pub fn number_or_null(value: &Value) -> Option<Option<u64>>
     ensures { result ≡ or_null whole_number (view value.now) }
 {
     if value.is_null() {

@@ -1,7 +1,7 @@
 ghost use Rattle.std.specs.Prelude.{◌≡◌, Option, [], option_map};
 ghost use Rattle.serde_json.specs.Data.{Data};
 ghost use Rattle.serde_json.specs.View.{view, items_view};
-ghost use Rattle.pool_cli.specs.Fields.{IsOfForm, optional, list_of, each_item};
+ghost use Rattle.pool_cli.specs.Fields.{IsOfForm, optional, required, list_of, each_item};
 
 use crate::form_fault::FormFault;
 use pool_pages::PlainList;
@@ -28,6 +28,25 @@ pub fn each_item<T: FromJson>(alloc: Global, items: &[Value]) -> Result<PlainLis
     Ok(list)
 }
 
+/// A list that must be there.
+pub fn list<T: FromJson>(alloc: Global, field: Option<&Value>) -> Result<PlainList<T>, FormFault>
+    ensures { IsOfForm (required (list_of T.form) (option_map (λ v. view v.now) field.entry)) result }
+{
+    match field {
+        None => Err(FormFault::OtherForm),
+        Some(value) => list_in(alloc, value),
+    }
+}
+
+fn list_in<T: FromJson>(alloc: Global, value: &Value) -> Result<PlainList<T>, FormFault>
+    ensures { IsOfForm (list_of T.form (view value.now)) result }
+{
+    match value.as_array() {
+        Some(items) => each_item(alloc, items.as_slice()),
+        None => Err(FormFault::OtherForm),
+    }
+}
+
 /// A list that may be left out, and is empty then.
 pub fn list_or_empty<T: FromJson>(
     alloc: Global,
@@ -37,9 +56,6 @@ pub fn list_or_empty<T: FromJson>(
 {
     match field {
         None => Ok(PlainList::new(alloc)),
-        Some(value) => match value.as_array() {
-            Some(items) => each_item(alloc, items.as_slice()),
-            None => Err(FormFault::OtherForm),
-        },
+        Some(value) => list_in(alloc, value),
     }
 }

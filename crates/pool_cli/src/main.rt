@@ -2,6 +2,7 @@
 #![tactic(auto)]
 
 mod commands;
+mod events;
 mod failure;
 mod fields;
 mod form_fault;
@@ -12,10 +13,14 @@ mod memory_streams;
 mod modules;
 mod pool_main;
 mod print;
+mod print_shared;
 mod ranges;
 #[cfg(test)]
 mod run_tests;
 mod settings;
+mod shared_input;
+#[cfg(test)]
+mod shared_tests;
 mod stages;
 mod standard_streams;
 mod status;

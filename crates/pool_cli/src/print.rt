@@ -25,7 +25,7 @@ fn push_numbers(out: &mut String, numbers: &[u32]) -> Result<(), AllocError>
 }
 
 /// Adds the bytes in hexadecimal, or a dash where there is none.
-fn push_bytes(alloc: Global, out: &mut String, bytes: &[u8]) -> Result<(), AllocError>
+pub(crate) fn push_bytes(alloc: Global, out: &mut String, bytes: &[u8]) -> Result<(), AllocError>
     ensures { OnOk result (string_bytes out.new ≡ string_bytes out.old ++ bytes_text bytes.now) }
 {
     if bytes.is_empty() {
@@ -145,7 +145,7 @@ fn push_denied(out: &mut String, table: bool, min: u64) -> Result<(), AllocError
     }
 }
 
-fn push_trap(out: &mut String, trap: Trap) -> Result<(), AllocError>
+pub(crate) fn push_trap(out: &mut String, trap: Trap) -> Result<(), AllocError>
     ensures { OnOk result (string_bytes out.new ≡ string_bytes out.old ++ trap_text trap) }
 {
     match trap {
@@ -156,7 +156,7 @@ fn push_trap(out: &mut String, trap: Trap) -> Result<(), AllocError>
     }
 }
 
-fn push_grown(out: &mut String, old: Option<u64>) -> Result<(), AllocError>
+pub(crate) fn push_grown(out: &mut String, old: Option<u64>) -> Result<(), AllocError>
     ensures { OnOk result (string_bytes out.new ≡ string_bytes out.old ++ grown_text old) }
 {
     match old {

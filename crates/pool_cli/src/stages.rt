@@ -2,37 +2,67 @@ ghost use Rattle.std.specs.Prelude.{◌≡◌, true, IfOk};
 ghost use Rattle.pool_pages.specs.declared.bad_config.BadConfig.{BadConfig};
 ghost use Rattle.pool_run.specs.Built.{is_built};
 ghost use Rattle.pool_cli.specs.Lines.{config_line};
-ghost use Rattle.pool_cli.specs.Stages.{ReadsInput, Prepares, WritesText, Refuses};
+ghost use Rattle.pool_cli.specs.Reading.{reading_of_fit, shared_reading_of_fit};
+ghost use Rattle.pool_cli.specs.Stages.{ReadsBytes, ReadsInput, Prepares, WritesText, Refuses, IsRunFailure, input_failure};
+ghost use Rattle.pool_cli.specs.Statuses.{run_format, shared_format};
 ghost use Rattle.pool_cli.specs.Words.{task_of};
-ghost use Rattle.pool_cli.specs.declared.words.Task.TheVariants.{Run};
+ghost use Rattle.pool_cli.specs.declared.words.Task.TheVariants.{Run, Shared};
 
 use crate::failure::{Failure, config_line};
-use crate::json_input::{InputFault, read_input};
+use crate::json_input::{InputFault, read_input, read_shared};
 use crate::print::output_text;
+use crate::print_shared::shared_text;
 use crate::status::Status;
 use crate::streams::{Sink, Source};
 use crate::transfers::{ReadFault, read_all, write_all};
 use crate::words::{Task, task_of};
-use pool_pages::{BadConfig, PageMaker};
-use pool_run::{Input, RunFault, run_schedule};
+use pool_pages::{BadConfig, ByteList, PageMaker};
+use pool_run::{Input, RunFault, SharedInput, run_schedule, run_shared};
 use std::alloc::Global;
 
-/// Reads the input. Whether it is valid isn't tested.
+/// Reads all that the source has.
+fn bytes_from<S: Source>(alloc: Global, source: &mut S) -> Result<ByteList, Failure>
+    ensures { ReadsBytes (S.told source.old) (S.told source.new) result }
+{
+    match read_all(alloc, source) {
+        Ok(bytes) => Ok(bytes),
+        Err(ReadFault::Failed) => Err(Failure::ReadFault),
+        Err(ReadFault::TooLong) => Err(Failure::TooLong),
+        Err(ReadFault::Memory) => Err(Failure::NoMemory),
+    }
+}
+
+/// What a text that isn't read as an input ends the program with.
+fn input_failure(fault: InputFault) -> Failure
+    ensures { result ≡ input_failure fault }
+{
+    match fault {
+        InputFault::NotBuilt => Failure::NotBuilt,
+        InputFault::Invalid => Failure::BadInput,
+        InputFault::Memory => Failure::NoMemory,
+    }
+}
+
+/// Reads the input of a run. Whether it is valid isn't tested.
 fn input_from<S: Source>(alloc: Global, source: &mut S) -> Result<Input, Failure>
-    ensures reads { ReadsInput (S.told source.old) (S.told source.new) result }
+    ensures reads { ReadsInput Run run_format reading_of_fit (S.told source.old) (S.told source.new) result }
     ensures ready { IfOk result (λ input. is_built input ≡ true) }
 {
-    let bytes = match read_all(alloc, source) {
-        Ok(bytes) => bytes,
-        Err(ReadFault::Failed) => return Err(Failure::ReadFault),
-        Err(ReadFault::TooLong) => return Err(Failure::TooLong),
-        Err(ReadFault::Memory) => return Err(Failure::NoMemory),
-    };
+    let bytes = bytes_from(alloc, source)?;
     match read_input(alloc, bytes.as_slice()) {
         Ok(input) => Ok(input),
-        Err(InputFault::NotBuilt) => Err(Failure::NotBuilt),
-        Err(InputFault::Invalid) => Err(Failure::BadInput),
-        Err(InputFault::Memory) => Err(Failure::NoMemory),
+        Err(fault) => Err(input_failure(fault)),
+    }
+}
+
+/// Reads the input of events on a shared memory. Whether it is valid isn't tested.
+fn shared_from<S: Source>(alloc: Global, source: &mut S) -> Result<SharedInput, Failure>
+    ensures { ReadsInput Shared shared_format shared_reading_of_fit (S.told source.old) (S.told source.new) result }
+{
+    let bytes = bytes_from(alloc, source)?;
+    match read_shared(alloc, bytes.as_slice()) {
+        Ok(input) => Ok(input),
+        Err(fault) => Err(input_failure(fault)),
     }
 }
 
@@ -43,6 +73,18 @@ fn refused(alloc: Global, error: BadConfig) -> Failure
     match config_line(alloc, error) {
         Ok(line) => Failure::BadConfig(line),
         Err(_) => Failure::NoMemory,
+    }
+}
+
+/// The failure of a run that isn't made.
+fn run_failure(alloc: Global, fault: RunFault) -> Failure
+    ensures { IsRunFailure fault result }
+{
+    match fault {
+        RunFault::BadInput => Failure::BadInput,
+        RunFault::BadConfig(error) => refused(alloc, error),
+        RunFault::PageFault => Failure::PageFault,
+        RunFault::Memory => Failure::NoMemory,
     }
 }
 
@@ -57,12 +99,28 @@ fn run<S: Source, M: PageMaker>(
     let input = input_from(alloc, source)?;
     let output = match run_schedule(alloc, &input, pages) {
         Ok(output) => output,
-        Err(RunFault::BadInput) => return Err(Failure::BadInput),
-        Err(RunFault::BadConfig(error)) => return Err(refused(alloc, error)),
-        Err(RunFault::PageFault) => return Err(Failure::PageFault),
-        Err(RunFault::Memory) => return Err(Failure::NoMemory),
+        Err(fault) => return Err(run_failure(alloc, fault)),
     };
     match output_text(alloc, &input, &output) {
+        Ok(text) => Ok(text),
+        Err(_) => Err(Failure::NoMemory),
+    }
+}
+
+/// Reads the input, has its events happen, and makes the text of the replies.
+fn shared<S: Source, M: PageMaker>(
+    alloc: Global,
+    source: &mut S,
+    pages: &mut M,
+) -> Result<String, Failure>
+    ensures { Prepares M.Region Shared (S.told source.old) (S.told source.new) (M.told pages.old) (M.told pages.new) result }
+{
+    let input = shared_from(alloc, source)?;
+    let replies = match run_shared(alloc, &input, pages) {
+        Ok(replies) => replies,
+        Err(fault) => return Err(run_failure(alloc, fault)),
+    };
+    match shared_text(alloc, replies.as_slice()) {
         Ok(text) => Ok(text),
         Err(_) => Err(Failure::NoMemory),
     }
@@ -79,6 +137,7 @@ pub fn prepare<S: Source, M: PageMaker>(
 {
     match task_of(words) {
         Task::Run => run(alloc, source, pages),
+        Task::Shared => shared(alloc, source, pages),
         Task::Later => Err(Failure::NotBuilt),
         Task::Unknown => Err(Failure::BadUsage),
     }

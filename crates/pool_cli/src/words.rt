@@ -8,6 +8,8 @@ ghost use Rattle.pool_cli.specs.Words.{is_number, one_word, two_words, task_of};
 pub enum Task {
     /// A run of the schedule.
     Run,
+    /// A run of events on a shared memory.
+    Shared,
     /// What is not built yet.
     Later,
     /// Nothing that the program has.
@@ -34,7 +36,9 @@ fn one_word(word: &str) -> Task
 {
     if word == "run" {
         Task::Run
-    } else if word == "threads" || word == "shared" {
+    } else if word == "shared" {
+        Task::Shared
+    } else if word == "threads" {
         Task::Later
     } else {
         Task::Unknown

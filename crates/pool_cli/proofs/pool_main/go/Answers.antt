@@ -9,7 +9,7 @@ returns-in-Ok g c =
     (g.S.Source.told c.args.source.now) (g.S.Source.told c.prepare.new.source)
     (g.K.Sink.told c.args.sink.now) (g.K.Sink.told c.finish.new.sink)
     (g.M.PageMaker.told c.args.pages.now) (g.M.PageMaker.told c.prepare.new.pages)
-    c.in-Ok.ensures.0 c.in-Ok.ensures.1 (rw c.as_str.ensures.value at c.finish.ensures)
+    c.in-Ok.ensures (rw c.as_str.ensures.value at c.finish.ensures)
 
 pub returns-in-Err : goal.returns-in-Err
 returns-in-Err g c =
