@@ -21,13 +21,21 @@ mod limit_tests;
 #[cfg(test)]
 mod malloc_tests;
 #[cfg(test)]
+mod many_tests;
+#[cfg(test)]
 mod memory_tests;
+#[cfg(test)]
+mod parking_tests;
+#[cfg(test)]
+mod plan_tests;
 #[cfg(test)]
 mod queue_tests;
 #[cfg(test)]
 mod region_tests;
 #[cfg(test)]
 mod settings_tests;
+#[cfg(test)]
+mod shared_memory_tests;
 #[cfg(test)]
 mod slab_tests;
 #[cfg(test)]
@@ -36,5 +44,7 @@ mod slot_part_tests;
 mod slot_tests;
 #[cfg(test)]
 mod spot_tests;
+#[cfg(test)]
+mod stripe_tests;
 #[cfg(test)]
 mod table_tests;

@@ -1,34 +1,17 @@
 ghost use Rattle.std.specs.Prelude.{◌≡◌, ◌+◌, ◌<◌, length, false, IfOk, OnOk};
+ghost use Rattle.pool_hall.specs.declared.unit_name.SlotKind.TheVariants.{Memory as memory_kind};
 ghost use Rattle.pool_images.specs.Slots.{IsInUse};
-ghost use Rattle.pool_slots.specs.Queues.{HasOwners, holds};
+ghost use Rattle.pool_slots.specs.SlotQueues.{HasOwners, holds};
 
+use pool_hall::SlotKind;
 use pool_images::{MemoryImageSlot, Ranges};
-use pool_index::SlotId;
 use pool_pages::{
     DecommitBehavior, HostAlignedByteCount, IndexType, Limits, MadeRegion, MemoryKind, MemoryPages,
     MemoryTunables, MemoryType, PageMaker, PageSize, Pages, RegionName, Tunables,
 };
-use pool_slots::{DecommitQueue, MemoryAllocationIndex, MemoryItems, QueueKind, SlotReturn};
+use pool_slots::{DecommitQueue, HeldSlot, QueueKind, QueuedSlot, RegionNumbers};
 use std::alloc::Global;
 use std::test::Fail;
-
-// The slots that came back.
-#[derive(Drop)]
-struct Returned<P: Pages> {
-    slots: MemoryItems<P>,
-}
-
-impl<P: Pages> SlotReturn<P> for Returned<P> {
-    ghost use Rattle.std.specs.Prelude.{◌≡◌, ◌+◌, ◌≤◌, ◌++◌, length};
-
-    ghost accepts = { λ items r. length r.slots.items + length items ≤ r.slots.room };
-
-    ghost returns = { λ items old new. new.slots ≡ record old.slots { items = old.slots.items ++ items } };
-
-    fn memories(&mut self, items: &mut MemoryItems<P>) {
-        self.slots.append(items);
-    }
-}
 
 fn memory_type() -> MemoryType
     ensures { result.page_size_log2 ≡ 0 }
@@ -57,47 +40,55 @@ fn used_slot(alloc: Global) -> Result<MemoryImageSlot<MadeRegion>, Fail>
     Ok(slot)
 }
 
-// Resets a slot that was in use, of which 16 bytes stay resident, and pushes its ranges and it.
+// Resets a slot that was in use, of which 16 bytes stay resident, and pushes it behind its ranges.
 fn reset_into<P: Pages>(
     mut slot: MemoryImageSlot<P>,
     queue: &mut DecommitQueue<P>,
 ) -> Result<(), Fail>
     requires used { IsInUse slot }
     requires range_room { length queue.old.ranges < queue.old.range_room }
-    requires slot_room { length queue.old.memories < queue.old.slot_room }
+    requires slot_room { length queue.old.slots < queue.old.slot_room }
     requires owners { HasOwners queue.old }
-    requires not_held { holds 3 queue.old.memories ≡ false }
+    requires not_held { holds (record { kind = memory_kind; slot = 3 }) queue.old.slots ≡ false }
     ensures owners { OnOk result (HasOwners queue.new) }
-    ensures slots { OnOk result (length queue.new.memories ≡ length queue.old.memories + 1) }
+    ensures slots { OnOk result (length queue.new.slots ≡ length queue.old.slots + 1) }
 {
     let keep = HostAlignedByteCount::new(slot.region().page(), 16)?;
     let mut ranges = Ranges::new();
     let kept = slot.clear_and_remain_ready(false, keep, &mut ranges)?;
-    queue.push_ranges(SlotId(3), ranges.as_slice());
-    queue.push_memory(MemoryAllocationIndex(3), slot, kept);
+    let item = QueuedSlot {
+        slot: 3,
+        held: HeldSlot::Memory(slot),
+        known: true,
+        bytes: kept,
+        numbers: RegionNumbers {
+            faults: 0,
+            erases: 0,
+        },
+    };
+    queue.push_reset(QueueKind::Memory, item, ranges.as_slice());
     Ok(())
 }
 
 #[test]
-fn a_flush_decommits_and_gives_back(rt: HostRuntime) -> Result<(), Fail> {
+fn a_slot_comes_back_once_its_ranges_are_decommitted(rt: HostRuntime) -> Result<(), Fail> {
     let alloc = rt.alloc();
     let slot = used_slot(alloc)?;
     let mut queue = DecommitQueue::new(alloc, 2, 2)?;
     reset_into(slot, &mut queue)?;
     assert_eq!(rt; (queue.raw_len(), queue.is_empty()), (1, false));
-    let mut returned = Returned {
-        slots: MemoryItems::new(alloc, 2)?,
-    };
-    assert!(rt; queue.flush(&mut returned));
-    assert_eq!(rt; (queue.raw_len(), queue.is_empty()), (0, true));
-    let Some(item) = returned.slots.pop_front() else {
+    if queue.raw_len() == 0 {
+        return Err(Fail::new("no range"));
+    }
+    queue.decommit_run()?;
+    if queue.raw_len() > 0 {
+        return Err(Fail::new("a range is left"));
+    }
+    let Some(item) = queue.pop(SlotKind::Memory) else {
         return Err(Fail::new("no slot came back"));
     };
-    assert_eq!(rt; (item.index.index(), item.known, item.bytes), (3, true, 16));
+    assert_eq!(rt; (item.name().slot, item.known, item.bytes), (3, true, 16));
     assert_eq!(rt; item.page_calls().decommit, 1);
-    assert!(rt; returned.slots.is_empty());
-    let none = PageSize::new(16)?.zero();
-    queue.push_raw(QueueKind::Table, SlotId(5), none, none);
-    assert_eq!(rt; (queue.raw_len(), queue.is_empty()), (1, true));
+    assert_eq!(rt; (queue.raw_len(), queue.is_empty()), (0, true));
     Ok(())
 }

@@ -7,7 +7,7 @@ use pool_pages::{
     TableElementType,
 };
 use pool_slots::{
-    Allocator, OfKinds, QueueKind, RegionCell, RegionNumbers, SlotName, SlotQueue, data_size,
+    Allocator, DecommitQueue, OfKinds, QueueKind, RegionCell, RegionNumbers, SlotName, data_size,
 };
 use std::test::Fail;
 
@@ -84,11 +84,11 @@ fn a_slot_is_at_home_in_a_shard(rt: HostRuntime) -> Result<(), Fail> {
 fn a_queue_of_all_kinds_keeps_ranges(rt: HostRuntime) -> Result<(), Fail> {
     let alloc = rt.alloc();
     let none = PageSize::new(16)?.zero();
-    let mut queue = SlotQueue::<pool_pages::MadeRegion>::new(alloc, 2, 2)?;
+    let mut queue = DecommitQueue::<pool_pages::MadeRegion>::new(alloc, 2, 2)?;
     assert_eq!(rt; (queue.raw_len(), queue.is_empty()), (0, true));
     assert!(rt; !queue.zero_next(SlotKind::Stack));
     assert!(rt; queue.pop(SlotKind::Table).is_none());
-    let mut spare = SlotQueue::new(alloc, 2, 2)?;
+    let mut spare = DecommitQueue::new(alloc, 2, 2)?;
     queue.take(&mut spare);
     queue.append(&mut spare);
     assert_eq!(rt; queue.page_calls().decommit, 0);
