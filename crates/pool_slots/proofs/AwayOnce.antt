@@ -35,7 +35,7 @@ use Rattle.pool_slots.specs.declared.part.PoolPart.TheVariants as part
 use Rattle.pool_slots.proofs.ListUnits.{read_at, total_once, away_parts}
 
 -- some element of a list
-abbrev AnyOf : {X : Type 0} → (X → Type 0) → List X → Type 0
+abbrev pub AnyOf : {X : Type 0} → (X → Type 0) → List X → Type 0
 AnyOf P [] = ⊥
 AnyOf P (x ∷ xs) = P x ⊎ AnyOf P xs
 
@@ -132,7 +132,7 @@ no_cell r name other e = true≢false (sym (ap is_cell e) ∙ other)
 no_shard : (r : Role) (a : Allocator) (j : ℕ) → is_shard r ≡ false → r ≡ shard_role a j → ⊥
 no_shard r a j other e = true≢false (sym (ap is_shard e) ∙ other)
 
-cell_at : (plan : Plan) (p : ℕ) (name : SlotName) → role_at plan p ≡ cell_role name → p ≡ cell_place plan name
+pub cell_at : (plan : Plan) (p : ℕ) (name : SlotName) → role_at plan p ≡ cell_role name → p ≡ cell_place plan name
 cell_at plan p name e =
     let any : AnyOf (Gives p (cell_role name)) (blocks plan) = given (blocks plan) p (cell_role name) e (no_cell no_role name refl) in
     elim any [
@@ -241,12 +241,12 @@ unique (b ∷ bs) a n any has one =
     ]
 
 -- the allocators of one kind among all
-record IsOfKind (plan : Plan) (p : ℕ) (a : Allocator) (j : ℕ) : Type 0 where
-  kind : SlotKind
-  is : a.kind ≡ kind
-  among : AnyOf (λ b. b ≡ a) (allocators_of plan kind)
-  allocator : IsAllocator kind (of_kind kind plan.totals) a
-  place : p ≡ a.first_place + j
+pub record IsOfKind (plan : Plan) (p : ℕ) (a : Allocator) (j : ℕ) : Type 0 where
+  pub kind : SlotKind
+  pub is : a.kind ≡ kind
+  pub among : AnyOf (λ b. b ≡ a) (allocators_of plan kind)
+  pub allocator : IsAllocator kind (of_kind kind plan.totals) a
+  pub place : p ≡ a.first_place + j
 
 of_kind_of : (plan : Plan) (places p : ℕ) (a : Allocator) (j : ℕ) (kind : SlotKind) → IsPlanned plan places → AnyOf (IsPlacedAs p a j) (allocators_of plan kind) → IsOfKind plan p a j
 of_kind_of plan places p a j kind planned any =
@@ -261,14 +261,14 @@ of_kind_of plan places p a j kind planned any =
       place = any_of (IsPlacedAs p a j) (p ≡ a.first_place + j) (allocators_of plan kind) (λ b at. at.1) any;
     }
 
-shard_of_kind : (plan : Plan) (places p : ℕ) (a : Allocator) (j : ℕ) → IsPlanned plan places → role_at plan p ≡ shard_role a j → IsOfKind plan p a j
+pub shard_of_kind : (plan : Plan) (places p : ℕ) (a : Allocator) (j : ℕ) → IsPlanned plan places → role_at plan p ≡ shard_role a j → IsOfKind plan p a j
 shard_of_kind plan places p a j planned e =
     let P : Allocator → Type 0 = IsPlacedAs p a j in
-    elim (any_split P plan.memories.items (plan.tables.items ++ (plan.stacks.items ++ plan.heaps.items)) (shard_at plan p a j e)) [
+    elim (any_split P plan.memories (plan.tables ++ (plan.stacks ++ plan.heaps)) (shard_at plan p a j e)) [
       | inl memory ↦ of_kind_of plan places p a j of_slot.Memory planned memory
-      | inr rest ↦ elim (any_split P plan.tables.items (plan.stacks.items ++ plan.heaps.items) rest) [
+      | inr rest ↦ elim (any_split P plan.tables (plan.stacks ++ plan.heaps) rest) [
         | inl table ↦ of_kind_of plan places p a j of_slot.Table planned table
-        | inr rest ↦ elim (any_split P plan.stacks.items plan.heaps.items rest) [
+        | inr rest ↦ elim (any_split P plan.stacks plan.heaps rest) [
           | inl stack ↦ of_kind_of plan places p a j of_slot.Stack planned stack
           | inr heap ↦ of_kind_of plan places p a j of_slot.Heap planned heap
         ]
@@ -276,7 +276,7 @@ shard_of_kind plan places p a j planned e =
     ]
 
 -- slot k of shard j of an allocator is at home there
-home_there : (plan : Plan) (places p : ℕ) (a : Allocator) (j k : ℕ) (name : SlotName) → IsPlanned plan places → role_at plan p ≡ shard_role a j → name.kind ≡ a.kind → k < slots_at a j → name.slot ≡ number_in a (j * a.slots_per_shard + k) → p ≡ (home_of plan name).place
+pub home_there : (plan : Plan) (places p : ℕ) (a : Allocator) (j k : ℕ) (name : SlotName) → IsPlanned plan places → role_at plan p ≡ shard_role a j → name.kind ≡ a.kind → k < slots_at a j → name.slot ≡ number_in a (j * a.slots_per_shard + k) → p ≡ (home_of plan name).place
 home_there plan places p a j k name planned role kind inside' slot =
     let of' = shard_of_kind plan places p a j planned role in
     let m : ℕ = j * a.slots_per_shard + k in

@@ -29,3 +29,5 @@ pub mod PlainSlots
 pub mod TableSizes
 pub mod RegionColours
 pub mod FreshColours
+pub mod HeapLists
+pub mod HeapUnits

@@ -28,7 +28,7 @@ each_right P [] ys a = a
 each_right P (x ∷ xs) ys a = each_right P xs ys a.1
 
 -- the places of a block have the roles that it gives them
-abbrev HasRoles : List Block → Block → Type 0
+abbrev pub HasRoles : List Block → Block → Type 0
 HasRoles bs b = (i : ℕ) → i < b.count → role_among bs (b.first + i) ≡ b.role i
 
 within_own : (b : Block) (i : ℕ) → i < b.count → is_within b (b.first + i) ≡ true
@@ -45,14 +45,14 @@ within_none b d i apart h =
       | inr not ↦ not
     ]
 
-roles : (bs : List Block) → AreSeparate bs → AllByRecursion (HasRoles bs) bs
+pub roles : (bs : List Block) → AreSeparate bs → AllByRecursion (HasRoles bs) bs
 roles [] separate = tt
 roles (b ∷ bs) separate =
     let own : HasRoles (b ∷ bs) b = λ i h. let at : b.first + i - b.first ≡ i = omega arith in rw (within_own b i h, at) refl in
     (own, each_both (AreBesides b) (HasRoles bs) (HasRoles (b ∷ bs)) bs (λ d apart has i h. rw (within_none b d i apart h) (has i h)) separate.0 (roles bs separate.1))
 
 -- of the allocators of a kind, each shard has its place
-abbrev HasShards : Plan → Allocator → Type 0
+abbrev pub HasShards : Plan → Allocator → Type 0
 HasShards plan a = (j : ℕ) → j < a.shards → role_at plan (a.first_place + j) ≡ shard_role a j
 
 all_shards : (plan : Plan) → AreSeparate (blocks plan) → AllByRecursion (HasShards plan) (allocators plan)
@@ -60,27 +60,27 @@ all_shards plan separate =
     let all = roles (blocks plan) separate in
     each_mapped (HasRoles (blocks plan)) shards_block (allocators plan) all.1.1.1.1.1
 
-shards_of : (plan : Plan) (kind : SlotKind) → AreSeparate (blocks plan) → AllByRecursion (HasShards plan) (allocators_of plan kind)
-shards_of plan Memory separate = each_left (HasShards plan) plan.memories.items (plan.tables.items ++ (plan.stacks.items ++ plan.heaps.items)) (all_shards plan separate)
+pub shards_of : (plan : Plan) (kind : SlotKind) → AreSeparate (blocks plan) → AllByRecursion (HasShards plan) (allocators_of plan kind)
+shards_of plan Memory separate = each_left (HasShards plan) plan.memories (plan.tables ++ (plan.stacks ++ plan.heaps)) (all_shards plan separate)
 shards_of plan Table separate =
-    each_left (HasShards plan) plan.tables.items (plan.stacks.items ++ plan.heaps.items)
-    (each_right (HasShards plan) plan.memories.items (plan.tables.items ++ (plan.stacks.items ++ plan.heaps.items)) (all_shards plan separate))
+    each_left (HasShards plan) plan.tables (plan.stacks ++ plan.heaps)
+    (each_right (HasShards plan) plan.memories (plan.tables ++ (plan.stacks ++ plan.heaps)) (all_shards plan separate))
 shards_of plan Stack separate =
-    each_left (HasShards plan) plan.stacks.items plan.heaps.items
-    (each_right (HasShards plan) plan.tables.items (plan.stacks.items ++ plan.heaps.items)
-    (each_right (HasShards plan) plan.memories.items (plan.tables.items ++ (plan.stacks.items ++ plan.heaps.items)) (all_shards plan separate)))
+    each_left (HasShards plan) plan.stacks plan.heaps
+    (each_right (HasShards plan) plan.tables (plan.stacks ++ plan.heaps)
+    (each_right (HasShards plan) plan.memories (plan.tables ++ (plan.stacks ++ plan.heaps)) (all_shards plan separate)))
 shards_of plan Heap separate =
-    each_right (HasShards plan) plan.stacks.items plan.heaps.items
-    (each_right (HasShards plan) plan.tables.items (plan.stacks.items ++ plan.heaps.items)
-    (each_right (HasShards plan) plan.memories.items (plan.tables.items ++ (plan.stacks.items ++ plan.heaps.items)) (all_shards plan separate)))
+    each_right (HasShards plan) plan.stacks plan.heaps
+    (each_right (HasShards plan) plan.tables (plan.stacks ++ plan.heaps)
+    (each_right (HasShards plan) plan.memories (plan.tables ++ (plan.stacks ++ plan.heaps)) (all_shards plan separate)))
 
 -- the number of an allocator's slot: which of its slots it is, in which shard, and where there
-record IsNumbered (a : Allocator) (n : ℕ) : Type 0 where
-  shard : ((n - a.first) / a.step) / a.slots_per_shard < a.shards
-  inside : ((n - a.first) / a.step) % a.slots_per_shard < slots_at a (((n - a.first) / a.step) / a.slots_per_shard)
-  number : number_at a (((n - a.first) / a.step) / a.slots_per_shard) (((n - a.first) / a.step) % a.slots_per_shard) ≡ n
+pub record IsNumbered (a : Allocator) (n : ℕ) : Type 0 where
+  pub shard : ((n - a.first) / a.step) / a.slots_per_shard < a.shards
+  pub inside : ((n - a.first) / a.step) % a.slots_per_shard < slots_at a (((n - a.first) / a.step) / a.slots_per_shard)
+  pub number : number_at a (((n - a.first) / a.step) / a.slots_per_shard) (((n - a.first) / a.step) % a.slots_per_shard) ≡ n
 
-numbered : (a : Allocator) (n : ℕ) (kind : SlotKind) (total : ℕ) → IsAllocator kind total a → has_number a n ≡ true → IsNumbered a n
+pub numbered : (a : Allocator) (n : ℕ) (kind : SlotKind) (total : ℕ) → IsAllocator kind total a → has_number a n ≡ true → IsNumbered a n
 numbered a n kind total is has =
     let parts = and_parts (nat_le a.first n) (((n - a.first) % a.step == 0) && nat_lt ((n - a.first) / a.step) a.capacity) has in
     let more = and_parts ((n - a.first) % a.step == 0) (nat_lt ((n - a.first) / a.step) a.capacity) parts.1 in

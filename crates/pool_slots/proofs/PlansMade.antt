@@ -1,5 +1,5 @@
 -- A plan with one allocator for each kind is right: its blocks lie in a line, and each slot is at home.
-use Rattle.std.proofs.Common.{◌≡◌, ℕ, ◌+◌, ◌-◌, ◌*◌, ◌/◌, ◌%◌, ◌^◌, ◌<◌, ◌≤◌, true, List, [], ◌∷◌, ◌++◌, refl, sym, ap, ◌∙◌, subst, inl, inr, arith}
+use Rattle.std.proofs.Common.{◌≡◌, ℕ, ◌+◌, ◌-◌, ◌*◌, ◌/◌, ◌%◌, ◌^◌, ◌<◌, ◌≤◌, Bool, true, List, [], ◌∷◌, ◌++◌, refl, sym, ap, ◌∙◌, subst, inl, inr, arith}
 use Rattle.std.specs.Prelude.{map, nat_le, nat_lt, min}
 use Rattle.std.specs.List.{AllByRecursion}
 use Rattle.std.proofs.lemmas.Bool.{and_from, lt-ltb, le-leb}
@@ -58,10 +58,10 @@ shards_line s = (omega arith, (omega arith, (omega arith, (omega arith, omega ar
 
 four_are : (s : PlanSettings) (plan : Plan) → IsPlanOf s plan → allocators plan ≡ four s
 four_are s plan is =
-    let m : plan.memories.items ≡ allocator_planned s Memory ∷ [] = is.allocators Memory in
-    let t : plan.tables.items ≡ allocator_planned s Table ∷ [] = is.allocators Table in
-    let k : plan.stacks.items ≡ allocator_planned s Stack ∷ [] = is.allocators Stack in
-    let h : plan.heaps.items ≡ allocator_planned s Heap ∷ [] = is.allocators Heap in
+    let m : plan.memories ≡ allocator_planned s Memory ∷ [] = is.allocators Memory in
+    let t : plan.tables ≡ allocator_planned s Table ∷ [] = is.allocators Table in
+    let k : plan.stacks ≡ allocator_planned s Stack ∷ [] = is.allocators Stack in
+    let h : plan.heaps ≡ allocator_planned s Heap ∷ [] = is.allocators Heap in
     rw (m, t, k, h) refl
 
 abbrev behind_shards : Plan → List Block
@@ -160,3 +160,19 @@ pub at_home : (s : PlanSettings) (plan : Plan) → HaveShards s → IsPlanOf s p
 at_home s plan have is name inside =
     let B : OfKinds → Type 0 = λ o. name.slot < of_kind name.kind o in
     slots_are_at_home plan (places_planned s) name (planned s plan have is) (subst B (sym is.totals) inside)
+
+-- The settings determine the plan.
+pub one_plan : (s : PlanSettings) (a b : Plan) → IsPlanOf s a → IsPlanOf s b → a ≡ b
+one_plan s a b one two =
+    let lists : (kind : SlotKind) → allocators_of a kind ≡ allocators_of b kind = λ kind. one.allocators kind ∙ sym (two.allocators kind) in
+    let Lists : List Allocator → List Allocator → List Allocator → List Allocator → Plan =
+    λ memories tables stacks heaps. record { memories = memories; tables = tables; stacks = stacks; heaps = heaps; cells = a.cells; totals = a.totals; first_queue = a.first_queue; queues = a.queues; heap_list = a.heap_list; owned = a.owned } in
+    let Sizes : OfKinds → OfKinds → ℕ → ℕ → ℕ → Bool → Plan =
+    λ cells totals first queues heaps owned. record { memories = b.memories; tables = b.tables; stacks = b.stacks; heaps = b.heaps; cells = cells; totals = totals; first_queue = first; queues = queues; heap_list = heaps; owned = owned } in
+    ap (λ (l : List Allocator). Lists l a.tables a.stacks a.heaps) (lists Memory) ∙ ap (λ (l : List Allocator). Lists b.memories l a.stacks a.heaps) (lists Table) ∙ ap (λ (l : List Allocator). Lists b.memories b.tables l a.heaps) (lists Stack) ∙ ap (Lists b.memories b.tables b.stacks) (lists Heap)
+    ∙ ap (λ (x : OfKinds). Sizes x a.totals a.first_queue a.queues a.heap_list a.owned) (one.cells ∙ sym two.cells)
+    ∙ ap (λ (x : OfKinds). Sizes b.cells x a.first_queue a.queues a.heap_list a.owned) (one.totals ∙ sym two.totals)
+    ∙ ap (λ (n : ℕ). Sizes b.cells b.totals n a.queues a.heap_list a.owned) (one.first_queue ∙ sym two.first_queue)
+    ∙ ap (λ (n : ℕ). Sizes b.cells b.totals b.first_queue n a.heap_list a.owned) (one.queues ∙ sym two.queues)
+    ∙ ap (λ (n : ℕ). Sizes b.cells b.totals b.first_queue b.queues n a.owned) (one.heap_list ∙ sym two.heap_list)
+    ∙ ap (Sizes b.cells b.totals b.first_queue b.queues b.heap_list) (one.shared ∙ sym two.shared)

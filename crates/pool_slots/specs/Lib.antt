@@ -2,6 +2,8 @@ pub mod CellOf
 pub mod Cells
 pub mod Colourings
 pub mod Flushes
+pub mod HeapLists
+pub mod HeapUnits
 pub mod HeapsTold
 pub mod HeldSlots
 pub mod Makings

@@ -11,10 +11,10 @@ use Rattle.pool_slots.specs.declared.plan.Plan.{Plan}
 
 -- the allocators of a kind
 abbrev pub allocators_of : Plan → SlotKind → List Allocator
-allocators_of plan Memory = plan.memories.items
-allocators_of plan Table = plan.tables.items
-allocators_of plan Stack = plan.stacks.items
-allocators_of plan Heap = plan.heaps.items
+allocators_of plan Memory = plan.memories
+allocators_of plan Table = plan.tables
+allocators_of plan Stack = plan.stacks
+allocators_of plan Heap = plan.heaps
 
 -- the number of slot k of an allocator, and that of slot k of its shard j
 abbrev pub number_in : Allocator → ℕ → ℕ
@@ -87,7 +87,7 @@ cells_block plan kind = record { first = of_kind kind plan.cells; count = of_kin
 -- The blocks of a plan: the shards of each allocator, the cells of memories, tables and stacks, the queues, and the one
 -- place of the list of heaps, where there are heaps.
 abbrev pub allocators : Plan → List Allocator
-allocators plan = plan.memories.items ++ (plan.tables.items ++ (plan.stacks.items ++ plan.heaps.items))
+allocators plan = plan.memories ++ (plan.tables ++ (plan.stacks ++ plan.heaps))
 
 abbrev pub blocks : Plan → List Block
 blocks plan =

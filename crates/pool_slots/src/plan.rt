@@ -5,6 +5,7 @@ ghost use Rattle.pool_slots.specs.Plans.{home_in, home_of, home_among, has_numbe
 
 use crate::slot_name::{OfKinds, SlotName};
 use pool_index::{SlotId, SlotKind};
+use pool_pages::PlainList;
 
 /// An allocator of slots of one kind: its shards are parts in a row, and its slots numbers in steps.
 #[derive(Clone, Copy, Debug, PartialEq, Eq)]
@@ -31,10 +32,10 @@ pub struct Home {
 #[derive(Drop)]
 pub struct Plan {
     /// One allocator for each stripe, or for each party that has parts of its own.
-    pub memories: Vec<Allocator>,
-    pub tables: Vec<Allocator>,
-    pub stacks: Vec<Allocator>,
-    pub heaps: Vec<Allocator>,
+    pub memories: PlainList<Allocator>,
+    pub tables: PlainList<Allocator>,
+    pub stacks: PlainList<Allocator>,
+    pub heaps: PlainList<Allocator>,
     /// The place of the first cell of each kind. Heaps have no cells.
     pub cells: OfKinds,
     /// The number of slots of each kind.
@@ -131,10 +132,10 @@ impl Plan {
         ensures { result ≡ home_of self.now name }
     {
         match name.kind {
-            SlotKind::Memory => home_among(&self.memories, name.slot),
-            SlotKind::Table => home_among(&self.tables, name.slot),
-            SlotKind::Stack => home_among(&self.stacks, name.slot),
-            SlotKind::Heap => home_among(&self.heaps, name.slot),
+            SlotKind::Memory => home_among(self.memories.as_slice(), name.slot),
+            SlotKind::Table => home_among(self.tables.as_slice(), name.slot),
+            SlotKind::Stack => home_among(self.stacks.as_slice(), name.slot),
+            SlotKind::Heap => home_among(self.heaps.as_slice(), name.slot),
         }
     }
 }

@@ -9,6 +9,7 @@ ghost use Rattle.pool_slots.specs.PlansMade.{HaveShards, shards_from, shards_pla
 use crate::plan::{Allocator, Plan};
 use crate::slot_name::OfKinds;
 use pool_index::SlotKind;
+use pool_pages::PlainList;
 use std::alloc::{AllocError, Global};
 
 /// How many slots of each kind a pool has, and how they are divided among shards, where each kind has one allocator.
@@ -123,10 +124,10 @@ impl PlanSettings {
     }
 }
 
-fn one_allocator(alloc: Global, allocator: Allocator) -> Result<Vec<Allocator>, AllocError>
-    ensures ok { IfOk result (λ v. v.items ≡ allocator ∷ []) }
+fn one_allocator(alloc: Global, allocator: Allocator) -> Result<PlainList<Allocator>, AllocError>
+    ensures ok { IfOk result (λ l. l ≡ allocator ∷ []) }
 {
     let mut list = Vec::with_capacity(alloc, 1)?;
     list.push(allocator)?;
-    Ok(list)
+    Ok(PlainList::from_vec(list))
 }
