@@ -1,4 +1,8 @@
 -- The rows of a request until it has a slot.
+use Rattle.pool_hall.specs.declared.unit_name.SlotKind.TheVariants.{Memory as memory_kind}
+use Rattle.pool_hall.specs.declared.unit_name.SlotKind.{SlotKind}
+use Rattle.pool_hall.specs.Unit.{pick_unit}
+use Rattle.pool_alloc.proofs.PlanPlaces.{IsShardPlace, IsQueuePlace, apart_places, tried_is_shard, tried_is_queue, stripe_most}
 use Rattle.std.proofs.Common.{◌≡◌, ℕ, ◌+◌, ◌<◌, ◌≤◌, Bool, true, false, List, [], length, refl, sym, ap, subst, inl, arith, Option, Some, None}
 use Rattle.std.specs.Prelude.{◌==◌, nat_lt, IfSome}
 use Rattle.std.proofs.lemmas.Bool.{ltb-true, ltb-false}
@@ -19,35 +23,42 @@ use Rattle.pool_slots.specs.SlotQueues.{Queue, after_take, taken_into}
 use Rattle.pool_slots.specs.declared.errors.AllocError.{AllocError}
 use Rattle.pool_slots.specs.declared.errors.AllocError.TheVariants as refusal
 use Rattle.pool_slots.proofs.SlotRuns.{no_slots}
-use Rattle.pool_alloc.specs.Bounds.{PoolSizes, give_back_bound, pool_sizes, flush_left, memories_left}
+use Rattle.pool_alloc.specs.Bounds.{PoolSizes, give_back_bound, sizes_of, flush_left, memories_left}
 use Rattle.pool_alloc.specs.Leases.{Lease}
-use Rattle.pool_alloc.specs.Places.{right_to, queued_count, leased_count, freed_count}
+use Rattle.pool_alloc.specs.Places.{right_to, queued_count, leased_count, freed_count, Thing, slot_count}
 use Rattle.pool_alloc.specs.Refusals.{memories_refused}
 use Rattle.pool_alloc.specs.Rows.{key_row, refused_at_once, reserved, validated, validate_row, counted, count_instance_row, picked, pick_on, in_shard, take_queue_on, in_queue}
 use Rattle.pool_alloc.specs.Searches.{AreFull, AreEmpty, IsSearchedBy}
 use Rattle.pool_alloc.specs.Sound.{IsCore, IsShared, IsLeaseOf, IsToGrant, AreBegun}
 use Rattle.pool_alloc.specs.Stages.{uncounted, asks, stage_by, IsUntested, Goes}
-use Rattle.pool_alloc.specs.Steps.{memories_wanted, images_wanted, wanted, nth_shard, nth_queue, with_shard, with_queue, counting_instances, shard_tried, queue_tried, queue_place}
-use Rattle.pool_alloc.specs.Turns.{goes, next, flush, search, Row, failing, no_slot_left}
+use Rattle.pool_alloc.specs.Steps.{memories_wanted, images_wanted, wanted, shard_at, queue_at, with_shard, with_queue, counting_instances, shard_tried, queue_tried, memory_slots, allocator_for}
+use Rattle.pool_alloc.specs.Turns.{goes, next, flush, Row, failing, no_slot_left, memory_search}
 use Rattle.pool_alloc.proofs.CoreChanges.{core_with_shard, core_with_queue, core_with_counters}
 use Rattle.pool_alloc.proofs.FlushSteps.{few_in_queue, flush_few}
-use Rattle.pool_alloc.proofs.FullShards.{nothing_kept}
+use Rattle.pool_alloc.proofs.FullShards.{nothing_left}
 use Rattle.pool_alloc.proofs.Hands.{empty_length, Hand, in_phase, hand, held_of, Even, Kept, Ready, IsReadyRow, either_ready}
-use Rattle.pool_alloc.proofs.KeptCounts.{kept_shard, kept_queue}
+use Rattle.pool_alloc.proofs.KeptCounts.{kept_shard, kept_queue, away_shard, away_queue}
 use Rattle.pool_alloc.proofs.LocalQueues.{taken_shared, taken_local, local_of_shared}
 use Rattle.pool_alloc.proofs.Picks.{picked_sound, picked_same, picked_inside}
 use Rattle.pool_alloc.proofs.Searching.{tried_full, still_full, taken_empty, was_empty, still_empty, full_beside}
 use Rattle.pool_alloc.proofs.SlotCounts.{picked_count, pick_counts}
-use Rattle.pool_alloc.proofs.Stages.{tried_is_shard, tried_is_queue}
 use Rattle.pool_alloc.proofs.Supporting.{supported}
 use Rattle.pool_alloc.proofs.Telling.{told_weaker}
 use Rattle.pool_alloc.proofs.Ways.{Can, aims_grant, same_times, first_memory, next_round, next_queue, kept_part, same_way, fails_way}
-use Rattle.pool_alloc.proofs.PoolParts.{sound_shard, sound_queue, shard_part, queue_part}
+use Rattle.pool_alloc.proofs.PoolParts.{sound_shard, sound_queue, shard_part, queue_part, slot_of_shard, of_memories}
 use Rattle.pool_slots.specs.declared.part.PoolPart.TheVariants as part
 
--- what a pick has in hand
+-- how much the slot weighs that a pick answered, as that of a memory; and what the pick has in hand
+abbrev picked_slot : Thing → ShardState → Option (SlotId × ℕ) → ℕ
+picked_slot t s (Some p) = slot_count t (slot_number s p.0.0)
+picked_slot t s None = 0
+
 abbrev picked_hand : ShardState → Option (SlotId × ℕ) → Hand
-picked_hand shard o = record { things = λ t. picked_count t shard o; instances = 1; memories = 0 }
+picked_hand shard o = record { things = λ t. picked_slot t shard o; instances = 1; memories = 0 }
+
+picked_as : (t : Thing) (s : ShardState) (o : Option (SlotId × ℕ)) → s.kind ≡ memory_kind → picked_count t s o ≡ picked_slot t s o
+picked_as t s None kind = refl
+picked_as t s (Some p) kind = ap (λ (k : SlotKind). t (pick_unit k (slot_number s p.0.0))) kind
 
 module _ {P : Type 0} (maker : MakerTold) (old new : LimiterTold) where
   abbrev Shows : Phase P → PoolCore P → Frame P → Row (PoolCore P) P → Type 0
@@ -58,9 +69,10 @@ module _ {P : Type 0} (maker : MakerTold) (old new : LimiterTold) where
   key_ready c f can = record {
     kept = record {
       core = core_with_counters maker (record c.counters { key = _ }) c can.core;
-      held = record { stripe = mod-lt c.counters.key can.core.settings.stripes; queue = can.frame.queue; freed_room = can.frame.freed_room; freed_bytes = can.frame.freed_bytes; objects = can.frame.objects };
+      held = record { stripe = mod-lt c.counters.key can.core.plan.stripes; queue = can.frame.queue; freed_room = can.frame.freed_room; freed_each = can.frame.freed_each; objects = can.frame.objects };
       asked = refl;
       settings = refl;
+      plan = refl;
       instances_by_one = omega arith;
       memories_by_one = omega arith;
     };
@@ -74,7 +86,7 @@ module _ {P : Type 0} (maker : MakerTold) (old new : LimiterTold) where
   -- A request is refused before anything is granted.
   refused_ready : (e : AllocError) (c : PoolCore P) (f : Frame P) → Can maker Validate c f → IsUntested (memories_refused c.settings (memories_wanted f.asked)) e → Shows Validate c f (refused_at_once e c (in_phase Idle f))
   refused_ready e c f can is = record {
-    kept = kept_part maker old new c (in_phase Validate f) c (failing e (in_phase Idle f)) can.core (held_of maker c.settings (in_phase Validate f) can.frame) refl refl refl;
+    kept = kept_part maker old new c (in_phase Validate f) c (failing e (in_phase Idle f)) can.core (held_of maker c.settings c.plan (in_phase Validate f) can.frame) refl refl refl refl;
     shape = (can.frame.shape.0, tt);
     even = record { places = λ t. omega arith; instances = omega arith; memories = omega arith };
     fewer = omega arith;
@@ -91,8 +103,8 @@ module _ {P : Type 0} (maker : MakerTold) (old new : LimiterTold) where
       let has : Frame P = record f { phase = Idle; objects = record { items = []; room = length (memories_wanted f.asked) } } in
       record {
         kept = kept_part maker old new c (in_phase Validate f) c has can.core
-            (record { stripe = can.frame.stripe; queue = can.frame.queue; freed_room = can.frame.freed_room; freed_bytes = can.frame.freed_bytes; objects = All-nil (IsLeaseOf maker c.settings) })
-            refl refl refl;
+            (record { stripe = can.frame.stripe; queue = can.frame.queue; freed_room = can.frame.freed_room; freed_each = can.frame.freed_each; objects = All-nil (IsLeaseOf maker c.settings c.plan) })
+            refl refl refl refl;
         shape = (refl, (record { settled = rest.settled; no_objects = refl }, asking, supported c.settings (memories_wanted f.asked) (images_wanted f.asked) can.core.settings.memories can.frame.shape.2 is, refl));
         even = record { places = λ t. omega (arith, ap (leased_count t) none); instances = omega arith; memories = omega (arith, ap (length {A = Lease}) none) };
         fewer = omega arith;
@@ -115,7 +127,7 @@ module _ {P : Type 0} (maker : MakerTold) (old new : LimiterTold) where
       let none : f.objects.items ≡ [] = rest.no_objects in
       let now : PoolCore P = counting_instances (c.counters.core_instances + 1) c in
       let B : List Lease → Type 0 = λ ls. AreBegun c.settings f.asked ls in
-      let to_grant : IsToGrant c.settings f.asked f.queues f.objects = record {
+      let to_grant : IsToGrant c.settings c.plan f.asked f.queues f.objects = record {
         supported = can.frame.shape.2;
         images = asking.images;
         room = can.frame.shape.3;
@@ -126,10 +138,10 @@ module _ {P : Type 0} (maker : MakerTold) (old new : LimiterTold) where
       let S : Ending → Type 0 = λ x. IsSearchedBy x (AreEmpty f.queues now (in_phase Idle f)) in
       let W : Ending → Type 0 = λ x. Goes maker old new c (in_phase CountInstance f) (asks uncounted) (stage_by x (length f.objects.items)) None in
       record {
-        kept = record { core = core_with_counters maker (record c.counters { core_instances = c.counters.core_instances + 1 }) c can.core; held = held_of maker c.settings (in_phase CountInstance f) can.frame; asked = refl; settings = refl; instances_by_one = omega arith; memories_by_one = omega arith };
-        shape = (rest.settled, aims_grant c.settings f.ending f.asked f.queues f.objects asking.ending to_grant);
+        kept = record { core = core_with_counters maker (record c.counters { core_instances = c.counters.core_instances + 1 }) c can.core; held = held_of maker c.settings c.plan (in_phase CountInstance f) can.frame; asked = refl; settings = refl; plan = refl; instances_by_one = omega arith; memories_by_one = omega arith };
+        shape = (rest.settled, aims_grant c.settings c.plan f.ending f.asked f.queues f.objects asking.ending to_grant);
         even = record { places = λ t. omega arith; instances = omega arith; memories = omega arith };
-        fewer = first_memory (pool_sizes c) f.ending f.queues f.asked f.objects asking.ending asking.none_taken none;
+        fewer = first_memory (sizes_of c.plan) f.ending f.queues f.asked f.objects asking.ending asking.none_taken none;
         way = subst W (sym asking.ending) (ap (length {A = Lease}) none, ltb-true _ _ is);
         searched = λ s. subst S (sym asking.ending) (λ j below. absurd (omega (arith, below, asking.none_taken)));
       }
@@ -137,10 +149,10 @@ module _ {P : Type 0} (maker : MakerTold) (old new : LimiterTold) where
       let rest = can.frame.shape.0 in
       let none : f.objects.items ≡ [] = rest.no_objects in
       record {
-        kept = record { core = core_with_counters maker (record c.counters { core_instances = c.counters.core_instances + 1 }) c can.core; held = held_of maker c.settings (in_phase CountInstance f) can.frame; asked = refl; settings = refl; instances_by_one = omega arith; memories_by_one = omega arith };
+        kept = record { core = core_with_counters maker (record c.counters { core_instances = c.counters.core_instances + 1 }) c can.core; held = held_of maker c.settings c.plan (in_phase CountInstance f) can.frame; asked = refl; settings = refl; plan = refl; instances_by_one = omega arith; memories_by_one = omega arith };
         shape = (rest.settled, tt);
         even = record { places = λ t. omega arith; instances = omega arith; memories = omega arith };
-        fewer = omega (arith, same_times (length f.objects.items) 0 (give_back_bound (pool_sizes c)) (ap (length {A = Lease}) none));
+        fewer = omega (arith, same_times (length f.objects.items) 0 (give_back_bound (sizes_of c.plan)) (ap (length {A = Lease}) none));
         way = (refl, ltb-false _ _ is);
         searched = λ s. tt;
       }
@@ -150,123 +162,124 @@ module _ {P : Type 0} (maker : MakerTold) (old new : LimiterTold) where
 
   -- A slot is picked from a shard, of which this is left.
   picked_ready : (tried : ℕ) (o : Option (SlotId × ℕ)) (shard next_shard : ShardState) (c : PoolCore P) (f : Frame P) →
-      (let d : PoolCore P = with_shard (shard_tried tried c.settings f) next_shard c in
+      (let d : PoolCore P = with_shard (shard_tried tried c.plan f) next_shard c in
       let e : Frame P = in_phase (Pick tried) f in
       Can maker (Pick tried) c f →
       IsCore maker d →
-      IfSome o (λ p. slot_number shard p.0.0 < c.settings.slots) →
+      IfSome o (λ p. slot_number shard p.0.0 < memory_slots c.plan) →
       Even maker old new c e (picked_hand shard o) d (in_phase Idle f) →
       (o ≡ None → AreFull tried c f → AreFull (tried + 1) c f × AreFull (tried + 1) d f) →
-      Ready maker old new c e d (in_phase Idle f) (picked c.settings.shards o shard tried))
+      Ready maker old new c e d (in_phase Idle f) (picked c.plan o shard tried (in_phase Idle f)))
   picked_ready tried (Some p) shard next_shard c f can core inside even full = record {
-    kept = kept_part maker old new c (in_phase (Pick tried) f) _ (in_phase Idle f) core (held_of maker c.settings (in_phase (Pick tried) f) can.frame) refl refl refl;
+    kept = kept_part maker old new c (in_phase (Pick tried) f) _ (in_phase Idle f) core (held_of maker c.settings c.plan (in_phase (Pick tried) f) can.frame) refl refl refl refl;
     shape = (refl, (can.frame.shape.0, can.frame.shape.1, inside));
     even = even;
-    fewer = omega (arith, can.frame.shape.2);
+    fewer = omega (arith, can.frame.shape.2, stripe_most c.plan f.stripe can.frame.stripe);
     way = same_way maker old new c (in_phase (Pick tried) f) f.ending (length f.objects.items);
     searched = λ s. tt;
   }
   picked_ready tried None shard next_shard c f can core inside even full =
-      let d : PoolCore P = with_shard (shard_tried tried c.settings f) next_shard c in
+      let d : PoolCore P = with_shard (shard_tried tried c.plan f) next_shard c in
       let e : Frame P = in_phase (Pick tried) f in
       let settled = can.frame.shape.0 in
       let allocating = can.frame.shape.1 in
-      let empty = still_empty f.queues (shard_tried tried c.settings f) (part.Shard next_shard) c f (omega (arith, tried_is_shard maker tried c f can.core)) in
-      let kept = kept_part maker old new c e d (in_phase Idle f) core (held_of maker c.settings e can.frame) refl refl refl in
+      let tried_place = tried_is_shard tried c.plan (length c.parts) f can.core.plan can.frame.stripe in
+      let empty = still_empty f.queues (shard_tried tried c.plan f) (part.Shard next_shard) c f can.core.plan (λ q queue e. apart_places c.plan (shard_tried tried c.plan f) q tried_place queue (sym e)) in
+      let kept = kept_part maker old new c e d (in_phase Idle f) core (held_of maker c.settings c.plan e can.frame) refl refl refl refl in
       let stays = same_way maker old new c e f.ending (length f.objects.items) in
-      either_ready maker old new c e d (in_phase Idle f) (nat_lt (tried + 1) c.settings.shards) (goes (Pick (tried + 1))) search
+      either_ready maker old new c e d (in_phase Idle f) (nat_lt (tried + 1) (allocator_for c.plan f).shards) (goes (Pick (tried + 1))) (memory_search c.plan f)
       (λ more. record {
         kept = kept;
         shape = (refl, (settled, allocating, ltb-true _ _ more));
         even = even;
-        fewer = omega (arith, can.frame.shape.2);
+        fewer = omega (arith, can.frame.shape.2, stripe_most c.plan f.stripe can.frame.stripe);
         way = stays;
         searched = λ s. (empty s.0, (full refl s.1).1);
       })
       (λ last.
-      let round : c.settings.shards ≤ tried + 1 = ltb-false _ _ last in
+      let round : (allocator_for c.plan f).shards ≤ tried + 1 = ltb-false _ _ last in
       record {
         kept = kept;
-        shape = (settled, allocating);
+        shape = (refl, settled, allocating);
         even = even;
-        fewer = omega (arith, can.frame.shape.2);
+        fewer = omega (arith, can.frame.shape.2, stripe_most c.plan f.stripe can.frame.stripe);
         way = (
           stays,
-          λ gone. fails_way maker old new c e f.ending (length f.objects.items) (no_slot_left c.settings f) allocating.ending (inl (record {
+          λ gone. fails_way maker old new c e f.ending (length f.objects.items) (no_slot_left c.plan f) allocating.ending (inl (record {
             is = refl;
             number = refl;
             allocating = can.frame.shape.1;
             has = λ k. omega (arith, ap (queued_count (right_to k)) settled.no_slots, ap (freed_count (right_to k)) settled.none_freed);
-            none = λ s. nothing_kept maker c f can.core (λ j below. s.0 j (omega (arith, below, gone))) (λ j below. (full refl s.1).0 j (omega (arith, below, round)));
+            none = λ s k number. nothing_left maker c f can.core can.frame.stripe (λ j below. s.0 j (omega (arith, below, gone))) (λ j below. (full refl s.1).0 j (omega (arith, below, round))) k number;
           })),
         );
         searched = λ s. (empty s.0, λ j below. (full refl s.1).1 j (omega (arith, below, round)));
       })
 
-  pub pick_ready : (tried : ℕ) (c : PoolCore P) (f : Frame P) → Can maker (Pick tried) c f → Shows (Pick tried) c f (in_shard (shard_tried tried c.settings f) c (pick_on c.settings tried (nth_shard (shard_tried tried c.settings f) c) (in_phase Idle f)))
+  pub pick_ready : (tried : ℕ) (c : PoolCore P) (f : Frame P) → Can maker (Pick tried) c f → Shows (Pick tried) c f (in_shard (shard_tried tried c.plan f) c (pick_on c.plan tried (shard_at (shard_tried tried c.plan f) c) (in_phase Idle f)))
   pick_ready tried c f can =
-      let j : ℕ = shard_tried tried c.settings f in
-      let shard : ShardState = nth_shard j c in
-      let below : j < c.settings.shards = tried_is_shard maker tried c f can.core in
+      let j : ℕ = shard_tried tried c.plan f in
+      let shard : ShardState = shard_at j c in
+      let below : IsShardPlace c.plan j = tried_is_shard tried c.plan (length c.parts) f can.core.plan can.frame.stripe in
       let sound = sound_shard maker j c can.core below in
       picked_ready tried (pick_answer (wanted f) shard) shard (after_pick (wanted f) shard) c f can
       (core_with_shard maker j (after_pick (wanted f) shard) c can.core below (picked_sound (wanted f) shard sound) (picked_same (wanted f) shard))
-      (told_weaker (λ p. p.0.0 < shard.capacity) (λ p. slot_number shard p.0.0 < c.settings.slots) (pick_answer (wanted f) shard) (λ p within. omega (arith, (can.core.layout.back j p.0.0 below within).0)) (picked_inside (wanted f) shard sound))
-      (record { places = λ t. omega (arith, kept_shard t j (after_pick (wanted f) shard) c (shard_part maker j c can.core below), pick_counts t (wanted f) shard sound); instances = omega arith; memories = omega arith })
-      (λ none full. let more = tried_full maker tried c f can.core none full in (more, still_full maker (tried + 1) tried c f can.core none more))
+      (told_weaker (λ p. p.0.0 < shard.capacity) (λ p. slot_number shard p.0.0 < memory_slots c.plan) (pick_answer (wanted f) shard) (λ p within. (slot_of_shard maker j p.0.0 c can.core below within).inside) (picked_inside (wanted f) shard sound))
+      (record { places = λ t. omega (arith, kept_shard t j (after_pick (wanted f) shard) c (shard_part maker j c can.core below), away_shard t j (after_pick (wanted f) shard) c (shard_part maker j c can.core below), pick_counts t (wanted f) shard sound, picked_as t shard (pick_answer (wanted f) shard) (of_memories maker j c can.core below).kind); instances = omega arith; memories = omega arith })
+      (λ none full. let more = tried_full maker tried c f can.core can.frame.stripe none full in (more, still_full maker (tried + 1) tried c f can.core can.frame.stripe none more))
 
   -- A queue is taken.
-  pub take_queue_ready : (c : PoolCore P) (f : Frame P) → Can maker TakeQueue c f → Shows TakeQueue c f (in_queue (queue_tried f.queues c.settings f) c (take_queue_on (nth_queue (queue_tried f.queues c.settings f) c) (in_phase Idle f)))
+  pub take_queue_ready : (c : PoolCore P) (f : Frame P) → Can maker TakeQueue c f → Shows TakeQueue c f (in_queue (queue_tried f.queues c.plan f) c (take_queue_on c.plan (queue_at (queue_tried f.queues c.plan f) c) (in_phase Idle f)))
   take_queue_ready c f can =
-      let i : ℕ = queue_tried f.queues c.settings f in
-      let q : Queue = nth_queue i c in
-      let below : i < c.settings.queues = tried_is_queue maker f.queues c f can.core in
+      let i : ℕ = queue_tried f.queues c.plan f in
+      let q : Queue = queue_at i c in
+      let below : IsQueuePlace c.plan i = tried_is_queue f.queues c.plan (length c.parts) f can.core.plan in
       let shared : IsShared maker c.settings q = sound_queue maker i c can.core below in
       let d : PoolCore P = with_queue i (after_take q) c in
       let e : Frame P = in_phase TakeQueue f in
       let has : Frame P = record f { phase = Idle; local = taken_into f.local q; queues = f.queues + 1 } in
       let settled = can.frame.shape.0 in
       let was = can.frame.shape.1.to_grant in
-      let z : PoolSizes = pool_sizes c in
-      let to_grant : IsToGrant c.settings f.asked (f.queues + 1) f.objects = record { supported = was.supported; images = was.images; room = was.room; few = was.few; begun = was.begun; taken = omega (arith, can.frame.shape.2) } in
+      let z : PoolSizes = sizes_of c.plan in
+      let to_grant : IsToGrant c.settings c.plan f.asked (f.queues + 1) f.objects = record { supported = was.supported; images = was.images; room = was.room; few = was.few; begun = was.begun; taken = omega (arith, can.frame.shape.2) } in
       let kept : Kept maker old new c e d has = kept_part maker old new c e d has
-      (core_with_queue maker i (after_take q) c can.core (taken_shared maker c.settings q can.core.settings shared.range_room shared.slot_room))
+      (core_with_queue maker i (after_take q) c can.core below (taken_shared maker c.settings q can.core.settings shared.range_room shared.slot_room))
       (record {
         stripe = can.frame.stripe;
         queue = taken_local maker c.settings f.local q can.frame.queue (local_of_shared maker c.settings q shared);
         freed_room = (can.frame.freed_room.0, omega (arith, shared.slots, shared.short, ap (length {A = FreedSlot}) settled.none_freed));
-        freed_bytes = can.frame.freed_bytes;
+        freed_each = can.frame.freed_each;
         objects = can.frame.objects;
       })
-      refl refl refl in
-      let even : Even maker old new c e (hand {P = P} next) d has = record { places = λ t. omega (arith, kept_queue t i (after_take q) c (queue_part maker i c can.core below), ap (queued_count t) settled.no_slots); instances = omega arith; memories = omega arith } in
-      let few = flush_few z c.settings.slots has.local f.freed shared.grouped (few_in_queue maker i c e can below) in
+      refl refl refl refl in
+      let even : Even maker old new c e (hand {P = P} next) d has = record { places = λ t. omega (arith, kept_queue t i (after_take q) c (queue_part maker i c can.core below), away_queue t i (after_take q) c (queue_part maker i c can.core below), ap (queued_count t) settled.no_slots); instances = omega arith; memories = omega arith } in
+      let few = flush_few z (memory_slots c.plan) has.local f.freed shared.grouped (few_in_queue maker i c e can below) in
       let stays = same_way maker old new c e f.ending (length f.objects.items) in
-      either_ready maker old new c e d has (length q.slots == 0) search flush
+      either_ready maker old new c e d has (length q.slots == 0) (memory_search c.plan has) flush
       (λ none.
       let empty = empty_length q.slots none in
       record {
         kept = kept;
-        shape = (record { no_ranges = no_slots q.ranges q.slots empty shared.owners; no_slots = empty; none_freed = settled.none_freed }, record { ending = can.frame.shape.1.ending; to_grant = to_grant; more = can.frame.shape.1.more });
+        shape = (refl, record { no_ranges = no_slots q.ranges q.slots empty shared.owners; no_slots = empty; none_freed = settled.none_freed }, record { ending = can.frame.shape.1.ending; to_grant = to_grant; more = can.frame.shape.1.more });
         even = even;
         fewer = omega (arith, next_queue z f.queues 0 (6 + memories_left z f.asked f.objects) can.frame.shape.2 (omega arith));
         way = (
           stays,
-          λ gone. fails_way maker old new c e f.ending (length f.objects.items) (no_slot_left c.settings f) can.frame.shape.1.ending (inl (record {
+          λ gone. fails_way maker old new c e f.ending (length f.objects.items) (no_slot_left c.plan f) can.frame.shape.1.ending (inl (record {
             is = refl;
             number = refl;
             allocating = can.frame.shape.1;
             has = λ k. omega (arith, ap (queued_count (right_to k)) settled.no_slots, ap (freed_count (right_to k)) settled.none_freed);
-            none = λ s. nothing_kept maker c f can.core (λ j under. was_empty f.queues c f empty s.0 j (omega (arith, under, gone))) s.1;
+            none = λ s k number. nothing_left maker c f can.core can.frame.stripe (λ j under. was_empty f.queues c f empty s.0 j (omega (arith, under, gone))) s.1 k number;
           })),
         );
-        searched = λ s. (taken_empty maker f.queues (after_take q) c f can.core refl s.0, full_beside maker c.settings.shards (queue_place c.settings i) (part.Queue (after_take q)) c f can.core (omega arith) s.1);
+        searched = λ s. (taken_empty maker f.queues (after_take q) c f can.core refl s.0, full_beside (allocator_for c.plan f).shards i (part.Queue (after_take q)) c f can.core.plan can.frame.stripe below s.1);
       })
       (λ some.
       let S : Ending → Type 0 = λ x. IsSearchedBy x (AreEmpty (f.queues + 1) d has) in
       record {
         kept = kept;
-        shape = aims_grant c.settings f.ending f.asked (f.queues + 1) f.objects can.frame.shape.1.ending to_grant;
+        shape = aims_grant c.settings c.plan f.ending f.asked (f.queues + 1) f.objects can.frame.shape.1.ending to_grant;
         even = even;
         fewer = omega (arith, few, next_round z f.ending (f.queues + 1) f.asked f.objects can.frame.shape.1.ending, next_queue z f.queues (flush_left z has.local f.freed) (6 + memories_left z f.asked f.objects) can.frame.shape.2 (omega (arith, few)));
         way = stays;

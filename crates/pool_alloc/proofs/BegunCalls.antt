@@ -1,8 +1,9 @@
 -- A party's frame as it is made, and as a call begins in it.
+use Rattle.pool_slots.specs.declared.plan.Plan.{Plan}
 use Rattle.std.proofs.Common.{◌≡◌, ℕ, ◌+◌, ◌≤◌, false, List, [], ◌∷◌, length, All, refl, subst, ap, arith}
 use Rattle.std.proofs.lemmas.List.Elements.{All-nil, All-head, All-tail}
 use Rattle.pool_pages.specs.MakerTold.{MakerTold}
-use Rattle.pool_alloc.specs.Bounds.{PoolSizes, return_bound, give_back_bound, bound_of, pool_sizes, steps_at, steps_left}
+use Rattle.pool_alloc.specs.Bounds.{PoolSizes, return_bound, give_back_bound, bound_of, sizes_of, steps_at, steps_left}
 use Rattle.pool_alloc.specs.Leases.{Lease}
 use Rattle.pool_alloc.specs.Places.{Thing, leased_count, phase_count, frame_count, phase_instances, phase_memories, frame_memories}
 use Rattle.pool_alloc.specs.Sound.{NothingWaits, IsCore, IsFrame, IsLeaseOf, IsQueuedOf, IsAtRest, IsShapedAt}
@@ -34,10 +35,10 @@ made_memories P home s = refl
 
 module _ {P : Type 0} where
   -- The frame as made is sound over a pool whose parts are.
-  pub made_frame : (maker : MakerTold) (home : ℕ) (c : PoolCore P) → IsCore maker c → IsFrame {P = P} maker c.settings (frame_made home c.settings)
+  pub made_frame : (maker : MakerTold) (home : ℕ) (c : PoolCore P) → IsCore maker c → IsFrame {P = P} maker c.settings c.plan (frame_made home c.settings)
   made_frame maker home c core =
       record {
-        stripe = core.settings.stripes;
+        stripe = core.plan.stripes;
         queue = record {
           owners = tt;
           range_room = refl;
@@ -47,8 +48,8 @@ module _ {P : Type 0} where
           grouped = omega arith;
         };
         freed_room = (refl, omega arith);
-        freed_bytes = All-nil _;
-        objects = All-nil (IsLeaseOf maker c.settings);
+        freed_each = All-nil _;
+        objects = All-nil (IsLeaseOf maker c.settings c.plan);
         shape = record { settled = record { no_ranges = refl; no_slots = refl; none_freed = refl }; no_objects = refl };
       }
 
@@ -59,42 +60,42 @@ module _ {P : Type 0} where
   call_has of (call.GiveBack grant) = of grant
 
   -- between calls the frame has nothing
-  pub at_rest : (maker : MakerTold) (s : Settings) (f : Frame P) → IsFrame maker s f → IsIdle f → IsAtRest f
-  at_rest maker s f frame idle = let S : Phase P → Type 0 = λ p. IsShapedAt maker s p f in subst S idle frame.shape
+  pub at_rest : (maker : MakerTold) (s : Settings) (plan : Plan) (f : Frame P) → IsFrame maker s plan f → IsIdle f → IsAtRest f
+  at_rest maker s plan f frame idle = let S : Phase P → Type 0 = λ p. IsShapedAt maker s plan p f in subst S idle frame.shape
 
-  idle_of : (maker : MakerTold) (s : Settings) (asks : Call P) (f : Frame P) → MayBegin maker s asks f → IsIdle f
-  idle_of maker s call.Key f may = may
-  idle_of maker s (call.Module m) f may = may.0
-  idle_of maker s (call.GiveBack grant) f may = may.0
+  idle_of : (maker : MakerTold) (s : Settings) (plan : Plan) (asks : Call P) (f : Frame P) → MayBegin maker s plan asks f → IsIdle f
+  idle_of maker s plan call.Key f may = may
+  idle_of maker s plan (call.Module m) f may = may.0
+  idle_of maker s plan (call.GiveBack grant) f may = may.0
 
-  begun_back : (maker : MakerTold) (leases : List Lease) (s : Settings) (f : Frame P) → Held maker s f → NothingWaits f.local f.freed → is_granting f.ending ≡ false → All (IsLeaseOf maker s) leases → IsFrame maker s (returned_next leases (record f { objects = record f.objects { items = leases } })).frame
-  begun_back maker [] s f held rest is of =
+  begun_back : (maker : MakerTold) (leases : List Lease) (s : Settings) (plan : Plan) (f : Frame P) → Held maker s plan f → NothingWaits f.local f.freed → is_granting f.ending ≡ false → All (IsLeaseOf maker s plan) leases → IsFrame maker s plan (returned_next leases (record f { objects = record f.objects { items = leases } })).frame
+  begun_back maker [] s plan f held rest is of =
       record {
         stripe = held.stripe;
         queue = held.queue;
         freed_room = held.freed_room;
-        freed_bytes = held.freed_bytes;
+        freed_each = held.freed_each;
         objects = of;
         shape = (record { settled = rest; no_objects = refl }, is);
       }
-  begun_back maker (lease ∷ leases) s f held rest is of =
+  begun_back maker (lease ∷ leases) s plan f held rest is of =
       record {
         stripe = held.stripe;
         queue = held.queue;
         freed_room = held.freed_room;
-        freed_bytes = held.freed_bytes;
-        objects = All-tail (IsLeaseOf maker s) lease leases of;
-        shape = (rest, is, All-head (IsLeaseOf maker s) lease leases of);
+        freed_each = held.freed_each;
+        objects = All-tail (IsLeaseOf maker s plan) lease leases of;
+        shape = (rest, is, All-head (IsLeaseOf maker s plan) lease leases of);
       }
 
-  begun_at : (maker : MakerTold) (asks : Call P) (s : Settings) (f : Frame P) → Held maker s f → IsAtRest f → MayBegin maker s asks f → IsFrame maker s (begun_call asks f)
-  begun_at maker call.Key s f held rest may = frame_of maker s (record f { phase = Key }) held rest
-  begun_at maker (call.Module m) s f held rest may = frame_of maker s (begun_call (call.Module m) f) held (rest, record { ending = refl; none_taken = refl; asked_for = refl; images = may.2 }, may.1)
-  begun_at maker (call.GiveBack (Instance lease)) s f held rest may = begun_back maker lease.memories.items s (record f { objects = lease.memories; ending = returned }) (record { stripe = held.stripe; queue = held.queue; freed_room = held.freed_room; freed_bytes = held.freed_bytes; objects = may.1 }) rest.settled refl may.1
+  begun_at : (maker : MakerTold) (asks : Call P) (s : Settings) (plan : Plan) (f : Frame P) → Held maker s plan f → IsAtRest f → MayBegin maker s plan asks f → IsFrame maker s plan (begun_call asks f)
+  begun_at maker call.Key s plan f held rest may = frame_of maker s plan (record f { phase = Key }) held rest
+  begun_at maker (call.Module m) s plan f held rest may = frame_of maker s plan (begun_call (call.Module m) f) held (rest, record { ending = refl; none_taken = refl; asked_for = refl; images = may.2 }, may.1)
+  begun_at maker (call.GiveBack (Instance lease)) s plan f held rest may = begun_back maker lease.memories.items s plan (record f { objects = lease.memories; ending = returned }) (record { stripe = held.stripe; queue = held.queue; freed_room = held.freed_room; freed_each = held.freed_each; objects = may.1 }) rest.settled refl may.1
 
   -- the frame is sound once a call began that may
-  pub begun_frame : (maker : MakerTold) (asks : Call P) (s : Settings) (f : Frame P) → IsFrame maker s f → MayBegin maker s asks f → IsFrame maker s (begun_call asks f)
-  begun_frame maker asks s f frame may = begun_at maker asks s f (held_of maker s f frame) (at_rest maker s f frame (idle_of maker s asks f may)) may
+  pub begun_frame : (maker : MakerTold) (asks : Call P) (s : Settings) (plan : Plan) (f : Frame P) → IsFrame maker s plan f → MayBegin maker s plan asks f → IsFrame maker s plan (begun_call asks f)
+  begun_frame maker asks s plan f frame may = begun_at maker asks s plan f (held_of maker s plan f frame) (at_rest maker s plan f frame (idle_of maker s plan asks f may)) may
 
   -- What a grant has comes into the frame, and nothing else.
   idle_nothing : (t : Thing) (p : Phase P) → p ≡ Idle → phase_count t p ≡ 0
@@ -112,8 +113,8 @@ module _ {P : Type 0} where
       let back : Frame P = record f { objects = lease.memories; ending = returned } in
       omega (arith, none, count_returned t lease.memories.items back (idle_nothing t f.phase idle))
 
-  pub begun_count : (maker : MakerTold) (t : Thing) (asks : Call P) (s : Settings) (f : Frame P) → IsFrame maker s f → MayBegin maker s asks f → frame_count t (begun_call asks f) ≡ frame_count t f + call_has (grant_count t) asks
-  begun_count maker t asks s f frame may = let idle : IsIdle f = idle_of maker s asks f may in count_at t asks f idle (at_rest maker s f frame idle)
+  pub begun_count : (maker : MakerTold) (t : Thing) (asks : Call P) (s : Settings) (plan : Plan) (f : Frame P) → IsFrame maker s plan f → MayBegin maker s plan asks f → frame_count t (begun_call asks f) ≡ frame_count t f + call_has (grant_count t) asks
+  begun_count maker t asks s plan f frame may = let idle : IsIdle f = idle_of maker s plan asks f may in count_at t asks f idle (at_rest maker s plan f frame idle)
 
   idle_instances : (p : Phase P) → p ≡ Idle → phase_instances p ≡ 0
   idle_instances p idle = rw idle refl
@@ -122,10 +123,10 @@ module _ {P : Type 0} where
   one_returned [] f = refl
   one_returned (lease ∷ leases) f = refl
 
-  pub begun_instances : (maker : MakerTold) (asks : Call P) (s : Settings) (f : Frame P) → MayBegin maker s asks f → phase_instances (begun_call asks f).phase ≡ phase_instances f.phase + call_has grant_instances asks
-  begun_instances maker call.Key s f may = let before : phase_instances f.phase ≡ 0 = idle_instances f.phase may in omega arith
-  begun_instances maker (call.Module m) s f may = let before : phase_instances f.phase ≡ 0 = idle_instances f.phase may.0 in omega arith
-  begun_instances maker (call.GiveBack (Instance lease)) s f may =
+  pub begun_instances : (maker : MakerTold) (asks : Call P) (s : Settings) (plan : Plan) (f : Frame P) → MayBegin maker s plan asks f → phase_instances (begun_call asks f).phase ≡ phase_instances f.phase + call_has grant_instances asks
+  begun_instances maker call.Key s plan f may = let before : phase_instances f.phase ≡ 0 = idle_instances f.phase may in omega arith
+  begun_instances maker (call.Module m) s plan f may = let before : phase_instances f.phase ≡ 0 = idle_instances f.phase may.0 in omega arith
+  begun_instances maker (call.GiveBack (Instance lease)) s plan f may =
       let before : phase_instances f.phase ≡ 0 = idle_instances f.phase may.0 in
       omega (arith, one_returned lease.memories.items (record f { objects = lease.memories; ending = returned }))
 
@@ -143,16 +144,16 @@ module _ {P : Type 0} where
       let before : phase_memories f.phase ≡ 0 = idle_memories f.phase idle in
       omega (arith, ap length rest.no_objects, memories_returned lease.memories.items (record f { objects = lease.memories; ending = returned }))
 
-  pub begun_memories : (maker : MakerTold) (asks : Call P) (s : Settings) (f : Frame P) → IsFrame maker s f → MayBegin maker s asks f → frame_memories (begun_call asks f) ≡ frame_memories f + call_has grant_memories asks
-  begun_memories maker asks s f frame may = let idle : IsIdle f = idle_of maker s asks f may in memories_at asks f idle (at_rest maker s f frame idle)
+  pub begun_memories : (maker : MakerTold) (asks : Call P) (s : Settings) (plan : Plan) (f : Frame P) → IsFrame maker s plan f → MayBegin maker s plan asks f → frame_memories (begun_call asks f) ≡ frame_memories f + call_has grant_memories asks
+  begun_memories maker asks s plan f frame may = let idle : IsIdle f = idle_of maker s plan asks f may in memories_at asks f idle (at_rest maker s plan f frame idle)
 
   -- How many steps are left is the same on every pool of the same sizes, so no step of another changes it.
   pub steps_left_same : (c d : PoolCore P) (f : Frame P) → IsSameSize c d → steps_left d f ≡ steps_left c f
-  steps_left_same c d f same = ap (λ (s : Settings). steps_at (record { shards = s.shards; all_shards = s.shards; queues = s.queues; slots = s.slots; slots_per_shard = s.slots_per_shard }) f.phase f) same.settings
+  steps_left_same c d f same = ap (λ (plan : Plan). steps_at (sizes_of plan) f.phase f) same.plan
 
   -- no call has no steps left,
   pub idle_left : (c : PoolCore P) (f : Frame P) → IsIdle f → steps_left c f ≡ 0
-  idle_left c f idle = ap (λ (p : Phase P). steps_at (pool_sizes c) p f) idle
+  idle_left c f idle = ap (λ (p : Phase P). steps_at (sizes_of c.plan) p f) idle
 
   -- and a call begins with no more than its bound.
   returned_bounded : (z : PoolSizes) (leases : List Lease) (f : Frame P) → steps_at z (returned_next leases (record f { objects = record f.objects { items = leases } })).frame.phase (returned_next leases (record f { objects = record f.objects { items = leases } })).frame ≤ return_bound z (length leases)
@@ -162,4 +163,4 @@ module _ {P : Type 0} where
   pub begun_bounded : (c : PoolCore P) (asks : Call P) (f : Frame P) → steps_left c (begun_call asks f) ≤ bound_of c asks
   begun_bounded c call.Key f = omega arith
   begun_bounded c (call.Module m) f = omega arith
-  begun_bounded c (call.GiveBack (Instance lease)) f = returned_bounded (pool_sizes c) lease.memories.items (record f { objects = lease.memories; ending = returned })
+  begun_bounded c (call.GiveBack (Instance lease)) f = returned_bounded (sizes_of c.plan) lease.memories.items (record f { objects = lease.memories; ending = returned })

@@ -5,8 +5,8 @@ use Rattle.std.proofs.lemmas.Bool.{cases_lt, le-ltb}
 use Rattle.std.proofs.lemmas.List.Sums.{sum_by-cons}
 use Rattle.pool_index.specs.Shard.{one_if}
 use Rattle.pool_slots.specs.SlotQueues.{Queued}
-use Rattle.pool_alloc.specs.Places.{right_to, both_count, queued_count, made_count}
-use Rattle.pool_alloc.proofs.Held.{made_once}
+use Rattle.pool_alloc.specs.Places.{right_to, slot_count}
+use Rattle.pool_alloc.proofs.QueueCounts.{number_count}
 use Rattle.pool_alloc.proofs.SlotCounts.{slot_once}
 
 -- the sum of f over the numbers below n
@@ -50,21 +50,19 @@ pub ones : {X : Type 0} (xs : List X) → sum_by (λ x. 1) xs ≡ length xs
 ones [] = refl
 ones (x ∷ xs) = omega (arith, sum_by-cons (λ y. 1) x xs, ones xs)
 
-queued_below : (n : ℕ) (m : Queued) → ((k : ℕ) → n ≤ k → both_count (right_to k) m.name.slot ≡ 0) → 1 ≤ below (λ k. both_count (right_to k) m.name.slot) n
+queued_below : (n : ℕ) (m : Queued) → ((k : ℕ) → n ≤ k → slot_count (right_to k) m.name.slot ≡ 0) → 1 ≤ below (λ k. slot_count (right_to k) m.name.slot) n
 queued_below n m none =
-    let one : both_count (right_to m.name.slot) m.name.slot ≡ 1 = omega (arith, slot_once m.name.slot) in
     elim (cases_lt m.name.slot n) [
-      | inl inside ↦ below_one (λ k. both_count (right_to k) m.name.slot) m.name.slot n inside one
-      | inr past ↦ absurd (omega (arith, one, none m.name.slot past))
+      | inl inside ↦ below_one (λ k. slot_count (right_to k) m.name.slot) m.name.slot n inside (slot_once m.name.slot)
+      | inr past ↦ absurd (omega (arith, slot_once m.name.slot, none m.name.slot past))
     ]
 
 -- A queue that has each slot of the pool once at most, and no other, has no more slots than the pool.
-pub few_queued : (n : ℕ) (ms : List Queued) → ((k : ℕ) → queued_count (right_to k) ms ≤ made_count (right_to k) n) → length ms ≤ n
-few_queued n ms once =
-    let outside : (k : ℕ) → n ≤ k → made_count (right_to k) n ≡ 0 = λ k past. ap one_if (le-ltb k n past) in
+pub few_queued : (n : ℕ) (ms : List Queued) → ((k : ℕ) → number_count k ms ≤ 1) → ((k : ℕ) → n ≤ k → number_count k ms ≡ 0) → length ms ≤ n
+few_queued n ms once outside =
     omega (
       arith,
       ones ms,
-      sum_below (λ k (m : Queued). both_count (right_to k) m.name.slot) (λ m. 1) n ms (queued_below n) (λ k past. omega (arith, once k, outside k past)),
-      below_most (λ k. queued_count (right_to k) ms) (λ k. omega (arith, once k, made_once (right_to k) n)) n,
+      sum_below (λ k (m : Queued). slot_count (right_to k) m.name.slot) (λ m. 1) n ms (queued_below n) outside,
+      below_most (λ k. number_count k ms) once n,
     )

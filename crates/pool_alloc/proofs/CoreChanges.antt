@@ -1,18 +1,20 @@
 -- The pool's parts stay sound where one of them changes.
-use Rattle.std.proofs.Common.{◌≡◌, ℕ, ◌<◌, List, length, refl, sym, ◌∙◌, subst, inl, inr, get_or, set, ◌≤◌, ap, arith, ◌+◌, ◌-◌}
-use Rattle.std.proofs.lemmas.Bool.{cases_eq, cases_lt}
-use Rattle.std.proofs.lemmas.List.{length-set, get_or-set_same, get_or-set_other, set_past}
+use Rattle.std.proofs.Common.{◌≡◌, ℕ, ◌<◌, List, length, refl, sym, ◌∙◌, subst, inl, inr, get_or, set}
+use Rattle.std.proofs.lemmas.Bool.{cases_eq}
+use Rattle.std.proofs.lemmas.List.{length-set, get_or-set_same, get_or-set_other}
 use Rattle.pool_pages.specs.MakerTold.{MakerTold}
 use Rattle.pool_index.specs.Shard.{ShardState, IsShard, IsSameShard}
 use Rattle.pool_slots.specs.RegionCells.{CellState}
 use Rattle.pool_slots.specs.SlotQueues.{Queue}
-use Rattle.pool_alloc.specs.Steps.{nth_shard, shard_of, with_shard, with_cell, with_queue, shard_in, cell_place, queue_place, with_part}
-use Rattle.pool_alloc.specs.Sound.{IsPoolCell, IsCore, IsLaidOut, IsShared, IsPartAt}
+use Rattle.pool_alloc.specs.Steps.{shard_at, cell_of, memory_slots, with_shard, with_cell, with_queue, with_part}
+use Rattle.pool_alloc.specs.Sound.{IsPoolCell, IsCore, IsPoolPlan, IsShared, IsPartAt, IsPartFor}
 use Rattle.pool_alloc.specs.declared.pool_core.PoolCore.{PoolCore}
 use Rattle.pool_alloc.specs.declared.pool_core.Counters.{Counters}
-use Rattle.pool_alloc.specs.declared.pool_core.Settings.{Settings}
-use Rattle.pool_alloc.proofs.PoolParts.{part_same, part_other, shard_inside}
-use Rattle.pool_slots.specs.Parts.{part_at}
+use Rattle.pool_alloc.proofs.PlanPlaces.{IsShardPlace, IsQueuePlace, cell_role_at}
+use Rattle.pool_alloc.proofs.PoolParts.{planned_shard}
+use Rattle.pool_slots.specs.ListUnits.{IsShardOf}
+use Rattle.pool_slots.specs.Plans.{Role}
+use Rattle.pool_slots.specs.declared.plan.Allocator.{Allocator}
 use Rattle.pool_slots.specs.declared.part.PoolPart.{PoolPart}
 use Rattle.pool_slots.specs.declared.part.PoolPart.TheVariants as part
 
@@ -29,67 +31,38 @@ at_set {X} Q xs j k x d below new old =
           rw now old
     ]
 
-pub same_shard : (s : ShardState) → IsSameShard s s
-same_shard s = record { kind = refl; first = refl; step = refl; capacity = refl; budget = refl }
-
--- the slots lie as before among shards that have the slots that they had
-pub laid_out_same : (s : Settings) (xs ys : ℕ → ShardState) → ((k : ℕ) → k < s.shards → IsSameShard (xs k) (ys k)) → IsLaidOut s xs → IsLaidOut s ys
-laid_out_same s xs ys same l =
-    record {
-      inside = λ slot below.
-          let there = l.inside slot below in
-          (there.0, rw (same (shard_of s slot) there.0).capacity there.1);
-      number = λ slot below.
-          let there = l.inside slot below in
-          rw ((same (shard_of s slot) there.0).first, (same (shard_of s slot) there.0).step) (l.number slot below);
-      back = λ j k there within.
-          let was : k < (xs j).capacity = rw (same j there).capacity at within in
-          rw ((same j there).first, (same j there).step) (l.back j k there was);
-    }
+shard_kept_for : (a : Allocator) (j : ℕ) (old new : ShardState) → IsShardOf a j old → IsShard new → IsSameShard old new → IsShardOf a j new
+shard_kept_for a j old new was sound same = record { sound = sound; kind = same.kind ∙ was.kind; first = same.first ∙ was.first; step = same.step ∙ was.step; capacity = same.capacity ∙ was.capacity }
 
 module _ {P : Type 0} where
-  core_with_part : (maker : MakerTold) (p : ℕ) (x : PoolPart P) (c : PoolCore P) → IsCore maker c → IsPartAt maker c.settings p x → ((k : ℕ) → k < c.settings.shards → IsSameShard (nth_shard k c) (nth_shard k (with_part p x c))) → IsCore maker (with_part p x c)
-  core_with_part maker p x c core is same =
+  core_with_part : (maker : MakerTold) (p : ℕ) (x : PoolPart P) (c : PoolCore P) → IsCore maker c → IsPartAt maker c.settings c.plan p x → IsCore maker (with_part p x c)
+  core_with_part maker p x c core is =
+      let H : ℕ → Type 0 = λ n. IsPoolPlan c.plan n in
       record {
         settings = core.settings;
         page = core.page;
-        number = length-set c.parts p x ∙ core.number;
+        plan = subst H (sym (length-set c.parts p x)) core.plan;
         parts = λ q below.
             let under : q < length c.parts = rw (length-set c.parts p x) at below in
-            at_set (λ n y. IsPartAt maker c.settings n y) c.parts p q x _ under is (core.parts q under);
-        layout = laid_out_same c.settings (λ k. nth_shard k c) (λ k. nth_shard k (with_part p x c)) same core.layout;
-        small = core.small;
+            at_set (λ n y. IsPartAt maker c.settings c.plan n y) c.parts p q x _ under is (core.parts q under);
       }
 
-  -- where another part than a shard is replaced, the shards stay
-  shards_stay : (p : ℕ) (x : PoolPart P) (c : PoolCore P) → c.settings.shards ≤ p → (k : ℕ) → k < c.settings.shards → IsSameShard (nth_shard k c) (nth_shard k (with_part p x c))
-  shards_stay p x c past k below =
-      let S : PoolPart P → Type 0 = λ y. IsSameShard (nth_shard k c) (shard_in y) in
-      subst S (sym (part_other p k x c (λ e. omega (arith, e, past, below)))) (same_shard (nth_shard k c))
+  pub core_with_shard : (maker : MakerTold) (p : ℕ) (shard : ShardState) (c : PoolCore P) → IsCore maker c → IsShardPlace c.plan p → IsShard shard → IsSameShard (shard_at p c) shard → IsCore maker (with_shard p shard c)
+  core_with_shard maker p shard c core place sound same =
+      let was = planned_shard maker p c core place in
+      let F : Role → Type 0 = λ r. IsPartFor {P = P} maker c.settings r (part.Shard shard) in
+      core_with_part maker p (part.Shard shard) c core (subst F (sym place.role) (was.0, shard_kept_for place.allocator place.index (shard_at p c) shard was.1 sound same))
 
-  pub core_with_shard : (maker : MakerTold) (j : ℕ) (shard : ShardState) (c : PoolCore P) → IsCore maker c → j < c.settings.shards → IsShard shard → IsSameShard (nth_shard j c) shard → IsCore maker (with_shard j shard c)
-  core_with_shard maker j shard c core below sound same =
-      let x : PoolPart P = part.Shard shard in
-      core_with_part maker j x c core (below, sound)
-      (λ k under.
-      let S : PoolPart P → Type 0 = λ y. IsSameShard (nth_shard k c) (shard_in y) in
-      elim (cases_eq k j) [
-        | inl e ↦ subst S (sym (ap (λ (n : ℕ). part_at n (with_part j x c).parts) e ∙ part_same j x c (shard_inside maker j c core below))) (subst (λ (n : ℕ). IsSameShard (nth_shard n c) shard) (sym e) same)
-        | inr other ↦ subst S (sym (part_other j k x c other)) (same_shard (nth_shard k c))
-      ])
+  pub core_with_cell : (maker : MakerTold) (slot : ℕ) (cell : CellState) (c : PoolCore P) → IsCore maker c → slot < memory_slots c.plan → IsPoolCell maker c.settings.behaviour c.settings.max_memory_size slot cell → IsCore maker (with_cell slot cell c)
+  core_with_cell maker slot cell c core below holds =
+      let F : Role → Type 0 = λ r. IsPartFor {P = P} maker c.settings r (part.Memory cell) in
+      core_with_part maker (cell_of c.plan slot) (part.Memory cell) c core (subst F (sym (cell_role_at c.plan (length c.parts) slot core.plan below)) (refl, holds))
 
-  pub core_with_cell : (maker : MakerTold) (i : ℕ) (cell : CellState) (c : PoolCore P) → IsCore maker c → i < c.settings.slots → IsPoolCell maker c.settings.behaviour c.settings.max_memory_size i cell → IsCore maker (with_cell i cell c)
-  core_with_cell maker i cell c core below holds =
-      let p : ℕ = cell_place c.settings i in
-      let same : i ≡ p - c.settings.shards = omega arith in
-      core_with_part maker p (part.Memory cell) c core (omega arith, omega (arith, below), subst (λ (n : ℕ). IsPoolCell maker c.settings.behaviour c.settings.max_memory_size n cell) same holds)
-      (shards_stay p (part.Memory cell) c (omega arith))
-
-  pub core_with_queue : (maker : MakerTold) (i : ℕ) (queue : Queue) (c : PoolCore P) → IsCore maker c → IsShared maker c.settings queue → IsCore maker (with_queue i queue c)
-  core_with_queue maker i queue c core shared =
-      let p : ℕ = queue_place c.settings i in
-      core_with_part maker p (part.Queue queue) c core (omega arith, shared) (shards_stay p (part.Queue queue) c (omega arith))
+  pub core_with_queue : (maker : MakerTold) (p : ℕ) (queue : Queue) (c : PoolCore P) → IsCore maker c → IsQueuePlace c.plan p → IsShared maker c.settings queue → IsCore maker (with_queue p queue c)
+  core_with_queue maker p queue c core place shared =
+      let F : Role → Type 0 = λ r. IsPartFor {P = P} maker c.settings r (part.Queue queue) in
+      core_with_part maker p (part.Queue queue) c core (subst F (sym place) shared)
 
   -- the counters are no part of it
   pub core_with_counters : (maker : MakerTold) (counters : Counters) (c : PoolCore P) → IsCore maker c → IsCore maker (record c { counters = counters })
-  core_with_counters maker counters c core = record { settings = core.settings; page = core.page; number = core.number; parts = core.parts; layout = core.layout; small = core.small }
+  core_with_counters maker counters c core = record { settings = core.settings; page = core.page; plan = core.plan; parts = core.parts }

@@ -1,17 +1,15 @@
 -- A frame that fits the pool still fits after its step, and after another's.
-use Rattle.std.proofs.Common.{ℕ, length, Option, Some, None, ◌≡◌, refl, sym, ap, subst, arith}
-use Rattle.pool_pages.specs.MakerTold.{MakerTold}
-use Rattle.pool_alloc.specs.Places.{right_to, region_of, made_count}
-use Rattle.pool_alloc.specs.Sound.{IsFrame, FitsCore}
+use Rattle.pool_slots.specs.declared.plan.Plan.{Plan}
+use Rattle.std.proofs.Common.{ℕ, Option, Some, None, ◌≡◌, refl, arith}
+use Rattle.pool_alloc.specs.Places.{right_to, region_of}
+use Rattle.pool_alloc.specs.Sound.{FitsCore}
 use Rattle.pool_alloc.specs.Turns.{After}
 use Rattle.pool_alloc.specs.Stepping.{Conserves, IsSameSize, count_granted, grant_count}
 use Rattle.pool_alloc.specs.declared.pool_core.PoolCore.{PoolCore}
-use Rattle.pool_alloc.specs.declared.pool_core.Settings.{Settings}
 use Rattle.pool_alloc.specs.declared.frame.Frame.{Frame}
 use Rattle.pool_alloc.specs.declared.frame.Grant.TheVariants.{Instance}
 use Rattle.pool_alloc.specs.declared.frame.Outcome.{Outcome}
 use Rattle.pool_alloc.specs.declared.frame.Outcome.TheVariants as answer
-use Rattle.pool_alloc.proofs.Held.{made_once}
 use Rattle.pool_alloc.proofs.QueueCounts.{leased_regions}
 
 module _ {P : Type 0} where
@@ -26,12 +24,8 @@ module _ {P : Type 0} where
   -- Where a step conserves, what the frame has still fits.
   pub fits_after : (c : PoolCore P) (f : Frame P) (a : After P) → FitsCore c f → Conserves c f a → IsSameSize c a.core → FitsCore a.core a.frame
   fits_after c f a fits b size = record {
-    once = λ t. omega (arith, fits.once t, b.places t, ap (λ (s : Settings). made_count t s.slots) size.settings);
-    home = λ k some. omega (arith, fits.once (right_to k), made_once (right_to k) c.settings.slots, b.places (right_to k), b.places (region_of k), granted_regions k a.outcome, fits.home k (omega (arith, b.places (right_to k))));
+    once = λ t. omega (arith, fits.once t, b.places t);
+    others = λ k. omega (arith, fits.others k, b.places (right_to k), b.places (region_of k), granted_regions k a.outcome);
     instances = omega (arith, fits.instances, b.instances);
     memories = omega (arith, fits.memories, b.memories);
   }
-
-  -- A frame that is shaped for a pool is so for one of the same settings.
-  pub frame_stays : (maker : MakerTold) (old new : PoolCore P) (f : Frame P) → IsSameSize old new → IsFrame maker old.settings f → IsFrame maker new.settings f
-  frame_stays maker old new f size is = let F : Settings → Type 0 = λ s. IsFrame maker s f in subst F (sym size.settings) is

@@ -1,27 +1,39 @@
 -- What a flush does, and what each part of it leaves.
-use Rattle.std.proofs.Common.{◌≡◌, ◌≢◌, ℕ, zero, suc, ◌+◌, ◌*◌, ◌/◌, ◌<◌, ◌≤◌, Bool, true, false, List, [], ◌∷◌, ◌++◌, length, refl, sym, ap, ◌∙◌, subst, inl, inr, arith}
-use Rattle.std.specs.Prelude.{◌==◌, nat_lt, filter, min, sum_by}
+use Rattle.pool_hall.specs.declared.unit_name.SlotKind.TheVariants.{Memory as memory_kind}
+use Rattle.pool_alloc.proofs.PoolParts.{sound_queue}
+use Rattle.pool_alloc.proofs.Stages.{memories_in}
+use Rattle.pool_alloc.proofs.Held.{none_past}
+use Rattle.pool_alloc.proofs.FreedSlots.{first_of}
+use Rattle.pool_alloc.proofs.PlanPlaces.{has_home, IsQueuePlace}
+use Rattle.pool_slots.proofs.PlanSizes.{shard_below}
+use Rattle.std.specs.List.{AllByRecursion}
+use Rattle.pool_alloc.specs.Sound.{IsStripe, IsPoolPlan, IsCore, IsQueuedOf}
+use Rattle.pool_slots.specs.declared.plan.Home.{Home}
+use Rattle.pool_slots.specs.declared.plan.Allocator.{Allocator}
+use Rattle.pool_slots.specs.Plans.{have_number, has_number, home_among, home_in}
+use Rattle.std.proofs.Common.{◌≡◌, ◌≢◌, ℕ, zero, suc, ◌+◌, ◌*◌, ◌<◌, ◌≤◌, Bool, true, false, List, [], ◌∷◌, ◌++◌, length, refl, sym, ap, ◌∙◌, subst, inl, inr, arith, ◌⊎◌}
+use Rattle.std.specs.Prelude.{◌==◌, nat_lt, filter, min, sum_by, if◌then◌else◌, All}
 use Rattle.std.proofs.lemmas.Bool.{eq-eqb, ne_eqb, eqb-true, lt-ltb, cases_eq, cases_lt, cases_Bool}
-use Rattle.std.proofs.lemmas.List.Elements.{length_all_zip}
-use Rattle.std.proofs.lemmas.List.Sums.{get_or-le-sum_by, sum_by-cons, sum_by_push}
+use Rattle.std.proofs.lemmas.List.Elements.{length_all_zip, All-append}
+use Rattle.std.proofs.lemmas.List.Sums.{sum_by-cons, sum_by_push}
 use Rattle.pool_pages.specs.MakerTold.{MakerTold}
 use Rattle.pool_index.specs.Shard.{one_if}
-use Rattle.pool_slots.specs.SlotQueues.{Queue, Queued, empty_queue, after_append, after_run, first_slot, IsLeftBy}
+use Rattle.pool_slots.specs.SlotQueues.{Queue, Queued, after_append, after_run, first_slot, IsLeftBy}
 use Rattle.pool_slots.specs.declared.queued_range.QueuedRange.{QueuedRange}
 use Rattle.pool_alloc.specs.Answers.{Decommits}
-use Rattle.pool_alloc.specs.Bounds.{PoolSizes, pool_sizes, waiting_for, shards_waiting, flush_left}
-use Rattle.pool_alloc.specs.Places.{right_to, queued_count}
+use Rattle.pool_alloc.specs.Bounds.{PoolSizes, sizes_of, all_shards, is_home, waiting_for, shards_waiting, all_waiting, flush_left}
+use Rattle.pool_alloc.specs.Places.{right_to, freed_count, away_count, queued_count}
 use Rattle.pool_alloc.specs.RangeRuns.{runs, IsGrouped}
 use Rattle.pool_alloc.specs.Reserved.{Reserved}
-use Rattle.pool_alloc.specs.Steps.{nth_queue, shard_of, freed_of, freed_elsewhere, first_shard}
+use Rattle.pool_alloc.specs.Steps.{queue_at, shard_of, freed_of, freed_elsewhere, first_shard, memory_slots}
 use Rattle.pool_alloc.specs.Stepping.{CanStep}
 use Rattle.pool_alloc.specs.declared.pool_core.PoolCore.{PoolCore}
-use Rattle.pool_alloc.specs.declared.pool_core.Settings.{Settings}
+use Rattle.pool_slots.specs.declared.plan.Plan.{Plan}
 use Rattle.pool_alloc.specs.declared.frame.Frame.{Frame}
 use Rattle.pool_alloc.specs.declared.frame.FreedSlot.{FreedSlot}
 use Rattle.pool_alloc.proofs.Below.{few_queued}
-use Rattle.pool_alloc.proofs.KeptCounts.{queue_kept}
-use Rattle.pool_alloc.proofs.QueueCounts.{queued_joined, run_numbers, faulted_numbers}
+use Rattle.pool_alloc.proofs.KeptCounts.{queue_kept, out_once}
+use Rattle.pool_alloc.proofs.QueueCounts.{queued_joined, run_numbers, faulted_numbers, queued_numbers}
 use Rattle.pool_alloc.proofs.Runs.{runs_fewer}
 use Rattle.pool_alloc.proofs.SlotIdentity.{length_after_run}
 
@@ -36,52 +48,122 @@ kept_more p x xs =
       | inr e ↦ rw e (omega arith)
     ]
 
-first_has_some : (s : Settings) (xs : List FreedSlot) → 0 < length xs → 1 ≤ length (freed_of s (first_shard s xs) xs)
-first_has_some s [] some = absurd (omega arith)
-first_has_some s (x ∷ []) some = kept_one (λ y. shard_of s y.slot == shard_of s x.slot) x [] (eq-eqb (shard_of s x.slot) (shard_of s x.slot) refl)
-first_has_some s (x ∷ y ∷ rest) some =
-    let j : ℕ = shard_of s x.slot in
-    let k : ℕ = first_shard s (y ∷ rest) in
-    let Some : ℕ → Type 0 = λ n. 1 ≤ length (freed_of s n (x ∷ y ∷ rest)) in
+first_has_some : (plan : Plan) (xs : List FreedSlot) → 0 < length xs → 1 ≤ length (freed_of plan (first_shard plan xs) xs)
+first_has_some plan [] some = absurd (omega arith)
+first_has_some plan (x ∷ []) some = kept_one (λ y. shard_of plan y.slot == shard_of plan x.slot) x [] (eq-eqb (shard_of plan x.slot) (shard_of plan x.slot) refl)
+first_has_some plan (x ∷ y ∷ rest) some =
+    let j : ℕ = shard_of plan x.slot in
+    let k : ℕ = first_shard plan (y ∷ rest) in
+    let Some : ℕ → Type 0 = λ n. 1 ≤ length (freed_of plan n (x ∷ y ∷ rest)) in
     elim (cases_lt k j) [
       | inl less ↦
           let least : k ≡ min j k = omega arith in
-          let rest_has : 1 ≤ length (freed_of s k (y ∷ rest)) = first_has_some s (y ∷ rest) (omega arith) in
-          subst Some least (omega (arith, rest_has, kept_more (λ v. shard_of s v.slot == k) x (y ∷ rest)))
+          let rest_has : 1 ≤ length (freed_of plan k (y ∷ rest)) = first_has_some plan (y ∷ rest) (omega arith) in
+          subst Some least (omega (arith, rest_has, kept_more (λ v. shard_of plan v.slot == k) x (y ∷ rest)))
       | inr other ↦
           let least : j ≡ min j k = omega arith in
-          subst Some least (kept_one (λ v. shard_of s v.slot == j) x (y ∷ rest) (eq-eqb j j refl))
+          subst Some least (kept_one (λ v. shard_of plan v.slot == j) x (y ∷ rest) (eq-eqb j j refl))
     ]
 
 -- how many shards some slots wait for, where as many wait for each, or for fewer
-shards_agree : (z : PoolSizes) (n : ℕ) (ms ns : List Queued) (xs ys : List FreedSlot) → ((j : ℕ) → j < n → waiting_for z j ns ys ≡ waiting_for z j ms xs) → shards_waiting z n ns ys ≡ shards_waiting z n ms xs
-shards_agree z zero ms ns xs ys same = refl
-shards_agree z (suc n) ms ns xs ys same =
-    omega (arith, ap (λ (k : ℕ). one_if (nat_lt 0 k)) (same n (omega arith)), shards_agree z n ms ns xs ys (λ j below. same j (omega (arith, below))))
+shards_agree : (z : PoolSizes) (first n : ℕ) (ms ns : List Queued) (xs ys : List FreedSlot) → ((j : ℕ) → j < n → waiting_for z (first + j) ns ys ≡ waiting_for z (first + j) ms xs) → shards_waiting z first n ns ys ≡ shards_waiting z first n ms xs
+shards_agree z first zero ms ns xs ys same = refl
+shards_agree z first (suc n) ms ns xs ys same =
+    omega (arith, ap (λ (k : ℕ). one_if (nat_lt 0 k)) (same n (omega arith)), shards_agree z first n ms ns xs ys (λ j below. same j (omega (arith, below))))
 
-pub shards_same : (z : PoolSizes) (n : ℕ) (ms ns : List Queued) (xs ys : List FreedSlot) → ((j : ℕ) → waiting_for z j ns ys ≡ waiting_for z j ms xs) → shards_waiting z n ns ys ≡ shards_waiting z n ms xs
-shards_same z n ms ns xs ys same = shards_agree z n ms ns xs ys (λ j below. same j)
+pub all_same : (z : PoolSizes) (all : List Allocator) (ms ns : List Queued) (xs ys : List FreedSlot) → ((p : ℕ) → waiting_for z p ns ys ≡ waiting_for z p ms xs) → all_waiting z all ns ys ≡ all_waiting z all ms xs
+all_same z [] ms ns xs ys same = refl
+all_same z (a ∷ more) ms ns xs ys same = omega (arith, shards_agree z a.first_place a.shards ms ns xs ys (λ j below. same (a.first_place + j)), all_same z more ms ns xs ys same)
 
-shards_less : (z : PoolSizes) (n j : ℕ) (ms ns : List Queued) (xs ys : List FreedSlot) → j < n → 0 < waiting_for z j ms xs → waiting_for z j ns ys ≡ 0 → ((i : ℕ) → i ≢ j → waiting_for z i ns ys ≡ waiting_for z i ms xs) → shards_waiting z n ns ys + 1 ≤ shards_waiting z n ms xs
-shards_less z zero j ms ns xs ys below some none others = absurd (omega (arith, below))
-shards_less z (suc n) j ms ns xs ys below some none others =
-    elim (cases_eq j n) [
-      | inl is ↦
-          let before : one_if (nat_lt 0 (waiting_for z n ms xs)) ≡ 1 = ap one_if (lt-ltb 0 _ (subst (λ (k : ℕ). 0 < waiting_for z k ms xs) is some)) in
-          let now : one_if (nat_lt 0 (waiting_for z n ns ys)) ≡ 0 = ap (λ (k : ℕ). one_if (nat_lt 0 k)) (subst (λ (k : ℕ). waiting_for z k ns ys ≡ 0) is none) in
-          omega (arith, before, now, shards_agree z n ms ns xs ys (λ i under. others i (λ e. omega (arith, e, is, under))))
-      | inr other ↦
-          let here : one_if (nat_lt 0 (waiting_for z n ns ys)) ≡ one_if (nat_lt 0 (waiting_for z n ms xs)) = ap (λ (k : ℕ). one_if (nat_lt 0 k)) (others n (λ e. other (sym e))) in
-          omega (arith, here, shards_less z n j ms ns xs ys (omega (arith, below, other)) some none others)
+-- where none waits for the shard at one place, and as many as before for the others
+record WaitsLess (z : PoolSizes) (p : ℕ) (ms ns : List Queued) (xs ys : List FreedSlot) : Type 0 where
+  some : 0 < waiting_for z p ms xs
+  none : waiting_for z p ns ys ≡ 0
+  others : (q : ℕ) → q ≢ p → waiting_for z q ns ys ≡ waiting_for z q ms xs
+
+one_less : (n m : ℕ) → n ≤ m → one_if (nat_lt 0 n) ≤ one_if (nat_lt 0 m)
+one_less zero m less = omega arith
+one_less (suc n) m less =
+    let now : one_if (nat_lt 0 m) ≡ 1 = ap one_if (lt-ltb 0 m (omega (arith, less))) in
+    let before : one_if (nat_lt 0 (suc n)) ≡ 1 = ap one_if (lt-ltb 0 (suc n) (omega arith)) in
+    omega arith
+
+waits_most : (z : PoolSizes) (p q : ℕ) (ms ns : List Queued) (xs ys : List FreedSlot) → WaitsLess z p ms ns xs ys → waiting_for z q ns ys ≤ waiting_for z q ms xs
+waits_most z p q ms ns xs ys less =
+    elim (cases_eq q p) [
+      | inl is ↦ let gone : waiting_for z q ns ys ≡ 0 = ap (λ (n : ℕ). waiting_for z n ns ys) is ∙ less.none in omega arith
+      | inr other ↦ omega (arith, less.others q other)
     ]
+
+shards_most : (z : PoolSizes) (p first n : ℕ) (ms ns : List Queued) (xs ys : List FreedSlot) → WaitsLess z p ms ns xs ys → shards_waiting z first n ns ys ≤ shards_waiting z first n ms xs
+shards_most z p first zero ms ns xs ys less = omega arith
+shards_most z p first (suc n) ms ns xs ys less =
+    omega (arith, one_less (waiting_for z (first + n) ns ys) (waiting_for z (first + n) ms xs) (waits_most z p (first + n) ms ns xs ys less), shards_most z p first n ms ns xs ys less)
+
+all_most : (z : PoolSizes) (p : ℕ) (all : List Allocator) (ms ns : List Queued) (xs ys : List FreedSlot) → WaitsLess z p ms ns xs ys → all_waiting z all ns ys ≤ all_waiting z all ms xs
+all_most z p [] ms ns xs ys less = omega arith
+all_most z p (a ∷ more) ms ns xs ys less = omega (arith, shards_most z p a.first_place a.shards ms ns xs ys less, all_most z p more ms ns xs ys less)
+
+shards_less : (z : PoolSizes) (p first n : ℕ) (ms ns : List Queued) (xs ys : List FreedSlot) → first ≤ p → p < first + n → WaitsLess z p ms ns xs ys → shards_waiting z first n ns ys + 1 ≤ shards_waiting z first n ms xs
+shards_less z p first zero ms ns xs ys from below less = absurd (omega (arith, from, below))
+shards_less z p first (suc n) ms ns xs ys from below less =
+    elim (cases_eq p (first + n)) [
+      | inl is ↦
+          let before : one_if (nat_lt 0 (waiting_for z (first + n) ms xs)) ≡ 1 = ap one_if (lt-ltb 0 _ (subst (λ (k : ℕ). 0 < waiting_for z k ms xs) is less.some)) in
+          let now : one_if (nat_lt 0 (waiting_for z (first + n) ns ys)) ≡ 0 = ap (λ (k : ℕ). one_if (nat_lt 0 k)) (subst (λ (k : ℕ). waiting_for z k ns ys ≡ 0) is less.none) in
+          omega (arith, before, now, shards_most z p first n ms ns xs ys less)
+      | inr other ↦
+          let here : one_if (nat_lt 0 (waiting_for z (first + n) ns ys)) ≡ one_if (nat_lt 0 (waiting_for z (first + n) ms xs)) = ap (λ (k : ℕ). one_if (nat_lt 0 k)) (less.others (first + n) (λ e. other (sym e))) in
+          omega (arith, here, shards_less z p first n ms ns xs ys from (omega (arith, below, other)) less)
+    ]
+
+-- the place is that of a shard of one of these allocators
+abbrev IsAmong : List Allocator → ℕ → Type 0
+IsAmong [] p = ⊥
+IsAmong (a ∷ more) p = ((a.first_place ≤ p) × (p < a.first_place + a.shards)) ⊎ IsAmong more p
+
+all_less : (z : PoolSizes) (p : ℕ) (all : List Allocator) (ms ns : List Queued) (xs ys : List FreedSlot) → IsAmong all p → WaitsLess z p ms ns xs ys → all_waiting z all ns ys + 1 ≤ all_waiting z all ms xs
+all_less z p [] ms ns xs ys among less = absurd among
+all_less z p (a ∷ more) ms ns xs ys among less =
+    elim among [
+      | inl here ↦ omega (arith, shards_less z p a.first_place a.shards ms ns xs ys here.0 here.1 less, all_most z p more ms ns xs ys less)
+      | inr later ↦ omega (arith, shards_most z p a.first_place a.shards ms ns xs ys less, all_less z p more ms ns xs ys later less)
+    ]
+
+among_if : (b : Bool) (a : Allocator) (more : List Allocator) (here there : ℕ) → (b ≡ true → (a.first_place ≤ here) × (here < a.first_place + a.shards)) → (b ≡ false → IsAmong more there) → IsAmong (a ∷ more) (if b then here else there)
+among_if true a more here there inside later = inl (inside refl)
+among_if false a more here there inside later = inr (later refl)
+
+home_place_if : (b : Bool) (x y : Home) → (if b then x else y).place ≡ (if b then x.place else y.place)
+home_place_if true x y = refl
+home_place_if false x y = refl
+
+no_more : (b : Bool) (n : ℕ) → b ≡ false → 0 < (if b then 1 else 0) + n → 0 < n
+no_more true n e some = absurd cc
+no_more false n e some = omega arith
+
+-- the home of a slot is
+home_among_them : (all : List Allocator) (slot : ℕ) → AllByRecursion IsStripe all → 0 < have_number all slot → IsAmong all (home_among all slot).place
+home_among_them [] slot each some = absurd (omega arith)
+home_among_them (a ∷ more) slot each some =
+    let b : Bool = has_number a slot in
+    let A : ℕ → Type 0 = IsAmong (a ∷ more) in
+    subst A (sym (home_place_if b (home_in a slot) (home_among more slot)))
+    (among_if b a more (home_in a slot).place (home_among more slot).place
+    (λ has. (omega arith, omega (arith, shard_below a slot each.0.placed has)))
+    (λ other. home_among_them more slot each.1 (no_more b (have_number more slot) other some)))
 
 one_at_most : (b : Bool) → one_if b ≤ 1
 one_at_most true = omega arith
 one_at_most false = omega arith
 
-shards_few : (z : PoolSizes) (n : ℕ) (ms : List Queued) (xs : List FreedSlot) → shards_waiting z n ms xs ≤ n
-shards_few z zero ms xs = omega arith
-shards_few z (suc n) ms xs = omega (arith, one_at_most (nat_lt 0 (waiting_for z n ms xs)), shards_few z n ms xs)
+shards_few : (z : PoolSizes) (first n : ℕ) (ms : List Queued) (xs : List FreedSlot) → shards_waiting z first n ms xs ≤ n
+shards_few z first zero ms xs = omega arith
+shards_few z first (suc n) ms xs = omega (arith, one_at_most (nat_lt 0 (waiting_for z (first + n) ms xs)), shards_few z first n ms xs)
+
+all_few : (z : PoolSizes) (all : List Allocator) (ms : List Queued) (xs : List FreedSlot) → all_waiting z all ms xs ≤ all_shards all
+all_few z [] ms xs = omega arith
+all_few z (a ∷ more) ms xs = omega (arith, shards_few z a.first_place a.shards ms xs, all_few z more ms xs)
 
 -- slots that pass a test, as a sum
 passing : (p : FreedSlot → Bool) (xs : List FreedSlot) → sum_by (λ x. one_if (p x)) xs ≡ length (filter p xs)
@@ -100,41 +182,41 @@ passing p (x ∷ xs) =
     ]
 
 -- those of one shard are gone once they are freed, and those of others stay
-abbrev count_of : Settings → ℕ → List FreedSlot → ℕ
-count_of s i xs = sum_by (λ x. one_if (shard_of s x.slot == i)) xs
+abbrev count_of : Plan → ℕ → List FreedSlot → ℕ
+count_of plan i xs = sum_by (λ x. one_if (shard_of plan x.slot == i)) xs
 
-count_first : (s : Settings) (i : ℕ) (x : FreedSlot) (xs : List FreedSlot) → count_of s i (x ∷ xs) ≡ one_if (shard_of s x.slot == i) + count_of s i xs
-count_first s i x xs = sum_by-cons (λ (y : FreedSlot). one_if (shard_of s y.slot == i)) x xs
+count_first : (plan : Plan) (i : ℕ) (x : FreedSlot) (xs : List FreedSlot) → count_of plan i (x ∷ xs) ≡ one_if (shard_of plan x.slot == i) + count_of plan i xs
+count_first plan i x xs = sum_by-cons (λ (y : FreedSlot). one_if (shard_of plan y.slot == i)) x xs
 
-elsewhere_none : (s : Settings) (j : ℕ) (xs : List FreedSlot) → count_of s j (freed_elsewhere s j xs) ≡ 0
-elsewhere_none s j [] = refl
-elsewhere_none s j (x ∷ xs) =
-    elim (cases_Bool (shard_of s x.slot == j)) [
+elsewhere_none : (plan : Plan) (j : ℕ) (xs : List FreedSlot) → count_of plan j (freed_elsewhere plan j xs) ≡ 0
+elsewhere_none plan j [] = refl
+elsewhere_none plan j (x ∷ xs) =
+    elim (cases_Bool (shard_of plan x.slot == j)) [
       | inl e ↦
-          let left : freed_elsewhere s j (x ∷ xs) ≡ freed_elsewhere s j xs = rw e refl in
-          ap (count_of s j) left ∙ elsewhere_none s j xs
+          let left : freed_elsewhere plan j (x ∷ xs) ≡ freed_elsewhere plan j xs = rw e refl in
+          ap (count_of plan j) left ∙ elsewhere_none plan j xs
       | inr e ↦
-          let left : freed_elsewhere s j (x ∷ xs) ≡ x ∷ freed_elsewhere s j xs = rw e refl in
-          let here : one_if (shard_of s x.slot == j) ≡ 0 = ap one_if e in
-          omega (arith, ap (count_of s j) left, count_first s j x (freed_elsewhere s j xs), here, elsewhere_none s j xs)
+          let left : freed_elsewhere plan j (x ∷ xs) ≡ x ∷ freed_elsewhere plan j xs = rw e refl in
+          let here : one_if (shard_of plan x.slot == j) ≡ 0 = ap one_if e in
+          omega (arith, ap (count_of plan j) left, count_first plan j x (freed_elsewhere plan j xs), here, elsewhere_none plan j xs)
     ]
 
-elsewhere_same : (s : Settings) (i j : ℕ) (xs : List FreedSlot) → i ≢ j → count_of s i (freed_elsewhere s j xs) ≡ count_of s i xs
-elsewhere_same s i j [] other = refl
-elsewhere_same s i j (x ∷ xs) other =
-    elim (cases_Bool (shard_of s x.slot == j)) [
+elsewhere_same : (plan : Plan) (i j : ℕ) (xs : List FreedSlot) → i ≢ j → count_of plan i (freed_elsewhere plan j xs) ≡ count_of plan i xs
+elsewhere_same plan i j [] other = refl
+elsewhere_same plan i j (x ∷ xs) other =
+    elim (cases_Bool (shard_of plan x.slot == j)) [
       | inl e ↦
-          let left : freed_elsewhere s j (x ∷ xs) ≡ freed_elsewhere s j xs = rw e refl in
-          let not_here : one_if (shard_of s x.slot == i) ≡ 0 = ap one_if (ne_eqb (shard_of s x.slot) i (λ is. other (sym is ∙ eqb-true (shard_of s x.slot) j e))) in
-          omega (arith, ap (count_of s i) left, count_first s i x xs, not_here, elsewhere_same s i j xs other)
+          let left : freed_elsewhere plan j (x ∷ xs) ≡ freed_elsewhere plan j xs = rw e refl in
+          let not_here : one_if (shard_of plan x.slot == i) ≡ 0 = ap one_if (ne_eqb (shard_of plan x.slot) i (λ is. other (sym is ∙ eqb-true (shard_of plan x.slot) j e))) in
+          omega (arith, ap (count_of plan i) left, count_first plan i x xs, not_here, elsewhere_same plan i j xs other)
       | inr e ↦
-          let left : freed_elsewhere s j (x ∷ xs) ≡ x ∷ freed_elsewhere s j xs = rw e refl in
-          omega (arith, ap (count_of s i) left, count_first s i x xs, count_first s i x (freed_elsewhere s j xs), elsewhere_same s i j xs other)
+          let left : freed_elsewhere plan j (x ∷ xs) ≡ x ∷ freed_elsewhere plan j xs = rw e refl in
+          omega (arith, ap (count_of plan i) left, count_first plan i x xs, count_first plan i x (freed_elsewhere plan j xs), elsewhere_same plan i j xs other)
     ]
 
 -- what a flush does is no more than three steps a slot and one a shard
-pub flush_few : (z : PoolSizes) (slots : ℕ) (local : Queue) (freed : Reserved FreedSlot) → IsGrouped local → length local.slots ≤ slots → flush_left z local freed ≤ 3 * slots + z.all_shards
-flush_few z slots local freed grouped few = omega (arith, grouped, few, shards_few z z.all_shards local.slots freed.items)
+pub flush_few : (z : PoolSizes) (slots : ℕ) (local : Queue) (freed : Reserved FreedSlot) → IsGrouped local → length local.slots ≤ slots → flush_left z local freed ≤ 3 * slots + all_shards z.allocators
+flush_few z slots local freed grouped few = omega (arith, grouped, few, all_few z z.allocators local.slots freed.items)
 
 runs_some : (rs : List QueuedRange) → 0 < length rs → 1 ≤ runs rs
 runs_some [] some = absurd (omega arith)
@@ -148,7 +230,7 @@ decommit_fewer z true old new freed faulted some =
       runs_some old.ranges some,
       ap runs faulted.ranges,
       length_all_zip (IsLeftBy (first_slot old.ranges)) old.slots new.slots faulted.slots,
-      shards_same z z.all_shards old.slots new.slots freed.items freed.items (λ j. omega (arith, faulted_numbers (λ k. one_if (k / z.slots_per_shard == j)) old new faulted)),
+      all_same z z.allocators old.slots new.slots freed.items freed.items (λ j. omega (arith, faulted_numbers (λ k. is_home z j k) old new faulted)),
     )
 decommit_fewer z false old new freed run some =
     let F : Queue → Type 0 = λ q. flush_left z q freed + 1 ≤ flush_left z old freed in
@@ -157,40 +239,52 @@ decommit_fewer z false old new freed run some =
       arith,
       runs_fewer old.ranges some,
       length_after_run old,
-      shards_same z z.all_shards old.slots (after_run old).slots freed.items freed.items (λ j. omega (arith, run_numbers (λ k. one_if (k / z.slots_per_shard == j)) old)),
+      all_same z z.allocators old.slots (after_run old).slots freed.items freed.items (λ j. omega (arith, run_numbers (λ k. is_home z j k) old)),
     ))
 
 -- a region less is to be put back once one was, and its slot still waits
-pub put_fewer : (z : PoolSizes) (m : Queued) (rest ms : List Queued) (xs : List FreedSlot) → ms ≡ m ∷ rest → shards_waiting z z.all_shards rest (xs ++ record { slot = m.name.slot; bytes = m.bytes } ∷ []) ≡ shards_waiting z z.all_shards ms xs
+pub put_fewer : (z : PoolSizes) (m : Queued) (rest ms : List Queued) (xs : List FreedSlot) → ms ≡ m ∷ rest → all_waiting z z.allocators rest (xs ++ record { slot = m.name.slot; bytes = m.bytes } ∷ []) ≡ all_waiting z z.allocators ms xs
 put_fewer z m rest ms xs is =
     let x : FreedSlot = record { slot = m.name.slot; bytes = m.bytes } in
-    shards_same z z.all_shards ms rest xs (xs ++ x ∷ [])
+    all_same z z.allocators ms rest xs (xs ++ x ∷ [])
     (λ j.
-    let of : ℕ → ℕ = λ k. one_if (k / z.slots_per_shard == j) in
+    let of : ℕ → ℕ = λ k. is_home z j k in
     omega (arith, ap (sum_by (λ (q : Queued). of q.name.slot)) is, sum_by-cons (λ (q : Queued). of q.name.slot) m rest, sum_by_push (λ (y : FreedSlot). of y.slot) xs x))
 
+-- a shard less waits once its slots are freed
+pub free_fewer : (plan : Plan) (places : ℕ) (ms : List Queued) (xs : List FreedSlot) → IsPoolPlan plan places → ((k : ℕ) → 1 ≤ freed_count (right_to k) xs → k < memory_slots plan) → ms ≡ [] → 0 < length xs
+    → all_waiting (sizes_of plan) plan.memories ms (freed_elsewhere plan (first_shard plan xs) xs) + 1 ≤ all_waiting (sizes_of plan) plan.memories ms xs
+free_fewer plan places ms xs is inside none some =
+    let p : ℕ = first_shard plan xs in
+    let z : PoolSizes = sizes_of plan in
+    let among : IsAmong plan.memories p = first_of (IsAmong plan.memories) plan xs (λ slot below. home_among_them plan.memories slot is.shards (has_home plan places slot is below)) some inside in
+    all_less z p plan.memories ms ms xs (freed_elsewhere plan p xs) among
+    (record {
+      some = omega (arith, passing (λ x. shard_of plan x.slot == p) xs, first_has_some plan xs some);
+      none = omega (arith, ap (sum_by (λ (m : Queued). is_home z p m.name.slot)) none, elsewhere_none plan p xs);
+      others = λ q other. omega (arith, elsewhere_same plan q p xs other);
+    })
+
 module _ {P : Type 0} where
-  -- a shard less waits once its slots are freed
-  pub free_fewer : (c : PoolCore P) (ms : List Queued) (xs : List FreedSlot) → ms ≡ [] → 0 < length xs → first_shard c.settings xs < c.settings.shards → shards_waiting (pool_sizes c) c.settings.shards ms (freed_elsewhere c.settings (first_shard c.settings xs) xs) + 1 ≤ shards_waiting (pool_sizes c) c.settings.shards ms xs
-  free_fewer c ms xs none some below =
-      let s : Settings = c.settings in
-      let j : ℕ = first_shard s xs in
-      shards_less (pool_sizes c) s.shards j ms ms xs (freed_elsewhere s j xs) below
-      (omega (arith, passing (λ x. shard_of s x.slot == j) xs, first_has_some s xs some))
-      (omega (arith, ap (sum_by (λ (m : Queued). one_if (m.name.slot / s.slots_per_shard == j))) none, elsewhere_none s j xs))
-      (λ i other. omega (arith, elsewhere_same s i j xs other))
+  few_of : (maker : MakerTold) (c : PoolCore P) (ms : List Queued) → IsCore maker c → All (λ m. m.name.kind ≡ memory_kind) ms → ((k : ℕ) → queued_count (right_to k) ms ≤ away_count (right_to k) c) → length ms ≤ memory_slots c.plan
+  few_of maker c ms core kinds out =
+      few_queued (memory_slots c.plan) ms
+      (λ k. omega (arith, queued_numbers k ms kinds, out k, (out_once maker k c core).0))
+      (λ k past. omega (arith, queued_numbers k ms kinds, out k, none_past maker k c core past))
 
-  pub few_in_queue : (maker : MakerTold) (i : ℕ) (c : PoolCore P) (f : Frame P) → CanStep maker c f → i < c.settings.queues → length (nth_queue i c).slots ≤ c.settings.slots
-  few_in_queue maker i c f can below =
-      few_queued c.settings.slots (nth_queue i c).slots
-      (λ k. omega (arith, can.fits.once (right_to k), queue_kept maker (right_to k) i c can.core below))
+  pub few_in_queue : (maker : MakerTold) (i : ℕ) (c : PoolCore P) (f : Frame P) → CanStep maker c f → IsQueuePlace c.plan i → length (queue_at i c).slots ≤ memory_slots c.plan
+  few_in_queue maker i c f can place =
+      few_of maker c (queue_at i c).slots can.core (memories_in maker c.settings (queue_at i c).slots (sound_queue maker i c can.core place).regions)
+      (λ k. omega (arith, can.fits.once (right_to k), queue_kept maker (right_to k) i c can.core place))
 
-  pub few_in_both : (maker : MakerTold) (i : ℕ) (c : PoolCore P) (f : Frame P) → CanStep maker c f → i < c.settings.queues → length (after_append (nth_queue i c) f.local).slots ≤ c.settings.slots
-  few_in_both maker i c f can below =
-      few_queued c.settings.slots (after_append (nth_queue i c) f.local).slots
+  pub few_in_both : (maker : MakerTold) (i : ℕ) (c : PoolCore P) (f : Frame P) → CanStep maker c f → IsQueuePlace c.plan i → length (after_append (queue_at i c) f.local).slots ≤ memory_slots c.plan
+  few_in_both maker i c f can place =
+      let Q : Queued → Type 0 = IsQueuedOf maker c.settings.behaviour c.settings.max_memory_size in
+      few_of maker c (after_append (queue_at i c) f.local).slots can.core
+      (memories_in maker c.settings (after_append (queue_at i c) f.local).slots (All-append Q (queue_at i c).slots f.local.slots (sound_queue maker i c can.core place).regions can.frame.queue.regions))
       (λ k. omega (
         arith,
-        queued_joined (right_to k) (nth_queue i c).slots f.local.slots,
+        queued_joined (right_to k) (queue_at i c).slots f.local.slots,
         can.fits.once (right_to k),
-        queue_kept maker (right_to k) i c can.core below,
+        queue_kept maker (right_to k) i c can.core place,
       ))

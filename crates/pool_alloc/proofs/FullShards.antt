@@ -1,23 +1,35 @@
 -- A shard whose pick found nothing has no free slot, and a pool that was searched through has none.
-use Rattle.std.proofs.Common.{◌≡◌, ℕ, suc, ◌+◌, ◌-◌, ◌*◌, ◌/◌, ◌%◌, ◌<◌, ◌≤◌, Bool, true, false, List, [], ◌∷◌, length, Option, Some, None, is_some, refl, ap, ◌∙◌, subst, inl, inr, arith}
-use Rattle.std.specs.Prelude.{◌==◌, nat_lt, if◌then◌else◌, sum_by, slice_index_or, option_map}
-use Rattle.std.specs.Option.{option_or}
-use Rattle.std.proofs.lemmas.Bool.{cases_lt, ltb-false, lt-ltb}
+use Rattle.pool_alloc.proofs.UsedSlots.{used_is_out}
+use Rattle.pool_hall.proofs.Totals.{inside, total_zero}
+use Rattle.pool_slots.proofs.ListUnits.{read_at, kept_parts}
+use Rattle.pool_slots.specs.PartUnits.{part_kept}
+use Rattle.pool_index.specs.Part.{shard_units, used_units}
+use Rattle.pool_hall.specs.declared.unit_name.SlotKind.{SlotKind}
+use Rattle.pool_hall.specs.Sum.{total}
+use Rattle.pool_hall.specs.declared.unit_name.SlotKind.TheVariants.{Memory as memory_kind}
+use Rattle.pool_slots.proofs.Planning.{numbered}
+use Rattle.pool_alloc.proofs.PoolParts.{sound_shard, place_of}
+use Rattle.pool_alloc.proofs.PlanPlaces.{IsShardPlace, slot_at, stripe_holds, queue_of_role, queue_tried_at, queues_all, stripe_role, IsQueuePlace, IsSlotAt, home_place}
+use Rattle.pool_slots.specs.declared.plan.Plan.{Plan}
+use Rattle.pool_slots.specs.declared.plan.Allocator.{Allocator}
+use Rattle.pool_slots.specs.Plans.{Role, shard_role, cell_role, queue_role, role_at, has_number}
+use Rattle.std.proofs.Common.{◌≡◌, ℕ, suc, ◌+◌, ◌-◌, ◌*◌, ◌/◌, ◌%◌, ◌<◌, ◌≤◌, Bool, true, false, List, [], ◌∷◌, length, Option, Some, None, is_some, refl, ap, ◌∙◌, subst, inl, inr, arith, sym}
+use Rattle.std.specs.Prelude.{◌==◌, nat_lt, if◌then◌else◌, sum_by, slice_index_or, option_map, IsSome, is_some}
+use Rattle.std.specs.Option.{option_or, option_map_or}
+use Rattle.std.proofs.lemmas.Bool.{cases_lt, ltb-false, lt-ltb, ne_eqb, cases_eq}
 use Rattle.std.proofs.lemmas.List.Sums.{sum_by-cons, count_by-le-length}
 use Rattle.std.proofs.lemmas.Nat.{mod-mul-add, div-add-mod'}
 use Rattle.std.proofs.Math.Nat.{mod-lt}
 use Rattle.pool_pages.specs.MakerTold.{MakerTold}
-use Rattle.pool_alloc.specs.Sound.{IsCore, IsPartAt}
-use Rattle.pool_index.specs.Shard.{ShardState, warm_at, next_cold, IsShard, choice, affine_choice, warm_choice, cold_choice, slot_and_bytes, pick_answer, one_if, is_used}
+use Rattle.pool_alloc.specs.Sound.{IsCore, IsPoolPlan, IsPartFor}
+use Rattle.pool_index.specs.Shard.{ShardState, warm_at, next_cold, IsShard, choice, affine_choice, warm_choice, cold_choice, slot_and_bytes, pick_answer, one_if, is_used, Choice, use_of, after_choice, after_full, after_pick}
 use Rattle.pool_index.specs.declared.ids.MemoryInModule.{MemoryInModule}
 use Rattle.pool_index.specs.declared.warm_slot.WarmSlot.{WarmSlot}
-use Rattle.pool_slots.specs.SlotQueues.{Queue, empty_queue}
-use Rattle.pool_alloc.specs.Places.{right_to, unused_count, free_count, queued_count, kept_count, part_count}
-use Rattle.pool_alloc.specs.Steps.{nth_shard, nth_queue, shard_in, queue_in, queue_place}
+use Rattle.pool_alloc.specs.Places.{Thing, right_to, queued_count, kept_count, away_count}
+use Rattle.pool_alloc.specs.Steps.{shard_at, queue_at, shard_in, queue_in, shard_of, memory_slots, queues_searched, stripe_allocator, allocator_for, local_of}
 use Rattle.pool_alloc.specs.declared.pool_core.PoolCore.{PoolCore}
 use Rattle.pool_alloc.specs.declared.frame.Frame.{Frame}
 use Rattle.pool_alloc.specs.Searches.{HasNoSlot, AreFull, AreEmpty}
-use Rattle.pool_alloc.proofs.RegionCounts.{cell_slots}
 use Rattle.pool_slots.specs.Parts.{part_at}
 use Rattle.pool_slots.specs.declared.part.PoolPart.{PoolPart}
 use Rattle.pool_alloc.specs.declared.pool_core.Settings.{Settings}
@@ -54,23 +66,28 @@ none_chosen want s e =
       cold = ltb-false s.cold s.capacity (if_none (nat_lt s.cold s.capacity) next_cold two.0);
     }
 
-all_used : (k first step : ℕ) (uses : List (Option (Option MemoryInModule))) → ((l : ℕ) → l < length uses → is_some (slice_index_or uses l None) ≡ true) → unused_count (right_to k) first step uses ≡ 0
-all_used k first step [] used = refl
-all_used k first step (None ∷ uses) used = let no : false ≡ true = used 0 (omega arith) in absurd cc
-all_used k first step (Some u ∷ uses) used = omega (arith, all_used k (first + step) step uses (λ l below. used (suc l) (omega (arith, below))))
-
 one_true : (b : Bool) → one_if b ≡ 1 → b ≡ true
 one_true true e = refl
 one_true false e = absurd (omega arith)
 
 -- So each of its slots is used.
 pub none_free : (want : Option MemoryInModule) (s : ShardState) → IsShard s → pick_answer want s ≡ None → HasNoSlot s
-none_free want s sound e k =
+none_free want s sound e l below =
     let none : HasNone s = none_chosen want s e in
-    all_used k s.first s.step s.used
-    (λ l below.
-    let cold : one_if (nat_lt l s.cold) ≡ 1 = ap one_if (lt-ltb l s.cold (omega (arith, below, sound.entries, none.cold))) in
-    one_true (is_used s l) (omega (arith, sound.partition l, cold, count_by-le-length (λ (e : WarmSlot). e.slot.0 == l) s.warm, none.warm)))
+    let cold : one_if (nat_lt l s.cold) ≡ 1 = ap one_if (lt-ltb l s.cold (omega (arith, below, none.cold))) in
+    some_used (use_of s l) (one_true (is_used s l) (omega (arith, sound.partition l, cold, count_by-le-length (λ (e : WarmSlot). e.slot.0 == l) s.warm, none.warm)))
+  where
+    some_used : {X : Type 0} (o : Option X) → is_some o ≡ true → IsSome o
+    some_used None e = absurd cc
+    some_used (Some x) e = refl
+
+-- and stays so after the pick
+full_after : (want : Option MemoryInModule) (s : ShardState) (o : Option Choice) → option_map (slot_and_bytes s) o ≡ None → HasNoSlot s → HasNoSlot (option_map_or (after_choice want s) o (after_full s))
+full_after want s None e full = full
+full_after want s (Some c) e full = absurd cc
+
+pub still_none : (want : Option MemoryInModule) (s : ShardState) → pick_answer want s ≡ None → HasNoSlot s → HasNoSlot (after_pick want s)
+still_none want s e full = full_after want s (choice want s) e full
 
 -- each place is reached from a home by steps around
 around : (home i n : ℕ) → i < n → (j : ℕ) × (j < n) × ((home + j) % n ≡ i)
@@ -88,33 +105,49 @@ around home i n inside =
           (i - r, omega (arith, inside), ap (λ (m : ℕ). m % n) there ∙ mod-mul-add (home / n) n i inside)
     ]
 
-sum_none : {X : Type 0} (of : X → ℕ) (xs : List X) (d : X) → ((i : ℕ) → i < length xs → of (slice_index_or xs i d) ≡ 0) → sum_by of xs ≡ 0
-sum_none of [] d none = refl
-sum_none of (x ∷ xs) d none = omega (arith, sum_by-cons of x xs, none 0 (omega arith), sum_none of xs d (λ i below. none (suc i) (omega (arith, below))))
+-- A slot of the stripe's allocator is at home in one of its shards.
+pub stripe_home : (plan : Plan) (places stripe k : ℕ) → IsPoolPlan plan places → stripe < length plan.memories → has_number (stripe_allocator plan stripe) k ≡ true → (i : ℕ) × (i < (stripe_allocator plan stripe).shards) × IsSlotAt plan ((stripe_allocator plan stripe).first_place + i) k
+stripe_home plan places stripe k is below has =
+    let a : Allocator = stripe_allocator plan stripe in
+    let of' = stripe_holds plan places stripe is below in
+    let it = numbered a k memory_kind (memory_slots plan) of' has in
+    let i : ℕ = (k - a.first) / a.step / a.slots_per_shard in
+    (i, it.shard, slot_at plan places (a.first_place + i) a i ((k - a.first) / a.step % a.slots_per_shard) k is (stripe_role plan places stripe i is below it.shard) of'.kind_is it.inside (sym it.number))
 
 module _ {P : Type 0} where
-  -- A part has no slot where it is a shard that has none, an empty queue, or a cell.
-  part_none : (maker : MakerTold) (s : Settings) (k p : ℕ) (x : PoolPart P) → IsPartAt maker s p x → (p < s.shards → free_count (right_to k) (shard_in x) ≡ 0) → (s.shards + s.slots ≤ p → (queue_in x).slots ≡ []) → part_count (right_to k) x ≡ 0
-  part_none maker s k p (part.Shard shard) is full empty = full is.0
-  part_none maker s k p (part.Memory cell) is full empty = cell_slots k cell
-  part_none maker s k p (part.Queue q) is full empty = ap (queued_count (right_to k)) (empty is.0)
-  part_none maker s k p (part.Table cell) is full empty = absurd is
-  part_none maker s k p (part.Stack cell) is full empty = absurd is
+  -- A part keeps nothing where it is no queue, or an empty one.
+  part_none : (maker : MakerTold) (s : Settings) (t : Thing) (r : Role) (x : PoolPart P) → IsPartFor maker s r x → (r ≡ queue_role → (queue_in x).slots ≡ []) → total t (part_kept x) ≡ 0
+  part_none maker s t queue_role (part.Queue q) is empty = ap (queued_count t) (empty refl)
+  part_none maker s t r (part.Shard shard) is empty = refl
+  part_none maker s t r (part.Memory cell) is empty = refl
+  part_none maker s t r (part.Table cell) is empty = refl
+  part_none maker s t r (part.Stack cell) is empty = refl
+  part_none maker s t r x is empty = absurd is
 
-  -- Where all shards were tried, and all queues taken, the pool has no slot.
-  pub nothing_kept : (maker : MakerTold) (c : PoolCore P) (f : Frame P) → IsCore maker c → AreEmpty c.settings.queues c f → AreFull c.settings.shards c f → (k : ℕ) → kept_count (right_to k) c ≡ 0
-  nothing_kept maker c f core empty full k =
-      let s : Settings = c.settings in
-      sum_none (part_count (right_to k)) c.parts (part_at 0 [])
-      (λ p below. part_none maker s k p (part_at p c.parts) (core.parts p below)
-      (λ shard.
-      let place = around f.home p s.shards shard in
-      let S : ℕ → Type 0 = λ n. free_count (right_to k) (nth_shard n c) ≡ 0 in
-      subst S place.2 (full place.0 place.1 k))
-      (λ from.
-      let i : ℕ = p - (s.shards + s.slots) in
-      let there : queue_place s i ≡ p = omega (arith, from) in
-      let place = around f.home i s.queues (omega (arith, below, core.number, from)) in
-      let S : ℕ → Type 0 = λ n. (nth_queue n c).slots ≡ [] in
-      let Q : ℕ → Type 0 = λ q. (queue_in (part_at q c.parts)).slots ≡ [] in
-      subst Q there (subst S place.2 (empty place.0 place.1))))
+  pub none_kept : (maker : MakerTold) (t : Thing) (c : PoolCore P) → IsCore maker c → ((p : ℕ) → IsQueuePlace c.plan p → (queue_at p c).slots ≡ []) → kept_count t c ≡ 0
+  none_kept maker t c core empty =
+      kept_parts t c.parts
+      ∙ total_zero (λ (x : PoolPart P). total t (part_kept x)) c.parts
+      (λ p x at.
+      let is : part_at p c.parts ≡ x = read_at c.parts p _ x at in
+      subst (λ (y : PoolPart P). total t (part_kept y) ≡ 0) is (part_none maker c.settings t (role_at c.plan p) (part_at p c.parts) (core.parts p (inside c.parts p x at)) (λ role. empty p role)))
+
+  -- Where all shards of the stripe were tried, and all queues taken, each slot of the stripe is given out, and in no queue.
+  pub nothing_left : (maker : MakerTold) (c : PoolCore P) (f : Frame P) → IsCore maker c → f.stripe < length c.plan.memories → AreEmpty (queues_searched c.plan) c f → AreFull (allocator_for c.plan f).shards c f → (k : ℕ) → has_number (allocator_for c.plan f) k ≡ true → (kept_count (right_to k) c ≡ 0) × (away_count (right_to k) c ≡ 1)
+  nothing_left maker c f core stripe empty full k has =
+      let a : Allocator = allocator_for c.plan f in
+      let home = stripe_home c.plan (length c.parts) f.stripe k core.plan stripe has in
+      let tried = around f.home home.0 a.shards home.1 in
+      let p : ℕ = shard_of c.plan k in
+      let at_home : HasNoSlot (shard_at p c) = subst (λ (q : ℕ). HasNoSlot (shard_at q c)) (ap (λ (i : ℕ). a.first_place + i) tried.2 ∙ home.2.home) (full tried.0 tried.1) in
+      let place = home_place c.plan (length c.parts) k core.plan home.2.inside in
+      let its = place_of maker c k core home.2.inside in
+      let used : is_used (shard_at p c) (local_of c.plan k).0 ≡ true = at_home (local_of c.plan k).0 (omega (arith, its.inside, (sound_shard maker p c core place).entries)) in (
+        none_kept maker (right_to k) c core
+            (λ q role.
+            let i = queue_of_role c.plan (length c.parts) q core.plan role in
+            let taken = around f.home i.0 c.plan.queues i.1 in
+            let Q : ℕ → Type 0 = λ n. (queue_at n c).slots ≡ [] in
+            subst Q (queue_tried_at c.plan taken.0 f core.plan.shared ∙ ap (λ (n : ℕ). c.plan.first_queue + n) taken.2 ∙ i.2) (empty taken.0 (omega (arith, taken.1, queues_all c.plan core.plan.shared)))),
+        used_is_out maker k c core home.2.inside used,
+      )

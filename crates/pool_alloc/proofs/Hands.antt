@@ -1,5 +1,7 @@
 -- All that is shown of a row, before its turn; and that the turn leaves it.
-use Rattle.std.proofs.Common.{◌≡◌, ℕ, ◌+◌, ◌*◌, ◌^◌, ◌<◌, ◌≤◌, Bool, true, false, List, [], ◌∷◌, length, All, refl, sym, ap, subst, ◌∙◌, arith, Option, Some, None}
+use Rattle.pool_alloc.proofs.PlanPlaces.{stripe_is}
+use Rattle.pool_slots.specs.declared.plan.Plan.{Plan}
+use Rattle.std.proofs.Common.{◌≡◌, ℕ, ◌+◌, ◌*◌, ◌<◌, ◌≤◌, Bool, true, false, List, [], ◌∷◌, length, All, refl, sym, ap, subst, ◌∙◌, arith, Option, Some, None}
 use Rattle.std.specs.Prelude.{◌==◌, nat_lt, if◌then◌else◌, is_some}
 use Rattle.std.proofs.lemmas.Bool.{ltb-true, ltb-false, eqb-true, eqb-false, and_parts}
 use Rattle.std.proofs.lemmas.List.{nil_from_length}
@@ -7,20 +9,19 @@ use Rattle.std.proofs.lemmas.List.Elements.{All-nil, All-head, All-tail, All-sam
 use Rattle.pool_pages.specs.MakerTold.{MakerTold}
 use Rattle.pool_limits.specs.LimiterTold.{LimiterTold}
 use Rattle.pool_slots.specs.SlotQueues.{Queue}
-use Rattle.pool_slots.specs.declared.errors.AllocError.{AllocError}
 use Rattle.pool_slots.proofs.SlotRuns.{no_slots}
 use Rattle.pool_alloc.proofs.QueueCounts.{leased_first}
-use Rattle.pool_alloc.specs.Bounds.{PoolSizes, give_back_bound, pool_sizes, flush_left, returns_left, queues_left, next_left, steps_at, steps_left}
+use Rattle.pool_alloc.specs.Bounds.{PoolSizes, give_back_bound, sizes_of, flush_left, returns_left, queues_left, next_left, steps_at, steps_left}
 use Rattle.pool_alloc.specs.Calls.{IsGrantOf, IfGranted}
 use Rattle.pool_alloc.specs.Leases.{Lease}
-use Rattle.pool_alloc.specs.Places.{Thing, leased_count, queued_count, freed_count, kept_count, phase_count, frame_count, phase_instances, phase_memories, frame_memories}
+use Rattle.pool_alloc.specs.Places.{Thing, leased_count, queued_count, freed_count, kept_count, phase_count, frame_count, phase_instances, phase_memories, frame_memories, away_count}
 use Rattle.pool_alloc.specs.Reserved.{Reserved, no_room}
 use Rattle.pool_alloc.specs.Searches.{AreFull, AreEmpty, IsSearchedBy, IsSearchedAt, IsSearched}
-use Rattle.pool_alloc.specs.Sound.{AreSupported, IsLocal, IsLeaseOf, IsCore, IsFrame, IsToGrant, Aims, HasNoneWaiting, IsAtRest, IsAiming, IsAllocating, IsReturning, IsShapedAt, AreBegun}
+use Rattle.pool_alloc.specs.Sound.{AreSupported, IsLocal, IsLeaseOf, IsCore, IsFrame, IsToGrant, Aims, HasNoneWaiting, IsAtRest, IsAiming, IsAllocating, IsReturning, IsShapedAt, AreBegun, IsFreedOf}
 use Rattle.pool_alloc.specs.Stages.{admitted, Stage, no_call, keys, asks, returning, refusing, stage_by, stage_at, stage_of, Follows, Goes}
-use Rattle.pool_alloc.specs.Steps.{memories_wanted, images_wanted}
+use Rattle.pool_alloc.specs.Steps.{memories_wanted, images_wanted, allocator_for, queues_searched}
 use Rattle.pool_alloc.specs.Stepping.{count_granted, grant_count, grant_instances, grant_memories, is_idle}
-use Rattle.pool_alloc.specs.Turns.{Turn, goes, ends, next, flush, search, Row, Left, After, is_granting, failing, returned_next, next_by, is_flushed, no_slot_left, after, finished, stepped}
+use Rattle.pool_alloc.specs.Turns.{Turn, goes, ends, next, flush, search, Row, Left, After, is_granting, failing, returned_next, next_by, is_flushed, after, finished, stepped}
 use Rattle.pool_alloc.specs.declared.pool_core.PoolCore.{PoolCore}
 use Rattle.pool_alloc.specs.declared.pool_core.Settings.{Settings}
 use Rattle.pool_alloc.specs.declared.frame.Ending.{Ending}
@@ -47,12 +48,12 @@ some_length [] e = absurd (eqb-false 0 0 e refl)
 some_length (x ∷ xs) e = omega arith
 
 -- what a frame has, in whatever phase
-pub record IsHeld (maker : MakerTold) (s : Settings) (in_stripe : ℕ) (local : Queue) (freed : Reserved FreedSlot) (leases : List Lease) : Type 0 where
-  pub stripe : in_stripe < s.stripes
+pub record IsHeld (maker : MakerTold) (s : Settings) (plan : Plan) (in_stripe : ℕ) (local : Queue) (freed : Reserved FreedSlot) (leases : List Lease) : Type 0 where
+  pub stripe : in_stripe < length plan.memories
   pub queue : IsLocal maker s local
   pub freed_room : (freed.room ≡ 2 * s.batch) × (length freed.items + length local.slots ≤ 2 * s.batch)
-  pub freed_bytes : All (λ x. x.bytes ≤ 2 ^ 32) freed.items
-  pub objects : All (IsLeaseOf maker s) leases
+  pub freed_each : All (IsFreedOf plan) freed.items
+  pub objects : All (IsLeaseOf maker s plan) leases
 
 -- what a step has in hand: things, and how many instances and memories are counted
 pub record Hand : Type 0 where
@@ -71,14 +72,14 @@ module _ {P : Type 0} where
   abbrev pub in_phase : Phase P → Frame P → Frame P
   in_phase phase f = record f { phase = phase }
 
-  abbrev pub Held : MakerTold → Settings → Frame P → Type 0
-  Held maker s f = IsHeld maker s f.stripe f.local f.freed f.objects.items
+  abbrev pub Held : MakerTold → Settings → Plan → Frame P → Type 0
+  Held maker s plan f = IsHeld maker s plan f.stripe f.local f.freed f.objects.items
 
-  pub held_of : (maker : MakerTold) (s : Settings) (f : Frame P) → IsFrame maker s f → Held maker s f
-  held_of maker s f frame = record { stripe = frame.stripe; queue = frame.queue; freed_room = frame.freed_room; freed_bytes = frame.freed_bytes; objects = frame.objects }
+  pub held_of : (maker : MakerTold) (s : Settings) (plan : Plan) (f : Frame P) → IsFrame maker s plan f → Held maker s plan f
+  held_of maker s plan f frame = record { stripe = frame.stripe; queue = frame.queue; freed_room = frame.freed_room; freed_each = frame.freed_each; objects = frame.objects }
 
-  pub frame_of : (maker : MakerTold) (s : Settings) (f : Frame P) → Held maker s f → IsShapedAt maker s f.phase f → IsFrame maker s f
-  frame_of maker s f held shape = record { stripe = held.stripe; queue = held.queue; freed_room = held.freed_room; freed_bytes = held.freed_bytes; objects = held.objects; shape = shape }
+  pub frame_of : (maker : MakerTold) (s : Settings) (plan : Plan) (f : Frame P) → Held maker s plan f → IsShapedAt maker s plan f.phase f → IsFrame maker s plan f
+  frame_of maker s plan f held shape = record { stripe = held.stripe; queue = held.queue; freed_room = held.freed_room; freed_each = held.freed_each; objects = held.objects; shape = shape }
 
   -- what a frame has but for its next step
   abbrev pub listed_count : Thing → Frame P → ℕ
@@ -96,7 +97,7 @@ module _ {P : Type 0} where
   turn_steps z (ends o) f = 0
   turn_steps z next f = next_left z f.ending f.queues f.asked f.objects
   turn_steps z flush f = flush_left z f.local f.freed + next_left z f.ending f.queues f.asked f.objects
-  turn_steps z search f = queues_left z f.queues f.asked f.objects
+  turn_steps z (search queues x) f = queues_left z f.queues f.asked f.objects
 
   -- how far a search is that goes on so
   abbrev pub TurnSearched : PoolCore P → Frame P → Turn P → Type 0
@@ -104,7 +105,7 @@ module _ {P : Type 0} where
   TurnSearched c f (ends o) = Unit {0}
   TurnSearched c f next = IsSearchedBy f.ending (AreEmpty f.queues c f)
   TurnSearched c f flush = IsSearchedBy f.ending (AreEmpty f.queues c f)
-  TurnSearched c f search = AreEmpty f.queues c f × AreFull c.settings.shards c f
+  TurnSearched c f (search queues x) = AreEmpty f.queues c f × AreFull (allocator_for c.plan f).shards c f
 
 -- A step of a pool d and a frame e, over a limiter.
 module _ {P : Type 0} (maker : MakerTold) (old new : LimiterTold) (d : PoolCore P) (e : Frame P) where
@@ -113,26 +114,27 @@ module _ {P : Type 0} (maker : MakerTold) (old new : LimiterTold) (d : PoolCore 
 
   -- The sums are those of the step's beginning, with what is in hand.
   pub record Even (h : Hand) (c : PoolCore P) (f : Frame P) : Type 0 where
-    pub places : (t : Thing) → kept_count t c + (listed_count t f + h.things t) ≡ kept_count t d + frame_count t e
+    pub places : (t : Thing) → kept_count t c + (listed_count t f + h.things t) + away_count t d ≡ kept_count t d + frame_count t e + away_count t c
     pub instances : c.counters.core_instances + phase_instances e.phase ≡ d.counters.core_instances + h.instances
     pub memories : c.counters.memories + frame_memories e ≡ d.counters.memories + (length f.objects.items + h.memories)
 
   -- what is there, whatever comes next
   pub record Kept (c : PoolCore P) (f : Frame P) : Type 0 where
     pub core : IsCore maker c
-    pub held : Held maker c.settings f
+    pub held : Held maker c.settings c.plan f
     pub asked : f.asked ≡ e.asked
     pub settings : c.settings ≡ d.settings
+    pub plan : c.plan ≡ d.plan
     pub instances_by_one : c.counters.core_instances ≤ d.counters.core_instances + 1
     pub memories_by_one : c.counters.memories ≤ d.counters.memories + 1
 
   -- what a turn wants of the frame
   abbrev pub TurnShape : PoolCore P → Frame P → Turn P → Type 0
-  TurnShape c f (goes p) = (is_idle p ≡ false) × IsShapedAt maker c.settings p (in_phase p f)
-  TurnShape c f (ends o) = IsAtRest f × IfGranted (IsGrantOf maker c.settings e.asked) (Some o)
-  TurnShape c f next = HasNoneWaiting f × IsAiming c.settings f
-  TurnShape c f flush = IsAiming c.settings f
-  TurnShape c f search = HasNoneWaiting f × IsAllocating c.settings f
+  TurnShape c f (goes p) = (is_idle p ≡ false) × IsShapedAt maker c.settings c.plan p (in_phase p f)
+  TurnShape c f (ends o) = IsAtRest f × IfGranted (IsGrantOf maker c.settings c.plan e.asked) (Some o)
+  TurnShape c f next = HasNoneWaiting f × IsAiming c.settings c.plan f
+  TurnShape c f flush = IsAiming c.settings c.plan f
+  TurnShape c f (search queues x) = (queues ≡ queues_searched c.plan) × HasNoneWaiting f × IsAllocating c.settings c.plan f
 
   -- and takes the call on so
   abbrev pub TurnGoes : PoolCore P → Frame P → Turn P → Type 0
@@ -140,14 +142,14 @@ module _ {P : Type 0} (maker : MakerTold) (old new : LimiterTold) (d : PoolCore 
   TurnGoes c f (ends o) = GoesNow no_call (Some o)
   TurnGoes c f next = GoesNow (stage_by f.ending (length f.objects.items)) None
   TurnGoes c f flush = GoesNow (stage_by f.ending (length f.objects.items)) None
-  TurnGoes c f search = GoesNow (stage_by f.ending (length f.objects.items)) None × (c.settings.queues ≤ f.queues → GoesNow (refusing (no_slot_left c.settings f)) None)
+  TurnGoes c f (search queues x) = GoesNow (stage_by f.ending (length f.objects.items)) None × (queues ≤ f.queues → GoesNow (refusing x) None)
 
   -- what a row shows of what it leaves, before its turn
   pub record Ready (c : PoolCore P) (f : Frame P) (t : Turn P) : Type 0 where
     pub kept : Kept c f
     pub shape : TurnShape c f t
     pub even : Even (hand t) c f
-    pub fewer : turn_steps (pool_sizes d) t f + 1 ≤ steps_left d e
+    pub fewer : turn_steps (sizes_of d.plan) t f + 1 ≤ steps_left d e
     pub way : TurnGoes c f t
     pub searched : IsSearched d e → TurnSearched c f t
 
@@ -157,17 +159,18 @@ module _ {P : Type 0} (maker : MakerTold) (old new : LimiterTold) (d : PoolCore 
   -- the same of what a step leaves
   pub record RowOk (a : After P) : Type 0 where
     pub core : IsCore maker a.core
-    pub frame : IsFrame maker a.core.settings a.frame
-    pub granted_is : IfGranted (IsGrantOf maker a.core.settings e.asked) a.outcome
-    pub places : (t : Thing) → kept_count t a.core + (frame_count t a.frame + count_granted (grant_count t) a.outcome) ≡ kept_count t d + frame_count t e
+    pub frame : IsFrame maker a.core.settings a.core.plan a.frame
+    pub granted_is : IfGranted (IsGrantOf maker a.core.settings a.core.plan e.asked) a.outcome
+    pub places : (t : Thing) → kept_count t a.core + (frame_count t a.frame + count_granted (grant_count t) a.outcome) + away_count t d ≡ kept_count t d + frame_count t e + away_count t a.core
     pub instances : a.core.counters.core_instances + phase_instances e.phase ≡ d.counters.core_instances + (phase_instances a.frame.phase + count_granted grant_instances a.outcome)
     pub memories : a.core.counters.memories + frame_memories e ≡ d.counters.memories + (frame_memories a.frame + count_granted grant_memories a.outcome)
     pub settings : a.core.settings ≡ d.settings
+    pub plan : a.core.plan ≡ d.plan
     pub answer : is_some a.outcome ≡ is_idle a.frame.phase
     pub instances_by_one : a.core.counters.core_instances ≤ d.counters.core_instances + 1
     pub memories_by_one : a.core.counters.memories ≤ d.counters.memories + 1
     pub asked : is_idle a.frame.phase ≡ false → a.frame.asked ≡ e.asked
-    pub fewer : steps_at (pool_sizes d) a.frame.phase a.frame + 1 ≤ steps_left d e
+    pub fewer : steps_at (sizes_of d.plan) a.frame.phase a.frame + 1 ≤ steps_left d e
     pub way : GoesNow (stage_of a.frame) a.outcome
     pub searched : IsSearched d e → IsSearched a.core a.frame
 
@@ -179,16 +182,17 @@ module _ {P : Type 0} (maker : MakerTold) (old new : LimiterTold) (d : PoolCore 
   either_ok c true x y one other = one refl
   either_ok c false x y one other = other refl
 
-  goes_ok : (c : PoolCore P) (f : Frame P) (p : Phase P) → Ready c f (goes p) → RowOk (finished c (after c.settings f (goes p)))
+  goes_ok : (c : PoolCore P) (f : Frame P) (p : Phase P) → Ready c f (goes p) → RowOk (finished c (after f (goes p)))
   goes_ok c f p r =
       record {
         core = r.kept.core;
-        frame = frame_of maker c.settings (in_phase p f) r.kept.held r.shape.1;
+        frame = frame_of maker c.settings c.plan (in_phase p f) r.kept.held r.shape.1;
         granted_is = tt;
         places = λ t. omega (arith, r.even.places t);
         instances = omega (arith, r.even.instances);
         memories = omega (arith, r.even.memories);
         settings = r.kept.settings;
+        plan = r.kept.plan;
         answer = sym r.shape.0;
         instances_by_one = r.kept.instances_by_one;
         memories_by_one = r.kept.memories_by_one;
@@ -198,16 +202,17 @@ module _ {P : Type 0} (maker : MakerTold) (old new : LimiterTold) (d : PoolCore 
         searched = r.searched;
       }
 
-  ends_ok : (c : PoolCore P) (f : Frame P) (o : Outcome P) → Ready c f (ends o) → RowOk (finished c (after c.settings f (ends o)))
+  ends_ok : (c : PoolCore P) (f : Frame P) (o : Outcome P) → Ready c f (ends o) → RowOk (finished c (after f (ends o)))
   ends_ok c f o r =
       record {
         core = r.kept.core;
-        frame = frame_of maker c.settings (after c.settings f (ends o)).frame r.kept.held r.shape.0;
+        frame = frame_of maker c.settings c.plan (after f (ends o)).frame r.kept.held r.shape.0;
         granted_is = r.shape.1;
         places = λ t. omega (arith, r.even.places t);
         instances = omega (arith, r.even.instances);
         memories = omega (arith, r.even.memories);
         settings = r.kept.settings;
+        plan = r.kept.plan;
         answer = refl;
         instances_by_one = r.kept.instances_by_one;
         memories_by_one = r.kept.memories_by_one;
@@ -218,11 +223,11 @@ module _ {P : Type 0} (maker : MakerTold) (old new : LimiterTold) (d : PoolCore 
       }
 
   -- what was granted so far is given back, or is still to be
-  back_ok : (c : PoolCore P) (f : Frame P) (leases : List Lease) → f.objects.items ≡ leases → Kept c f → HasNoneWaiting f → IsReturning f → Even (hand {P = P} next) c f → returns_left (pool_sizes d) f.objects + 1 ≤ steps_left d e → GoesNow (stage_by f.ending (length f.objects.items)) None → RowOk (finished c (returned_next leases f))
+  back_ok : (c : PoolCore P) (f : Frame P) (leases : List Lease) → f.objects.items ≡ leases → Kept c f → HasNoneWaiting f → IsReturning f → Even (hand {P = P} next) c f → returns_left (sizes_of d.plan) f.objects + 1 ≤ steps_left d e → GoesNow (stage_by f.ending (length f.objects.items)) None → RowOk (finished c (returned_next leases f))
   back_ok c f [] is kept settled back even fewer way =
       goes_ok c f UncountInstance (record { kept = kept; shape = (refl, (record { settled = settled; no_objects = is }, back)); even = even; fewer = omega (arith, fewer); way = way; searched = λ s. tt })
   back_ok c f (lease ∷ rest) is kept settled back even fewer way =
-      let L : Lease → Type 0 = IsLeaseOf maker c.settings in
+      let L : Lease → Type 0 = IsLeaseOf maker c.settings c.plan in
       let all : All L (lease ∷ rest) = All-same L (lease ∷ rest) f.objects.items (sym is) kept.held.objects in
       let has : Frame P = record f { objects = record f.objects { items = rest } } in
       let long : length f.objects.items ≡ length rest + 1 = ap (length {A = Lease}) is ∙ omega arith in
@@ -231,15 +236,16 @@ module _ {P : Type 0} (maker : MakerTold) (old new : LimiterTold) (d : PoolCore 
       (record {
         kept = record {
           core = kept.core;
-          held = record { stripe = kept.held.stripe; queue = kept.held.queue; freed_room = kept.held.freed_room; freed_bytes = kept.held.freed_bytes; objects = All-tail L lease rest all };
+          held = record { stripe = kept.held.stripe; queue = kept.held.queue; freed_room = kept.held.freed_room; freed_each = kept.held.freed_each; objects = All-tail L lease rest all };
           asked = kept.asked;
           settings = kept.settings;
+          plan = kept.plan;
           instances_by_one = kept.instances_by_one;
           memories_by_one = kept.memories_by_one;
         };
         shape = (refl, (settled, back, All-head L lease rest all));
         even = record { places = λ t. omega (arith, even.places t, leased_first t lease rest, ap (leased_count t) is); instances = even.instances; memories = omega (arith, even.memories, long) };
-        fewer = omega (arith, fewer, one_more (length f.objects.items) (length rest) (give_back_bound (pool_sizes d)) long);
+        fewer = omega (arith, fewer, one_more (length f.objects.items) (length rest) (give_back_bound (sizes_of d.plan)) long);
         way = subst W (stage_still f.ending (length f.objects.items) (length rest) back) way;
         searched = λ s. tt;
       })
@@ -253,7 +259,7 @@ module _ {P : Type 0} (maker : MakerTold) (old new : LimiterTold) (d : PoolCore 
   granted_way (refusing x) n grant way is supported = absurd way
 
   -- the instance is whole: the call ends with it
-  whole_ready : (c : PoolCore P) (f : Frame P) → Kept c f → HasNoneWaiting f → IsToGrant c.settings f.asked f.queues f.objects → Even (hand {P = P} next) c f → 1 ≤ steps_left d e → GoesNow (asks (admitted (length f.objects.items))) None → length (memories_wanted f.asked) ≤ length f.objects.items → Ready c (record f { objects = no_room }) (ends (answer.Granted (Instance (record { memories = f.objects }))))
+  whole_ready : (c : PoolCore P) (f : Frame P) → Kept c f → HasNoneWaiting f → IsToGrant c.settings c.plan f.asked f.queues f.objects → Even (hand {P = P} next) c f → 1 ≤ steps_left d e → GoesNow (asks (admitted (length f.objects.items))) None → length (memories_wanted f.asked) ≤ length f.objects.items → Ready c (record f { objects = no_room }) (ends (answer.Granted (Instance (record { memories = f.objects }))))
   whole_ready c f kept settled to_grant even fewer way all =
       let W : Option ModuleAsked → Type 0 = λ a. length f.objects.items ≡ length (memories_wanted a) in
       let B : Option ModuleAsked → Type 0 = λ a. AreBegun c.settings a f.objects.items in
@@ -263,9 +269,10 @@ module _ {P : Type 0} (maker : MakerTold) (old new : LimiterTold) (d : PoolCore 
       record {
         kept = record {
           core = kept.core;
-          held = record { stripe = kept.held.stripe; queue = kept.held.queue; freed_room = kept.held.freed_room; freed_bytes = kept.held.freed_bytes; objects = All-nil (IsLeaseOf maker c.settings) };
+          held = record { stripe = kept.held.stripe; queue = kept.held.queue; freed_room = kept.held.freed_room; freed_each = kept.held.freed_each; objects = All-nil (IsLeaseOf maker c.settings c.plan) };
           asked = kept.asked;
           settings = kept.settings;
+          plan = kept.plan;
           instances_by_one = kept.instances_by_one;
           memories_by_one = kept.memories_by_one;
         };
@@ -278,9 +285,9 @@ module _ {P : Type 0} (maker : MakerTold) (old new : LimiterTold) (d : PoolCore 
 
   next_ok : (c : PoolCore P) (f : Frame P) (ending : Ending) → f.ending ≡ ending → Ready c f next → RowOk (finished c (next_by ending f))
   next_ok c f granted is r =
-      let z : PoolSizes = pool_sizes d in
-      let A : Ending → Type 0 = λ x. Aims c.settings x f.asked f.queues f.objects in
-      let aim : IsToGrant c.settings f.asked f.queues f.objects = subst A is r.shape.1 in
+      let z : PoolSizes = sizes_of d.plan in
+      let A : Ending → Type 0 = λ x. Aims c.settings c.plan x f.asked f.queues f.objects in
+      let aim : IsToGrant c.settings c.plan f.asked f.queues f.objects = subst A is r.shape.1 in
       let N : Ending → Type 0 = λ x. next_left z x f.queues f.asked f.objects + 1 ≤ steps_left d e in
       let left = subst N is r.fewer in
       let S : Ending → Type 0 = λ x. IsSearchedBy x (AreEmpty f.queues c f) in
@@ -290,7 +297,7 @@ module _ {P : Type 0} (maker : MakerTold) (old new : LimiterTold) (d : PoolCore 
       let left_of_picks = rw more at left in
       goes_ok c f (Pick 0) (record {
         kept = r.kept;
-        shape = (refl, (r.shape.0, record { ending = is; to_grant = aim; more = ltb-true _ _ more }, r.kept.core.settings.shards.0));
+        shape = (refl, (r.shape.0, record { ending = is; to_grant = aim; more = ltb-true _ _ more }, (stripe_is c.plan (length c.parts) f.stripe r.kept.core.plan r.kept.held.stripe).some));
         even = r.even;
         fewer = left_of_picks;
         way = r.way;
@@ -298,10 +305,10 @@ module _ {P : Type 0} (maker : MakerTold) (old new : LimiterTold) (d : PoolCore 
       }))
       (λ last. ends_ok c (record f { objects = no_room }) (answer.Granted (Instance (record { memories = f.objects }))) (whole_ready c f r.kept r.shape.0 aim r.even (omega (arith, left)) (subst W is r.way) (ltb-false _ _ last)))
   next_ok c f returned is r =
-      let N : Ending → Type 0 = λ x. next_left (pool_sizes d) x f.queues f.asked f.objects + 1 ≤ steps_left d e in
+      let N : Ending → Type 0 = λ x. next_left (sizes_of d.plan) x f.queues f.asked f.objects + 1 ≤ steps_left d e in
       back_ok c f f.objects.items refl r.kept r.shape.0 (ap is_granting is) r.even (subst N is r.fewer) r.way
   next_ok c f (refused x) is r =
-      let N : Ending → Type 0 = λ x. next_left (pool_sizes d) x f.queues f.asked f.objects + 1 ≤ steps_left d e in
+      let N : Ending → Type 0 = λ x. next_left (sizes_of d.plan) x f.queues f.asked f.objects + 1 ≤ steps_left d e in
       back_ok c f f.objects.items refl r.kept r.shape.0 (ap is_granting is) r.even (subst N is r.fewer) r.way
 
   flushed : (c : PoolCore P) (f : Frame P) → Kept c f → is_flushed f ≡ true → HasNoneWaiting f
@@ -311,7 +318,7 @@ module _ {P : Type 0} (maker : MakerTold) (old new : LimiterTold) (d : PoolCore 
       record { no_ranges = no_slots f.local.ranges f.local.slots none kept.held.queue.owners; no_slots = none; none_freed = empty_length f.freed.items both.1 }
 
   -- What a turn leaves is as the row shows.
-  pub after_ok : (c : PoolCore P) (f : Frame P) (t : Turn P) → Ready c f t → RowOk (finished c (after c.settings f t))
+  pub after_ok : (c : PoolCore P) (f : Frame P) (t : Turn P) → Ready c f t → RowOk (finished c (after f t))
   after_ok c f (goes p) r = goes_ok c f p r
   after_ok c f (ends o) r = ends_ok c f o r
   after_ok c f next r = next_ok c f f.ending refl r
@@ -319,13 +326,12 @@ module _ {P : Type 0} (maker : MakerTold) (old new : LimiterTold) (d : PoolCore 
       either_ok c (is_flushed f) _ _
       (λ done. next_ok c f f.ending refl (record { kept = r.kept; shape = (flushed c f r.kept done, r.shape); even = r.even; fewer = omega (arith, r.fewer); way = r.way; searched = r.searched }))
       (λ more. goes_ok c f Flush (record { kept = r.kept; shape = (refl, (r.shape, more)); even = r.even; fewer = r.fewer; way = r.way; searched = r.searched }))
-  after_ok c f search r =
-      let x : AllocError = no_slot_left c.settings f in
-      either_ok c (nat_lt f.queues c.settings.queues) _ _
-      (λ more. goes_ok c f TakeQueue (record { kept = r.kept; shape = (refl, (r.shape.0, r.shape.1, ltb-true _ _ more)); even = r.even; fewer = r.fewer; way = r.way.0; searched = r.searched }))
+  after_ok c f (search queues x) r =
+      either_ok c (nat_lt f.queues queues) _ _
+      (λ more. goes_ok c f TakeQueue (record { kept = r.kept; shape = (refl, (r.shape.1, r.shape.2, omega (arith, ltb-true _ _ more, r.shape.0))); even = r.even; fewer = r.fewer; way = r.way.0; searched = r.searched }))
       (λ last. back_ok c (failing x f) f.objects.items refl
-      (record { core = r.kept.core; held = r.kept.held; asked = r.kept.asked; settings = r.kept.settings; instances_by_one = r.kept.instances_by_one; memories_by_one = r.kept.memories_by_one })
-      r.shape.0 refl
+      (record { core = r.kept.core; held = r.kept.held; asked = r.kept.asked; settings = r.kept.settings; plan = r.kept.plan; instances_by_one = r.kept.instances_by_one; memories_by_one = r.kept.memories_by_one })
+      r.shape.1 refl
       (record { places = r.even.places; instances = r.even.instances; memories = r.even.memories })
       (omega (arith, r.fewer)) (r.way.1 (ltb-false _ _ last)))
 

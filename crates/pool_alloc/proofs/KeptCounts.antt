@@ -1,103 +1,123 @@
--- What the parts of the pool have once one shard, one cell or one queue changed; and that regions go with their slots.
+-- What the pool has given out, and what its queues keep, once one shard, one cell or one queue changed.
 use Rattle.std.proofs.Common.{◌≡◌, ℕ, ◌+◌, ◌<◌, ◌≤◌, true, false, [], length, refl, sym, ap, subst, ◌∙◌, arith}
-use Rattle.std.proofs.lemmas.List.Sums.{sum_by-set, get_or-le-sum_by}
+use Rattle.pool_hall.specs.Sum.{total}
+use Rattle.pool_hall.proofs.Totals.{element, total_at}
 use Rattle.pool_pages.specs.MakerTold.{MakerTold}
+use Rattle.pool_index.specs.Part.{shard_units}
 use Rattle.pool_index.specs.Shard.{ShardState}
-use Rattle.pool_slots.specs.Cells.{is_taken}
-use Rattle.pool_slots.specs.RegionCells.{CellState, cell_emptied}
+use Rattle.pool_slots.specs.Cells.{Cell, is_taken, taken}
+use Rattle.pool_slots.specs.RegionCells.{region_of as region_unit, CellState, cell_numbers, cell_emptied, cell_filled, cell_away}
+use Rattle.pool_slots.specs.PartUnits.{part_away, part_kept}
+use Rattle.pool_slots.specs.ListUnits.{StandsAs, StandAsPlanned}
 use Rattle.pool_slots.specs.Parts.{IsAt, IsShardPart, part_at, cell_of_part}
+use Rattle.pool_slots.specs.Plans.{Role, shard_role, cell_role, queue_role, role_at}
 use Rattle.pool_slots.specs.SlotQueues.{Queue}
 use Rattle.pool_slots.specs.declared.slot_name.SlotName.{SlotName}
 use Rattle.pool_slots.specs.declared.part.PoolPart.{PoolPart}
 use Rattle.pool_slots.specs.declared.part.PoolPart.TheVariants as part
-use Rattle.pool_alloc.specs.Places.{Thing, right_to, region_of, region_count, free_count, cell_count, queued_count, part_count, kept_count, phase_count, frame_count}
-use Rattle.pool_alloc.specs.Sound.{IsCore}
-use Rattle.pool_alloc.specs.Steps.{IsMemoryPart, IsQueuePart, cell_place, queue_place, shard_in, queue_in, nth_shard, nth_queue, nth_cell, with_part, with_shard, with_cell, with_queue}
+use Rattle.pool_slots.proofs.AwayOnce.{away_once}
+use Rattle.pool_slots.proofs.ListUnits.{read_at, away_parts, kept_parts, away_follows, kept_follows}
+use Rattle.pool_slots.proofs.PartUnits.{takes_count, puts_count}
+use Rattle.pool_alloc.specs.Places.{Thing, right_to, region_of, region_count, queued_count, away_count, kept_count}
+use Rattle.pool_alloc.specs.Sound.{IsPartFor, IsCore}
+use Rattle.pool_alloc.specs.Steps.{IsMemoryPart, IsQueuePart, memory_slot, cell_of, memory_slots, shard_in, queue_in, shard_at, queue_at, nth_cell, with_shard, with_cell, with_queue}
 use Rattle.pool_alloc.specs.declared.pool_core.PoolCore.{PoolCore}
-use Rattle.pool_alloc.specs.declared.frame.Frame.{Frame}
-use Rattle.pool_alloc.specs.declared.frame.Phase.{Phase}
-use Rattle.pool_alloc.specs.declared.frame.Phase.TheVariants.{Idle}
+use Rattle.pool_alloc.specs.declared.pool_core.Settings.{Settings}
+use Rattle.pool_alloc.proofs.PlanPlaces.{IsShardPlace, IsQueuePlace}
 use Rattle.pool_alloc.proofs.PoolParts.{shard_part, cell_part, queue_part, sound_cell}
-use Rattle.pool_alloc.proofs.RegionCounts.{region_once, cell_has, cell_hasnt, sum_by_le, part_region}
-use Rattle.pool_alloc.proofs.QueueCounts.{queued_regions, leased_regions, freed_regions}
+
+-- a cell's region is there, or out
+there_not_taken : (held : Cell) → is_taken held ≡ false → held ≡ taken → ⊥
+there_not_taken held there e = let no : true ≡ false = sym (ap is_taken e) ∙ there in absurd cc
+
+pub away_is_taken : (held : Cell) → is_taken held ≡ true → held ≡ taken
+away_is_taken taken e = refl
+away_is_taken held e = absurd cc
 
 module _ {P : Type 0} where
-  -- what a shard, a memory's cell and a queue have
-  pub shard_count : (t : Thing) (x : PoolPart P) → IsShardPart x → part_count t x ≡ free_count t (shard_in x)
-  shard_count t (part.Shard s) is = refl
-  shard_count t (part.Memory cell) is = absurd is
-  shard_count t (part.Table cell) is = absurd is
-  shard_count t (part.Stack cell) is = absurd is
-  shard_count t (part.Queue q) is = absurd is
+  -- what a shard, a memory's cell and a queue have given out, and keep
+  shard_away_is : (t : Thing) (x : PoolPart P) → IsShardPart x → (total t (part_away x) ≡ total t (shard_units (shard_in x))) × (total t (part_kept x) ≡ 0)
+  shard_away_is t (part.Shard s) is = (refl, refl)
+  shard_away_is t x is = absurd is
 
-  pub memory_count : (t : Thing) (x : PoolPart P) → IsMemoryPart x → part_count t x ≡ cell_count t (cell_of_part x)
-  memory_count t (part.Shard s) is = absurd is
-  memory_count t (part.Memory cell) is = refl
-  memory_count t (part.Table cell) is = absurd is
-  memory_count t (part.Stack cell) is = absurd is
-  memory_count t (part.Queue q) is = absurd is
+  cell_away_is : (t : Thing) (x : PoolPart P) → IsMemoryPart x → (total t (part_away x) ≡ total t (cell_away (cell_of_part x))) × (total t (part_kept x) ≡ 0)
+  cell_away_is t (part.Memory cell) is = (refl, refl)
+  cell_away_is t x is = absurd is
 
-  queue_count : (t : Thing) (x : PoolPart P) → IsQueuePart x → part_count t x ≡ queued_count t (queue_in x).slots
-  queue_count t (part.Shard s) is = absurd is
-  queue_count t (part.Memory cell) is = absurd is
-  queue_count t (part.Table cell) is = absurd is
-  queue_count t (part.Stack cell) is = absurd is
-  queue_count t (part.Queue q) is = refl
+  queue_away_is : (t : Thing) (x : PoolPart P) → IsQueuePart x → (total t (part_away x) ≡ 0) × (total t (part_kept x) ≡ queued_count t (queue_in x).slots)
+  queue_away_is t (part.Queue q) is = (refl, refl)
+  queue_away_is t x is = absurd is
 
-  kept_part : (t : Thing) (p : ℕ) (x : PoolPart P) (c : PoolCore P) → p < length c.parts → kept_count t (with_part p x c) + part_count t (part_at p c.parts) ≡ kept_count t c + part_count t x
-  kept_part t p x c below = omega (arith, sum_by-set (part_count t) c.parts p x (part_at 0 []) below)
+  -- how both change with a shard, a queue and a cell
+  pub away_shard : (t : Thing) (p : ℕ) (shard : ShardState) (c : PoolCore P) → IsAt IsShardPart p c.parts → away_count t (with_shard p shard c) + total t (shard_units (shard_at p c)) ≡ away_count t c + total t (shard_units shard)
+  away_shard t p shard c there = away_follows P t p (λ x. part.Shard shard) c.parts (total t (shard_units shard)) (total t (shard_units (shard_at p c))) there.inside (omega (arith, (shard_away_is t (part_at p c.parts) there.part).0))
 
-  pub kept_shard : (t : Thing) (j : ℕ) (shard : ShardState) (c : PoolCore P) → IsAt IsShardPart j c.parts → kept_count t (with_shard j shard c) + free_count t (nth_shard j c) ≡ kept_count t c + free_count t shard
-  kept_shard t j shard c there = omega (arith, kept_part t j (part.Shard shard) c there.inside, shard_count t (part_at j c.parts) there.part)
+  pub kept_shard : (t : Thing) (p : ℕ) (shard : ShardState) (c : PoolCore P) → IsAt IsShardPart p c.parts → kept_count t (with_shard p shard c) ≡ kept_count t c
+  kept_shard t p shard c there = omega (arith, kept_follows P t p (λ x. part.Shard shard) c.parts 0 0 there.inside (omega (arith, (shard_away_is t (part_at p c.parts) there.part).1)))
 
-  pub kept_queue : (t : Thing) (i : ℕ) (queue : Queue) (c : PoolCore P) → IsAt IsQueuePart (queue_place c.settings i) c.parts → kept_count t (with_queue i queue c) + queued_count t (nth_queue i c).slots ≡ kept_count t c + queued_count t queue.slots
-  kept_queue t i queue c there = omega (arith, kept_part t (queue_place c.settings i) (part.Queue queue) c there.inside, queue_count t (part_at (queue_place c.settings i) c.parts) there.part)
+  pub away_queue : (t : Thing) (p : ℕ) (queue : Queue) (c : PoolCore P) → IsAt IsQueuePart p c.parts → away_count t (with_queue p queue c) ≡ away_count t c
+  away_queue t p queue c there = omega (arith, away_follows P t p (λ x. part.Queue queue) c.parts 0 0 there.inside (omega (arith, (queue_away_is t (part_at p c.parts) there.part).0)))
 
-  kept_cell : (t : Thing) (i : ℕ) (cell : CellState) (c : PoolCore P) → IsAt IsMemoryPart (cell_place c.settings i) c.parts → kept_count t (with_cell i cell c) + cell_count t (nth_cell i c) ≡ kept_count t c + cell_count t cell
-  kept_cell t i cell c there = omega (arith, kept_part t (cell_place c.settings i) (part.Memory cell) c there.inside, memory_count t (part_at (cell_place c.settings i) c.parts) there.part)
+  pub kept_queue : (t : Thing) (p : ℕ) (queue : Queue) (c : PoolCore P) → IsAt IsQueuePart p c.parts → kept_count t (with_queue p queue c) + queued_count t (queue_at p c).slots ≡ kept_count t c + queued_count t queue.slots
+  kept_queue t p queue c there = kept_follows P t p (λ x. part.Queue queue) c.parts (queued_count t queue.slots) (queued_count t (queue_at p c).slots) there.inside (omega (arith, (queue_away_is t (part_at p c.parts) there.part).1))
 
-  pub kept_without : (maker : MakerTold) (t : Thing) (i : ℕ) (c : PoolCore P) → IsCore maker c → i < c.settings.slots → is_taken (nth_cell i c).holds ≡ false → kept_count t (with_cell i (cell_emptied (nth_cell i c)) c) + region_count t i ≡ kept_count t c
-  kept_without maker t i c core below has =
-      let named : (nth_cell i c).name.slot ≡ i = ap (λ (n : SlotName). n.slot) (sound_cell maker i c core below).name in
-      omega (arith, kept_cell t i (cell_emptied (nth_cell i c)) c (cell_part maker i c core below), cell_has t (nth_cell i c) has, cell_hasnt t (cell_emptied (nth_cell i c)) refl, ap (region_count t) named)
+  away_cell : (t : Thing) (slot : ℕ) (cell : CellState) (c : PoolCore P) → IsAt IsMemoryPart (cell_of c.plan slot) c.parts → away_count t (with_cell slot cell c) + total t (cell_away (nth_cell slot c)) ≡ away_count t c + total t (cell_away cell)
+  away_cell t slot cell c there = away_follows P t (cell_of c.plan slot) (λ x. part.Memory cell) c.parts (total t (cell_away cell)) (total t (cell_away (nth_cell slot c))) there.inside (omega (arith, (cell_away_is t (part_at (cell_of c.plan slot) c.parts) there.part).0))
 
-  pub kept_with : (maker : MakerTold) (t : Thing) (i : ℕ) (cell : CellState) (c : PoolCore P) → IsCore maker c → i < c.settings.slots → cell.name ≡ (nth_cell i c).name → is_taken (nth_cell i c).holds ≡ true → is_taken cell.holds ≡ false → kept_count t (with_cell i cell c) ≡ kept_count t c + region_count t i
-  kept_with maker t i cell c core below same none has =
-      let named : cell.name.slot ≡ i = ap (λ (n : SlotName). n.slot) (same ∙ (sound_cell maker i c core below).name) in
-      omega (arith, kept_cell t i cell c (cell_part maker i c core below), cell_hasnt t (nth_cell i c) none, cell_has t cell has, ap (region_count t) named)
+  kept_cell : (t : Thing) (slot : ℕ) (cell : CellState) (c : PoolCore P) → IsAt IsMemoryPart (cell_of c.plan slot) c.parts → kept_count t (with_cell slot cell c) ≡ kept_count t c
+  kept_cell t slot cell c there = omega (arith, kept_follows P t (cell_of c.plan slot) (λ x. part.Memory cell) c.parts 0 0 there.inside (omega (arith, (cell_away_is t (part_at (cell_of c.plan slot) c.parts) there.part).1)))
 
-  -- what one part has, all parts have
-  part_kept : (t : Thing) (p : ℕ) (c : PoolCore P) → p < length c.parts → part_count t (part_at p c.parts) ≤ kept_count t c
-  part_kept t p c below = get_or-le-sum_by (part_count t) c.parts p (part_at 0 []) below
+  -- A region leaves its cell, and comes back with the numbers that it went out with. What queues keep stays.
+  pub region_leaves : (maker : MakerTold) (t : Thing) (slot : ℕ) (c : PoolCore P) → IsCore maker c → slot < memory_slots c.plan → is_taken (nth_cell slot c).holds ≡ false → (away_count t (with_cell slot (cell_emptied (nth_cell slot c)) c) ≡ away_count t c + region_count t slot (cell_numbers (nth_cell slot c))) × (kept_count t (with_cell slot (cell_emptied (nth_cell slot c)) c) ≡ kept_count t c)
+  region_leaves maker t slot c core below has =
+      let cell : CellState = nth_cell slot c in
+      let there = cell_part maker slot c core below in
+      let named : t (region_unit cell.name (cell_numbers cell)) ≡ region_count t slot (cell_numbers cell) = ap (λ (n : SlotName). t (region_unit n (cell_numbers cell))) (sound_cell maker slot c core below).name in
+      (omega (arith, away_cell t slot (cell_emptied cell) c there, takes_count t cell (there_not_taken cell.holds has), named), kept_cell t slot (cell_emptied cell) c there)
 
-  pub shard_kept : (maker : MakerTold) (t : Thing) (j : ℕ) (c : PoolCore P) → IsCore maker c → j < c.settings.shards → free_count t (nth_shard j c) ≤ kept_count t c
-  shard_kept maker t j c core below =
-      let there = shard_part maker j c core below in
-      omega (arith, part_kept t j c there.inside, shard_count t (part_at j c.parts) there.part)
+  pub region_returns : (maker : MakerTold) (t : Thing) (slot : ℕ) (held : Cell) (c : PoolCore P) → IsCore maker c → slot < memory_slots c.plan → is_taken (nth_cell slot c).holds ≡ true → is_taken held ≡ false → (away_count t (with_cell slot (cell_filled held (nth_cell slot c)) c) + region_count t slot (nth_cell slot c).out ≡ away_count t c) × (kept_count t (with_cell slot (cell_filled held (nth_cell slot c)) c) ≡ kept_count t c)
+  region_returns maker t slot held c core below none has =
+      let cell : CellState = nth_cell slot c in
+      let there = cell_part maker slot c core below in
+      let named : t (region_unit cell.name cell.out) ≡ region_count t slot cell.out = ap (λ (n : SlotName). t (region_unit n cell.out)) (sound_cell maker slot c core below).name in
+      (omega (arith, away_cell t slot (cell_filled held cell) c there, puts_count t held cell (away_is_taken cell.holds none) (there_not_taken held has), named), kept_cell t slot (cell_filled held cell) c there)
 
-  pub queue_kept : (maker : MakerTold) (t : Thing) (i : ℕ) (c : PoolCore P) → IsCore maker c → i < c.settings.queues → queued_count t (nth_queue i c).slots ≤ kept_count t c
-  queue_kept maker t i c core below =
-      let there = queue_part maker i c core below in
-      omega (arith, part_kept t (queue_place c.settings i) c there.inside, queue_count t (part_at (queue_place c.settings i) c.parts) there.part)
+  -- what one part has given out or keeps, all have
+  pub part_away_in : (t : Thing) (p : ℕ) (c : PoolCore P) → p < length c.parts → total t (part_away (part_at p c.parts)) ≤ away_count t c
+  part_away_in t p c below =
+      let it = element c.parts p below in
+      let is : part_at p c.parts ≡ it.0 = read_at c.parts p _ it.0 it.1 in
+      omega (arith, ap (λ (x : PoolPart P). total t (part_away x)) is, total_at (λ (x : PoolPart P). total t (part_away x)) c.parts p it.0 it.1, away_parts t c.parts)
 
-  pub cell_kept : (maker : MakerTold) (i : ℕ) (c : PoolCore P) → IsCore maker c → i < c.settings.slots → is_taken (nth_cell i c).holds ≡ false → 1 ≤ kept_count (region_of i) c
-  cell_kept maker i c core below has =
-      let there = cell_part maker i c core below in
-      let named : (nth_cell i c).name.slot ≡ i = ap (λ (n : SlotName). n.slot) (sound_cell maker i c core below).name in
-      omega (arith, part_kept (region_of i) (cell_place c.settings i) c there.inside, memory_count (region_of i) (part_at (cell_place c.settings i) c.parts) there.part, cell_has (region_of i) (nth_cell i c) has, ap (region_count (region_of i)) named, region_once i)
+  part_kept_in : (t : Thing) (p : ℕ) (c : PoolCore P) → p < length c.parts → total t (part_kept (part_at p c.parts)) ≤ kept_count t c
+  part_kept_in t p c below =
+      let it = element c.parts p below in
+      let is : part_at p c.parts ≡ it.0 = read_at c.parts p _ it.0 it.1 in
+      omega (arith, ap (λ (x : PoolPart P). total t (part_kept x)) is, total_at (λ (x : PoolPart P). total t (part_kept x)) c.parts p it.0 it.1, kept_parts t c.parts)
 
-  -- Where the cell of a slot hasn't its region, no part has that without the slot.
-  pub kept_regions : (maker : MakerTold) (k : ℕ) (c : PoolCore P) → IsCore maker c → is_taken (nth_cell k c).holds ≡ true → kept_count (region_of k) c ≤ kept_count (right_to k) c
-  kept_regions maker k c core away =
-      sum_by_le (part_count (region_of k)) (part_count (right_to k)) c.parts (part_at 0 [])
-      (λ p below. part_region maker c.settings k p (part_at p c.parts) (core.parts p below)
-      (λ from is. subst (λ (q : ℕ). is_taken (cell_of_part (part_at q c.parts)).holds ≡ true) {x = cell_place c.settings k} {y = p} (omega (arith, from, is)) away))
+  pub shard_away : (maker : MakerTold) (t : Thing) (p : ℕ) (c : PoolCore P) → IsCore maker c → IsShardPlace c.plan p → total t (shard_units (shard_at p c)) ≤ away_count t c
+  shard_away maker t p c core place =
+      let there = shard_part maker p c core place in
+      omega (arith, part_away_in t p c there.inside, (shard_away_is t (part_at p c.parts) there.part).0)
 
-  phase_regions : (k : ℕ) (phase : Phase P) → phase_count (region_of k) phase ≤ phase_count (right_to k) phase
-  phase_regions k Idle = omega arith
-  phase_regions k next = omega arith
+  pub cell_away_in : (maker : MakerTold) (t : Thing) (slot : ℕ) (c : PoolCore P) → IsCore maker c → slot < memory_slots c.plan → total t (cell_away (nth_cell slot c)) ≤ away_count t c
+  cell_away_in maker t slot c core below =
+      let there = cell_part maker slot c core below in
+      omega (arith, part_away_in t (cell_of c.plan slot) c there.inside, (cell_away_is t (part_at (cell_of c.plan slot) c.parts) there.part).0)
 
-  -- A frame has no region without its slot.
-  pub frame_regions : (k : ℕ) (f : Frame P) → frame_count (region_of k) f ≤ frame_count (right_to k) f
-  frame_regions k f =
-      omega (arith, leased_regions k f.objects.items, queued_regions k f.local.slots, freed_regions k f.freed.items, phase_regions k f.phase)
+  pub queue_kept : (maker : MakerTold) (t : Thing) (p : ℕ) (c : PoolCore P) → IsCore maker c → IsQueuePlace c.plan p → queued_count t (queue_at p c).slots ≤ kept_count t c
+  queue_kept maker t p c core place =
+      let there = queue_part maker p c core place in
+      omega (arith, part_kept_in t p c there.inside, (queue_away_is t (part_at p c.parts) there.part).1)
+
+  -- No slot is given out twice, and no region.
+  stands : (maker : MakerTold) (s : Settings) (r : Role) (x : PoolPart P) → IsPartFor maker s r x → StandsAs r x
+  stands maker s (shard_role a j) (part.Shard shard) is = is.1
+  stands maker s (cell_role name) (part.Memory cell) is = (is.0, is.1.name ∙ (λ i. record { kind = sym is.0 i; slot = name.slot }))
+  stands maker s queue_role (part.Queue q) is = tt
+  stands maker s r x is = absurd is
+
+  pub out_once : (maker : MakerTold) (k : ℕ) (c : PoolCore P) → IsCore maker c → (away_count (right_to k) c ≤ 1) × (away_count (region_of k) c ≤ 1)
+  out_once maker k c core =
+      away_once P c.plan c.parts (memory_slot k)
+      (record { planned = core.plan.planned; stand = λ p below. stands maker c.settings (role_at c.plan p) (part_at p c.parts) (core.parts p below) })

@@ -19,12 +19,12 @@ pub mod MadePools
 pub mod Makings
 pub mod OneParts
 pub mod Picks
+pub mod PlanPlaces
 pub mod PoolParts
 pub mod Popped
 pub mod QueueCounts
 pub mod QueueRuns
 pub mod Refusing
-pub mod RegionCounts
 pub mod RegionRows
 pub mod ReturnRows
 pub mod Rounding
@@ -39,5 +39,6 @@ pub mod Supporting
 pub mod Telling
 pub mod Totals
 pub mod Untouched
+pub mod UsedSlots
 pub mod Ways
 pub mod Wholes

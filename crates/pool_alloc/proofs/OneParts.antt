@@ -11,7 +11,7 @@ use Rattle.pool_slots.specs.SlotQueues.{Queue, Queued, after_append, drained}
 use Rattle.pool_slots.specs.declared.errors.AllocError.{AllocError}
 use Rattle.pool_alloc.specs.Leases.{Lease}
 use Rattle.pool_alloc.specs.Rows.{FlushStep, run, put, free, flush_step, merged, in_queue, reserved, validated, counted, paged, was_made, was_reset, put_region_row, flush_row, row_of}
-use Rattle.pool_alloc.specs.Steps.{StepGiven, nth_queue, queue_tried, with_shard, with_cell, with_queue}
+use Rattle.pool_alloc.specs.Steps.{StepGiven, queue_at, queue_tried, with_shard, with_cell, with_queue}
 use Rattle.pool_alloc.specs.Stepping.{StepsTo, ChangesOnePart}
 use Rattle.pool_alloc.specs.Turns.{After}
 use Rattle.pool_alloc.specs.declared.pool_core.PoolCore.{PoolCore}
@@ -84,8 +84,8 @@ module _ {P : Type 0} where
   one_part g (UncountMemory lease) c f = inr (inr (inr (inr (_, inr (inr refl)))))
   one_part g (Reset lease) c f = one_reset g.fault g.slot lease c f
   one_part g Merge c f =
-      let i : ℕ = queue_tried 0 c.settings f in
-      let whole : Queue = after_append (nth_queue i c) f.local in
+      let i : ℕ = queue_tried 0 c.plan f in
+      let whole : Queue = after_append (queue_at i c) f.local in
       one_merged (nat_le c.settings.batch (length whole.ranges)) i whole c (record f { local = drained f.local })
   one_part g Flush c f = one_flushed (flush_step f.local) g.queue c f
   one_part g UncountInstance c f = inr (inr (inr (inr (_, inr (inl refl)))))

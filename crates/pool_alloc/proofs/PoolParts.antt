@@ -1,16 +1,41 @@
 -- Each part of the pool is what its place is for, also where one of them changes.
-use Rattle.std.proofs.Common.{◌≡◌, ℕ, ◌+◌, ◌-◌, ◌<◌, ◌≤◌, List, length, refl, sym, ap, subst, ◌∙◌, arith}
-use Rattle.std.specs.Prelude.{slice_set}
+use Rattle.std.proofs.Common.{◌≡◌, ℕ, ◌+◌, ◌*◌, ◌<◌, length, ap, subst, ◌∙◌, arith}
 use Rattle.std.proofs.lemmas.List.{get_or-set_same, get_or-set_other}
 use Rattle.pool_pages.specs.MakerTold.{MakerTold}
-use Rattle.pool_index.specs.Shard.{IsShard}
+use Rattle.pool_hall.specs.declared.unit_name.SlotKind.TheVariants.{Memory as memory_kind}
+use Rattle.pool_index.specs.Shard.{ShardState, IsShard, slot_number}
+use Rattle.pool_slots.specs.ListUnits.{IsShardOf}
 use Rattle.pool_slots.specs.Parts.{IsAt, IsShardPart, part_at, cell_of_part}
+use Rattle.pool_slots.specs.Plans.{Role, shard_role, cell_role, queue_role, role_at, number_at}
 use Rattle.pool_slots.specs.declared.part.PoolPart.{PoolPart}
 use Rattle.pool_slots.specs.declared.part.PoolPart.TheVariants as part
-use Rattle.pool_alloc.specs.Sound.{IsPoolCell, IsShared, IsPartAt, IsCore}
-use Rattle.pool_alloc.specs.Steps.{IsMemoryPart, IsQueuePart, cell_place, queue_place, shard_in, queue_in, nth_shard, nth_cell, nth_queue, with_part}
+use Rattle.pool_slots.specs.declared.plan.Allocator.{Allocator}
+use Rattle.pool_slots.specs.declared.plan.Plan.{Plan}
+use Rattle.pool_alloc.specs.Sound.{IsPoolCell, IsShared, IsPartFor, IsCore}
+use Rattle.pool_alloc.specs.Steps.{IsMemoryPart, IsQueuePart, memory_slot, cell_of, shard_of, local_of, memory_slots, shard_in, queue_in, shard_at, nth_cell, queue_at, with_part}
 use Rattle.pool_alloc.specs.declared.pool_core.PoolCore.{PoolCore}
 use Rattle.pool_alloc.specs.declared.pool_core.Settings.{Settings}
+use Rattle.pool_alloc.proofs.PlanPlaces.{IsShardPlace, IsQueuePlace, IsSlotAt, shard_inside, queue_inside, cell_inside, cell_role_at, at_home, slot_at}
+
+-- slot k of shard j of an allocator has the number that the shard gives it
+number_of : (a : Allocator) (j k : ℕ) (s : ShardState) → IsShardOf a j s → slot_number s k ≡ number_at a j k
+number_of a j k s is =
+    let first : s.first ≡ number_at a j 0 = is.first in
+    let step : k * s.step ≡ k * a.step = ap (λ (n : ℕ). k * n) is.step in
+    (λ i. first i + step i) ∙ spread a.first (j * a.slots_per_shard) k a.step
+  where
+    spread : (f m k t : ℕ) → (f + (m + 0) * t) + k * t ≡ f + (m + k) * t
+    spread f m k t = omega arith
+
+-- the slot of the pool with this number is one of the shard
+pub record HasPlace (plan : Plan) (shard : ShardState) (slot : ℕ) : Type 0 where
+  pub inside : (local_of plan slot).0 < length shard.used
+  pub number : slot_number shard (local_of plan slot).0 ≡ slot
+
+-- a shard of memories' slots, whose numbers are apart
+pub record IsOfMemories (shard : ShardState) : Type 0 where
+  pub kind : shard.kind ≡ memory_kind
+  pub apart : 0 < shard.step
 
 module _ {P : Type 0} where
   -- a part that was replaced, and any other
@@ -20,62 +45,87 @@ module _ {P : Type 0} where
   pub part_other : (p q : ℕ) (x : PoolPart P) (c : PoolCore P) → (q ≡ p → ⊥) → part_at q (with_part p x c).parts ≡ part_at q c.parts
   part_other p q x c other = get_or-set_other c.parts p q x _ other
 
-  -- what a part at each place is
-  shard_there : (maker : MakerTold) (s : Settings) (j : ℕ) (x : PoolPart P) → IsPartAt maker s j x → j < s.shards → IsShardPart x × IsShard (shard_in x)
-  shard_there maker s j (part.Shard shard) is below = (tt, is.1)
-  shard_there maker s j (part.Memory cell) is below = absurd (omega (arith, is.0, below))
-  shard_there maker s j (part.Queue q) is below = absurd (omega (arith, is.0, below))
-  shard_there maker s j (part.Table cell) is below = absurd is
-  shard_there maker s j (part.Stack cell) is below = absurd is
+  -- what a part of each role is
+  record IsShardFor (a : Allocator) (j : ℕ) (x : PoolPart P) : Type 0 where
+    part : IsShardPart x
+    kind : a.kind ≡ memory_kind
+    is : IsShardOf a j (shard_in x)
 
-  cell_there : (maker : MakerTold) (s : Settings) (i : ℕ) (x : PoolPart P) → IsPartAt maker s (cell_place s i) x → i < s.slots → IsMemoryPart x × IsPoolCell maker s.behaviour s.max_memory_size i (cell_of_part x)
-  cell_there maker s i (part.Shard shard) is below = absurd (omega (arith, is.0))
-  cell_there maker s i (part.Memory cell) is below =
-      let same : s.shards + i - s.shards ≡ i = omega arith in
-      (tt, subst (λ (n : ℕ). IsPoolCell maker s.behaviour s.max_memory_size n cell) same is.2)
-  cell_there maker s i (part.Queue q) is below = absurd (omega (arith, is.0, below))
-  cell_there maker s i (part.Table cell) is below = absurd is
-  cell_there maker s i (part.Stack cell) is below = absurd is
+  shard_for : (maker : MakerTold) (s : Settings) (a : Allocator) (j : ℕ) (x : PoolPart P) → IsPartFor maker s (shard_role a j) x → IsShardFor a j x
+  shard_for maker s a j (part.Shard shard) is = record { part = tt; kind = is.0; is = is.1 }
+  shard_for maker s a j (part.Memory cell) is = absurd is
+  shard_for maker s a j (part.Queue q) is = absurd is
+  shard_for maker s a j (part.Table cell) is = absurd is
+  shard_for maker s a j (part.Stack cell) is = absurd is
 
-  queue_there : (maker : MakerTold) (s : Settings) (i : ℕ) (x : PoolPart P) → IsPartAt maker s (queue_place s i) x → IsQueuePart x × IsShared maker s (queue_in x)
-  queue_there maker s i (part.Shard shard) is = absurd (omega (arith, is.0))
-  queue_there maker s i (part.Memory cell) is = absurd (omega (arith, is.1))
-  queue_there maker s i (part.Queue q) is = (tt, is.1)
-  queue_there maker s i (part.Table cell) is = absurd is
-  queue_there maker s i (part.Stack cell) is = absurd is
+  cell_for : (maker : MakerTold) (s : Settings) (slot : ℕ) (x : PoolPart P) → IsPartFor maker s (cell_role (memory_slot slot)) x → IsMemoryPart x × IsPoolCell maker s.behaviour s.max_memory_size slot (cell_of_part x)
+  cell_for maker s slot (part.Shard shard) is = absurd is
+  cell_for maker s slot (part.Memory cell) is = (tt, is.1)
+  cell_for maker s slot (part.Queue q) is = absurd is
+  cell_for maker s slot (part.Table cell) is = absurd is
+  cell_for maker s slot (part.Stack cell) is = absurd is
 
-  -- the place of a shard, of a cell and of a queue is one of the pool
-  pub shard_inside : (maker : MakerTold) (j : ℕ) (c : PoolCore P) → IsCore maker c → j < c.settings.shards → j < length c.parts
-  shard_inside maker j c core below = omega (arith, core.number, below)
+  queue_for : (maker : MakerTold) (s : Settings) (x : PoolPart P) → IsPartFor maker s queue_role x → IsQueuePart x × IsShared maker s (queue_in x)
+  queue_for maker s (part.Shard shard) is = absurd is
+  queue_for maker s (part.Memory cell) is = absurd is
+  queue_for maker s (part.Queue q) is = (tt, is)
+  queue_for maker s (part.Table cell) is = absurd is
+  queue_for maker s (part.Stack cell) is = absurd is
 
-  pub cell_inside : (maker : MakerTold) (i : ℕ) (c : PoolCore P) → IsCore maker c → i < c.settings.slots → cell_place c.settings i < length c.parts
-  cell_inside maker i c core below = omega (arith, core.number, below)
+  -- so it is of the parts at their places
+  part_for : (maker : MakerTold) (c : PoolCore P) (p : ℕ) (r : Role) → IsCore maker c → p < length c.parts → role_at c.plan p ≡ r → IsPartFor maker c.settings r (part_at p c.parts)
+  part_for maker c p r core inside role =
+      let F : Role → Type 0 = λ x. IsPartFor maker c.settings x (part_at p c.parts) in
+      subst F role (core.parts p inside)
 
-  pub queue_inside : (maker : MakerTold) (i : ℕ) (c : PoolCore P) → IsCore maker c → i < c.settings.queues → queue_place c.settings i < length c.parts
-  queue_inside maker i c core below = omega (arith, core.number, below)
+  shard_there : (maker : MakerTold) (p : ℕ) (c : PoolCore P) → IsCore maker c → (place : IsShardPlace c.plan p) → IsShardFor place.allocator place.index (part_at p c.parts)
+  shard_there maker p c core place = shard_for maker c.settings place.allocator place.index (part_at p c.parts) (part_for maker c p (shard_role place.allocator place.index) core (shard_inside c.plan (length c.parts) p core.plan place) place.role)
 
-  -- it is one,
-  pub shard_part : (maker : MakerTold) (j : ℕ) (c : PoolCore P) → IsCore maker c → j < c.settings.shards → IsAt IsShardPart j c.parts
-  shard_part maker j c core below =
-      let inside = shard_inside maker j c core below in
-      record { inside = inside; part = (shard_there maker c.settings j (part_at j c.parts) (core.parts j inside) below).0 }
+  cell_there : (maker : MakerTold) (slot : ℕ) (c : PoolCore P) → IsCore maker c → slot < memory_slots c.plan → IsMemoryPart (part_at (cell_of c.plan slot) c.parts) × IsPoolCell maker c.settings.behaviour c.settings.max_memory_size slot (nth_cell slot c)
+  cell_there maker slot c core below =
+      let p : ℕ = cell_of c.plan slot in
+      cell_for maker c.settings slot (part_at p c.parts) (part_for maker c p (cell_role (memory_slot slot)) core (cell_inside c.plan (length c.parts) slot core.plan below) (cell_role_at c.plan (length c.parts) slot core.plan below))
 
-  pub cell_part : (maker : MakerTold) (i : ℕ) (c : PoolCore P) → IsCore maker c → i < c.settings.slots → IsAt IsMemoryPart (cell_place c.settings i) c.parts
-  cell_part maker i c core below =
-      let inside = cell_inside maker i c core below in
-      record { inside = inside; part = (cell_there maker c.settings i (part_at (cell_place c.settings i) c.parts) (core.parts (cell_place c.settings i) inside) below).0 }
+  queue_there : (maker : MakerTold) (p : ℕ) (c : PoolCore P) → IsCore maker c → IsQueuePlace c.plan p → IsQueuePart (part_at p c.parts) × IsShared maker c.settings (queue_at p c)
+  queue_there maker p c core place = queue_for maker c.settings (part_at p c.parts) (part_for maker c p queue_role core (queue_inside c.plan (length c.parts) p core.plan place) place)
 
-  pub queue_part : (maker : MakerTold) (i : ℕ) (c : PoolCore P) → IsCore maker c → i < c.settings.queues → IsAt IsQueuePart (queue_place c.settings i) c.parts
-  queue_part maker i c core below =
-      let inside = queue_inside maker i c core below in
-      record { inside = inside; part = (queue_there maker c.settings i (part_at (queue_place c.settings i) c.parts) (core.parts (queue_place c.settings i) inside)).0 }
+  -- A shard, the cell of a slot, and a queue: it is one,
+  pub shard_part : (maker : MakerTold) (p : ℕ) (c : PoolCore P) → IsCore maker c → IsShardPlace c.plan p → IsAt IsShardPart p c.parts
+  shard_part maker p c core place = record { inside = shard_inside c.plan (length c.parts) p core.plan place; part = (shard_there maker p c core place).part }
+
+  pub cell_part : (maker : MakerTold) (slot : ℕ) (c : PoolCore P) → IsCore maker c → slot < memory_slots c.plan → IsAt IsMemoryPart (cell_of c.plan slot) c.parts
+  cell_part maker slot c core below = record { inside = cell_inside c.plan (length c.parts) slot core.plan below; part = (cell_there maker slot c core below).0 }
+
+  pub queue_part : (maker : MakerTold) (p : ℕ) (c : PoolCore P) → IsCore maker c → IsQueuePlace c.plan p → IsAt IsQueuePart p c.parts
+  queue_part maker p c core place = record { inside = queue_inside c.plan (length c.parts) p core.plan place; part = (queue_there maker p c core place).0 }
 
   -- and is sound.
-  pub sound_shard : (maker : MakerTold) (j : ℕ) (c : PoolCore P) → IsCore maker c → j < c.settings.shards → IsShard (nth_shard j c)
-  sound_shard maker j c core below = (shard_there maker c.settings j (part_at j c.parts) (core.parts j (shard_inside maker j c core below)) below).1
+  pub planned_shard : (maker : MakerTold) (p : ℕ) (c : PoolCore P) → IsCore maker c → (place : IsShardPlace c.plan p) → (place.allocator.kind ≡ memory_kind) × IsShardOf place.allocator place.index (shard_at p c)
+  planned_shard maker p c core place = let is = shard_there maker p c core place in (is.kind, is.is)
 
-  pub sound_cell : (maker : MakerTold) (i : ℕ) (c : PoolCore P) → IsCore maker c → i < c.settings.slots → IsPoolCell maker c.settings.behaviour c.settings.max_memory_size i (nth_cell i c)
-  sound_cell maker i c core below = (cell_there maker c.settings i (part_at (cell_place c.settings i) c.parts) (core.parts (cell_place c.settings i) (cell_inside maker i c core below)) below).1
+  pub sound_shard : (maker : MakerTold) (p : ℕ) (c : PoolCore P) → IsCore maker c → IsShardPlace c.plan p → IsShard (shard_at p c)
+  sound_shard maker p c core place = (shard_there maker p c core place).is.sound
 
-  pub sound_queue : (maker : MakerTold) (i : ℕ) (c : PoolCore P) → IsCore maker c → i < c.settings.queues → IsShared maker c.settings (nth_queue i c)
-  sound_queue maker i c core below = (queue_there maker c.settings i (part_at (queue_place c.settings i) c.parts) (core.parts (queue_place c.settings i) (queue_inside maker i c core below))).1
+  pub of_memories : (maker : MakerTold) (p : ℕ) (c : PoolCore P) → IsCore maker c → IsShardPlace c.plan p → IsOfMemories (shard_at p c)
+  of_memories maker p c core place = let is = shard_there maker p c core place in record { kind = is.is.kind ∙ is.kind; apart = is.is.sound.numbers.apart }
+
+  pub sound_cell : (maker : MakerTold) (slot : ℕ) (c : PoolCore P) → IsCore maker c → slot < memory_slots c.plan → IsPoolCell maker c.settings.behaviour c.settings.max_memory_size slot (nth_cell slot c)
+  sound_cell maker slot c core below = (cell_there maker slot c core below).1
+
+  pub sound_queue : (maker : MakerTold) (p : ℕ) (c : PoolCore P) → IsCore maker c → IsQueuePlace c.plan p → IsShared maker c.settings (queue_at p c)
+  sound_queue maker p c core place = (queue_there maker p c core place).1
+
+  -- A slot of the pool is one of its shard, and each slot of a shard is one of the pool, and at home there.
+  pub place_of : (maker : MakerTold) (c : PoolCore P) (slot : ℕ) → IsCore maker c → slot < memory_slots c.plan → HasPlace c.plan (shard_at (shard_of c.plan slot) c) slot
+  place_of maker c slot core below =
+      let home = at_home c.plan (length c.parts) slot core.plan below in
+      let is : IsShardOf home.allocator home.shard (shard_at (shard_of c.plan slot) c) = (shard_there maker (shard_of c.plan slot) c core (record { allocator = home.allocator; index = home.shard; role = home.role })).is in
+      record {
+        inside = omega (arith, home.inside, is.capacity, is.sound.entries);
+        number = number_of home.allocator home.shard (local_of c.plan slot).0 _ is ∙ home.number;
+      }
+
+  pub slot_of_shard : (maker : MakerTold) (p k : ℕ) (c : PoolCore P) → IsCore maker c → IsShardPlace c.plan p → k < (shard_at p c).capacity → IsSlotAt c.plan p (slot_number (shard_at p c) k)
+  slot_of_shard maker p k c core place below =
+      let is = shard_there maker p c core place in
+      slot_at c.plan (length c.parts) p place.allocator place.index k (slot_number (shard_at p c) k) core.plan place.role is.kind (omega (arith, below, is.is.capacity)) (number_of place.allocator place.index k (shard_at p c) is.is)

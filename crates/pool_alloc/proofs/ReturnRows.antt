@@ -1,9 +1,11 @@
 -- The rows of a give-back, and of a flush.
-use Rattle.std.proofs.Common.{◌≡◌, ℕ, ◌+◌, ◌-◌, ◌^◌, ◌<◌, ◌≤◌, Bool, true, false, List, [], ◌∷◌, ◌++◌, length, refl, sym, ap, subst, ◌∙◌, inl, inr, arith, All}
+use Rattle.pool_alloc.proofs.PlanPlaces.{IsShardPlace, IsQueuePlace, apart_places, queue_no_cell, tried_is_queue}
+use Rattle.pool_slots.specs.declared.plan.Plan.{Plan}
+use Rattle.std.proofs.Common.{◌≡◌, ℕ, ◌+◌, ◌-◌, ◌^◌, ◌<◌, ◌≤◌, Bool, true, false, List, [], ◌∷◌, ◌++◌, length, refl, sym, ap, subst, ◌∙◌, arith, All}
 use Rattle.std.specs.Prelude.{◌==◌, ◌||◌, ◌&&◌, not, nat_le, nat_lt, filter, if◌then◌else◌}
-use Rattle.std.proofs.lemmas.Bool.{cases_lt, leb-false, or_parts}
+use Rattle.std.proofs.lemmas.Bool.{leb-false, or_parts}
 use Rattle.std.proofs.lemmas.List.{length_push, length-append}
-use Rattle.std.proofs.lemmas.List.Elements.{All-head, All-same, All-push, All-filter}
+use Rattle.std.proofs.lemmas.List.Elements.{All-head, All-same, All-push, All-filter, All-weaker}
 use Rattle.std.proofs.lemmas.List.Filters.{length-filter_both}
 use Rattle.pool_pages.specs.MakerTold.{MakerTold}
 use Rattle.pool_limits.specs.LimiterTold.{LimiterTold}
@@ -23,27 +25,27 @@ use Rattle.pool_slots.specs.Cells.{unknown, previously_used, is_taken}
 use Rattle.pool_slots.specs.RegionCells.{CellState, cell_filled}
 use Rattle.pool_slots.specs.SlotQueues.{Queue, Queued, LeavesClean, taken_into, drained, after_append}
 use Rattle.pool_alloc.specs.Answers.{Decommits, Resets, FlushTold}
-use Rattle.pool_alloc.specs.Bounds.{pool_sizes}
+use Rattle.pool_alloc.specs.Bounds.{sizes_of}
 use Rattle.pool_alloc.specs.Freeing.{AreUsedInTurn}
 use Rattle.pool_alloc.specs.Leases.{Lease, slot_taken}
 use Rattle.pool_alloc.specs.Own.{slot_ended, reset_into}
-use Rattle.pool_alloc.specs.Places.{Thing, both_count, queued_count}
+use Rattle.pool_alloc.specs.Places.{Thing, both_count, queued_count, region_count}
 use Rattle.pool_alloc.specs.Reserved.{with_item}
 use Rattle.pool_alloc.specs.Rows.{FlushStep, run, put, free, flush_step, merged, merge_on, in_queue, uncount_memory_row, was_reset, uncount_instance_row, decommit_row, put_region_row, free_row, flush_row}
-use Rattle.pool_alloc.specs.Sound.{IsInPoolCell, IsPoolSlot, IsCore, IsShared, IsLocal, IsQueuedOf}
-use Rattle.pool_alloc.specs.Steps.{StepGiven, nth_shard, nth_cell, nth_queue, shard_of, freed_of, freed_elsewhere, first_shard, after_frees, cell_returned, queue_tried, with_shard, with_cell, with_queue, cell_place}
+use Rattle.pool_alloc.specs.Sound.{IsInPoolCell, IsPoolSlot, IsCore, IsShared, IsLocal, IsQueuedOf, IsFreedOf}
+use Rattle.pool_alloc.specs.Steps.{StepGiven, shard_at, nth_cell, queue_at, shard_of, freed_of, freed_elsewhere, first_shard, after_frees, cell_returned, queue_tried, with_shard, with_cell, with_queue, cell_of, memory_slots}
 use Rattle.pool_alloc.specs.Turns.{goes, next, flush, Row, is_flushed}
 use Rattle.pool_alloc.proofs.CoreChanges.{core_with_shard, core_with_cell, core_with_queue, core_with_counters}
 use Rattle.pool_alloc.proofs.FlushSteps.{few_in_both, flush_few, decommit_fewer, put_fewer, free_fewer}
-use Rattle.pool_alloc.proofs.FreedSlots.{freed_counts}
+use Rattle.pool_alloc.proofs.FreedSlots.{freed_counts, freed_inside}
 use Rattle.pool_alloc.proofs.Hands.{empty_length, some_length, in_phase, hand, held_of, Even, Kept, IsReadyRow, either_ready}
-use Rattle.pool_alloc.proofs.KeptCounts.{kept_shard, kept_queue, kept_with}
+use Rattle.pool_alloc.proofs.KeptCounts.{kept_shard, kept_queue, away_shard, away_queue, region_returns}
 use Rattle.pool_alloc.proofs.LocalQueues.{IsStillLocal, reset_local, drained_shared, taken_local, drained_local, joined_local, joined_shared, decommitted_local, rest_local}
-use Rattle.pool_alloc.proofs.QueueCounts.{queued_first, queued_last, queued_joined, freed_last, freed_parted, run_counts, faulted_counts}
+use Rattle.pool_alloc.proofs.QueueCounts.{queued_first, queued_last, queued_joined, freed_last, freed_parted, run_counts, faulted_counts, one_of_memory}
 use Rattle.pool_alloc.proofs.QueueRuns.{first_leaves}
 use Rattle.pool_alloc.proofs.ShardFrees.{IsShardOf, frees_shard}
 use Rattle.pool_alloc.proofs.SlotIdentity.{one_reset, slot_of_one}
-use Rattle.pool_alloc.proofs.Stages.{tried_is_queue, local_is_apart, first_can_be_put, first_can_be_freed}
+use Rattle.pool_alloc.proofs.Stages.{local_is_apart, first_can_be_put, first_can_be_freed}
 use Rattle.pool_alloc.specs.Stepping.{grant_count, grant_instances, grant_memories}
 use Rattle.pool_alloc.proofs.Ways.{Can, searched_back, none_granted, none_counted, aims_back, next_returns, kept_part, same_way, ends_way, searched_still}
 use Rattle.pool_alloc.proofs.PoolParts.{sound_shard, sound_cell, sound_queue, shard_part, queue_part}
@@ -68,7 +70,7 @@ fewer : (p : FreedSlot → Bool) (xs : List FreedSlot) → length (filter (λ x.
 fewer p xs = omega (arith, length-filter_both p (λ (x : FreedSlot). not (p x)) (λ x. refl) xs)
 
 -- a reset puts the slot of its memory into the queue
-reset_counts : (t : Thing) (keep : ℕ) (at : TakenSlot) (slot : Slot) (q : Queue) → queued_count t (reset_into keep at slot q).slots ≡ queued_count t q.slots + both_count t at.slot
+reset_counts : (t : Thing) (keep : ℕ) (at : TakenSlot) (slot : Slot) (q : Queue) → queued_count t (reset_into keep at slot q).slots ≡ queued_count t q.slots + both_count t at.slot at.numbers
 reset_counts t keep at slot q = queued_last t q.slots _
 
 -- a cell to which a region is returned has it
@@ -96,11 +98,14 @@ finds_by local false b none some empty more = record { ranges = λ e. some refl;
 pub finds : (local : Queue) → Finds local (flush_step local)
 finds local = finds_by local (length local.ranges == 0) (length local.slots == 0) (λ e. empty_length local.ranges e) (λ e. some_length local.ranges e) (λ e. empty_length local.slots e) (λ e. some_length local.slots e)
 
+bytes_of : (plan : Plan) (xs : List FreedSlot) → All (IsFreedOf plan) xs → All (λ x. x.bytes ≤ 2 ^ 32) xs
+bytes_of plan xs each = All-weaker (IsFreedOf plan) (λ x. x.bytes ≤ 2 ^ 32) (λ x of. of.bytes) xs each
+
 module _ {P : Type 0} where
-  core_after_frees : (maker : MakerTold) (j : ℕ) (slots : List FreedSlot) (c : PoolCore P) → IsCore maker c → j < c.settings.shards → AreUsedInTurn c.settings slots (nth_shard j c) → All (λ x. x.bytes ≤ 2 ^ 32) slots → IsCore maker (with_shard j (after_frees c.settings slots (nth_shard j c)) c)
+  core_after_frees : (maker : MakerTold) (j : ℕ) (slots : List FreedSlot) (c : PoolCore P) → IsCore maker c → IsShardPlace c.plan j → AreUsedInTurn c.plan slots (shard_at j c) → All (λ x. x.bytes ≤ 2 ^ 32) slots → IsCore maker (with_shard j (after_frees c.plan slots (shard_at j c)) c)
   core_after_frees maker j slots c core below used small =
-      let new : IsShardOf (nth_shard j c) (after_frees c.settings slots (nth_shard j c)) = frees_shard c.settings slots (nth_shard j c) (sound_shard maker j c core below) used small in
-      core_with_shard maker j (after_frees c.settings slots (nth_shard j c)) c core below new.sound new.same
+      let new : IsShardOf (shard_at j c) (after_frees c.plan slots (shard_at j c)) = frees_shard c.plan slots (shard_at j c) (sound_shard maker j c core below) used small in
+      core_with_shard maker j (after_frees c.plan slots (shard_at j c)) c core below new.sound new.same
 
   -- something is left of a flush that has no slots queued: freed ones
   pub some_freed : (f : Frame P) → is_flushed f ≡ false → f.local.slots ≡ [] → 0 < length f.freed.items
@@ -118,7 +123,7 @@ module _ {P : Type 0} (maker : MakerTold) (old new : LimiterTold) where
   uncount_memory_ready lease c f can =
       let e : Frame P = in_phase (UncountMemory lease) f in
       record {
-        kept = record { core = core_with_counters maker (record c.counters { memories = c.counters.memories - 1 }) c can.core; held = held_of maker c.settings e can.frame; asked = refl; settings = refl; instances_by_one = omega arith; memories_by_one = omega arith };
+        kept = record { core = core_with_counters maker (record c.counters { memories = c.counters.memories - 1 }) c can.core; held = held_of maker c.settings c.plan e can.frame; asked = refl; settings = refl; plan = refl; instances_by_one = omega arith; memories_by_one = omega arith };
         shape = (refl, can.frame.shape);
         even = record { places = λ t. omega arith; instances = omega arith; memories = omega (arith, can.fits.memories) };
         fewer = omega arith;
@@ -132,10 +137,10 @@ module _ {P : Type 0} (maker : MakerTold) (old new : LimiterTold) where
       let e : Frame P = in_phase (Reset lease) f in
       let of = can.frame.shape.2 in
       record {
-        kept = kept_part maker old new c e c (in_phase Idle f) can.core (held_of maker c.settings e can.frame) refl refl refl;
+        kept = kept_part maker old new c e c (in_phase Idle f) can.core (held_of maker c.settings c.plan e can.frame) refl refl refl refl;
         shape = (refl, (can.frame.shape.0, can.frame.shape.1, record { inside = of.inside; region = slot_of_one maker c.settings.behaviour c.settings.max_memory_size lease.index (image_slot_of lease.memory) (forgotten held) told.1.same of.slot }));
         even = record { places = λ t. omega arith; instances = omega arith; memories = omega arith };
-        fewer = omega (arith, can.core.settings.shards.0);
+        fewer = omega arith;
         way = same_way maker old new c e f.ending (length f.objects.items);
         searched = λ s. tt;
       }
@@ -152,17 +157,17 @@ module _ {P : Type 0} (maker : MakerTold) (old new : LimiterTold) where
       let q : Queue = reset_into keep (slot_taken lease) slot f.local in
       let has : Frame P = record f { phase = Idle; local = q } in
       let kept : Kept maker old new c e c has = kept_part maker old new c e c has can.core
-      (record { stripe = can.frame.stripe; queue = is.queue; freed_room = (can.frame.freed_room.0, omega (arith, is.one, can.core.settings.batch.0, ap (length {A = FreedSlot}) settled.none_freed)); freed_bytes = can.frame.freed_bytes; objects = can.frame.objects })
-      refl refl refl in
+      (record { stripe = can.frame.stripe; queue = is.queue; freed_room = (can.frame.freed_room.0, omega (arith, is.one, can.core.settings.batch.0, ap (length {A = FreedSlot}) settled.none_freed)); freed_each = can.frame.freed_each; objects = can.frame.objects })
+      refl refl refl refl in
       let even : Even maker old new c e (hand {P = P} next) c has = record { places = λ t. omega (arith, reset_counts t keep (slot_taken lease) slot f.local); instances = omega arith; memories = omega arith } in
-      let few = flush_few (pool_sizes c) c.settings.slots q f.freed is.queue.grouped (omega (arith, is.one, of.inside)) in
+      let few = flush_few (sizes_of c.plan) (memory_slots c.plan) q f.freed is.queue.grouped (omega (arith, is.one, of.inside)) in
       let stays = same_way maker old new c e f.ending (length f.objects.items) in
       either_ready maker old new c e c has ((length q.ranges == 0) || nat_le c.settings.batch (length q.ranges)) flush (goes Merge)
       (λ full. record {
         kept = kept;
-        shape = aims_back c.settings f.ending f.asked f.queues f.objects back;
+        shape = aims_back c.settings c.plan f.ending f.asked f.queues f.objects back;
         even = even;
-        fewer = omega (arith, few, next_returns (pool_sizes c) f.ending f.queues f.asked f.objects back);
+        fewer = omega (arith, few, next_returns (sizes_of c.plan) f.ending f.queues f.asked f.objects back);
         way = stays;
         searched = λ s. searched_back f.ending _ back;
       })
@@ -178,72 +183,72 @@ module _ {P : Type 0} (maker : MakerTold) (old new : LimiterTold) where
       })
 
   -- The local queue is appended.
-  merged_ready : (b : Bool) (c : PoolCore P) (f : Frame P) → Can maker Merge c f → nat_le c.settings.batch (length (after_append (nth_queue (queue_tried 0 c.settings f) c) f.local).ranges) ≡ b → Shows Merge c f (in_queue (queue_tried 0 c.settings f) c (merged b (after_append (nth_queue (queue_tried 0 c.settings f) c) f.local) (record f { phase = Idle; local = drained f.local })))
+  merged_ready : (b : Bool) (c : PoolCore P) (f : Frame P) → Can maker Merge c f → nat_le c.settings.batch (length (after_append (queue_at (queue_tried 0 c.plan f) c) f.local).ranges) ≡ b → Shows Merge c f (in_queue (queue_tried 0 c.plan f) c (merged b (after_append (queue_at (queue_tried 0 c.plan f) c) f.local) (record f { phase = Idle; local = drained f.local })))
   merged_ready true c f can is =
       let e : Frame P = in_phase Merge f in
-      let i : ℕ = queue_tried 0 c.settings f in
-      let q : Queue = nth_queue i c in
+      let i : ℕ = queue_tried 0 c.plan f in
+      let q : Queue = queue_at i c in
       let whole : Queue = after_append q f.local in
-      let below : i < c.settings.queues = tried_is_queue maker 0 c f can.core in
+      let below : IsQueuePlace c.plan i = tried_is_queue 0 c.plan (length c.parts) f can.core.plan in
       let shape = can.frame.shape in
       let shared : IsShared maker c.settings q = sound_queue maker i c can.core below in
-      let both : IsLocal maker c.settings whole = joined_local maker c.settings q f.local shared can.frame.queue (local_is_apart maker i c e can.core can.fits below) shape.2 shape.4 in
+      let both : IsLocal maker c.settings whole = joined_local maker c.settings q f.local shared can.frame.queue (local_is_apart maker i c e can.core can.frame can.fits below) shape.2 shape.4 in
       let slots : length whole.slots ≡ length q.slots + length f.local.slots = length-append q.slots f.local.slots in
       let has : Frame P = record f { phase = Idle; local = taken_into (drained f.local) whole } in
       record {
         kept = kept_part maker old new c e (with_queue i (drained whole) c) has
-            (core_with_queue maker i (drained whole) c can.core (drained_shared maker c.settings whole can.core.settings both.range_room both.slot_room))
+            (core_with_queue maker i (drained whole) c can.core below (drained_shared maker c.settings whole can.core.settings both.range_room both.slot_room))
             (record {
               stripe = can.frame.stripe;
               queue = taken_local maker c.settings (drained f.local) whole (drained_local maker c.settings f.local can.frame.queue.range_room can.frame.queue.slot_room) both;
               freed_room = (can.frame.freed_room.0, omega (arith, shared.short, shared.slots, slots, shape.2, ap (length {A = FreedSlot}) shape.1));
-              freed_bytes = can.frame.freed_bytes;
+              freed_each = can.frame.freed_each;
               objects = can.frame.objects;
             })
-            refl refl refl;
-        shape = aims_back c.settings f.ending f.asked f.queues f.objects shape.0;
-        even = record { places = λ t. omega (arith, kept_queue t i (drained whole) c (queue_part maker i c can.core below), queued_joined t q.slots f.local.slots); instances = omega arith; memories = omega arith };
-        fewer = omega (arith, flush_few (pool_sizes c) c.settings.slots (taken_into (drained f.local) whole) f.freed both.grouped (few_in_both maker i c e can below), next_returns (pool_sizes c) f.ending f.queues f.asked f.objects shape.0);
+            refl refl refl refl;
+        shape = aims_back c.settings c.plan f.ending f.asked f.queues f.objects shape.0;
+        even = record { places = λ t. omega (arith, kept_queue t i (drained whole) c (queue_part maker i c can.core below), away_queue t i (drained whole) c (queue_part maker i c can.core below), queued_joined t q.slots f.local.slots); instances = omega arith; memories = omega arith };
+        fewer = omega (arith, flush_few (sizes_of c.plan) (memory_slots c.plan) (taken_into (drained f.local) whole) f.freed both.grouped (few_in_both maker i c e can below), next_returns (sizes_of c.plan) f.ending f.queues f.asked f.objects shape.0);
         way = same_way maker old new c e f.ending (length f.objects.items);
         searched = λ s. searched_back f.ending _ shape.0;
       }
   merged_ready false c f can is =
       let e : Frame P = in_phase Merge f in
-      let i : ℕ = queue_tried 0 c.settings f in
-      let q : Queue = nth_queue i c in
+      let i : ℕ = queue_tried 0 c.plan f in
+      let q : Queue = queue_at i c in
       let whole : Queue = after_append q f.local in
-      let below : i < c.settings.queues = tried_is_queue maker 0 c f can.core in
+      let below : IsQueuePlace c.plan i = tried_is_queue 0 c.plan (length c.parts) f can.core.plan in
       let shape = can.frame.shape in
       let shared : IsShared maker c.settings q = sound_queue maker i c can.core below in
-      let both : IsLocal maker c.settings whole = joined_local maker c.settings q f.local shared can.frame.queue (local_is_apart maker i c e can.core can.fits below) shape.2 shape.4 in
+      let both : IsLocal maker c.settings whole = joined_local maker c.settings q f.local shared can.frame.queue (local_is_apart maker i c e can.core can.frame can.fits below) shape.2 shape.4 in
       let has : Frame P = record f { phase = Idle; local = drained f.local } in
       record {
         kept = kept_part maker old new c e (with_queue i whole c) has
-            (core_with_queue maker i whole c can.core (joined_shared maker c.settings q f.local shared both shape.2 shape.3 (leb-false c.settings.batch (length whole.ranges) is)))
+            (core_with_queue maker i whole c can.core below (joined_shared maker c.settings q f.local shared both shape.2 shape.3 (leb-false c.settings.batch (length whole.ranges) is)))
             (record {
               stripe = can.frame.stripe;
               queue = drained_local maker c.settings f.local can.frame.queue.range_room can.frame.queue.slot_room;
               freed_room = (can.frame.freed_room.0, omega (arith, can.frame.freed_room.1));
-              freed_bytes = can.frame.freed_bytes;
+              freed_each = can.frame.freed_each;
               objects = can.frame.objects;
             })
-            refl refl refl;
-        shape = (record { no_ranges = refl; no_slots = refl; none_freed = shape.1 }, aims_back c.settings f.ending f.asked f.queues f.objects shape.0);
-        even = record { places = λ t. omega (arith, kept_queue t i whole c (queue_part maker i c can.core below), queued_joined t q.slots f.local.slots); instances = omega arith; memories = omega arith };
-        fewer = omega (arith, next_returns (pool_sizes c) f.ending f.queues f.asked f.objects shape.0);
+            refl refl refl refl;
+        shape = (record { no_ranges = refl; no_slots = refl; none_freed = shape.1 }, aims_back c.settings c.plan f.ending f.asked f.queues f.objects shape.0);
+        even = record { places = λ t. omega (arith, kept_queue t i whole c (queue_part maker i c can.core below), away_queue t i whole c (queue_part maker i c can.core below), queued_joined t q.slots f.local.slots); instances = omega arith; memories = omega arith };
+        fewer = omega (arith, next_returns (sizes_of c.plan) f.ending f.queues f.asked f.objects shape.0);
         way = same_way maker old new c e f.ending (length f.objects.items);
         searched = λ s. searched_back f.ending _ shape.0;
       }
 
-  pub merge_ready : (c : PoolCore P) (f : Frame P) → Can maker Merge c f → Shows Merge c f (in_queue (queue_tried 0 c.settings f) c (merge_on c.settings (nth_queue (queue_tried 0 c.settings f) c) (in_phase Idle f)))
-  merge_ready c f can = merged_ready (nat_le c.settings.batch (length (after_append (nth_queue (queue_tried 0 c.settings f) c) f.local).ranges)) c f can refl
+  pub merge_ready : (c : PoolCore P) (f : Frame P) → Can maker Merge c f → Shows Merge c f (in_queue (queue_tried 0 c.plan f) c (merge_on c.settings (queue_at (queue_tried 0 c.plan f) c) (in_phase Idle f)))
+  merge_ready c f can = merged_ready (nat_le c.settings.batch (length (after_append (queue_at (queue_tried 0 c.plan f) c) f.local).ranges)) c f can refl
 
   -- The instance is given back, and the call ends.
   pub uncount_instance_ready : (c : PoolCore P) (f : Frame P) → Can maker UncountInstance c f → Shows UncountInstance c f (uncount_instance_row c (in_phase Idle f))
   uncount_instance_ready c f can =
       let e : Frame P = in_phase UncountInstance f in
       record {
-        kept = record { core = core_with_counters maker (record c.counters { core_instances = c.counters.core_instances - 1 }) c can.core; held = held_of maker c.settings e can.frame; asked = refl; settings = refl; instances_by_one = omega arith; memories_by_one = omega arith };
+        kept = record { core = core_with_counters maker (record c.counters { core_instances = c.counters.core_instances - 1 }) c can.core; held = held_of maker c.settings c.plan e can.frame; asked = refl; settings = refl; plan = refl; instances_by_one = omega arith; memories_by_one = omega arith };
         shape = (can.frame.shape.0, none_granted _ f.ending);
         even = record { places = λ t. omega (arith, none_counted {P = P} (grant_count t) f.ending); instances = omega (arith, can.fits.instances, none_counted {P = P} grant_instances f.ending); memories = omega (arith, none_counted {P = P} grant_memories f.ending) };
         fewer = omega arith;
@@ -259,11 +264,11 @@ module _ {P : Type 0} (maker : MakerTold) (old new : LimiterTold) where
       let has : Frame P = record f { phase = Idle; local = queue } in
       record {
         kept = kept_part maker old new c e c has can.core
-            (record { stripe = can.frame.stripe; queue = still.queue; freed_room = (can.frame.freed_room.0, rw still.long can.frame.freed_room.1); freed_bytes = can.frame.freed_bytes; objects = can.frame.objects })
-            refl refl refl;
+            (record { stripe = can.frame.stripe; queue = still.queue; freed_room = (can.frame.freed_room.0, rw still.long can.frame.freed_room.1); freed_each = can.frame.freed_each; objects = can.frame.objects })
+            refl refl refl refl;
         shape = can.frame.shape.0;
         even = record { places = λ t. omega (arith, decommit_counts t fault f.local queue told); instances = omega arith; memories = omega arith };
-        fewer = omega (arith, decommit_fewer (pool_sizes c) fault f.local queue f.freed told some);
+        fewer = omega (arith, decommit_fewer (sizes_of c.plan) fault f.local queue f.freed told some);
         way = same_way maker old new c e f.ending (length f.objects.items);
         searched = λ s. s;
       }
@@ -282,7 +287,7 @@ module _ {P : Type 0} (maker : MakerTold) (old new : LimiterTold) where
       let has : Frame P = record f { phase = Idle; local = record f.local { slots = rest }; freed = with_item x f.freed } in
       let long : length f.local.slots ≡ length (m ∷ rest) = ap (length {A = Queued}) is in
       let more : length (f.freed.items ++ x ∷ []) ≡ length f.freed.items + 1 = length_push f.freed.items x in
-      let can_put = first_can_be_put maker c f m rest can.core can.fits is in
+      let can_put = first_can_be_put maker c f m rest can.core can.fits of.kind is in
       record {
         kept = kept_part maker old new c e d has
             (core_with_cell maker m.name.slot cell c can.core can_put.inside (record { name = (sound_cell maker m.name.slot c can.core can_put.inside).name; holds = returned_if maker c.settings.behaviour c.settings.max_memory_size m.name.slot m.known m.slot of.slot leaves.clean }))
@@ -290,15 +295,15 @@ module _ {P : Type 0} (maker : MakerTold) (old new : LimiterTold) where
               stripe = can.frame.stripe;
               queue = rest_local maker c.settings m rest f.local none is can.frame.queue;
               freed_room = (can.frame.freed_room.0, omega (arith, can.frame.freed_room.1, more, long));
-              freed_bytes = All-push (λ y. y.bytes ≤ 2 ^ 32) f.freed.items x can.frame.freed_bytes leaves.bytes;
+              freed_each = All-push (IsFreedOf c.plan) f.freed.items x can.frame.freed_each (record { inside = can_put.inside; bytes = leaves.bytes });
               objects = can.frame.objects;
             })
-            refl refl refl;
+            refl refl refl refl;
         shape = can.frame.shape.0;
-        even = record { places = λ t. omega (arith, ap (queued_count t) is, queued_first t m rest, kept_with maker t m.name.slot cell c can.core can_put.inside refl can_put.away (returned_has m.known m.slot), freed_last t f.freed.items x); instances = omega arith; memories = omega arith };
-        fewer = omega (arith, more, long, put_fewer (pool_sizes c) m rest f.local.slots f.freed.items is);
+        even = record { places = λ t. omega (arith, ap (queued_count t) is, queued_first t m rest, one_of_memory t m of.kind, (region_returns maker t m.name.slot (cell_returned m) c can.core can_put.inside can_put.away (returned_has m.known m.slot)).0, (region_returns maker t m.name.slot (cell_returned m) c can.core can_put.inside can_put.away (returned_has m.known m.slot)).1, ap (region_count t m.name.slot) can_put.out, freed_last t f.freed.items x); instances = omega arith; memories = omega arith };
+        fewer = omega (arith, more, long, put_fewer (sizes_of c.plan) m rest f.local.slots f.freed.items is);
         way = same_way maker old new c e f.ending (length f.objects.items);
-        searched = searched_still f.ending (AreEmpty f.queues c f) (AreEmpty f.queues d f) (still_empty f.queues (cell_place c.settings m.name.slot) (part.Memory cell) c f (omega (arith, can_put.inside)));
+        searched = searched_still f.ending (AreEmpty f.queues c f) (AreEmpty f.queues d f) (still_empty f.queues (cell_of c.plan m.name.slot) (part.Memory cell) c f can.core.plan (λ q queue. queue_no_cell c.plan (length c.parts) q m.name.slot can.core.plan can_put.inside queue));
       }
 
   -- The slots of one shard are freed.
@@ -307,27 +312,27 @@ module _ {P : Type 0} (maker : MakerTold) (old new : LimiterTold) where
       let e : Frame P = in_phase Flush f in
       let some : 0 < length f.freed.items = some_freed f can.frame.shape.1 no_slots in
       let first = first_can_be_freed maker c f can some in
-      let j : ℕ = first_shard c.settings f.freed.items in
-      let shard : ShardState = after_frees c.settings (freed_of c.settings j f.freed.items) (nth_shard j c) in
+      let j : ℕ = first_shard c.plan f.freed.items in
+      let shard : ShardState = after_frees c.plan (freed_of c.plan j f.freed.items) (shard_at j c) in
       let d : PoolCore P = with_shard j shard c in
-      let has : Frame P = record f { phase = Idle; freed = record f.freed { items = freed_elsewhere c.settings j f.freed.items } } in
-      let less : length (freed_elsewhere c.settings j f.freed.items) ≤ length f.freed.items = fewer (λ x. shard_of c.settings x.slot == j) f.freed.items in
+      let has : Frame P = record f { phase = Idle; freed = record f.freed { items = freed_elsewhere c.plan j f.freed.items } } in
+      let less : length (freed_elsewhere c.plan j f.freed.items) ≤ length f.freed.items = fewer (λ x. shard_of c.plan x.slot == j) f.freed.items in
       record {
         kept = kept_part maker old new c e d has
-            (core_after_frees maker j (freed_of c.settings j f.freed.items) c can.core first.shard first.used (All-filter (λ x. shard_of c.settings x.slot == j) (λ x. x.bytes ≤ 2 ^ 32) f.freed.items can.frame.freed_bytes))
+            (core_after_frees maker j (freed_of c.plan j f.freed.items) c can.core first.shard first.used (All-filter (λ x. shard_of c.plan x.slot == j) (λ x. x.bytes ≤ 2 ^ 32) f.freed.items (bytes_of c.plan f.freed.items can.frame.freed_each)))
             (record {
               stripe = can.frame.stripe;
               queue = can.frame.queue;
               freed_room = (can.frame.freed_room.0, omega (arith, can.frame.freed_room.1, less));
-              freed_bytes = All-filter (λ x. not (shard_of c.settings x.slot == j)) (λ x. x.bytes ≤ 2 ^ 32) f.freed.items can.frame.freed_bytes;
+              freed_each = All-filter (λ x. not (shard_of c.plan x.slot == j)) (IsFreedOf c.plan) f.freed.items can.frame.freed_each;
               objects = can.frame.objects;
             })
-            refl refl refl;
+            refl refl refl refl;
         shape = can.frame.shape.0;
-        even = record { places = λ t. omega (arith, kept_shard t j shard c (shard_part maker j c can.core first.shard), freed_counts t maker j c e can.core can.fits first.shard, freed_parted t (λ x. shard_of c.settings x.slot == j) f.freed.items); instances = omega arith; memories = omega arith };
-        fewer = omega (arith, free_fewer c f.local.slots f.freed.items no_slots some (omega (arith, first.shard)));
+        even = record { places = λ t. omega (arith, kept_shard t j shard c (shard_part maker j c can.core first.shard), away_shard t j shard c (shard_part maker j c can.core first.shard), freed_counts t maker j c e can.core can.fits first.shard, freed_parted t (λ x. shard_of c.plan x.slot == j) f.freed.items); instances = omega arith; memories = omega arith };
+        fewer = omega (arith, free_fewer c.plan (length c.parts) f.local.slots f.freed.items can.core.plan (λ k more. freed_inside maker k c e can.core can.fits more) no_slots some);
         way = same_way maker old new c e f.ending (length f.objects.items);
-        searched = searched_still f.ending (AreEmpty f.queues c f) (AreEmpty f.queues d f) (still_empty f.queues j (part.Shard shard) c f (omega (arith, first.shard)));
+        searched = searched_still f.ending (AreEmpty f.queues c f) (AreEmpty f.queues d f) (still_empty f.queues j (part.Shard shard) c f can.core.plan (λ q queue e. apart_places c.plan j q first.shard queue (sym e)));
       }
 
   flush_ready_by : (step : FlushStep) (g : StepGiven) (c : PoolCore P) (f : Frame P) → Can maker Flush c f → Finds f.local step → FlushTold step g f.local → Shows Flush c f (flush_row step g.queue c (in_phase Idle f))

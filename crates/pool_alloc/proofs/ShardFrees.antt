@@ -12,7 +12,7 @@ use Rattle.pool_index.specs.Shard.{ShardState, IsShard, IsSameShard, one_if, use
 use Rattle.pool_alloc.specs.Freeing.{AreUsedInTurn}
 use Rattle.pool_alloc.specs.Steps.{local_of, after_frees}
 use Rattle.pool_alloc.specs.declared.frame.FreedSlot.{FreedSlot}
-use Rattle.pool_alloc.specs.declared.pool_core.Settings.{Settings}
+use Rattle.pool_slots.specs.declared.plan.Plan.{Plan}
 
 -- a shard with the slots of another one
 pub record IsShardOf (old new : ShardState) : Type 0 where
@@ -85,10 +85,10 @@ shard_of_shard old mid new same of =
     }
 
 -- slots that are freed in turn
-pub frees_shard : (s : Settings) (slots : List FreedSlot) (shard : ShardState) → IsShard shard → AreUsedInTurn s slots shard → All (λ x. x.bytes ≤ 2 ^ 32) slots → IsShardOf shard (after_frees s slots shard)
-frees_shard s [] shard sound used small = record { sound = sound; same = record { kind = refl; first = refl; step = refl; capacity = refl; budget = refl } }
-frees_shard s (x ∷ rest) shard sound used small =
+pub frees_shard : (plan : Plan) (slots : List FreedSlot) (shard : ShardState) → IsShard shard → AreUsedInTurn plan slots shard → All (λ x. x.bytes ≤ 2 ^ 32) slots → IsShardOf shard (after_frees plan slots shard)
+frees_shard plan [] shard sound used small = record { sound = sound; same = record { kind = refl; first = refl; step = refl; capacity = refl; budget = refl } }
+frees_shard plan (x ∷ rest) shard sound used small =
     let B : FreedSlot → Type 0 = λ y. y.bytes ≤ 2 ^ 32 in
-    let first : IsShardOf shard (after_free (local_of s x.slot) x.bytes shard) = freed_shard (local_of s x.slot) x.bytes shard sound used.0 (All-head B x rest small) in
-    shard_of_shard shard (after_free (local_of s x.slot) x.bytes shard) (after_frees s rest (after_free (local_of s x.slot) x.bytes shard)) first.same
-    (frees_shard s rest (after_free (local_of s x.slot) x.bytes shard) first.sound used.1 (All-tail B x rest small))
+    let first : IsShardOf shard (after_free (local_of plan x.slot) x.bytes shard) = freed_shard (local_of plan x.slot) x.bytes shard sound used.0 (All-head B x rest small) in
+    shard_of_shard shard (after_free (local_of plan x.slot) x.bytes shard) (after_frees plan rest (after_free (local_of plan x.slot) x.bytes shard)) first.same
+    (frees_shard plan rest (after_free (local_of plan x.slot) x.bytes shard) first.sound used.1 (All-tail B x rest small))

@@ -1,93 +1,152 @@
--- How the slots that a shard has change as one is picked or freed.
-use Rattle.std.proofs.Common.{◌≡◌, ℕ, zero, suc, ◌+◌, ◌*◌, ◌<◌, ◌≤◌, true, false, List, [], ◌∷◌, length, Option, Some, None, refl, ap, subst, arith}
-use Rattle.std.specs.Prelude.{IfSome, is_some, option_map, slice_index_or, slice_set, if◌then◌else◌}
+-- What slots and regions weigh, and how what a shard has given out changes as one of its slots is picked or freed.
+use Rattle.pool_alloc.specs.Steps.{memory_slot}
+use Rattle.pool_slots.specs.RegionCells.{region_of as unit_region}
+use Rattle.std.proofs.Common.{◌≡◌, ℕ, zero, suc, ◌+◌, ◌*◌, ◌<◌, ◌≤◌, Bool, true, false, List, [], ◌∷◌, length, Option, Some, None, refl, sym, ap, subst, ◌∙◌, inl, inr, arith, ◌⊎◌}
+use Rattle.std.specs.Prelude.{◌&&◌, ◌==◌, IfSome, is_some, option_map, slice_index_or, slice_set}
 use Rattle.std.specs.Option.{option_map_or}
-use Rattle.std.proofs.lemmas.Bool.{eq-eqb}
+use Rattle.std.proofs.lemmas.Bool.{eq-eqb, ne_eqb, eqb-true, cases_Bool, cases_lt}
 use Rattle.std.proofs.lemmas.Option.{same_Some}
-use Rattle.pool_index.specs.Shard.{ShardState, IsShard, Choice, warm_at, next_cold, one_if, choice, entry_at, slot_and_bytes, after_choice, after_full, after_pick, after_free, pick_answer, is_used, slot_number}
+use Rattle.pool_hall.specs.Sum.{one_if, total}
+use Rattle.pool_hall.specs.Unit.{kind_number, pick_unit, same}
+use Rattle.pool_hall.specs.declared.unit_name.SlotKind.{SlotKind}
+use Rattle.pool_hall.specs.declared.unit_name.SlotKind.TheVariants.{Memory as memory_kind}
+use Rattle.pool_hall.specs.declared.unit_name.UnitName.{UnitName}
+use Rattle.pool_index.specs.Part.{used_units, shard_units, slot_unit}
+use Rattle.pool_index.specs.Shard.{ShardState, IsShard, Choice, warm_at, next_cold, choice, entry_at, slot_and_bytes, after_choice, after_full, after_pick, after_free, pick_answer, is_used, slot_number}
 use Rattle.pool_index.specs.declared.ids.MemoryInModule.{MemoryInModule}
 use Rattle.pool_index.specs.declared.ids.SlotId.{SlotId}
 use Rattle.pool_index.proofs.Shards.{warm_slot_free, cold_slot_free}
+use Rattle.pool_slots.specs.declared.slot_name.RegionNumbers.{RegionNumbers}
 use Rattle.pool_alloc.proofs.Picks.{IsChoice, choice_taken}
-use Rattle.pool_alloc.specs.Places.{Thing, right_to, region_of, slot_count, unused_count, free_count}
+use Rattle.pool_alloc.specs.Places.{Thing, right_to, region_of, slot_count, region_count}
 
--- one slot less is unused
-pub unused_less : (t : Thing) (first step : ℕ) (uses : List (Option (Option MemoryInModule))) (k : ℕ) (want : Option MemoryInModule) → k < length uses → is_some (slice_index_or uses k None) ≡ false → unused_count t first step (slice_set uses k (Some want)) + slot_count t (first + k * step) ≡ unused_count t first step uses
-unused_less t first step [] k want below free = absurd (omega arith)
-unused_less t first step (u ∷ uses) zero want below free =
-    let here : slot_count t (first + 0 * step) ≡ slot_count t first = ap (slot_count t) (omega arith) in
-    let was : (if is_some u then 0 else slot_count t first) ≡ slot_count t first = rw free refl in
-    omega arith
-unused_less t first step (u ∷ uses) (suc k) want below free =
-    let here : slot_count t (first + step + k * step) ≡ slot_count t (first + suc k * step) = ap (slot_count t) (omega arith) in
-    omega (arith, unused_less t (first + step) step uses k want (omega (arith, below)) free)
+none_of : (b : Bool) → one_if (b && false) ≡ 0
+none_of true = refl
+none_of false = refl
 
--- one slot more is
-pub unused_more : (t : Thing) (first step : ℕ) (uses : List (Option (Option MemoryInModule))) (k : ℕ) → k < length uses → is_some (slice_index_or uses k None) ≡ true → unused_count t first step (slice_set uses k None) ≡ unused_count t first step uses + slot_count t (first + k * step)
-unused_more t first step [] k below used = absurd (omega arith)
-unused_more t first step (u ∷ uses) zero below used =
-    let here : slot_count t (first + 0 * step) ≡ slot_count t first = ap (slot_count t) (omega arith) in
-    let was : (if is_some u then 0 else slot_count t first) ≡ 0 = rw used refl in
-    omega arith
-unused_more t first step (u ∷ uses) (suc k) below used =
-    let here : slot_count t (first + step + k * step) ≡ slot_count t (first + suc k * step) = ap (slot_count t) (omega arith) in
-    omega (arith, unused_more t (first + step) step uses k (omega (arith, below)) used)
-
--- a slot is itself
+-- a slot is itself and no other, and so is its region, whatever numbers that tells; neither is the other
 pub slot_once : (i : ℕ) → slot_count (right_to i) i ≡ 1
-slot_once i = ap one_if (eq-eqb i i refl)
+slot_once i = ap (λ (b : Bool). one_if (b && true)) (eq-eqb i i refl)
 
--- an unused slot is counted
-pub unused_counted : (first step : ℕ) (uses : List (Option (Option MemoryInModule))) (k : ℕ) → k < length uses → is_some (slice_index_or uses k None) ≡ false → 1 ≤ unused_count (right_to (first + k * step)) first step uses
-unused_counted first step uses k below free =
-    omega (arith, unused_less (right_to (first + k * step)) first step uses k None below free, slot_once (first + k * step))
+pub region_once : (i : ℕ) (n : RegionNumbers) → region_count (region_of i) i n ≡ 1
+region_once i n = ap (λ (b : Bool). one_if (b && true)) (eq-eqb i i refl)
 
--- a shard has no regions
-pub unused_regions : (i first step : ℕ) (uses : List (Option (Option MemoryInModule))) → unused_count (region_of i) first step uses ≡ 0
-unused_regions i first step [] = refl
-unused_regions i first step (None ∷ uses) = omega (arith, unused_regions i (first + step) step uses)
-unused_regions i first step (Some u ∷ uses) = omega (arith, unused_regions i (first + step) step uses)
+pub region_other : (k i : ℕ) (n : RegionNumbers) → (k ≡ i → ⊥) → region_count (region_of k) i n ≡ 0
+region_other k i n other = ap (λ (b : Bool). one_if (b && true)) (ne_eqb k i other)
 
-choice_less : (t : Thing) (want : Option MemoryInModule) (s : ShardState) (c : Choice) → IsShard s → IsChoice s c → free_count t (after_choice want s c) + slot_count t (slot_number s (slot_and_bytes s c).0.0) ≡ free_count t s
-choice_less t want s (warm_at i) sound is =
+pub slot_regions : (k i : ℕ) → slot_count (region_of k) i ≡ 0
+slot_regions k i = none_of (k == i)
+
+pub region_rights : (k i : ℕ) (n : RegionNumbers) → region_count (right_to k) i n ≡ 0
+region_rights k i n = none_of (k == i)
+
+-- a slot and its region weigh the same, each as what it is
+pub region_as_slot : (k i : ℕ) (n : RegionNumbers) → region_count (region_of k) i n ≡ slot_count (right_to k) i
+region_as_slot k i n = refl
+
+-- a right to a slot of which the weight is some is the right to that slot
+named : (a b c : Bool) → 0 < one_if (a && (b && c)) → b ≡ true
+named true true c some = refl
+named true false c some = absurd (omega arith)
+named false b c some = absurd (omega arith)
+
+pub right_named : (k : ℕ) (kind : SlotKind) (n : ℕ) → 0 < right_to k (pick_unit kind n) → k ≡ n
+right_named k kind n some = eqb-true k n (named (kind_number memory_kind == kind_number kind) (k == n) true some)
+
+pub slot_other : (k i : ℕ) → (k ≡ i → ⊥) → slot_count (right_to k) i ≡ 0
+slot_other k i other =
+    elim (cases_lt 0 (slot_count (right_to k) i)) [
+      | inl some ↦ absurd (other (right_named k memory_kind i some))
+      | inr none ↦ omega (arith, none)
+    ]
+
+-- one slot more is used
+pub used_more : (t : Thing) (kind : SlotKind) (step first : ℕ) (uses : List (Option (Option MemoryInModule))) (k : ℕ) (want : Option MemoryInModule) → k < length uses → is_some (slice_index_or uses k None) ≡ false → total t (used_units kind step first (slice_set uses k (Some want))) ≡ total t (used_units kind step first uses) + t (pick_unit kind (first + k * step))
+used_more t kind step first [] k want below free = absurd (omega arith)
+used_more t kind step first (None ∷ uses) zero want below free =
+    let here : t (pick_unit kind (first + 0 * step)) ≡ t (pick_unit kind first) = ap (λ (n : ℕ). t (pick_unit kind n)) (omega arith) in
+    omega arith
+used_more t kind step first (Some u ∷ uses) zero want below free = absurd cc
+used_more t kind step first (None ∷ uses) (suc k) want below free =
+    let here : t (pick_unit kind (first + step + k * step)) ≡ t (pick_unit kind (first + suc k * step)) = ap (λ (n : ℕ). t (pick_unit kind n)) (omega arith) in
+    omega (arith, used_more t kind step (first + step) uses k want (omega (arith, below)) free)
+used_more t kind step first (Some u ∷ uses) (suc k) want below free =
+    let here : t (pick_unit kind (first + step + k * step)) ≡ t (pick_unit kind (first + suc k * step)) = ap (λ (n : ℕ). t (pick_unit kind n)) (omega arith) in
+    omega (arith, used_more t kind step (first + step) uses k want (omega (arith, below)) free)
+
+-- one slot less is
+pub used_less : (t : Thing) (kind : SlotKind) (step first : ℕ) (uses : List (Option (Option MemoryInModule))) (k : ℕ) → k < length uses → is_some (slice_index_or uses k None) ≡ true → total t (used_units kind step first (slice_set uses k None)) + t (pick_unit kind (first + k * step)) ≡ total t (used_units kind step first uses)
+used_less t kind step first [] k below used = absurd (omega arith)
+used_less t kind step first (None ∷ uses) zero below used = absurd cc
+used_less t kind step first (Some u ∷ uses) zero below used =
+    let here : t (pick_unit kind (first + 0 * step)) ≡ t (pick_unit kind first) = ap (λ (n : ℕ). t (pick_unit kind n)) (omega arith) in
+    omega arith
+used_less t kind step first (None ∷ uses) (suc k) below used =
+    let here : t (pick_unit kind (first + step + k * step)) ≡ t (pick_unit kind (first + suc k * step)) = ap (λ (n : ℕ). t (pick_unit kind n)) (omega arith) in
+    omega (arith, used_less t kind step (first + step) uses k (omega (arith, below)) used)
+used_less t kind step first (Some u ∷ uses) (suc k) below used =
+    let here : t (pick_unit kind (first + step + k * step)) ≡ t (pick_unit kind (first + suc k * step)) = ap (λ (n : ℕ). t (pick_unit kind n)) (omega arith) in
+    omega (arith, used_less t kind step (first + step) uses k (omega (arith, below)) used)
+
+-- what is given out of a shard is the right to a used slot
+pub record IsUsedAs (k step first : ℕ) (uses : List (Option (Option MemoryInModule))) : Type 0 where
+  pub slot : ℕ
+  pub inside : slot < length uses
+  pub used : is_some (slice_index_or uses slot None) ≡ true
+  pub number : first + slot * step ≡ k
+
+used_behind : (k step first : ℕ) (u : Option (Option MemoryInModule)) (uses : List (Option (Option MemoryInModule))) → IsUsedAs k step (first + step) uses → IsUsedAs k step first (u ∷ uses)
+used_behind k step first u uses is = record { slot = suc is.slot; inside = omega (arith, is.inside); used = is.used; number = omega (arith, is.number) }
+
+pub used_as : (k : ℕ) (kind : SlotKind) (step first : ℕ) (uses : List (Option (Option MemoryInModule))) → 0 < total (right_to k) (used_units kind step first uses) → IsUsedAs k step first uses
+used_as k kind step first [] some = absurd (omega arith)
+used_as k kind step first (None ∷ uses) some = used_behind k step first None uses (used_as k kind step (first + step) uses (omega (arith, some)))
+used_as k kind step first (Some u ∷ uses) some =
+    elim (some_of_two (right_to k (pick_unit kind first)) (total (right_to k) (used_units kind step (first + step) uses)) some) [
+      | inl here ↦ record { slot = zero; inside = omega arith; used = refl; number = omega (arith, right_named k kind first here) }
+      | inr later ↦ used_behind k step first (Some u) uses (used_as k kind step (first + step) uses later)
+    ]
+  where
+    some_of_two : (m n : ℕ) → 0 < m + n → (0 < m) ⊎ (0 < n)
+    some_of_two zero n h = inr (omega (arith, h))
+    some_of_two (suc m) n h = inl (omega arith)
+
+pub used_there : (k step first : ℕ) (uses : List (Option (Option MemoryInModule))) (l : ℕ) → l < length uses → is_some (slice_index_or uses l None) ≡ true → first + l * step ≡ k → 1 ≤ total (right_to k) (used_units memory_kind step first uses)
+used_there k step first uses l inside used number =
+    let here : slot_count (right_to k) (first + l * step) ≡ 1 = ap (slot_count (right_to k)) number ∙ slot_once k in
+    omega (arith, here, used_less (right_to k) memory_kind step first uses l inside used)
+
+-- and of a shard no region is
+no_region : (a b : Bool) → one_if (a && (b && false)) ≡ 0
+no_region true true = refl
+no_region true false = refl
+no_region false b = refl
+
+pub no_units : (k : ℕ) (n : RegionNumbers) (kind : SlotKind) (step first : ℕ) (uses : List (Option (Option MemoryInModule))) → total (λ w. one_if (same (unit_region (memory_slot k) n) w)) (used_units kind step first uses) ≡ 0
+no_units k n kind step first [] = refl
+no_units k n kind step first (None ∷ uses) = no_units k n kind step (first + step) uses
+no_units k n kind step first (Some u ∷ uses) = omega (arith, no_region (kind_number memory_kind == kind_number kind) (k == first), no_units k n kind step (first + step) uses)
+
+choice_more : (t : Thing) (want : Option MemoryInModule) (s : ShardState) (c : Choice) → IsShard s → IsChoice s c → total t (shard_units (after_choice want s c)) ≡ total t (shard_units s) + t (slot_unit s (slot_and_bytes s c).0.0)
+choice_more t want s (warm_at i) sound is =
     let free = warm_slot_free s i sound is in
-    unused_less t s.first s.step s.used (entry_at s i).slot.0 want free.within (ap is_some free.unused)
-choice_less t want s next_cold sound is =
+    used_more t s.kind s.step s.first s.used (entry_at s i).slot.0 want free.within (ap is_some free.unused)
+choice_more t want s next_cold sound is =
     let free = cold_slot_free s sound in
-    unused_less t s.first s.step s.used s.cold want (omega (arith, is, sound.entries)) (ap is_some free.unused)
+    used_more t s.kind s.step s.first s.used s.cold want (omega (arith, is, sound.entries)) (ap is_some free.unused)
 
-pick_less_of : (t : Thing) (want : Option MemoryInModule) (s : ShardState) (o : Option Choice) (p : SlotId × ℕ) → IsShard s → IfSome o (IsChoice s) → option_map (slot_and_bytes s) o ≡ Some p → free_count t (option_map_or (after_choice want s) o (after_full s)) + slot_count t (slot_number s p.0.0) ≡ free_count t s
-pick_less_of t want s None p sound is answer = absurd cc
-pick_less_of t want s (Some c) p sound is answer =
-    subst (λ (q : SlotId × ℕ). free_count t (after_choice want s c) + slot_count t (slot_number s q.0.0) ≡ free_count t s)
-    (same_Some (slot_and_bytes s c) p answer)
-    (choice_less t want s c sound is)
-
-pick_none_of : (t : Thing) (want : Option MemoryInModule) (s : ShardState) (o : Option Choice) → option_map (slot_and_bytes s) o ≡ None → free_count t (option_map_or (after_choice want s) o (after_full s)) ≡ free_count t s
-pick_none_of t want s None answer = refl
-pick_none_of t want s (Some c) answer = absurd cc
-
--- a pick takes the slot that it answers
-pub pick_less : (t : Thing) (want : Option MemoryInModule) (s : ShardState) (p : SlotId × ℕ) → IsShard s → pick_answer want s ≡ Some p → free_count t (after_pick want s) + slot_count t (slot_number s p.0.0) ≡ free_count t s
-pick_less t want s p sound answer = pick_less_of t want s (choice want s) p sound (choice_taken want s) answer
-
--- or none
-pub pick_none : (t : Thing) (want : Option MemoryInModule) (s : ShardState) → pick_answer want s ≡ None → free_count t (after_pick want s) ≡ free_count t s
-pick_none t want s answer = pick_none_of t want s (choice want s) answer
-
--- a free gives its slot back
-pub free_more : (t : Thing) (slot : SlotId) (bytes : ℕ) (s : ShardState) → slot.0 < length s.used → is_used s slot.0 ≡ true → free_count t (after_free slot bytes s) ≡ free_count t s + slot_count t (slot_number s slot.0)
-free_more t slot bytes s inside used = unused_more t s.first s.step s.used slot.0 inside used
-
--- how often the slot that a pick answered is the thing
+-- how much the slot weighs that a pick answered
 abbrev pub picked_count : Thing → ShardState → Option (SlotId × ℕ) → ℕ
-picked_count t s (Some p) = slot_count t (slot_number s p.0.0)
+picked_count t s (Some p) = t (slot_unit s p.0.0)
 picked_count t s None = 0
 
-picked_counts : (t : Thing) (want : Option MemoryInModule) (s : ShardState) (o : Option (SlotId × ℕ)) → IsShard s → pick_answer want s ≡ o → free_count t (after_pick want s) + picked_count t s o ≡ free_count t s
-picked_counts t want s (Some p) sound is = pick_less t want s p sound is
-picked_counts t want s None sound is = omega (arith, pick_none t want s is)
+pick_more_of : (t : Thing) (want : Option MemoryInModule) (s : ShardState) (o : Option Choice) → IsShard s → IfSome o (IsChoice s) → total t (shard_units (option_map_or (after_choice want s) o (after_full s))) ≡ total t (shard_units s) + picked_count t s (option_map (slot_and_bytes s) o)
+pick_more_of t want s None sound is = omega arith
+pick_more_of t want s (Some c) sound is = choice_more t want s c sound is
 
--- so what a shard has, with what a pick answered, is what it had
-pub pick_counts : (t : Thing) (want : Option MemoryInModule) (s : ShardState) → IsShard s → free_count t (after_pick want s) + picked_count t s (pick_answer want s) ≡ free_count t s
-pick_counts t want s sound = picked_counts t want s (pick_answer want s) sound refl
+-- a pick gives out the slot that it answers, and a free takes back the one that is freed
+pub pick_counts : (t : Thing) (want : Option MemoryInModule) (s : ShardState) → IsShard s → total t (shard_units (after_pick want s)) ≡ total t (shard_units s) + picked_count t s (pick_answer want s)
+pick_counts t want s sound = pick_more_of t want s (choice want s) sound (choice_taken want s)
+
+pub free_counts : (t : Thing) (slot : SlotId) (bytes : ℕ) (s : ShardState) → slot.0 < length s.used → is_used s slot.0 ≡ true → total t (shard_units (after_free slot bytes s)) + t (slot_unit s slot.0) ≡ total t (shard_units s)
+free_counts t slot bytes s inside used = used_less t s.kind s.step s.first s.used slot.0 inside used

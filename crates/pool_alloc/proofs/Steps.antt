@@ -1,5 +1,10 @@
 -- What the code of a step needs follows of what holds between steps, and what a step leaves is as its row shows.
-use Rattle.std.proofs.Common.{◌≡◌, ℕ, ◌+◌, ◌<◌, ◌≤◌, true, false, ◌∷◌, length, get_or, refl, sym, ap, subst, ◌∙◌, arith, Option, Some, None}
+use Rattle.pool_slots.proofs.Lists.{each_weaker}
+use Rattle.pool_alloc.specs.Freeing.{HasHome, CanBeFreed}
+use Rattle.pool_slots.specs.Plans.{IsPlacedAllocator}
+use Rattle.pool_slots.specs.declared.plan.Plan.{Plan}
+use Rattle.pool_alloc.proofs.PlanPlaces.{tried_is_shard, tried_is_queue, cell_inside, has_home, home_place, stripe_is, IsQueuePlace, queues_all}
+use Rattle.std.proofs.Common.{◌≡◌, ℕ, ◌+◌, ◌<◌, ◌≤◌, true, false, ◌∷◌, length, get_or, refl, sym, ap, subst, ◌∙◌, arith, Option, Some, None, true≢false}
 use Rattle.std.specs.Prelude.{IfSome, IsSome, is_some, slice_get}
 use Rattle.pool_pages.specs.MakerTold.{MakerTold}
 use Rattle.pool_pages.specs.MemoryTypes.{minimum_byte_size}
@@ -8,15 +13,15 @@ use Rattle.pool_images.specs.Slots.{Slot, SlotIdentity, FitsInto}
 use Rattle.pool_limits.specs.LimiterTold.{LimiterTold}
 use Rattle.pool_memory.specs.Memories.{slot_of as image_slot_of}
 use Rattle.pool_alloc.specs.Answers.{MayBeTold, AsksOf}
-use Rattle.pool_alloc.specs.Bounds.{pool_sizes, steps_at, steps_left}
+use Rattle.pool_alloc.specs.Bounds.{sizes_of, steps_at, steps_left}
 use Rattle.pool_alloc.specs.Calls.{IsGrantOf, IfGranted}
-use Rattle.pool_alloc.specs.CanStep.{CanStepAt, CanFlush, HasNext, CanBegin, CanMake, CanPlace}
+use Rattle.pool_alloc.specs.CanStep.{CanStepAt, CanFlush, HasNext, CanBegin, CanMake, CanPlace, CanTryQueue}
 use Rattle.pool_alloc.specs.Rows.{FlushStep, run, put, free, flush_step, row_of}
 use Rattle.pool_alloc.specs.Searches.{IsSearched}
-use Rattle.std.proofs.lemmas.List.Elements.{All-head, All-same}
-use Rattle.pool_alloc.specs.Sound.{IsPoolSlot, IsQueuedOf, IsCore, IsFrame, IsSettings, IsAllocating, IsSupported, HasSlot, HasBegun}
+use Rattle.std.proofs.lemmas.List.Elements.{All-head, All-same, All-weaker}
+use Rattle.pool_alloc.specs.Sound.{IsPoolSlot, IsQueuedOf, IsCore, IsFrame, IsSettings, IsAllocating, IsSupported, HasSlot, HasBegun, IsStripe, IsFreedOf}
 use Rattle.pool_alloc.specs.Stages.{GoesOn}
-use Rattle.pool_alloc.specs.Steps.{StepGiven, memories_wanted, images_wanted, image_wanted, queue_tried, shard_of, first_shard, shard_tried}
+use Rattle.pool_alloc.specs.Steps.{StepGiven, memories_wanted, images_wanted, image_wanted, queue_tried, shard_of, first_shard, shard_tried, memory_slots}
 use Rattle.pool_alloc.specs.Stepping.{CanStep, CanCount, StepsTo, Conserves, EndsWith, IsSameSize, is_idle}
 use Rattle.pool_alloc.specs.Turns.{After, stepped}
 use Rattle.pool_alloc.specs.declared.pool_core.PoolCore.{PoolCore}
@@ -32,7 +37,7 @@ use Rattle.pool_alloc.proofs.Hands.{in_phase, RowOk, row_ok}
 use Rattle.pool_alloc.proofs.RegionRows.{region_is_fresh, take_region_ready, empty_ready, instantiate_ready, make_memory_ready, count_memory_ready, put_unknown_ready, free_unknown_ready}
 use Rattle.pool_alloc.proofs.ReturnRows.{Finds, finds, some_freed, uncount_memory_ready, reset_ready, merge_ready, uncount_instance_ready, flush_ready}
 use Rattle.pool_alloc.proofs.Rounding.{rounded_whole}
-use Rattle.pool_alloc.proofs.Stages.{tried_is_queue, local_is_spare, picked_is_home, unknown_is_used, local_is_apart, home_has_room, first_can_be_put, first_can_be_freed, tried_is_shard}
+use Rattle.pool_alloc.proofs.Stages.{local_is_spare, picked_is_home, unknown_is_used, local_is_apart, home_has_room, first_can_be_put, first_can_be_freed}
 use Rattle.pool_alloc.proofs.Telling.{told_both, told_weaker}
 use Rattle.pool_alloc.proofs.PoolParts.{shard_part, cell_part, queue_part, sound_queue}
 
@@ -58,16 +63,16 @@ size_of_slot : (maker : MakerTold) (s : Settings) (i : ℕ) (held : Slot) → Is
 size_of_slot maker s i held of = ap (λ (z : SlotIdentity). z.static_size) of.same
 
 module _ {P : Type 0} where
-  has_next : (s : Settings) (f : Frame P) → IsAllocating s f → HasNext f.asked (length f.objects.items)
-  has_next s f allocating = record {
+  has_next : (s : Settings) (plan : Plan) (f : Frame P) → IsAllocating s plan f → HasNext f.asked (length f.objects.items)
+  has_next s plan f allocating = record {
     asked = some_asked f.asked (length f.objects.items) allocating.more;
     images = allocating.to_grant.images;
     small = omega (arith, allocating.more, allocating.to_grant.supported.few);
     more = allocating.more;
   }
 
-  can_begin : (maker : MakerTold) (s : Settings) (slot : ℕ) (held : Slot) (f : Frame P) → s.page ≡ maker.page → IsSettings s → IsAllocating s f → HasSlot maker s slot held → IfSome (slice_get (memories_wanted f.asked) (length f.objects.items)) (CanBegin held (image_wanted f))
-  can_begin maker s slot held f page settings allocating has =
+  can_begin : (maker : MakerTold) (s : Settings) (plan : Plan) (slot : ℕ) (held : Slot) (f : Frame P) → s.page ≡ maker.page → IsSettings s → IsAllocating s plan f → HasSlot maker s plan slot held → IfSome (slice_get (memories_wanted f.asked) (length f.objects.items)) (CanBegin held (image_wanted f))
+  can_begin maker s plan slot held f page settings allocating has =
       let sized : held.static_size ≡ s.max_memory_size = size_of_slot maker s slot held has.region in
       told_weaker (λ decl. IsSupported s decl (image_wanted f)) (CanBegin held (image_wanted f)) (slice_get (memories_wanted f.asked) (length f.objects.items))
       (λ decl is. record {
@@ -78,8 +83,8 @@ module _ {P : Type 0} where
       })
       (allocating.to_grant.supported.each (length f.objects.items))
 
-  can_make : (maker : MakerTold) (s : Settings) (slot : ℕ) (held : Slot) (f : Frame P) → s.page ≡ maker.page → IsSettings s → IsAllocating s f → HasSlot maker s slot held → IfSome (slice_get (memories_wanted f.asked) (length f.objects.items)) (HasBegun (image_wanted f) held) → IfSome (slice_get (memories_wanted f.asked) (length f.objects.items)) (CanMake s held)
-  can_make maker s slot held f page settings allocating has begun =
+  can_make : (maker : MakerTold) (s : Settings) (plan : Plan) (slot : ℕ) (held : Slot) (f : Frame P) → s.page ≡ maker.page → IsSettings s → IsAllocating s plan f → HasSlot maker s plan slot held → IfSome (slice_get (memories_wanted f.asked) (length f.objects.items)) (HasBegun (image_wanted f) held) → IfSome (slice_get (memories_wanted f.asked) (length f.objects.items)) (CanMake s held)
+  can_make maker s plan slot held f page settings allocating has begun =
       let paged : held.region.page ≡ s.page = page_of_slot maker s slot held page has.region in
       told_both (λ decl. IsSupported s decl (image_wanted f)) (HasBegun (image_wanted f) held) (CanMake s held) (slice_get (memories_wanted f.asked) (length f.objects.items))
       (λ decl is begins. record {
@@ -90,14 +95,31 @@ module _ {P : Type 0} where
       })
       (allocating.to_grant.supported.each (length f.objects.items)) begun
 
-  can_place : (maker : MakerTold) (c : PoolCore P) → IsCore maker c → CanPlace c.settings
-  can_place maker c core = record { shards = core.settings.shards.1; slots = core.small; queues = core.settings.queues.1 }
+  can_place : (maker : MakerTold) (slot : ℕ) (c : PoolCore P) → IsCore maker c → slot < memory_slots c.plan → CanPlace c.plan slot
+  can_place maker slot c core below = omega (arith, cell_inside c.plan (length c.parts) slot core.plan below, core.plan.small)
+
+  can_try_queue : (maker : MakerTold) (home : ℕ) (c : PoolCore P) → IsCore maker c → CanTryQueue c.plan home
+  can_try_queue maker home c core = record {
+    some = core.plan.queues;
+    few = omega (arith, queues_all c.plan core.plan.shared, core.plan.planned.inside.1.1.1.0, core.plan.small);
+    placed = omega (arith, core.plan.planned.inside.1.1.1.0, core.plan.small);
+    own = λ owned. absurd (true≢false (sym owned ∙ core.plan.shared));
+  }
+
+  can_find_home : (maker : MakerTold) (slot : ℕ) (c : PoolCore P) → IsCore maker c → slot < memory_slots c.plan → HasHome c.plan slot
+  can_find_home maker slot c core below = record {
+    placed = each_weaker IsStripe IsPlacedAllocator c.plan.memories (λ a is. is.placed) core.plan.shards;
+    has = has_home c.plan (length c.parts) slot core.plan below;
+  }
 
   can_flush : (maker : MakerTold) (step : FlushStep) (c : PoolCore P) (f : Frame P) → CanStep maker c (in_phase Flush f) → Finds f.local step → CanFlush step c (in_phase Flush f)
   can_flush maker run c f can found = (found.ranges refl, can.frame.queue.owners)
   can_flush maker put c f can found = (
-    can_place maker c can.core,
-    λ m rest is. cell_part maker m.name.slot c can.core (first_can_be_put maker c f m rest can.core can.fits is).inside,
+    λ m rest is.
+        let Q : Queued → Type 0 = IsQueuedOf maker c.settings.behaviour c.settings.max_memory_size in
+        let kind = (All-head Q m rest (All-same Q (m ∷ rest) f.local.slots (sym is) can.frame.queue.regions)).kind in
+        let inside = (first_can_be_put maker c f m rest can.core can.fits kind is).inside in
+        (can_place maker m.name.slot c can.core inside, cell_part maker m.name.slot c can.core inside),
     record {
       no_ranges = found.put_none refl;
       some = found.put_some refl;
@@ -109,34 +131,34 @@ module _ {P : Type 0} where
   )
   can_flush maker free c f can found =
       let first = first_can_be_freed maker c f can (some_freed f can.frame.shape.1 (found.free_slots refl)) in
-      (shard_part maker (first_shard c.settings f.freed.items) c can.core first.shard, record { slots = can.core.settings.slots_per_shard; used = first.used; bytes = can.frame.freed_bytes })
+      (shard_part maker (first_shard c.plan f.freed.items) c can.core first.shard, record { used = first.used; each = All-weaker (IsFreedOf c.plan) (CanBeFreed c.plan) (λ x of. record { home = can_find_home maker x.slot c can.core of.inside; bytes = of.bytes }) f.freed.items can.frame.freed_each })
 
   -- Just what the code of a step needs, phase by phase.
   can_at : (maker : MakerTold) (next : Phase P) (c : PoolCore P) (f : Frame P) → CanStep maker c (in_phase next f) → CanCount c → CanStepAt next c (in_phase next f)
   can_at maker Idle c f can counts = tt
-  can_at maker Key c f can counts = can.core.settings.stripes
+  can_at maker Key c f can counts = (can.core.plan.stripes, can.core.plan.few)
   can_at maker Validate c f can counts =
       λ k. told_weaker (λ decl. (decl.ty.page_size_log2 < 64) × IfSome (get_or (images_wanted f.asked) k None) (FitsInto c.settings.page (minimum_byte_size decl.ty))) (λ decl. decl.ty.page_size_log2 < 64) (slice_get (memories_wanted f.asked) k) (λ decl of. of.0) (can.frame.shape.2.each k)
   can_at maker CountInstance c f can counts = counts.instances
-  can_at maker (Pick tried) c f can counts = (can.frame.shape.2, can.core.settings.shards.1, shard_part maker (shard_tried tried c.settings f) c can.core (tried_is_shard maker tried c f can.core), omega (arith, can.frame.shape.1.more, can.frame.shape.1.to_grant.supported.few))
+  can_at maker (Pick tried) c f can counts = (record { stripe = can.frame.stripe; inside = can.frame.shape.2; placed = (stripe_is c.plan (length c.parts) f.stripe can.core.plan can.frame.stripe).placed }, shard_part maker (shard_tried tried c.plan f) c can.core (tried_is_shard tried c.plan (length c.parts) f can.core.plan can.frame.stripe), omega (arith, can.frame.shape.1.more, can.frame.shape.1.to_grant.supported.few))
   can_at maker TakeQueue c f can counts =
       let settled = can.frame.shape.0 in
-      let i : ℕ = queue_tried f.queues c.settings f in
-      (can.frame.shape.2, can_place maker c can.core, queue_part maker i c can.core (tried_is_queue maker f.queues c f can.core), local_is_spare maker i c (in_phase TakeQueue f) can.core can.frame (tried_is_queue maker f.queues c f can.core) settled.no_ranges settled.no_slots)
+      let i : ℕ = queue_tried f.queues c.plan f in
+      (can.frame.shape.2, can.frame.stripe, can_try_queue maker f.home c can.core, queue_part maker i c can.core (tried_is_queue f.queues c.plan (length c.parts) f can.core.plan), local_is_spare maker i c (in_phase TakeQueue f) can.core can.frame (tried_is_queue f.queues c.plan (length c.parts) f can.core.plan) settled.no_ranges settled.no_slots)
   can_at maker (TakeRegion slot) c f can counts =
-      let inside : slot < c.settings.slots = can.frame.shape.2 in
-      (can_place maker c can.core, cell_part maker slot c can.core inside, record { there = picked_is_home maker slot c f can.core can.fits; fresh = region_is_fresh maker slot c can.core inside })
+      let inside : slot < memory_slots c.plan = can.frame.shape.2 in
+      (can_place maker slot c can.core inside, cell_part maker slot c can.core inside, record { there = picked_is_home maker slot c f can.core can.fits; fresh = region_is_fresh maker slot c can.core inside })
   can_at maker (Empty slot held) c f can counts = tt
   can_at maker (Instantiate slot held) c f can counts =
-      (has_next c.settings (in_phase (Instantiate slot held) f) can.frame.shape.1, can.frame.shape.3, can_begin maker c.settings slot.slot held (in_phase (Instantiate slot held) f) can.core.page can.core.settings can.frame.shape.1 can.frame.shape.2)
+      (has_next c.settings c.plan (in_phase (Instantiate slot held) f) can.frame.shape.1, can.frame.shape.3, can_begin maker c.settings c.plan slot.slot held (in_phase (Instantiate slot held) f) can.core.page can.core.settings can.frame.shape.1 can.frame.shape.2)
   can_at maker (MakeMemory slot held) c f can counts =
-      (has_next c.settings (in_phase (MakeMemory slot held) f) can.frame.shape.1, can_make maker c.settings slot.slot held (in_phase (MakeMemory slot held) f) can.core.page can.core.settings can.frame.shape.1 can.frame.shape.2 can.frame.shape.3)
+      (has_next c.settings c.plan (in_phase (MakeMemory slot held) f) can.frame.shape.1, can_make maker c.settings c.plan slot.slot held (in_phase (MakeMemory slot held) f) can.core.page can.core.settings can.frame.shape.1 can.frame.shape.2 can.frame.shape.3)
   can_at maker (CountMemory lease) c f can counts = (counts.memories, omega (arith, can.frame.shape.1.more, can.frame.shape.1.to_grant.room))
-  can_at maker (PutUnknown slot held) c f can counts = (can_place maker c can.core, cell_part maker slot.slot c can.core can.frame.shape.2.inside)
+  can_at maker (PutUnknown slot held) c f can counts = (can_place maker slot.slot c can.core can.frame.shape.2.inside, cell_part maker slot.slot c can.core can.frame.shape.2.inside)
   can_at maker (FreeUnknown slot) c f can counts = (
-    shard_part maker (shard_of c.settings slot) c can.core (can.core.layout.inside slot can.frame.shape.2).0,
+    shard_part maker (shard_of c.plan slot) c can.core (home_place c.plan (length c.parts) slot can.core.plan can.frame.shape.2),
     record {
-      slots = can.core.settings.slots_per_shard;
+      home = can_find_home maker slot c can.core can.frame.shape.2;
       used = some_of _ (unknown_is_used maker slot c f can);
     },
   )
@@ -153,19 +175,18 @@ module _ {P : Type 0} where
         slot_room = omega (arith, can.frame.queue.slot_room, can.core.settings.batch.0);
       }
   can_at maker Merge c f can counts =
-      let i : ℕ = queue_tried 0 c.settings f in
-      let below : i < c.settings.queues = tried_is_queue maker 0 c f can.core in
+      let i : ℕ = queue_tried 0 c.plan f in
+      let below : IsQueuePlace c.plan i = tried_is_queue 0 c.plan (length c.parts) f can.core.plan in
       let shared = sound_queue maker i c can.core below in
       let room = home_has_room maker c f can in (
-        can.core.settings.queues.0,
-        can_place maker c can.core,
+        can_try_queue maker f.home c can.core,
         queue_part maker i c can.core below,
         record {
           ranges = room.ranges;
           slots = room.slots;
           owners = shared.owners;
           local_owners = can.frame.queue.owners;
-          apart = local_is_apart maker i c (in_phase Merge f) can.core can.fits below;
+          apart = local_is_apart maker i c (in_phase Merge f) can.core can.frame can.fits below;
           range_room = can.frame.queue.range_room ∙ sym shared.range_room;
           slot_room = can.frame.queue.slot_room ∙ sym shared.slot_room;
         },
@@ -202,13 +223,14 @@ module _ {P : Type 0} (maker : MakerTold) (old new : LimiterTold) where
   -- what is told of a step that was made
   pub record StepOk (c : PoolCore P) (f : Frame P) (a : After P) : Type 0 where
     pub core : IsCore maker a.core
-    pub frame : IsFrame maker a.core.settings a.frame
-    pub granted : IfGranted (IsGrantOf maker a.core.settings f.asked) a.outcome
+    pub frame : IsFrame maker a.core.settings a.core.plan a.frame
+    pub granted : IfGranted (IsGrantOf maker a.core.settings a.core.plan f.asked) a.outcome
     pub conserves : Conserves c f a
     pub settings : a.core.settings ≡ c.settings
+    pub plan : a.core.plan ≡ c.plan
     pub ends : EndsWith c f a
     pub goes : GoesOn maker old new c f a
-    pub fewer : is_idle f.phase ≡ false → steps_at (pool_sizes c) a.frame.phase a.frame + 1 ≤ steps_left c f
+    pub fewer : is_idle f.phase ≡ false → steps_at (sizes_of c.plan) a.frame.phase a.frame + 1 ≤ steps_left c f
     pub searched : IsSearched c f → IsSearched a.core a.frame
 
   told_ok : (p : Phase P) (c : PoolCore P) (f : Frame P) (a : After P) → is_idle p ≡ false → RowOk maker old new c (in_phase p f) a → StepOk c (in_phase p f) a
@@ -218,6 +240,7 @@ module _ {P : Type 0} (maker : MakerTold) (old new : LimiterTold) where
     granted = ok.granted_is;
     conserves = record { places = ok.places; instances = ok.instances; memories = ok.memories };
     settings = ok.settings;
+    plan = ok.plan;
     ends = record { answer = rw on ok.answer; instances = ok.instances_by_one; memories = ok.memories_by_one };
     goes = record { asked = ok.asked; way = ok.way };
     fewer = λ busy. ok.fewer;
@@ -231,6 +254,7 @@ module _ {P : Type 0} (maker : MakerTold) (old new : LimiterTold) where
     granted = tt;
     conserves = record { places = λ t. omega arith; instances = omega arith; memories = omega arith };
     settings = refl;
+    plan = refl;
     ends = record { answer = refl; instances = omega arith; memories = omega arith };
     goes = record { asked = λ on. absurd cc; way = tt };
     fewer = λ busy. absurd cc;
@@ -246,6 +270,7 @@ module _ {P : Type 0} (maker : MakerTold) (old new : LimiterTold) where
   pub same_size : (c : PoolCore P) (f : Frame P) (a : After P) → CanStep maker c f → StepOk c f a → IsSameSize c a.core
   same_size c f a can ok = record {
     settings = ok.settings;
+    plan = ok.plan;
   }
 
   -- What holds between steps holds after a step.
@@ -254,14 +279,14 @@ module _ {P : Type 0} (maker : MakerTold) (old new : LimiterTold) where
       let ok = step_ok c f a can steps in
       record { core = ok.core; frame = ok.frame; fits = fits_after c f a can.fits ok.conserves (same_size c f a can ok) }
 
-  pub step_grants : (c : PoolCore P) (f : Frame P) (a : After P) → CanStep maker c f → StepsTo old new c f a → IfGranted (IsGrantOf maker c.settings f.asked) a.outcome
+  pub step_grants : (c : PoolCore P) (f : Frame P) (a : After P) → CanStep maker c f → StepsTo old new c f a → IfGranted (IsGrantOf maker c.settings c.plan f.asked) a.outcome
   step_grants c f a can steps =
       let ok = step_ok c f a can steps in
-      let G : Settings → Type 0 = λ s. IfGranted (IsGrantOf maker s f.asked) a.outcome in
-      subst G ok.settings ok.granted
+      let G : Settings → Plan → Type 0 = λ s plan. IfGranted (IsGrantOf maker s plan f.asked) a.outcome in
+      subst (G c.settings) ok.plan (subst (λ (s : Settings). G s a.core.plan) ok.settings ok.granted)
 
   pub step_fewer : (c : PoolCore P) (f : Frame P) (a : After P) → CanStep maker c f → StepsTo old new c f a → is_idle f.phase ≡ false → steps_left a.core a.frame + 1 ≤ steps_left c f
   step_fewer c f a can steps busy =
       let ok = step_ok c f a can steps in
-      let same : steps_left a.core a.frame ≡ steps_at (pool_sizes c) a.frame.phase a.frame = ap (λ (s : Settings). steps_at (record { shards = s.shards; all_shards = s.shards; queues = s.queues; slots = s.slots; slots_per_shard = s.slots_per_shard }) a.frame.phase a.frame) ok.settings in
+      let same : steps_left a.core a.frame ≡ steps_at (sizes_of c.plan) a.frame.phase a.frame = ap (λ (plan : Plan). steps_at (sizes_of plan) a.frame.phase a.frame) ok.plan in
       omega (arith, same, ok.fewer busy)

@@ -1,12 +1,13 @@
 -- What all rows share: the pool and the frame with one part changed, how a call goes on at its stage, and the steps that are
 -- left of a request.
+use Rattle.pool_slots.specs.declared.plan.Plan.{Plan}
 use Rattle.std.proofs.Common.{◌≡◌, ℕ, ◌+◌, ◌*◌, ◌-◌, ◌<◌, ◌≤◌, Bool, true, false, List, [], ◌∷◌, ◌++◌, length, zero, suc, refl, sym, ap, subst, inl, arith, Option, Some, None}
 use Rattle.std.specs.Prelude.{nat_lt, if◌then◌else◌, slice_get, IfSome}
 use Rattle.std.proofs.lemmas.Bool.{ltb-true}
 use Rattle.std.proofs.lemmas.List.{length_push}
 use Rattle.pool_pages.specs.MakerTold.{MakerTold}
 use Rattle.pool_limits.specs.LimiterTold.{LimiterTold}
-use Rattle.pool_alloc.specs.Bounds.{PoolSizes, allocation_bound, give_back_bound, return_bound, flush_bound, returns_left, memories_left, picks_left, next_left}
+use Rattle.pool_alloc.specs.Bounds.{PoolSizes, allocation_bound, give_back_bound, return_bound, flush_bound, returns_left, memories_left, picks_left, next_left, all_shards}
 use Rattle.pool_alloc.specs.Leases.{Lease}
 use Rattle.pool_alloc.specs.Reserved.{Reserved, with_item}
 use Rattle.pool_slots.specs.declared.errors.AllocError.{AllocError}
@@ -48,13 +49,13 @@ searched_back returned known back = tt
 searched_back (refused x) known back = tt
 
 -- a call that gives back aims at nothing else
-pub aims_back : (s : Settings) (e : Ending) (asked : Option ModuleAsked) (queues : ℕ) (objects : Reserved Lease) → is_granting e ≡ false → Aims s e asked queues objects
-aims_back s granted asked queues objects back = absurd cc
-aims_back s returned asked queues objects back = tt
-aims_back s (refused x) asked queues objects back = tt
+pub aims_back : (s : Settings) (plan : Plan) (e : Ending) (asked : Option ModuleAsked) (queues : ℕ) (objects : Reserved Lease) → is_granting e ≡ false → Aims s plan e asked queues objects
+aims_back s plan granted asked queues objects back = absurd cc
+aims_back s plan returned asked queues objects back = tt
+aims_back s plan (refused x) asked queues objects back = tt
 
-pub aims_grant : (s : Settings) (e : Ending) (asked : Option ModuleAsked) (queues : ℕ) (objects : Reserved Lease) → e ≡ granted → IsToGrant s asked queues objects → Aims s e asked queues objects
-aims_grant s e asked queues objects is to_grant = let A : Ending → Type 0 = λ x. Aims s x asked queues objects in subst A (sym is) to_grant
+pub aims_grant : (s : Settings) (plan : Plan) (e : Ending) (asked : Option ModuleAsked) (queues : ℕ) (objects : Reserved Lease) → e ≡ granted → IsToGrant s plan asked queues objects → Aims s plan e asked queues objects
+aims_grant s plan e asked queues objects is to_grant = let A : Ending → Type 0 = λ x. Aims s plan x asked queues objects in subst A (sym is) to_grant
 
 pub same_times : (m n x : ℕ) → m ≡ n → m * x ≡ n * x
 same_times m n x e = ap (λ (i : ℕ). i * x) e
@@ -125,7 +126,7 @@ next_returns z returned queues asked objects back = refl
 next_returns z (refused x) queues asked objects back = refl
 
 -- a queue less, with its flush
-pub next_queue : (z : PoolSizes) (queues flush more : ℕ) → queues < z.queues → flush ≤ 3 * z.slots + z.all_shards → flush + (z.shards - 0 + ((z.queues - (queues + 1)) * (flush_bound z + z.shards) + more)) + 1 ≤ (z.queues - queues) * (flush_bound z + z.shards) + more
+pub next_queue : (z : PoolSizes) (queues flush more : ℕ) → queues < z.queues → flush ≤ 3 * z.slots + all_shards z.allocators → flush + (z.shards - 0 + ((z.queues - (queues + 1)) * (flush_bound z + z.shards) + more)) + 1 ≤ (z.queues - queues) * (flush_bound z + z.shards) + more
 next_queue z queues flush more below few = omega (arith, one_more (z.queues - queues) (z.queues - (queues + 1)) (flush_bound z + z.shards) (omega arith))
 
 module _ {P : Type 0} where
@@ -146,12 +147,13 @@ module _ {P : Type 0} where
 
 module _ {P : Type 0} (maker : MakerTold) (old new : LimiterTold) (d : PoolCore P) (e : Frame P) where
   -- a part was changed
-  pub kept_part : (c : PoolCore P) (f : Frame P) → IsCore maker c → Held maker c.settings f → f.asked ≡ e.asked → c.settings ≡ d.settings → c.counters ≡ d.counters → Kept maker old new d e c f
-  kept_part c f core held asked settings counters = record {
+  pub kept_part : (c : PoolCore P) (f : Frame P) → IsCore maker c → Held maker c.settings c.plan f → f.asked ≡ e.asked → c.settings ≡ d.settings → c.plan ≡ d.plan → c.counters ≡ d.counters → Kept maker old new d e c f
+  kept_part c f core held asked settings plan counters = record {
     core = core;
     held = held;
     asked = asked;
     settings = settings;
+    plan = plan;
     instances_by_one = omega (arith, ap (λ (n : Counters). n.core_instances) counters);
     memories_by_one = omega (arith, ap (λ (n : Counters). n.memories) counters);
   }

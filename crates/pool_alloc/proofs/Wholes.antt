@@ -1,15 +1,16 @@
 -- A pool with all that have something of it: each of them fits, and no two have a slot.
+use Rattle.pool_pages.specs.MakerTold.{MakerTold}
 use Rattle.std.proofs.Common.{◌≡◌, ◌≢◌, ℕ, zero, suc, ◌+◌, ◌<◌, ◌≤◌, List, [], ◌∷◌, length, refl, ap, arith, All}
 use Rattle.std.specs.Prelude.{sum_by, slice_index_or}
 use Rattle.std.proofs.lemmas.List.Elements.{All-head, All-tail}
 use Rattle.std.proofs.lemmas.List.Sums.{sum_by-cons, get_or-le-sum_by}
-use Rattle.pool_alloc.specs.Places.{right_to, region_of, made_count}
-use Rattle.pool_alloc.specs.Sound.{FitsCore}
+use Rattle.pool_alloc.specs.Places.{right_to, region_of}
+use Rattle.pool_alloc.specs.Sound.{IsCore, FitsCore}
 use Rattle.pool_alloc.specs.Whole.{Holding, HasSlots, AddUp, held_by, IsPartitioned}
 use Rattle.pool_alloc.specs.declared.pool_core.PoolCore.{PoolCore}
 use Rattle.pool_alloc.specs.declared.frame.Frame.{Frame}
-use Rattle.pool_alloc.proofs.Held.{made_once}
-use Rattle.pool_alloc.proofs.KeptCounts.{frame_regions}
+use Rattle.pool_alloc.proofs.Held.{frame_regions, kept_regions}
+use Rattle.pool_alloc.proofs.KeptCounts.{out_once}
 
 -- two different ones have no more together than all
 pub two_of_sum : {X : Type 0} (of : X → ℕ) (xs : List X) (i j : ℕ) (d : X) → i < length xs → j < length xs → i ≢ j → of (slice_index_or xs i d) + of (slice_index_or xs j d) ≤ sum_by of xs
@@ -46,27 +47,15 @@ module _ {P : Type 0} where
   pub whole_fits : (c : PoolCore P) (f : Frame P) (hs : List Holding) (i : ℕ) (d rest : Holding) → IsPartitioned (λ h. h) c hs → All HasSlots hs → i < length hs → AddUp (held_by f) rest (slice_index_or hs i d) → HasSlots rest → FitsCore c f
   whole_fits c f hs i d rest whole each below is slots = record {
     once = λ t. omega (arith, whole.places t, is.places t, get_or-le-sum_by (λ (h : Holding). h.places t) hs i d below);
-    home = λ k some.
-        let both : made_count (region_of k) c.settings.slots ≡ made_count (right_to k) c.settings.slots = refl in
-        omega (
-          arith,
-          both,
-          whole.places (right_to k),
-          whole.places (region_of k),
-          made_once (right_to k) c.settings.slots,
-          is.places (right_to k),
-          is.places (region_of k),
-          slots k,
-          others_have_slots k hs i d each below,
-        );
+    others = λ k. omega (arith, whole.places (right_to k), whole.places (region_of k), is.places (right_to k), is.places (region_of k), slots k, others_have_slots k hs i d each below, kept_regions k c);
     instances = omega (arith, whole.instances, is.instances, get_or-le-sum_by (λ (h : Holding). h.instances) hs i d below);
     memories = omega (arith, whole.memories, is.memories, get_or-le-sum_by (λ (h : Holding). h.memories) hs i d below);
   }
 
   -- No slot is with two of them.
-  pub slots_apart : (c : PoolCore P) (hs : List Holding) (i j k : ℕ) (d : Holding) → IsPartitioned (λ h. h) c hs → i < length hs → j < length hs → i ≢ j → (slice_index_or hs i d).places (right_to k) + (slice_index_or hs j d).places (right_to k) ≤ 1
-  slots_apart c hs i j k d whole below also other =
-      omega (arith, whole.places (right_to k), made_once (right_to k) c.settings.slots, two_of_sum (λ (h : Holding). h.places (right_to k)) hs i j d below also other)
+  pub slots_apart : (maker : MakerTold) (c : PoolCore P) (hs : List Holding) (i j k : ℕ) (d : Holding) → IsCore maker c → IsPartitioned (λ h. h) c hs → i < length hs → j < length hs → i ≢ j → (slice_index_or hs i d).places (right_to k) + (slice_index_or hs j d).places (right_to k) ≤ 1
+  slots_apart maker c hs i j k d core whole below also other =
+      omega (arith, whole.places (right_to k), (out_once maker k c core).0, two_of_sum (λ (h : Holding). h.places (right_to k)) hs i j d below also other)
 
   -- A call has the slot of each of its regions.
   pub call_has_slots : (f : Frame P) → HasSlots (held_by f)

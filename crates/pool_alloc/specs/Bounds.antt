@@ -1,11 +1,14 @@
 -- How many steps a call makes at most, by the sizes of the pool alone, and how many it still makes.
-use Rattle.std.specs.Prelude.{ℕ, List, ◌+◌, ◌*◌, ◌-◌, length, nat_lt, if◌then◌else◌, Option, Some, ◌/◌, ◌==◌, zero, suc, sum_by}
+use Rattle.std.specs.Prelude.{ℕ, List, ◌+◌, ◌*◌, ◌-◌, length, nat_lt, if◌then◌else◌, Option, Some, ◌==◌, zero, suc, sum_by, ◌∷◌, [], max}
 use Rattle.pool_slots.specs.SlotQueues.{Queue, Queued}
 use Rattle.pool_index.specs.Shard.{one_if}
 use Rattle.pool_alloc.specs.Leases.{Lease}
 use Rattle.pool_alloc.specs.Reserved.{Reserved}
 use Rattle.pool_alloc.specs.RangeRuns.{runs}
-use Rattle.pool_alloc.specs.Steps.{memories_wanted}
+use Rattle.pool_slots.specs.Plans.{home_among}
+use Rattle.pool_slots.specs.declared.plan.Allocator.{Allocator}
+use Rattle.pool_slots.specs.declared.plan.Plan.{Plan}
+use Rattle.pool_alloc.specs.Steps.{memories_wanted, memory_slots, queues_searched}
 use Rattle.pool_alloc.specs.Stepping.{grant_memories}
 use Rattle.pool_alloc.specs.declared.pool_core.PoolCore.{PoolCore}
 use Rattle.pool_alloc.specs.declared.frame.Call.{Call}
@@ -18,18 +21,29 @@ use Rattle.pool_alloc.specs.Asked.{ModuleAsked}
 use Rattle.pool_alloc.specs.declared.frame.Phase.{Phase}
 use Rattle.pool_alloc.specs.declared.frame.Phase.TheVariants.{Idle, Key, Validate, CountInstance, Pick, TakeQueue, TakeRegion, Empty, Instantiate, MakeMemory, CountMemory, PutUnknown, FreeUnknown, UncountMemory, Reset, Merge, Flush, UncountInstance}
 
--- The sizes on which bounds rest: the most shards of one allocator, all shards, the queues, the slots, and how many of
--- those each shard has.
+-- The sizes on which bounds rest: the most shards of one allocator, the queues, the slots, and the allocators.
 pub record PoolSizes : Type 0 where
   pub shards : ℕ
-  pub all_shards : ℕ
   pub queues : ℕ
   pub slots : ℕ
-  pub slots_per_shard : ℕ
+  pub allocators : List Allocator
+
+-- the most shards of one of these allocators, and the shards of all of them
+abbrev pub most_shards : List Allocator → ℕ
+most_shards [] = 0
+most_shards (a ∷ more) = max a.shards (most_shards more)
+
+abbrev pub all_shards : List Allocator → ℕ
+all_shards [] = 0
+all_shards (a ∷ more) = a.shards + all_shards more
+
+-- the sizes of a pool
+abbrev pub sizes_of : Plan → PoolSizes
+sizes_of plan = record { shards = most_shards plan.memories; queues = queues_searched plan; slots = memory_slots plan; allocators = plan.memories }
 
 -- A flush, with the step that begins it: three steps for each slot, and one for each shard. (Of memories it makes fewer.)
 abbrev pub flush_bound : PoolSizes → ℕ
-flush_bound z = 1 + 3 * z.slots + z.all_shards
+flush_bound z = 1 + 3 * z.slots + all_shards z.allocators
 
 -- an allocation: a round of picks at first and one after the flush of each queue, and what is done with the slot
 abbrev pub allocation_bound : PoolSizes → ℕ
@@ -47,19 +61,27 @@ instance_bound z memories = 3 + memories * (allocation_bound z + give_back_bound
 abbrev pub return_bound : PoolSizes → ℕ → ℕ
 return_bound z memories = 1 + memories * give_back_bound z
 
--- how many slots wait for shard j: those that are queued, and those that are to be freed
-abbrev pub waiting_for : PoolSizes → ℕ → List Queued → List FreedSlot → ℕ
-waiting_for z j queued freed = sum_by (λ m. one_if (m.name.slot / z.slots_per_shard == j)) queued + sum_by (λ x. one_if (x.slot / z.slots_per_shard == j)) freed
+-- 1 for a slot that is at home in the shard at this place, and how many such slots wait: those that are queued, and those
+-- that are to be freed
+abbrev pub is_home : PoolSizes → ℕ → ℕ → ℕ
+is_home z place slot = one_if ((home_among z.allocators slot).place == place)
 
--- for how many of the first n shards some do
-abbrev pub shards_waiting : PoolSizes → ℕ → List Queued → List FreedSlot → ℕ
-shards_waiting z zero queued freed = 0
-shards_waiting z (suc n) queued freed = one_if (nat_lt 0 (waiting_for z n queued freed)) + shards_waiting z n queued freed
+abbrev pub waiting_for : PoolSizes → ℕ → List Queued → List FreedSlot → ℕ
+waiting_for z place queued freed = sum_by (λ m. is_home z place m.name.slot) queued + sum_by (λ x. is_home z place x.slot) freed
+
+-- for how many of the first n shards from a place on some do, and for how many shards of these allocators
+abbrev pub shards_waiting : PoolSizes → ℕ → ℕ → List Queued → List FreedSlot → ℕ
+shards_waiting z first zero queued freed = 0
+shards_waiting z first (suc n) queued freed = one_if (nat_lt 0 (waiting_for z (first + n) queued freed)) + shards_waiting z first n queued freed
+
+abbrev pub all_waiting : PoolSizes → List Allocator → List Queued → List FreedSlot → ℕ
+all_waiting z [] queued freed = 0
+all_waiting z (a ∷ more) queued freed = shards_waiting z a.first_place a.shards queued freed + all_waiting z more queued freed
 
 -- What is left of a flush: each run of ranges, each region that is to be put back, and each shard of which slots are to be
 -- freed, however many.
 abbrev pub flush_left : PoolSizes → Queue → Reserved FreedSlot → ℕ
-flush_left z local freed = runs local.ranges + length local.slots + shards_waiting z z.all_shards local.slots freed.items
+flush_left z local freed = runs local.ranges + length local.slots + all_waiting z z.allocators local.slots freed.items
 
 -- the memories that are still to be given back, and the instance
 abbrev pub returns_left : PoolSizes → Reserved Lease → ℕ
@@ -86,10 +108,6 @@ next_left z returned queues asked objects = returns_left z objects
 next_left z (refused e) queues asked objects = returns_left z objects
 
 module _ {P : Type 0} where
-  -- the sizes of a pool of one allocator
-  abbrev pub pool_sizes : PoolCore P → PoolSizes
-  pool_sizes c = record { shards = c.settings.shards; all_shards = c.settings.shards; queues = c.settings.queues; slots = c.settings.slots; slots_per_shard = c.settings.slots_per_shard }
-
   -- at most how many steps a call makes, on a pool of these sizes and on this one
   abbrev pub bound_of_call : PoolSizes → Call P → ℕ
   bound_of_call z call.Key = 1
@@ -97,7 +115,7 @@ module _ {P : Type 0} where
   bound_of_call z (call.GiveBack grant) = return_bound z (grant_memories grant)
 
   abbrev pub bound_of : PoolCore P → Call P → ℕ
-  bound_of c call = bound_of_call (pool_sizes c) call
+  bound_of c call = bound_of_call (sizes_of c.plan) call
 
   -- at most how many steps the frame's call still makes, on a pool of these sizes, in each phase
   abbrev pub steps_at : PoolSizes → Phase P → Frame P → ℕ
@@ -122,4 +140,4 @@ module _ {P : Type 0} where
 
   -- at most how many steps the frame's call still makes
   abbrev pub steps_left : PoolCore P → Frame P → ℕ
-  steps_left c f = steps_at (pool_sizes c) f.phase f
+  steps_left c f = steps_at (sizes_of c.plan) f.phase f

@@ -2,6 +2,7 @@
 use Rattle.std.specs.Prelude.{◌≡◌, ℕ, ◌*◌, [], length, All, Option, Some, None}
 use Rattle.pool_pages.specs.MakerTold.{MakerTold}
 use Rattle.pool_slots.specs.SlotQueues.{empty_queue}
+use Rattle.pool_slots.specs.declared.plan.Plan.{Plan}
 use Rattle.pool_alloc.specs.Reserved.{no_room}
 use Rattle.pool_alloc.specs.Steps.{memories_wanted, images_wanted}
 use Rattle.pool_alloc.specs.Turns.{returned_next}
@@ -39,12 +40,12 @@ module _ {P : Type 0} where
   IsIdle f = f.phase ≡ Idle
 
   -- the grant is one of the pool: its memories are leases of it
-  abbrev pub IsGrant : MakerTold → Settings → Grant P → Type 0
-  IsGrant maker s (Instance lease) = All (IsLeaseOf maker s) lease.memories.items
+  abbrev pub IsGrant : MakerTold → Settings → Plan → Grant P → Type 0
+  IsGrant maker s plan (Instance lease) = All (IsLeaseOf maker s plan) lease.memories.items
 
   -- and it has a memory for each that was asked for, which begins as that is to
-  abbrev pub IsGrantOf : MakerTold → Settings → Option ModuleAsked → Grant P → Type 0
-  IsGrantOf maker s asked (Instance lease) = All (IsLeaseOf maker s) lease.memories.items × (length lease.memories.items ≡ length (memories_wanted asked)) × AreBegun s asked lease.memories.items
+  abbrev pub IsGrantOf : MakerTold → Settings → Plan → Option ModuleAsked → Grant P → Type 0
+  IsGrantOf maker s plan asked (Instance lease) = All (IsLeaseOf maker s plan) lease.memories.items × (length lease.memories.items ≡ length (memories_wanted asked)) × AreBegun s asked lease.memories.items
 
   -- what is granted, if a call ends with a grant
   abbrev pub IfGranted : (Grant P → Type 0) → Option (Outcome P) → Type 0
@@ -53,10 +54,10 @@ module _ {P : Type 0} where
 
   -- The call may begin: images that are given are those of the module's memories, one place for each, and a grant is one
   -- of the pool.
-  abbrev pub MayBegin : MakerTold → Settings → Call P → Frame P → Type 0
-  MayBegin maker s call.Key f = IsIdle f
-  MayBegin maker s (call.Module m) f = IsIdle f × AreImagesOf s (memories_wanted (Some m)) (images_wanted (Some m)) × HasImages (Some m)
-  MayBegin maker s (call.GiveBack grant) f = IsIdle f × IsGrant maker s grant
+  abbrev pub MayBegin : MakerTold → Settings → Plan → Call P → Frame P → Type 0
+  MayBegin maker s plan call.Key f = IsIdle f
+  MayBegin maker s plan (call.Module m) f = IsIdle f × AreImagesOf s (memories_wanted (Some m)) (images_wanted (Some m)) × HasImages (Some m)
+  MayBegin maker s plan (call.GiveBack grant) f = IsIdle f × IsGrant maker s plan grant
 
   -- the memories of a grant are given back in order, and then the instance
   abbrev pub gives_back : Grant P → Frame P → Frame P

@@ -1,5 +1,5 @@
 -- Just what the code of each step needs of the pool's parts and of the frame.
-use Rattle.std.specs.Prelude.{◌≡◌, ℕ, ◌+◌, ◌^◌, ◌<◌, ◌≤◌, List, [], ◌∷◌, length, slice_get, All, false, Option, None, IsSome, IfSome}
+use Rattle.std.specs.Prelude.{◌≡◌, ℕ, ◌+◌, ◌^◌, ◌<◌, ◌≤◌, List, [], ◌∷◌, length, slice_get, All, false, Option, None, IsSome, IfSome, true}
 use Rattle.pool_pages.specs.Count.{count, rounded_up}
 use Rattle.pool_pages.specs.Told.{Told}
 use Rattle.pool_pages.specs.MemoryTypes.{minimum_byte_size, refused_limits}
@@ -13,14 +13,16 @@ use Rattle.pool_memory.specs.Static.{CanHold}
 use Rattle.pool_slots.specs.Cells.{is_taken, unmapped}
 use Rattle.pool_slots.specs.RegionCells.{CellState}
 use Rattle.pool_slots.specs.SlotQueues.{Queue, Queued, HasOwners, IsSpareOf}
-use Rattle.pool_alloc.specs.Freeing.{AreUsedInTurn}
+use Rattle.pool_slots.specs.declared.plan.Plan.{Plan}
+use Rattle.pool_slots.specs.Plans.{IsPlacedAllocator}
+use Rattle.pool_alloc.specs.Freeing.{AreUsedInTurn, HasHome, CanBeFreed}
 use Rattle.pool_alloc.specs.Modules.{HasImages, IfAllocated}
 use Rattle.pool_alloc.specs.Reserved.{Reserved}
 use Rattle.pool_alloc.specs.Rows.{FlushStep, run, put, free, flush_step}
 use Rattle.pool_alloc.specs.Turns.{is_granting}
 use Rattle.pool_slots.specs.QueueMerges.{CanMerge}
 use Rattle.pool_slots.specs.Parts.{IsAt, IsShardPart}
-use Rattle.pool_alloc.specs.Steps.{memories_wanted, image_wanted, IsMemoryPart, IsQueuePart, cell_place, queue_place, nth_shard, nth_cell, nth_queue, shard_of, local_of, freed_of, first_shard, shard_tried, queue_tried}
+use Rattle.pool_alloc.specs.Steps.{memories_wanted, image_wanted, IsMemoryPart, IsQueuePart, cell_of, stripe_allocator, queues_searched, shard_at, nth_cell, queue_at, shard_of, local_of, freed_of, first_shard, shard_tried, queue_tried}
 use Rattle.pool_alloc.specs.declared.pool_core.PoolCore.{PoolCore}
 use Rattle.pool_alloc.specs.declared.pool_core.Settings.{Settings}
 use Rattle.pool_alloc.specs.declared.frame.Frame.{Frame}
@@ -29,11 +31,20 @@ use Rattle.pool_alloc.specs.Asked.{ModuleAsked}
 use Rattle.pool_alloc.specs.declared.frame.Phase.{Phase}
 use Rattle.pool_alloc.specs.declared.frame.Phase.TheVariants.{Idle, Key, Validate, CountInstance, Pick, TakeQueue, TakeRegion, Empty, Instantiate, MakeMemory, CountMemory, PutUnknown, FreeUnknown, UncountMemory, Reset, Merge, Flush, UncountInstance}
 
--- the places of parts are numbers that the code can compute
-pub record CanPlace (s : Settings) : Type 0 where
-  pub shards : s.shards < 2 ^ 32
-  pub slots : s.slots < 2 ^ 32
-  pub queues : s.queues < 2 ^ 32
+-- the place of a slot's cell, that of a shard that is tried, and that of a queue are numbers that the code can compute
+abbrev pub CanPlace : Plan → ℕ → Type 0
+CanPlace plan slot = cell_of plan slot < 2 ^ 32
+
+pub record CanTryShard (plan : Plan) (of tried : ℕ) : Type 0 where
+  pub stripe : of < length plan.memories
+  pub inside : tried < (stripe_allocator plan of).shards
+  pub placed : IsPlacedAllocator (stripe_allocator plan of)
+
+pub record CanTryQueue (plan : Plan) (home : ℕ) : Type 0 where
+  pub some : 0 < plan.queues
+  pub few : queues_searched plan < 2 ^ 32
+  pub placed : plan.first_queue + plan.queues ≤ 2 ^ 32
+  pub own : plan.owned ≡ true → home < plan.queues
 
 -- the sizes of a module's memories can be computed
 abbrev pub CanValidate : List MemoryDecl → Type 0
@@ -66,9 +77,9 @@ pub record CanMake (s : Settings) (held : Slot) (decl : MemoryDecl) : Type 0 whe
   pub room : rounded_up held.region.page s.max_memory_size ≤ held.static_size
 
 -- a slot of a shard is used
-pub record CanFreeOne (slot : ℕ) (s : Settings) (shard : ShardState) : Type 0 where
-  pub slots : 0 < s.slots_per_shard
-  pub used : IsSome (use_of shard (local_of s slot).0)
+pub record CanFreeOne (slot : ℕ) (plan : Plan) (shard : ShardState) : Type 0 where
+  pub home : HasHome plan slot
+  pub used : IsSome (use_of shard (local_of plan slot).0)
 
 -- the local queue is empty, and has room
 pub record CanReset (s : Settings) (held : Slot) (local : Queue) : Type 0 where
@@ -88,35 +99,34 @@ pub record CanPutNext (local : Queue) (freed : Reserved FreedSlot) : Type 0 wher
   pub room : length freed.items < freed.room
 
 -- the slots are used in their shard
-pub record CanFree (s : Settings) (freed : List FreedSlot) (shard : ShardState) : Type 0 where
-  pub slots : 0 < s.slots_per_shard
-  pub used : AreUsedInTurn s (freed_of s (first_shard s freed) freed) shard
-  pub bytes : All (λ x. x.bytes ≤ 2 ^ 32) freed
+pub record CanFree (plan : Plan) (freed : List FreedSlot) (shard : ShardState) : Type 0 where
+  pub used : AreUsedInTurn plan (freed_of plan (first_shard plan freed) freed) shard
+  pub each : All (CanBeFreed plan) freed
 
 module _ {P : Type 0} where
   -- just the next part of a flush
   abbrev pub CanFlush : FlushStep → PoolCore P → Frame P → Type 0
   CanFlush run c f = (0 < length f.local.ranges) × HasOwners f.local
-  CanFlush put c f = CanPlace c.settings × ((m : Queued) (rest : List Queued) → f.local.slots ≡ m ∷ rest → IsAt IsMemoryPart (cell_place c.settings m.name.slot) c.parts) × CanPutNext f.local f.freed
-  CanFlush free c f = IsAt IsShardPart (first_shard c.settings f.freed.items) c.parts × CanFree c.settings f.freed.items (nth_shard (first_shard c.settings f.freed.items) c)
+  CanFlush put c f = ((m : Queued) (rest : List Queued) → f.local.slots ≡ m ∷ rest → CanPlace c.plan m.name.slot × IsAt IsMemoryPart (cell_of c.plan m.name.slot) c.parts) × CanPutNext f.local f.freed
+  CanFlush free c f = IsAt IsShardPart (first_shard c.plan f.freed.items) c.parts × CanFree c.plan f.freed.items (shard_at (first_shard c.plan f.freed.items) c)
 
   -- in each phase
   abbrev pub CanStepAt : Phase P → PoolCore P → Frame P → Type 0
   CanStepAt Idle c f = Unit {0}
-  CanStepAt Key c f = 0 < c.settings.stripes
+  CanStepAt Key c f = (0 < length c.plan.memories) × (length c.plan.memories < 2 ^ 32)
   CanStepAt Validate c f = CanValidate (memories_wanted f.asked)
   CanStepAt CountInstance c f = c.counters.core_instances + 1 < 2 ^ 64
-  CanStepAt (Pick tried) c f = (tried < c.settings.shards) × (c.settings.shards < 2 ^ 32) × IsAt IsShardPart (shard_tried tried c.settings f) c.parts × (length f.objects.items < 2 ^ 32)
-  CanStepAt TakeQueue c f = (f.queues < c.settings.queues) × CanPlace c.settings × IsAt IsQueuePart (queue_place c.settings (queue_tried f.queues c.settings f)) c.parts × IsSpareOf (nth_queue (queue_tried f.queues c.settings f) c) f.local
-  CanStepAt (TakeRegion slot) c f = CanPlace c.settings × IsAt IsMemoryPart (cell_place c.settings slot) c.parts × CanTakeRegion c.settings (nth_cell slot c)
+  CanStepAt (Pick tried) c f = CanTryShard c.plan f.stripe tried × IsAt IsShardPart (shard_tried tried c.plan f) c.parts × (length f.objects.items < 2 ^ 32)
+  CanStepAt TakeQueue c f = (f.queues < queues_searched c.plan) × (f.stripe < length c.plan.memories) × CanTryQueue c.plan f.home × IsAt IsQueuePart (queue_tried f.queues c.plan f) c.parts × IsSpareOf (queue_at (queue_tried f.queues c.plan f) c) f.local
+  CanStepAt (TakeRegion slot) c f = CanPlace c.plan slot × IsAt IsMemoryPart (cell_of c.plan slot) c.parts × CanTakeRegion c.settings (nth_cell slot c)
   CanStepAt (Empty at held) c f = Unit {0}
   CanStepAt (Instantiate at held) c f = HasNext f.asked (length f.objects.items) × IsClean held × IfAllocated f (CanBegin held (image_wanted f))
   CanStepAt (MakeMemory at held) c f = HasNext f.asked (length f.objects.items) × IfAllocated f (CanMake c.settings held)
   CanStepAt (CountMemory lease) c f = (c.counters.memories + 1 < 2 ^ 64) × (length f.objects.items < f.objects.room)
-  CanStepAt (PutUnknown at held) c f = CanPlace c.settings × IsAt IsMemoryPart (cell_place c.settings at.slot) c.parts
-  CanStepAt (FreeUnknown slot) c f = IsAt IsShardPart (shard_of c.settings slot) c.parts × CanFreeOne slot c.settings (nth_shard (shard_of c.settings slot) c)
+  CanStepAt (PutUnknown at held) c f = CanPlace c.plan at.slot × IsAt IsMemoryPart (cell_of c.plan at.slot) c.parts
+  CanStepAt (FreeUnknown slot) c f = IsAt IsShardPart (shard_of c.plan slot) c.parts × CanFreeOne slot c.plan (shard_at (shard_of c.plan slot) c)
   CanStepAt (UncountMemory lease) c f = 0 < c.counters.memories
   CanStepAt (Reset lease) c f = CanReset c.settings (slot_of lease.memory) f.local
-  CanStepAt Merge c f = (0 < c.settings.queues) × CanPlace c.settings × IsAt IsQueuePart (queue_place c.settings (queue_tried 0 c.settings f)) c.parts × CanMerge (nth_queue (queue_tried 0 c.settings f) c) f.local
+  CanStepAt Merge c f = CanTryQueue c.plan f.home × IsAt IsQueuePart (queue_tried 0 c.plan f) c.parts × CanMerge (queue_at (queue_tried 0 c.plan f) c) f.local
   CanStepAt Flush c f = CanFlush (flush_step f.local) c f
   CanStepAt UncountInstance c f = (0 < c.counters.core_instances) × (is_granting f.ending ≡ false)

@@ -1,24 +1,37 @@
 -- When slots can be freed.
-use Rattle.std.specs.Prelude.{◌≡◌, ℕ, ◌^◌, ◌≤◌, ◌==◌, List, [], ◌∷◌, ◌++◌, if◌then◌else◌, IsSome}
+use Rattle.std.specs.List.{AllByRecursion}
+use Rattle.std.specs.Prelude.{◌≡◌, ℕ, ◌^◌, ◌≤◌, ◌==◌, List, [], ◌∷◌, ◌++◌, if◌then◌else◌, IsSome, ◌<◌}
 use Rattle.pool_index.specs.Shard.{ShardState, use_of, after_free}
+use Rattle.pool_slots.specs.Plans.{have_number, IsPlacedAllocator}
+use Rattle.pool_slots.specs.declared.plan.Plan.{Plan}
 use Rattle.pool_alloc.specs.Steps.{shard_of, local_of}
 use Rattle.pool_alloc.specs.declared.frame.FreedSlot.{FreedSlot}
-use Rattle.pool_alloc.specs.declared.pool_core.Settings.{Settings}
 
 -- each slot of the list is used in the shard when its turn comes
-abbrev pub AreUsedInTurn : Settings → List FreedSlot → ShardState → Type 0
-AreUsedInTurn s [] shard = Unit {0}
-AreUsedInTurn s (x ∷ rest) shard = IsSome (use_of shard (local_of s x.slot).0) × AreUsedInTurn s rest (after_free (local_of s x.slot) x.bytes shard)
+abbrev pub AreUsedInTurn : Plan → List FreedSlot → ShardState → Type 0
+AreUsedInTurn plan [] shard = Unit {0}
+AreUsedInTurn plan (x ∷ rest) shard = IsSome (use_of shard (local_of plan x.slot).0) × AreUsedInTurn plan rest (after_free (local_of plan x.slot) x.bytes shard)
 
--- A turn of a free of shard j: the first of the slots is freed where it is the shard's, and goes to the end where it isn't.
-abbrev pub CanFreeNext : Settings → ℕ → List FreedSlot → ShardState → Type 0
-CanFreeNext s j [] shard = ⊥
-CanFreeNext s j (x ∷ rest) shard = (shard_of s x.slot ≡ j → IsSome (use_of shard (local_of s x.slot).0)) × (x.bytes ≤ 2 ^ 32)
+-- the plan says where a memory slot is at home
+pub record HasHome (plan : Plan) (slot : ℕ) : Type 0 where
+  pub placed : AllByRecursion IsPlacedAllocator plan.memories
+  pub has : 0 < have_number plan.memories slot
 
-abbrev pub shard_after_next : Settings → ℕ → List FreedSlot → ShardState → ShardState
-shard_after_next s j [] shard = shard
-shard_after_next s j (x ∷ rest) shard = if shard_of s x.slot == j then after_free (local_of s x.slot) x.bytes shard else shard
+-- and a slot can be freed that keeps no more bytes resident than a slot may
+pub record CanBeFreed (plan : Plan) (x : FreedSlot) : Type 0 where
+  pub home : HasHome plan x.slot
+  pub bytes : x.bytes ≤ 2 ^ 32
 
-abbrev pub freed_after_next : Settings → ℕ → List FreedSlot → List FreedSlot
-freed_after_next s j [] = []
-freed_after_next s j (x ∷ rest) = if shard_of s x.slot == j then rest else rest ++ x ∷ []
+-- A turn of a free of the shard at a place: the first of the slots is freed where it is the shard's, and goes to the end
+-- where it isn't.
+abbrev pub CanFreeNext : Plan → ℕ → List FreedSlot → ShardState → Type 0
+CanFreeNext plan place [] shard = ⊥
+CanFreeNext plan place (x ∷ rest) shard = (shard_of plan x.slot ≡ place → IsSome (use_of shard (local_of plan x.slot).0)) × CanBeFreed plan x
+
+abbrev pub shard_after_next : Plan → ℕ → List FreedSlot → ShardState → ShardState
+shard_after_next plan place [] shard = shard
+shard_after_next plan place (x ∷ rest) shard = if shard_of plan x.slot == place then after_free (local_of plan x.slot) x.bytes shard else shard
+
+abbrev pub freed_after_next : Plan → ℕ → List FreedSlot → List FreedSlot
+freed_after_next plan place [] = []
+freed_after_next plan place (x ∷ rest) = if shard_of plan x.slot == place then rest else rest ++ x ∷ []

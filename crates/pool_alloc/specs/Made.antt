@@ -1,5 +1,5 @@
 -- A pool as it is made.
-use Rattle.std.specs.Prelude.{◌≡◌, ◌⊎◌, ℕ, ◌+◌, ◌*◌, ◌<◌, List, [], ◌∷◌, length, max, Bool, true, Option, Some, None}
+use Rattle.std.specs.Prelude.{◌≡◌, ◌⊎◌, ℕ, ◌+◌, ◌*◌, ◌<◌, List, length, max, Bool, true, Option, Some, None, ◌^◌}
 use Rattle.pool_pages.specs.Count.{count, rounded_up}
 use Rattle.pool_pages.specs.MakerTold.{MakerTold}
 use Rattle.pool_pages.specs.Told.{Rose}
@@ -17,13 +17,14 @@ use Rattle.pool_slots.specs.Parts.{part_at}
 use Rattle.pool_slots.specs.declared.part.PoolPart.{PoolPart}
 use Rattle.pool_slots.specs.declared.part.PoolPart.TheVariants as part
 use Rattle.pool_slots.specs.SlotQueues.{empty_queue}
+use Rattle.pool_slots.specs.PlansMade.{IsPlanOf, places_planned}
+use Rattle.pool_slots.specs.declared.plan_maker.PlanSettings.{PlanSettings}
 use Rattle.pool_slots.specs.declared.errors.PoolNewError.{PoolNewError}
 use Rattle.pool_slots.specs.declared.errors.PoolNewError.TheVariants as refused
 use Rattle.pool_alloc.specs.declared.pool_core.PoolCore.{PoolCore}
 use Rattle.pool_alloc.specs.declared.pool_core.Settings.{Settings}
 
--- What a pool keeps of its configuration: sizes of memories are rounded up to pages. All slots are one shard's, and there
--- is one stripe.
+-- What a pool keeps of its configuration: sizes of memories are rounded up to pages.
 abbrev pub settings_of : ℕ → PoolingAllocationConfig → Tunables → Offered → Settings
 settings_of page config tunables offered = record {
   page = page;
@@ -31,14 +32,18 @@ settings_of page config tunables offered = record {
   max_memory_size = rounded_up page config.limits.max_memory_size;
   keep_resident = count page (rounded_up page config.linear_memory_keep_resident);
   batch = config.decommit_batch_size;
-  stripes = 1;
-  slots = config.limits.total_memories;
-  shards = 1;
-  queues = 1;
-  slots_per_shard = max config.limits.total_memories 1;
   max_core_instances = config.limits.total_core_instances;
   max_memories_per_module = config.limits.max_memories_per_module;
   tunables = record { tunables = tunables; kind = LinearMemory };
+}
+
+-- All slots of memories are one shard's, there is one stripe and one queue, and nothing of other kinds.
+abbrev pub plan_settings : PoolingAllocationConfig → PlanSettings
+plan_settings config = record {
+  totals = record { memory = config.limits.total_memories; table = 0; stack = 0; heap = 0 };
+  shards = record { memory = 1; table = 0; stack = 0; heap = 0 };
+  slots_per_shard = record { memory = max config.limits.total_memories 1; table = 1; stack = 1; heap = 1 };
+  queues = 1;
 }
 
 -- one shard, a cell for each slot with its region, which was never used, and one queue
@@ -51,6 +56,8 @@ pub record HasMadeParts {P : Type 0} (maker : MakerTold) (behaviour : DecommitBe
 -- Every slot is cold and has its region in its cell, the one queue is empty, and nothing is counted.
 pub record IsMadeCore {P : Type 0} (maker : MakerTold) (config : PoolingAllocationConfig) (tunables : Tunables) (offered : Offered) (c : PoolCore P) : Type 0 where
   pub settings : c.settings ≡ settings_of maker.page config tunables offered
+  pub plan : IsPlanOf (plan_settings config) c.plan
+  pub few : places_planned (plan_settings config) < 2 ^ 32
   pub parts : HasMadeParts maker c.settings.behaviour c.settings.max_memory_size config.limits.total_memories config.max_unused_warm_slots config.decommit_batch_size c.parts
   pub counters : c.counters ≡ record { key = 0; core_instances = 0; memories = 0 }
 

@@ -13,6 +13,7 @@ use Rattle.pool_memory.specs.declared.memory_error.MemoryError.{MemoryError}
 use Rattle.pool_slots.specs.Cells.{Cell, unmapped, unknown, previously_used, taken}
 use Rattle.pool_slots.specs.RegionCells.{CellState, cell_numbers, cell_emptied, cell_filled}
 use Rattle.pool_slots.specs.SlotQueues.{Queue, Queued, after_append, after_take, taken_into, drained}
+use Rattle.pool_slots.specs.declared.plan.Plan.{Plan}
 use Rattle.pool_slots.specs.declared.errors.AllocError.{AllocError}
 use Rattle.pool_slots.specs.declared.errors.AllocError.TheVariants as refusal
 use Rattle.pool_slots.specs.declared.errors.ConcurrencyKind.TheVariants.{CoreInstances}
@@ -20,8 +21,8 @@ use Rattle.pool_alloc.specs.Reserved.{with_item}
 use Rattle.pool_alloc.specs.Leases.{Lease, slot_taken}
 use Rattle.pool_alloc.specs.Own.{image_made, reset_into, refusal_of, memory_made}
 use Rattle.pool_alloc.specs.Refusals.{memories_refused}
-use Rattle.pool_alloc.specs.Steps.{StepGiven, memories_wanted, nth_shard, nth_cell, nth_queue, shard_of, local_of, freed_of, freed_elsewhere, first_shard, after_frees, with_shard, with_cell, with_queue, counting_keys, counting_instances, counting_memories, wanted, cell_returned, shard_tried, queue_tried}
-use Rattle.pool_alloc.specs.Turns.{Turn, goes, ends, next, flush, search, Row, lifted, After, failing, stepped}
+use Rattle.pool_alloc.specs.Steps.{StepGiven, memories_wanted, shard_at, nth_cell, queue_at, shard_of, local_of, freed_of, freed_elsewhere, first_shard, after_frees, allocator_for, with_shard, with_cell, with_queue, counting_keys, counting_instances, counting_memories, wanted, cell_returned, shard_tried, queue_tried}
+use Rattle.pool_alloc.specs.Turns.{Turn, goes, ends, next, flush, Row, lifted, After, failing, memory_search, stepped}
 use Rattle.pool_alloc.specs.declared.pool_core.PoolCore.{PoolCore}
 use Rattle.pool_alloc.specs.declared.pool_core.Settings.{Settings}
 use Rattle.pool_alloc.specs.declared.frame.Frame.{Frame}
@@ -45,26 +46,26 @@ flush_step local = if length local.ranges == 0 then (if length local.slots == 0 
 -- The rows that change one part: what each leaves of the part, of the frame, and its turn.
 module _ {P : Type 0} where
   -- A slot is picked from a shard: the shard gave one, the next is tried, or after the last the search goes on.
-  abbrev pub picked : ℕ → Option (SlotId × ℕ) → ShardState → ℕ → Turn P
-  picked shards (Some p) shard tried = goes (TakeRegion (slot_number shard p.0.0))
-  picked shards None shard tried = if nat_lt (tried + 1) shards then goes (Pick (tried + 1)) else search
+  abbrev pub picked : Plan → Option (SlotId × ℕ) → ShardState → ℕ → Frame P → Turn P
+  picked plan (Some p) shard tried f = goes (TakeRegion (slot_number shard p.0.0))
+  picked plan None shard tried f = if nat_lt (tried + 1) (allocator_for plan f).shards then goes (Pick (tried + 1)) else memory_search plan f
 
-  abbrev pub pick_on : Settings → ℕ → ShardState → Frame P → Row ShardState P
-  pick_on s tried shard f = record {
+  abbrev pub pick_on : Plan → ℕ → ShardState → Frame P → Row ShardState P
+  pick_on plan tried shard f = record {
     part = after_pick (wanted f) shard;
     frame = f;
-    turn = picked s.shards (pick_answer (wanted f) shard) shard tried;
+    turn = picked plan (pick_answer (wanted f) shard) shard tried f;
   }
 
   -- One slot is freed. Nothing is known of it.
-  abbrev pub free_unknown_on : Settings → ℕ → ShardState → Frame P → Row ShardState P
-  free_unknown_on s slot shard f = record { part = after_free (local_of s slot) 0 shard; frame = f; turn = next }
+  abbrev pub free_unknown_on : Plan → ℕ → ShardState → Frame P → Row ShardState P
+  free_unknown_on plan slot shard f = record { part = after_free (local_of plan slot) 0 shard; frame = f; turn = next }
 
   -- All slots of the shard are freed that wait for it.
-  abbrev pub free_on : Settings → ℕ → ShardState → Frame P → Row ShardState P
-  free_on s j shard f = record {
-    part = after_frees s (freed_of s j f.freed.items) shard;
-    frame = record f { freed = record f.freed { items = freed_elsewhere s j f.freed.items } };
+  abbrev pub free_on : Plan → ℕ → ShardState → Frame P → Row ShardState P
+  free_on plan place shard f = record {
+    part = after_frees plan (freed_of plan place f.freed.items) shard;
+    frame = record f { freed = record f.freed { items = freed_elsewhere plan place f.freed.items } };
     turn = flush;
   }
 
@@ -94,11 +95,11 @@ module _ {P : Type 0} where
   put_region_on m rest cell f = region_put m cell (record f { local = record f.local { slots = rest } })
 
   -- A queue is taken whole. It is flushed where it holds something.
-  abbrev pub take_queue_on : Queue → Frame P → Row Queue P
-  take_queue_on queue f = record {
+  abbrev pub take_queue_on : Plan → Queue → Frame P → Row Queue P
+  take_queue_on plan queue f = record {
     part = after_take queue;
     frame = record f { local = taken_into f.local queue; queues = f.queues + 1 };
-    turn = if length queue.slots == 0 then search else flush;
+    turn = if length queue.slots == 0 then memory_search plan f else flush;
   }
 
   -- The local queue is appended. Where there are as many ranges as a batch then, the whole queue comes into the local one
@@ -114,13 +115,13 @@ module _ {P : Type 0} where
 
   -- a row on one part, in the pool
   abbrev pub in_shard : ℕ → PoolCore P → Row ShardState P → Row (PoolCore P) P
-  in_shard j c r = lifted (λ shard. with_shard j shard c) r
+  in_shard place c r = lifted (λ shard. with_shard place shard c) r
 
   abbrev pub in_cell : ℕ → PoolCore P → Row CellState P → Row (PoolCore P) P
   in_cell slot c r = lifted (λ cell. with_cell slot cell c) r
 
   abbrev pub in_queue : ℕ → PoolCore P → Row Queue P → Row (PoolCore P) P
-  in_queue i c r = lifted (λ queue. with_queue i queue c) r
+  in_queue place c r = lifted (λ queue. with_queue place queue c) r
 
 -- the refusal of an instance
 abbrev pub no_instance_left : Settings → AllocError
@@ -128,11 +129,11 @@ no_instance_left s = refusal.Limit (record { limit = s.max_core_instances; kind 
 
 -- The rows that change a counter, or no part.
 module _ {P : Type 0} where
-  -- A number is drawn from the key counter, modulo the number of stripes.
+  -- A number is drawn from the key counter, modulo the number of stripes: each has an allocator of memories.
   abbrev pub key_row : PoolCore P → Frame P → Row (PoolCore P) P
   key_row c f = record {
     part = counting_keys ((c.counters.key + 1) % 2 ^ 64) c;
-    frame = record f { stripe = c.counters.key % c.settings.stripes };
+    frame = record f { stripe = c.counters.key % length c.plan.memories };
     turn = ends answer.Key;
   }
 
@@ -225,7 +226,7 @@ module _ {P : Type 0} where
   put_region_row (m ∷ rest) c f = in_cell m.name.slot c (put_region_on m rest (nth_cell m.name.slot c) f)
 
   abbrev pub free_row : PoolCore P → Frame P → Row (PoolCore P) P
-  free_row c f = let j : ℕ = first_shard c.settings f.freed.items in in_shard j c (free_on c.settings j (nth_shard j c) f)
+  free_row c f = let place : ℕ = first_shard c.plan f.freed.items in in_shard place c (free_on c.plan place (shard_at place c) f)
 
   abbrev pub flush_row : FlushStep → Queue → PoolCore P → Frame P → Row (PoolCore P) P
   flush_row run queue c f = decommit_row queue c f
@@ -239,18 +240,18 @@ module _ {P : Type 0} where
   row_of g Key c f = key_row c f
   row_of g Validate c f = validate_row g.wants c f
   row_of g CountInstance c f = count_instance_row c f
-  row_of g (Pick tried) c f = let j : ℕ = shard_tried tried c.settings f in in_shard j c (pick_on c.settings tried (nth_shard j c) f)
-  row_of g TakeQueue c f = let i : ℕ = queue_tried f.queues c.settings f in in_queue i c (take_queue_on (nth_queue i c) f)
+  row_of g (Pick tried) c f = let place : ℕ = shard_tried tried c.plan f in in_shard place c (pick_on c.plan tried (shard_at place c) f)
+  row_of g TakeQueue c f = let place : ℕ = queue_tried f.queues c.plan f in in_queue place c (take_queue_on c.plan (queue_at place c) f)
   row_of g (TakeRegion slot) c f = in_cell slot c (take_region_on c.settings slot (nth_cell slot c) f)
   row_of g (Empty at held) c f = empty_row g.fault g.slot at c f
   row_of g (Instantiate at held) c f = instantiate_row g.fault g.slot at c f
   row_of g (MakeMemory at held) c f = make_memory_row g.limiter at held c f
   row_of g (CountMemory lease) c f = count_memory_row lease c f
   row_of g (PutUnknown at held) c f = in_cell at.slot c (put_unknown_on at.slot held (nth_cell at.slot c) f)
-  row_of g (FreeUnknown slot) c f = let j : ℕ = shard_of c.settings slot in in_shard j c (free_unknown_on c.settings slot (nth_shard j c) f)
+  row_of g (FreeUnknown slot) c f = let place : ℕ = shard_of c.plan slot in in_shard place c (free_unknown_on c.plan slot (shard_at place c) f)
   row_of g (UncountMemory lease) c f = uncount_memory_row lease c f
   row_of g (Reset lease) c f = was_reset g.fault g.slot lease c f
-  row_of g Merge c f = let i : ℕ = queue_tried 0 c.settings f in in_queue i c (merge_on c.settings (nth_queue i c) f)
+  row_of g Merge c f = let place : ℕ = queue_tried 0 c.plan f in in_queue place c (merge_on c.settings (queue_at place c) f)
   row_of g Flush c f = flush_row (flush_step f.local) g.queue c f
   row_of g UncountInstance c f = uncount_instance_row c f
 

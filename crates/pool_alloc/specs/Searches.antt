@@ -1,8 +1,7 @@
 -- How far a call has searched the pool for a slot, where no other party could free one meanwhile.
-use Rattle.std.specs.Prelude.{◌≡◌, ℕ, ◌<◌, []}
-use Rattle.pool_index.specs.Shard.{ShardState}
-use Rattle.pool_alloc.specs.Places.{right_to, free_count}
-use Rattle.pool_alloc.specs.Steps.{nth_shard, nth_queue, shard_tried, queue_tried}
+use Rattle.std.specs.Prelude.{IsSome, ◌≡◌, ℕ, ◌<◌, []}
+use Rattle.pool_index.specs.Shard.{ShardState, use_of}
+use Rattle.pool_alloc.specs.Steps.{shard_at, queue_at, allocator_for, shard_tried, queue_tried}
 use Rattle.pool_alloc.specs.declared.pool_core.PoolCore.{PoolCore}
 use Rattle.pool_alloc.specs.declared.frame.Ending.{Ending}
 use Rattle.pool_alloc.specs.declared.frame.Ending.TheVariants.{Granted as granted}
@@ -12,7 +11,7 @@ use Rattle.pool_alloc.specs.declared.frame.Phase.TheVariants.{Pick, TakeQueue, F
 
 -- each slot of the shard is used
 abbrev pub HasNoSlot : ShardState → Type 0
-HasNoSlot s = (k : ℕ) → free_count (right_to k) s ≡ 0
+HasNoSlot s = (k : ℕ) → k < s.capacity → IsSome (use_of s k)
 
 -- what is known of a search, while the call is to end with a grant
 abbrev pub IsSearchedBy : Ending → Type 0 → Type 0
@@ -22,15 +21,15 @@ IsSearchedBy _ known = Unit {0}
 module _ {P : Type 0} where
   -- so it is of the first n shards that are tried, and the first n queues that are taken are empty
   abbrev pub AreFull : ℕ → PoolCore P → Frame P → Type 0
-  AreFull n c f = (j : ℕ) → j < n → HasNoSlot (nth_shard (shard_tried j c.settings f) c)
+  AreFull n c f = (j : ℕ) → j < n → HasNoSlot (shard_at (shard_tried j c.plan f) c)
 
   abbrev pub AreEmpty : ℕ → PoolCore P → Frame P → Type 0
-  AreEmpty n c f = (j : ℕ) → j < n → (nth_queue (queue_tried j c.settings f) c).slots ≡ []
+  AreEmpty n c f = (j : ℕ) → j < n → (queue_at (queue_tried j c.plan f) c).slots ≡ []
 
   -- Where the next shard is tried, those tried before are full, and the queues that were taken before are empty.
   abbrev pub IsSearchedAt : Phase P → PoolCore P → Frame P → Type 0
   IsSearchedAt (Pick tried) c f = AreEmpty f.queues c f × AreFull tried c f
-  IsSearchedAt TakeQueue c f = AreEmpty f.queues c f × AreFull c.settings.shards c f
+  IsSearchedAt TakeQueue c f = AreEmpty f.queues c f × AreFull (allocator_for c.plan f).shards c f
   IsSearchedAt Flush c f = IsSearchedBy f.ending (AreEmpty f.queues c f)
   IsSearchedAt _ c f = Unit {0}
 

@@ -1,5 +1,6 @@
 -- What holds of the pool's parts, and of a party's frame, between steps.
-use Rattle.std.specs.Prelude.{◌≡◌, ℕ, ◌+◌, ◌-◌, ◌*◌, ◌%◌, ◌^◌, ◌<◌, ◌≤◌, List, [], length, slice_get, slice_index_or, All, false, Option, None, IsSome, IfSome}
+use Rattle.std.specs.List.{AllByRecursion}
+use Rattle.std.specs.Prelude.{◌≡◌, ℕ, ◌+◌, ◌*◌, ◌%◌, ◌^◌, ◌<◌, ◌≤◌, List, [], length, slice_get, slice_index_or, All, false, Option, None, IsSome, IfSome}
 use Rattle.pool_pages.specs.Count.{IsPageSize}
 use Rattle.pool_pages.specs.MakerTold.{MakerTold}
 use Rattle.pool_pages.specs.MemoryTypes.{minimum_byte_size, refused_limits}
@@ -7,14 +8,17 @@ use Rattle.pool_pages.specs.declared.module_types.MemoryDecl.{MemoryDecl}
 use Rattle.pool_pages.specs.declared.pages.DecommitBehavior.{DecommitBehavior}
 use Rattle.pool_images.specs.Images.{Image}
 use Rattle.pool_images.specs.Slots.{Slot, IsClean, IsBegun, FitsInto}
-use Rattle.pool_index.specs.Shard.{IsShard, ShardState, slot_number}
 use Rattle.pool_hall.specs.declared.unit_name.SlotKind.TheVariants.{Memory as memory_kind}
 use Rattle.pool_memory.specs.Memories.{MemoryState, slot_of as image_slot_of}
 use Rattle.pool_memory.specs.Making.{maximum_asked}
 use Rattle.pool_memory.specs.Static.{CanHold, static_capacity}
 use Rattle.pool_slots.specs.Cells.{Cell, IsCell, IsSlotOf, region_made}
 use Rattle.pool_slots.specs.RegionCells.{CellState}
+use Rattle.pool_slots.specs.ListUnits.{IsShardOf}
 use Rattle.pool_slots.specs.Parts.{part_at}
+use Rattle.pool_slots.specs.Plans.{Role, shard_role, cell_role, queue_role, role_at, IsPlacedAllocator, IsPlanned}
+use Rattle.pool_slots.specs.declared.plan.Allocator.{Allocator}
+use Rattle.pool_slots.specs.declared.plan.Plan.{Plan}
 use Rattle.pool_slots.specs.declared.part.PoolPart.{PoolPart}
 use Rattle.pool_slots.specs.declared.part.PoolPart.TheVariants as part
 use Rattle.pool_slots.specs.SlotQueues.{Queue, Queued, HasOwners, IsQueue}
@@ -23,8 +27,8 @@ use Rattle.pool_alloc.specs.Leases.{Lease, IsUsable}
 use Rattle.pool_alloc.specs.Modules.{HasImages, IfAllocated}
 use Rattle.pool_alloc.specs.RangeRuns.{IsGrouped}
 use Rattle.pool_alloc.specs.Turns.{is_granting, is_flushed}
-use Rattle.pool_alloc.specs.Steps.{memories_wanted, images_wanted, image_wanted, nth_shard, nth_cell, nth_queue, shard_of, local_of}
-use Rattle.pool_alloc.specs.Places.{Thing, right_to, region_of, kept_count, frame_count, made_count, phase_instances, frame_memories}
+use Rattle.pool_alloc.specs.Steps.{memories_wanted, images_wanted, image_wanted, memory_slots, queues_searched, allocator_for}
+use Rattle.pool_alloc.specs.Places.{Thing, right_to, region_of, kept_count, away_count, frame_count, phase_instances, frame_memories}
 use Rattle.pool_alloc.specs.declared.pool_core.PoolCore.{PoolCore}
 use Rattle.pool_alloc.specs.declared.pool_core.Settings.{Settings}
 use Rattle.pool_alloc.specs.declared.frame.Ending.{Ending}
@@ -43,17 +47,22 @@ pub record IsSettings (s : Settings) : Type 0 where
   pub whole : s.max_memory_size % s.page ≡ 0
   pub bounded : s.max_memory_size + s.page ≤ 2 ^ 64
   pub batch : (1 ≤ s.batch) × (s.batch ≤ 4096)
-  pub stripes : 0 < s.stripes
-  pub shards : (0 < s.shards) × (s.shards < 2 ^ 32)
-  pub queues : (0 < s.queues) × (s.queues < 2 ^ 32)
-  pub slots_per_shard : 0 < s.slots_per_shard
   pub memories : s.max_memories_per_module < 2 ^ 32
 
--- each slot of the pool has a place in one shard, and each place of a shard is a slot of the pool
-pub record IsLaidOut (s : Settings) (shard : ℕ → ShardState) : Type 0 where
-  pub inside : (slot : ℕ) → slot < s.slots → (shard_of s slot < s.shards) × ((local_of s slot).0 < (shard (shard_of s slot)).capacity)
-  pub number : (slot : ℕ) → slot < s.slots → slot_number (shard (shard_of s slot)) (local_of s slot).0 ≡ slot
-  pub back : (j k : ℕ) → j < s.shards → k < (shard j).capacity → (slot_number (shard j) k < s.slots) × (shard_of s (slot_number (shard j) k) ≡ j) × ((local_of s (slot_number (shard j) k)).0 ≡ k)
+-- the allocator of a stripe has shards, whose places are numbers of 32 bits
+pub record IsStripe (a : Allocator) : Type 0 where
+  pub some : 0 < a.shards
+  pub placed : IsPlacedAllocator a
+
+-- The plan is right for a pool with so many places. It has stripes, each with shards, and queues that all parties share.
+pub record IsPoolPlan (plan : Plan) (places : ℕ) : Type 0 where
+  pub planned : IsPlanned plan places
+  pub small : places < 2 ^ 32
+  pub stripes : 0 < length plan.memories
+  pub few : length plan.memories < 2 ^ 32
+  pub shards : AllByRecursion IsStripe plan.memories
+  pub queues : 0 < plan.queues
+  pub shared : plan.owned ≡ false
 
 -- the image slot of memory slot i of the pool: the one that was made of its region, without a colour
 abbrev pub IsPoolSlot : MakerTold → DecommitBehavior → ℕ → ℕ → Slot → Type 0
@@ -84,27 +93,34 @@ pub record IsShared (maker : MakerTold) (s : Settings) (q : Queue) : Type 0 wher
   pub queue : IsQueue q
   pub grouped : IsGrouped q
 
--- The part at a place is what the place is for: shards first, then the cells of the slots, then the queues.
-abbrev pub IsPartAt : {P : Type 0} → MakerTold → Settings → ℕ → PoolPart P → Type 0
-IsPartAt maker s p (part.Shard shard) = (p < s.shards) × IsShard shard
-IsPartAt maker s p (part.Memory cell) = (s.shards ≤ p) × (p < s.shards + s.slots) × IsPoolCell maker s.behaviour s.max_memory_size (p - s.shards) cell
-IsPartAt maker s p (part.Queue queue) = (s.shards + s.slots ≤ p) × IsShared maker s queue
-IsPartAt maker s p _ = ⊥
+-- The part has a role: it is a shard of an allocator of memories, the cell of a memory slot, or a queue.
+abbrev pub IsPartFor : {P : Type 0} → MakerTold → Settings → Role → PoolPart P → Type 0
+IsPartFor maker s (shard_role a j) (part.Shard shard) = (a.kind ≡ memory_kind) × IsShardOf a j shard
+IsPartFor maker s (cell_role name) (part.Memory cell) = (name.kind ≡ memory_kind) × IsPoolCell maker s.behaviour s.max_memory_size name.slot cell
+IsPartFor maker s queue_role (part.Queue queue) = IsShared maker s queue
+IsPartFor maker s _ _ = ⊥
+
+-- the part at a place is what the plan has the place for
+abbrev pub IsPartAt : {P : Type 0} → MakerTold → Settings → Plan → ℕ → PoolPart P → Type 0
+IsPartAt maker s plan p x = IsPartFor maker s (role_at plan p) x
 
 -- what holds of the pool's parts between steps, whatever parties do
 pub record IsCore {P : Type 0} (maker : MakerTold) (c : PoolCore P) : Type 0 where
   pub settings : IsSettings c.settings
   pub page : c.settings.page ≡ maker.page
-  pub number : length c.parts ≡ c.settings.shards + (c.settings.slots + c.settings.queues)
-  pub parts : (p : ℕ) → p < length c.parts → IsPartAt maker c.settings p (part_at p c.parts)
-  pub layout : IsLaidOut c.settings (λ j. nth_shard j c)
-  pub small : c.settings.slots < 2 ^ 32
+  pub plan : IsPoolPlan c.plan (length c.parts)
+  pub parts : (p : ℕ) → p < length c.parts → IsPartAt maker c.settings c.plan p (part_at p c.parts)
 
 -- a lease of the pool: its memory lies in the region of its slot
-pub record IsLeaseOf (maker : MakerTold) (s : Settings) (l : Lease) : Type 0 where
-  pub inside : l.index < s.slots
+pub record IsLeaseOf (maker : MakerTold) (s : Settings) (plan : Plan) (l : Lease) : Type 0 where
+  pub inside : l.index < memory_slots plan
   pub slot : IsPoolSlot maker s.behaviour s.max_memory_size l.index (image_slot_of l.memory)
   pub memory : IsUsable l.memory
+
+-- a slot of the pool that is to be freed, and keeps no more bytes resident than a slot may
+pub record IsFreedOf (plan : Plan) (x : FreedSlot) : Type 0 where
+  pub inside : x.slot < memory_slots plan
+  pub bytes : x.bytes ≤ 2 ^ 32
 
 -- the slots that a party has on their way back
 pub record IsLocal (maker : MakerTold) (s : Settings) (q : Queue) : Type 0 where
@@ -132,8 +148,8 @@ pub record AreImagesOf (s : Settings) (memories : List MemoryDecl) (images : Lis
   pub each : (k : ℕ) → IfSome (slice_get memories k) (λ decl. (decl.ty.page_size_log2 < 64) × IfSome (slice_index_or images k None) (FitsInto s.page (minimum_byte_size decl.ty)))
 
 -- the slot of the pool with this number, as a call has it in its hands
-pub record HasSlot (maker : MakerTold) (s : Settings) (slot : ℕ) (held : Slot) : Type 0 where
-  pub inside : slot < s.slots
+pub record HasSlot (maker : MakerTold) (s : Settings) (plan : Plan) (slot : ℕ) (held : Slot) : Type 0 where
+  pub inside : slot < memory_slots plan
   pub region : IsPoolSlot maker s.behaviour s.max_memory_size slot held
 
 -- it is in use, and begins with this image
@@ -171,18 +187,18 @@ AreBegun s asked leases =
 
 -- A call that is to be granted an instance: its module is supported, what it was granted so far begins as asked, and it
 -- has taken no more queues than there are.
-pub record IsToGrant (s : Settings) (asked : Option ModuleAsked) (queues : ℕ) (objects : Reserved Lease) : Type 0 where
+pub record IsToGrant (s : Settings) (plan : Plan) (asked : Option ModuleAsked) (queues : ℕ) (objects : Reserved Lease) : Type 0 where
   pub supported : AreSupported s (memories_wanted asked) (images_wanted asked)
   pub images : HasImages asked
   pub room : objects.room ≡ length (memories_wanted asked)
   pub few : length objects.items ≤ length (memories_wanted asked)
   pub begun : AreBegun s asked objects.items
-  pub taken : queues ≤ s.queues
+  pub taken : queues ≤ queues_searched plan
 
 -- a request is to be granted, and there is a next memory
-pub record GrantsMore (s : Settings) (aim : Ending) (asked : Option ModuleAsked) (queues : ℕ) (objects : Reserved Lease) : Type 0 where
+pub record GrantsMore (s : Settings) (plan : Plan) (aim : Ending) (asked : Option ModuleAsked) (queues : ℕ) (objects : Reserved Lease) : Type 0 where
   pub ending : aim ≡ granted
-  pub to_grant : IsToGrant s asked queues objects
+  pub to_grant : IsToGrant s plan asked queues objects
   pub more : length objects.items < length (memories_wanted asked)
 
 -- a request as it begins, and once its module was tested
@@ -193,10 +209,10 @@ pub record IsRequest (aim : Ending) (asked : Option ModuleAsked) (queues : ℕ) 
   pub images : HasImages asked
 
 -- by its ending, what a call has beside its next step
-abbrev pub Aims : Settings → Ending → Option ModuleAsked → ℕ → Reserved Lease → Type 0
-Aims s granted asked queues objects = IsToGrant s asked queues objects
-Aims s returned asked queues objects = Unit {0}
-Aims s (refused e) asked queues objects = Unit {0}
+abbrev pub Aims : Settings → Plan → Ending → Option ModuleAsked → ℕ → Reserved Lease → Type 0
+Aims s plan granted asked queues objects = IsToGrant s plan asked queues objects
+Aims s plan returned asked queues objects = Unit {0}
+Aims s plan (refused e) asked queues objects = Unit {0}
 
 module _ {P : Type 0} where
   abbrev pub HasNoneWaiting : Frame P → Type 0
@@ -205,11 +221,11 @@ module _ {P : Type 0} where
   abbrev pub IsAtRest : Frame P → Type 0
   IsAtRest f = NothingHeld f.local f.freed f.objects
 
-  abbrev pub IsAiming : Settings → Frame P → Type 0
-  IsAiming s f = Aims s f.ending f.asked f.queues f.objects
+  abbrev pub IsAiming : Settings → Plan → Frame P → Type 0
+  IsAiming s plan f = Aims s plan f.ending f.asked f.queues f.objects
 
-  abbrev pub IsAllocating : Settings → Frame P → Type 0
-  IsAllocating s f = GrantsMore s f.ending f.asked f.queues f.objects
+  abbrev pub IsAllocating : Settings → Plan → Frame P → Type 0
+  IsAllocating s plan f = GrantsMore s plan f.ending f.asked f.queues f.objects
 
   -- something is given back
   abbrev pub IsReturning : Frame P → Type 0
@@ -223,39 +239,39 @@ module _ {P : Type 0} where
   IsRequested f = IsRequest f.ending f.asked f.queues
 
   -- What a frame has in each phase.
-  abbrev pub IsShapedAt : MakerTold → Settings → Phase P → Frame P → Type 0
-  IsShapedAt maker s Idle f = IsAtRest f
-  IsShapedAt maker s Key f = IsAtRest f
-  IsShapedAt maker s Validate f = IsAtRest f × IsRequested f × AreImagesOf s (memories_wanted f.asked) (images_wanted f.asked)
-  IsShapedAt maker s CountInstance f = IsAtRest f × IsRequested f × AreSupported s (memories_wanted f.asked) (images_wanted f.asked) × (f.objects.room ≡ length (memories_wanted f.asked))
-  IsShapedAt maker s (Pick tried) f = HasNoneWaiting f × IsAllocating s f × (tried < s.shards)
-  IsShapedAt maker s TakeQueue f = HasNoneWaiting f × IsAllocating s f × (f.queues < s.queues)
-  IsShapedAt maker s (TakeRegion slot) f = HasNoneWaiting f × IsAllocating s f × (slot < s.slots)
-  IsShapedAt maker s (Empty at held) f = HasNoneWaiting f × IsAllocating s f × HasSlot maker s at.slot held
-  IsShapedAt maker s (Instantiate at held) f = HasNoneWaiting f × IsAllocating s f × HasSlot maker s at.slot held × IsClean held
-  IsShapedAt maker s (MakeMemory at held) f = HasNoneWaiting f × IsAllocating s f × HasSlot maker s at.slot held × IfAllocated f (HasBegun (image_wanted f) held)
-  IsShapedAt maker s (CountMemory lease) f = HasNoneWaiting f × IsAllocating s f × IsLeaseOf maker s lease × IfAllocated f (IsNew s.max_memory_size (image_wanted f) lease.memory)
-  IsShapedAt maker s (PutUnknown at held) f = HasNoneWaiting f × IsReturning f × HasSlot maker s at.slot held
-  IsShapedAt maker s (FreeUnknown slot) f = HasNoneWaiting f × IsReturning f × (slot < s.slots)
-  IsShapedAt maker s (UncountMemory lease) f = HasNoneWaiting f × IsReturning f × IsLeaseOf maker s lease
-  IsShapedAt maker s (Reset lease) f = HasNoneWaiting f × IsReturning f × IsLeaseOf maker s lease
-  IsShapedAt maker s Merge f = IsReturning f × (f.freed.items ≡ []) × (length f.local.slots ≡ 1) × (0 < length f.local.ranges) × (length f.local.ranges + 1 ≤ s.batch)
-  IsShapedAt maker s Flush f = IsAiming s f × (is_flushed f ≡ false)
-  IsShapedAt maker s UncountInstance f = IsAtRest f × IsReturning f
+  abbrev pub IsShapedAt : MakerTold → Settings → Plan → Phase P → Frame P → Type 0
+  IsShapedAt maker s plan Idle f = IsAtRest f
+  IsShapedAt maker s plan Key f = IsAtRest f
+  IsShapedAt maker s plan Validate f = IsAtRest f × IsRequested f × AreImagesOf s (memories_wanted f.asked) (images_wanted f.asked)
+  IsShapedAt maker s plan CountInstance f = IsAtRest f × IsRequested f × AreSupported s (memories_wanted f.asked) (images_wanted f.asked) × (f.objects.room ≡ length (memories_wanted f.asked))
+  IsShapedAt maker s plan (Pick tried) f = HasNoneWaiting f × IsAllocating s plan f × (tried < (allocator_for plan f).shards)
+  IsShapedAt maker s plan TakeQueue f = HasNoneWaiting f × IsAllocating s plan f × (f.queues < queues_searched plan)
+  IsShapedAt maker s plan (TakeRegion slot) f = HasNoneWaiting f × IsAllocating s plan f × (slot < memory_slots plan)
+  IsShapedAt maker s plan (Empty at held) f = HasNoneWaiting f × IsAllocating s plan f × HasSlot maker s plan at.slot held
+  IsShapedAt maker s plan (Instantiate at held) f = HasNoneWaiting f × IsAllocating s plan f × HasSlot maker s plan at.slot held × IsClean held
+  IsShapedAt maker s plan (MakeMemory at held) f = HasNoneWaiting f × IsAllocating s plan f × HasSlot maker s plan at.slot held × IfAllocated f (HasBegun (image_wanted f) held)
+  IsShapedAt maker s plan (CountMemory lease) f = HasNoneWaiting f × IsAllocating s plan f × IsLeaseOf maker s plan lease × IfAllocated f (IsNew s.max_memory_size (image_wanted f) lease.memory)
+  IsShapedAt maker s plan (PutUnknown at held) f = HasNoneWaiting f × IsReturning f × HasSlot maker s plan at.slot held
+  IsShapedAt maker s plan (FreeUnknown slot) f = HasNoneWaiting f × IsReturning f × (slot < memory_slots plan)
+  IsShapedAt maker s plan (UncountMemory lease) f = HasNoneWaiting f × IsReturning f × IsLeaseOf maker s plan lease
+  IsShapedAt maker s plan (Reset lease) f = HasNoneWaiting f × IsReturning f × IsLeaseOf maker s plan lease
+  IsShapedAt maker s plan Merge f = IsReturning f × (f.freed.items ≡ []) × (length f.local.slots ≡ 1) × (0 < length f.local.ranges) × (length f.local.ranges + 1 ≤ s.batch)
+  IsShapedAt maker s plan Flush f = IsAiming s plan f × (is_flushed f ≡ false)
+  IsShapedAt maker s plan UncountInstance f = IsAtRest f × IsReturning f
 
-  -- What holds of a party's frame between steps, over a pool with these settings.
-  pub record IsFrame (maker : MakerTold) (s : Settings) (f : Frame P) : Type 0 where
-    pub stripe : f.stripe < s.stripes
+  -- What holds of a party's frame between steps, over a pool with these settings and this plan.
+  pub record IsFrame (maker : MakerTold) (s : Settings) (plan : Plan) (f : Frame P) : Type 0 where
+    pub stripe : f.stripe < length plan.memories
     pub queue : IsLocal maker s f.local
     pub freed_room : HasFreedRoom s f
-    pub freed_bytes : All (λ x. x.bytes ≤ 2 ^ 32) f.freed.items
-    pub objects : All (IsLeaseOf maker s) f.objects.items
-    pub shape : IsShapedAt maker s f.phase f
+    pub freed_each : All (IsFreedOf plan) f.freed.items
+    pub objects : All (IsLeaseOf maker s plan) f.objects.items
+    pub shape : IsShapedAt maker s plan f.phase f
 
-  -- What the frame has fits what the pool has: nothing is in both, the region of each slot that the pool or the frame
-  -- has is with one of them too, and what the frame has counted is counted.
+  -- What the frame has fits what the pool has given out: that is with the frame, in a queue, or with others, who have no
+  -- region without its slot. What the frame has counted is counted.
   pub record FitsCore (c : PoolCore P) (f : Frame P) : Type 0 where
-    pub once : (t : Thing) → kept_count t c + frame_count t f ≤ made_count t c.settings.slots
-    pub home : (i : ℕ) → 0 < kept_count (right_to i) c + frame_count (right_to i) f → 0 < kept_count (region_of i) c + frame_count (region_of i) f
+    pub once : (t : Thing) → kept_count t c + frame_count t f ≤ away_count t c
+    pub others : (i : ℕ) → away_count (region_of i) c + (kept_count (right_to i) c + frame_count (right_to i) f) ≤ away_count (right_to i) c + (kept_count (region_of i) c + frame_count (region_of i) f)
     pub instances : phase_instances f.phase ≤ c.counters.core_instances
     pub memories : frame_memories f ≤ c.counters.memories

@@ -1,6 +1,6 @@
 -- How far a call is, as its party may know it, and how a step takes it on: to which stage, with which answer, and what is
 -- known then.
-use Rattle.std.specs.Prelude.{◌≡◌, ◌⊎◌, ℕ, ◌+◌, ◌<◌, ◌≤◌, length, slice_get, Bool, false, Option, Some, None, IfSome, Result, Ok, Err}
+use Rattle.std.specs.Prelude.{◌≡◌, ◌⊎◌, ℕ, ◌+◌, ◌<◌, ◌≤◌, length, slice_get, Bool, false, Option, Some, None, IfSome, Result, Ok, Err, true}
 use Rattle.pool_pages.specs.MakerTold.{MakerTold}
 use Rattle.pool_pages.specs.declared.unsupported.Unsupported.{Unsupported}
 use Rattle.pool_images.specs.Slots.{Slot, IsLeft}
@@ -11,12 +11,13 @@ use Rattle.pool_slots.specs.declared.errors.AllocError.{AllocError}
 use Rattle.pool_slots.specs.declared.errors.AllocError.TheVariants as refusal
 use Rattle.pool_alloc.specs.Answers.{AsksForMemory}
 use Rattle.pool_alloc.specs.Own.{memory_made}
-use Rattle.pool_alloc.specs.Places.{right_to, slot_count, leased_count, kept_count, frame_count}
+use Rattle.pool_alloc.specs.Places.{right_to, slot_count, leased_count, kept_count, away_count, frame_count}
 use Rattle.pool_alloc.specs.Refusals.{memories_refused}
 use Rattle.pool_alloc.specs.Rows.{no_instance_left}
 use Rattle.pool_alloc.specs.Searches.{IsSearched}
 use Rattle.pool_alloc.specs.Sound.{AreSupported, IsAllocating, HasSlot}
-use Rattle.pool_alloc.specs.Steps.{memories_wanted, images_wanted}
+use Rattle.pool_slots.specs.Plans.{has_number}
+use Rattle.pool_alloc.specs.Steps.{memories_wanted, images_wanted, allocator_for}
 use Rattle.pool_alloc.specs.Stepping.{is_idle}
 use Rattle.pool_alloc.specs.Turns.{After, no_slot_left}
 use Rattle.pool_alloc.specs.declared.pool_core.PoolCore.{PoolCore}
@@ -68,30 +69,30 @@ module _ {P : Type 0} where
   stage_of f = stage_at f.phase f.ending (length f.objects.items)
 
   -- No slot is found for the next memory. The call has no slots but those of its memories, and where nobody freed one
-  -- meanwhile, the pool has none.
+  -- meanwhile, each of its stripe is given out, and none lies in a queue.
   pub record FindsNone (c : PoolCore P) (f : Frame P) (n : ℕ) (e : AllocError) : Type 0 where
-    pub is : e ≡ no_slot_left c.settings f
+    pub is : e ≡ no_slot_left c.plan f
     pub number : n ≡ length f.objects.items
-    pub allocating : IsAllocating c.settings f
+    pub allocating : IsAllocating c.settings c.plan f
     pub has : (k : ℕ) → frame_count (right_to k) f ≡ leased_count (right_to k) f.objects.items
-    pub none : IsSearched c f → (k : ℕ) → kept_count (right_to k) c ≡ 0
+    pub none : IsSearched c f → (k : ℕ) → has_number (allocator_for c.plan f) k ≡ true → (kept_count (right_to k) c ≡ 0) × (away_count (right_to k) c ≡ 1)
 
   -- A page call failed on the region of a slot that the call has.
   pub record IsPageFaulted (maker : MakerTold) (c : PoolCore P) (f : Frame P) (n : ℕ) (e : AllocError) : Type 0 where
     pub is : e ≡ refusal.PageFault
     pub number : n ≡ length f.objects.items
-    pub allocating : IsAllocating c.settings f
+    pub allocating : IsAllocating c.settings c.plan f
     pub slot : ℕ
     pub old : Slot
     pub new : Slot
-    pub region : HasSlot maker c.settings slot old
+    pub region : HasSlot maker c.settings c.plan slot old
     pub left : IsLeft old new
     pub has : (k : ℕ) → slot_count (right_to k) slot ≤ frame_count (right_to k) f
 
   -- The limiter is asked for memory n, and this comes of making it.
   pub record Makes (old new : LimiterTold) (c : PoolCore P) (f : Frame P) (n : ℕ) (made : Result MemoryState AllocError) : Type 0 where
     pub number : n ≡ length f.objects.items
-    pub allocating : IsAllocating c.settings f
+    pub allocating : IsAllocating c.settings c.plan f
     pub given : Result Bool LimiterError
     pub held : Slot
     pub asked : IfSome (slice_get (memories_wanted f.asked) n) (AsksForMemory given old new)

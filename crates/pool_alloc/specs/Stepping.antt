@@ -10,7 +10,7 @@ use Rattle.pool_slots.specs.SlotQueues.{Queue}
 use Rattle.pool_alloc.specs.Turns.{After}
 use Rattle.pool_alloc.specs.Rows.{row}
 use Rattle.pool_alloc.specs.Answers.{MayBeTold, IsPlanned, AsksOf, LimiterHears}
-use Rattle.pool_alloc.specs.Places.{Thing, kept_count, frame_count, leased_count, phase_instances, frame_memories}
+use Rattle.pool_alloc.specs.Places.{Thing, kept_count, away_count, frame_count, leased_count, phase_instances, frame_memories}
 use Rattle.pool_alloc.specs.Sound.{IsCore, IsFrame, FitsCore}
 use Rattle.pool_alloc.specs.declared.pool_core.PoolCore.{PoolCore}
 use Rattle.pool_alloc.specs.declared.frame.Frame.{Frame}
@@ -55,26 +55,27 @@ module _ {P : Type 0} where
   abbrev pub StepsAsking : (List Exchange → Type 0) → LimiterTold → LimiterTold → PoolCore P → Frame P → After P → Type 0
   StepsAsking Passes old new c f a = (g : StepGiven) × (Takes old new g c f a × LimiterHears Passes g f.phase f)
 
-  -- Nothing is lost or made: what the step takes from the pool's parts comes into the frame or the grant, and the other
-  -- way round. Counters change as what is counted.
+  -- Nothing is lost or made: what the pool gives out in the step comes into the frame, the grant or a queue, and what it
+  -- takes back leaves them. Counters change as what is counted.
   pub record Conserves (c : PoolCore P) (f : Frame P) (a : After P) : Type 0 where
-    pub places : (t : Thing) → kept_count t a.core + (frame_count t a.frame + count_granted (grant_count t) a.outcome) ≡ kept_count t c + frame_count t f
+    pub places : (t : Thing) → kept_count t a.core + (frame_count t a.frame + count_granted (grant_count t) a.outcome) + away_count t c ≡ kept_count t c + frame_count t f + away_count t a.core
     pub instances : a.core.counters.core_instances + phase_instances f.phase ≡ c.counters.core_instances + (phase_instances a.frame.phase + count_granted grant_instances a.outcome)
     pub memories : a.core.counters.memories + frame_memories f ≡ c.counters.memories + (frame_memories a.frame + count_granted grant_memories a.outcome)
 
-  -- What no step changes: the settings, and so how many slots, shards and queues there are.
+  -- What no step changes: the settings and the plan, and so how many slots, shards and queues there are.
   pub record IsSameSize (old new : PoolCore P) : Type 0 where
     pub settings : new.settings ≡ old.settings
+    pub plan : new.plan ≡ old.plan
 
   -- A step changes one part of the pool, or none: a shard, the cell of a slot, a queue, or a counter.
   abbrev pub ChangesShard : PoolCore P → PoolCore P → Type 0
-  ChangesShard old new = (j : ℕ) × (shard : ShardState) × (new ≡ with_shard j shard old)
+  ChangesShard old new = (place : ℕ) × (shard : ShardState) × (new ≡ with_shard place shard old)
 
   abbrev pub ChangesCell : PoolCore P → PoolCore P → Type 0
   ChangesCell old new = (slot : ℕ) × (cell : CellState) × (new ≡ with_cell slot cell old)
 
   abbrev pub ChangesQueue : PoolCore P → PoolCore P → Type 0
-  ChangesQueue old new = (i : ℕ) × (queue : Queue) × (new ≡ with_queue i queue old)
+  ChangesQueue old new = (place : ℕ) × (queue : Queue) × (new ≡ with_queue place queue old)
 
   abbrev pub ChangesCounter : PoolCore P → PoolCore P → Type 0
   ChangesCounter old new = (n : ℕ) × ((new ≡ counting_keys n old) ⊎ ((new ≡ counting_instances n old) ⊎ (new ≡ counting_memories n old)))
@@ -101,5 +102,5 @@ module _ {P : Type 0} where
   -- the frame can make a step on the core
   pub record CanStep (maker : MakerTold) (c : PoolCore P) (f : Frame P) : Type 0 where
     pub core : IsCore maker c
-    pub frame : IsFrame maker c.settings f
+    pub frame : IsFrame maker c.settings c.plan f
     pub fits : FitsCore c f

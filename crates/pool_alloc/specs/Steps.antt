@@ -1,5 +1,5 @@
 -- What the steps of a call read: what is asked for, and the parts of the pool.
-use Rattle.std.specs.Prelude.{ℕ, ◌+◌, ◌/◌, ◌%◌, ◌==◌, List, [], ◌∷◌, length, filter, min, slice_index_or, slice_set, Bool, not, Option, Some, None, Result, if◌then◌else◌}
+use Rattle.std.specs.Prelude.{ℕ, ◌==◌, List, [], ◌∷◌, length, filter, min, slice_index_or, slice_set, Bool, not, Option, Some, None, Result, if◌then◌else◌}
 use Rattle.pool_pages.specs.declared.module_types.MemoryDecl.{MemoryDecl}
 use Rattle.pool_images.specs.Images.{Image}
 use Rattle.pool_images.specs.Slots.{Slot}
@@ -11,11 +11,14 @@ use Rattle.pool_limits.specs.declared.errors.LimiterError.{LimiterError}
 use Rattle.pool_slots.specs.Cells.{Cell, unknown, previously_used}
 use Rattle.pool_slots.specs.RegionCells.{CellState}
 use Rattle.pool_slots.specs.Parts.{part_at, cell_of_part}
+use Rattle.pool_slots.specs.Plans.{cell_place, home_of, queues_for, shard_tried as nth_shard_tried, queue_tried as nth_queue_tried}
+use Rattle.pool_slots.specs.declared.plan.Allocator.{Allocator}
+use Rattle.pool_slots.specs.declared.slot_name.SlotName.{SlotName}
+use Rattle.pool_slots.specs.declared.plan.Plan.{Plan}
 use Rattle.pool_slots.specs.declared.part.PoolPart.{PoolPart}
 use Rattle.pool_slots.specs.declared.part.PoolPart.TheVariants as part
 use Rattle.pool_slots.specs.SlotQueues.{Queue, Queued, empty_queue}
 use Rattle.pool_alloc.specs.declared.pool_core.PoolCore.{PoolCore}
-use Rattle.pool_alloc.specs.declared.pool_core.Settings.{Settings}
 use Rattle.pool_alloc.specs.declared.frame.Frame.{Frame}
 use Rattle.pool_alloc.specs.Asked.{ModuleAsked}
 use Rattle.pool_alloc.specs.declared.frame.FreedSlot.{FreedSlot}
@@ -42,37 +45,50 @@ abbrev pub images_wanted : Option ModuleAsked → List (Option Image)
 images_wanted None = []
 images_wanted (Some m) = images_made m.images
 
--- the places of shard j, of the cell of a slot, and of queue i: the shards are first, then the cells, then the queues
-abbrev pub cell_place : Settings → ℕ → ℕ
-cell_place s slot = s.shards + slot
+-- the name of a memory slot, the place of its cell, the place of the shard that has it, and its number there
+abbrev pub memory_slot : ℕ → SlotName
+memory_slot slot = record { kind = memory_kind; slot = slot }
 
-abbrev pub queue_place : Settings → ℕ → ℕ
-queue_place s i = s.shards + (s.slots + i)
+abbrev pub cell_of : Plan → ℕ → ℕ
+cell_of plan slot = cell_place plan (memory_slot slot)
 
--- the shard that has a slot of the pool, and the slot's number there
-abbrev pub shard_of : Settings → ℕ → ℕ
-shard_of s slot = slot / s.slots_per_shard
+abbrev pub shard_of : Plan → ℕ → ℕ
+shard_of plan slot = (home_of plan (memory_slot slot)).place
 
-abbrev pub local_of : Settings → ℕ → SlotId
-local_of s slot = record { 0 = slot % s.slots_per_shard }
+abbrev pub local_of : Plan → ℕ → SlotId
+local_of plan slot = (home_of plan (memory_slot slot)).local
 
--- of slots that are to be freed: those of shard j, and the others
-abbrev pub freed_of : Settings → ℕ → List FreedSlot → List FreedSlot
-freed_of s j slots = filter (λ x. shard_of s x.slot == j) slots
+-- how many memory slots there are, and through how many queues a search for one goes
+abbrev pub memory_slots : Plan → ℕ
+memory_slots plan = plan.totals.memory
 
-abbrev pub freed_elsewhere : Settings → ℕ → List FreedSlot → List FreedSlot
-freed_elsewhere s j slots = filter (λ x. not (shard_of s x.slot == j)) slots
+abbrev pub queues_searched : Plan → ℕ
+queues_searched plan = queues_for plan memory_kind
 
--- the first shard that has some of them
-abbrev pub first_shard : Settings → List FreedSlot → ℕ
-first_shard s [] = 0
-first_shard s (x ∷ []) = shard_of s x.slot
-first_shard s (x ∷ y ∷ rest) = min (shard_of s x.slot) (first_shard s (y ∷ rest))
+-- the allocator of a stripe's memories; where there is no such stripe, it doesn't matter which
+abbrev pub no_allocator : Allocator
+no_allocator = record { kind = memory_kind; first_place = 0; shards = 0; slots_per_shard = 0; first = 0; step = 0; capacity = 0 }
+
+abbrev pub stripe_allocator : Plan → ℕ → Allocator
+stripe_allocator plan stripe = slice_index_or plan.memories stripe no_allocator
+
+-- of slots that are to be freed: those of the shard at a place, and the others
+abbrev pub freed_of : Plan → ℕ → List FreedSlot → List FreedSlot
+freed_of plan place slots = filter (λ x. shard_of plan x.slot == place) slots
+
+abbrev pub freed_elsewhere : Plan → ℕ → List FreedSlot → List FreedSlot
+freed_elsewhere plan place slots = filter (λ x. not (shard_of plan x.slot == place)) slots
+
+-- the place of the first shard that has some of them
+abbrev pub first_shard : Plan → List FreedSlot → ℕ
+first_shard plan [] = 0
+first_shard plan (x ∷ []) = shard_of plan x.slot
+first_shard plan (x ∷ y ∷ rest) = min (shard_of plan x.slot) (first_shard plan (y ∷ rest))
 
 -- the shard after they are freed, in order
-abbrev pub after_frees : Settings → List FreedSlot → ShardState → ShardState
-after_frees s [] shard = shard
-after_frees s (x ∷ rest) shard = after_frees s rest (after_free (local_of s x.slot) x.bytes shard)
+abbrev pub after_frees : Plan → List FreedSlot → ShardState → ShardState
+after_frees plan [] shard = shard
+after_frees plan (x ∷ rest) shard = after_frees plan rest (after_free (local_of plan x.slot) x.bytes shard)
 
 -- which memory of the module that is asked for has this number
 abbrev pub wanted_of : Option ModuleAsked → ℕ → Option MemoryInModule
@@ -102,28 +118,28 @@ module _ {P : Type 0} where
   queue_in (part.Queue q) = q
   queue_in _ = empty_queue 0 0
 
-  -- shard j, the cell of a slot, and queue i
-  abbrev pub nth_shard : ℕ → PoolCore P → ShardState
-  nth_shard j c = shard_in (part_at j c.parts)
+  -- the shard at a place, the cell of a slot, and the queue at a place
+  abbrev pub shard_at : ℕ → PoolCore P → ShardState
+  shard_at place c = shard_in (part_at place c.parts)
 
   abbrev pub nth_cell : ℕ → PoolCore P → CellState
-  nth_cell slot c = cell_of_part (part_at (cell_place c.settings slot) c.parts)
+  nth_cell slot c = cell_of_part (part_at (cell_of c.plan slot) c.parts)
 
-  abbrev pub nth_queue : ℕ → PoolCore P → Queue
-  nth_queue i c = queue_in (part_at (queue_place c.settings i) c.parts)
+  abbrev pub queue_at : ℕ → PoolCore P → Queue
+  queue_at place c = queue_in (part_at place c.parts)
 
-  -- the pool with one part changed: a shard, a cell or a queue
+  -- the pool with one part changed: a shard, the cell of a slot, or a queue
   abbrev pub with_part : ℕ → PoolPart P → PoolCore P → PoolCore P
   with_part place x c = record c { parts = slice_set c.parts place x }
 
   abbrev pub with_shard : ℕ → ShardState → PoolCore P → PoolCore P
-  with_shard j shard c = with_part j (part.Shard shard) c
+  with_shard place shard c = with_part place (part.Shard shard) c
 
   abbrev pub with_cell : ℕ → CellState → PoolCore P → PoolCore P
-  with_cell slot cell c = with_part (cell_place c.settings slot) (part.Memory cell) c
+  with_cell slot cell c = with_part (cell_of c.plan slot) (part.Memory cell) c
 
   abbrev pub with_queue : ℕ → Queue → PoolCore P → PoolCore P
-  with_queue i queue c = with_part (queue_place c.settings i) (part.Queue queue) c
+  with_queue place queue c = with_part place (part.Queue queue) c
 
   -- the pool with another number of its key counter, another count of instances, or of memories
   abbrev pub counting_keys : ℕ → PoolCore P → PoolCore P
@@ -142,9 +158,13 @@ module _ {P : Type 0} where
   abbrev pub image_wanted : Frame P → Option Image
   image_wanted f = slice_index_or (images_wanted f.asked) (length f.objects.items) None
 
-  -- the shard that is so many after the home shard, and the queue that is so many after the home queue
-  abbrev pub shard_tried : ℕ → Settings → Frame P → ℕ
-  shard_tried tried s f = (f.home + tried) % s.shards
+  -- the allocator of a party's memories, which is that of its stripe
+  abbrev pub allocator_for : Plan → Frame P → Allocator
+  allocator_for plan f = stripe_allocator plan f.stripe
 
-  abbrev pub queue_tried : ℕ → Settings → Frame P → ℕ
-  queue_tried queues s f = (f.home + queues) % s.queues
+  -- the place of the shard that is so many after the home shard, and that of the queue that is so many after the home queue
+  abbrev pub shard_tried : ℕ → Plan → Frame P → ℕ
+  shard_tried tried plan f = nth_shard_tried (allocator_for plan f) f.home tried
+
+  abbrev pub queue_tried : ℕ → Plan → Frame P → ℕ
+  queue_tried queues plan f = nth_queue_tried plan f.home queues

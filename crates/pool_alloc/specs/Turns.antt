@@ -1,14 +1,14 @@
 -- How a call goes on: a row of the step table gives a part, the frame and a turn, and one function says what the turn
 -- leaves of the frame.
-use Rattle.std.specs.Prelude.{◌&&◌, ◌==◌, List, [], ◌∷◌, length, Bool, true, false, nat_lt, if◌then◌else◌, Option, Some, None}
+use Rattle.std.specs.Prelude.{◌&&◌, ◌==◌, List, [], ◌∷◌, length, Bool, true, false, nat_lt, if◌then◌else◌, Option, Some, None, ℕ}
 use Rattle.pool_slots.specs.declared.errors.AllocError.{AllocError}
 use Rattle.pool_slots.specs.declared.errors.AllocError.TheVariants as refusal
 use Rattle.pool_slots.specs.declared.errors.ConcurrencyKind.TheVariants.{MemoryStripe}
 use Rattle.pool_alloc.specs.Reserved.{no_room}
 use Rattle.pool_alloc.specs.Leases.{Lease}
-use Rattle.pool_alloc.specs.Steps.{memories_wanted}
+use Rattle.pool_alloc.specs.Steps.{memories_wanted, queues_searched, allocator_for}
 use Rattle.pool_alloc.specs.declared.pool_core.PoolCore.{PoolCore}
-use Rattle.pool_alloc.specs.declared.pool_core.Settings.{Settings}
+use Rattle.pool_slots.specs.declared.plan.Plan.{Plan}
 use Rattle.pool_alloc.specs.declared.frame.Frame.{Frame}
 use Rattle.pool_alloc.specs.declared.frame.Phase.{Phase}
 use Rattle.pool_alloc.specs.declared.frame.Phase.TheVariants.{Idle, Pick, TakeQueue, UncountMemory, Flush, UncountInstance}
@@ -19,13 +19,13 @@ use Rattle.pool_alloc.specs.declared.frame.Outcome.{Outcome}
 use Rattle.pool_alloc.specs.declared.frame.Outcome.TheVariants as answer
 
 -- How a call goes on: with this phase; it ends; with what its ending says is next; with the next part of a flush, or with
--- what is next once that is done; with the next queue of a search, or with a refusal for room after the last.
+-- what is next once that is done; with the next queue of a search through so many, or with this refusal after the last.
 pub data Turn (P : Type 0) : Type 0 where
   goes : Phase P → Turn P
   ends : Outcome P → Turn P
   next : Turn P
   flush : Turn P
-  search : Turn P
+  search : ℕ → AllocError → Turn P
 
 -- what a row gives: what it leaves of a part, or of the whole pool; the frame; and the turn
 pub record Row (X P : Type 0) : Type 0 where
@@ -94,31 +94,34 @@ module _ {P : Type 0} where
   abbrev pub flush_next : Frame P → Left P
   flush_next f = if is_flushed f then next_by f.ending f else goes_to f Flush
 
-  -- the refusal for room
-  abbrev pub no_slot_left : Settings → Frame P → AllocError
-  no_slot_left s f = refusal.Limit (record { limit = s.slots; kind = MemoryStripe f.stripe })
-
-  abbrev pub search_next : Settings → Frame P → Left P
-  search_next s f =
-      if nat_lt f.queues s.queues
+  abbrev pub search_next : ℕ → AllocError → Frame P → Left P
+  search_next queues e f =
+      if nat_lt f.queues queues
       then goes_to f TakeQueue
-      else returned_next f.objects.items (failing (no_slot_left s f) f)
+      else returned_next f.objects.items (failing e f)
 
   -- what a turn leaves
-  abbrev pub after : Settings → Frame P → Turn P → Left P
-  after s f (goes phase) = goes_to f phase
-  after s f (ends outcome) = ends_with f outcome
-  after s f next = next_by f.ending f
-  after s f flush = flush_next f
-  after s f search = search_next s f
+  abbrev pub after : Frame P → Turn P → Left P
+  after f (goes phase) = goes_to f phase
+  after f (ends outcome) = ends_with f outcome
+  after f next = next_by f.ending f
+  after f flush = flush_next f
+  after f (search queues e) = search_next queues e f
+
+  -- the search for a memory's slot: the refusal for room, where the stripe has so many slots, and its turn
+  abbrev pub no_slot_left : Plan → Frame P → AllocError
+  no_slot_left plan f = refusal.Limit (record { limit = (allocator_for plan f).capacity; kind = MemoryStripe f.stripe })
+
+  abbrev pub memory_search : Plan → Frame P → Turn P
+  memory_search plan f = search (queues_searched plan) (no_slot_left plan f)
 
   -- what a step leaves of one part, by its row
-  abbrev pub part_after : {X : Type 0} → Settings → Row X P → PartAfter X P
-  part_after s r = let l : Left P = after s r.frame r.turn in record { part = r.part; frame = l.frame; outcome = l.outcome }
+  abbrev pub part_after : {X : Type 0} → Row X P → PartAfter X P
+  part_after r = let l : Left P = after r.frame r.turn in record { part = r.part; frame = l.frame; outcome = l.outcome }
 
   -- and of the pool
   abbrev pub finished : PoolCore P → Left P → After P
   finished c l = record { core = c; frame = l.frame; outcome = l.outcome }
 
   abbrev pub stepped : Row (PoolCore P) P → After P
-  stepped r = finished r.part (after r.part.settings r.frame r.turn)
+  stepped r = finished r.part (after r.frame r.turn)

@@ -27,7 +27,7 @@ pub(crate) fn take_region<P: Pages>(
 ) -> Option<Outcome<P>>
     requires there { is_taken cell.old.holds ≡ false }
     requires fresh { (region : _) → cell.old.holds ≡ unmapped region → IsFresh (count settings.now.page 0) (count settings.now.page 0) settings.now.max_memory_size None region }
-    ensures { ◌≡◌ {A = PartAfter CellState P} (record { part = cell.new; frame = frame.new; outcome = result }) (part_after settings.now (take_region_on settings.now slot cell.old frame.old)) }
+    ensures { ◌≡◌ {A = PartAfter CellState P} (record { part = cell.new; frame = frame.new; outcome = result }) (part_after (take_region_on settings.now slot cell.old frame.old)) }
 {
     let (held, numbers) = cell.take();
     let at = TakenSlot { slot, numbers };
@@ -58,14 +58,12 @@ fn image_slot_of<P: Pages>(settings: &Settings, region: PageRegion<P>) -> Memory
 // Puts the region of a slot back. Nothing is known of it.
 pub(crate) fn put_unknown<P: Pages>(
     cell: &mut RegionCell<P>,
-    settings: &Settings,
     frame: &mut Frame<P>,
     slot: u32,
     held: MemoryImageSlot<P>,
 ) -> Option<Outcome<P>>
-    ensures { ◌≡◌ {A = PartAfter CellState P} (record { part = cell.new; frame = frame.new; outcome = result }) (part_after settings.now (put_unknown_on slot held cell.old frame.old)) }
+    ensures { ◌≡◌ {A = PartAfter CellState P} (record { part = cell.new; frame = frame.new; outcome = result }) (part_after (put_unknown_on slot held cell.old frame.old)) }
 {
-    let _page = settings.page;
     cell.put(ImageSlot::Unknown(held));
     frame.phase = Phase::FreeUnknown(slot);
     None
@@ -74,7 +72,6 @@ pub(crate) fn put_unknown<P: Pages>(
 // Puts the region of a slot back that was in the local queue. The slot waits to be freed then.
 pub(crate) fn put_region<P: Pages>(
     cell: &mut RegionCell<P>,
-    settings: &Settings,
     alloc: Global,
     frame: &mut Frame<P>,
     item: QueuedSlot<P>,
@@ -82,13 +79,13 @@ pub(crate) fn put_region<P: Pages>(
     requires memory { item.name.kind ≡ SlotKind.Memory }
     requires settled { IsSettled item }
     requires room { length frame.old.freed.items < frame.old.freed.room }
-    ensures { ◌≡◌ {A = PartAfter CellState P} (record { part = cell.new; frame = frame.new; outcome = result }) (part_after settings.now (region_put item cell.old frame.old)) }
+    ensures { ◌≡◌ {A = PartAfter CellState P} (record { part = cell.new; frame = frame.new; outcome = result }) (part_after (region_put item cell.old frame.old)) }
 {
     let slot = item.number();
     let bytes = item.bytes;
     cell.put(cell_returned(item));
     frame.freed.push(FreedSlot { slot, bytes });
-    frame.flush(alloc, settings)
+    frame.flush(alloc)
 }
 
 // What a region's cell holds once its memory is given back.

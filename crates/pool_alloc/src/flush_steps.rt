@@ -2,16 +2,16 @@ ghost use Rattle.std.specs.Prelude.{◌≡◌, ◌<◌, ◌≤◌, ◌^◌, [], 
 ghost use Rattle.pool_hall.specs.declared.unit_name.SlotKind.TheVariants.{Memory as memory_kind};
 ghost use Rattle.pool_slots.specs.SlotQueues.{Queue, Queued, HasOwners, IsSettled};
 ghost use Rattle.pool_alloc.specs.Answers.{FlushTold, FlushPlanned, Decommits, FollowsRun};
-ghost use Rattle.pool_alloc.specs.CanStep.{CanPlace, CanPutNext, CanFree, CanFlush};
+ghost use Rattle.pool_alloc.specs.CanStep.{CanPlace, CanTryQueue, CanPutNext, CanFree, CanFlush};
 ghost use Rattle.pool_alloc.specs.Rows.{flush_step, in_queue, merge_on, decommit_row, put_region_row, free_row, flush_row};
 ghost use Rattle.pool_slots.specs.QueueMerges.{CanMerge};
 ghost use Rattle.pool_slots.specs.Parts.{IsAt, IsShardPart};
-ghost use Rattle.pool_alloc.specs.Steps.{StepGiven, IsMemoryPart, IsQueuePart, cell_place, queue_place, nth_shard, nth_queue, first_shard, queue_tried};
+ghost use Rattle.pool_alloc.specs.Steps.{StepGiven, IsMemoryPart, IsQueuePart, cell_of, shard_at, queue_at, first_shard, queue_tried};
 ghost use Rattle.pool_alloc.specs.Turns.{After, stepped};
 
-use crate::allocate_steps::{cell_place, queue_place, queue_tried};
 use crate::frame::{Frame, Outcome};
-use crate::freeing::first_shard;
+use crate::freeing::{first_shard, memory_slot};
+use crate::part_steps;
 use crate::pool_core::PoolCore;
 use pool_index::SlotKind;
 use pool_pages::Pages;
@@ -21,15 +21,14 @@ use std::alloc::Global;
 impl<P: Pages> PoolCore<P> {
     // Appends the local queue to the home queue.
     pub(crate) fn merge(&mut self, alloc: Global, frame: &mut Frame<P>) -> Option<Outcome<P>>
-        requires some { 0 < self.old.settings.queues }
-        requires places { CanPlace self.old.settings }
-        requires queue { IsAt IsQueuePart (queue_place self.old.settings (queue_tried 0 self.old.settings frame.old)) self.old.parts }
-        requires can { CanMerge (nth_queue (queue_tried 0 self.old.settings frame.old) self.old) frame.old.local }
-        ensures { ◌≡◌ {A = After P} (record { core = self.new; frame = frame.new; outcome = result }) (stepped (in_queue (queue_tried 0 self.old.settings frame.old) self.old (merge_on self.old.settings (nth_queue (queue_tried 0 self.old.settings frame.old) self.old) frame.old))) }
+        requires tries { CanTryQueue self.old.plan frame.old.home }
+        requires queue { IsAt IsQueuePart (queue_tried 0 self.old.plan frame.old) self.old.parts }
+        requires can { CanMerge (queue_at (queue_tried 0 self.old.plan frame.old) self.old) frame.old.local }
+        ensures { ◌≡◌ {A = After P} (record { core = self.new; frame = frame.new; outcome = result }) (stepped (in_queue (queue_tried 0 self.old.plan frame.old) self.old (merge_on self.old.settings (queue_at (queue_tried 0 self.old.plan frame.old) self.old) frame.old))) }
     {
-        let queue = queue_tried(&self.settings, frame, 0);
-        let place = queue_place(&self.settings, queue);
-        self.parts.merge(place, &self.settings, alloc, frame)
+        let place = self.plan.queue_tried(frame.home, 0);
+        let part = self.parts.at(place);
+        part_steps::merge(part, &self.settings, alloc, frame)
     }
 
     // The next part of a flush.
@@ -53,31 +52,31 @@ impl<P: Pages> PoolCore<P> {
         ensures { (fault : Bool) × (queue : Queue) × Decommits fault frame.old.local queue × FollowsRun fault frame.old.local queue × (◌≡◌ {A = After P} (record { core = self.new; frame = frame.new; outcome = result }) (stepped (decommit_row queue self.old frame.old))) }
     {
         let _fault = frame.local.decommit_run().is_err();
-        frame.flush(alloc, &self.settings)
+        frame.flush(alloc)
     }
 
     // Puts the first region of the local queue back into its cell.
     fn put_region(&mut self, alloc: Global, frame: &mut Frame<P>) -> Option<Outcome<P>>
-        requires places { CanPlace self.old.settings }
-        requires cell { (m : Queued) (rest : List Queued) → frame.old.local.slots ≡ m ∷ rest → IsAt IsMemoryPart (cell_place self.old.settings m.name.slot) self.old.parts }
+        requires cell { (m : Queued) (rest : List Queued) → frame.old.local.slots ≡ m ∷ rest → CanPlace self.old.plan m.name.slot × IsAt IsMemoryPart (cell_of self.old.plan m.name.slot) self.old.parts }
         requires can { CanPutNext frame.old.local frame.old.freed }
         ensures { ◌≡◌ {A = After P} (record { core = self.new; frame = frame.new; outcome = result }) (stepped (put_region_row frame.old.local.slots self.old frame.old)) }
     {
         let item = pop_memory(&mut frame.local);
         let slot = item.number();
-        let place = cell_place(&self.settings, slot);
-        self.parts
-            .put_region(place, &self.settings, alloc, frame, item)
+        let place = self.plan.cell_place(memory_slot(slot));
+        let part = self.parts.at(place);
+        part_steps::put_region(part, alloc, frame, item)
     }
 
     // Frees the slots of the first shard that has some of them.
     fn free(&mut self, alloc: Global, frame: &mut Frame<P>) -> Option<Outcome<P>>
-        requires shard { IsAt IsShardPart (first_shard self.old.settings frame.old.freed.items) self.old.parts }
-        requires can { CanFree self.old.settings frame.old.freed.items (nth_shard (first_shard self.old.settings frame.old.freed.items) self.old) }
+        requires shard { IsAt IsShardPart (first_shard self.old.plan frame.old.freed.items) self.old.parts }
+        requires can { CanFree self.old.plan frame.old.freed.items (shard_at (first_shard self.old.plan frame.old.freed.items) self.old) }
         ensures { ◌≡◌ {A = After P} (record { core = self.new; frame = frame.new; outcome = result }) (stepped (free_row self.old frame.old)) }
     {
-        let shard = first_shard(&self.settings, &frame.freed);
-        self.parts.free(shard, &self.settings, alloc, frame)
+        let place = first_shard(&self.plan, &frame.freed);
+        let part = self.parts.at(place);
+        part_steps::free(part, &self.plan, alloc, frame, place)
     }
 }
 

@@ -83,7 +83,7 @@ pub enum Phase<P: Pages> {
     Validate,
     CountInstance,
     /// Pick a slot from the shard that is so many after the home shard.
-    Pick(usize),
+    Pick(u32),
     /// Take the whole next queue, which is as many after the home queue as the search has taken so far.
     TakeQueue,
     TakeRegion(u32),
@@ -121,7 +121,7 @@ pub struct Frame<P: Pages> {
     /// The memories that were granted so far, in order, or those that are still to be given back: the ending says which.
     pub objects: ReservedList<MemoryLease<P>>,
     /// How many queues the search for a slot has taken.
-    pub queues: usize,
+    pub queues: u32,
     /// The local queue. It is empty but while memories are given back or queues flushed.
     pub local: DecommitQueue<P>,
     /// The slots whose regions are back in their cells, and which aren't free yet.

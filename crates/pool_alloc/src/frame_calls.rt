@@ -2,6 +2,7 @@ ghost use Rattle.std.specs.Prelude.{◌≡◌, ◌<◌, ◌^◌, length};
 ghost use Rattle.pool_pages.specs.MakerTold.{MakerTold};
 ghost use Rattle.pool_alloc.specs.Calls.{IsIdle, MayBegin, begun_call, gives_back};
 ghost use Rattle.pool_alloc.specs.Sound.{IsFrame};
+ghost use Rattle.pool_slots.specs.declared.plan.Plan.{Plan};
 ghost use Rattle.pool_alloc.specs.declared.pool_core.Settings.{Settings};
 ghost use Rattle.pool_alloc.specs.Sums.{calls_in_frame, calls_in_phase};
 ghost use Rattle.pool_alloc.specs.Steps.{memories_wanted, wanted};
@@ -16,7 +17,7 @@ impl<P: Pages> Frame<P> {
     pub fn begin(&mut self, call: Call<P>)
         requires { IsIdle self.old }
         ensures value { self.new ≡ begun_call call self.old }
-        ensures sound { (maker : MakerTold) (s : Settings) → IsFrame maker s self.old → MayBegin maker s call self.old → IsFrame maker s self.new }
+        ensures sound { (maker : MakerTold) (s : Settings) (plan : Plan) → IsFrame maker s plan self.old → MayBegin maker s plan call self.old → IsFrame maker s plan self.new }
     {
         match call {
             Call::Key => self.phase = Phase::Key,

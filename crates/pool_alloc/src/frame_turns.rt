@@ -1,12 +1,13 @@
 ghost use Rattle.std.specs.Prelude.{◌≡◌, ◌<◌, length};
-ghost use Rattle.pool_alloc.specs.Turns.{Left, next, flush, search, after, ends_with, failing, granted_next, returned_next, next_by, is_flushed};
+ghost use Rattle.pool_alloc.specs.Steps.{allocator_for};
+ghost use Rattle.pool_alloc.specs.Turns.{Left, next, flush, search, memory_search, after, ends_with, failing, granted_next, returned_next, next_by, is_flushed};
 
 use crate::frame::{Ending, Frame, Grant, Outcome, Phase};
 use crate::lease::InstanceLease;
-use crate::pool_core::Settings;
 use crate::reserved::ReservedList;
+use pool_index::SlotKind;
 use pool_pages::Pages;
-use pool_slots::{AllocError, ConcurrencyKind, PoolConcurrencyLimitError};
+use pool_slots::{AllocError, Allocator, ConcurrencyKind, Plan, PoolConcurrencyLimitError};
 use std::alloc::Global;
 use std::mem;
 
@@ -31,15 +32,8 @@ impl<P: Pages> Frame<P> {
     }
 
     // What the ending says is next.
-    pub(crate) fn next(&mut self, alloc: Global, settings: &Settings) -> Option<Outcome<P>>
-        ensures { ◌≡◌ {A = Left P} (record { frame = self.new; outcome = result }) (after settings.now self.old next) }
-    {
-        let _slots = settings.slots;
-        self.next_step(alloc)
-    }
-
-    fn next_step(&mut self, alloc: Global) -> Option<Outcome<P>>
-        ensures { ◌≡◌ {A = Left P} (record { frame = self.new; outcome = result }) (next_by self.old.ending self.old) }
+    pub(crate) fn next(&mut self, alloc: Global) -> Option<Outcome<P>>
+        ensures { ◌≡◌ {A = Left P} (record { frame = self.new; outcome = result }) (after self.old next) }
     {
         match self.ending {
             Ending::Granted => self.grant_next(alloc),
@@ -72,12 +66,11 @@ impl<P: Pages> Frame<P> {
     }
 
     // The next part of a flush, or what is next once it is done.
-    pub(crate) fn flush(&mut self, alloc: Global, settings: &Settings) -> Option<Outcome<P>>
-        ensures { ◌≡◌ {A = Left P} (record { frame = self.new; outcome = result }) (after settings.now self.old flush) }
+    pub(crate) fn flush(&mut self, alloc: Global) -> Option<Outcome<P>>
+        ensures { ◌≡◌ {A = Left P} (record { frame = self.new; outcome = result }) (after self.old flush) }
     {
-        let _slots = settings.slots;
         if self.is_flushed() {
-            return self.next_step(alloc);
+            return self.next(alloc);
         }
         self.phase = Phase::Flush;
         None
@@ -89,18 +82,35 @@ impl<P: Pages> Frame<P> {
         self.local.is_empty() && self.freed.is_empty()
     }
 
-    // The next queue of a search, or the refusal for room after the last.
-    pub(crate) fn search(&mut self, settings: &Settings) -> Option<Outcome<P>>
-        ensures { ◌≡◌ {A = Left P} (record { frame = self.new; outcome = result }) (after settings.now self.old search) }
+    // The search for a memory's slot goes on.
+    pub(crate) fn search_memory(&mut self, plan: &Plan) -> Option<Outcome<P>>
+        requires { self.old.stripe < length plan.now.memories }
+        ensures { ◌≡◌ {A = Left P} (record { frame = self.new; outcome = result }) (after self.old (memory_search plan.now self.old)) }
     {
-        if self.queues < settings.queues {
+        let refusal = AllocError::Limit(PoolConcurrencyLimitError {
+            limit: self.allocator(plan).capacity as usize,
+            kind: ConcurrencyKind::MemoryStripe(self.stripe),
+        });
+        self.search(plan.queues_for(SlotKind::Memory), refusal)
+    }
+
+    // The next queue of a search through so many, or this refusal after the last.
+    fn search(&mut self, queues: u32, refusal: AllocError) -> Option<Outcome<P>>
+        ensures { ◌≡◌ {A = Left P} (record { frame = self.new; outcome = result }) (after self.old (search queues refusal)) }
+    {
+        if self.queues < queues {
             self.phase = Phase::TakeQueue;
             return None;
         }
-        self.fail(AllocError::Limit(PoolConcurrencyLimitError {
-            limit: settings.slots,
-            kind: ConcurrencyKind::MemoryStripe(self.stripe),
-        }));
+        self.fail(refusal);
         self.return_next()
+    }
+
+    // The allocator of the party's memories.
+    pub(crate) fn allocator(&self, plan: &Plan) -> Allocator
+        requires { self.now.stripe < length plan.now.memories }
+        ensures { result ≡ allocator_for plan.now self.now }
+    {
+        plan.memories.as_slice()[self.stripe as usize]
     }
 }

@@ -14,6 +14,7 @@ mod lease;
 mod make_step;
 mod making;
 mod metrics;
+mod part_at;
 mod part_steps;
 mod parts;
 mod pool_core;

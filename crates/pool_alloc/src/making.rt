@@ -7,7 +7,7 @@ ghost use Rattle.pool_index.specs.Shard.{IsShard, fresh_shard};
 ghost use Rattle.pool_slots.specs.Makings.{RaisesPoolFaults, RaisesPoolBehind, makes_listed_regions, IsListedPoolFault};
 ghost use Rattle.pool_slots.specs.SlotQueues.{empty_queue};
 ghost use Rattle.pool_alloc.specs.Calls.{frame_made};
-ghost use Rattle.pool_alloc.specs.Made.{settings_of, IsMadeCore, IsRefusedFor, CountsFault, NeedsFault, NeedsListed};
+ghost use Rattle.pool_alloc.specs.Made.{settings_of, plan_settings, IsMadeCore, IsRefusedFor, CountsFault, NeedsFault, NeedsListed};
 ghost use Rattle.pool_alloc.specs.Sound.{IsCore, IsFrame};
 ghost use Rattle.pool_alloc.specs.Whole.{IsUntouched};
 
@@ -20,7 +20,9 @@ use pool_pages::{
     HostAlignedByteCount, MemoryKind, MemoryTunables, Offered, PageMaker, PageSize, Pages,
     PoolingAllocationConfig, Tunables,
 };
-use pool_slots::{DecommitQueue, PoolNewError, PoolPart, RegionCell, make_cells};
+use pool_slots::{
+    DecommitQueue, OfKinds, PlanSettings, PoolNewError, PoolPart, RegionCell, make_cells, make_plan,
+};
 use std::alloc::{AllocError, Global};
 
 impl<P: Pages> PoolCore<P> {
@@ -82,6 +84,10 @@ impl<P: Pages> PoolCore<P> {
         let _bytes = page.get();
         let settings = settings_of(page, config, tunables, offered);
         let total = config.limits.total_memories;
+        let numbers = plan_settings(config);
+        let Ok(plan) = make_plan(alloc, &numbers) else {
+            return Err(PoolNewError::Memory);
+        };
         let shard = make_shard(alloc, total, config.max_unused_warm_slots)?;
         let queue = make_queue(alloc, settings.batch)?;
         let Ok(list) = reserve_parts(alloc, total) else {
@@ -97,6 +103,7 @@ impl<P: Pages> PoolCore<P> {
                 memories: 0,
             },
             settings,
+            plan,
         })
     }
 
@@ -104,7 +111,7 @@ impl<P: Pages> PoolCore<P> {
     pub fn frame(&self, alloc: Global, home: u32) -> Result<Frame<P>, AllocError>
         requires { self.now.settings.batch ≤ 4096 }
         ensures made { IfOk result (λ f. f ≡ frame_made home self.now.settings) }
-        ensures sound { IfOk result (λ f. (maker : MakerTold) → IsCore maker self.now → IsFrame maker self.now.settings f) }
+        ensures sound { IfOk result (λ f. (maker : MakerTold) → IsCore maker self.now → IsFrame maker self.now.settings self.now.plan f) }
     {
         let room = 2 * self.settings.batch;
         let local = DecommitQueue::new(alloc, room, room)?;
@@ -145,14 +152,34 @@ fn settings_of(
         ).byte_count(),
         keep_resident: HostAlignedByteCount::rounded_up_unchecked(page, keep),
         batch: config.decommit_batch_size,
-        stripes: 1,
-        slots: limits.total_memories as usize,
-        shards: 1,
-        queues: 1,
-        slots_per_shard: limits.total_memories.max(1),
         max_core_instances: limits.total_core_instances as u64,
         max_memories_per_module: limits.max_memories_per_module,
         tunables: MemoryTunables::new(tunables, MemoryKind::LinearMemory),
+    }
+}
+
+// How many slots of each kind there are, and how they are divided among shards. No other kind has slots as yet.
+fn plan_settings(config: &PoolingAllocationConfig) -> PlanSettings
+    ensures { result ≡ plan_settings config.now }
+{
+    let total = config.limits.total_memories;
+    PlanSettings {
+        totals: memories_alone(total, 0),
+        shards: memories_alone(1, 0),
+        slots_per_shard: memories_alone(total.max(1), 1),
+        queues: 1,
+    }
+}
+
+// A number for memories, and one for each other kind.
+fn memories_alone(memory: u32, other: u32) -> OfKinds
+    ensures { result ≡ record { memory = memory; table = other; stack = other; heap = other } }
+{
+    OfKinds {
+        memory,
+        table: other,
+        stack: other,
+        heap: other,
     }
 }
 

@@ -7,7 +7,8 @@ ghost use Rattle.pool_slots.specs.QueueMerges.{CanMerge};
 ghost use Rattle.pool_slots.specs.Parts.{IsShardPart, cell_of_part};
 ghost use Rattle.pool_slots.specs.SlotQueues.{IsSpareOf, IsSettled};
 ghost use Rattle.pool_slots.specs.declared.part.PoolPart.{PoolPart};
-ghost use Rattle.pool_alloc.specs.Freeing.{AreUsedInTurn};
+ghost use Rattle.pool_alloc.specs.CanStep.{CanTryShard};
+ghost use Rattle.pool_alloc.specs.Freeing.{AreUsedInTurn, HasHome, CanBeFreed};
 ghost use Rattle.pool_alloc.specs.Rows.{pick_on, free_unknown_on, free_on, take_region_on, put_unknown_on, region_put, take_queue_on, merge_on};
 ghost use Rattle.pool_alloc.specs.Sums.{warm_in, resident_in, part_calls};
 ghost use Rattle.pool_alloc.specs.Steps.{IsMemoryPart, IsQueuePart, shard_in, queue_in, local_of, freed_of};
@@ -19,61 +20,60 @@ use crate::{cell_steps, queue_steps, shard_steps};
 use pool_images::MemoryImageSlot;
 use pool_index::SlotKind;
 use pool_pages::{PageCalls, Pages};
-use pool_slots::{PoolPart, QueuedSlot};
+use pool_slots::{Plan, PoolPart, QueuedSlot};
 use std::alloc::Global;
 
 // The steps that change one part, on that part alone.
 
 pub(crate) fn pick<P: Pages>(
     part: &mut PoolPart<P>,
-    settings: &Settings,
+    plan: &Plan,
     frame: &mut Frame<P>,
-    tried: usize,
+    tried: u32,
 ) -> Option<Outcome<P>>
     requires shard { IsShardPart part.old }
-    requires tried { tried + 1 < 2 ^ 64 }
+    requires tries { CanTryShard plan.now frame.old.stripe tried }
     requires few { length frame.old.objects.items < 2 ^ 32 }
-    ensures { ◌≡◌ {A = PartAfter (PoolPart P) P} (record { part = part.new; frame = frame.new; outcome = result }) (part_after settings.now (lifted (λ x. PoolPart.Shard x) (pick_on settings.now tried (shard_in part.old) frame.old))) }
+    ensures { ◌≡◌ {A = PartAfter (PoolPart P) P} (record { part = part.new; frame = frame.new; outcome = result }) (part_after (lifted (λ x. PoolPart.Shard x) (pick_on plan.now tried (shard_in part.old) frame.old))) }
 {
     match part {
-        PoolPart::Shard(shard) => shard_steps::pick(shard, settings, frame, tried),
+        PoolPart::Shard(shard) => shard_steps::pick(shard, plan, frame, tried),
         _ => unreachable!(),
     }
 }
 
 pub(crate) fn free_unknown<P: Pages>(
     part: &mut PoolPart<P>,
-    settings: &Settings,
+    plan: &Plan,
     alloc: Global,
     frame: &mut Frame<P>,
     slot: u32,
 ) -> Option<Outcome<P>>
     requires shard { IsShardPart part.old }
-    requires slots { 0 < settings.now.slots_per_shard }
-    requires used { IsSome (use_of (shard_in part.old) (local_of settings.now slot).0) }
-    ensures { ◌≡◌ {A = PartAfter (PoolPart P) P} (record { part = part.new; frame = frame.new; outcome = result }) (part_after settings.now (lifted (λ x. PoolPart.Shard x) (free_unknown_on settings.now slot (shard_in part.old) frame.old))) }
+    requires home { HasHome plan.now slot }
+    requires used { IsSome (use_of (shard_in part.old) (local_of plan.now slot).0) }
+    ensures { ◌≡◌ {A = PartAfter (PoolPart P) P} (record { part = part.new; frame = frame.new; outcome = result }) (part_after (lifted (λ x. PoolPart.Shard x) (free_unknown_on plan.now slot (shard_in part.old) frame.old))) }
 {
     match part {
-        PoolPart::Shard(shard) => shard_steps::free_unknown(shard, settings, alloc, frame, slot),
+        PoolPart::Shard(shard) => shard_steps::free_unknown(shard, plan, alloc, frame, slot),
         _ => unreachable!(),
     }
 }
 
 pub(crate) fn free<P: Pages>(
     part: &mut PoolPart<P>,
-    settings: &Settings,
+    plan: &Plan,
     alloc: Global,
     frame: &mut Frame<P>,
-    place: usize,
+    place: u32,
 ) -> Option<Outcome<P>>
     requires shard { IsShardPart part.old }
-    requires slots { 0 < settings.now.slots_per_shard }
-    requires used { AreUsedInTurn settings.now (freed_of settings.now place frame.old.freed.items) (shard_in part.old) }
-    requires bytes { All (λ x. x.bytes ≤ 2 ^ 32) frame.old.freed.items }
-    ensures { ◌≡◌ {A = PartAfter (PoolPart P) P} (record { part = part.new; frame = frame.new; outcome = result }) (part_after settings.now (lifted (λ x. PoolPart.Shard x) (free_on settings.now place (shard_in part.old) frame.old))) }
+    requires used { AreUsedInTurn plan.now (freed_of plan.now place frame.old.freed.items) (shard_in part.old) }
+    requires each { All (CanBeFreed plan.now) frame.old.freed.items }
+    ensures { ◌≡◌ {A = PartAfter (PoolPart P) P} (record { part = part.new; frame = frame.new; outcome = result }) (part_after (lifted (λ x. PoolPart.Shard x) (free_on plan.now place (shard_in part.old) frame.old))) }
 {
     match part {
-        PoolPart::Shard(shard) => shard_steps::free(shard, settings, alloc, frame, place),
+        PoolPart::Shard(shard) => shard_steps::free(shard, plan, alloc, frame, place),
         _ => unreachable!(),
     }
 }
@@ -87,7 +87,7 @@ pub(crate) fn take_region<P: Pages>(
     requires cell { IsMemoryPart part.old }
     requires there { is_taken (cell_of_part part.old).holds ≡ false }
     requires fresh { (region : _) → (cell_of_part part.old).holds ≡ unmapped region → IsFresh (count settings.now.page 0) (count settings.now.page 0) settings.now.max_memory_size None region }
-    ensures { ◌≡◌ {A = PartAfter (PoolPart P) P} (record { part = part.new; frame = frame.new; outcome = result }) (part_after settings.now (lifted (λ x. PoolPart.Memory x) (take_region_on settings.now slot (cell_of_part part.old) frame.old))) }
+    ensures { ◌≡◌ {A = PartAfter (PoolPart P) P} (record { part = part.new; frame = frame.new; outcome = result }) (part_after (lifted (λ x. PoolPart.Memory x) (take_region_on settings.now slot (cell_of_part part.old) frame.old))) }
 {
     match part {
         PoolPart::Memory(cell) => cell_steps::take_region(cell, settings, frame, slot),
@@ -97,23 +97,21 @@ pub(crate) fn take_region<P: Pages>(
 
 pub(crate) fn put_unknown<P: Pages>(
     part: &mut PoolPart<P>,
-    settings: &Settings,
     frame: &mut Frame<P>,
     slot: u32,
     held: MemoryImageSlot<P>,
 ) -> Option<Outcome<P>>
     requires cell { IsMemoryPart part.old }
-    ensures { ◌≡◌ {A = PartAfter (PoolPart P) P} (record { part = part.new; frame = frame.new; outcome = result }) (part_after settings.now (lifted (λ x. PoolPart.Memory x) (put_unknown_on slot held (cell_of_part part.old) frame.old))) }
+    ensures { ◌≡◌ {A = PartAfter (PoolPart P) P} (record { part = part.new; frame = frame.new; outcome = result }) (part_after (lifted (λ x. PoolPart.Memory x) (put_unknown_on slot held (cell_of_part part.old) frame.old))) }
 {
     match part {
-        PoolPart::Memory(cell) => cell_steps::put_unknown(cell, settings, frame, slot, held),
+        PoolPart::Memory(cell) => cell_steps::put_unknown(cell, frame, slot, held),
         _ => unreachable!(),
     }
 }
 
 pub(crate) fn put_region<P: Pages>(
     part: &mut PoolPart<P>,
-    settings: &Settings,
     alloc: Global,
     frame: &mut Frame<P>,
     item: QueuedSlot<P>,
@@ -122,27 +120,28 @@ pub(crate) fn put_region<P: Pages>(
     requires memory { item.name.kind ≡ SlotKind.Memory }
     requires settled { IsSettled item }
     requires room { length frame.old.freed.items < frame.old.freed.room }
-    ensures { ◌≡◌ {A = PartAfter (PoolPart P) P} (record { part = part.new; frame = frame.new; outcome = result }) (part_after settings.now (lifted (λ x. PoolPart.Memory x) (region_put item (cell_of_part part.old) frame.old))) }
+    ensures { ◌≡◌ {A = PartAfter (PoolPart P) P} (record { part = part.new; frame = frame.new; outcome = result }) (part_after (lifted (λ x. PoolPart.Memory x) (region_put item (cell_of_part part.old) frame.old))) }
 {
     match part {
-        PoolPart::Memory(cell) => cell_steps::put_region(cell, settings, alloc, frame, item),
+        PoolPart::Memory(cell) => cell_steps::put_region(cell, alloc, frame, item),
         _ => unreachable!(),
     }
 }
 
 pub(crate) fn take_queue<P: Pages>(
     part: &mut PoolPart<P>,
-    settings: &Settings,
+    plan: &Plan,
     alloc: Global,
     frame: &mut Frame<P>,
 ) -> Option<Outcome<P>>
     requires queue { IsQueuePart part.old }
     requires spare { IsSpareOf (queue_in part.old) frame.old.local }
-    requires taken { frame.old.queues + 1 < 2 ^ 64 }
-    ensures { ◌≡◌ {A = PartAfter (PoolPart P) P} (record { part = part.new; frame = frame.new; outcome = result }) (part_after settings.now (lifted (λ x. PoolPart.Queue x) (take_queue_on (queue_in part.old) frame.old))) }
+    requires taken { frame.old.queues + 1 < 2 ^ 32 }
+    requires stripe { frame.old.stripe < length plan.now.memories }
+    ensures { ◌≡◌ {A = PartAfter (PoolPart P) P} (record { part = part.new; frame = frame.new; outcome = result }) (part_after (lifted (λ x. PoolPart.Queue x) (take_queue_on plan.now (queue_in part.old) frame.old))) }
 {
     match part {
-        PoolPart::Queue(queue) => queue_steps::take_queue(queue, settings, alloc, frame),
+        PoolPart::Queue(queue) => queue_steps::take_queue(queue, plan, alloc, frame),
         _ => unreachable!(),
     }
 }
@@ -155,7 +154,7 @@ pub(crate) fn merge<P: Pages>(
 ) -> Option<Outcome<P>>
     requires queue { IsQueuePart part.old }
     requires can { CanMerge (queue_in part.old) frame.old.local }
-    ensures { ◌≡◌ {A = PartAfter (PoolPart P) P} (record { part = part.new; frame = frame.new; outcome = result }) (part_after settings.now (lifted (λ x. PoolPart.Queue x) (merge_on settings.now (queue_in part.old) frame.old))) }
+    ensures { ◌≡◌ {A = PartAfter (PoolPart P) P} (record { part = part.new; frame = frame.new; outcome = result }) (part_after (lifted (λ x. PoolPart.Queue x) (merge_on settings.now (queue_in part.old) frame.old))) }
 {
     match part {
         PoolPart::Queue(queue) => queue_steps::merge(queue, settings, alloc, frame),

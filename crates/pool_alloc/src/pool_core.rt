@@ -1,5 +1,6 @@
 use crate::parts::Parts;
 use pool_pages::{DecommitBehavior, HostAlignedByteCount, MemoryTunables, PageSize, Pages};
+use pool_slots::Plan;
 
 /// How many grants of a kind there are, and how many calls on the key counter there were.
 #[derive(Clone, Copy, Debug, PartialEq, Eq)]
@@ -23,13 +24,6 @@ pub struct Settings {
     pub keep_resident: HostAlignedByteCount,
     /// At how many ranges a queue is flushed.
     pub batch: usize,
-    pub stripes: u32,
-    /// How many memory slots, shards and queues the pool has.
-    pub slots: usize,
-    pub shards: usize,
-    pub queues: usize,
-    /// The slots of each shard but the last, which has the rest.
-    pub slots_per_shard: u32,
     pub max_core_instances: u64,
     pub max_memories_per_module: u32,
     pub tunables: MemoryTunables,
@@ -39,8 +33,10 @@ pub struct Settings {
 /// calls on it step by step, each in a frame of its own.
 #[derive(Drop)]
 pub struct PoolCore<P: Pages> {
-    /// The shards, the cells of the slots, and the queues, in this order.
+    /// The shards, the cells of the slots, and the queues, where the plan has them.
     pub parts: Parts<P>,
     pub counters: Counters,
     pub settings: Settings,
+    /// Each stripe has an allocator of memories.
+    pub plan: Plan,
 }

@@ -1,4 +1,4 @@
-ghost use Rattle.std.specs.Prelude.{◌≡◌, ◌+◌, ◌<◌, ◌≤◌, ◌^◌};
+ghost use Rattle.std.specs.Prelude.{◌≡◌, ◌+◌, ◌<◌, ◌≤◌, ◌^◌, length};
 ghost use Rattle.pool_slots.specs.SlotQueues.{Queue, IsSpareOf};
 ghost use Rattle.pool_slots.specs.QueueMerges.{CanMerge};
 ghost use Rattle.pool_alloc.specs.Rows.{take_queue_on, merge_on};
@@ -7,26 +7,27 @@ ghost use Rattle.pool_alloc.specs.Turns.{PartAfter, part_after};
 use crate::frame::{Frame, Outcome};
 use crate::pool_core::Settings;
 use pool_pages::Pages;
-use pool_slots::DecommitQueue;
+use pool_slots::{DecommitQueue, Plan};
 use std::alloc::Global;
 
 // Takes a whole queue. It is flushed where it holds something.
 pub(crate) fn take_queue<P: Pages>(
     queue: &mut DecommitQueue<P>,
-    settings: &Settings,
+    plan: &Plan,
     alloc: Global,
     frame: &mut Frame<P>,
 ) -> Option<Outcome<P>>
     requires spare { IsSpareOf queue.old frame.old.local }
-    requires taken { frame.old.queues + 1 < 2 ^ 64 }
-    ensures { ◌≡◌ {A = PartAfter Queue P} (record { part = queue.new; frame = frame.new; outcome = result }) (part_after settings.now (take_queue_on queue.old frame.old)) }
+    requires taken { frame.old.queues + 1 < 2 ^ 32 }
+    requires stripe { frame.old.stripe < length plan.now.memories }
+    ensures { ◌≡◌ {A = PartAfter Queue P} (record { part = queue.new; frame = frame.new; outcome = result }) (part_after (take_queue_on plan.now queue.old frame.old)) }
 {
     queue.take(&mut frame.local);
     frame.queues += 1;
     if frame.local.is_empty() {
-        frame.search(settings)
+        frame.search_memory(plan)
     } else {
-        frame.flush(alloc, settings)
+        frame.flush(alloc)
     }
 }
 
@@ -38,11 +39,11 @@ pub(crate) fn merge<P: Pages>(
     frame: &mut Frame<P>,
 ) -> Option<Outcome<P>>
     requires { CanMerge queue.old frame.old.local }
-    ensures { ◌≡◌ {A = PartAfter Queue P} (record { part = queue.new; frame = frame.new; outcome = result }) (part_after settings.now (merge_on settings.now queue.old frame.old)) }
+    ensures { ◌≡◌ {A = PartAfter Queue P} (record { part = queue.new; frame = frame.new; outcome = result }) (part_after (merge_on settings.now queue.old frame.old)) }
 {
     if queue.merge(&mut frame.local, settings.batch) {
-        frame.flush(alloc, settings)
+        frame.flush(alloc)
     } else {
-        frame.next(alloc, settings)
+        frame.next(alloc)
     }
 }

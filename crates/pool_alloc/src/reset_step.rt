@@ -10,7 +10,7 @@ ghost use Rattle.pool_alloc.specs.Turns.{After, Left, after, stepped};
 
 use crate::frame::{Frame, Outcome, Phase, TakenSlot};
 use crate::lease::MemoryLease;
-use crate::pool_core::{PoolCore, Settings};
+use crate::pool_core::PoolCore;
 use pool_images::{MemoryImageSlot, Ranges};
 use pool_pages::Pages;
 use pool_slots::{HeldSlot, QueueKind, QueuedSlot};
@@ -40,7 +40,7 @@ impl<P: Pages> PoolCore<P> {
         let item = memory_queued(at, slot, kept);
         let listed = ranges.as_slice();
         frame.local.push_reset(QueueKind::Memory, item, listed);
-        was_reset(alloc, &self.settings, frame)
+        was_reset(alloc, self.settings.batch, frame)
     }
 }
 
@@ -68,16 +68,12 @@ fn slot_taken<P: Pages>(lease: &MemoryLease<P>) -> TakenSlot
 }
 
 // What comes after a reset.
-fn was_reset<P: Pages>(
-    alloc: Global,
-    settings: &Settings,
-    frame: &mut Frame<P>,
-) -> Option<Outcome<P>>
-    ensures { ◌≡◌ {A = Left P} (record { frame = frame.new; outcome = result }) (after settings.now frame.old (reset_turn settings.now.batch frame.old.local)) }
+fn was_reset<P: Pages>(alloc: Global, batch: usize, frame: &mut Frame<P>) -> Option<Outcome<P>>
+    ensures { ◌≡◌ {A = Left P} (record { frame = frame.new; outcome = result }) (after frame.old (reset_turn batch frame.old.local)) }
 {
     let ranges = frame.local.raw_len();
-    if ranges == 0 || settings.batch <= ranges {
-        return frame.flush(alloc, settings);
+    if ranges == 0 || batch <= ranges {
+        return frame.flush(alloc);
     }
     frame.phase = Phase::Merge;
     None

@@ -1,15 +1,16 @@
 ghost use Rattle.std.specs.Prelude.{◌≡◌, ◌+◌, ◌<◌, ◌≤◌, ◌^◌, ◌/◌, nat_lt, length, All, IsSome, None, option_map, if◌then◌else◌};
 ghost use Rattle.pool_index.specs.Shard.{ShardState, IsShard, IsSameShard, use_of, pick_answer, after_pick, after_free, slot_number};
-ghost use Rattle.pool_alloc.specs.Freeing.{AreUsedInTurn};
+ghost use Rattle.pool_alloc.specs.CanStep.{CanTryShard};
+ghost use Rattle.pool_alloc.specs.Freeing.{AreUsedInTurn, HasHome, CanBeFreed};
 ghost use Rattle.pool_alloc.specs.Rows.{picked, pick_on, free_unknown_on, free_on};
-ghost use Rattle.pool_alloc.specs.Steps.{local_of, freed_of};
-ghost use Rattle.pool_alloc.specs.Turns.{Left, PartAfter, after, part_after, goes, search};
+ghost use Rattle.pool_alloc.specs.Steps.{local_of, freed_of, allocator_for};
+ghost use Rattle.pool_alloc.specs.Turns.{Left, PartAfter, after, part_after, goes, memory_search};
 
 use crate::frame::{Frame, Outcome, Phase};
-use crate::freeing::free_all;
-use crate::pool_core::Settings;
+use crate::freeing::{free_all, home};
 use pool_index::{MemoryInModule, Shard, SlotId, Steps};
 use pool_pages::Pages;
+use pool_slots::Plan;
 use std::alloc::Global;
 use std::marker::Brand;
 use std::sync::ledger::{Blank, Ledger};
@@ -17,71 +18,67 @@ use std::sync::ledger::{Blank, Ledger};
 // Picks a slot from a shard, which is so many after the home shard.
 pub(crate) fn pick<P: Pages>(
     shard: &mut Shard,
-    settings: &Settings,
+    plan: &Plan,
     frame: &mut Frame<P>,
-    tried: usize,
+    tried: u32,
 ) -> Option<Outcome<P>>
-    requires tried { tried + 1 < 2 ^ 64 }
+    requires tries { CanTryShard plan.now frame.old.stripe tried }
     requires few { length frame.old.objects.items < 2 ^ 32 }
-    ensures { ◌≡◌ {A = PartAfter ShardState P} (record { part = shard.new; frame = frame.new; outcome = result }) (part_after settings.now (pick_on settings.now tried shard.old frame.old)) }
+    ensures { ◌≡◌ {A = PartAfter ShardState P} (record { part = shard.new; frame = frame.new; outcome = result }) (part_after (pick_on plan.now tried shard.old frame.old)) }
 {
     match pick_of::<Brand>(shard, frame.wanted(), Blank::new(1)) {
         Some(slot) => {
             frame.phase = Phase::TakeRegion(slot);
             None
         }
-        None => pick_next(settings, frame, tried),
+        None => pick_next(plan, frame, tried),
     }
 }
 
 // The shard had no slot: the next is tried, unless it was the last.
-fn pick_next<P: Pages>(
-    settings: &Settings,
-    frame: &mut Frame<P>,
-    tried: usize,
-) -> Option<Outcome<P>>
-    requires { tried + 1 < 2 ^ 64 }
-    ensures { ◌≡◌ {A = Left P} (record { frame = frame.new; outcome = result }) (after settings.now frame.old (if nat_lt (tried + 1) settings.now.shards then goes (Phase.Pick (tried + 1)) else search)) }
+fn pick_next<P: Pages>(plan: &Plan, frame: &mut Frame<P>, tried: u32) -> Option<Outcome<P>>
+    requires { CanTryShard plan.now frame.old.stripe tried }
+    ensures { ◌≡◌ {A = Left P} (record { frame = frame.new; outcome = result }) (after frame.old (if nat_lt (tried + 1) (allocator_for plan.now frame.old).shards then goes (Phase.Pick (tried + 1)) else memory_search plan.now frame.old)) }
 {
-    if tried + 1 < settings.shards {
+    let shards = frame.allocator(plan).shards;
+    if tried + 1 < shards {
         frame.phase = Phase::Pick(tried + 1);
         return None;
     }
-    frame.search(settings)
+    frame.search_memory(plan)
 }
 
 // Frees a slot of a shard. Nothing is known of it.
 pub(crate) fn free_unknown<P: Pages>(
     shard: &mut Shard,
-    settings: &Settings,
+    plan: &Plan,
     alloc: Global,
     frame: &mut Frame<P>,
     slot: u32,
 ) -> Option<Outcome<P>>
-    requires slots { 0 < settings.now.slots_per_shard }
-    requires used { IsSome (use_of shard.old (local_of settings.now slot).0) }
-    ensures { ◌≡◌ {A = PartAfter ShardState P} (record { part = shard.new; frame = frame.new; outcome = result }) (part_after settings.now (free_unknown_on settings.now slot shard.old frame.old)) }
+    requires home { HasHome plan.now slot }
+    requires used { IsSome (use_of shard.old (local_of plan.now slot).0) }
+    ensures { ◌≡◌ {A = PartAfter ShardState P} (record { part = shard.new; frame = frame.new; outcome = result }) (part_after (free_unknown_on plan.now slot shard.old frame.old)) }
 {
-    let local = SlotId(slot % settings.slots_per_shard);
+    let local = home(plan, slot).local;
     free_of::<Brand>(shard, local, 0, Blank::new(1));
-    frame.next(alloc, settings)
+    frame.next(alloc)
 }
 
-// Frees all slots of shard `place` that wait to be freed.
+// Frees all slots that wait to be freed and are at home in the shard, which has this place.
 pub(crate) fn free<P: Pages>(
     shard: &mut Shard,
-    settings: &Settings,
+    plan: &Plan,
     alloc: Global,
     frame: &mut Frame<P>,
-    place: usize,
+    place: u32,
 ) -> Option<Outcome<P>>
-    requires slots { 0 < settings.now.slots_per_shard }
-    requires used { AreUsedInTurn settings.now (freed_of settings.now place frame.old.freed.items) shard.old }
-    requires bytes { All (λ x. x.bytes ≤ 2 ^ 32) frame.old.freed.items }
-    ensures { ◌≡◌ {A = PartAfter ShardState P} (record { part = shard.new; frame = frame.new; outcome = result }) (part_after settings.now (free_on settings.now place shard.old frame.old)) }
+    requires used { AreUsedInTurn plan.now (freed_of plan.now place frame.old.freed.items) shard.old }
+    requires each { All (CanBeFreed plan.now) frame.old.freed.items }
+    ensures { ◌≡◌ {A = PartAfter ShardState P} (record { part = shard.new; frame = frame.new; outcome = result }) (part_after (free_on plan.now place shard.old frame.old)) }
 {
-    free_all(shard, settings, place, &mut frame.freed);
-    frame.flush(alloc, settings)
+    free_all(shard, plan, place, &mut frame.freed);
+    frame.flush(alloc)
 }
 
 // Picks a slot of the shard, and gives its number in the pool. The shard's steps are counted nowhere.

@@ -38,7 +38,7 @@ impl<P: Pages> PoolCore<P> {
         ensures heaps { heaps.new ≡ heaps.old }
         ensures can { CanStep maker self.new frame.new }
         ensures conserves { Conserves self.old frame.old (record { core = self.new; frame = frame.new; outcome = result }) }
-        ensures granted { IfGranted (IsGrantOf maker self.old.settings frame.old.asked) result }
+        ensures granted { IfGranted (IsGrantOf maker self.old.settings self.old.plan frame.old.asked) result }
         ensures goes { GoesOn maker (limiter_told R.told (option_copied_mut limiter.entry)) (limiter_told R.told (option_left limiter.exit)) self.old frame.old (record { core = self.new; frame = frame.new; outcome = result }) }
         ensures searched { IsSearched self.old frame.old → IsSearched self.new frame.new }
         ensures ended { EndsWith self.old frame.old (record { core = self.new; frame = frame.new; outcome = result }) }

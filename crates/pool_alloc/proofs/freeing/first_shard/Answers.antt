@@ -1,20 +1,21 @@
 use Rattle.std.proofs.Common.{◌≡◌, ◌<◌, length, take, length-take, get_or, refl, sym, ap, ◌∙◌, ◌+◌, arith}
 use Rattle.std.specs.Prelude.{min}
 use Rattle.std.proofs.lemmas.List.{take_more}
+use Rattle.pool_slots.specs.declared.plan.Home.{Home}
 use Rattle.pool_alloc.specs.Steps.{first_shard, shard_of}
 use Rattle.pool_alloc.proofs.FreeTurns.{first_more}
 use Rattle.pool_alloc.proofs.freeing.first_shard.Goals as goal
 
 pub loop-at-preserved : goal.loop-at-preserved
 loop-at-preserved c =
-    let s = c.args.settings.now in
+    let plan = c.args.plan.now in
     let xs = c.args.freed.now.items in
     let i = c.loop-at.at in
     let x = c.get-in-loop-at.result.now in
     let inside : i < length xs = omega (arith, c.loop-at.invariant.all, c.loop-at-test.true) in
     let some : 0 < length (take i xs) = omega (arith, length-take i xs, c.loop-at.invariant.some) in
-    let now : shard_of s (get_or xs i x).slot ≡ c.shard_of.result = ap (λ y. shard_of s y.slot) (sym c.get-in-loop-at.ensures) ∙ sym c.shard_of.ensures in
-    let more : first_shard s (take (i + 1) xs) ≡ min (first_shard s (take i xs)) (shard_of s (get_or xs i x).slot) = ap (first_shard s) (take_more xs i x inside) ∙ first_more s (take i xs) (get_or xs i x) some in
+    let now : shard_of plan (get_or xs i x).slot ≡ c.home.result.place = ap (λ y. shard_of plan y.slot) (sym c.get-in-loop-at.ensures) ∙ ap (λ (h : Home). h.place) (sym c.home.ensures) in
+    let more : first_shard plan (take (i + 1) xs) ≡ min (first_shard plan (take i xs)) (shard_of plan (get_or xs i x).slot) = ap (first_shard plan) (take_more xs i x inside) ∙ first_more plan (take i xs) (get_or xs i x) some in
     record {
       first = rw (c.min-first.ensures, more, now, c.loop-at.invariant.first) refl;
       some = omega (arith, c.loop-at.invariant.some);

@@ -5,7 +5,7 @@ use Rattle.pool_alloc.proofs.freeing.first_shard.Given as goal
 -- the first shard of the slots so far
 abbrev pub invariant-loop-at : goal.invariant-loop-at
 invariant-loop-at l = record {
-  first : l.first ≡ first_shard l.settings (take l.at l.freed.items);
+  first : l.first ≡ first_shard l.plan (take l.at l.freed.items);
   some : 1 ≤ l.at;
   all : l.count ≡ length l.freed.items;
 }

@@ -1,7 +1,5 @@
 use Rattle.std.proofs.Common.{ap, ◌∙◌}
-use Rattle.pool_slots.specs.Cells.{Cell}
 use Rattle.pool_slots.specs.Parts.{cell_of_part}
-use Rattle.pool_slots.specs.declared.part.PoolPart.{PoolPart}
 use Rattle.pool_alloc.proofs.part_steps.take_region.Goals as goal
 
 pub take_region-requires-clause-fresh : goal.take_region-requires-clause-fresh

@@ -29,4 +29,4 @@ put_region-requires-clause-cell g c m rest is =
     let some : (length c.args.frame.now.local.slots == 0) ≡ false = sym c.is_empty.ensures.value ∙ c.if-is_empty.false in
     let F : FlushStep → Type 0 = λ x. CanFlush x c.args.self.now c.args.frame.now in
     let can : F put = subst F (flush_puts c.args.frame.now.local none some) c.requires in
-    can.1 m rest is
+    can.0 m rest is

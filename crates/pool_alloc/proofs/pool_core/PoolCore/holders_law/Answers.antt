@@ -8,4 +8,4 @@ pub returns-clause-fits : goal.returns-clause-fits
 returns-clause-fits g c = λ holders i d rest whole slots below is more. whole_fits c.args.self.now c.args.frame.now holders i d rest whole slots below is more
 
 pub returns-clause-apart : goal.returns-clause-apart
-returns-clause-apart g c = λ holders i j k d whole below also other. slots_apart c.args.self.now holders i j k d whole below also other
+returns-clause-apart g c = λ maker holders i j k d core whole below also other. slots_apart maker c.args.self.now holders i j k d core whole below also other

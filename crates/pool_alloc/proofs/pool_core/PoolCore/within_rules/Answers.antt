@@ -1,4 +1,4 @@
-use Rattle.std.proofs.Common.{◌≡◌, ℕ, ◌+◌, ◌^◌, ◌≤◌, arith, ◌*◌, List, [], ◌∷◌, length, refl, sym, ap, subst, ◌∙◌}
+use Rattle.std.proofs.Common.{◌≡◌, ℕ, ◌+◌, ◌^◌, ◌≤◌, arith, ◌*◌, List, [], ◌∷◌, refl, sym, ap, subst, ◌∙◌}
 use Rattle.pool_pages.specs.Count.{IsPageSize, rounded_up}
 use Rattle.pool_pages.specs.declared.pages.DecommitBehavior.{DecommitBehavior}
 use Rattle.pool_slots.specs.Cells.{unmapped, region_made}
@@ -6,6 +6,10 @@ use Rattle.pool_slots.specs.RegionCells.{CellState, memory_cell, no_cell}
 use Rattle.pool_slots.specs.SlotQueues.{Queue, empty_queue}
 use Rattle.pool_slots.proofs.Fresh.{cells_made}
 use Rattle.pool_images.proofs.PageSizes.{rounded_leaves}
+use Rattle.std.proofs.Common.{◌<◌}
+use Rattle.pool_slots.specs.PlansMade.{IsPlanOf, HaveShards, places_planned}
+use Rattle.pool_slots.specs.declared.plan_maker.PlanSettings.{PlanSettings}
+use Rattle.pool_alloc.proofs.MadePools.{shards_made}
 use Rattle.pool_alloc.specs.Made.{settings_of}
 use Rattle.std.specs.Prelude.{◌++◌, map, slice_index_or}
 use Rattle.pool_hall.specs.declared.unit_name.SlotKind.TheVariants.{Memory as memory_kind}
@@ -20,6 +24,9 @@ rounded_up_unchecked-len-requires g c =
     let size : c.settings_of-settings.result.max_memory_size ≡ rounded_up c.args.page c.args.config.now.limits.max_memory_size = ap (λ (s : Settings). s.max_memory_size) c.settings_of-settings.ensures in
     omega (arith, size, rounded_leaves c.args.page c.args.config.now.limits.max_memory_size c.get-bytes.ensures.valid c.requires.size, c.get-bytes.ensures.valid.at_least)
 
+pub make_plan-requires : goal.make_plan-requires
+make_plan-requires g c = subst (λ (z : PlanSettings). HaveShards z) (sym c.plan_settings-numbers.ensures) (shards_made c.args.config.now)
+
 pub returns-clause-made : goal.returns-clause-made
 returns-clause-made g c =
     let config = c.args.config.now in
@@ -30,6 +37,8 @@ returns-clause-made g c =
     let warm : ℕ = config.max_unused_warm_slots in
     let cells : List CellState = c.in_ok-cells.cells.items in
     record {
+      plan = subst (λ (z : PlanSettings). IsPlanOf z c.in-Ok.plan) c.plan_settings-numbers.ensures c.in-Ok.ensures.plan;
+      few = subst (λ (z : PlanSettings). places_planned z < 2 ^ 32) c.plan_settings-numbers.ensures c.in-Ok.ensures.bounded;
       settings = c.settings_of-settings.ensures ∙ ap (λ (n : ℕ). settings_of n config c.args.tunables.now c.args.offered.now) c.requires.page;
       parts = parts_made (g.M.PageMaker.told c.args.maker.now) settings.behaviour settings.max_memory_size total warm config.decommit_batch_size cells _ made.count
           (λ i below.
