@@ -1,13 +1,12 @@
 -- How far a turn takes a party: its call goes on, and has fewer steps left, or it ends, or the next one begins.
 use Rattle.std.proofs.Common.{◌≡◌, ℕ, ◌+◌, ◌<◌, ◌≤◌, Bool, true, false, List, length, get_or, Option, Some, None, refl, sym, ap, ◌∙◌, subst, inl, inr, arith}
-use Rattle.std.specs.Prelude.{◌==◌, ◌&&◌, not, nat_lt, if◌then◌else◌, is_some, IfSome, slice_get, slice_set, slice_index_or}
+use Rattle.std.specs.Prelude.{◌&&◌, not, nat_lt, is_some, IfSome, slice_get, slice_set, slice_index_or}
 use Rattle.std.proofs.lemmas.Bool.{lt-ltb, le-ltb, cases_lt}
 use Rattle.std.proofs.lemmas.Option.{slice_get_within, slice_get-get_or}
 use Rattle.pool_pages.specs.MakerTold.{MakerTold}
-use Rattle.pool_pages.specs.declared.module_types.ModuleInfo.{ModuleInfo}
 use Rattle.pool_index.specs.Shard.{one_if}
 use Rattle.pool_slots.specs.declared.errors.AllocError.TheVariants as alloc
-use Rattle.pool_alloc.specs.Bounds.{instance_bound, pool_sizes, bound_of, steps_left}
+use Rattle.pool_alloc.specs.Bounds.{bound_of, steps_left}
 use Rattle.pool_alloc.specs.Calls.{IsIdle, begun_call}
 use Rattle.pool_alloc.specs.Turns.{After}
 use Rattle.pool_alloc.specs.Stepping.{is_idle}
@@ -15,7 +14,6 @@ use Rattle.pool_alloc.specs.declared.pool_core.PoolCore.{PoolCore}
 use Rattle.pool_alloc.specs.declared.frame.Call.TheVariants as call
 use Rattle.pool_alloc.specs.declared.frame.Frame.{Frame}
 use Rattle.pool_alloc.specs.declared.frame.Grant.{Grant}
-use Rattle.pool_alloc.specs.declared.frame.Grant.TheVariants.{Instance as instance}
 use Rattle.pool_alloc.specs.Asked.{ModuleAsked}
 use Rattle.pool_alloc.specs.declared.frame.Outcome.{Outcome}
 use Rattle.pool_alloc.specs.declared.frame.Outcome.TheVariants as answer

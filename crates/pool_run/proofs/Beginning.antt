@@ -1,6 +1,6 @@
 -- The first step of a command, and each turn, as the party sees it.
 use Rattle.std.proofs.Common.{◌≡◌, ℕ, ◌+◌, ◌<◌, ◌≤◌, Bool, true, false, List, length, Option, Some, None, refl, sym, ap, ◌∙◌, subst, inl, inr, arith}
-use Rattle.std.specs.Prelude.{◌==◌, if◌then◌else◌, IfSome, IsSome, option_map, slice_get, slice_set, slice_index_or}
+use Rattle.std.specs.Prelude.{IfSome, IsSome, option_map, slice_get, slice_set, slice_index_or}
 use Rattle.std.proofs.lemmas.Option.{slice_get_within}
 use Rattle.pool_slots.specs.declared.errors.AllocError.TheVariants as alloc
 use Rattle.pool_alloc.specs.Calls.{IsIdle, begun_call}
@@ -10,9 +10,7 @@ use Rattle.pool_alloc.specs.declared.frame.Call.TheVariants as call
 use Rattle.pool_alloc.specs.declared.frame.Frame.{Frame}
 use Rattle.pool_alloc.specs.Asked.{ModuleAsked}
 use Rattle.pool_alloc.specs.declared.frame.Grant.{Grant}
-use Rattle.pool_alloc.specs.declared.frame.Grant.TheVariants.{Instance as instance}
 use Rattle.pool_alloc.specs.declared.frame.Phase.{Phase}
-use Rattle.pool_alloc.specs.declared.frame.Phase.TheVariants.{Key}
 use Rattle.pool_alloc.specs.Stages.{Stage, no_call, stage_at, stage_of}
 use Rattle.pool_run.specs.PartyRules.{rule_of}
 use Rattle.pool_run.specs.Private.{PrivateInstance, Grants, grant_at, request_of, MovesGrants, Drops, private_memories}
@@ -90,7 +88,7 @@ module _ {P : Type 0} (w : World) (start : Grants) (commands : List Command) (be
     moves_seen op of k live reply t is next follows =
         let seen : MovesObject private_memories (SeesMove w op) of k (grants_of p.live) reply (grants_of live) =
         on_seen memory_leases private_memories private_grant private_memory (memories_seen P) (LeaseMoves op (rule_of p.limits)) (SeesMove w op) of k p.live live reply
-        (λ m. op_seen w c.settings (rule_of p.limits) op m.old m.changed reply ruled (lease_held w.maker c p of k m.grant m.old can.party.sound m.granted m.there) m.move) is in
+        (λ m. op_seen w c.settings c.plan (rule_of p.limits) op m.old m.changed reply ruled (lease_held w.maker c p of k m.grant m.old can.party.sound m.granted m.there) m.move) is in
         let On : Grants → Type 0 = λ g. MovesObject private_memories (SeesMove w op) of k g reply (grants_of live) in
         let on : On private.grants = subst On told_now seen in
         ends_seen (on_memory of k op) live reply t next

@@ -71,7 +71,7 @@ fits_of : (page m : ℕ) (image : Option Image) → IfSome image (FitsInto page 
 fits_of page m None fits = fits
 fits_of page m (Some i) fits = fits.inside
 
-told_if : {X : Type 0} (b : Bool) (x : X) → is_some (if b then Some x else None) ≡ b
+pub told_if : {X : Type 0} (b : Bool) (x : X) → is_some (if b then Some x else None) ≡ b
 told_if true x = refl
 told_if false x = refl
 

@@ -1,5 +1,5 @@
 -- The calls for modules, as they are made one after another.
-use Rattle.std.proofs.Common.{◌≡◌, ℕ, ◌+◌, ◌<◌, List, [], ◌∷◌, ◌++◌, length, take, get_or, refl, sym, ap, ◌∙◌, arith}
+use Rattle.std.proofs.Common.{◌≡◌, ℕ, ◌+◌, ◌<◌, List, [], ◌∷◌, ◌++◌, length, take, get_or, sym, ap, ◌∙◌, arith}
 use Rattle.std.proofs.lemmas.List.{take_more}
 use Rattle.pool_pages.specs.declared.module_types.ModuleInfo.{ModuleInfo}
 use Rattle.pool_pages.specs.declared.module_types.Tunables.{Tunables}

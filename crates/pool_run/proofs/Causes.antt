@@ -33,9 +33,8 @@ abbrev pub ComesFor : World → Request → Grants → AllocError → Type 0
 ComesFor w request told e = IsGiven w.terms request.wants e × IsForRoom w request told e
 
 -- no slot is free for memory k
-pub slots_given : (w : World) (request : Request) (told : Grants) (total stripe stripes k : ℕ) → w.terms.slots ≡ total → stripe < stripes → stripes ≡ 1 → k < slots_asked w.terms.rule request.wants → (w.alone ≡ true → w.terms.slots ≤ live_count told + k) → ComesFor w request told (alloc.Limit (record { limit = total; kind = MemoryStripe stripe }))
-slots_given w request told total stripe stripes k is under one asked full =
-    let first : stripe ≡ 0 = omega (arith, under, one) in
+pub slots_given : (w : World) (request : Request) (told : Grants) (total stripe k : ℕ) → w.terms.slots ≡ total → stripe ≡ 0 → k < slots_asked w.terms.rule request.wants → (w.alone ≡ true → w.terms.slots ≤ live_count told + k) → ComesFor w request told (alloc.Limit (record { limit = total; kind = MemoryStripe stripe }))
+slots_given w request told total stripe k is first asked full =
     let E : ℕ → ℕ → AllocError = λ n i. alloc.Limit (record { limit = n; kind = MemoryStripe i }) in
     ((no_slot k, ap (λ (i : ℕ). E total i) first ∙ ap (λ (n : ℕ). E n 0) (sym is), asked), λ alone. (k, asked, full alone))
 

@@ -5,14 +5,13 @@ use Rattle.pool_alloc.specs.Asked.{ModuleAsked}
 use Rattle.pool_alloc.specs.Leases.{Lease}
 use Rattle.pool_alloc.specs.Stepping.{is_idle}
 use Rattle.pool_alloc.specs.Steps.{memories_wanted}
-use Rattle.pool_alloc.specs.Turns.{Turn, goes, ends, next, flush, search, Row, Left, failing, returned_next, granted_next, next_by, is_flushed, no_slot_left, after, stepped}
+use Rattle.pool_alloc.specs.Turns.{Turn, goes, ends, next, flush, search, Row, Left, failing, returned_next, granted_next, next_by, is_flushed, after, stepped}
 use Rattle.pool_alloc.specs.declared.frame.Ending.{Ending}
 use Rattle.pool_alloc.specs.declared.frame.Ending.TheVariants.{Granted as granted, Returned as returned, Refused as refused}
 use Rattle.pool_alloc.specs.declared.frame.Frame.{Frame}
 use Rattle.pool_alloc.specs.declared.frame.Phase.{Phase}
 use Rattle.pool_alloc.specs.declared.frame.Phase.TheVariants.{Idle}
 use Rattle.pool_alloc.specs.declared.pool_core.PoolCore.{PoolCore}
-use Rattle.pool_alloc.specs.declared.pool_core.Settings.{Settings}
 
 -- nothing is left of a call
 pub record IsClear (asked : Option ModuleAsked) (ending : Ending) (queues : ℕ) : Type 0 where
@@ -45,16 +44,16 @@ module _ {P : Type 0} where
   next_clear returned f = returned_clear f.objects.items f
   next_clear (refused e) f = returned_clear f.objects.items f
 
-  after_clear : (s : Settings) (f : Frame P) (t : Turn P) → IsClearLeft (after s f t)
-  after_clear s f (goes phase) = λ e. absurd cc
-  after_clear s f (ends outcome) = λ e. record { asked_for = refl; aim = refl; none_taken = refl }
-  after_clear s f next = next_clear f.ending f
-  after_clear s f flush = either_clear (is_flushed f) _ _ (next_clear f.ending f) (λ e. absurd cc)
-  after_clear s f search = either_clear (nat_lt f.queues s.queues) _ _ (λ e. absurd cc) (returned_clear f.objects.items (failing (no_slot_left s f) f))
+  after_clear : (f : Frame P) (t : Turn P) → IsClearLeft (after f t)
+  after_clear f (goes phase) = λ e. absurd cc
+  after_clear f (ends outcome) = λ e. record { asked_for = refl; aim = refl; none_taken = refl }
+  after_clear f next = next_clear f.ending f
+  after_clear f flush = either_clear (is_flushed f) _ _ (next_clear f.ending f) (λ e. absurd cc)
+  after_clear f (search queues e) = either_clear (nat_lt f.queues queues) _ _ (λ some. absurd cc) (returned_clear f.objects.items (failing e f))
 
   -- So a frame is after a step, where it answers.
   pub stepped_clear : (r : Row (PoolCore P) P) → is_some (stepped r).outcome ≡ true → IsClear (stepped r).frame.asked (stepped r).frame.ending (stepped r).frame.queues
-  stepped_clear r some = after_clear r.part.settings r.frame r.turn some
+  stepped_clear r some = after_clear r.frame r.turn some
 
   -- Such a frame is what the end of a request leaves of it.
   pub clear_is : (f : Frame P) → f.phase ≡ Idle → IsClear f.asked f.ending f.queues → record f { phase = Idle; asked = None; ending = returned; queues = 0 } ≡ f

@@ -1,12 +1,12 @@
 -- No counter of a run comes to its end: there are no more instances than commands, and no more memories than slots.
 use Rattle.std.proofs.Common.{◌≡◌, ℕ, ◌+◌, ◌^◌, ◌<◌, ◌≤◌, List, length, Option, Some, None, refl, ap, inl, inr, arith}
-use Rattle.std.specs.Prelude.{sum_by}
-use Rattle.std.proofs.lemmas.Bool.{cases_lt, le-ltb}
+use Rattle.std.specs.Prelude.{sum_by, ◌-◌}
+use Rattle.std.proofs.lemmas.Bool.{cases_lt, le-ltb, cases_eq}
 use Rattle.std.proofs.lemmas.List.Sums.{sum_by-le-sum_by}
 use Rattle.pool_pages.specs.MakerTold.{MakerTold}
 use Rattle.pool_index.specs.Shard.{one_if}
 use Rattle.pool_alloc.specs.Leases.{Lease}
-use Rattle.pool_alloc.specs.Places.{right_to, both_count, leased_count, made_count, phase_count, phase_instances, phase_memories}
+use Rattle.pool_alloc.specs.Places.{right_to, both_count, leased_count, phase_count, phase_instances, phase_memories}
 use Rattle.pool_alloc.specs.Stepping.{CanCount, grant_count, grant_instances, grant_memories}
 use Rattle.pool_alloc.specs.declared.pool_core.PoolCore.{PoolCore}
 use Rattle.pool_alloc.specs.declared.frame.Grant.{Grant}
@@ -14,21 +14,33 @@ use Rattle.pool_alloc.specs.declared.frame.Grant.TheVariants.{Instance as instan
 use Rattle.pool_alloc.specs.declared.frame.Phase.{Phase}
 use Rattle.pool_alloc.specs.declared.frame.Phase.TheVariants.{Idle, UncountMemory}
 use Rattle.pool_alloc.proofs.Below.{below, below_sum, below_le, below_most, below_one, sum_below, ones}
-use Rattle.pool_alloc.proofs.Held.{made_once}
-use Rattle.pool_alloc.proofs.SlotCounts.{slot_once}
+use Rattle.pool_run.proofs.SlotsMade.{made_slot, made_once, away_made}
+use Rattle.pool_alloc.proofs.SlotCounts.{slot_once, region_rights}
 use Rattle.pool_run.specs.Ties.{granted_to, held_by_party, IsRunning}
 use Rattle.pool_run.specs.declared.running_party.RunningParty.{RunningParty}
+use Rattle.pool_alloc.specs.Steps.{memory_slots}
+use Rattle.pool_slots.specs.declared.plan.Plan.{Plan}
+use Rattle.pool_alloc.specs.Sound.{IsPoolPlan}
+use Rattle.pool_alloc.proofs.PlanPlaces.{cell_inside}
 
-lease_below : (n : ℕ) (l : Lease) → ((k : ℕ) → n ≤ k → both_count (right_to k) l.index ≡ 0) → 1 ≤ below (λ k. both_count (right_to k) l.index) n
+lease_below : (n : ℕ) (l : Lease) → ((k : ℕ) → n ≤ k → both_count (right_to k) l.index l.numbers ≡ 0) → 1 ≤ below (λ k. both_count (right_to k) l.index l.numbers) n
 lease_below n l none =
-    let one : both_count (right_to l.index) l.index ≡ 1 = omega (arith, slot_once l.index) in
+    let one : both_count (right_to l.index) l.index l.numbers ≡ 1 = omega (arith, slot_once l.index, region_rights l.index l.index l.numbers) in
     elim (cases_lt l.index n) [
-      | inl inside ↦ below_one (λ k. both_count (right_to k) l.index) l.index n inside one
+      | inl inside ↦ below_one (λ k. both_count (right_to k) l.index l.numbers) l.index n inside one
       | inr past ↦ absurd (omega (arith, one, none l.index past))
     ]
 
 pub leases_below : (n : ℕ) (leases : List Lease) → ((k : ℕ) → n ≤ k → leased_count (right_to k) leases ≡ 0) → length leases ≤ below (λ k. leased_count (right_to k) leases) n
-leases_below n leases none = omega (arith, ones leases, sum_below (λ k (l : Lease). both_count (right_to k) l.index) (λ l. 1) n leases (lease_below n) none)
+leases_below n leases none = omega (arith, ones leases, sum_below (λ k (l : Lease). both_count (right_to k) l.index l.numbers) (λ l. 1) n leases (lease_below n) none)
+
+-- a pool has fewer slots than places
+few_slots : (plan : Plan) (places : ℕ) → IsPoolPlan plan places → memory_slots plan < 2 ^ 32
+few_slots plan places is =
+    elim (cases_eq (memory_slots plan) 0) [
+      | inl none ↦ omega (arith, none)
+      | inr some ↦ omega (arith, some, is.small, cell_inside plan places (memory_slots plan - 1) is (omega (arith, some)))
+    ]
 
 module _ {P : Type 0} where
   pub grant_below : (n : ℕ) (o : Option (Grant P)) → ((k : ℕ) → n ≤ k → granted_to (grant_count (right_to k)) o ≡ 0) → granted_to grant_memories o ≤ below (λ k. granted_to (grant_count (right_to k)) o) n
@@ -54,15 +66,15 @@ module _ {P : Type 0} where
       omega (arith, first, second, third, two, three, all)
 
   -- There are no more memories than slots.
-  pub few_memories : (maker : MakerTold) (c : PoolCore P) (parties : List (RunningParty P)) → IsRunning maker c parties → c.counters.memories ≤ c.settings.slots
+  pub few_memories : (maker : MakerTold) (c : PoolCore P) (parties : List (RunningParty P)) → IsRunning maker c parties → c.counters.memories ≤ memory_slots c.plan
   few_memories maker c parties running =
-      let n : ℕ = c.settings.slots in
-      let outside : (k : ℕ) → n ≤ k → made_count (right_to k) n ≡ 0 = λ k past. ap one_if (le-ltb k n past) in
+      let n : ℕ = memory_slots c.plan in
+      let outside : (k : ℕ) → n ≤ k → made_slot k n ≡ 0 = λ k past. ap one_if (le-ltb k n past) in
       omega (
         arith,
         running.whole.memories,
-        sum_below (λ k p. (held_by_party p).places (right_to k)) (λ p. (held_by_party p).memories) n parties (party_below n) (λ k past. omega (arith, running.whole.places (right_to k), outside k past)),
-        below_most (λ k. sum_by (λ p. (held_by_party p).places (right_to k)) parties) (λ k. omega (arith, running.whole.places (right_to k), made_once (right_to k) n)) n,
+        sum_below (λ k p. (held_by_party p).places (right_to k)) (λ p. (held_by_party p).memories) n parties (party_below n) (λ k past. omega (arith, running.whole.places (right_to k), away_made maker k c running.core, outside k past)),
+        below_most (λ k. sum_by (λ p. (held_by_party p).places (right_to k)) parties) (λ k. omega (arith, running.whole.places (right_to k), away_made maker k c running.core, made_once k n)) n,
       )
 
   phase_counts_one : (phase : Phase P) → phase_instances phase ≤ 1
@@ -81,5 +93,5 @@ module _ {P : Type 0} where
   pub can_count : (maker : MakerTold) (c : PoolCore P) (parties : List (RunningParty P)) → IsRunning maker c parties → sum_by (λ p. 1 + length p.live) parties + 1 < 2 ^ 64 → CanCount c
   can_count maker c parties running few = record {
     instances = omega (arith, running.whole.instances, sum_by-le-sum_by (λ p. (held_by_party p).instances) (λ p. 1 + length p.live) parties few_instances);
-    memories = omega (arith, few_memories maker c parties running, running.core.small);
+    memories = omega (arith, few_memories maker c parties running, few_slots c.plan (length c.parts) running.core.plan);
   }

@@ -6,12 +6,12 @@ use Rattle.std.proofs.lemmas.List.{length-map}
 use Rattle.std.proofs.lemmas.List.Sums.{sum_by-cons}
 use Rattle.pool_index.specs.Shard.{one_if}
 use Rattle.pool_alloc.specs.Leases.{Lease}
-use Rattle.pool_alloc.specs.Places.{right_to, slot_count, both_count, leased_count, made_count}
+use Rattle.pool_alloc.specs.Places.{right_to, slot_count, both_count, leased_count}
 use Rattle.pool_alloc.specs.Stepping.{grant_count, grant_instances, grant_memories}
 use Rattle.pool_alloc.specs.declared.frame.Grant.{Grant}
 use Rattle.pool_alloc.specs.declared.frame.Grant.TheVariants.{Instance as instance}
-use Rattle.pool_alloc.proofs.Held.{made_once}
-use Rattle.pool_alloc.proofs.SlotCounts.{slot_once}
+use Rattle.pool_run.proofs.SlotsMade.{made_slot, made_once}
+use Rattle.pool_alloc.proofs.SlotCounts.{slot_once, slot_other, region_rights}
 use Rattle.pool_run.specs.Private.{Grants}
 use Rattle.pool_run.specs.Rooms.{memories_in, live_count, instances_in, instance_count}
 use Rattle.pool_run.specs.Turns.{private_memory, private_grant, grants_of}
@@ -26,10 +26,10 @@ below_slot i (suc n) =
     let before = below_slot i n in
     elim (cases_eq n i) [
       | inl is ↦
-          let here : slot_count (right_to n) i ≡ 1 = ap one_if (eq-eqb n i is) in
+          let here : slot_count (right_to n) i ≡ 1 = ap (slot_count (right_to n)) (sym is) ∙ slot_once n in
           (omega (arith, here, before.1 (omega (arith, is))), λ past. absurd (omega (arith, past, is)))
       | inr other ↦
-          let here : slot_count (right_to n) i ≡ 0 = ap one_if (ne_eqb n i other) in
+          let here : slot_count (right_to n) i ≡ 0 = slot_other n i other in
           (omega (arith, here, before.0), λ past. omega (arith, here, before.1 (omega (arith, past))))
     ]
 
@@ -55,20 +55,20 @@ leases_above n leases =
     omega (
       arith,
       ones leases,
-      sum_above (λ k (l : Lease). both_count (right_to k) l.index) (λ l. 1) n leases
-          (λ l. omega (arith, (below_slot l.index n).0, below_le (λ k. both_count (right_to k) l.index) (λ k. slot_count (right_to k) l.index) (λ k. omega arith) n)),
+      sum_above (λ k (l : Lease). both_count (right_to k) l.index l.numbers) (λ l. 1) n leases
+          (λ l. omega (arith, (below_slot l.index n).0, below_le (λ k. both_count (right_to k) l.index l.numbers) (λ k. slot_count (right_to k) l.index) (λ k. omega (arith, region_rights k l.index l.numbers)) n)),
     )
 
 -- each slot is made once
-made_below : (n m : ℕ) → m ≤ n → below (λ k. made_count (right_to k) n) m ≡ m
+made_below : (n m : ℕ) → m ≤ n → below (λ k. made_slot k n) m ≡ m
 made_below n zero within = refl
 made_below n (suc m) within =
-    let here : made_count (right_to m) n ≡ 1 = ap one_if (lt-ltb m n (omega (arith, within))) in
+    let here : made_slot m n ≡ 1 = ap one_if (lt-ltb m n (omega (arith, within))) in
     omega (arith, here, made_below n m (omega (arith, within)))
 
-past_total : (total : ℕ) (n m : ℕ → ℕ) → ((k : ℕ) → n k + m k ≤ made_count (right_to k) total) → (k : ℕ) → total ≤ k → (n k ≡ 0) × (m k ≡ 0)
+past_total : (total : ℕ) (n m : ℕ → ℕ) → ((k : ℕ) → n k + m k ≤ made_slot k total) → (k : ℕ) → total ≤ k → (n k ≡ 0) × (m k ≡ 0)
 past_total total n m held k far =
-    let none : made_count (right_to k) total ≡ 0 = ap one_if (le-ltb k total far) in
+    let none : made_slot k total ≡ 0 = ap one_if (le-ltb k total far) in
     (omega (arith, held k, none), omega (arith, held k, none))
 
 module _ {P : Type 0} where
@@ -93,12 +93,12 @@ module _ {P : Type 0} where
   live_told live told is = ap live_count (sym is) ∙ live_seen live
 
   -- Where all slots are with these leases and the live grants, there are no more slots than such memories.
-  pub all_taken : (total : ℕ) (leases : List Lease) (live : List (Option (Grant P))) → ((k : ℕ) → leased_count (right_to k) leases + sum_by (granted_to (grant_count (right_to k))) live ≡ made_count (right_to k) total) → total ≤ length leases + sum_by (granted_to grant_memories) live
+  pub all_taken : (total : ℕ) (leases : List Lease) (live : List (Option (Grant P))) → ((k : ℕ) → leased_count (right_to k) leases + sum_by (granted_to (grant_count (right_to k))) live ≡ made_slot k total) → total ≤ length leases + sum_by (granted_to grant_memories) live
   all_taken total leases live all =
       omega (
         arith,
         made_below total total (omega arith),
-        below_sum (λ k. leased_count (right_to k) leases) (λ k. sum_by (granted_to (grant_count (right_to k))) live) (λ k. made_count (right_to k) total) (λ k. sym (all k)) total,
+        below_sum (λ k. leased_count (right_to k) leases) (λ k. sum_by (granted_to (grant_count (right_to k))) live) (λ k. made_slot k total) (λ k. sym (all k)) total,
         leases_above total leases,
         sum_above (λ k o. granted_to (grant_count (right_to k)) o) (granted_to grant_memories) total live (grant_above total),
       )
@@ -113,7 +113,7 @@ module _ {P : Type 0} where
   instances_told live told is = ap instance_count (sym is) ∙ instances_seen live
 
   -- There is room for leases and live grants that are apart.
-  pub room_for : (total : ℕ) (leases : List Lease) (live : List (Option (Grant P))) → ((k : ℕ) → leased_count (right_to k) leases + sum_by (granted_to (grant_count (right_to k))) live ≤ made_count (right_to k) total) → length leases + sum_by (granted_to grant_memories) live ≤ total
+  pub room_for : (total : ℕ) (leases : List Lease) (live : List (Option (Grant P))) → ((k : ℕ) → leased_count (right_to k) leases + sum_by (granted_to (grant_count (right_to k))) live ≤ made_slot k total) → length leases + sum_by (granted_to grant_memories) live ≤ total
   room_for total leases live apart =
       let n : ℕ → ℕ = λ k. leased_count (right_to k) leases in
       let m : ℕ → ℕ = λ k. sum_by (granted_to (grant_count (right_to k))) live in
@@ -122,17 +122,17 @@ module _ {P : Type 0} where
         leases_below total leases (λ k far. (past_total total n m apart k far).0),
         sum_below (λ k o. granted_to (grant_count (right_to k)) o) (granted_to grant_memories) total live (grant_below total) (λ k far. (past_total total n m apart k far).1),
         below_sum n m (λ k. n k + m k) (λ k. refl) total,
-        below_most (λ k. n k + m k) (λ k. omega (arith, apart k, made_once (right_to k) total)) total,
+        below_most (λ k. n k + m k) (λ k. omega (arith, apart k, made_once k total)) total,
       )
 
   -- Where one more slot is with a call, there are more slots than live memories.
-  pub one_free : (total slot : ℕ) (live : List (Option (Grant P))) → ((k : ℕ) → slot_count (right_to k) slot + sum_by (granted_to (grant_count (right_to k))) live ≤ made_count (right_to k) total) → slot < total → sum_by (granted_to grant_memories) live < total
+  pub one_free : (total slot : ℕ) (live : List (Option (Grant P))) → ((k : ℕ) → slot_count (right_to k) slot + sum_by (granted_to (grant_count (right_to k))) live ≤ made_slot k total) → slot < total → sum_by (granted_to grant_memories) live < total
   one_free total slot live held inside =
-      let past : (k : ℕ) → total ≤ k → sum_by (granted_to (grant_count (right_to k))) live ≡ 0 = λ k far. let none : made_count (right_to k) total ≡ 0 = ap one_if (le-ltb k total far) in omega (arith, held k, none) in
+      let past : (k : ℕ) → total ≤ k → sum_by (granted_to (grant_count (right_to k))) live ≡ 0 = λ k far. let none : made_slot k total ≡ 0 = ap one_if (le-ltb k total far) in omega (arith, held k, none) in
       omega (
         arith,
         below_one (λ k. slot_count (right_to k) slot) slot total inside (slot_once slot),
         sum_below (λ k o. granted_to (grant_count (right_to k)) o) (granted_to grant_memories) total live (grant_below total) past,
         below_sum (λ k. slot_count (right_to k) slot) (λ k. sum_by (granted_to (grant_count (right_to k))) live) (λ k. slot_count (right_to k) slot + sum_by (granted_to (grant_count (right_to k))) live) (λ k. refl) total,
-        below_most (λ k. slot_count (right_to k) slot + sum_by (granted_to (grant_count (right_to k))) live) (λ k. omega (arith, held k, made_once (right_to k) total)) total,
+        below_most (λ k. slot_count (right_to k) slot + sum_by (granted_to (grant_count (right_to k))) live) (λ k. omega (arith, held k, made_once k total)) total,
       )

@@ -8,7 +8,6 @@ use Rattle.pool_alloc.specs.Stepping.{IsSameSize}
 use Rattle.pool_alloc.specs.declared.pool_core.PoolCore.{PoolCore}
 use Rattle.pool_alloc.specs.declared.pool_core.Settings.{Settings}
 use Rattle.pool_alloc.specs.Asked.{ModuleAsked}
-use Rattle.pool_alloc.specs.Places.{made_count}
 use Rattle.pool_limits.specs.Growth.{GrowthRule, always}
 use Rattle.pool_alloc.proofs.Telling.{told_weaker}
 use Rattle.pool_run.specs.PartyRules.{rule_of}
@@ -17,7 +16,7 @@ use Rattle.pool_run.specs.Private.{IsPrivateRun, no_grants, with_grants}
 use Rattle.pool_run.specs.Rooms.{World, under, world_at, IsPooledRun}
 use Rattle.pool_run.specs.Turns.{Turned, Turns, with_reply}
 use Rattle.pool_run.specs.Ties.{IsAlone, IsPrivate, CanTurn}
-use Rattle.pool_run.specs.Worlds.{IsWorldOf, IsCallFor, AreCallsFor}
+use Rattle.pool_run.specs.Worlds.{IsWorldOf, IsCallFor, AreCallsFor, HasOneStripe}
 use Rattle.pool_run.specs.Folds.{RunState, commands_of, replies_to, party_by_party, with_turn, TurnsIf, TurnsOf, Folds, Runs, IsRunTo, IsUnderWay}
 use Rattle.pool_run.specs.declared.command.Command.{Command}
 use Rattle.pool_run.specs.declared.reply.Reply.{Reply}
@@ -28,15 +27,17 @@ use Rattle.pool_run.proofs.Running.{can_turn, turned_running}
 use Rattle.pool_run.proofs.Turned.{HasTurned, has_turned, turn_sound}
 use Rattle.pool_run.proofs.LimitsOfRuns.{turn_within, live_within}
 use Rattle.pool_run.specs.Limits.{IsWithinCounts}
+use Rattle.pool_slots.specs.declared.plan.Plan.{Plan}
+use Rattle.pool_alloc.specs.Steps.{memory_slots}
 
 module _ {P : Type 0} where
   -- The world stays that of the pool.
   world_over : (w : World) (c d : PoolCore P) → IsSameSize c d → IsWorldOf w c → IsWorldOf w d
-  world_over w c d size world = record { tells = world.tells; settings = world.settings ∙ sym size.settings; slots = world.slots ∙ sym (ap (λ (z : Settings). z.slots) size.settings); stripes = world.stripes }
+  world_over w c d size world = record { tells = world.tells; settings = world.settings ∙ sym size.settings; plan = subst (HasOneStripe w.terms.slots) (sym size.plan) world.plan }
 
   -- The world is the pool's whatever the rule of a party.
   world_under : (rule : GrowthRule) (w : World) (c : PoolCore P) → IsWorldOf w c → IsWorldOf (under rule w) c
-  world_under rule w c world = record { tells = world.tells; settings = world.settings; slots = world.slots; stripes = world.stripes }
+  world_under rule w c world = record { tells = world.tells; settings = world.settings; plan = world.plan }
 
 calls_under : (rule : GrowthRule) (w : World) (s : Settings) (modules : List ModuleAsked) → AreCallsFor w.terms s modules → AreCallsFor (under rule w).terms s modules
 calls_under rule w s modules calls number =
@@ -62,7 +63,7 @@ module _ {P : Type 0} where
   -- A party that is alone stays so.
   alone_turned : (c : PoolCore P) (p : RunningParty P) (t : Turned P) → HasTurned c p t → IsAlone c p.frame p.live → IsAlone t.core t.party.frame t.party.live
   alone_turned c p t turned alone = record {
-    places = λ x. omega (arith, turned.places x, alone.places x, ap (λ (z : Settings). made_count x z.slots) turned.size.settings);
+    places = λ x. omega (arith, turned.places x, alone.places x);
     instances = omega (arith, turned.instances, alone.instances);
     searched = turned.searched alone.searched;
   }

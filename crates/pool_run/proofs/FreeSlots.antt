@@ -6,11 +6,11 @@ use Rattle.std.proofs.lemmas.List.{length-map, get_or-map}
 use Rattle.std.proofs.lemmas.List.Elements.{All-map}
 use Rattle.std.proofs.lemmas.List.Sums.{sum_by-cons, get_or-le-sum_by}
 use Rattle.pool_alloc.specs.Leases.{Lease}
-use Rattle.pool_alloc.specs.Places.{right_to, both_count, leased_count, made_count}
+use Rattle.pool_alloc.specs.Places.{right_to, both_count, leased_count, slot_count}
 use Rattle.pool_alloc.specs.Stepping.{grant_count}
 use Rattle.pool_alloc.specs.declared.frame.Grant.{Grant}
 use Rattle.pool_alloc.specs.declared.frame.Grant.TheVariants.{Instance}
-use Rattle.pool_alloc.proofs.Held.{made_once, made_inside}
+use Rattle.pool_run.proofs.SlotsMade.{made_slot, made_once, made_inside}
 use Rattle.pool_alloc.proofs.SlotCounts.{slot_once}
 use Rattle.pool_alloc.proofs.Wholes.{two_of_sum}
 use Rattle.pool_run.specs.Private.{PrivateMemory, PrivateInstance, Grants}
@@ -24,7 +24,7 @@ use Rattle.pool_run.proofs.Requests.{slots_of}
 lease_counted : (leases : List Lease) (i : ℕ) (d : Lease) → i < length leases → 1 ≤ leased_count (right_to (get_or leases i d).index) leases
 lease_counted leases i d below =
     let k : ℕ = (get_or leases i d).index in
-    omega (arith, get_or-le-sum_by (λ (l : Lease). both_count (right_to k) l.index) leases i d below, slot_once k)
+    omega (arith, get_or-le-sum_by (λ (l : Lease). both_count (right_to k) l.index l.numbers) leases i d below, slot_once k)
 
 -- no two leases have one slot
 slots_differ : (leases : List Lease) → ((k : ℕ) → leased_count (right_to k) leases ≤ 1) → AllDiffer (slots_of leases)
@@ -41,8 +41,8 @@ slots_differ (x ∷ xs) once i j below also same =
     elim (cases_eq i j) [
       | inl is ↦ is
       | inr other ↦
-          let both = two_of_sum (λ (l : Lease). both_count (right_to k) l.index) leases i j x i_inside j_inside other in
-          let other_one : both_count (right_to k) (get_or leases j x).index ≡ both_count (right_to k) k = ap (both_count (right_to k)) one in
+          let both = two_of_sum (λ (l : Lease). both_count (right_to k) l.index l.numbers) leases i j x i_inside j_inside other in
+          let other_one : slot_count (right_to k) (get_or leases j x).index ≡ slot_count (right_to k) k = ap (slot_count (right_to k)) one in
           absurd (omega (arith, both, other_one, slot_once k, once k))
     ]
 
@@ -66,7 +66,7 @@ module _ {P : Type 0} where
 
   -- the leases and the live grants have no slot together, and no slot that isn't one of the pool
   abbrev pub AreApart : List Lease → List (Option (Grant P)) → ℕ → Type 0
-  AreApart leases live total = (k : ℕ) → leased_count (right_to k) leases + sum_by (granted_to (grant_count (right_to k))) live ≤ made_count (right_to k) total
+  AreApart leases live total = (k : ℕ) → leased_count (right_to k) leases + sum_by (granted_to (grant_count (right_to k))) live ≤ made_slot k total
 
   pub slots_inside : (leases : List Lease) (live : List (Option (Grant P))) (total : ℕ) → AreApart leases live total → All (λ slot. slot < total) (slots_of leases)
   slots_inside leases live total apart =
@@ -74,7 +74,7 @@ module _ {P : Type 0} where
       (λ i d below. made_inside (get_or leases i d).index total (omega (arith, lease_counted leases i d below, apart (get_or leases i d).index)))
 
   pub slots_apart : (leases : List Lease) (live : List (Option (Grant P))) (total : ℕ) → AreApart leases live total → AllDiffer (slots_of leases)
-  slots_apart leases live total apart = slots_differ leases (λ k. omega (arith, apart k, made_once (right_to k) total))
+  slots_apart leases live total apart = slots_differ leases (λ k. omega (arith, apart k, made_once k total))
 
   grant_free : (slot : ℕ) (live : List (Option (Grant P))) (j : ℕ) (x : Option (Grant P)) → slice_index_or live j None ≡ x → sum_by (granted_to (grant_count (right_to slot))) live ≡ 0 → IfSome (option_map private_grant x) (λ g. All (λ m. m.slot ≢ slot) g.memories)
   grant_free slot live j None is none = tt
@@ -88,4 +88,4 @@ module _ {P : Type 0} where
       let slot : ℕ = (get_or leases i d).index in
       let Free : Option PrivateInstance → Type 0 = λ o. IfSome o (λ g. All (λ m. m.slot ≢ slot) g.memories) in
       subst Free (sym (told_at live told j (slice_index_or live j None) is refl))
-      (grant_free slot live j (slice_index_or live j None) refl (omega (arith, lease_counted leases i d below, apart slot, made_once (right_to slot) total))))
+      (grant_free slot live j (slice_index_or live j None) refl (omega (arith, lease_counted leases i d below, apart slot, made_once slot total))))

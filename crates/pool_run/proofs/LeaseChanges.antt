@@ -1,5 +1,5 @@
 -- What a change of a lease is as a move of its memory.
-use Rattle.std.proofs.Common.{◌≡◌, ℕ, ◌+◌, ◌<◌, Bool, true, false, List, length, Option, Some, Result, Ok, Err, refl, sym, ap, ◌∙◌, subst}
+use Rattle.std.proofs.Common.{◌≡◌, ℕ, ◌+◌, ◌<◌, Bool, true, false, List, length, Option, Some, Result, Ok, Err, sym, ap, ◌∙◌, subst}
 use Rattle.std.proofs.lemmas.List.{set-get_or}
 use Rattle.std.proofs.lemmas.Option.{get_or_from_slice_get, slice_get-get_or}
 use Rattle.std.specs.Prelude.{nat_le, slice_get, slice_set, slice_index_or, if◌then◌else◌, OnOk, OnErr}
@@ -12,9 +12,11 @@ use Rattle.pool_limits.specs.declared.errors.Trap.TheVariants.{MemoryOutOfBounds
 use Rattle.pool_memory.specs.Memories.{MemoryState, memory_written}
 use Rattle.pool_alloc.specs.Leases.{Lease, IsWritten, IsChanged, IsGrown}
 use Rattle.pool_alloc.specs.Reserved.{Reserved}
-use Rattle.pool_run.specs.Turns.{MemoryWrites, MemoryGrows, GrowsUnder, MovesLease, write_reply, growth_reply}
+use Rattle.pool_run.specs.AtOnce.{GrowsUnder, write_reply, growth_reply}
+use Rattle.pool_run.specs.Turns.{MemoryWrites, MemoryGrows, MovesLease}
 use Rattle.pool_run.specs.declared.reply.Reply.{Reply}
 use Rattle.pool_run.specs.declared.reply.Reply.TheVariants.{Done, Trap as trapped}
+use Rattle.pool_run.proofs.Growths.{grown_as}
 
 pub changed_as : (A B : Lease → Lease → Type 0) (place : ℕ) (old new : Reserved Lease) → ((l n : Lease) → A l n → B l n) → IsChanged A place old new → IsChanged B place old new
 changed_as A B place old new step is = record { lease = is.lease; change = λ d. step (slice_index_or old.items place d) is.lease (is.change d); is = is.is }
@@ -52,4 +54,6 @@ pub grown_under : {R : Type 0} (told : R → LimiterTold) (leads : R → Exchang
 grown_under told leads rule pages l n before after answer is ruled = record { same = is.same; memory = is.memory; growth = (is.growth.0, told before, told after, ruled, is.growth.1.0) }
 
 pub growth_moves : (rule : GrowthRule) (pages : ℕ) (l n : Lease) (answer : Result (Option ℕ) GrowFault) → GrowsUnder rule pages l n answer → MovesLease (MemoryGrows rule pages) l n (growth_reply answer)
-growth_moves rule pages l n answer is = record { same = is.same; memory = is.memory; move = (is.growth.0, is.growth.1, is.growth.2, answer, is.growth.3, is.growth.4, refl) }
+growth_moves rule pages l n answer is =
+    let stays : l.memory.may_move ≡ false = sym (ap (λ (m : MemoryState). m.may_move) is.growth.4.memory) ∙ is.memory.fixed in
+    record { same = is.same; memory = is.memory; move = grown_as rule pages l.memory n.memory is.growth.0 is.growth.1 is.growth.2 answer stays is.growth.3 is.growth.4 }

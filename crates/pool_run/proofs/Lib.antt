@@ -14,6 +14,7 @@ pub mod Folding
 pub mod Following
 pub mod FreeSlots
 pub mod Grants
+pub mod Growths
 pub mod InputsRun
 pub mod LeaseChanges
 pub mod Limits
@@ -27,10 +28,10 @@ pub mod Operations
 pub mod Parties
 pub mod Pending
 pub mod Placing
+pub mod Requests
 pub mod Reserving
 pub mod RulesNamed
 pub mod RunMade
-pub mod Requests
 pub mod Running
 pub mod SameFlushes
 pub mod SameFolds
@@ -43,6 +44,7 @@ pub mod SharedCounts
 pub mod SharedGrowth
 pub mod SharedMade
 pub mod SharedMoves
+pub mod SlotsMade
 pub mod Sounds
 pub mod StageSteps
 pub mod Started

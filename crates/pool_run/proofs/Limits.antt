@@ -1,6 +1,6 @@
 -- No turn of a party takes more instances than there may be: a request is admitted only where fewer are counted.
-use Rattle.std.proofs.Common.{◌≡◌, ℕ, ◌+◌, ◌≤◌, List, length, Option, Some, None, sym, ap, ◌∙◌, subst, inl, inr, arith}
-use Rattle.std.specs.Prelude.{◌==◌, if◌then◌else◌, sum_by, slice_set, slice_index_or}
+use Rattle.std.proofs.Common.{ℕ, ◌+◌, ◌≤◌, List, length, Option, Some, None, sym, ap, subst, inl, inr, arith}
+use Rattle.std.specs.Prelude.{sum_by, slice_set, slice_index_or}
 use Rattle.std.proofs.lemmas.Bool.{cases_lt}
 use Rattle.std.proofs.lemmas.List.{set_past, get_or_past}
 use Rattle.std.proofs.lemmas.List.Sums.{sum_by-set}
@@ -11,12 +11,10 @@ use Rattle.pool_alloc.specs.declared.frame.Grant.{Grant}
 use Rattle.pool_alloc.specs.Asked.{ModuleAsked}
 use Rattle.pool_alloc.specs.declared.frame.Outcome.{Outcome}
 use Rattle.pool_alloc.specs.declared.frame.Outcome.TheVariants as answer
-use Rattle.pool_alloc.specs.declared.frame.Phase.TheVariants.{Key}
 use Rattle.pool_run.specs.Limits.{admitted_at, admitted_to}
 use Rattle.pool_run.specs.Ties.{granted_to, held_by_party, CanTurn}
 use Rattle.pool_run.specs.Turns.{Turned, answered, Steps, Turns, Opening, rests, replies, makes_step, Leaves}
 use Rattle.pool_run.specs.declared.command.Command.{Command}
-use Rattle.pool_run.specs.declared.reply.Reply.TheVariants.{Refused}
 use Rattle.pool_run.specs.declared.running_party.RunningParty.{RunningParty}
 use Rattle.pool_run.proofs.Opened.{IsOpened, opened}
 use Rattle.pool_run.specs.Rooms.{World}

@@ -1,12 +1,13 @@
 -- What a turn opens with: the party has as much of the pool, and where a call is to make its next step, that can be made.
-use Rattle.std.proofs.Common.{◌≡◌, ◌≢◌, ℕ, ◌+◌, ◌<◌, ◌≤◌, Bool, true, false, List, length, get_or, Option, Some, None, ◌⊎◌, refl, sym, ap, ◌∙◌, subst, inl, inr, arith}
-use Rattle.std.specs.Prelude.{◌==◌, if◌then◌else◌, IfSome, slice_get, slice_set, slice_index_or, sum_by}
+use Rattle.pool_alloc.specs.declared.frame.TakenSlot.{TakenSlot}
+use Rattle.std.proofs.Common.{◌≡◌, ◌≢◌, ℕ, ◌<◌, ◌≤◌, Bool, true, false, List, length, get_or, Option, Some, None, refl, sym, ap, ◌∙◌, subst, inl, inr, arith}
+use Rattle.std.specs.Prelude.{IfSome, slice_get, slice_set, slice_index_or, sum_by}
 use Rattle.std.proofs.lemmas.Option.{slice_get_within, get_or_from_slice_get}
 use Rattle.std.proofs.lemmas.List.{length-set, get_or-set_other}
 use Rattle.std.proofs.lemmas.List.Sums.{sum_by-set}
 use Rattle.pool_pages.specs.MakerTold.{MakerTold}
 use Rattle.pool_alloc.specs.Calls.{IsIdle, begun_call}
-use Rattle.pool_alloc.specs.Leases.{Lease}
+use Rattle.pool_alloc.specs.Leases.{Lease, slot_taken}
 use Rattle.pool_alloc.specs.Sound.{IsLeaseOf}
 use Rattle.pool_alloc.specs.Places.{Thing, both_count, leased_count}
 use Rattle.pool_alloc.specs.Stepping.{is_idle, grant_count, grant_instances, grant_memories}
@@ -32,7 +33,7 @@ use Rattle.pool_run.specs.declared.command.Command.{Command}
 use Rattle.pool_run.specs.declared.reply.Reply.{Reply}
 use Rattle.pool_run.specs.declared.running_party.RunningParty.{RunningParty}
 use Rattle.pool_run.proofs.Named.{moved}
-use Rattle.pool_run.proofs.Operations.{op_index, op_keeps}
+use Rattle.pool_run.proofs.Operations.{op_slot, op_keeps}
 use Rattle.pool_run.proofs.Parties.{HaveSame, grant_inside, live_grant, has_call, called_key, called_module, called_back, returned_searched, returned_stage, brings_key, brings_module, brings_grant}
 use Rattle.pool_run.proofs.Sounds.{lease_there, move_sound}
 
@@ -86,11 +87,12 @@ module _ {P : Type 0} (maker : MakerTold) (c : PoolCore P) (p : RunningParty P) 
     unchanged = record { idle = idle; same = same_now; room = refl; to_come = can.party.to_come; sound = can.party.sound }
 
     -- a move: the grant has the same slots
-    lease_same : (x : Thing) (k : ℕ) (items : List Lease) (l new : Lease) → slice_get items k ≡ Some l → new.index ≡ l.index → leased_count x (slice_set items k new) ≡ leased_count x items
+    lease_same : (x : Thing) (k : ℕ) (items : List Lease) (l new : Lease) → slice_get items k ≡ Some l → slot_taken new ≡ slot_taken l → leased_count x (slice_set items k new) ≡ leased_count x items
     lease_same x k items l new there same =
-        let here : both_count x (get_or items k l).index ≡ both_count x l.index = ap (λ (m : Lease). both_count x m.index) (get_or_from_slice_get items k l l there) in
-        let moved : both_count x new.index ≡ both_count x l.index = ap (both_count x) same in
-        omega (arith, moved, sum_by-set (λ (m : Lease). both_count x m.index) items k new l (slice_get_within items k l there))
+        let of : TakenSlot → ℕ = λ at. both_count x at.slot at.numbers in
+        let here : of (slot_taken (get_or items k l)) ≡ of (slot_taken l) = ap (λ (m : Lease). of (slot_taken m)) (get_or_from_slice_get items k l l there) in
+        let moved : of (slot_taken new) ≡ of (slot_taken l) = ap of same in
+        omega (arith, here, moved, sum_by-set (λ (m : Lease). both_count x m.index m.numbers) items k new l (slice_get_within items k l there))
 
     swapped : (of : Grant P → ℕ) (j : ℕ) (old new : Grant P) → slice_index_or p.live j None ≡ Some old → of new ≡ of old → sum_by (granted_to of) (slice_set p.live j (Some new)) ≡ sum_by (granted_to of) p.live
     swapped of j old new is same =
@@ -102,13 +104,13 @@ module _ {P : Type 0} (maker : MakerTold) (c : PoolCore P) (p : RunningParty P) 
         let apart : k ≢ j = λ e. let both : slice_index_or p.live j None ≡ None = subst (λ (n : ℕ). slice_index_or p.live n None ≡ None) e none in cc in
         get_or-set_other p.live j k (Some new) None apart ∙ none
 
-    put_opened : (of k : ℕ) (grant : Grant P) (old changed : Lease) → slice_index_or p.live of None ≡ Some grant → slice_get (memory_leases.in_grant grant) k ≡ Some old → changed.index ≡ old.index → (IsSoundParty maker c p → IsSoundParty maker c (record p { live = slice_set p.live of (Some (with_lease k changed grant)) })) → IsReply (slice_set p.live of (Some (with_lease k changed grant)))
-    put_opened of k (instance lease) old changed granted there index sound =
+    put_opened : (of k : ℕ) (grant : Grant P) (old changed : Lease) → slice_index_or p.live of None ≡ Some grant → slice_get (memory_leases.in_grant grant) k ≡ Some old → slot_taken changed ≡ slot_taken old → (IsSoundParty maker c p → IsSoundParty maker c (record p { live = slice_set p.live of (Some (with_lease k changed grant)) })) → IsReply (slice_set p.live of (Some (with_lease k changed grant)))
+    put_opened of k (instance lease) old changed granted there same sound =
         let new : Grant P = with_lease k changed (instance lease) in
         record {
           idle = idle;
           same = record {
-            places = λ x. omega (arith, swapped (grant_count x) of (instance lease) new granted (lease_same x k lease.memories.items old changed there index));
+            places = λ x. omega (arith, swapped (grant_count x) of (instance lease) new granted (lease_same x k lease.memories.items old changed there same));
             instances = omega (arith, swapped grant_instances of (instance lease) new granted refl);
             memories = omega (arith, swapped grant_memories of (instance lease) new granted (length-set lease.memories.items k changed));
           };
@@ -117,7 +119,7 @@ module _ {P : Type 0} (maker : MakerTold) (c : PoolCore P) (p : RunningParty P) 
           sound = sound can.party.sound;
         }
 
-    stays_sound : (Move : Lease → Lease → Reply → Type 0) (of k : ℕ) (grant : Grant P) (old changed : Lease) (reply : Reply) → ((l new : Lease) (answer : Reply) → IsLeaseOf maker c.settings l → Move l new answer → IsLeaseOf maker c.settings new) → slice_index_or p.live of None ≡ Some grant → slice_get (memory_leases.in_grant grant) k ≡ Some old → Move old changed reply → IsSoundParty maker c p → IsSoundParty maker c (record p { live = slice_set p.live of (Some (with_lease k changed grant)) })
+    stays_sound : (Move : Lease → Lease → Reply → Type 0) (of k : ℕ) (grant : Grant P) (old changed : Lease) (reply : Reply) → ((l new : Lease) (answer : Reply) → IsLeaseOf maker c.settings c.plan l → Move l new answer → IsLeaseOf maker c.settings c.plan new) → slice_index_or p.live of None ≡ Some grant → slice_get (memory_leases.in_grant grant) k ≡ Some old → Move old changed reply → IsSoundParty maker c p → IsSoundParty maker c (record p { live = slice_set p.live of (Some (with_lease k changed grant)) })
     stays_sound Move of k (instance lease) old changed reply keeps granted there move sound = move_sound maker c p of k lease changed sound granted (keeps old changed reply (lease_there maker c p of k lease old sound granted there) move)
 
     -- A command on a memory.
@@ -128,8 +130,8 @@ module _ {P : Type 0} (maker : MakerTold) (c : PoolCore P) (p : RunningParty P) 
           | inl none ↦ subst IsReply (sym none.same) unchanged
           | inr m ↦
               subst IsReply (sym m.is)
-              (put_opened of k m.grant m.old m.changed m.granted m.there (op_index op (rule_of p.limits) m.old m.changed reply m.move)
-              (stays_sound Move of k m.grant m.old m.changed reply (op_keeps maker c.settings op (rule_of p.limits)) m.granted m.there m.move))
+              (put_opened of k m.grant m.old m.changed m.granted m.there (op_slot op (rule_of p.limits) m.old m.changed reply m.move)
+              (stays_sound Move of k m.grant m.old m.changed reply (op_keeps maker c.settings c.plan op (rule_of p.limits)) m.granted m.there m.move))
         ]
 
     -- A call begins: the party has what it had, with what the call brings along.
@@ -140,7 +142,7 @@ module _ {P : Type 0} (maker : MakerTold) (c : PoolCore P) (p : RunningParty P) 
     drops_opened of None has = unchanged
     drops_opened of (Some grant) has = record {
       can = called_back maker of grant c p can idle has;
-      same = has_call maker (call.GiveBack grant) (slice_set p.live of None) c p can.party.sound.frame (idle, live_grant maker c.settings p.live of grant can.party.sound.grants has) (brings_grant p.live of grant has);
+      same = has_call maker (call.GiveBack grant) (slice_set p.live of None) c p can.party.sound.frame (idle, live_grant maker c.settings c.plan p.live of grant can.party.sound.grants has) (brings_grant p.live of grant has);
       room = length-set p.live of None;
       busy = returned_busy grant p.frame;
       searched = λ s. returned_searched grant c p.frame;

@@ -6,14 +6,15 @@ use Rattle.std.proofs.lemmas.List.{map-set}
 use Rattle.pool_pages.specs.MakerTold.{MakerTold}
 use Rattle.pool_limits.specs.Growth.{GrowthRule}
 use Rattle.pool_memory.specs.Memories.{MemoryState}
-use Rattle.pool_alloc.specs.Leases.{Lease}
+use Rattle.pool_alloc.specs.Leases.{Lease, slot_taken}
 use Rattle.pool_alloc.specs.Sound.{IsLeaseOf}
 use Rattle.pool_alloc.specs.declared.frame.Grant.{Grant}
 use Rattle.pool_alloc.specs.declared.frame.Grant.TheVariants.{Instance as instance}
+use Rattle.pool_slots.specs.declared.plan.Plan.{Plan}
 use Rattle.pool_alloc.specs.declared.pool_core.Settings.{Settings}
 use Rattle.pool_run.specs.Acts.{MemoryOp, reads, writes, fills, grows, asks_size}
 use Rattle.pool_run.specs.Objects.{MovesNamed}
-use Rattle.pool_run.specs.Private.{PrivateMemory, Writes, MemoryMoves, private_memories, grown_by}
+use Rattle.pool_run.specs.Private.{PrivateMemory, Writes, MemoryMoves, private_memories, growth}
 use Rattle.pool_run.specs.Rooms.{World, MayFault, TellsGrowth, TellsMove}
 use Rattle.pool_run.specs.Turns.{seen_as, private_memory, private_grant, MemoryWrites, MemoryGrows, MovesLease, LeaseMoves, memory_leases}
 use Rattle.pool_run.specs.declared.reply.Reply.{Reply}
@@ -21,28 +22,28 @@ use Rattle.pool_run.proofs.Moves.{IsSeen, GrowsSeen, lease_still, writes_stay, w
 use Rattle.pool_run.proofs.Named.{AreSeen}
 
 -- The lease stays in its slot,
-pub op_index : (op : MemoryOp) (rule : GrowthRule) (l new : Lease) (reply : Reply) → LeaseMoves op rule l new reply → new.index ≡ l.index
-op_index (reads i len) rule l new reply is = ap (λ (x : Lease). x.index) is.1
-op_index (writes i bytes) rule l new reply is = ap (λ (x : Lease). x.index) is.same
-op_index (fills i len byte) rule l new reply is = ap (λ (x : Lease). x.index) is.same
-op_index (grows pages) rule l new reply is = ap (λ (x : Lease). x.index) is.same
-op_index asks_size rule l new reply is = ap (λ (x : Lease). x.index) is.1
+pub op_slot : (op : MemoryOp) (rule : GrowthRule) (l new : Lease) (reply : Reply) → LeaseMoves op rule l new reply → slot_taken new ≡ slot_taken l
+op_slot (reads i len) rule l new reply is = ap slot_taken is.1
+op_slot (writes i bytes) rule l new reply is = ap slot_taken is.same
+op_slot (fills i len byte) rule l new reply is = ap slot_taken is.same
+op_slot (grows pages) rule l new reply is = ap slot_taken is.same
+op_slot asks_size rule l new reply is = ap slot_taken is.1
 
 -- and one of the pool.
-pub op_keeps : (maker : MakerTold) (s : Settings) (op : MemoryOp) (rule : GrowthRule) (l new : Lease) (reply : Reply) → IsLeaseOf maker s l → LeaseMoves op rule l new reply → IsLeaseOf maker s new
-op_keeps maker s (reads i len) rule l new reply of is = subst (IsLeaseOf maker s) (sym is.1) of
-op_keeps maker s (writes i bytes) rule l new reply of is = lease_still maker s (MemoryWrites i bytes) l new reply (writes_stay maker s i bytes) of is
-op_keeps maker s (fills i len byte) rule l new reply of is = lease_still maker s (MemoryWrites i (replicate len byte)) l new reply (writes_stay maker s i (replicate len byte)) of is
-op_keeps maker s (grows pages) rule l new reply of is = lease_still maker s (MemoryGrows rule pages) l new reply (grows_stay maker s rule pages) of is
-op_keeps maker s asks_size rule l new reply of is = subst (IsLeaseOf maker s) (sym is.1) of
+pub op_keeps : (maker : MakerTold) (s : Settings) (plan : Plan) (op : MemoryOp) (rule : GrowthRule) (l new : Lease) (reply : Reply) → IsLeaseOf maker s plan l → LeaseMoves op rule l new reply → IsLeaseOf maker s plan new
+op_keeps maker s plan (reads i len) rule l new reply of is = subst (IsLeaseOf maker s plan) (sym is.1) of
+op_keeps maker s plan (writes i bytes) rule l new reply of is = lease_still maker s plan (MemoryWrites i bytes) l new reply (writes_stay maker s plan i bytes) of is
+op_keeps maker s plan (fills i len byte) rule l new reply of is = lease_still maker s plan (MemoryWrites i (replicate len byte)) l new reply (writes_stay maker s plan i (replicate len byte)) of is
+op_keeps maker s plan (grows pages) rule l new reply of is = lease_still maker s plan (MemoryGrows rule pages) l new reply (grows_stay maker s plan rule pages) of is
+op_keeps maker s plan asks_size rule l new reply of is = subst (IsLeaseOf maker s plan) (sym is.1) of
 
-move_seen : (maker : MakerTold) (s : Settings) (Moves : MemoryState → MemoryState → Reply → Type 0) (Sees : PrivateMemory → PrivateMemory → Reply → Type 0) (l new : Lease) (reply : Reply) → IsSeen maker s Moves Sees → IsLeaseOf maker s l → MovesLease Moves l new reply → Sees (private_memory l) (private_memory new) reply
-move_seen maker s Moves Sees l new reply seen of is =
+move_seen : (maker : MakerTold) (s : Settings) (plan : Plan) (Moves : MemoryState → MemoryState → Reply → Type 0) (Sees : PrivateMemory → PrivateMemory → Reply → Type 0) (l new : Lease) (reply : Reply) → IsSeen maker s plan Moves Sees → IsLeaseOf maker s plan l → MovesLease Moves l new reply → Sees (private_memory l) (private_memory new) reply
+move_seen maker s plan Moves Sees l new reply seen of is =
     let At : ℕ → Type 0 = λ i. Sees (private_memory l) (seen_as i new.memory) reply in
     subst At (sym (ap (λ (x : Lease). x.index) is.same)) (seen l new.memory reply of is.move)
 
 -- a growth tells so of the pool
-grown_tells : (w : World) (pages : ℕ) (m : PrivateMemory) (reply : Reply) (fault : Bool) → (fault ≡ true → MayFault w m.slot) → reply ≡ (grown_by w.terms.rule fault pages m).1 → TellsGrowth w pages m reply
+grown_tells : (w : World) (pages : ℕ) (m : PrivateMemory) (reply : Reply) (fault : Bool) → (fault ≡ true → MayFault w m.slot) → reply ≡ (growth w.terms.rule fault pages m).1 → TellsGrowth w pages m reply
 grown_tells w pages m reply true may is = inr (may refl)
 grown_tells w pages m reply false may is = inl is
 
@@ -50,14 +51,14 @@ grown_tells w pages m reply false may is = inl is
 abbrev pub SeesMove : World → MemoryOp → PrivateMemory → PrivateMemory → Reply → Type 0
 SeesMove w op m new reply = MemoryMoves op w.terms.rule m new reply × TellsMove w op m reply
 
-pub op_seen : (w : World) (s : Settings) (rule : GrowthRule) (op : MemoryOp) (l new : Lease) (reply : Reply) → rule ≡ w.terms.rule → IsLeaseOf w.maker s l → LeaseMoves op rule l new reply → SeesMove w op (private_memory l) (private_memory new) reply
-op_seen w s rule (reads i len) l new reply ruled of is = ((is.0, ap private_memory is.1), tt)
-op_seen w s rule (writes i bytes) l new reply ruled of is = (move_seen w.maker s (MemoryWrites i bytes) (Writes i bytes) l new reply (writes_seen w.maker s i bytes) of is, tt)
-op_seen w s rule (fills i len byte) l new reply ruled of is = (move_seen w.maker s (MemoryWrites i (replicate len byte)) (Writes i (replicate len byte)) l new reply (writes_seen w.maker s i (replicate len byte)) of is, tt)
-op_seen w s rule (grows pages) l new reply ruled of is =
-    let grown : GrowsSeen w.maker w.terms.rule pages (private_memory l) (private_memory new) reply = move_seen w.maker s (MemoryGrows rule pages) (GrowsSeen w.maker w.terms.rule pages) l new reply (grows_seen w.maker s rule w.terms.rule pages ruled) of is in
+pub op_seen : (w : World) (s : Settings) (plan : Plan) (rule : GrowthRule) (op : MemoryOp) (l new : Lease) (reply : Reply) → rule ≡ w.terms.rule → IsLeaseOf w.maker s plan l → LeaseMoves op rule l new reply → SeesMove w op (private_memory l) (private_memory new) reply
+op_seen w s plan rule (reads i len) l new reply ruled of is = ((is.0, ap private_memory is.1), tt)
+op_seen w s plan rule (writes i bytes) l new reply ruled of is = (move_seen w.maker s plan (MemoryWrites i bytes) (Writes i bytes) l new reply (writes_seen w.maker s plan i bytes) of is, tt)
+op_seen w s plan rule (fills i len byte) l new reply ruled of is = (move_seen w.maker s plan (MemoryWrites i (replicate len byte)) (Writes i (replicate len byte)) l new reply (writes_seen w.maker s plan i (replicate len byte)) of is, tt)
+op_seen w s plan rule (grows pages) l new reply ruled of is =
+    let grown : GrowsSeen w.maker w.terms.rule pages (private_memory l) (private_memory new) reply = move_seen w.maker s plan (MemoryGrows rule pages) (GrowsSeen w.maker w.terms.rule pages) l new reply (grows_seen w.maker s plan rule w.terms.rule pages ruled) of is in
     ((grown.0, grown.1), grown_tells w pages (private_memory l) reply grown.0 grown.2 (ap (λ (p : PrivateMemory × Reply). p.1) grown.1))
-op_seen w s rule asks_size l new reply ruled of is = ((is.0, ap private_memory is.1), tt)
+op_seen w s plan rule asks_size l new reply ruled of is = ((is.0, ap private_memory is.1), tt)
 
 -- the two halves of that, of what is named
 pub named_moves : {S : Type 0} (w : World) (op : MemoryOp) (o : Option PrivateMemory) (put : PrivateMemory → S → S) (old new : S) (reply : Reply) → MovesNamed (SeesMove w op) o put old reply new → MovesNamed (MemoryMoves op w.terms.rule) o put old reply new

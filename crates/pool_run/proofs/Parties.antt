@@ -1,6 +1,6 @@
 -- A party whose turn it is: its call can make its next step, and so it can once another call began.
 use Rattle.std.proofs.Common.{◌≡◌, ℕ, zero, suc, ◌+◌, ◌<◌, ◌≤◌, true, false, List, [], ◌∷◌, length, Option, Some, None, refl, ap, subst, arith, All}
-use Rattle.std.specs.Prelude.{◌==◌, if◌then◌else◌, IfSome, sum_by, slice_set, slice_index_or}
+use Rattle.std.specs.Prelude.{IfSome, sum_by, slice_set, slice_index_or}
 use Rattle.std.proofs.lemmas.List.Elements.{All-set, All-get_or}
 use Rattle.std.proofs.lemmas.List.Sums.{sum_by-set}
 use Rattle.pool_pages.specs.MakerTold.{MakerTold}
@@ -12,7 +12,7 @@ use Rattle.pool_alloc.proofs.BegunCalls.{call_has}
 use Rattle.pool_alloc.specs.Stepping.{CanStep, grant_count, grant_instances, grant_memories}
 use Rattle.pool_alloc.specs.declared.pool_core.PoolCore.{PoolCore}
 use Rattle.pool_alloc.specs.declared.pool_core.Settings.{Settings}
-use Rattle.pool_alloc.specs.Steps.{memories_wanted, images_wanted}
+use Rattle.pool_alloc.specs.Steps.{memories_wanted, images_wanted, memory_slots}
 use Rattle.pool_alloc.specs.Asked.{ModuleAsked}
 use Rattle.pool_alloc.specs.declared.frame.Ending.TheVariants as ending
 use Rattle.pool_alloc.specs.Leases.{Lease}
@@ -25,10 +25,10 @@ use Rattle.pool_alloc.specs.declared.frame.Frame.{Frame}
 use Rattle.pool_alloc.specs.declared.frame.Grant.{Grant}
 use Rattle.pool_alloc.specs.declared.frame.Grant.TheVariants.{Instance as instance}
 use Rattle.pool_alloc.proofs.BegunCalls.{begun_frame, begun_count, begun_instances, begun_memories}
-use Rattle.pool_alloc.proofs.Held.{made_once}
 use Rattle.pool_alloc.proofs.QueueCounts.{sum_by_agree, leased_regions}
 use Rattle.pool_run.specs.Ties.{is_asking, granted_to, held_by_party, FitsParty, CanTurn}
 use Rattle.pool_run.specs.declared.running_party.RunningParty.{RunningParty}
+use Rattle.pool_slots.specs.declared.plan.Plan.{Plan}
 
 module _ {P : Type 0} where
   grant_regions : (k : ℕ) (o : Option (Grant P)) → granted_to (grant_count (region_of k)) o ≡ granted_to (grant_count (right_to k)) o
@@ -46,7 +46,7 @@ module _ {P : Type 0} where
     frame = can.party.sound.frame;
     fits = record {
       once = λ t. omega (arith, can.fits.once t);
-      home = λ k some. omega (arith, can.fits.home k (omega arith), can.fits.once (right_to k), made_once (right_to k) c.settings.slots, live_regions k p.live);
+      others = λ k. omega (arith, can.fits.others k, live_regions k p.live);
       instances = omega (arith, can.fits.instances);
       memories = omega (arith, can.fits.memories);
     };
@@ -61,7 +61,7 @@ module _ {P : Type 0} where
   pub fits_same : (c : PoolCore P) (p q : RunningParty P) → HaveSame p q → FitsParty c p → FitsParty c q
   fits_same c p q same fits = record {
     once = λ t. omega (arith, fits.once t, same.places t);
-    home = λ k some. omega (arith, fits.home k (omega (arith, same.places (right_to k))), same.places (region_of k));
+    others = λ k. omega (arith, fits.others k, same.places (right_to k), same.places (region_of k));
     instances = omega (arith, fits.instances, same.instances);
     memories = omega (arith, fits.memories, same.memories);
   }
@@ -72,9 +72,9 @@ module _ {P : Type 0} where
   grant_inside (x ∷ xs) zero grant is = omega arith
   grant_inside (x ∷ xs) (suc i) grant is = omega (arith, grant_inside xs i grant is)
 
-  pub live_grant : (maker : MakerTold) (s : Settings) (live : List (Option (Grant P))) (i : ℕ) (grant : Grant P) → All (λ g. IfSome g (IsGrant maker s)) live → slice_index_or live i None ≡ Some grant → IsGrant maker s grant
-  live_grant maker s live i grant each is =
-      let G : Option (Grant P) → Type 0 = λ g. IfSome g (IsGrant maker s) in
+  pub live_grant : (maker : MakerTold) (s : Settings) (plan : Plan) (live : List (Option (Grant P))) (i : ℕ) (grant : Grant P) → All (λ g. IfSome g (IsGrant maker s plan)) live → slice_index_or live i None ≡ Some grant → IsGrant maker s plan grant
+  live_grant maker s plan live i grant each is =
+      let G : Option (Grant P) → Type 0 = λ g. IfSome g (IsGrant maker s plan) in
       subst G is (All-get_or G live i None (grant_inside live i grant is) each)
 
   -- a party with another call begun, whose grants are these
@@ -87,11 +87,11 @@ module _ {P : Type 0} where
     pub instances : sum_by (granted_to grant_instances) new + call_has grant_instances asked ≡ sum_by (granted_to grant_instances) old
     pub memories : sum_by (granted_to grant_memories) new + call_has grant_memories asked ≡ sum_by (granted_to grant_memories) old
 
-  pub has_call : (maker : MakerTold) (asked : Call P) (new : List (Option (Grant P))) (c : PoolCore P) (p : RunningParty P) → IsFrame maker c.settings p.frame → MayBegin maker c.settings asked p.frame → Brings asked p.live new → HaveSame p (with_call asked new p)
+  pub has_call : (maker : MakerTold) (asked : Call P) (new : List (Option (Grant P))) (c : PoolCore P) (p : RunningParty P) → IsFrame maker c.settings c.plan p.frame → MayBegin maker c.settings c.plan asked p.frame → Brings asked p.live new → HaveSame p (with_call asked new p)
   has_call maker asked new c p frame may brings = record {
-    places = λ t. omega (arith, begun_count maker t asked c.settings p.frame frame may, brings.places t);
-    instances = omega (arith, begun_instances maker asked c.settings p.frame may, brings.instances);
-    memories = omega (arith, begun_memories maker asked c.settings p.frame frame may, brings.memories);
+    places = λ t. omega (arith, begun_count maker t asked c.settings c.plan p.frame frame may, brings.places t);
+    instances = omega (arith, begun_instances maker asked c.settings c.plan p.frame may, brings.instances);
+    memories = omega (arith, begun_memories maker asked c.settings c.plan p.frame frame may, brings.memories);
   }
 
   pub brings_key : (live : List (Option (Grant P))) → Brings call.Key live live
@@ -117,11 +117,11 @@ module _ {P : Type 0} where
   still_none (x ∷ xs) (suc i) (suc k) none = still_none xs i k none
 
   -- The party can make its turn once a call began that may.
-  pub called : (maker : MakerTold) (asked : Call P) (new : List (Option (Grant P))) (c : PoolCore P) (p : RunningParty P) → CanTurn maker c p → MayBegin maker c.settings asked p.frame → Brings asked p.live new → All (λ g. IfSome g (IsGrant maker c.settings)) new → ((k : ℕ) → p.done ≤ k → slice_index_or new k None ≡ None) → (is_asking (stage_of (begun_call asked p.frame)) ≡ true → p.done < length new) → CanTurn maker c (with_call asked new p)
+  pub called : (maker : MakerTold) (asked : Call P) (new : List (Option (Grant P))) (c : PoolCore P) (p : RunningParty P) → CanTurn maker c p → MayBegin maker c.settings c.plan asked p.frame → Brings asked p.live new → All (λ g. IfSome g (IsGrant maker c.settings c.plan)) new → ((k : ℕ) → p.done ≤ k → slice_index_or new k None ≡ None) → (is_asking (stage_of (begun_call asked p.frame)) ≡ true → p.done < length new) → CanTurn maker c (with_call asked new p)
   called maker asked new c p can may brings grants to_come place = record {
     core = can.core;
     party = record {
-      sound = record { frame = begun_frame maker asked c.settings p.frame can.party.sound.frame may; grants = grants };
+      sound = record { frame = begun_frame maker asked c.settings c.plan p.frame can.party.sound.frame may; grants = grants };
       to_come = to_come;
       place = place;
     };
@@ -147,8 +147,8 @@ module _ {P : Type 0} where
 
   pub called_back : (maker : MakerTold) (i : ℕ) (grant : Grant P) (c : PoolCore P) (p : RunningParty P) → CanTurn maker c p → IsIdle p.frame → slice_index_or p.live i None ≡ Some grant → CanTurn maker c (record p { live = slice_set p.live i None; frame = begun_call (call.GiveBack grant) p.frame })
   called_back maker i grant c p can idle is =
-      called maker (call.GiveBack grant) (slice_set p.live i None) c p can (idle, live_grant maker c.settings p.live i grant can.party.sound.grants is) (brings_grant p.live i grant is)
-      (All-set (λ g. IfSome g (IsGrant maker c.settings)) p.live i None tt can.party.sound.grants)
+      called maker (call.GiveBack grant) (slice_set p.live i None) c p can (idle, live_grant maker c.settings c.plan p.live i grant can.party.sound.grants is) (brings_grant p.live i grant is)
+      (All-set (λ g. IfSome g (IsGrant maker c.settings c.plan)) p.live i None tt can.party.sound.grants)
       (λ k behind. still_none p.live i k (can.party.to_come k behind))
       (λ asking. absurd (returned_asks grant p.frame asking))
 

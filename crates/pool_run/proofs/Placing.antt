@@ -1,24 +1,32 @@
--- Each slot is in one place, since it is counted once.
-use Rattle.std.proofs.Common.{◌≡◌, ◌≢◌, ℕ, zero, suc, ◌+◌, ◌<◌, ◌≤◌, List, [], ◌∷◌, Option, refl, ap, ◌∙◌, inl, inr, arith}
-use Rattle.std.specs.Prelude.{slice_get, sum_by}
+-- Each slot is in one place, since what is given out is counted once.
+use Rattle.std.proofs.Common.{◌≡◌, ◌≢◌, ℕ, zero, suc, ◌+◌, ◌<◌, ◌≤◌, Bool, true, false, List, [], ◌∷◌, Option, Some, refl, sym, ap, ◌∙◌, inl, inr, arith, subst}
+use Rattle.std.specs.Prelude.{slice_get, sum_by, if◌then◌else◌, IfSome}
 use Rattle.std.specs.Option.{option_map_or}
-use Rattle.std.proofs.lemmas.Bool.{cases_eq, lt-ltb}
+use Rattle.std.proofs.lemmas.Bool.{cases_eq, cases_Bool, true≢false}
 use Rattle.std.proofs.lemmas.List.Sums.{sum_by-cons}
-use Rattle.std.proofs.lemmas.Option.{slice_get-get_or}
-use Rattle.pool_index.specs.Shard.{ShardState, one_if, slot_number}
+use Rattle.std.proofs.lemmas.Option.{get_or_from_slice_get, slice_get_within}
+use Rattle.pool_index.specs.Shard.{ShardState, is_used, slot_number, pick_answer}
+use Rattle.pool_index.specs.declared.ids.SlotId.{SlotId}
 use Rattle.pool_pages.specs.MakerTold.{MakerTold}
-use Rattle.pool_alloc.specs.Places.{right_to, slot_count, free_count, made_count, part_count}
-use Rattle.pool_alloc.specs.Steps.{nth_shard}
-use Rattle.pool_alloc.proofs.SlotCounts.{slot_once, pick_less}
+use Rattle.pool_slots.specs.Parts.{part_at}
+use Rattle.pool_slots.specs.Plans.{Role, shard_role, cell_role, queue_role, heaps_role, no_role, role_at}
+use Rattle.pool_slots.specs.declared.plan.Allocator.{Allocator}
+use Rattle.pool_slots.specs.declared.part.PoolPart.{PoolPart}
+use Rattle.pool_slots.specs.declared.part.PoolPart.TheVariants as part
+use Rattle.pool_alloc.specs.Places.{right_to, queued_count, away_count}
+use Rattle.pool_alloc.specs.Steps.{memory_slots, shard_in, shard_at, queue_in, shard_of, local_of}
+use Rattle.pool_alloc.specs.Sound.{IsPartFor, IsPartAt}
+use Rattle.pool_alloc.specs.declared.pool_core.Settings.{Settings}
+use Rattle.pool_alloc.proofs.Held.{right_is_out}
+use Rattle.pool_alloc.proofs.KeptCounts.{out_once}
+use Rattle.pool_alloc.proofs.PlanPlaces.{IsShardPlace}
+use Rattle.pool_alloc.proofs.PoolParts.{slot_of_shard, sound_shard}
+use Rattle.pool_alloc.proofs.Picks.{picked_inside}
+use Rattle.pool_alloc.proofs.UsedSlots.{used_is_out, picked_was_in, kept_sum}
 use Rattle.pool_run.specs.Folds.{RunState, HoldsBetween}
-use Rattle.pool_run.specs.Placed.{Place, with_party, times_at, IsIn, IsPicked, SlotsAreInOnePlace, UsedSlotsAreNotPicked, in_part}
+use Rattle.pool_run.specs.Placed.{Place, free, in_queue, with_party, times_at, IsIn, IsPicked, SlotsAreInOnePlace, UsedSlotsAreNotPicked}
 use Rattle.pool_run.specs.Ties.{held_by_party}
 use Rattle.pool_run.specs.declared.running_party.RunningParty.{RunningParty}
-use Rattle.pool_alloc.proofs.PoolParts.{shard_part, sound_shard}
-use Rattle.pool_alloc.proofs.KeptCounts.{shard_count}
-use Rattle.pool_alloc.proofs.Held.{made_once}
-use Rattle.pool_slots.specs.Parts.{part_at}
-use Rattle.pool_slots.specs.declared.part.PoolPart.{PoolPart}
 
 -- how much one of a list has
 abbrev has_at : {X : Type 0} → (X → ℕ) → List X → ℕ → ℕ
@@ -51,72 +59,128 @@ one_of_all f (x ∷ xs) one =
       | inr some ↦ record { at = 0; one = omega (arith, one, some, sum_by-cons f x xs) }
     ]
 
+-- a shard of the pool has the role of one
+shard_role_of : (P : Type 0) (maker : MakerTold) (s : Settings) (r : Role) (shard : ShardState) → IsPartFor {P = P} maker s r (part.Shard shard) → (a : Allocator) × (j : ℕ) × (r ≡ shard_role a j)
+shard_role_of P maker s (shard_role a j) shard is = (a, j, refl)
+shard_role_of P maker s (cell_role name) shard is = absurd is
+shard_role_of P maker s queue_role shard is = absurd is
+shard_role_of P maker s heaps_role shard is = absurd is
+shard_role_of P maker s no_role shard is = absurd is
+
 module _ {P : Type 0} (maker : MakerTold) (s : RunState P) (k : ℕ) (holds : HoldsBetween maker s) where
-  abbrev of_part : PoolPart P → ℕ
-  of_part x = part_count (right_to k) x
+  abbrev of_queue : PoolPart P → ℕ
+  of_queue x = queued_count (right_to k) (queue_in x).slots
 
   abbrev of_party : RunningParty P → ℕ
   of_party p = (held_by_party p).places (right_to k)
 
-  all_places : sum_by of_part s.core.parts + sum_by of_party s.parties ≡ made_count (right_to k) s.core.settings.slots
-  all_places = holds.running.whole.places (right_to k)
+  queue_here : (xs : List (PoolPart P)) (p : ℕ) → of_queue (part_at p xs) ≡ has_at of_queue xs p
+  queue_here [] p = refl
+  queue_here (x ∷ xs) zero = refl
+  queue_here (x ∷ xs) (suc p) = queue_here xs p
 
-  once_at_most : sum_by of_part s.core.parts + sum_by of_party s.parties ≤ 1
-  once_at_most = omega (arith, all_places, made_once (right_to k) s.core.settings.slots)
+  all_places : sum_by of_queue s.core.parts + sum_by of_party s.parties ≡ away_count (right_to k) s.core
+  all_places = omega (arith, holds.running.whole.places (right_to k), kept_sum (right_to k) s.core)
 
-  -- In two places it can't be,
-  part_most : (p : ℕ) → times_at s (in_part p) k ≤ sum_by of_part s.core.parts
-  part_most p = at_most_all of_part s.core.parts p
+  once_at_most : sum_by of_queue s.core.parts + sum_by of_party s.parties ≤ 1
+  once_at_most = omega (arith, all_places, (out_once maker k s.core holds.running.core).0)
+
+  queue_most : (p : ℕ) → times_at s (in_queue p) k ≤ sum_by of_queue s.core.parts
+  queue_most p = omega (arith, queue_here s.core.parts p, at_most_all of_queue s.core.parts p)
 
   party_most : (i : ℕ) → times_at s (with_party i) k ≤ sum_by of_party s.parties
   party_most i = at_most_all of_party s.parties i
 
-  -- where it is once in one
+  abbrev used : Bool
+  used = is_used (shard_at (shard_of s.core.plan k) s.core) (local_of s.core.plan k).0
+
+  -- A slot that is given out is used, and one that is free isn't given out.
+  none_out : used ≡ false → away_count (right_to k) s.core ≡ 0
+  none_out unused =
+      elim (cases_eq (away_count (right_to k) s.core) 0) [
+        | inl none ↦ none
+        | inr some ↦ absurd (true≢false (sym (right_is_out maker k s.core holds.running.core (omega (arith, some))).used ∙ unused))
+      ]
+
+  free_alone : times_at s free k ≡ 1 → away_count (right_to k) s.core ≡ 0
+  free_alone one =
+      elim (cases_Bool used) [
+        | inl is ↦ let none : times_at s free k ≡ 0 = rw is refl in absurd (omega (arith, one, none))
+        | inr other ↦ none_out other
+      ]
+
+  free_not_out : times_at s free k ≢ 0 → away_count (right_to k) s.core ≡ 0
+  free_not_out some =
+      elim (cases_Bool used) [
+        | inl is ↦ absurd (some (rw is refl))
+        | inr other ↦ none_out other
+      ]
+
+  -- In two places it can't be, where it is once in one
   apart : (a b : Place) → times_at s a k ≡ 1 → times_at s b k ≢ 0 → b ≡ a
-  apart (in_part p) (in_part q) one some =
+  apart free free one some = refl
+  apart free (in_queue p) one some = absurd (some (omega (arith, free_alone one, all_places, queue_most p)))
+  apart free (with_party i) one some = absurd (some (omega (arith, free_alone one, all_places, party_most i)))
+  apart (in_queue p) free one some = absurd (omega (arith, one, free_not_out some, all_places, queue_most p))
+  apart (with_party i) free one some = absurd (omega (arith, one, free_not_out some, all_places, party_most i))
+  apart (in_queue p) (in_queue q) one some =
       elim (cases_eq q p) [
-        | inl is ↦ ap in_part is
-        | inr other ↦ absurd (some (omega (arith, one, once_at_most, two_at_most of_part s.core.parts q p other)))
+        | inl is ↦ ap in_queue is
+        | inr other ↦ absurd (some (omega (arith, one, once_at_most, queue_here s.core.parts p, queue_here s.core.parts q, two_at_most of_queue s.core.parts q p other)))
       ]
   apart (with_party j) (with_party i) one some =
       elim (cases_eq i j) [
         | inl is ↦ ap with_party is
         | inr other ↦ absurd (some (omega (arith, one, once_at_most, two_at_most of_party s.parties i j other)))
       ]
-  apart (in_part p) (with_party i) one some = absurd (some (omega (arith, one, once_at_most, part_most p, party_most i)))
-  apart (with_party i) (in_part p) one some = absurd (some (omega (arith, one, once_at_most, part_most p, party_most i)))
+  apart (in_queue p) (with_party i) one some = absurd (some (omega (arith, one, once_at_most, queue_most p, party_most i)))
+  apart (with_party i) (in_queue p) one some = absurd (some (omega (arith, one, once_at_most, queue_most p, party_most i)))
 
   is_in : (place : Place) → times_at s place k ≡ 1 → IsIn s k place
   is_in place one = record { once = one; nowhere_else = λ other some. apart place other one some }
 
   -- and in one it is.
-  placed : k < s.core.settings.slots → (place : Place) × IsIn s k place
+  placed : k < memory_slots s.core.plan → (place : Place) × IsIn s k place
   placed below =
-      let one : sum_by of_part s.core.parts + sum_by of_party s.parties ≡ 1 = all_places ∙ ap one_if (lt-ltb k s.core.settings.slots below) in
-      elim (cases_eq (sum_by of_part s.core.parts) 1) [
-        | inl kept ↦ let x = one_of_all of_part s.core.parts kept in (in_part x.at, is_in (in_part x.at) x.one)
-        | inr away ↦ let p = one_of_all of_party s.parties (omega (arith, one, away)) in (with_party p.at, is_in (with_party p.at) p.one)
+      elim (cases_Bool used) [
+        | inl is ↦
+            let one : sum_by of_queue s.core.parts + sum_by of_party s.parties ≡ 1 = all_places ∙ used_is_out maker k s.core holds.running.core below is in
+            elim (cases_eq (sum_by of_queue s.core.parts) 1) [
+              | inl kept ↦ let x = one_of_all of_queue s.core.parts kept in (in_queue x.at, is_in (in_queue x.at) (queue_here s.core.parts x.at ∙ x.one))
+              | inr away ↦ let p = one_of_all of_party s.parties (omega (arith, one, away)) in (with_party p.at, is_in (with_party p.at) p.one)
+            ]
+        | inr other ↦ (free, is_in free (rw other refl))
       ]
 
-  -- What a pick gives is free.
-  picked_free : (x : IsPicked s k) → 1 ≤ times_at s (in_part x.shard) k
-  picked_free x =
-      let shard : ShardState = nth_shard x.shard s.core in
-      let there = shard_part maker x.shard s.core holds.running.core x.inside in
-      let here : times_at s (in_part x.shard) k ≡ free_count (right_to k) shard =
-      ap (λ (o : Option (PoolPart P)). option_map_or of_part o 0) (slice_get-get_or s.core.parts x.shard (part_at 0 []) there.inside) ∙ shard_count (right_to k) (part_at x.shard s.core.parts) there.part in
-      let number : slot_count (right_to k) (slot_number shard x.pick.0.0) ≡ 1 = ap (slot_count (right_to k)) x.number ∙ slot_once k in
-      omega (arith, here, number, pick_less (right_to k) x.want shard x.pick (sound_shard maker x.shard s.core holds.running.core x.inside) x.picked)
-
-  not_elsewhere : (x : IsPicked s k) (p i : ℕ) → (p ≢ x.shard → times_at s (in_part p) k ≡ 0) × (times_at s (with_party i) k ≡ 0)
-  not_elsewhere x p i = (
-    λ other. omega (arith, picked_free x, once_at_most, two_at_most of_part s.core.parts p x.shard other),
-    omega (arith, picked_free x, part_most x.shard, once_at_most, party_most i),
-  )
+  -- What a pick gives is free, in the shard where it is at home.
+  not_elsewhere : (x : IsPicked s k) → (x.place ≡ shard_of s.core.plan k) × IsIn s k free
+  not_elsewhere x =
+      let core = holds.running.core in
+      let at : part_at x.place s.core.parts ≡ part.Shard x.shard = get_or_from_slice_get s.core.parts x.place (part.Shard x.shard) _ x.there in
+      let below = slice_get_within s.core.parts x.place (part.Shard x.shard) x.there in
+      let F : PoolPart P → Type 0 = λ y. IsPartAt maker s.core.settings s.core.plan x.place y in
+      let role = shard_role_of P maker s.core.settings (role_at s.core.plan x.place) x.shard (subst F at (core.parts x.place below)) in
+      let place : IsShardPlace s.core.plan x.place = record { allocator = role.0; index = role.1; role = role.2 } in
+      let is : shard_at x.place s.core ≡ x.shard = ap shard_in at in
+      let A : ShardState → Type 0 = λ y. pick_answer x.want y ≡ Some x.pick in
+      let N : ShardState → Type 0 = λ y. slot_number y x.pick.0.0 ≡ k in
+      let answer : A (shard_at x.place s.core) = subst A (sym is) x.picked in
+      let number : N (shard_at x.place s.core) = subst N (sym is) x.number in
+      let sound = sound_shard maker x.place s.core core place in
+      let within : x.pick.0.0 < (shard_at x.place s.core).capacity = subst (λ (o : Option (SlotId × ℕ)). IfSome o (λ p. p.0.0 < (shard_at x.place s.core).capacity)) answer (picked_inside x.want (shard_at x.place s.core) sound) in
+      let none : away_count (right_to k) s.core ≡ 0 = ap (λ (n : ℕ). away_count (right_to n) s.core) (sym number) ∙ picked_was_in maker x.want x.place x.pick s.core core place answer in
+      let slot = slot_of_shard maker x.place x.pick.0.0 s.core core place within in
+      let inside : k < memory_slots s.core.plan = omega (arith, number, slot.inside) in (
+        slot.home ∙ ap (shard_of s.core.plan) number,
+        elim (cases_Bool used) [
+          | inl is' ↦ absurd (omega (arith, none, used_is_out maker k s.core core inside is'))
+          | inr other ↦ is_in free (rw other refl)
+        ],
+      )
 
 -- The laws.
 pub slots_in_one_place : (P : Type 0) → SlotsAreInOnePlace P
 slots_in_one_place P maker s k holds below = placed maker s k holds below
 
 pub used_not_picked : (P : Type 0) → UsedSlotsAreNotPicked P
-used_not_picked P maker s k p i holds picked = not_elsewhere maker s k holds picked p i
+used_not_picked P maker s k holds picked = not_elsewhere maker s k holds picked

@@ -1,7 +1,7 @@
 -- What a step makes of a request, as its party is told: it goes on, is refused for a cause, or is granted what it asked for.
 use Rattle.std.proofs.Common.{◌≡◌, ℕ, zero, suc, ◌+◌, ◌<◌, ◌≤◌, true, List, [], ◌∷◌, length, map, Option, Some, None, Result, Ok, Err, refl, sym, ap, ◌∙◌, subst, inl, inr, arith, All}
 use Rattle.std.specs.Prelude.{IfSome, slice_get, slice_index_or, sum_by}
-use Rattle.std.proofs.lemmas.Bool.{cases_eq}
+use Rattle.std.proofs.lemmas.Bool.{cases_eq, cases_lt, le-ltb, lt-ltb}
 use Rattle.std.proofs.lemmas.List.Elements.{All-get_or}
 use Rattle.std.proofs.lemmas.Option.{slice_get_within, get_or_from_slice_get}
 use Rattle.pool_pages.specs.declared.module_types.MemoryDecl.{MemoryDecl}
@@ -17,12 +17,13 @@ use Rattle.pool_slots.specs.declared.errors.AllocError.TheVariants as refusal
 use Rattle.pool_alloc.specs.Answers.{AsksForMemory}
 use Rattle.pool_alloc.specs.Leases.{Lease}
 use Rattle.pool_alloc.specs.Own.{made_for}
-use Rattle.pool_alloc.specs.Places.{Thing, right_to, leased_count, slot_count, frame_count, made_count, phase_instances}
+use Rattle.pool_alloc.specs.Places.{right_to, leased_count, slot_count, frame_count, phase_instances}
+use Rattle.pool_run.proofs.SlotsMade.{made_slot}
 use Rattle.pool_alloc.specs.Refusals.{memories_refused}
 use Rattle.pool_alloc.specs.Sound.{IsFrame, IsAllocating, IsSupported, AreSupported, IsNew, AreBegun, IsLeaseOf}
 use Rattle.pool_alloc.specs.Stages.{Progress, untested, uncounted, admitted, FindsNone, IsPageFaulted, Makes, IsUntested, Raises, Follows}
 use Rattle.pool_alloc.specs.Stepping.{grant_count, grant_instances}
-use Rattle.pool_alloc.specs.Steps.{memories_wanted, images_wanted}
+use Rattle.pool_alloc.specs.Steps.{memories_wanted, images_wanted, memory_slots, stripe_allocator, allocator_for}
 use Rattle.pool_alloc.specs.declared.pool_core.PoolCore.{PoolCore}
 use Rattle.pool_alloc.specs.declared.pool_core.Settings.{Settings}
 use Rattle.pool_alloc.specs.declared.frame.Frame.{Frame}
@@ -35,8 +36,11 @@ use Rattle.pool_run.specs.Worlds.{IsWorldOf}
 use Rattle.pool_run.proofs.Bytes.{begun_seen}
 use Rattle.pool_run.proofs.Causes.{slots_given, instances_given, fault_given, fault_of_slot, given_cause, own_cause, broken_cause, memory_cause, first_is, asked_more, GoesWith, own_goes}
 use Rattle.pool_run.proofs.Exhausted.{live_told, instances_told, all_taken, one_free}
-use Rattle.pool_run.proofs.Moves.{answer_told}
+use Rattle.pool_run.proofs.Growths.{answer_told}
 use Rattle.pool_run.proofs.Wants.{wants_at, wants_there, count_wanted, wanted_memories}
+use Rattle.pool_slots.specs.declared.plan.Allocator.{Allocator}
+use Rattle.pool_slots.specs.Plans.{has_number}
+use Rattle.pool_index.specs.Shard.{one_if}
 
 -- what there is of an element that is told of
 told_there : {X : Type 0} (Q : Type 0) (xs : List X) (k : ℕ) → k < length xs → ((x : X) → slice_get xs k ≡ Some x → Q) → Q
@@ -74,9 +78,8 @@ module _ {P : Type 0} (w : World) (old new : LimiterTold) (c : PoolCore P) (f : 
   -- What is so of the pool and the party before a step.
   pub record IsBefore : Type 0 where
     pub world : IsWorldOf w c
-    pub frame : IsFrame w.maker c.settings f
-    pub slots : c.settings.slots ≡ c.settings.slots
-    pub once : (t : Thing) → frame_count t f + sum_by (granted_to (grant_count t)) live ≤ made_count t c.settings.slots
+    pub frame : IsFrame w.maker c.settings c.plan f
+    pub once : (k : ℕ) → frame_count (right_to k) f + sum_by (granted_to (grant_count (right_to k))) live ≤ made_slot k (memory_slots c.plan)
     pub instances : phase_instances f.phase + sum_by (granted_to grant_instances) live ≤ c.counters.core_instances
     pub alone : w.alone ≡ true → IsAlone c f live
     pub rule : old.rule ≡ Some w.terms.rule
@@ -85,8 +88,12 @@ module _ {P : Type 0} (w : World) (old new : LimiterTold) (c : PoolCore P) (f : 
   abbrev request : Request
   request = request_of w.terms number
 
-  one_stripe : c.settings.stripes ≡ 1
-  one_stripe = ap (λ (s : Settings). s.stripes) (sym is.world.settings) ∙ is.world.stripes
+  -- it is of the only stripe
+  its_stripe : f.stripe ≡ 0
+  its_stripe = omega (arith, is.frame.stripe, is.world.plan.one)
+
+  its_allocator : allocator_for c.plan f ≡ stripe_allocator c.plan 0
+  its_allocator = ap (stripe_allocator c.plan) its_stripe
 
   same_memories : memories_wanted f.asked ≡ memories_of w.terms number
   same_memories = wanted_memories f.asked w.terms number asked
@@ -99,33 +106,42 @@ module _ {P : Type 0} (w : World) (old new : LimiterTold) (c : PoolCore P) (f : 
   broken_is o broken = ap (λ (s : Settings). memories_refused s (memories_of w.terms number)) is.world.settings ∙ ap (memories_refused c.settings) (sym same_memories) ∙ broken
 
   -- a slot is asked for the memory that is allocated
-  asked_now : (n : ℕ) → IsAdmitted w request told n → n ≡ length f.objects.items → IsAllocating c.settings f → n < slots_asked w.terms.rule request.wants
+  asked_now : (n : ℕ) → IsAdmitted w request told n → n ≡ length f.objects.items → IsAllocating c.settings c.plan f → n < slots_asked w.terms.rule request.wants
   asked_now n so same allocating =
       asked_more w.terms.rule request.wants n (omega (arith, same, allocating.more, same_number)) so.allowed
 
   -- No slot is found for a memory: where the party is alone, its live memories and those of the instance are too many.
   none_cause : (n : ℕ) (e : AllocError) → IsAdmitted w request told n → FindsNone c f n e → HasCause w request told e
   none_cause n e so none =
-      let total : w.terms.slots ≡ c.settings.slots = is.world.slots ∙ is.slots in
+      let room : w.terms.slots ≡ (allocator_for c.plan f).capacity = sym is.world.plan.room ∙ sym (ap (λ (x : Allocator). x.capacity) its_allocator) in
       let full : w.alone ≡ true → w.terms.slots ≤ live_count told + n =
       λ a.
       let alone : IsAlone c f live = is.alone a in
-      let all : (k : ℕ) → leased_count (right_to k) f.objects.items + sum_by (granted_to (grant_count (right_to k))) live ≡ made_count (right_to k) c.settings.slots =
-      λ k. omega (arith, alone.places (right_to k), none.none alone.searched k, none.has k) in
-      omega (arith, is.world.slots, none.number, all_taken c.settings.slots f.objects.items live all, live_told live told seen) in
+      let all : (k : ℕ) → leased_count (right_to k) f.objects.items + sum_by (granted_to (grant_count (right_to k))) live ≡ made_slot k (memory_slots c.plan) =
+      λ k. elim (cases_lt k (memory_slots c.plan)) [
+        | inl below ↦
+            let its : has_number (allocator_for c.plan f) k ≡ true = ap (λ (x : Allocator). has_number x k) its_allocator ∙ is.world.plan.each k (omega (arith, below, is.world.plan.total)) in
+            let gone = none.none alone.searched k its in
+            let one : made_slot k (memory_slots c.plan) ≡ 1 = ap one_if (lt-ltb k (memory_slots c.plan) below) in
+            omega (arith, one, alone.places (right_to k), gone.0, gone.1, none.has k)
+        | inr past ↦
+            let past_all : made_slot k (memory_slots c.plan) ≡ 0 = ap one_if (le-ltb k (memory_slots c.plan) past) in
+            omega (arith, is.once k, none.has k, past_all)
+      ] in
+      omega (arith, is.world.plan.total, none.number, all_taken (memory_slots c.plan) f.objects.items live all, live_told live told seen) in
       subst (HasCause w request told) (sym none.is)
-      (given_cause w request told _ so.supported (slots_given w request told c.settings.slots f.stripe c.settings.stripes n total is.frame.stripe one_stripe (asked_now n so none.number none.allocating) full))
+      (given_cause w request told _ so.supported (slots_given w request told (allocator_for c.plan f).capacity f.stripe n room its_stripe (asked_now n so none.number none.allocating) full))
 
   -- A call on the pages of its slot failed.
   fault_cause : (n : ℕ) (e : AllocError) → IsAdmitted w request told n → IsPageFaulted w.maker c f n e → HasCause w request told e
   fault_cause n e so fault =
-      let held : (k : ℕ) → slot_count (right_to k) fault.slot + sum_by (granted_to (grant_count (right_to k))) live ≤ made_count (right_to k) c.settings.slots = λ k. omega (arith, fault.has k, is.once (right_to k)) in
-      let inside : fault.slot < c.settings.slots = omega (arith, fault.region.inside, is.slots) in
-      let free : live_count told < w.terms.slots = omega (arith, one_free c.settings.slots fault.slot live held inside, live_told live told seen, is.world.slots) in
+      let held : (k : ℕ) → slot_count (right_to k) fault.slot + sum_by (granted_to (grant_count (right_to k))) live ≤ made_slot k (memory_slots c.plan) = λ k. omega (arith, fault.has k, is.once k) in
+      let inside : fault.slot < memory_slots c.plan = fault.region.inside in
+      let free : live_count told < w.terms.slots = omega (arith, one_free (memory_slots c.plan) fault.slot live held inside, live_told live told seen, is.world.plan.total) in
       subst (HasCause w request told) (sym fault.is)
       (given_cause w request told refusal.PageFault so.supported
       (fault_given w request told n (asked_now n so fault.number fault.allocating)
-      (fault_of_slot w c.settings.behaviour c.settings.max_memory_size c.settings.slots fault.slot fault.old fault.new is.world.slots inside fault.region.region fault.left) free))
+      (fault_of_slot w c.settings.behaviour c.settings.max_memory_size (memory_slots c.plan) fault.slot fault.old fault.new is.world.plan.total inside fault.region.region fault.left) free))
 
   -- What is made of memory n goes with its own refusal.
   made_own : (n : ℕ) (made : Result MemoryState AllocError) (decl : MemoryDecl) (image : Option Image) → slice_get (memories_wanted f.asked) n ≡ Some decl → Makes old new c f n made → GoesWith (own_refusal w.terms.rule (new_memory decl image)) made
@@ -200,7 +216,7 @@ module _ {P : Type 0} (w : World) (old new : LimiterTold) (c : PoolCore P) (f : 
       ]
 
   -- What is granted begins as what is asked for does.
-  pub granted_begun : (leases : List Lease) → All (IsLeaseOf w.maker c.settings) leases → length leases ≡ length (memories_wanted f.asked) → AreBegun c.settings f.asked leases → AreSupported c.settings (memories_wanted f.asked) (images_wanted f.asked) → map private_memory leases ≡ begun_memories w.terms (request_of w.terms number).wants (slots_of leases)
+  pub granted_begun : (leases : List Lease) → All (IsLeaseOf w.maker c.settings c.plan) leases → length leases ≡ length (memories_wanted f.asked) → AreBegun c.settings f.asked leases → AreSupported c.settings (memories_wanted f.asked) (images_wanted f.asked) → map private_memory leases ≡ begun_memories w.terms (request_of w.terms number).wants (slots_of leases)
   granted_begun leases each count begun supported =
       let Begun : List Want → Type 0 = λ ws. map private_memory leases ≡ begun_memories w.terms ws (slots_of leases) in
       subst Begun asked (all_begun w.terms (wants_asked f.asked) leases (count ∙ sym (count_wanted (memories_wanted f.asked) (images_wanted f.asked)))
@@ -208,7 +224,7 @@ module _ {P : Type 0} (w : World) (old new : LimiterTold) (c : PoolCore P) (f : 
       let given : Option Image = slice_index_or (images_wanted f.asked) j None in
       let asks = wants_there (memories_wanted f.asked) (images_wanted f.asked) j want at in
       let decl : MemoryDecl = asks.decl in
-      let lease : IsLeaseOf w.maker c.settings l = leased (IsLeaseOf w.maker c.settings) leases j l there each in
+      let lease : IsLeaseOf w.maker c.settings c.plan l = leased (IsLeaseOf w.maker c.settings c.plan) leases j l there each in
       let new : IsNew c.settings.max_memory_size given l.memory decl = told_of (IsNew c.settings.max_memory_size given l.memory) (slice_get (memories_wanted f.asked) j) decl asks.wanted (told_of (λ x. IfSome (slice_get (memories_wanted f.asked) j) (IsNew c.settings.max_memory_size given x.memory)) (slice_get leases j) l there (begun j)) in
       let fits : IfSome given (FitsInto c.settings.page (minimum_byte_size decl.ty)) = (told_of (λ d. IsSupported c.settings d given) (slice_get (memories_wanted f.asked) j) decl asks.wanted (supported.each j)).image_fits in
       begun_seen w.terms w.maker c.settings given decl l is.world.tells is.world.settings lease.slot new fits ∙ ap (begun_memory w.terms l.index) (sym asks.is)))

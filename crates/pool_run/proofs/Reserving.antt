@@ -29,19 +29,20 @@ use Rattle.pool_run.specs.declared.running_party.RunningParty.{RunningParty}
 use Rattle.pool_run.proofs.Parties.{returned_asks}
 use Rattle.pool_run.proofs.StageSteps.{is_none, none_idle, place_granted, settled_place, asking_some, IsStagedStep}
 use Rattle.pool_run.proofs.Stepped.{IsStepped}
+use Rattle.pool_slots.specs.declared.plan.Plan.{Plan}
 
 module _ {P : Type 0} where
   pub back_reserved : (grant : Grant P) (f : Frame P) (slots : Reserved ℕ) → IsReserved f slots → IsReserved (begun_call (call.GiveBack grant) f) slots
   back_reserved grant f slots reserved = record { empty = reserved.empty; room = λ asking. absurd (returned_asks grant f asking) }
 
-  granted_room : (maker : MakerTold) (s : Settings) (asked : Option ModuleAsked) (room : ℕ) (o : Option (Outcome P)) → IfGranted (λ g. length (memories_wanted asked) ≤ room) o → IfGranted (IsGrantOf maker s asked) o → IfGranted (λ g. length (leases_of g) ≤ room) o
-  granted_room maker s asked room (Some (answer.Granted (instance lease))) place is = omega (arith, is.1, place)
-  granted_room maker s asked room _ place is = tt
+  granted_room : (maker : MakerTold) (s : Settings) (plan : Plan) (asked : Option ModuleAsked) (room : ℕ) (o : Option (Outcome P)) → IfGranted (λ g. length (memories_wanted asked) ≤ room) o → IfGranted (IsGrantOf maker s plan asked) o → IfGranted (λ g. length (leases_of g) ≤ room) o
+  granted_room maker s plan asked room (Some (answer.Granted (instance lease))) place is = omega (arith, is.1, place)
+  granted_room maker s plan asked room _ place is = tt
 
   -- It has room for what is granted.
   pub room_granted : {old new : LimiterTold} (maker : MakerTold) (c : PoolCore P) (f : Frame P) (a : After P) (slots : Reserved ℕ) → IsReserved f slots → IsStepped maker old new c f a → IfGranted (λ g. length (leases_of g) ≤ slots.room) a.outcome
   room_granted maker c f a slots reserved on =
-      granted_room maker c.settings f.asked slots.room a.outcome
+      granted_room maker c.settings c.plan f.asked slots.room a.outcome
       (place_granted (length (memories_wanted f.asked) ≤ slots.room) (is_asking (stage_of f)) a.outcome reserved.room on.staged.granted) on.granted
 
   after_reserved : (o : Option (Outcome P)) (f g : Frame P) (slots : Reserved ℕ) → IsReserved f slots → IsStagedStep (stage_of f) (stage_of g) o → (is_asking (stage_of g) ≡ true → g.asked ≡ f.asked) → IsReserved g (slots_after o slots)

@@ -1,23 +1,25 @@
 -- A run of several parties: each may turn, and after a turn of one the run goes on.
-use Rattle.std.proofs.Common.{◌≡◌, ℕ, ◌+◌, ◌<◌, ◌≤◌, List, length, get_or, refl, sym, ap, subst, arith, All}
+use Rattle.std.proofs.Common.{◌≡◌, ℕ, ◌+◌, ◌<◌, ◌≤◌, List, length, get_or, refl, ap, arith, All}
 use Rattle.std.specs.Prelude.{IfSome, remove, sum_by, slice_set, slice_index_or}
 use Rattle.std.proofs.lemmas.List.Elements.{All-set, All-get_or}
 use Rattle.std.proofs.lemmas.List.Sums.{sum_by-set, sum_by-remove, sum_by-le-sum_by, get_or-le-sum_by}
 use Rattle.pool_pages.specs.MakerTold.{MakerTold}
-use Rattle.pool_alloc.specs.Places.{right_to, region_of, made_count}
+use Rattle.pool_alloc.specs.Places.{right_to, region_of}
 use Rattle.pool_alloc.specs.Calls.{IsGrant}
 use Rattle.pool_alloc.specs.Stepping.{IsSameSize}
 use Rattle.pool_alloc.specs.Whole.{HasSlots, IsPartitioned}
 use Rattle.pool_alloc.specs.declared.pool_core.PoolCore.{PoolCore}
 use Rattle.pool_alloc.specs.declared.pool_core.Settings.{Settings}
-use Rattle.pool_alloc.proofs.KeptCounts.{frame_regions}
+use Rattle.pool_alloc.proofs.Held.{frame_regions}
 use Rattle.pool_alloc.specs.Sound.{IsFrame}
 use Rattle.pool_run.specs.Turns.{Turned}
 use Rattle.pool_run.specs.Ties.{held_by_party, IsParty, FitsParty, CanTurn, IsRunning}
 use Rattle.pool_run.specs.declared.running_party.RunningParty.{RunningParty}
 use Rattle.pool_run.proofs.Parties.{live_regions}
 use Rattle.pool_run.proofs.Turned.{HasTurned}
-use Rattle.pool_run.proofs.Sounds.{IsSoundTurn}
+use Rattle.pool_run.proofs.Sounds.{IsSoundTurn, over_size}
+use Rattle.pool_slots.specs.declared.plan.Plan.{Plan}
+use Rattle.pool_alloc.specs.Steps.{memory_slots}
 
 module _ {P : Type 0} where
   -- A party has no region without its slot.
@@ -37,9 +39,7 @@ module _ {P : Type 0} where
   pub fits_party : (c : PoolCore P) (parties : List (RunningParty P)) (i : ℕ) (d : RunningParty P) → IsPartitioned held_by_party c parties → i < length parties → FitsParty c (slice_index_or parties i d)
   fits_party c parties i d whole below = record {
     once = λ t. omega (arith, whole.places t, get_or-le-sum_by (λ p. (held_by_party p).places t) parties i d below);
-    home = λ k some.
-        let both : made_count (region_of k) c.settings.slots ≡ made_count (right_to k) c.settings.slots = refl in
-        omega (arith, some, both, whole.places (right_to k), whole.places (region_of k), others_have_slots parties i k d below, get_or-le-sum_by (λ p. (held_by_party p).places (right_to k)) parties i d below);
+    others = λ k. omega (arith, whole.places (right_to k), whole.places (region_of k), others_have_slots parties i k d below);
     instances = omega (arith, whole.instances, get_or-le-sum_by (λ p. (held_by_party p).instances) parties i d below);
     memories = omega (arith, whole.memories, get_or-le-sum_by (λ p. (held_by_party p).memories) parties i d below);
   }
@@ -54,7 +54,7 @@ module _ {P : Type 0} where
 
   whole_turned : (c : PoolCore P) (parties : List (RunningParty P)) (i : ℕ) (d : RunningParty P) (t : Turned P) → IsPartitioned held_by_party c parties → i < length parties → HasTurned c (slice_index_or parties i d) t → IsPartitioned held_by_party t.core (slice_set parties i t.party)
   whole_turned c parties i d t whole below turned = record {
-    places = λ x. omega (arith, ap (λ (z : Settings). made_count x z.slots) turned.size.settings, whole.places x, turned.places x, sum_by-set (λ p. (held_by_party p).places x) parties i t.party d below);
+    places = λ x. omega (arith, whole.places x, turned.places x, sum_by-set (λ p. (held_by_party p).places x) parties i t.party d below);
     instances = omega (arith, whole.instances, turned.instances, sum_by-set (λ p. (held_by_party p).instances) parties i t.party d below);
     memories = omega (arith, whole.memories, turned.memories, sum_by-set (λ p. (held_by_party p).memories) parties i t.party d below);
   }
@@ -62,10 +62,10 @@ module _ {P : Type 0} where
   -- A party stays sound over a pool of the same sizes.
   pub party_over : (maker : MakerTold) (c d : PoolCore P) (p : RunningParty P) → IsSameSize c d → IsParty maker c p → IsParty maker d p
   party_over maker c d p size is =
-      let Grants : Settings → Type 0 = λ s. All (λ g. IfSome g (IsGrant maker s)) p.live in
-      let Framed : Settings → Type 0 = λ s. IsFrame maker s p.frame in
+      let Grants : Settings → Plan → Type 0 = λ s plan. All (λ g. IfSome g (IsGrant maker s plan)) p.live in
+      let Framed : Settings → Plan → Type 0 = λ s plan. IsFrame maker s plan p.frame in
       record {
-        sound = record { frame = subst Framed (sym size.settings) is.sound.frame; grants = subst Grants (sym size.settings) is.sound.grants };
+        sound = record { frame = over_size Framed c d size is.sound.frame; grants = over_size Grants c d size is.sound.grants };
         to_come = is.to_come;
         place = is.place;
       }

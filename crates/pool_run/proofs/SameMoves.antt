@@ -1,38 +1,35 @@
 -- An operation on a memory has one outcome, where the slot that the memory lies in tells what it holds and which calls on
 -- it fail, and there is memory for the reply.
-use Rattle.std.proofs.Common.{◌≡◌, ◌≢◌, ℕ, ◌+◌, ◌<◌, ◌≤◌, Bool, true, false, List, replicate, Option, Some, None, IsSome, Result, Ok, Err, ◌⊎◌, inl, inr, refl, sym, ap, ◌∙◌, subst, arith, is_some}
-use Rattle.std.specs.Prelude.{◌==◌, not, if◌then◌else◌, IfSome, option_map, slice_range}
+use Rattle.std.proofs.Common.{◌≡◌, ◌≢◌, ℕ, ◌+◌, ◌<◌, ◌≤◌, Bool, true, false, List, replicate, Option, Some, None, IsSome, ◌⊎◌, inl, inr, refl, sym, ap, ◌∙◌, subst, arith, is_some}
+use Rattle.std.specs.Prelude.{not, IfSome, option_map, slice_range}
 use Rattle.pool_pages.specs.Contents.{Contents}
 use Rattle.pool_pages.specs.Count.{rounded_up}
 use Rattle.pool_pages.specs.MakerTold.{MakerTold, part_of, Planned}
-use Rattle.pool_pages.specs.MemoryTypes.{allow_growth_to}
 use Rattle.pool_pages.specs.Told.{Told, PageCall, counted, passes}
 use Rattle.pool_pages.specs.declared.pages.RegionName.{RegionName}
 use Rattle.pool_pages.specs.declared.pages.RegionName.TheVariants.{Memory as memory_region, OnDemand}
 use Rattle.pool_images.specs.Orders.{failed as call_failed}
 use Rattle.pool_images.specs.Slots.{Slot, SlotIdentity, raising, limited, CallFaulted}
 use Rattle.pool_limits.specs.Growth.{GrowthRule}
-use Rattle.pool_limits.specs.Growing.{GrowthGiven, report_result, result_by, pages_result, answer_result}
-use Rattle.pool_limits.specs.declared.errors.GrowError.{GrowError}
-use Rattle.pool_limits.specs.declared.errors.GrowError.TheVariants as failed
-use Rattle.pool_limits.specs.declared.errors.GrowFault.{GrowFault}
-use Rattle.pool_limits.specs.declared.errors.LimiterError.{LimiterError}
-use Rattle.pool_memory.specs.Growing.{InPlace, FailsInPlace, IsUngrown, IsCallPlanned, grown_size, PagesLeave, AnswerLeaves, LeavesBy}
+use Rattle.pool_limits.specs.declared.errors.GrowError.TheVariants.{PageFault}
+use Rattle.pool_memory.specs.Growing.{InPlace, FailsInPlace, IsCallPlanned, grown_size}
 use Rattle.pool_memory.specs.Linear.{Storage, in_slot, stored, slot_in, Linear, first_bytes}
 use Rattle.pool_memory.specs.Memories.{MemoryState, bytes_of, slot_of}
 use Rattle.pool_slots.specs.declared.errors.AllocError.TheVariants as alloc
 use Rattle.pool_alloc.specs.Leases.{Lease}
 use Rattle.pool_alloc.specs.Sound.{IsLeaseOf, IsPoolSlot}
+use Rattle.pool_slots.specs.declared.plan.Plan.{Plan}
 use Rattle.pool_alloc.specs.declared.pool_core.Settings.{Settings}
 use Rattle.pool_run.specs.Acts.{MemoryOp, reads, writes, fills, grows, asks_size}
 use Rattle.pool_run.specs.Agreeing.{want_of_memory}
-use Rattle.pool_run.specs.Private.{PrivateMemory, IsRead}
-use Rattle.pool_run.specs.Turns.{private_memory, MemoryWrites, MemoryGrows, MovesLease, LeaseMoves, growth_reply}
+use Rattle.pool_run.specs.Private.{PrivateMemory, IsRead, GrowthEnd, as_it_was, could_not, has_grown, growth}
+use Rattle.pool_run.specs.Turns.{seen_as, private_memory, MemoryWrites, GrowthLeaves, MemoryGrows, MovesLease, LeaseMoves}
 use Rattle.pool_run.specs.declared.reply.Reply.{Reply}
 use Rattle.pool_run.specs.declared.reply.Reply.TheVariants.{Bytes, Refused, Trap}
 use Rattle.pool_run.specs.declared.reply.Refusal.{Refusal}
 use Rattle.pool_run.specs.declared.reply.Refusal.TheVariants.{Alloc}
-use Rattle.pool_run.proofs.Moves.{past_place, IsGrowthBy, growth_by}
+use Rattle.pool_run.proofs.Bytes.{told_if}
+use Rattle.pool_run.proofs.Growths.{growth_decided}
 
 -- the slots of the pool tell which calls on them fail,
 planned_part : (name : RegionName) (plan : Option (List Planned)) (layers : List (List Planned)) → IsSome plan → IsSome (part_of name plan layers)
@@ -45,10 +42,6 @@ slot_planned maker s i slot planned of =
     subst Q (sym (ap (λ (z : SlotIdentity). z.plan) of.same)) (planned_part (memory_region i) maker.plan maker.layers planned)
 
 -- and what they hold.
-told_if : {X : Type 0} (b : Bool) (x : X) → is_some (if b then Some x else None) ≡ b
-told_if true x = refl
-told_if false x = refl
-
 pub slot_tells : (maker : MakerTold) (s : Settings) (i : ℕ) (slot : Slot) → maker.tells ≡ true → IsPoolSlot maker s.behaviour s.max_memory_size i slot → is_some slot.region.contents ≡ true
 slot_tells maker s i slot tells of = ap (λ (z : SlotIdentity). z.tells) of.same ∙ told_if maker.tells _ ∙ tells
 
@@ -73,58 +66,43 @@ said_by : {X Y : Type 0} (f : X → Y) (o : Option X) → IsSome o → (a b : Y)
 said_by f None some a b one other = absurd cc
 said_by f (Some x) some a b one other = one ∙ sym other
 
--- How a memory in a slot grows.
-module _ (size : ℕ) (old : Linear) (within : size ≤ old.capacity) where
-  -- it has grown, by a call that its plan doesn't list
-  grown_is : (st : Storage) (s : Slot) (new : Linear) → st ≡ in_slot s → InPlace size st old new → new ≡ record old { size = size; storage = in_slot (limited size s) }
-  grown_is st s new is place = let At : Storage → Type 0 = λ x. InPlace size x old new in subst At is place
+-- What a growth that ended so leaves of a memory in a slot.
+module _ (size : ℕ) (m : MemoryState) (s : Slot) (is : m.linear.storage ≡ in_slot s) (planned : IsSome s.region.plan) where
+  -- where it has grown,
+  grown_is : (st : Storage) (new : Linear) → st ≡ in_slot s → InPlace size st m.linear new → new ≡ record m.linear { size = size; storage = in_slot (limited size s) }
+  grown_is st new at place = let At : Storage → Type 0 = λ x. InPlace size x m.linear new in subst At at place
 
-  -- it could not, by one that it lists
-  ungrown_by : (e : GrowError) (s : Slot) (st : Storage) → IsSome s.region.plan → FailsInPlace e size (in_slot s) st → (e ≡ failed.PageFault) × (st ≡ in_slot (record s { region = call_failed (raising (rounded_up s.region.page size) s) s.region }))
-  ungrown_by e s (stored len bytes) planned fails = absurd fails
-  ungrown_by e s (in_slot t) planned fails = (fails.0, ap in_slot (faulted_is (raising (rounded_up s.region.page size) s) s t planned fails.1))
+  -- or could not,
+  ungrown_by : (st : Storage) → FailsInPlace PageFault size (in_slot s) st → st ≡ in_slot (record s { region = call_failed (raising (rounded_up s.region.page size) s) s.region })
+  ungrown_by (stored len bytes) fails = absurd fails
+  ungrown_by (in_slot t) fails = ap in_slot (faulted_is (raising (rounded_up s.region.page size) s) s t planned fails.1)
 
-  ungrown_is : (e : GrowError) (s : Slot) (new : Linear) → old.storage ≡ in_slot s → IsSome s.region.plan → IsUngrown e size old new → (e ≡ failed.PageFault) × (new ≡ record old { storage = in_slot (record s { region = call_failed (raising (rounded_up s.region.page size) s) s.region }) })
-  ungrown_is e s new is planned fails =
-      let F : Storage → Type 0 = λ x. FailsInPlace e size x new.storage in
-      let left = ungrown_by e s new.storage planned (subst F is (fails.in_place within)) in
-      let L : ℕ → ℕ → Bool → ℕ → Storage → Linear = λ n c m x st. record { size = n; capacity = c; moves = m; extra = x; storage = st } in (
-        left.0,
-        ap (λ (n : ℕ). L n new.capacity new.moves new.extra new.storage) fails.same_size ∙ ap (λ (n : ℕ). L old.size n new.moves new.extra new.storage) fails.capacity
-            ∙ ap (λ (b : Bool). L old.size old.capacity b new.extra new.storage) fails.moves ∙ ap (λ (n : ℕ). L old.size old.capacity old.moves n new.storage) fails.extra ∙ ap (L old.size old.capacity old.moves old.extra) left.1,
-      )
+  ungrown_is : (st : Storage) → FailsInPlace PageFault size m.linear.storage st → st ≡ in_slot (record s { region = call_failed (raising (rounded_up s.region.page size) s) s.region })
+  ungrown_is st fails = let F : Storage → Type 0 = λ x. FailsInPlace PageFault size x st in ungrown_by st (subst F is fails)
 
-  -- the plan says which
-  plan_says : (a b : Bool) (s : Slot) → old.storage ≡ in_slot s → IsSome s.region.plan → IsCallPlanned a size old.storage → IsCallPlanned b size old.storage → a ≡ b
-  plan_says a b s is planned one other =
+  -- it is one and the same.
+  left_same : (end : GrowthEnd) (new other : MemoryState) → GrowthLeaves end size m new → GrowthLeaves end size m other → new ≡ other
+  left_same as_it_was new other one two = one ∙ sym two
+  left_same could_not new other one two =
+      let Left : Storage → MemoryState = λ st. record m { linear = record m.linear { storage = st } } in
+      one.0 ∙ ap Left (ungrown_is new.linear.storage one.2 ∙ sym (ungrown_is other.linear.storage two.2)) ∙ sym two.0
+  left_same has_grown new other one two =
+      let Left : Linear → MemoryState = λ l. record m { linear = l } in
+      one.0 ∙ ap Left (grown_is m.linear.storage new.linear is one.2 ∙ sym (grown_is m.linear.storage other.linear is two.2)) ∙ sym two.0
+
+  -- The plan says which.
+  plan_says : (a b : Bool) → IsCallPlanned a size m.linear.storage → IsCallPlanned b size m.linear.storage → a ≡ b
+  plan_says a b one other =
       let C : Bool → Storage → Type 0 = λ v x. IsCallPlanned v size x in
       said_by (λ plan. passes plan (raising (rounded_up s.region.page size) s) s.region) s.region.plan planned a b (subst (C a) is one) (subst (C b) is other)
 
-  module _ (s : Slot) (is : old.storage ≡ in_slot s) (planned : IsSome s.region.plan) where
-    pages_same : (e d : Option GrowError) (report : Result (Unit {0}) LimiterError) (new other : Linear) → PagesLeave e size old new → PagesLeave d size old other → (new ≡ other) × (◌≡◌ {A = Result (Option ℕ) GrowFault} (pages_result old.size e report) (pages_result old.size d report))
-    pages_same None None report new other one two = (grown_is old.storage s new is (one.in_place within) ∙ sym (grown_is old.storage s other is (two.in_place within)), refl)
-    pages_same None (Some d) report new other one two = let wrong : true ≡ false = plan_says true false s is planned (one.planned within) (two.planned within) in absurd cc
-    pages_same (Some e) None report new other one two = let wrong : false ≡ true = plan_says false true s is planned (one.planned within) (two.planned within) in absurd cc
-    pages_same (Some e) (Some d) report new other one two =
-        let left = ungrown_is e s new is planned one in
-        let right = ungrown_is d s other is planned two in
-        (left.1 ∙ sym right.1, ap (λ (x : GrowError). pages_result old.size (Some x) report) (left.0 ∙ sym right.0))
-
-answers_same : (size : ℕ) (old : Linear) (s : Slot) → old.storage ≡ in_slot s → IsSome s.region.plan → (past : Bool) (answer : Result Bool LimiterError) (e d : Option GrowError) (report : Result (Unit {0}) LimiterError) (new other : Linear) → (past ≡ false → size ≤ old.capacity) → AnswerLeaves past answer e size old new → AnswerLeaves past answer d size old other
-    → (new ≡ other) × (◌≡◌ {A = Result (Option ℕ) GrowFault} (answer_result old.size past answer e report) (answer_result old.size past answer d report))
-answers_same size old s is planned past (Err x) e d report new other within one two = (one ∙ sym two, refl)
-answers_same size old s is planned past (Ok false) e d report new other within one two = (one ∙ sym two, refl)
-answers_same size old s is planned true (Ok true) e d report new other within one two = (one ∙ sym two, refl)
-answers_same size old s is planned false (Ok true) e d report new other within one two = pages_same size old (within refl) s is planned e d report new other one two
-
-growths_same : (size : ℕ) (old : Linear) (s : Slot) → old.storage ≡ in_slot s → IsSome s.region.plan → (nothing past_type past : Bool) (g h : GrowthGiven) (new other : Linear) → g.answer ≡ h.answer → g.report ≡ h.report → (past ≡ false → size ≤ old.capacity) → LeavesBy nothing past_type past g size old new → LeavesBy nothing past_type past h size old other
-    → (new ≡ other) × (◌≡◌ {A = Result (Option ℕ) GrowFault} (result_by old.size nothing past_type past g) (result_by old.size nothing past_type past h))
-growths_same size old s is planned true past_type past g h new other answer report within one two = (one ∙ sym two, refl)
-growths_same size old s is planned false true past g h new other answer report within one two = (one ∙ sym two, ap (λ (r : Result (Unit {0}) LimiterError). report_result {X = ℕ} false r) report)
-growths_same size old s is planned false false past g h new other answer report within one two =
-    let A : Result Bool LimiterError → Type 0 = λ a. AnswerLeaves past a h.failure size old other in
-    let same = answers_same size old s is planned past g.answer g.failure h.failure g.report new other within one (subst A (sym answer) two) in
-    (same.0, same.1 ∙ ap (λ (a : Result Bool LimiterError). answer_result old.size past a h.failure g.report) answer ∙ ap (λ (r : Result (Unit {0}) LimiterError). answer_result old.size past h.answer h.failure r) report)
+  not_both : (e d : GrowthEnd) (new other : MemoryState) → e ≡ could_not → d ≡ has_grown → GrowthLeaves e size m new → GrowthLeaves d size m other → ⊥
+  not_both e d new other fails larger one two =
+      let L : MemoryState → GrowthEnd → Type 0 = λ x end. GrowthLeaves end size m x in
+      let failed = subst (L new) fails one in
+      let grown = subst (L other) larger two in
+      let wrong : false ≡ true = plan_says false true failed.3 grown.3 in
+      cc
 
 -- Whether a reply is that there was no memory can be decided.
 abbrev is_want : Reply → Bool
@@ -147,22 +125,40 @@ slot_there : (st : Storage) (i : ℕ) → (slot_in st).region.name ≡ memory_re
 slot_there (stored len bytes) i name = let wrong : OnDemand 0 ≡ memory_region i = name in absurd cc
 slot_there (in_slot s) i name = refl
 
-module _ (maker : MakerTold) (s : Settings) (tells : maker.tells ≡ true) (planned : IsSome maker.plan) (l : Lease) (of : IsLeaseOf maker s l) where
+module _ (maker : MakerTold) (s : Settings) (plan : Plan) (tells : maker.tells ≡ true) (planned : IsSome maker.plan) (l : Lease) (of : IsLeaseOf maker s plan l) where
   named : (slot_of l.memory).region.name ≡ memory_region l.index
   named = ap (λ (z : SlotIdentity). z.name) of.slot.same
 
-  -- A growth of it, under a limiter that tells this rule.
+  -- A growth of it, by this rule.
+  module _ (rule : GrowthRule) (pages : ℕ) (new other : MemoryState) (reply answer : Reply) where
+    abbrev ended : Bool → GrowthEnd × Reply
+    ended fault = growth rule fault pages (seen_as 0 l.memory)
+
+    abbrev Left : MemoryState → GrowthEnd → Type 0
+    Left x end = GrowthLeaves end (grown_size pages l.memory) l.memory x
+
+    there : l.memory.linear.storage ≡ in_slot (slot_of l.memory)
+    there = slot_there l.memory.linear.storage l.index named
+
+    listed : IsSome (slot_of l.memory).region.plan
+    listed = slot_planned maker s l.index (slot_of l.memory) planned of.slot
+
+    one_end : (e d : GrowthEnd × Reply) → e ≡ d → reply ≡ e.1 → answer ≡ d.1 → Left new e.0 → Left other d.0 → (new ≡ other) × (reply ≡ answer)
+    one_end e d same told said one two =
+        let both : Left new d.0 = subst (λ (p : GrowthEnd × Reply). Left new p.0) same one in
+        (left_same (grown_size pages l.memory) l.memory (slot_of l.memory) there listed d.0 new other both two, told ∙ ap (λ (p : GrowthEnd × Reply). p.1) same ∙ sym said)
+
+    differs : ((ended true).0 ≡ could_not) × ((ended false).0 ≡ has_grown) → (x y : MemoryState) → Left x (ended true).0 → Left y (ended false).0 → ⊥
+    differs decides x y one two = not_both (grown_size pages l.memory) l.memory (slot_of l.memory) there listed (ended true).0 (ended false).0 x y decides.0 decides.1 one two
+
+    ends_same : (fault d : Bool) → reply ≡ (ended fault).1 → answer ≡ (ended d).1 → Left new (ended fault).0 → Left other (ended d).0 → (new ≡ other) × (reply ≡ answer)
+    ends_same true true told said one two = one_end (ended true) (ended true) refl told said one two
+    ends_same false false told said one two = one_end (ended false) (ended false) refl told said one two
+    ends_same true false told said one two = elim (growth_decided rule pages l.memory) [ inl same ↦ one_end (ended true) (ended false) same told said one two | inr decides ↦ absurd (differs decides new other one two) ]
+    ends_same false true told said one two = elim (growth_decided rule pages l.memory) [ inl same ↦ one_end (ended false) (ended true) (sym same) told said one two | inr decides ↦ absurd (differs decides other new two one) ]
+
   growth_same : (rule : GrowthRule) (pages : ℕ) (new other : MemoryState) (reply answer : Reply) → MemoryGrows rule pages l.memory new reply → MemoryGrows rule pages l.memory other answer → (new ≡ other) × (reply ≡ answer)
-  growth_same rule pages new other reply answer one two =
-      let m : MemoryState = l.memory in
-      let g : GrowthGiven = one.0 in
-      let h : GrowthGiven = two.0 in
-      let left : IsGrowthBy rule pages m new g one.3 = growth_by rule pages m new g one.1 one.2 one.3 of.memory.fixed one.4 one.5 in
-      let right : IsGrowthBy rule pages m other h two.3 = growth_by rule pages m other h two.1 two.2 two.3 of.memory.fixed two.4 two.5 in
-      let same =
-      growths_same (grown_size pages m) m.linear (slot_of m) (slot_there m.linear.storage l.index named) (slot_planned maker s l.index (slot_of m) planned of.slot) (pages == 0) (not (allow_growth_to m.ty (grown_size pages m))) (past_place pages m) g h new.linear other.linear
-      (left.asked ∙ sym right.asked) (left.reported ∙ sym right.reported) left.within left.leaves right.leaves in
-      (one.5.memory ∙ ap (λ (x : Linear). record m { linear = x }) same.0 ∙ sym two.5.memory, one.6 ∙ ap growth_reply (left.replies ∙ same.1 ∙ sym right.replies) ∙ sym two.6)
+  growth_same rule pages new other reply answer one two = ends_same rule pages new other reply answer one.0 two.0 one.1 two.1 one.2 two.2
 
   -- A read of it, where there was memory for the bytes.
   read_by : (o : Option (List ℕ)) (size from len : ℕ) (bytes : List ℕ) → is_some o ≡ true → IfSome o (λ b. bytes ≡ slice_range b from (from + len)) → (b : List ℕ) × (o ≡ Some b) × (bytes ≡ slice_range b from (from + len))

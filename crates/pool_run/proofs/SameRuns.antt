@@ -7,7 +7,7 @@ use Rattle.pool_pages.specs.declared.module_types.Tunables.{Tunables}
 use Rattle.pool_pages.specs.declared.offered.Offered.{Offered}
 use Rattle.pool_pages.specs.declared.pages.PageCalls.{PageCalls}
 use Rattle.pool_alloc.specs.Asked.{ModuleAsked}
-use Rattle.pool_alloc.specs.Made.{IsMadeCore, HasMadeParts}
+use Rattle.pool_alloc.specs.Made.{IsMadeCore, HasMadeParts, plan_settings}
 use Rattle.pool_alloc.specs.Sums.{metrics_of}
 use Rattle.pool_alloc.specs.declared.metrics.Metrics.{Metrics}
 use Rattle.pool_alloc.specs.declared.pool_core.Counters.{Counters}
@@ -31,7 +31,9 @@ use Rattle.pool_run.specs.declared.running_party.RunningParty.{RunningParty}
 use Rattle.pool_run.proofs.InputsRun.{made_under_way, holds_from_start}
 use Rattle.pool_run.proofs.SameFolds.{AllClear, folds_same, runs_same}
 use Rattle.pool_run.proofs.Cleared.{IsClearIdle}
+use Rattle.pool_slots.proofs.PlansMade.{one_plan}
 use Rattle.pool_slots.specs.Parts.{part_at}
+use Rattle.pool_slots.specs.declared.plan.Plan.{Plan}
 use Rattle.pool_slots.specs.declared.part.PoolPart.{PoolPart}
 use Rattle.pool_pages.specs.declared.pages.DecommitBehavior.{DecommitBehavior}
 use Rattle.std.proofs.lemmas.Bool.{cases_lt}
@@ -69,10 +71,10 @@ module _ {P : Type 0} where
       let H : Settings → Type 0 = λ s. HasMadeParts maker s.behaviour s.max_memory_size config.limits.total_memories config.max_unused_warm_slots config.decommit_batch_size b.parts in
       let others : H a.settings = subst H (sym settings) two.parts in
       let parts : a.parts ≡ b.parts = places_same a.parts b.parts (part_at 0 []) (one.parts.number ∙ sym two.parts.number) (λ p below. made_same maker a.settings.behaviour a.settings.max_memory_size config.limits.total_memories config.max_unused_warm_slots config.decommit_batch_size p a.parts b.parts one.parts others below) in
-      let C : List (PoolPart P) → Counters → Settings → PoolCore P = λ ps n s. record { parts = ps; counters = n; settings = s } in
-      ap (λ (ps : List (PoolPart P)). C ps a.counters a.settings) parts
-      ∙ ap (λ (n : Counters). C b.parts n a.settings) (one.counters ∙ sym two.counters)
-      ∙ ap (C b.parts b.counters) settings
+      let C : List (PoolPart P) → Counters → Settings → Plan → PoolCore P = λ ps n s plan. record { parts = ps; counters = n; settings = s; plan = plan } in
+      ap (λ (ps : List (PoolPart P)). C ps a.counters a.settings a.plan) parts
+      ∙ ap (λ (n : Counters). C b.parts n a.settings a.plan) (one.counters ∙ sym two.counters)
+      ∙ ap (λ (s : Settings). C b.parts b.counters s a.plan) settings ∙ ap (C b.parts b.counters b.settings) (one_plan (plan_settings config) a.plan b.plan one.plan two.plan)
 
   -- and so is a run.
   start_same : (input : Input) (maker : MakerTold) (a b : RunParts P) → IsMadeRun input maker a → IsMadeRun input maker b → a ≡ b

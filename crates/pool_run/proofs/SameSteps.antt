@@ -33,7 +33,7 @@ use Rattle.pool_alloc.specs.declared.frame.Phase.TheVariants.{Idle, Validate, Em
 use Rattle.pool_alloc.specs.declared.frame.TakenSlot.{TakenSlot}
 use Rattle.pool_alloc.specs.declared.pool_core.PoolCore.{PoolCore}
 use Rattle.pool_run.specs.Turns.{StepsUnder}
-use Rattle.pool_run.proofs.Moves.{answer_told}
+use Rattle.pool_run.proofs.Growths.{answer_told}
 use Rattle.pool_run.proofs.SameFlushes.{decommit_same}
 use Rattle.pool_run.proofs.SameMoves.{slot_planned, slot_tells}
 use Rattle.pool_run.proofs.SameSlots.{follow_same, not_same, forgotten_same, one_way}
@@ -154,7 +154,7 @@ is_test Validate = true
 is_test _ = false
 
 -- a step of a call over a pool whose maker tells what its regions hold, and which of their calls fail
-module _ {P : Type 0} (maker : MakerTold) (tells : maker.tells ≡ true) (planned : IsSome maker.plan) (by : GrowthRule) (c : PoolCore P) (f : Frame P) (frame : IsFrame maker c.settings f) where
+module _ {P : Type 0} (maker : MakerTold) (tells : maker.tells ≡ true) (planned : IsSome maker.plan) (by : GrowthRule) (c : PoolCore P) (f : Frame P) (frame : IsFrame maker c.settings c.plan f) where
   -- the frame as the row has it
   abbrev bare : Frame P
   bare = record f { phase = Idle }
@@ -168,7 +168,7 @@ module _ {P : Type 0} (maker : MakerTold) (tells : maker.tells ≡ true) (planne
     pub plan : IsPlanned c.settings g phase f
     pub limiter : AsksOf old new g phase f
 
-  with_plan : (at : ℕ) (held : Slot) → HasSlot maker c.settings at held → IsSome held.region.plan
+  with_plan : (at : ℕ) (held : Slot) → HasSlot maker c.settings c.plan at held → IsSome held.region.plan
   with_plan at held has = slot_planned maker c.settings at held planned has.region
 
   allocated : length f.objects.items < length (memories_wanted f.asked) → IsSome (slice_get (memories_wanted f.asked) (length f.objects.items))
@@ -180,7 +180,7 @@ module _ {P : Type 0} (maker : MakerTold) (tells : maker.tells ≡ true) (planne
   flushed_same put g h is left right one two = refl
   flushed_same free g h is left right one two = refl
 
-  row_same : (g h : StepGiven) (phase : Phase P) → is_test phase ≡ false → IsShapedAt maker c.settings phase f → IsGivenAt g phase → IsGivenAt h phase → row_of g phase c bare ≡ row_of h phase c bare
+  row_same : (g h : StepGiven) (phase : Phase P) → is_test phase ≡ false → IsShapedAt maker c.settings c.plan phase f → IsGivenAt g phase → IsGivenAt h phase → row_of g phase c bare ≡ row_of h phase c bare
   row_same g h Validate test shape one two = absurd cc
   row_same g h (Empty at held) test shape one two =
       paged_same c bare g.fault h.fault at (λ s. Instantiate at s) g.slot h.slot (emptied_same g.fault h.fault held g.slot h.slot (with_plan at.slot held shape.2) one.told two.told one.plan two.plan)

@@ -139,7 +139,7 @@ module _ {P : Type 0} (w : World) (tells : w.maker.tells ≡ true) (planned : Is
                   let old : m.old ≡ n.old = let both : Some m.old ≡ Some n.old = sym m.there ∙ subst At (sym grant) n.there in cc in
                   let From : Lease → Type 0 = λ l. Move l n.changed q in
                   let Put : Grant P → Lease → List (Option (Grant P)) = λ g l. slice_set p.live of (Some (memory_leases.put_in k l g)) in
-                  elim (op_same w.maker c.settings tells planned m.old (lease_held w.maker c p of k m.grant m.old can.party.sound m.granted m.there) op (rule_of p.limits) m.changed n.changed r q m.move (subst From (sym old) n.move)) [
+                  elim (op_same w.maker c.settings c.plan tells planned m.old (lease_held w.maker c p of k m.grant m.old can.party.sound m.granted m.there) op (rule_of p.limits) m.changed n.changed r q m.move (subst From (sym old) n.move)) [
                     | inl both ↦ inl (m.is ∙ ap (λ (g : Grant P). Put g m.changed) grant ∙ ap (Put n.grant) both.0 ∙ sym n.is, both.1)
                     | inr apart ↦ inr apart
                   ]

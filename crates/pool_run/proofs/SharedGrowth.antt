@@ -1,5 +1,5 @@
 -- A growth of a shared memory is one of its bytes, and counts the call that it makes.
-use Rattle.std.proofs.Common.{◌≡◌, ℕ, ◌+◌, ◌-◌, ◌^◌, ◌<◌, ◌≤◌, Bool, true, false, List, length, ◌++◌, replicate, Option, Some, None, Result, Ok, Err, refl, sym, ap, ◌∙◌, subst, arith, min}
+use Rattle.std.proofs.Common.{◌≡◌, ℕ, ◌+◌, ◌-◌, ◌^◌, ◌<◌, ◌≤◌, Bool, true, false, List, length, ◌++◌, replicate, Option, Some, None, Result, Ok, Err, refl, sym, ap, ◌∙◌, subst, arith}
 use Rattle.std.specs.Prelude.{◌==◌, ◌||◌, ◌&&◌, not, nat_lt, if◌then◌else◌, IfSome, option_map}
 use Rattle.std.specs.List.{list_any}
 use Rattle.std.proofs.lemmas.Bool.{ltb-false}
@@ -7,17 +7,17 @@ use Rattle.std.proofs.lemmas.Bool.Decides.{nat_tests}
 use Rattle.std.proofs.lemmas.List.{places}
 use Rattle.pool_pages.specs.Count.{rounded_up}
 use Rattle.pool_pages.specs.MemoryTypes.{allow_growth_to, page_size}
-use Rattle.pool_pages.specs.Told.{Told, PageCall, Faulted, counted, passes, risen}
-use Rattle.pool_images.specs.Slots.{Slot, CallFaulted, raising, raised, limited}
+use Rattle.pool_pages.specs.Told.{Told, PageCall, Faulted, risen}
+use Rattle.pool_images.specs.Slots.{Slot, raising, raised}
 use Rattle.pool_limits.specs.Growth.{always}
 use Rattle.pool_limits.specs.declared.errors.GrowError.TheVariants as failed
 use Rattle.pool_limits.specs.declared.errors.GrowFault.{GrowFault}
-use Rattle.pool_memory.specs.Growing.{GrowsTo, IsUngrown, InPlace, FailsInPlace, IsCallPlanned, grown_size, exceeds, past_room}
+use Rattle.pool_memory.specs.Growing.{GrowsTo, InPlace, FailsInPlace, IsCallPlanned, grown_size, exceeds}
 use Rattle.pool_memory.specs.Linear.{Storage, in_slot, stored, Linear, linear_bytes}
 use Rattle.pool_memory.specs.Making.{maximum_asked}
 use Rattle.pool_memory.specs.Memories.{MemoryState}
 use Rattle.pool_shared.specs.Shared.{Shared, Grows as GrowsShared, GrowsBy, PagesGrow}
-use Rattle.pool_run.specs.Private.{PrivateMemory, grown_by, memory_grown}
+use Rattle.pool_run.specs.Private.{PrivateMemory, GrowthEnd, as_it_was, could_not, has_grown, left_of, grown_by, memory_grown}
 use Rattle.pool_run.specs.SharedEvents.{as_reply}
 use Rattle.pool_run.specs.SharedSteps.{IsInSlot, IsKept, CountsFault, MakesOf, calls_made, growth_said, plan_of}
 use Rattle.pool_run.specs.Turns.{seen_as}
@@ -25,6 +25,7 @@ use Rattle.pool_run.specs.declared.reply.Reply.{Reply}
 use Rattle.pool_run.specs.declared.reply.Reply.TheVariants as reply
 use Rattle.pool_run.specs.declared.shared_input.SharedEvent.TheVariants as event
 use Rattle.pool_run.specs.declared.shared_reply.SharedReply.{SharedReply}
+use Rattle.pool_run.proofs.Growths.{right_of}
 
 abbrev with_linear : MemoryState → Linear → MemoryState
 with_linear m l = record m { linear = l }
@@ -41,9 +42,6 @@ pub none_counted : (m : MemoryState) → CountsFault false m m
 none_counted m = record { plan = refl; least = λ h. omega arith; most = omega arith; listed = λ wrong. absurd (cc wrong) }
 
 -- a call that succeeds is counted
-abbrev counted_calls : ℕ → ℕ → ℕ
-counted_calls len made = if len == 0 then made else risen made
-
 counted_by : (b : Bool) (made : ℕ) → ((if b then made else risen made) ≤ made + 1) × (made < 2 ^ 64 → made ≤ (if b then made else risen made))
 counted_by true made = (omega arith, λ h. omega arith)
 counted_by false made = (omega arith, λ h. omega (arith, h))
@@ -113,6 +111,13 @@ failed_counted size old (in_slot s) (in_slot t) new held at after fails planned 
       tt,
     )
 
+-- how a growth ends by what it meets, where nobody forbids it
+abbrev ends : ℕ → Bool → Bool → Bool → Bool → GrowthEnd × Reply
+ends size nothing by_type past fault =
+    if nothing
+    then (as_it_was, reply.Grown (Some size))
+    else (if by_type then (as_it_was, reply.Grown None) else (if past then (as_it_was, reply.Grown None) else (if fault then (could_not, reply.Grown None) else (has_grown, reply.Grown (Some size)))))
+
 -- what a growth makes of the bytes
 module _ (size : ℕ) (old : MemoryState) where
   abbrev seen : PrivateMemory
@@ -120,9 +125,7 @@ module _ (size : ℕ) (old : MemoryState) where
 
   abbrev outcome : Bool → Bool → Bool → Bool → PrivateMemory × Reply
   outcome nothing by_type past fault =
-      if nothing
-      then (seen, reply.Grown (Some seen.size))
-      else (if by_type then (seen, reply.Grown None) else (if past || fault then (seen, reply.Grown None) else (memory_grown size seen, reply.Grown (Some seen.size))))
+      (left_of (ends seen.size nothing by_type past fault).0 size seen, (ends seen.size nothing by_type past fault).1)
 
   abbrev with_parts : ℕ → ℕ → Option (List ℕ) → PrivateMemory
   with_parts n capacity bytes = record { slot = 0; ty = old.ty; size = n; capacity = capacity; bytes = bytes }
@@ -158,10 +161,6 @@ module _ (size : ℕ) (old : MemoryState) where
   grown_as false false true new result held room grows = unchanged new result (reply.Grown None) (outcome false false true) held grows.1 (ap growth_said grows.0) refl
   grown_as false false false new result held room grows = pages new result held (room refl) grows
 
-or_right : (a b : Bool) → (a || b) ≡ false → b ≡ false
-or_right false b none = none
-or_right true b none = absurd (let no : true ≡ false = none in cc no)
-
 -- A growth of a memory that stays in its slot.
 pub growth_seen : (pages : ℕ) (old new : MemoryState) (result : Result (Option (ℕ × ℕ)) GrowFault) → IsInSlot old.linear.storage → old.may_move ≡ false → new ≡ with_linear old new.linear → GrowsShared pages old new result → IsGrownAs old new.linear (growth_said result) (λ fault. grown_by always fault pages (seen_as 0 old))
 growth_seen pages old new result held fixed same grows =
@@ -170,7 +169,7 @@ growth_seen pages old new result held fixed same grows =
     let long : Bool = exceeds (maximum_asked old.ty) size in
     let by_type : Bool = not (allow_growth_to old.ty size) in
     let By : Bool → Type 0 = λ b. GrowsBy (pages == 0) (by_type || (long || (not b && far))) size old.linear new.linear result in
-    grown_as size old (pages == 0) by_type (long || far) new.linear result held (λ none. ltb-false old.linear.capacity size (or_right long far none)) (subst By fixed grows)
+    grown_as size old (pages == 0) by_type (long || far) new.linear result held (λ none. ltb-false old.linear.capacity size (right_of long far none)) (subst By fixed grows)
 
 -- the bytes after a growth are as many as its size
 grown_whole : (n size : ℕ) (o : Option (List ℕ)) → n ≤ size → IfSome o (λ b. length b ≡ n) → IfSome (option_map (λ b. b ++ replicate {A = ℕ} (size - n) 0) o) (λ b. length b ≡ size)
@@ -184,14 +183,12 @@ IsWhole m = IfSome m.bytes (λ b. length b ≡ m.size)
 abbrev IsRoomy : PrivateMemory → Type 0
 IsRoomy m = IsWhole m × (m.size + page_size m.ty ≤ 2 ^ 64)
 
-abbrev grown_or : ℕ → PrivateMemory → Bool → Bool → Bool → PrivateMemory × Reply
-grown_or size m nothing by_type past = if nothing then (m, reply.Grown (Some m.size)) else (if by_type then (m, reply.Grown None) else (if past then (m, reply.Grown None) else (memory_grown size m, reply.Grown (Some m.size))))
-
-by_whole : (size : ℕ) (old : PrivateMemory) (nothing by_type past : Bool) → IsWhole old → old.size ≤ size → old.size + page_size old.ty ≤ 2 ^ 64 → size + page_size old.ty ≤ 2 ^ 64 → IsRoomy (grown_or size old nothing by_type past).0
-by_whole size old true by_type past whole more room fits = (whole, room)
-by_whole size old false true past whole more room fits = (whole, room)
-by_whole size old false false true whole more room fits = (whole, room)
-by_whole size old false false false whole more room fits = (grown_whole old.size size old.bytes more whole, fits)
+by_whole : (size : ℕ) (old : PrivateMemory) (nothing by_type past fault : Bool) → IsWhole old → old.size ≤ size → old.size + page_size old.ty ≤ 2 ^ 64 → size + page_size old.ty ≤ 2 ^ 64 → IsRoomy (left_of (ends old.size nothing by_type past fault).0 size old)
+by_whole size old true by_type past fault whole more room fits = (whole, room)
+by_whole size old false true past fault whole more room fits = (whole, room)
+by_whole size old false false true fault whole more room fits = (whole, room)
+by_whole size old false false false true whole more room fits = (whole, room)
+by_whole size old false false false false whole more room fits = (grown_whole old.size size old.bytes more whole, fits)
 
 -- A growth makes of the memory what its event makes of it.
 pub growth_moves : (pages : ℕ) (old new : Shared) (result : Result (Option (ℕ × ℕ)) GrowFault) (said : SharedReply) → IsKept old.memory → new ≡ record old { memory = with_linear old.memory new.memory.linear } → GrowsShared pages old.memory new.memory result → as_reply said ≡ Some (growth_said result) → MakesOf (event.Grow pages) old new said
@@ -202,7 +199,7 @@ growth_moves pages old new result said kept same grows told =
     let size : ℕ = grown_size pages old.memory in
     let after : Shared = record old { memory = with_linear old.memory new.memory.linear } in
     let M : Shared → Type 0 = λ s. MakesOf (event.Grow pages) old s said in
-    let roomy : IsRoomy (grown_by always is.fault pages m).0 = by_whole size m (pages == 0) (not (allow_growth_to m.ty size)) ((exceeds (maximum_asked m.ty) size || nat_lt m.capacity size) || is.fault) kept.bytes (omega (arith, kept.room)) kept.room (omega (arith, kept.room)) in
+    let roomy : IsRoomy (grown_by always is.fault pages m).0 = by_whole size m (pages == 0) (not (allow_growth_to m.ty size)) (exceeds (maximum_asked m.ty) size || nat_lt m.capacity size) is.fault kept.bytes (omega (arith, kept.room)) kept.room (omega (arith, kept.room)) in
     let now : IsRoomy (seen_as 0 after.memory) = subst (λ (p : PrivateMemory × Reply). IsRoomy p.0) (sym is.is) roomy in
     subst M (sym same) (record {
       fault = is.fault;

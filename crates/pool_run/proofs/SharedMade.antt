@@ -1,6 +1,6 @@
 -- A shared memory as it is made for an input.
 use Rattle.std.proofs.Common.{◌≡◌, ℕ, ◌+◌, ◌-◌, ◌*◌, ◌/◌, ◌^◌, ◌<◌, ◌≤◌, Bool, true, false, List, [], length, replicate, min, Option, Some, None, Result, Ok, Err, is_some, refl, sym, ap, ◌∙◌, subst, arith}
-use Rattle.std.specs.Prelude.{◌==◌, ◌&&◌, ◌||◌, nat_le, nat_lt, if◌then◌else◌, IfSome, option_map}
+use Rattle.std.specs.Prelude.{◌==◌, ◌||◌, nat_le, nat_lt, if◌then◌else◌, IfSome, option_map}
 use Rattle.std.proofs.Math.Nat.{div-mul-le_self}
 use Rattle.std.proofs.lemmas.Bool.{leb-true}
 use Rattle.std.proofs.lemmas.Bool.Decides.{nat_tests}
@@ -19,8 +19,8 @@ use Rattle.pool_memory.specs.Layouts.{Layout, layout_len, first_layout}
 use Rattle.pool_memory.specs.Memories.{bytes_of}
 use Rattle.pool_memory.specs.Moving.{IsMadeFor, MakingLeaves, region_for, slot_of_region, slot_for}
 use Rattle.pool_shared.specs.Shared.{Shared, MakingBy, first_shared, layout_for, minimum_refusal, or_refused, refusal_in, type_refusal}
-use Rattle.pool_run.specs.SharedEvents.{SharedView, view_of}
-use Rattle.pool_run.specs.SharedRuns.{first_size, first_view, shared_layout, shared_tunables, shared_type}
+use Rattle.pool_run.specs.SharedEvents.{SharedView}
+use Rattle.pool_run.specs.SharedRuns.{first_size, shared_layout, shared_tunables, shared_type}
 use Rattle.pool_run.specs.SharedSteps.{IsMadeShared, IsMakingFault, IsNotMade, fault_of}
 use Rattle.pool_run.specs.SharedValidity.{is_shareable, is_valid_shared, most_minimum, reaches}
 use Rattle.pool_run.specs.declared.shared_input.SharedInput.{SharedInput}

@@ -1,8 +1,8 @@
 -- What the calls on a shared memory do is what its events do to it as they see it.
-use Rattle.std.proofs.Common.{◌≡◌, ℕ, ◌+◌, ◌-◌, ◌<◌, ◌≤◌, Bool, true, false, List, length, ◌++◌, replicate, Option, Some, None, Result, Ok, Err, refl, sym, ap, ◌∙◌, subst, arith}
-use Rattle.std.specs.Prelude.{◌==◌, ◌||◌, ◌&&◌, not, nat_le, nat_lt, if◌then◌else◌, IfSome, IfOk, option_map, slice_range}
+use Rattle.std.proofs.Common.{◌≡◌, ℕ, ◌+◌, ◌≤◌, Bool, true, false, List, length, Option, Some, None, Result, Ok, Err, refl, sym, ap, ◌∙◌, subst, arith}
+use Rattle.std.specs.Prelude.{◌==◌, nat_le, if◌then◌else◌, IfSome, IfOk, option_map, slice_range}
 use Rattle.std.specs.Int.{Width}
-use Rattle.std.proofs.lemmas.Bool.{leb-true, leb-false, ltb-false}
+use Rattle.std.proofs.lemmas.Bool.{leb-true, leb-false}
 use Rattle.std.proofs.lemmas.List.{same_lists, places}
 use Rattle.pool_pages.specs.Contents.{Contents, put, written}
 use Rattle.pool_limits.specs.Growth.{always}
@@ -17,9 +17,9 @@ use Rattle.pool_shared.specs.declared.waiting.Waiting.{Waiting}
 use Rattle.pool_shared.specs.declared.wait_fault.WaitFault.{WaitFault}
 use Rattle.pool_shared.specs.declared.wait_fault.WaitFault.TheVariants as fault
 use Rattle.pool_shared.specs.declared.wait_step.WaitStep.{WaitStep}
-use Rattle.pool_run.specs.Private.{PrivateMemory, MemoryMoves, IsRead, Writes, private_written}
-use Rattle.pool_run.specs.Acts.{reads, writes}
-use Rattle.pool_run.specs.SharedEvents.{SharedView, view_of, as_reply, begun_wait, WaitsOn, MovesMemory, Happens}
+use Rattle.pool_run.specs.Private.{MemoryMoves, IsRead, private_written}
+use Rattle.pool_run.specs.Acts.{reads}
+use Rattle.pool_run.specs.SharedEvents.{SharedView, view_of, as_reply, WaitsOn, MovesMemory, Happens}
 use Rattle.pool_run.specs.SharedSteps.{wait_refusal, IsWaitReply, IsInSlot, IsKept, CountsFault, MakesOf, said}
 use Rattle.pool_run.proofs.SharedGrowth.{none_counted}
 use Rattle.pool_run.specs.Turns.{seen_as}

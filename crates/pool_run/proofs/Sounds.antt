@@ -24,6 +24,8 @@ use Rattle.pool_run.specs.declared.reply.Reply.{Reply}
 use Rattle.pool_run.specs.declared.running_party.RunningParty.{RunningParty}
 use Rattle.pool_run.proofs.Parties.{live_grant}
 use Rattle.pool_run.proofs.Stepped.{IsStepped}
+use Rattle.pool_slots.specs.declared.plan.Plan.{Plan}
+use Rattle.pool_alloc.specs.Stepping.{IsSameSize}
 
 module _ {P : Type 0} where
   -- what a turn leaves is sound
@@ -32,46 +34,49 @@ module _ {P : Type 0} where
     pub party : IsSoundParty maker t.core t.party
 
   -- A grant of as many memories as were asked for is one of the pool.
-  granted_any : (maker : MakerTold) (s : Settings) (asked : Option ModuleAsked) (o : Option (Outcome P)) → IfGranted (IsGrantOf maker s asked) o → IfGranted (IsGrant maker s) o
-  granted_any maker s asked None is = is
-  granted_any maker s asked (Some answer.Key) is = is
-  granted_any maker s asked (Some (answer.Granted (instance lease))) is = is.0
-  granted_any maker s asked (Some answer.Returned) is = is
-  granted_any maker s asked (Some (answer.Refused e)) is = is
+  -- what is so of the sizes of one pool is so of those of another of the same sizes
+  pub over_size : (Q : Settings → Plan → Type 0) (c d : PoolCore P) → IsSameSize c d → Q c.settings c.plan → Q d.settings d.plan
+  over_size Q c d size is = subst (Q d.settings) (sym size.plan) (subst (λ (s : Settings). Q s c.plan) (sym size.settings) is)
 
-  answered_sound : (maker : MakerTold) (c : PoolCore P) (p : RunningParty P) (d : PoolCore P) (f : Frame P) (o : Option (Outcome P)) → All (λ g. IfSome g (IsGrant maker d.settings)) p.live → IsCore maker d → IsFrame maker d.settings f → IfGranted (IsGrant maker d.settings) o → IsSoundTurn maker (answered o d (record p { frame = f }))
+  granted_any : (maker : MakerTold) (s : Settings) (plan : Plan) (asked : Option ModuleAsked) (o : Option (Outcome P)) → IfGranted (IsGrantOf maker s plan asked) o → IfGranted (IsGrant maker s plan) o
+  granted_any maker s plan asked None is = is
+  granted_any maker s plan asked (Some answer.Key) is = is
+  granted_any maker s plan asked (Some (answer.Granted (instance lease))) is = is.0
+  granted_any maker s plan asked (Some answer.Returned) is = is
+  granted_any maker s plan asked (Some (answer.Refused e)) is = is
+
+  answered_sound : (maker : MakerTold) (c : PoolCore P) (p : RunningParty P) (d : PoolCore P) (f : Frame P) (o : Option (Outcome P)) → All (λ g. IfSome g (IsGrant maker d.settings d.plan)) p.live → IsCore maker d → IsFrame maker d.settings d.plan f → IfGranted (IsGrant maker d.settings d.plan) o → IsSoundTurn maker (answered o d (record p { frame = f }))
   answered_sound maker c p d f None live core frame granted = record { core = core; party = record { frame = frame; grants = live } }
   answered_sound maker c p d f (Some answer.Key) live core frame granted = record { core = core; party = record { frame = frame; grants = live } }
-  answered_sound maker c p d f (Some (answer.Granted grant)) live core frame granted = record { core = core; party = record { frame = frame; grants = All-set (λ g. IfSome g (IsGrant maker d.settings)) p.live p.done (Some grant) granted live } }
+  answered_sound maker c p d f (Some (answer.Granted grant)) live core frame granted = record { core = core; party = record { frame = frame; grants = All-set (λ g. IfSome g (IsGrant maker d.settings d.plan)) p.live p.done (Some grant) granted live } }
   answered_sound maker c p d f (Some answer.Returned) live core frame granted = record { core = core; party = record { frame = frame; grants = live } }
   answered_sound maker c p d f (Some (answer.Refused e)) live core frame granted = record { core = core; party = record { frame = frame; grants = live } }
 
   -- A step leaves what is sound.
   pub step_sound : {old new : LimiterTold} (maker : MakerTold) (c : PoolCore P) (p : RunningParty P) (a : After P) → IsSoundParty maker c p → IsStepped maker old new c p.frame a → IsSoundTurn maker (after_step a p)
   step_sound maker c p a sound on =
-      let Grants : Settings → Type 0 = λ s. All (λ g. IfSome g (IsGrant maker s)) p.live in
-      let Granted : Settings → Type 0 = λ s. IfGranted (IsGrant maker s) a.outcome in
-      answered_sound maker c p a.core a.frame a.outcome (subst Grants (sym on.size.settings) sound.grants) on.core on.frame
-      (subst Granted (sym on.size.settings) (granted_any maker c.settings p.frame.asked a.outcome on.granted))
+      let Grants : Settings → Plan → Type 0 = λ s plan. All (λ g. IfSome g (IsGrant maker s plan)) p.live in
+      let Granted : Settings → Plan → Type 0 = λ s plan. IfGranted (IsGrant maker s plan) a.outcome in
+      answered_sound maker c p a.core a.frame a.outcome (over_size Grants c a.core on.size sound.grants) on.core on.frame (over_size Granted c a.core on.size (granted_any maker c.settings c.plan p.frame.asked a.outcome on.granted))
 
   -- So does a command that ends at once,
   pub reply_sound : (maker : MakerTold) (c : PoolCore P) (p : RunningParty P) (reply : Reply) → IsCore maker c → IsSoundParty maker c p → IsSoundTurn maker (ended_with reply c p)
   reply_sound maker c p reply core sound = record { core = core; party = record { frame = sound.frame; grants = sound.grants } }
 
   -- and a move of a memory that stays one of the pool.
-  pub move_sound : (maker : MakerTold) (c : PoolCore P) (p : RunningParty P) (of k : ℕ) (lease : InstanceLease P) (new : Lease) → IsSoundParty maker c p → slice_index_or p.live of None ≡ Some (instance lease) → IsLeaseOf maker c.settings new → IsSoundParty maker c (record p { live = slice_set p.live of (Some (with_lease k new (instance lease))) })
+  pub move_sound : (maker : MakerTold) (c : PoolCore P) (p : RunningParty P) (of k : ℕ) (lease : InstanceLease P) (new : Lease) → IsSoundParty maker c p → slice_index_or p.live of None ≡ Some (instance lease) → IsLeaseOf maker c.settings c.plan new → IsSoundParty maker c (record p { live = slice_set p.live of (Some (with_lease k new (instance lease))) })
   move_sound maker c p of k lease new sound has still =
       record {
         frame = sound.frame;
-        grants = All-set (λ g. IfSome g (IsGrant maker c.settings)) p.live of (Some (with_lease k new (instance lease))) (All-set (IsLeaseOf maker c.settings) lease.memories.items k new still (live_grant maker c.settings p.live of (instance lease) sound.grants has)) sound.grants;
+        grants = All-set (λ g. IfSome g (IsGrant maker c.settings c.plan)) p.live of (Some (with_lease k new (instance lease))) (All-set (IsLeaseOf maker c.settings c.plan) lease.memories.items k new still (live_grant maker c.settings c.plan p.live of (instance lease) sound.grants has)) sound.grants;
       }
 
   -- The memory that moves was one.
-  pub lease_there : (maker : MakerTold) (c : PoolCore P) (p : RunningParty P) (of k : ℕ) (lease : InstanceLease P) (l : Lease) → IsSoundParty maker c p → slice_index_or p.live of None ≡ Some (instance lease) → slice_get lease.memories.items k ≡ Some l → IsLeaseOf maker c.settings l
+  pub lease_there : (maker : MakerTold) (c : PoolCore P) (p : RunningParty P) (of k : ℕ) (lease : InstanceLease P) (l : Lease) → IsSoundParty maker c p → slice_index_or p.live of None ≡ Some (instance lease) → slice_get lease.memories.items k ≡ Some l → IsLeaseOf maker c.settings c.plan l
   lease_there maker c p of k lease l sound has there =
       let items : List Lease = lease.memories.items in
-      let L : Lease → Type 0 = IsLeaseOf maker c.settings in
-      subst L (get_or_from_slice_get items k l l there) (All-get_or L items k l (slice_get_within items k l there) (live_grant maker c.settings p.live of (instance lease) sound.grants has))
+      let L : Lease → Type 0 = IsLeaseOf maker c.settings c.plan in
+      subst L (get_or_from_slice_get items k l l there) (All-get_or L items k l (slice_get_within items k l there) (live_grant maker c.settings c.plan p.live of (instance lease) sound.grants has))
 
-  pub lease_held : (maker : MakerTold) (c : PoolCore P) (p : RunningParty P) (of k : ℕ) (grant : Grant P) (l : Lease) → IsSoundParty maker c p → slice_index_or p.live of None ≡ Some grant → slice_get (leases_of grant) k ≡ Some l → IsLeaseOf maker c.settings l
+  pub lease_held : (maker : MakerTold) (c : PoolCore P) (p : RunningParty P) (of k : ℕ) (grant : Grant P) (l : Lease) → IsSoundParty maker c p → slice_index_or p.live of None ≡ Some grant → slice_get (leases_of grant) k ≡ Some l → IsLeaseOf maker c.settings c.plan l
   lease_held maker c p of k (instance lease) l sound has there = lease_there maker c p of k lease l sound has there

@@ -1,4 +1,5 @@
 -- A run as it starts: nobody has anything, and nobody was told anything.
+use Rattle.pool_alloc.proofs.FullShards.{none_kept}
 use Rattle.std.proofs.Common.{true, ◌≡◌, ℕ, zero, suc, ◌<◌, Bool, false, List, [], ◌∷◌, length, map, get_or, replicate, Option, None, refl, sym, ap, ◌∙◌, subst, arith, All}
 use Rattle.std.specs.Prelude.{IfSome, sum_by, slice_index_or}
 use Rattle.std.proofs.lemmas.List.{length-replicate}
@@ -16,7 +17,7 @@ use Rattle.pool_alloc.specs.declared.frame.Frame.{Frame}
 use Rattle.pool_alloc.specs.declared.frame.Grant.{Grant}
 use Rattle.pool_alloc.specs.Asked.{ModuleAsked}
 use Rattle.pool_alloc.proofs.BegunCalls.{made_frame, made_count, made_instances, made_memories}
-use Rattle.pool_alloc.proofs.Untouched.{untouched_is_whole, untouched_has_all}
+use Rattle.pool_alloc.proofs.Untouched.{untouched_is_whole, none_away}
 use Rattle.pool_run.specs.PartyRules.{rule_of}
 use Rattle.pool_run.specs.Private.{Grants, no_grants}
 use Rattle.pool_run.specs.Rooms.{World, under}
@@ -86,7 +87,7 @@ module _ {P : Type 0} where
   -- It is sound.
   party_is_sound : (maker : MakerTold) (home n : ℕ) (limits : Option PartyLimits) (c : PoolCore P) → IsCore maker c → IsParty maker c (party_made home limits c.settings n)
   party_is_sound maker home n limits c core = record {
-    sound = record { frame = made_frame maker home c core; grants = All-replicate (λ g. IfSome g (IsGrant maker c.settings)) n None tt };
+    sound = record { frame = made_frame maker home c core; grants = All-replicate (λ g. IfSome g (IsGrant maker c.settings c.plan)) n None tt };
     to_come = λ k behind. none_at n k;
     place = λ is. absurd cc;
   }
@@ -113,7 +114,7 @@ module _ {P : Type 0} where
   made_alone maker home n limits c core untouched =
       let nothing : HasNothing (held_by_party (party_made {P = P} home limits c.settings n)) = party_has_nothing P home limits c.settings n in
       record {
-        places = λ t. omega (arith, untouched_has_all maker t c core untouched, nothing.places t);
+        places = λ t. omega (arith, none_away maker t c core untouched, none_kept maker t c core (λ p role. untouched.none_queued p), nothing.places t);
         instances = omega (arith, untouched.instances, nothing.instances);
         searched = tt;
       }

@@ -17,14 +17,14 @@ use Rattle.pool_run.proofs.StageSteps.{IsStagedStep, staged}
 module _ {P : Type 0} where
   pub record IsStepped (maker : MakerTold) (old new : LimiterTold) (c : PoolCore P) (f : Frame P) (a : After P) : Type 0 where
     pub core : IsCore maker a.core
-    pub frame : IsFrame maker a.core.settings a.frame
+    pub frame : IsFrame maker a.core.settings a.core.plan a.frame
     pub goes : GoesOn maker old new c f a
     pub staged : IsStagedStep (stage_of f) (stage_of a.frame) a.outcome
     pub conserves : Conserves c f a
     pub size : IsSameSize c a.core
     pub searched : IsSearched c f → IsSearched a.core a.frame
     pub fewer : is_idle f.phase ≡ false → steps_left a.core a.frame + 1 ≤ steps_left c f
-    pub granted : IfGranted (IsGrantOf maker c.settings f.asked) a.outcome
+    pub granted : IfGranted (IsGrantOf maker c.settings c.plan f.asked) a.outcome
 
   pub stepped : (maker : MakerTold) (old new : LimiterTold) (c : PoolCore P) (f : Frame P) (a : After P) → CanStep maker c f → StepsTo old new c f a → IsStepped maker old new c f a
   stepped maker old new c f a can by =

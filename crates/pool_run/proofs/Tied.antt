@@ -6,11 +6,12 @@ use Rattle.pool_limits.specs.LimiterTold.{LimiterTold}
 use Rattle.pool_slots.specs.declared.errors.AllocError.{AllocError}
 use Rattle.pool_alloc.specs.Calls.{IsGrantOf, IfGranted}
 use Rattle.pool_alloc.specs.Leases.{Lease}
-use Rattle.pool_alloc.specs.Places.{right_to, made_count, phase_instances}
+use Rattle.pool_alloc.specs.Places.{right_to, phase_instances}
+use Rattle.pool_run.proofs.SlotsMade.{made_slot}
 use Rattle.pool_alloc.specs.Sound.{AreSupported}
 use Rattle.pool_alloc.specs.Stages.{Progress, untested, uncounted, admitted, Stage, no_call, keys, asks, returning, refusing, Follows, Goes}
 use Rattle.pool_alloc.specs.Stepping.{grant_count}
-use Rattle.pool_alloc.specs.Steps.{memories_wanted, images_wanted}
+use Rattle.pool_alloc.specs.Steps.{memories_wanted, images_wanted, memory_slots}
 use Rattle.pool_alloc.specs.declared.pool_core.PoolCore.{PoolCore}
 use Rattle.pool_alloc.specs.declared.frame.Frame.{Frame}
 use Rattle.pool_alloc.specs.Asked.{ModuleAsked}
@@ -67,7 +68,7 @@ module _ {P : Type 0} (w : World) (old new : LimiterTold) (c : PoolCore P) (f : 
   all_admitted p number seen asked so follows = goes_so_far w old new c f live told is seen number asked p (admitted (length (memories_wanted f.asked))) so follows
 
   -- an instance is whole, and granted
-  granted : (p : Progress) (grant : Grant P) → grants_of live ≡ told → (request : IsRequest w commands done f.asked told p) → Follows old new c f p (admitted (length (memories_wanted f.asked))) → AreSupported c.settings (memories_wanted f.asked) (images_wanted f.asked) → IsGrantOf w.maker c.settings f.asked grant → ((k : ℕ) → grant_count (right_to k) grant + sum_by (granted_to (grant_count (right_to k))) live ≤ made_count (right_to k) c.settings.slots) → Replies w commands done live told (granted_reply grant) (slice_set live done (Some grant))
+  granted : (p : Progress) (grant : Grant P) → grants_of live ≡ told → (request : IsRequest w commands done f.asked told p) → Follows old new c f p (admitted (length (memories_wanted f.asked))) → AreSupported c.settings (memories_wanted f.asked) (images_wanted f.asked) → IsGrantOf w.maker c.settings c.plan f.asked grant → ((k : ℕ) → grant_count (right_to k) grant + sum_by (granted_to (grant_count (right_to k))) live ≤ made_slot k (memory_slots c.plan)) → Replies w commands done live told (granted_reply grant) (slice_set live done (Some grant))
   granted p (instance lease) seen request follows supported of apart =
       let items : List Lease = lease.memories.items in
       let grant : Grant P = instance lease in
@@ -79,7 +80,7 @@ module _ {P : Type 0} (w : World) (old new : LimiterTold) (c : PoolCore P) (f : 
       let memories : map private_memory items ≡ begun = granted_begun w old new c f live told is seen n request.asked_for items of.0 of.1 of.2 supported in
       let grants : grants_of (slice_set live done (Some grant)) ≡ slice_set told done (Some (record { memories = begun })) =
       grants_set live done (Some grant) ∙ ap (λ (g : Grants). slice_set g done (Some (private_grant grant))) seen ∙ ap (λ (ms : List PrivateMemory). slice_set told done (Some (record { memories = ms }))) memories in
-      let total : ℕ = c.settings.slots in
+      let total : ℕ = memory_slots c.plan in
       let Inside : ℕ → Type 0 = λ k. All (λ slot. slot < k) (slots_of items) in
       record {
         act = requests n;
@@ -94,11 +95,11 @@ module _ {P : Type 0} (w : World) (old new : LimiterTold) (c : PoolCore P) (f : 
           grants,
         );
         pool = record {
-          inside = subst Inside (sym is.world.slots) (slots_inside items live total apart);
+          inside = subst Inside (sym is.world.plan.total) (slots_inside items live total apart);
           free = slots_free items live told total seen apart;
           differ = slots_apart items live total apart;
           instances = so.counted;
-          memories = omega (arith, is.world.slots, live_told live told seen, room_for total items live apart, of.1, counts);
+          memories = omega (arith, is.world.plan.total, live_told live told seen, room_for total items live apart, of.1, counts);
         };
       }
 
@@ -111,8 +112,8 @@ module _ {P : Type 0} (w : World) (old new : LimiterTold) (c : PoolCore P) (f : 
       record { number = request.number; act = request.act; asked_for = subst For (sym same) request.asked_for; so_far = goes_so_far w old new c f live told is seen request.number request.asked_for p q request.so_far follows }
 
   -- After each step of a call what the party has fits what it was told.
-  pub tied_by : (s t : Stage) (asked : Option ModuleAsked) (o : Option (Outcome P)) → (s ≡ asks uncounted → phase_instances f.phase ≡ 0) → (is_none t ≡ false → asked ≡ f.asked) → IfGranted (IsGrantOf w.maker c.settings f.asked) o
-      → IfGranted (λ g. (k : ℕ) → grant_count (right_to k) g + sum_by (granted_to (grant_count (right_to k))) live ≤ made_count (right_to k) c.settings.slots) o → Goes w.maker old new c f s t o → TiedAs w s commands done f.asked (grants_of live) told → TiedBy w commands done live told t asked o
+  pub tied_by : (s t : Stage) (asked : Option ModuleAsked) (o : Option (Outcome P)) → (s ≡ asks uncounted → phase_instances f.phase ≡ 0) → (is_none t ≡ false → asked ≡ f.asked) → IfGranted (IsGrantOf w.maker c.settings c.plan f.asked) o
+      → IfGranted (λ g. (k : ℕ) → grant_count (right_to k) g + sum_by (granted_to (grant_count (right_to k))) live ≤ made_slot k (memory_slots c.plan)) o → Goes w.maker old new c f s t o → TiedAs w s commands done f.asked (grants_of live) told → TiedBy w commands done live told t asked o
   tied_by no_call no_call asked None none same of apart goes tied = tied
   tied_by keys no_call asked (Some answer.Key) none same of apart goes tied = tied
   tied_by (asks p) (asks q) asked None none same of apart goes tied = (tied.0, goes_asking p q asked (same refl) tied.0 tied.1 goes)

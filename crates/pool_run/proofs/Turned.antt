@@ -1,5 +1,5 @@
 -- What a turn leaves of a party and of the pool: what one loses comes to the other, and what is to come is still to come.
-use Rattle.std.proofs.Common.{◌≡◌, ◌≢◌, ℕ, ◌+◌, ◌<◌, ◌≤◌, List, length, Option, Some, None, refl, sym, ap, ◌∙◌, subst, arith, true}
+use Rattle.std.proofs.Common.{◌≡◌, ℕ, ◌+◌, ◌<◌, ◌≤◌, List, length, Option, Some, None, refl, sym, ap, ◌∙◌, subst, arith, true}
 use Rattle.std.specs.Prelude.{slice_set, slice_index_or, sum_by}
 use Rattle.pool_pages.specs.MakerTold.{MakerTold}
 use Rattle.pool_alloc.specs.Turns.{After}
@@ -17,12 +17,11 @@ use Rattle.pool_run.proofs.Sounds.{reply_sound, step_sound, IsSoundTurn}
 use Rattle.pool_run.specs.Worlds.{AreCallsFor}
 use Rattle.pool_run.specs.declared.command.Command.{Command}
 use Rattle.pool_run.specs.declared.reply.Reply.{Reply}
-use Rattle.pool_run.specs.declared.reply.Reply.TheVariants.{Refused}
 use Rattle.pool_run.specs.declared.running_party.RunningParty.{RunningParty}
 use Rattle.pool_run.proofs.Parties.{can_step}
 use Rattle.std.proofs.lemmas.List.{length-set, get_or-set_other}
 use Rattle.std.proofs.lemmas.List.Sums.{sum_by-set}
-use Rattle.pool_alloc.specs.Places.{Thing, kept_count}
+use Rattle.pool_alloc.specs.Places.{Thing, kept_count, away_count}
 use Rattle.pool_alloc.specs.Stepping.{Conserves, IsSameSize, grant_count, grant_instances, grant_memories}
 use Rattle.pool_run.specs.Ties.{granted_to, held_by_party}
 use Rattle.pool_run.proofs.Parties.{HaveSame}
@@ -36,7 +35,7 @@ module _ {P : Type 0} where
   -- What the pool loses comes to the party, and the other way round. The pool has the same sizes, and the party as many
   -- places, of which those to come are empty, and one is there for what is asked for.
   pub record HasTurned (c : PoolCore P) (p : RunningParty P) (t : Turned P) : Type 0 where
-    pub places : (x : Thing) → kept_count x t.core + (held_by_party t.party).places x ≡ kept_count x c + (held_by_party p).places x
+    pub places : (x : Thing) → kept_count x t.core + (held_by_party t.party).places x + away_count x c ≡ kept_count x c + (held_by_party p).places x + away_count x t.core
     pub instances : t.core.counters.core_instances + (held_by_party p).instances ≡ c.counters.core_instances + (held_by_party t.party).instances
     pub memories : t.core.counters.memories + (held_by_party p).memories ≡ c.counters.memories + (held_by_party t.party).memories
     pub size : IsSameSize c t.core
@@ -47,7 +46,7 @@ module _ {P : Type 0} where
     pub searched : IsSearched c p.frame → IsSearched t.core t.party.frame
 
   same_size : (c : PoolCore P) → IsSameSize c c
-  same_size c = record { settings = refl }
+  same_size c = record { settings = refl; plan = refl }
 
   -- Nothing happened.
   stayed : (c : PoolCore P) (p : RunningParty P) → ((k : ℕ) → p.done ≤ k → slice_index_or p.live k None ≡ None) → (is_asking (stage_of p.frame) ≡ true → p.done < length p.live) → HasTurned c p (record { core = c; party = p; reply = None })

@@ -1,5 +1,6 @@
 -- A turn of a party, as the party sees it: what it was told stays a private run, with the reply if there is one.
-use Rattle.std.proofs.Common.{◌≡◌, ℕ, ◌+◌, List, [], ◌∷◌, ◌++◌, length, Option, Some, None, refl, sym, ap, ◌∙◌, subst, arith, true, ◌≤◌, ◌<◌}
+use Rattle.pool_slots.specs.declared.plan.Plan.{Plan}
+use Rattle.std.proofs.Common.{◌≡◌, ℕ, ◌+◌, List, [], ◌∷◌, ◌++◌, length, Option, Some, None, refl, sym, ap, ◌∙◌, subst, arith, true, ◌≤◌}
 use Rattle.std.specs.Prelude.{option_map, slice_get, slice_set, is_some, sum_by}
 use Rattle.std.proofs.lemmas.List.{length_push}
 use Rattle.pool_limits.specs.Growth.{GrowthRule}
@@ -28,10 +29,12 @@ use Rattle.pool_run.proofs.Stepped.{IsStepped, stepped}
 use Rattle.pool_run.proofs.Requests.{IsBefore}
 use Rattle.pool_alloc.specs.Stages.{Stage, no_call, stage_of}
 use Rattle.pool_alloc.specs.Calls.{IfGranted}
-use Rattle.pool_alloc.specs.Places.{Thing, right_to, kept_count, frame_count, made_count}
+use Rattle.pool_alloc.specs.Places.{Thing, right_to, away_count, kept_count, frame_count}
+use Rattle.pool_run.proofs.SlotsMade.{made_slot, away_made}
 use Rattle.pool_alloc.specs.Stepping.{is_idle, Conserves, grant_count, count_granted}
 use Rattle.pool_alloc.specs.declared.frame.Grant.{Grant}
 use Rattle.pool_limits.specs.LimiterTold.{LimiterTold}
+use Rattle.pool_alloc.specs.Steps.{memory_slots}
 
 -- the command that does this
 command_at : (o : Option Command) (act : Act) → option_map act_of o ≡ Some act → (command : Command) × (o ≡ Some command) × (act_of command ≡ act)
@@ -71,15 +74,15 @@ module _ {P : Type 0} where
   answered_private w start commands before c p f (Some (answer.Refused e)) private settled tied = replied w start commands before p (record p { frame = f; done = p.done + 1 }) tied.act (Refused (Alloc e)) private refl (settled refl) tied.next tied.moves tied.pool
 
   -- what is granted isn't the party's yet, and is made once
-  apart : (c : PoolCore P) (f : Frame P) (live : List (Option (Grant P))) (a : After P) (o : Option (Outcome P)) → o ≡ a.outcome → ((t : Thing) → kept_count t c + (frame_count t f + sum_by (granted_to (grant_count t)) live) ≤ made_count t c.settings.slots) → Conserves c f a → IfGranted (λ g. (k : ℕ) → grant_count (right_to k) g + sum_by (granted_to (grant_count (right_to k))) live ≤ made_count (right_to k) c.settings.slots) o
-  apart c f live a None is once b = tt
-  apart c f live a (Some answer.Key) is once b = tt
-  apart c f live a (Some (answer.Granted grant)) is once b =
+  apart : (c : PoolCore P) (f : Frame P) (live : List (Option (Grant P))) (a : After P) (o : Option (Outcome P)) → o ≡ a.outcome → ((t : Thing) → kept_count t c + (frame_count t f + sum_by (granted_to (grant_count t)) live) ≤ away_count t c) → Conserves c f a → ((k : ℕ) → away_count (right_to k) a.core ≤ made_slot k (memory_slots c.plan)) → IfGranted (λ g. (k : ℕ) → grant_count (right_to k) g + sum_by (granted_to (grant_count (right_to k))) live ≤ made_slot k (memory_slots c.plan)) o
+  apart c f live a None is once b most = tt
+  apart c f live a (Some answer.Key) is once b most = tt
+  apart c f live a (Some (answer.Granted grant)) is once b most =
       λ k.
       let here : count_granted (grant_count (right_to k)) a.outcome ≡ grant_count (right_to k) grant = ap (count_granted (grant_count (right_to k))) (sym is) in
-      omega (arith, once (right_to k), b.places (right_to k), here)
-  apart c f live a (Some answer.Returned) is once b = tt
-  apart c f live a (Some (answer.Refused e)) is once b = tt
+      omega (arith, once (right_to k), b.places (right_to k), most k, here)
+  apart c f live a (Some answer.Returned) is once b most = tt
+  apart c f live a (Some (answer.Refused e)) is once b most = tt
 
   -- A step of the call under way.
   pub step_private : (w : World) (start : Grants) (commands : List Command) (before : List Reply) (c : PoolCore P) (p : RunningParty P) (t : Turned P) → IsPrivate w start commands before p → IsWorldOf w c → CanTurn w.maker c p → (w.alone ≡ true → IsAlone c p.frame p.live) → rule_of p.limits ≡ w.terms.rule → Steps c p t → SeesTurn w start commands before t
@@ -92,8 +95,7 @@ module _ {P : Type 0} where
       record {
         world = world;
         frame = can.party.sound.frame;
-        slots = refl;
-        once = λ t. omega (arith, can.fits.once t);
+        once = λ k. omega (arith, can.fits.once (right_to k), away_made w.maker k c can.core);
         instances = omega (arith, can.fits.instances);
         alone = alone;
         rule = steps.1.2 ∙ ap (λ (r : GrowthRule). Some r) ruled;
@@ -103,4 +105,4 @@ module _ {P : Type 0} where
       (answered_private w start commands before a.core p a.frame a.outcome private on.staged.settled
       (tied_by w old steps.1.1 c f commands p.done p.live private.grants is (stage_of f) (stage_of a.frame) a.frame.asked a.outcome
       (uncounted_none f.phase f.ending (length f.objects.items)) (λ none. on.goes.asked (sym idle ∙ none)) on.granted
-      (apart c f p.live a a.outcome refl can.fits.once on.conserves) on.goes.way private.tied))
+      (apart c f p.live a a.outcome refl can.fits.once on.conserves (λ k. omega (arith, away_made w.maker k a.core on.core, ap (λ (plan : Plan). made_slot k (memory_slots plan)) on.size.plan))) on.goes.way private.tied))

@@ -1,5 +1,5 @@
 -- What the steps of a turn leave, as its code makes them.
-use Rattle.std.proofs.Common.{◌≡◌, ◌<◌, length, Result, Ok, Err, ◌∙◌, subst}
+use Rattle.std.proofs.Common.{◌≡◌, ◌<◌, length, Result, Ok, Err, subst}
 use Rattle.std.specs.Prelude.{IfOk}
 use Rattle.pool_pages.specs.MakerTold.{MakerTold}
 use Rattle.pool_limits.specs.LimiterTold.{LimiterTold}

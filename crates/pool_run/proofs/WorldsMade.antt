@@ -1,5 +1,5 @@
 -- The pool and the calls that are made for an input are those of its world.
-use Rattle.std.proofs.Common.{◌≡◌, ℕ, ◌+◌, ◌<◌, zero, suc, List, [], ◌∷◌, length, get_or, replicate, refl, sym, ap, ◌∙◌, subst, arith, Option, Some, None, Bool, true, false, not}
+use Rattle.std.proofs.Common.{◌≡◌, ℕ, ◌+◌, ◌<◌, zero, suc, List, [], ◌∷◌, length, replicate, refl, sym, ap, ◌∙◌, subst, arith, Option, Some, None, Bool, true, false, not}
 use Rattle.std.specs.Prelude.{◌-◌, IfSome, is_some, slice_get, slice_index_or, nat_le, if◌then◌else◌, option_map, unwrap_or}
 use Rattle.std.specs.List.{list_all}
 use Rattle.std.specs.Option.{option_map_or}
@@ -17,30 +17,54 @@ use Rattle.pool_pages.specs.declared.module_types.Tunables.{Tunables}
 use Rattle.pool_images.specs.Images.{Image, image_of, images_from, padded, first_misplaced, ends_in_minimum}
 use Rattle.pool_images.specs.Slots.{FitsInto}
 use Rattle.pool_images.proofs.Begun.{rounded_up_above}
-use Rattle.pool_alloc.specs.Made.{IsMadeCore}
-use Rattle.pool_alloc.specs.Sound.{AreImagesOf}
+use Rattle.pool_alloc.specs.Made.{IsMadeCore, plan_settings}
 use Rattle.pool_alloc.specs.declared.pool_core.PoolCore.{PoolCore}
 use Rattle.pool_alloc.specs.declared.pool_core.Settings.{Settings}
 use Rattle.pool_alloc.specs.Asked.{ModuleAsked}
-use Rattle.pool_alloc.specs.Steps.{images_made}
+use Rattle.pool_alloc.specs.Steps.{images_made, stripe_allocator, no_allocator, memory_slot}
 use Rattle.pool_run.specs.Built.{is_built_memory, is_built_module}
 use Rattle.pool_run.specs.Made.{call_made, calls_made}
-use Rattle.pool_run.specs.Private.{Terms, memories_of, has_images, images_of, Want, wants_from}
+use Rattle.pool_run.specs.Private.{Terms, memories_of, has_images, images_of, wants_from}
 use Rattle.pool_run.specs.Runs.{world_of}
-use Rattle.pool_run.specs.Worlds.{IsWorldOf, IsCallFor, AreCallsFor}
+use Rattle.pool_run.specs.Worlds.{IsWorldOf, IsCallFor, AreCallsFor, HasOneStripe}
 use Rattle.pool_run.specs.declared.input.Input.{Input}
 use Rattle.pool_run.proofs.BuiltInputs.{built_memories, small_pages}
 use Rattle.pool_run.proofs.Tests.{second, of_all}
+use Rattle.pool_slots.specs.declared.plan.Plan.{Plan}
+use Rattle.pool_slots.specs.declared.plan.Allocator.{Allocator}
+use Rattle.pool_slots.specs.Plans.{has_number, have_number}
+use Rattle.pool_slots.specs.PlansMade.{IsPlanOf, allocator_planned}
+use Rattle.pool_slots.specs.declared.plan_maker.PlanSettings.{PlanSettings}
+use Rattle.pool_slots.proofs.PlansMade.{follow}
+use Rattle.pool_slots.specs.declared.slot_name.OfKinds.{OfKinds}
 
 -- what holds of the element at a place, whichever that is, holds if there is one
 if_some : {X : Type 0} (o : Option X) (Q : X → Type 0) → ((x : X) → o ≡ Some x → Q x) → IfSome o Q
 if_some None Q all = tt
 if_some (Some x) Q all = all x refl
 
+only_one : (b : Bool) → (if b then 1 else 0) + 0 ≡ 1 → b ≡ true
+only_one true is = refl
+only_one false is = absurd (omega (arith, is))
+
+-- A plan that is made has one stripe.
+one_stripe : (s : PlanSettings) (plan : Plan) → IsPlanOf s plan → HasOneStripe s.totals.memory plan
+one_stripe s plan made =
+    let a : Allocator = allocator_planned s (memory_slot 0).kind in
+    let one : plan.memories ≡ a ∷ [] = made.allocators (memory_slot 0).kind in
+    let Has : ℕ → List Allocator → Type 0 = λ k as'. have_number as' k ≡ 1 in
+    let first : stripe_allocator plan 0 ≡ a = ap (λ (as' : List Allocator). slice_index_or as' 0 no_allocator) one in
+    record {
+      total = sym (ap (λ (n : OfKinds). n.memory) made.totals);
+      one = ap (length {A = Allocator}) one;
+      room = ap (λ (x : Allocator). x.capacity) first;
+      each = λ k inside. ap (λ (x : Allocator). has_number x k) first ∙ only_one (has_number a k) (subst (Has k) one ((follow s plan made).one (memory_slot k) inside));
+    }
+
 module _ {P : Type 0} where
   -- The pool as it is made has the sizes of the world.
   pub is_world : (input : Input) (maker : MakerTold) (c : PoolCore P) → IsMadeCore maker input.config input.tunables input.offered c → IsWorldOf (world_of input maker) c
-  is_world input maker c made = record { tells = refl; settings = sym made.settings; slots = sym (ap (λ (s : Settings). s.slots) made.settings); stripes = refl }
+  is_world input maker c made = record { tells = refl; settings = sym made.settings; plan = one_stripe (plan_settings input.config) c.plan made.plan }
 
 count_from : (id : CompiledModuleId) (page n : ℕ) (decls : List MemoryDecl) → length (images_from id page n decls) ≡ length decls
 count_from id page n [] = refl

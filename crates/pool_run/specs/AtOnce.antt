@@ -1,9 +1,22 @@
--- What the code makes of a command, as an act.
+-- What the code makes of a command, as an act, and of the answers of a memory, as replies.
+use Rattle.std.specs.Prelude.{◌≡◌, ℕ, Option, Some, Result, Ok, Err}
+use Rattle.pool_limits.specs.Growth.{GrowthRule}
+use Rattle.pool_limits.specs.Growing.{GrowthGiven}
+use Rattle.pool_limits.specs.LimiterTold.{LimiterTold}
+use Rattle.pool_limits.specs.declared.errors.GrowFault.{GrowFault}
+use Rattle.pool_limits.specs.declared.errors.GrowFault.TheVariants as fault
+use Rattle.pool_limits.specs.declared.errors.Trap.{Trap}
+use Rattle.pool_memory.specs.Growing.{IsGrowth}
+use Rattle.pool_slots.specs.declared.errors.AllocError.TheVariants as alloc
+use Rattle.pool_alloc.specs.Leases.{Lease, IsUsable}
 use Rattle.pool_run.specs.Acts.{MemoryOp, reads, writes, fills, grows, asks_size, Act, requests, on_memory, drops}
 use Rattle.pool_run.specs.declared.act.MemoryOp.{MemoryOp as GivenOp}
 use Rattle.pool_run.specs.declared.act.MemoryOp.TheVariants as op
 use Rattle.pool_run.specs.declared.act.Act.{Act as GivenAct}
 use Rattle.pool_run.specs.declared.act.Act.TheVariants as act
+use Rattle.pool_run.specs.declared.reply.Reply.{Reply}
+use Rattle.pool_run.specs.declared.reply.Reply.TheVariants.{Done, Grown, Refused, Trap as trapped}
+use Rattle.pool_run.specs.declared.reply.Refusal.TheVariants.{Alloc}
 
 -- what the code is given, as an operation and an act
 abbrev pub given_op : GivenOp → MemoryOp
@@ -17,3 +30,19 @@ abbrev pub given_act : GivenAct → Act
 given_act (act.Request number) = requests number
 given_act (act.OnMemory of k by) = on_memory of k (given_op by)
 given_act (act.Drop of) = drops of
+
+-- the reply to a write with this answer, and to a growth
+abbrev pub write_reply : Result (Unit {0}) Trap → Reply
+write_reply (Ok u) = Done
+write_reply (Err trap) = trapped trap
+
+abbrev pub growth_reply : Result (Option ℕ) GrowFault → Reply
+growth_reply (Ok size) = Grown size
+growth_reply (Err fault.Memory) = Refused (Alloc alloc.Memory)
+growth_reply (Err (fault.LimiterFault e)) = Refused (Alloc (alloc.LimiterFault e))
+
+-- a lease that a limiter with this rule let grow, or didn't
+pub record GrowsUnder (rule : GrowthRule) (pages : ℕ) (l new : Lease) (answer : Result (Option ℕ) GrowFault) : Type 0 where
+  pub same : new ≡ record l { memory = new.memory }
+  pub memory : IsUsable new.memory
+  pub growth : (given : GrowthGiven) × (asked : LimiterTold) × (left : LimiterTold) × (asked.rule ≡ Some rule) × IsGrowth given pages l.memory.linear.size l.memory new.memory asked left answer

@@ -214,27 +214,44 @@ reported (Err e) = Refused (Alloc (alloc.LimiterFault e))
 abbrev pub report : GrowthRule → Reply
 report rule = reported (memory_failure (Some rule) (Ok tt))
 
--- what comes of a growth where the limiter says yes, and else none or its error
-abbrev pub if_allowed : Result Bool LimiterError → PrivateMemory → PrivateMemory × Reply → PrivateMemory × Reply
-if_allowed (Ok true) m grown = grown
-if_allowed (Ok false) m grown = (m, Grown None)
-if_allowed (Err e) m grown = (m, Refused (Alloc (alloc.LimiterFault e)))
+-- How a growth ends: the memory is as it was, and no call on its pages was made; that call failed; or it has grown.
+pub data GrowthEnd : Type 0 where
+  as_it_was : GrowthEnd
+  could_not : GrowthEnd
+  has_grown : GrowthEnd
 
--- The memory after a growth by so many pages under this rule, and the reply. By none nobody is asked. A size that the
--- type forbids is only reported; then the limiter is asked; then a size past the maximum or the capacity, and a failed
--- call on the pages, are reported.
-abbrev pub grown_by : GrowthRule → Bool → ℕ → PrivateMemory → PrivateMemory × Reply
-grown_by rule fault pages m =
+-- the end and the reply where the limiter says yes, and else none or its error
+abbrev pub if_allowed : Result Bool LimiterError → GrowthEnd × Reply → GrowthEnd × Reply
+if_allowed (Ok true) end = end
+if_allowed (Ok false) end = (as_it_was, Grown None)
+if_allowed (Err e) end = (as_it_was, Refused (Alloc (alloc.LimiterFault e)))
+
+-- The end of a growth by so many pages under this rule, and the reply. By none nobody is asked. A size that the type
+-- forbids is only reported; then the limiter is asked; then a size past the maximum or the capacity, and a failed call on
+-- the pages, are reported.
+abbrev pub growth : GrowthRule → Bool → ℕ → PrivateMemory → GrowthEnd × Reply
+growth rule fault pages m =
     if pages == 0
-    then (m, Grown (Some m.size))
+    then (as_it_was, Grown (Some m.size))
     else (
     if not (allow_growth_to m.ty (size_wanted pages m))
-    then (m, report rule)
-    else if_allowed (memory_answer (Some rule) (Ok true) (size_wanted pages m) (maximum_asked m.ty)) m
-    (if (exceeds (maximum_asked m.ty) (size_wanted pages m) || nat_lt m.capacity (size_wanted pages m)) || fault
-    then (m, report rule)
-    else (memory_grown (size_wanted pages m) m, Grown (Some m.size)))
+    then (as_it_was, report rule)
+    else if_allowed (memory_answer (Some rule) (Ok true) (size_wanted pages m) (maximum_asked m.ty)) (
+    if exceeds (maximum_asked m.ty) (size_wanted pages m) || nat_lt m.capacity (size_wanted pages m)
+    then (as_it_was, report rule)
+    else (if fault then (could_not, report rule) else (has_grown, Grown (Some m.size)))
     )
+    )
+
+-- the memory after a growth to this size that ended so
+abbrev pub left_of : GrowthEnd → ℕ → PrivateMemory → PrivateMemory
+left_of as_it_was size m = m
+left_of could_not size m = m
+left_of has_grown size m = memory_grown size m
+
+-- the memory after a growth by so many pages under this rule, and the reply
+abbrev pub grown_by : GrowthRule → Bool → ℕ → PrivateMemory → PrivateMemory × Reply
+grown_by rule fault pages m = (left_of (growth rule fault pages m).0 (size_wanted pages m) m, (growth rule fault pages m).1)
 
 -- whether a call on the pages fails is given
 abbrev pub Grows : GrowthRule → ℕ → PrivateMemory → PrivateMemory → Reply → Type 0

@@ -8,7 +8,7 @@ use Rattle.pool_slots.specs.declared.errors.AllocError.{AllocError}
 use Rattle.pool_slots.specs.declared.errors.AllocError.TheVariants as alloc
 use Rattle.pool_slots.specs.declared.errors.ConcurrencyKind.{ConcurrencyKind}
 use Rattle.pool_slots.specs.declared.errors.ConcurrencyKind.TheVariants.{MemoryStripe, CoreInstances}
-use Rattle.pool_run.specs.Private.{PrivateMemory, PrivateInstance, PrivateState, PrivateStep, Grants, Terms, grant_at, private_memories, Request, request_of, slots_asked, grown_by, StepsBy, with_grants, no_grants}
+use Rattle.pool_run.specs.Private.{PrivateMemory, PrivateInstance, PrivateState, PrivateStep, Grants, Terms, grant_at, private_memories, Request, request_of, slots_asked, growth, StepsBy, with_grants, no_grants}
 use Rattle.pool_run.specs.Objects.{object_at}
 use Rattle.pool_run.specs.Acts.{MemoryOp, grows, Act, requests, on_memory, act_of}
 use Rattle.pool_run.specs.declared.command.Command.{Command}
@@ -92,7 +92,7 @@ TellsRoom w request grants _ = Unit {0}
 
 -- A growth ends as its rules alone would have it, or a call on the pages of its memory's slot failed.
 abbrev pub TellsGrowth : World → ℕ → PrivateMemory → Reply → Type 0
-TellsGrowth w pages m reply = (reply ≡ (grown_by w.terms.rule false pages m).1) ⊎ MayFault w m.slot
+TellsGrowth w pages m reply = (reply ≡ (growth w.terms.rule false pages m).1) ⊎ MayFault w m.slot
 
 abbrev pub TellsMove : World → MemoryOp → PrivateMemory → Reply → Type 0
 TellsMove w (grows pages) m reply = TellsGrowth w pages m reply

@@ -1,6 +1,6 @@
 -- What the events on a shared memory make of it and of those who wait on its words, and the replies. The memory is a list
 -- of bytes that reads, writes and growths move as they do a private memory, without a limiter.
-use Rattle.std.specs.Prelude.{◌≡◌, ℕ, ◌+◌, ◌^◌, List, length, min, nat_lt, Bool, true, false, if◌then◌else◌, Option, Some, None, option_map, slice_range, Result, Ok, Err}
+use Rattle.std.specs.Prelude.{◌≡◌, ℕ, ◌+◌, ◌^◌, List, length, min, nat_lt, Bool, if◌then◌else◌, Option, Some, None, option_map, slice_range, Result, Ok, Err}
 use Rattle.std.specs.Int.{Width, w32, w64, byte_len, from_le_bytes}
 use Rattle.pool_limits.specs.Growth.{always}
 use Rattle.pool_limits.specs.declared.errors.Trap.{Trap as TrapCause}

@@ -2,7 +2,6 @@
 use Rattle.std.specs.Prelude.{◌≡◌, ℕ, ◌≤◌, List, [], ◌∷◌, length, replicate, if◌then◌else◌, Bool, true, Option, Some, None, IfSome}
 use Rattle.std.specs.List.{filter}
 use Rattle.pool_pages.specs.Config.{default_tunables}
-use Rattle.pool_pages.specs.Count.{rounded_up}
 use Rattle.pool_pages.specs.FaultPlans.{failing_maker}
 use Rattle.pool_pages.specs.MakerTold.{MakerTold, calls_of}
 use Rattle.pool_pages.specs.MemoryTypes.{minimum_byte_size}
@@ -10,14 +9,12 @@ use Rattle.pool_pages.specs.SettingsRules.{is_page_size}
 use Rattle.pool_pages.specs.declared.bad_config.BadConfig.{BadConfig}
 use Rattle.pool_pages.specs.declared.bad_config.BadConfig.TheVariants.{PageSize}
 use Rattle.pool_pages.specs.declared.maker.MakeFault.TheVariants as making
-use Rattle.pool_pages.specs.declared.module_types.MemoryDecl.{MemoryDecl}
 use Rattle.pool_pages.specs.declared.module_types.MemoryTunables.{MemoryTunables}
 use Rattle.pool_pages.specs.declared.module_types.MemoryKind.TheVariants.{LinearMemory}
 use Rattle.pool_pages.specs.declared.module_types.MemoryType.{MemoryType}
 use Rattle.pool_memory.specs.Layouts.{Layout}
 use Rattle.pool_shared.specs.Shared.{layout_for}
 use Rattle.pool_memory.specs.Moving.{IsMadeFor, IsRefusedFor, next_name}
-use Rattle.pool_run.specs.Private.{PrivateMemory}
 use Rattle.pool_run.specs.SharedEvents.{SharedView, Happens}
 use Rattle.pool_run.specs.declared.shared_input.SharedEvent.{SharedEvent}
 use Rattle.pool_run.specs.declared.shared_input.SharedInput.{SharedInput}

@@ -1,14 +1,13 @@
 -- What a party was told, and what it has: between two turns they fit each other.
-use Rattle.std.specs.Prelude.{◌≡◌, ℕ, ◌+◌, ◌<◌, ◌≤◌, List, [], length, slice_get, slice_index_or, slice_set, sum_by, All, Bool, true, false, Option, Some, None, IsSome, IfSome, option_map}
+use Rattle.std.specs.Prelude.{◌≡◌, ℕ, ◌+◌, ◌<◌, ◌≤◌, List, [], length, slice_get, slice_index_or, slice_set, sum_by, All, Bool, true, false, Option, Some, None, IsSome, IfSome}
 use Rattle.pool_pages.specs.MakerTold.{MakerTold}
-use Rattle.pool_pages.specs.declared.module_types.ModuleInfo.{ModuleInfo}
 use Rattle.pool_limits.specs.Growth.{GrowthRule}
 use Rattle.pool_slots.specs.declared.errors.AllocError.{AllocError}
 use Rattle.pool_alloc.specs.Reserved.{Reserved}
 use Rattle.pool_alloc.specs.Searches.{IsSearched}
 use Rattle.pool_alloc.specs.Stages.{Progress, untested, uncounted, admitted, Stage, no_call, keys, asks, returning, refusing, stage_of}
 use Rattle.pool_alloc.specs.Steps.{memories_wanted, images_wanted}
-use Rattle.pool_alloc.specs.Places.{Thing, right_to, region_of, kept_count, frame_count, made_count, phase_instances, frame_memories}
+use Rattle.pool_alloc.specs.Places.{Thing, right_to, region_of, away_count, kept_count, frame_count, phase_instances, frame_memories}
 use Rattle.pool_alloc.specs.Stepping.{grant_count, grant_instances, grant_memories}
 use Rattle.pool_alloc.specs.Calls.{IsGrant}
 use Rattle.pool_alloc.specs.Sound.{IsCore, IsFrame}
@@ -105,8 +104,8 @@ module _ {P : Type 0} where
 
   -- what a turn leaves of a party that its calls say
   pub record IsSoundParty (maker : MakerTold) (c : PoolCore P) (p : RunningParty P) : Type 0 where
-    pub frame : IsFrame maker c.settings p.frame
-    pub grants : All (λ g. IfSome g (IsGrant maker c.settings)) p.live
+    pub frame : IsFrame maker c.settings c.plan p.frame
+    pub grants : All (λ g. IfSome g (IsGrant maker c.settings c.plan)) p.live
 
   -- what holds of a party between turns: the places of the commands that are still to come are empty, and there is one
   -- for what is asked for now
@@ -120,11 +119,11 @@ module _ {P : Type 0} where
     pub empty : slots.items ≡ []
     pub room : is_asking (stage_of f) ≡ true → length (memories_wanted f.asked) ≤ slots.room
 
-  -- What a turn relies on: what the party has fits what the pool has. Nothing is in both, the region of each slot that
-  -- the pool or the party has is with one of them too, and what the party has counted is counted.
+  -- What a turn relies on: what the party has fits what the pool has given out. It was given out and isn't kept, others
+  -- have no region without its slot, and what the party has counted is counted.
   pub record FitsParty (c : PoolCore P) (p : RunningParty P) : Type 0 where
-    pub once : (t : Thing) → kept_count t c + (held_by_party p).places t ≤ made_count t c.settings.slots
-    pub home : (i : ℕ) → 0 < kept_count (right_to i) c + (held_by_party p).places (right_to i) → 0 < kept_count (region_of i) c + (held_by_party p).places (region_of i)
+    pub once : (t : Thing) → kept_count t c + (held_by_party p).places t ≤ away_count t c
+    pub others : (i : ℕ) → away_count (region_of i) c + (kept_count (right_to i) c + (held_by_party p).places (right_to i)) ≤ away_count (right_to i) c + (kept_count (region_of i) c + (held_by_party p).places (region_of i))
     pub instances : (held_by_party p).instances ≤ c.counters.core_instances
     pub memories : (held_by_party p).memories ≤ c.counters.memories
 
@@ -133,15 +132,15 @@ module _ {P : Type 0} where
     pub party : IsParty maker c p
     pub fits : FitsParty c p
 
-  -- What holds of a run between turns: each slot and each region is in one place, and counters count.
+  -- What holds of a run between turns: each slot and each region that is given out is in one place, and counters count.
   pub record IsRunning (maker : MakerTold) (c : PoolCore P) (parties : List (RunningParty P)) : Type 0 where
     pub core : IsCore maker c
     pub each : All (IsParty maker c) parties
     pub whole : IsPartitioned held_by_party c parties
 
-  -- A party with this call and these grants is alone: all that the pool hasn't is with it, and it has counted what is
-  -- counted.
+  -- A party with this call and these grants is alone: all that the pool has given out and doesn't keep is with it, and it
+  -- has counted what is counted.
   pub record IsAlone (c : PoolCore P) (f : Frame P) (live : List (Option (Grant P))) : Type 0 where
-    pub places : (t : Thing) → kept_count t c + (frame_count t f + sum_by (granted_to (grant_count t)) live) ≡ made_count t c.settings.slots
+    pub places : (t : Thing) → kept_count t c + (frame_count t f + sum_by (granted_to (grant_count t)) live) ≡ away_count t c
     pub instances : c.counters.core_instances ≡ phase_instances f.phase + sum_by (granted_to grant_instances) live
     pub searched : IsSearched c f

@@ -1,11 +1,9 @@
 -- A turn of a party in a run: the next step of its call, or the first step of its next command.
-use Rattle.std.specs.Prelude.{◌≡◌, ℕ, ◌+◌, List, [], ◌∷◌, ◌++◌, length, map, replicate, nat_le, slice_get, slice_index_or, slice_set, ◌⊎◌, Bool, true, false, if◌then◌else◌, Option, Some, None, option_map, Result, Ok, Err}
+use Rattle.std.specs.Prelude.{◌≡◌, ℕ, ◌+◌, List, [], ◌∷◌, ◌++◌, length, map, replicate, nat_le, slice_get, slice_index_or, slice_set, ◌⊎◌, Bool, true, false, if◌then◌else◌, Option, Some, None, option_map}
 use Rattle.pool_limits.specs.Growth.{GrowthRule}
-use Rattle.pool_limits.specs.Growing.{GrowthGiven}
 use Rattle.pool_limits.specs.LimiterTold.{LimiterTold}
-use Rattle.pool_limits.specs.declared.errors.GrowFault.{GrowFault}
-use Rattle.pool_limits.specs.declared.errors.GrowFault.TheVariants as fault
-use Rattle.pool_memory.specs.Growing.{IsGrowth}
+use Rattle.pool_limits.specs.declared.errors.GrowError.TheVariants.{PageFault}
+use Rattle.pool_memory.specs.Growing.{InPlace, FailsInPlace, IsCallPlanned}
 use Rattle.pool_memory.specs.Memories.{MemoryState, bytes_of, memory_written}
 use Rattle.pool_slots.specs.declared.errors.AllocError.TheVariants as alloc
 use Rattle.pool_alloc.specs.Leases.{Lease, IsUsable}
@@ -22,13 +20,12 @@ use Rattle.pool_alloc.specs.declared.frame.Grant.TheVariants.{Instance as instan
 use Rattle.pool_alloc.specs.declared.frame.Outcome.{Outcome}
 use Rattle.pool_alloc.specs.declared.frame.Outcome.TheVariants as answer
 use Rattle.pool_run.specs.PartyRules.{rule_of}
-use Rattle.pool_run.specs.Private.{PrivateMemory, PrivateInstance, Grants, IsRead}
+use Rattle.pool_run.specs.Private.{PrivateMemory, PrivateInstance, Grants, IsRead, GrowthEnd, as_it_was, could_not, has_grown, growth, size_wanted, memory_grown}
 use Rattle.pool_run.specs.Objects.{Objects, MovesObject}
 use Rattle.pool_run.specs.Acts.{MemoryOp, reads, writes, fills, grows, asks_size, Act, requests, on_memory, drops, act_of}
 use Rattle.pool_run.specs.declared.command.Command.{Command}
 use Rattle.pool_run.specs.declared.reply.Reply.{Reply}
-use Rattle.pool_run.specs.declared.reply.Reply.TheVariants.{Instance, Done, Size, Grown, Returned, Refused, Trap as trapped}
-use Rattle.pool_limits.specs.declared.errors.Trap.{Trap}
+use Rattle.pool_run.specs.declared.reply.Reply.TheVariants.{Instance, Done, Size, Returned, Refused, Trap as trapped}
 use Rattle.pool_limits.specs.declared.errors.Trap.TheVariants.{MemoryOutOfBounds}
 use Rattle.pool_run.specs.declared.reply.Refusal.TheVariants.{NoSuchGrant, Alloc}
 use Rattle.pool_run.specs.declared.running_party.RunningParty.{RunningParty}
@@ -44,27 +41,20 @@ private_memory l = seen_as l.index l.memory
 abbrev pub MemoryWrites : ℕ → List ℕ → MemoryState → MemoryState → Reply → Type 0
 MemoryWrites at bytes old new reply = ◌≡◌ {A = MemoryState × Reply} (new, reply) (if nat_le (at + length bytes) old.linear.size then (memory_written at bytes old, Done) else (old, trapped MemoryOutOfBounds))
 
--- the reply to a write with this answer, and to a growth
-abbrev pub write_reply : Result (Unit {0}) Trap → Reply
-write_reply (Ok u) = Done
-write_reply (Err trap) = trapped trap
+-- What a growth to this size that ended so leaves of a memory in its slot. A call on the pages ends as the plan of the
+-- slot's region says, where that is told.
+abbrev pub GrowthLeaves : GrowthEnd → ℕ → MemoryState → MemoryState → Type 0
+GrowthLeaves as_it_was size old new = new ≡ old
+GrowthLeaves could_not size old new =
+    (new ≡ record old { linear = record old.linear { storage = new.linear.storage } }) × (bytes_of new ≡ bytes_of old) × FailsInPlace PageFault size old.linear.storage new.linear.storage × IsCallPlanned false size old.linear.storage
+GrowthLeaves has_grown size old new =
+    (new ≡ record old { linear = new.linear }) × (bytes_of new ≡ (memory_grown size (seen_as 0 old)).bytes) × InPlace size old.linear.storage old.linear new.linear × IsCallPlanned true size old.linear.storage
 
-abbrev pub growth_reply : Result (Option ℕ) GrowFault → Reply
-growth_reply (Ok size) = Grown size
-growth_reply (Err fault.Memory) = Refused (Alloc alloc.Memory)
-growth_reply (Err (fault.LimiterFault e)) = Refused (Alloc (alloc.LimiterFault e))
-
--- The memory after a growth by so many pages, where a limiter decides by this rule, and the reply.
+-- The memory after a growth by so many pages under this rule, and the reply, which are those of the memory as the party
+-- sees it, in whatever slot it is.
 abbrev pub MemoryGrows : GrowthRule → ℕ → MemoryState → MemoryState → Reply → Type 0
 MemoryGrows rule pages old new reply =
-    (given : GrowthGiven) × (asked : LimiterTold) × (left : LimiterTold) × (answer : Result (Option ℕ) GrowFault)
-    × (asked.rule ≡ Some rule) × IsGrowth given pages old.linear.size old new asked left answer × (reply ≡ growth_reply answer)
-
--- a lease that a limiter with this rule let grow, or didn't
-pub record GrowsUnder (rule : GrowthRule) (pages : ℕ) (l new : Lease) (answer : Result (Option ℕ) GrowFault) : Type 0 where
-  pub same : new ≡ record l { memory = new.memory }
-  pub memory : IsUsable new.memory
-  pub growth : (given : GrowthGiven) × (asked : LimiterTold) × (left : LimiterTold) × (asked.rule ≡ Some rule) × IsGrowth given pages l.memory.linear.size l.memory new.memory asked left answer
+    (fault : Bool) × (reply ≡ (growth rule fault pages (seen_as 0 old)).1) × GrowthLeaves (growth rule fault pages (seen_as 0 old)).0 (size_wanted pages (seen_as 0 old)) old new
 
 -- a lease whose memory moved, which can still be used
 pub record MovesLease (Moves : MemoryState → MemoryState → Reply → Type 0) (l new : Lease) (reply : Reply) : Type 0 where

@@ -1,8 +1,10 @@
 -- What a run relies on from its input: the pool has the sizes that replies speak of, and each call for a module is a call
 -- for its memories and their images.
-use Rattle.std.specs.Prelude.{◌≡◌, ℕ, ◌<◌, List, length, slice_get, Some, IfSome}
+use Rattle.std.specs.Prelude.{◌≡◌, ℕ, ◌<◌, List, length, slice_get, true, Some, IfSome}
+use Rattle.pool_slots.specs.Plans.{has_number}
+use Rattle.pool_slots.specs.declared.plan.Plan.{Plan}
 use Rattle.pool_alloc.specs.Modules.{HasImages}
-use Rattle.pool_alloc.specs.Steps.{memories_wanted, images_wanted}
+use Rattle.pool_alloc.specs.Steps.{memories_wanted, images_wanted, memory_slots, stripe_allocator}
 use Rattle.pool_alloc.specs.Sound.{AreImagesOf}
 use Rattle.pool_alloc.specs.declared.pool_core.PoolCore.{PoolCore}
 use Rattle.pool_alloc.specs.declared.pool_core.Settings.{Settings}
@@ -13,12 +15,18 @@ use Rattle.pool_run.specs.Ties.{wants_asked}
 use Rattle.pool_run.specs.Acts.{Act, requests, act_of}
 use Rattle.pool_run.specs.declared.command.Command.{Command}
 
--- the pool has the settings and as many slots as the world says, and one stripe
+-- so many slots are all that the pool has, and those of its only stripe
+pub record HasOneStripe (slots : ℕ) (plan : Plan) : Type 0 where
+  pub total : slots ≡ memory_slots plan
+  pub one : length plan.memories ≡ 1
+  pub room : (stripe_allocator plan 0).capacity ≡ slots
+  pub each : (slot : ℕ) → slot < slots → has_number (stripe_allocator plan 0) slot ≡ true
+
+-- the pool has the settings and as many slots as the world says, in one stripe
 pub record IsWorldOf {P : Type 0} (w : World) (c : PoolCore P) : Type 0 where
   pub tells : w.terms.tells ≡ w.maker.tells
   pub settings : w.terms.settings ≡ c.settings
-  pub slots : w.terms.slots ≡ c.settings.slots
-  pub stripes : w.terms.settings.stripes ≡ 1
+  pub plan : HasOneStripe w.terms.slots c.plan
 
 -- the images that are given are those of the module's memories
 pub record IsFit (s : Settings) (m : ModuleAsked) : Type 0 where

@@ -1,14 +1,15 @@
-ghost use Rattle.std.specs.Prelude.{◌≡◌, ◌<◌, length, replicate, slice_get, slice_set, vec_len, None, Some, IfOk};
+ghost use Rattle.std.specs.Prelude.{◌≡◌, ◌<◌, length, replicate, slice_get, slice_set, None, Some};
 ghost use Rattle.pool_alloc.specs.Leases.{IsChanged};
 ghost use Rattle.pool_alloc.specs.declared.frame.Grant.TheVariants.{Instance as instance};
-ghost use Rattle.pool_run.specs.AtOnce.{given_op};
+ghost use Rattle.pool_run.specs.AtOnce.{given_op, GrowsUnder, growth_reply, write_reply};
 ghost use Rattle.pool_run.specs.PartyRules.{rule_of};
 ghost use Rattle.pool_run.specs.Objects.{MovesNamed, MovesObject};
 ghost use Rattle.pool_run.specs.Private.{IsRead};
 ghost use Rattle.pool_run.specs.declared.reply.Reply.TheVariants.{Size};
-ghost use Rattle.pool_run.specs.Turns.{GrowsUnder, LeaseMoves, leases_of, memory_leases, with_lease, private_memory, growth_reply, write_reply};
+ghost use Rattle.pool_run.specs.Turns.{LeaseMoves, leases_of, memory_leases, with_lease, private_memory};
 
 use crate::act::MemoryOp;
+use crate::copies::zeros;
 use crate::input::PartyLimits;
 use crate::leases::Leases;
 use crate::limiter::limiter_of;
@@ -17,7 +18,7 @@ use pool_alloc::{Grant, InstanceLease, MemoryLease, ReservedList};
 use pool_limits::{GrowFault, Trap, Unlimited};
 use pool_pages::{ByteList, Pages};
 use pool_slots::AllocError as Cause;
-use std::alloc::{AllocError, Global};
+use std::alloc::Global;
 
 /// Does something with memory `memory` of the grant of command `of`. It grows under these limits.
 pub(crate) fn act_on<P: Pages>(
@@ -119,13 +120,6 @@ fn size<P: Pages>(lease: &MemoryLease<P>) -> Reply
     ensures { result ≡ Size lease.now.memory.linear.size }
 {
     Reply::Size(lease.memory.byte_size() as u64)
-}
-
-// As many zeros.
-fn zeros(alloc: Global, len: usize) -> Result<Vec<u8>, AllocError>
-    ensures { IfOk result (λ v. vec_len v ≡ len) }
-{
-    vec![in alloc; 0; len]
 }
 
 // Grows a memory under these limits.

@@ -1,4 +1,4 @@
-ghost use Rattle.std.specs.Prelude.{◌≡◌, IfOk, option_map};
+ghost use Rattle.std.specs.Prelude.{◌≡◌, IfOk, option_map, vec_len};
 
 use pool_pages::{ByteList, ImageDecl, MemoryDecl, ModuleInfo, Part, PlainList, Text};
 use std::alloc::{AllocError, Global};
@@ -67,4 +67,11 @@ fn copy_image(alloc: Global, image: &ImageDecl) -> Result<ImageDecl, AllocError>
         offset: image.offset,
         bytes: ByteList::from_vec(bytes),
     })
+}
+
+/// As many zeros.
+pub(crate) fn zeros(alloc: Global, len: usize) -> Result<Vec<u8>, AllocError>
+    ensures { IfOk result (λ v. vec_len v ≡ len) }
+{
+    vec![in alloc; 0; len]
 }

@@ -13,6 +13,6 @@ pub fn runs_agree<P: Pages>()
 pub fn slots_have_places<P: Pages>()
     // Each is in one place.
     ensures one { SlotsAreInOnePlace P }
-    // What a pick gives is in no queue, and with no party.
+    // What a pick gives is free, in the shard where it is at home.
     ensures picked { UsedSlotsAreNotPicked P }
 {}

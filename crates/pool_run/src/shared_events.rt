@@ -1,4 +1,4 @@
-ghost use Rattle.std.specs.Prelude.{◌≡◌, IfOk, Some, None, vec_len};
+ghost use Rattle.std.specs.Prelude.{◌≡◌, IfOk, Some, None};
 ghost use Rattle.std.specs.Int.{IsPowerOfTwo, w32, w64};
 ghost use Rattle.pool_memory.specs.Atomics.{atomic_answer};
 ghost use Rattle.pool_run.specs.Private.{IsRead};
@@ -7,6 +7,7 @@ ghost use Rattle.pool_run.specs.SharedEvents.{as_reply, deadline_of, view_of, wo
 ghost use Rattle.pool_run.specs.SharedSteps.{growth_said, said, wait_refusal, IsWaitReply, IsKept, MakesOf};
 ghost use Rattle.pool_run.specs.declared.shared_input.SharedEvent.TheVariants as event;
 
+use crate::copies::zeros;
 use crate::shared_input::SharedEvent;
 use crate::shared_reply::SharedReply;
 use pool_limits::GrowFault;
@@ -112,13 +113,6 @@ fn notify<M, L: RuntimeLinearMemory<M>>(
     }
 }
 
-// As many zeros.
-fn zeros(alloc: Global, len: usize) -> Result<Vec<u8>, AllocError>
-    ensures { IfOk result (λ v. vec_len v ≡ len) }
-{
-    vec![in alloc; 0; len]
-}
-
 fn read<M, L: RuntimeLinearMemory<M>>(
     alloc: Global,
     state: &SharedState<M, L>,
@@ -164,7 +158,9 @@ fn grow<M, L: RuntimeLinearMemory<M>>(
     pages: u64,
 ) -> SharedReply
     requires { IsKept state.old.memory }
-    ensures { MakesOf (event.Grow pages) state.old state.new result }
+    ensures grows { MakesOf (event.Grow pages) state.old state.new result }
+    ensures maker { L.maker_told maker.new ≡ L.maker_told maker.old }
+    ensures borrows { L.maker_borrows maker.new ≡ L.maker_borrows maker.old }
 {
     growth_reply(state.grow(maker, pages))
 }
@@ -177,7 +173,9 @@ pub(crate) fn happen<M, L: RuntimeLinearMemory<M>>(
     event: &SharedEvent,
 ) -> Result<SharedReply, AllocError>
     requires { IsKept state.old.memory }
-    ensures { IfOk result (MakesOf event.now state.old state.new) }
+    ensures ok { IfOk result (MakesOf event.now state.old state.new) }
+    ensures maker { L.maker_told maker.new ≡ L.maker_told maker.old }
+    ensures borrows { L.maker_borrows maker.new ≡ L.maker_borrows maker.old }
 {
     match event {
         SharedEvent::Wait32 {

@@ -1,4 +1,4 @@
-ghost use Rattle.std.specs.Prelude.{◌≡◌, ◌↔◌, Err, Some, IfOk, IfErr, true, false};
+ghost use Rattle.std.specs.Prelude.{◌≡◌, ◌↔◌, Err, Some, IfOk, IfErr, OnOk, true, false};
 ghost use Rattle.pool_pages.specs.declared.maker.MakeFault.TheVariants as making;
 ghost use Rattle.pool_memory.specs.Moving.{IsRefusedFor};
 ghost use Rattle.pool_run.specs.Runs.{is_refused};
@@ -75,7 +75,9 @@ fn replies_of<M, L: RuntimeLinearMemory<M>>(
     events: &[SharedEvent],
 ) -> Result<Vec<SharedReply>, AllocError>
     requires { IsKept state.old.memory }
-    ensures { IfOk result (λ replies. MakesOfAll events.now state.old state.new replies.items) }
+    ensures ok { IfOk result (λ replies. MakesOfAll events.now state.old state.new replies.items) }
+    ensures maker { L.maker_told maker.new ≡ L.maker_told maker.old }
+    ensures borrows { L.maker_borrows maker.new ≡ L.maker_borrows maker.old }
 {
     let mut replies = Vec::with_capacity(alloc, events.len())?;
     for at in 0..events.len() {
@@ -96,7 +98,8 @@ fn run_by<P: Pages, M: PageMaker<Region = P>>(
     ensures ok { IfOk result (λ replies. IsSharedRun input.now (M.told maker.old) replies.items) }
     ensures fault { result ≡ Err RunFault.PageFault → IsRefusedFor making.PageFault (shared_layout input.now) (first_size input.now) (M.told maker.old) (M.told maker.new) }
     ensures refused { IfErr result (λ fault. is_refused fault ≡ false) }
-    ensures borrows { result ≡ Err RunFault.PageFault → M.borrows maker.new ≡ M.borrows maker.old }
+    ensures behind { OnOk result ((M.told maker.new).behind ≡ (M.told maker.old).behind) }
+    ensures borrows { M.borrows maker.new ≡ M.borrows maker.old }
 {
     let mut state = make_shared(alloc, maker, input)?;
     match replies_of(alloc, maker, &mut state, input.events.as_slice()) {
@@ -117,6 +120,7 @@ pub fn run_shared<M: PageMaker>(
     ensures bad_input { (result ≡ Err RunFault.BadInput) ↔ (is_valid_shared input.now ≡ false) }
     ensures bad_config { (e : BadConfig) → (result ≡ Err (RunFault.BadConfig e)) ↔ ((is_valid_shared input.now ≡ true) × (broken_page input.now ≡ Some e)) }
     ensures fault { result ≡ Err RunFault.PageFault → HasNoShared input.now (with_page input.now (M.told pages.old)) (M.told pages.new) }
+    ensures faults { OnOk result ((M.told pages.new).faults ≡ (M.told pages.old).faults) }
 {
     if !is_valid_shared(input) {
         return Err(RunFault::BadInput);

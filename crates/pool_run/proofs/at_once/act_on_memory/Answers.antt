@@ -1,10 +1,10 @@
 use Rattle.std.proofs.Common.{◌≡◌, refl, replicate, sym, subst}
 use Rattle.pool_limits.specs.Growth.{GrowthRule}
 use Rattle.pool_alloc.specs.Leases.{IsWritten, IsChanged}
-use Rattle.pool_run.specs.AtOnce.{given_op}
+use Rattle.pool_run.specs.AtOnce.{given_op, GrowsUnder, write_reply, growth_reply}
 use Rattle.pool_run.specs.PartyRules.{rule_of}
 use Rattle.pool_run.specs.Private.{IsRead}
-use Rattle.pool_run.specs.Turns.{private_memory, MemoryWrites, MemoryGrows, GrowsUnder, MovesLease, LeaseMoves, write_reply, growth_reply}
+use Rattle.pool_run.specs.Turns.{private_memory, MemoryWrites, MemoryGrows, MovesLease, LeaseMoves}
 use Rattle.pool_run.specs.declared.act.MemoryOp.{MemoryOp}
 use Rattle.pool_run.specs.declared.act.MemoryOp.TheVariants.{Write, Fill, Grow}
 use Rattle.pool_run.specs.declared.reply.Reply.{Reply}

@@ -2,7 +2,7 @@ use Rattle.std.proofs.Common.{Option, Some, sym, ap, subst, refl}
 use Rattle.pool_limits.specs.Growth.{GrowthLimits, GrowthRule, always, limited_by}
 use Rattle.pool_alloc.specs.Leases.{IsChanged}
 use Rattle.pool_run.specs.PartyRules.{growth_of, rule_of}
-use Rattle.pool_run.specs.Turns.{GrowsUnder}
+use Rattle.pool_run.specs.AtOnce.{GrowsUnder}
 use Rattle.pool_run.specs.declared.input.PartyLimits.{PartyLimits}
 use Rattle.pool_run.proofs.LeaseChanges.{grown_under}
 use Rattle.pool_run.proofs.at_once.grow.Goals as goal

@@ -1,4 +1,3 @@
-use Rattle.std.proofs.Common.{sym, ◌∙◌}
 use Rattle.pool_run.proofs.SharedMoves.{write_done, write_traps}
 use Rattle.pool_run.proofs.shared_events.write.Goals as goal
 

@@ -1,6 +1,5 @@
-use Rattle.std.proofs.Common.{◌≡◌, ap, ◌∙◌, subst, sym, true}
+use Rattle.std.proofs.Common.{◌≡◌, ap, ◌∙◌, subst, sym}
 use Rattle.pool_pages.specs.declared.module_types.MemoryKind.TheVariants.{LinearMemory}
-use Rattle.pool_pages.specs.declared.module_types.MemoryTunables.{MemoryTunables}
 use Rattle.pool_pages.specs.declared.module_types.Tunables.{Tunables}
 use Rattle.pool_shared.specs.Shared.{Shared}
 use Rattle.pool_run.specs.SharedRuns.{shared_tunables}

@@ -1,6 +1,5 @@
-use Rattle.std.proofs.Common.{rules, ◌≡◌, ◌+◌, List, [], ◌∷◌, ◌++◌, get_or, length, take, refl, sym, ap, ◌∙◌, subst, arith}
-use Rattle.std.proofs.lemmas.List.{take_all, take_more}
-use Rattle.pool_shared.specs.Shared.{Shared}
+use Rattle.std.proofs.Common.{rules, ◌≡◌, ◌+◌, List, [], ◌∷◌, ◌++◌, get_or, take, refl, sym, ap, ◌∙◌, subst}
+use Rattle.std.proofs.lemmas.List.{take_more}
 use Rattle.pool_run.specs.SharedSteps.{MakesOfAll}
 use Rattle.pool_run.specs.declared.shared_input.SharedEvent.{SharedEvent}
 use Rattle.pool_run.specs.declared.shared_reply.SharedReply.{SharedReply}
@@ -10,7 +9,7 @@ use Rattle.pool_run.proofs.shared_run.replies_of.Goals as goal
 pub loop-at-init : goal.loop-at-init
 loop-at-init g c =
     let P : List SharedReply → Type 0 = λ xs. MakesOfAll [] c.args.state.now c.args.state.now xs in
-    record { makes = subst P (sym c.in_ok-replies.ensures.items) (none_made c.args.state.now c.requires); count = search rules; room = search rules }
+    record { makes = subst P (sym c.in_ok-replies.ensures.items) (none_made c.args.state.now c.requires); count = search rules; room = search rules; maker = refl; borrows = refl }
 
 pub loop-at-preserved : goal.loop-at-preserved
 loop-at-preserved g c =
@@ -20,7 +19,9 @@ loop-at-preserved g c =
     let P : List SharedEvent → Type 0 = λ es. MakesOfAll es c.args.state.now c.happen.new.state c.push_reserved.new.self.items in
     let Q : List SharedReply → Type 0 = λ rs. MakesOfAll (take c.loop-at.at c.args.events.now ++ event ∷ []) c.args.state.now c.happen.new.state rs in
     record {
-      makes = subst P more (subst Q (sym c.push_reserved.ensures.items) (one_more (take c.loop-at.at c.args.events.now) event c.loop-at.replies.items c.in_ok-reply.reply c.args.state.now c.loop-at.state c.happen.new.state c.loop-at.invariant.makes c.in_ok-reply.ensures));
+      makes = subst P more (subst Q (sym c.push_reserved.ensures.items) (one_more (take c.loop-at.at c.args.events.now) event c.loop-at.replies.items c.in_ok-reply.reply c.args.state.now c.loop-at.state c.happen.new.state c.loop-at.invariant.makes c.in_ok-reply.ensures.ok));
       count = search rules;
       room = search rules;
+      maker = c.happen.ensures.maker ∙ c.loop-at.invariant.maker;
+      borrows = c.happen.ensures.borrows ∙ c.loop-at.invariant.borrows;
     }

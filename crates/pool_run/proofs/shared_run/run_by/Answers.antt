@@ -1,5 +1,4 @@
 use Rattle.std.proofs.Common.{List, subst}
-use Rattle.pool_shared.specs.Shared.{Shared}
 use Rattle.pool_run.specs.SharedSteps.{MakesOfAll}
 use Rattle.pool_run.specs.declared.shared_input.SharedEvent.{SharedEvent}
 use Rattle.pool_run.proofs.SharedCounts.{run_made}
@@ -8,4 +7,4 @@ use Rattle.pool_run.proofs.shared_run.run_by.Goals as goal
 pub returns-in-Ok-clause-ok : goal.returns-in-Ok-clause-ok
 returns-in-Ok-clause-ok g c =
     let P : List SharedEvent → Type 0 = λ es. MakesOfAll es c.in_ok-state.state c.replies_of.new.state c.in-Ok.replies.items in
-    run_made c.args.input.now _ _ c.in_ok-state.state c.replies_of.new.state c.in-Ok.replies.items c.requires.valid c.in_ok-state.ensures.ok (subst P c.as_slice.ensures c.in-Ok.ensures)
+    run_made c.args.input.now _ _ c.in_ok-state.state c.replies_of.new.state c.in-Ok.replies.items c.requires.valid c.in_ok-state.ensures.ok (subst P c.as_slice.ensures c.in-Ok.ensures.ok)

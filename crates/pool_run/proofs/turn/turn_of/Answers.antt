@@ -1,4 +1,4 @@
-use Rattle.std.proofs.Common.{◌≡◌, ◌∙◌, Bool, true, false, refl, sym, subst}
+use Rattle.std.proofs.Common.{◌∙◌, Bool, true, false, refl, sym, subst}
 use Rattle.pool_alloc.specs.Stepping.{is_idle}
 use Rattle.pool_run.specs.Turns.{Turned, makes_step, OpensAt, TurnsFrom}
 use Rattle.pool_run.specs.declared.running_party.RunningParty.{RunningParty}

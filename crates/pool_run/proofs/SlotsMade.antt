@@ -1,0 +1,40 @@
+-- Each slot of the pool is counted once at most, and no number past them is.
+use Rattle.std.proofs.Common.{◌≡◌, ℕ, ◌<◌, ◌≤◌, Bool, true, false, refl, ap, inl, inr, arith}
+use Rattle.std.specs.Prelude.{nat_lt}
+use Rattle.std.proofs.lemmas.Bool.{cases_lt, lt-ltb, ltb-true}
+use Rattle.pool_pages.specs.MakerTold.{MakerTold}
+use Rattle.pool_index.specs.Shard.{one_if}
+use Rattle.pool_alloc.specs.Places.{right_to, away_count}
+use Rattle.pool_alloc.specs.Sound.{IsCore}
+use Rattle.pool_alloc.specs.Steps.{memory_slots}
+use Rattle.pool_alloc.specs.declared.pool_core.PoolCore.{PoolCore}
+use Rattle.pool_alloc.proofs.Held.{none_past}
+use Rattle.pool_alloc.proofs.KeptCounts.{out_once}
+
+-- how many slots of so many have a number
+abbrev pub made_slot : ℕ → ℕ → ℕ
+made_slot k total = one_if (nat_lt k total)
+
+one_at_most : (b : Bool) → one_if b ≤ 1
+one_at_most true = omega arith
+one_at_most false = omega arith
+
+one_true : (b : Bool) → 1 ≤ one_if b → b ≡ true
+one_true true some = refl
+one_true false some = absurd (omega arith)
+
+pub made_once : (k total : ℕ) → made_slot k total ≤ 1
+made_once k total = one_at_most (nat_lt k total)
+
+pub made_inside : (k total : ℕ) → 1 ≤ made_slot k total → k < total
+made_inside k total some = ltb-true k total (one_true (nat_lt k total) some)
+
+-- what is given out is one of them
+pub away_made : {P : Type 0} (maker : MakerTold) (k : ℕ) (c : PoolCore P) → IsCore maker c → away_count (right_to k) c ≤ made_slot k (memory_slots c.plan)
+away_made maker k c core =
+    elim (cases_lt k (memory_slots c.plan)) [
+      | inl below ↦
+          let one : made_slot k (memory_slots c.plan) ≡ 1 = ap one_if (lt-ltb k (memory_slots c.plan) below) in
+          omega (arith, one, (out_once maker k c core).0)
+      | inr past ↦ omega (arith, none_past maker k c core past)
+    ]
