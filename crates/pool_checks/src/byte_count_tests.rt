@@ -1,3 +1,5 @@
+ghost use Rattle.std.specs.Prelude.{◌≡◌, IfOk};
+
 use pool_pages::{
     ByteCountNotAligned, ByteCountOutOfBounds, CompareBytes, HostAlignedByteCount, PageSize,
 };
@@ -41,33 +43,92 @@ fn sizes_and_alignments_at_their_edges(rt: HostRuntime) -> Result<(), Fail> {
     Ok(())
 }
 
-#[test]
-fn calculations_at_their_edges(rt: HostRuntime) -> Result<(), Fail> {
-    let page = PageSize::new(4096)?;
-    let one = page.host_page_size();
-    let three = HostAlignedByteCount::new(page, 12288)?;
-    let eight = HostAlignedByteCount::new(page, 32768)?;
-    let half = HostAlignedByteCount::new(page, 9223372036854775808)?;
-    let below_half = half.checked_sub(one)?;
-    let greatest = HostAlignedByteCount::new(page, 18446744073709547520)?;
+// The bytes of what was calculated.
+fn bytes_of(
+    count: Result<HostAlignedByteCount, ByteCountOutOfBounds>,
+) -> Result<usize, ByteCountOutOfBounds> {
+    Ok(count?.byte_count())
+}
 
-    assert!(rt; half.checked_add(half) == Err(ByteCountOutOfBounds::Add));
-    assert!(rt; half.checked_add(below_half)? == greatest);
-    assert!(rt; greatest.checked_add(one) == Err(ByteCountOutOfBounds::Add));
-    assert!(rt; one.checked_sub(three) == Err(ByteCountOutOfBounds::Sub));
-    assert!(rt; one.checked_sub(one)?.is_zero());
-    assert!(rt; one.saturating_sub(three) == page.zero());
-    assert!(rt; half.checked_mul(2) == Err(ByteCountOutOfBounds::Mul));
-    assert_eq!(rt;
-        below_half.checked_mul(2)?.byte_count(),
-        18446744073709543424
+type Calculated = Result<usize, ByteCountOutOfBounds>;
+
+// Two counts of pages of 4,096 bytes.
+fn two(first: usize, second: usize) -> Result<(HostAlignedByteCount, HostAlignedByteCount), Fail>
+    ensures { IfOk result (λ r. r.0.page ≡ r.1.page) }
+{
+    let page = PageSize::new(4096)?;
+    Ok((
+        HostAlignedByteCount::new(page, first)?,
+        HostAlignedByteCount::new(page, second)?,
+    ))
+}
+
+// The sum and the difference of two counts, and the difference that ends at zero.
+fn sums(first: usize, second: usize) -> Result<(Calculated, Calculated, usize), Fail> {
+    let (first, second) = two(first, second)?;
+    Ok((
+        bytes_of(first.checked_add(second)),
+        bytes_of(first.checked_sub(second)),
+        first.saturating_sub(second).byte_count(),
+    ))
+}
+
+// How often one count goes into another, and the rest.
+fn quotient(first: usize, second: usize) -> Result<(Calculated, Calculated), Fail> {
+    let (first, second) = two(first, second)?;
+    Ok((
+        first.checked_div(second),
+        bytes_of(first.checked_rem(second)),
+    ))
+}
+
+const HALF: usize = 1 << 63;
+
+const GREATEST: usize = usize::MAX - 4095;
+
+#[test]
+fn sums_at_their_edges(rt: HostRuntime) -> Result<(), Fail> {
+    let (no_sum, no_difference) = (
+        Err(ByteCountOutOfBounds::Add),
+        Err(ByteCountOutOfBounds::Sub),
     );
-    assert!(rt; three.unchecked_mul(0) == page.zero());
-    assert_eq!(rt; eight.checked_div(three)?, 2);
-    assert_eq!(rt; eight.checked_rem(three)?.byte_count(), 8192);
-    assert!(rt; eight.checked_div(page.zero()) == Err(ByteCountOutOfBounds::Div));
-    assert!(rt; eight.checked_rem(page.zero()) == Err(ByteCountOutOfBounds::Rem));
+    for (first, second, sum, difference, least) in [
+        (HALF, HALF, no_sum, Ok(0), 0),
+        (HALF, HALF - 4096, Ok(GREATEST), Ok(4096), 4096),
+        (GREATEST, 4096, no_sum, Ok(GREATEST - 4096), GREATEST - 4096),
+        (4096, 12288, Ok(16384), no_difference, 0),
+        (4096, 4096, Ok(8192), Ok(0), 0),
+    ] {
+        assert_eq!(rt; sums(first, second)?, (sum, difference, least));
+    }
+    Ok(())
+}
+
+#[test]
+fn products_and_quotients_at_their_edges(rt: HostRuntime) -> Result<(), Fail> {
+    let page = PageSize::new(4096)?;
+    for (bytes, scalar, product) in [
+        (HALF, 2, Err(ByteCountOutOfBounds::Mul)),
+        (HALF - 4096, 2, Ok(18446744073709543424)),
+        (HALF, 0, Ok(0)),
+    ] {
+        let count = HostAlignedByteCount::new(page, bytes)?;
+        assert_eq!(rt; bytes_of(count.checked_mul(scalar)), product);
+    }
+    let by_zero = (
+        Err(ByteCountOutOfBounds::Div),
+        Err(ByteCountOutOfBounds::Rem),
+    );
+    assert_eq!(rt; quotient(32768, 12288)?, (Ok(2), Ok(8192)));
+    assert_eq!(rt; quotient(32768, 0)?, by_zero);
+    Ok(())
+}
+
+#[test]
+fn counts_are_compared(rt: HostRuntime) -> Result<(), Fail> {
+    let (one, three) = two(4096, 12288)?;
     assert!(rt; one < three);
+    assert!(rt; three.unchecked_mul(0).is_zero());
     assert!(rt; one.cmp_bytes(&4095) == Ordering::Greater);
     assert!(rt; 4097.cmp_bytes(&one) == Ordering::Greater);
     assert!(rt; 4096.eq_bytes(&one));

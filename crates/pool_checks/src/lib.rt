@@ -5,13 +5,21 @@
 #[cfg(test)]
 mod allocator_tests;
 #[cfg(test)]
+mod as_made_tests;
+#[cfg(test)]
 mod byte_count_tests;
+#[cfg(test)]
+mod creator_tests;
 #[cfg(test)]
 mod dynamic_table_tests;
 #[cfg(test)]
 mod failing_tests;
 #[cfg(test)]
+mod flush_tests;
+#[cfg(test)]
 mod hall_tests;
+#[cfg(test)]
+mod heap_list_tests;
 #[cfg(test)]
 mod index_tests;
 #[cfg(test)]
@@ -22,6 +30,8 @@ mod limit_tests;
 mod malloc_tests;
 #[cfg(test)]
 mod many_tests;
+#[cfg(test)]
+mod mapped_memory_tests;
 #[cfg(test)]
 mod memory_tests;
 #[cfg(test)]

@@ -25,7 +25,7 @@ fn memory_type() -> MemoryType
 }
 
 // A slot of 64 bytes with a memory of 48.
-fn used_slot(alloc: Global) -> Result<MemoryImageSlot<MadeRegion>, Fail>
+pub(crate) fn used_slot(alloc: Global) -> Result<MemoryImageSlot<MadeRegion>, Fail>
     ensures used { IfOk result IsInUse }
     ensures page { IfOk result (λ slot. slot.region.page ≡ 16) }
 {
@@ -41,7 +41,7 @@ fn used_slot(alloc: Global) -> Result<MemoryImageSlot<MadeRegion>, Fail>
 }
 
 // Resets a slot that was in use, of which 16 bytes stay resident, and pushes it behind its ranges.
-fn reset_into<P: Pages>(
+pub(crate) fn reset_into<P: Pages>(
     mut slot: MemoryImageSlot<P>,
     queue: &mut DecommitQueue<P>,
 ) -> Result<(), Fail>

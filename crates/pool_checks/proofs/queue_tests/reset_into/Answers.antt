@@ -1,8 +1,6 @@
-use Rattle.std.proofs.Common.{◌≡◌, ◌≤◌, ◌^◌, List, refl, ap, arith}
+use Rattle.std.proofs.Common.{◌≡◌, ◌≤◌, ◌^◌, refl, ap, arith}
 use Rattle.pool_pages.specs.Count.{Count}
-use Rattle.pool_images.specs.declared.ranges.ByteRange.{ByteRange}
 use Rattle.pool_images.proofs.Resets.{kept_at_most}
-use Rattle.pool_slots.specs.SlotQueues.{IsReset}
 use Rattle.pool_checks.proofs.queue_tests.reset_into.Goals as goal
 
 pub push_reset-requires-clause-reset : goal.push_reset-requires-clause-reset
