@@ -3,10 +3,10 @@ use Rattle.std.proofs.Common.{◌≡◌, ℕ, ◌+◌, ◌*◌, ◌<◌, ◌≤�
 use Rattle.std.specs.Prelude.{IfSome, option_map, slice_get}
 use Rattle.std.proofs.Math.Nat.{mul-le-mul_right}
 use Rattle.std.proofs.lemmas.List.{length-append, length-take, get_or-take, get_or_append_left, same_lists}
-use Rattle.pool_pages.specs.Contents.{Contents, put_all}
+use Rattle.pool_pages.specs.Contents.{Contents, put_all, written}
 use Rattle.pool_pages.specs.Told.{Told}
 use Rattle.pool_table.specs.Elements.{ElementKind, functions, gc_refs, continuations, Element, width, word, element_of, IsElement, ReadsBack}
-use Rattle.pool_table.specs.Tables.{TableState, IsTable, IsRoom, IfRewritten, Rewrites, Fills, elements, elements_in}
+use Rattle.pool_table.specs.Tables.{TableState, IsTable, IsRoom, Rewrites, Fills, elements, elements_in}
 use Rattle.pool_table.proofs.Copies.{copies, length-copies}
 use Rattle.pool_table.proofs.Listed.{element_read, elements_put}
 
@@ -47,13 +47,10 @@ filled_inside t first count piece inside long =
     let sum : (first + count) * w ≡ first * w + count * w = grind arith in
     omega (arith, all, sum, mul-le-mul_right w inside)
 
-filled_by : (kind : ElementKind) (size len first count : ℕ) (e : Element) (piece : List ℕ) (a b : Option Contents) → element_of kind piece ≡ e → length piece ≡ width kind → first + count ≤ size → size * width kind ≤ len → (page to : ℕ) → IfSome a (IsRoom page len (size * width kind) to) → IfRewritten (first * width kind) (copies count piece) a b → option_map (λ c. elements_in kind size c.bytes) b ≡ option_map (put_all first count e) (option_map (λ c. elements_in kind size c.bytes) a)
-filled_by kind size len first count e piece None None reads long inside fits page to room is = refl
-filled_by kind size len first count e piece None (Some d) reads long inside fits page to room is = absurd is
-filled_by kind size len first count e piece (Some c) None reads long inside fits page to room is = absurd is
-filled_by kind size len first count e piece (Some c) (Some d) reads long inside fits page to room is =
-    ap (λ (bs : List ℕ). Some (elements_in kind size bs)) is.bytes
-    ∙ ap (λ (es : List Element). Some es) (elements_put kind size first count e piece c.bytes reads long inside (omega (arith, fits, room.shaped.bytes)))
+filled_by : (kind : ElementKind) (size len first count : ℕ) (e : Element) (piece : List ℕ) (o : Option Contents) → element_of kind piece ≡ e → length piece ≡ width kind → first + count ≤ size → size * width kind ≤ len → (page to : ℕ) → IfSome o (IsRoom page len (size * width kind) to) → option_map (λ c. elements_in kind size c.bytes) (option_map (written (first * width kind) (copies count piece)) o) ≡ option_map (put_all first count e) (option_map (λ c. elements_in kind size c.bytes) o)
+filled_by kind size len first count e piece None reads long inside fits page to room = refl
+filled_by kind size len first count e piece (Some c) reads long inside fits page to room =
+    ap (λ (es : List Element). Some es) (elements_put kind size first count e piece c.bytes reads long inside (omega (arith, fits, room.shaped.bytes)))
 
 -- what a fill leaves
 pub filled : (t : TableState) (first count : ℕ) (e : Element) (piece : List ℕ) (r : Told) → IsTable t → piece ≡ word t.kind e → IsElement t.kind e → length piece ≡ width t.kind → ReadsBack → first + count ≤ t.size → Rewrites (first * width t.kind) (copies count piece) t.region r → Fills first count e t (record t { region = r })
@@ -63,5 +60,5 @@ filled t first count e piece r is same valid long law inside rewrites =
     record {
       same = refl;
       words = subst W same rewrites;
-      elements = filled_by t.kind t.size t.region.len first count e piece t.region.contents r.contents reads long inside (omega (arith, is.room, mul-le-mul_right (width t.kind) is.within)) t.region.page (t.maximum * width t.kind) is.contents rewrites.contents;
+      elements = ap (λ (x : Told). option_map (λ c. elements_in t.kind t.size c.bytes) x.contents) rewrites ∙ filled_by t.kind t.size t.region.len first count e piece t.region.contents reads long inside (omega (arith, is.room, mul-le-mul_right (width t.kind) is.within)) t.region.page (t.maximum * width t.kind) is.contents;
     }

@@ -56,7 +56,7 @@ made_is_table ty lazy bytes region first second inside some bounded room =
       contents = room_shrunk region.page region.len bytes (ty.limits.min * w) (most * w) region.contents (mul-le-mul_right w within) fits inside room;
     }
 
-empty_by : (kind : ElementKind) (size page len bytes : ℕ) (o : Option Contents) → size * width kind ≤ bytes → bytes ≤ len → IfSome o (IsRoom page len 0 bytes) → option_map (λ c. elements_in kind size c.bytes) o ≡ option_map (λ c. replicate size (empty kind)) o
+pub empty_by : (kind : ElementKind) (size page len bytes : ℕ) (o : Option Contents) → size * width kind ≤ bytes → bytes ≤ len → IfSome o (IsRoom page len 0 bytes) → option_map (λ c. elements_in kind size c.bytes) o ≡ option_map (λ c. replicate size (empty kind)) o
 empty_by kind size page len bytes None fits inside room = refl
 empty_by kind size page len bytes (Some c) fits inside room =
     let n : ℕ = size * width kind in

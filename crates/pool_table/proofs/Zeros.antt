@@ -6,13 +6,13 @@ use Rattle.std.proofs.lemmas.List.{length-replicate, get_or-replicate, same_list
 use Rattle.std.proofs.lemmas.Bool.{cases_lt}
 use Rattle.pool_pages.specs.Contents.{Contents, IsShaped, CanReach, put, page_at, page_origin, Page, written, decommitted}
 use Rattle.pool_pages.specs.Count.{Count}
-use Rattle.pool_pages.specs.Told.{Told, TellsShaped, IsRange, Faulted, IsPartly, MayChangePartly, overwritten, succeeded, decommitting}
+use Rattle.pool_pages.specs.Told.{Told, TellsShaped, IsRange, Faulted, IsPartly, MayChangePartly, succeeded, decommitting}
 use Rattle.pool_pages.specs.declared.pages.PageFault.{PageFault}
 use Rattle.pool_pages.proofs.Multiples.{page_of}
 use Rattle.pool_pages.proofs.Puts.{length-put, length-range, get_or-range, get_or-put_below, get_or-put_in, get_or-put_above, same_at, same_by_pages}
 use Rattle.pool_table.specs.Elements.{ElementKind, Element, width, empty}
-use Rattle.pool_table.specs.Tables.{TableState, IsTable, IsRoom, IfRewritten, Rewrites, Empties, elements_in}
-use Rattle.pool_table.proofs.Kept.{reach_by, shaped_as, table_of}
+use Rattle.pool_table.specs.Tables.{TableState, IsTable, IsRoom, Rewrites, Empties, elements_in}
+use Rattle.pool_table.proofs.Kept.{after_write, shaped_as, table_of}
 use Rattle.pool_table.proofs.Listed.{elements_grown}
 use Rattle.pool_table.proofs.Words.{zero_is_empty}
 
@@ -48,49 +48,29 @@ pub zeros_put : (start : ℕ) (ys xs : List ℕ) (a b : ℕ) → start + length 
 zeros_put start ys xs a b fits inside zeros already =
     zeros_from (put start ys xs) a b (omega (arith, length-put start ys xs fits, inside)) (λ i d from below. put_zero start ys xs i d fits zeros (zero_at xs a b i d already from below))
 
-once : (at : ℕ) (new : List ℕ) (o : Option Contents) → IfRewritten at new o (option_map (written at new) o)
-once at new None = tt
-once at new (Some c) = record { page = refl; bytes = refl; origin = refl; accessible = refl; colour = refl }
-
--- a write is a change of those bytes alone
-pub rewrites_once : (at : ℕ) (new : List ℕ) (a b : Told) → b ≡ overwritten at new a → Rewrites at new a b
-rewrites_once at new a b is =
-    let two : Option Contents = option_map (written at new) a.contents in
-    let contents : b.contents ≡ two = ap (λ (t : Told). t.contents) is in
-    let P : Option Contents → Type 0 = λ o. IfRewritten at new a.contents o in
-    record {
-      same = is ∙ ap (λ (o : Option Contents). record a { contents = o }) (sym contents);
-      contents = subst P (sym contents) (once at new a.contents);
-    }
-
 -- what stays of a region's room where its pages, their bytes aside, are as before
-zeroed_by : (start n page len from to : ℕ) (a b : Option Contents) → start + n ≤ len → to ≤ len → IfRewritten start (replicate n 0) a b → IfSome a (IsRoom page len from to) → IfSome b (IsShaped page len) → IfSome b (IsRoom page len from to)
-zeroed_by start n page len from to None None inside fits is room shaped = room
-zeroed_by start n page len from to None (Some d) inside fits is room shaped = absurd is
-zeroed_by start n page len from to (Some c) None inside fits is room shaped = absurd is
-zeroed_by start n page len from to (Some c) (Some d) inside fits is room shaped =
+zeroed_by : (start n page len from to : ℕ) (c : Contents) → start + n ≤ len → to ≤ len → IsRoom page len from to c → IsShaped page len (written start (replicate n 0) c) → IsRoom page len from to (written start (replicate n 0) c)
+zeroed_by start n page len from to c inside fits room shaped =
     let long : length (replicate {A = ℕ} n 0) ≡ n = length-replicate n 0 in
     record {
       shaped = shaped;
-      reach = reach_by start 0 to (replicate n 0) (Some c) (Some d) is room.reach;
-      origin = is.origin ∙ room.origin;
-      zeros =
-          ap (λ (bs : List ℕ). slice_range bs from to) is.bytes
-          ∙ zeros_put start (replicate n 0) c.bytes from to (omega (arith, long, inside, room.shaped.bytes)) (omega (arith, fits, room.shaped.bytes)) (λ j e below. get_or-replicate n j 0 e (omega (arith, below, long))) room.zeros;
+      reach = room.reach;
+      origin = room.origin;
+      zeros = zeros_put start (replicate n 0) c.bytes from to (omega (arith, long, inside, room.shaped.bytes)) (omega (arith, fits, room.shaped.bytes)) (λ j e below. get_or-replicate n j 0 e (omega (arith, below, long))) room.zeros;
     }
 
 -- a table of whose region bytes became zeros is one still
 pub zeroed_still : (t : TableState) (start n : ℕ) (r : Told) → IsTable t → Rewrites start (replicate n 0) t.region r → TellsShaped r → start + n ≤ t.region.len → IsTable (record t { region = r })
 zeroed_still t start n r is rewrites shaped inside =
-    let len : r.len ≡ t.region.len = ap (λ (x : Told). x.len) rewrites.same in
-    let page : r.page ≡ t.region.page = ap (λ (x : Told). x.page) rewrites.same in
-    table_of t r page len is (zeroed_by start n t.region.page t.region.len (t.size * width t.kind) (t.maximum * width t.kind) t.region.contents r.contents inside is.room rewrites.contents is.contents (shaped_as start (replicate n 0) t.region r rewrites shaped))
+    let len : r.len ≡ t.region.len = ap (λ (x : Told). x.len) rewrites in
+    let page : r.page ≡ t.region.page = ap (λ (x : Told). x.page) rewrites in
+    let Room : Contents → Type 0 = IsRoom t.region.page t.region.len (t.size * width t.kind) (t.maximum * width t.kind) in
+    table_of t r page len is
+    (after_write start (replicate n 0) t.region.page t.region.len Room Room t.region r rewrites (λ c room s. zeroed_by start n t.region.page t.region.len (t.size * width t.kind) (t.maximum * width t.kind) c inside is.room room s) is.contents (shaped_as start (replicate n 0) t.region r rewrites shaped))
 
-empties_by : (kind : ElementKind) (size page len to : ℕ) (a b : Option Contents) → size * width kind ≤ len → IfRewritten 0 (replicate (size * width kind) 0) a b → IfSome a (IsRoom page len (size * width kind) to) → option_map (λ c. elements_in kind size c.bytes) b ≡ option_map (λ es. replicate size (empty kind)) (option_map (λ c. elements_in kind size c.bytes) a)
-empties_by kind size page len to None None fits is room = refl
-empties_by kind size page len to None (Some d) fits is room = absurd is
-empties_by kind size page len to (Some c) None fits is room = absurd is
-empties_by kind size page len to (Some c) (Some d) fits is room =
+empties_by : (kind : ElementKind) (size page len to : ℕ) (o : Option Contents) → size * width kind ≤ len → IfSome o (IsRoom page len (size * width kind) to) → option_map (λ c. elements_in kind size c.bytes) (option_map (written 0 (replicate (size * width kind) 0)) o) ≡ option_map (λ es. replicate size (empty kind)) (option_map (λ c. elements_in kind size c.bytes) o)
+empties_by kind size page len to None fits room = refl
+empties_by kind size page len to (Some c) fits room =
     let n : ℕ = size * width kind in
     let zeros : List ℕ = replicate n 0 in
     let long : length zeros ≡ n = length-replicate {A = ℕ} n 0 in
@@ -100,14 +80,13 @@ empties_by kind size page len to (Some c) (Some d) fits is room =
     (λ i d from below. get_or-put_in 0 zeros c.bytes i d (omega arith) (omega arith) (omega (arith, below, long)) ∙ get_or-replicate n (i - 0) 0 d (omega (arith, below))) in
     let sum : 0 + size ≡ size = omega arith in
     let E : ℕ → Type 0 = λ m. elements_in kind m (put 0 zeros c.bytes) ≡ replicate size (empty kind) in
-    ap (λ (bs : List ℕ). Some (elements_in kind size bs)) is.bytes
-    ∙ ap (λ (es : List Element). Some es) (subst E sum (elements_grown kind 0 size size (put 0 zeros c.bytes) zero_is_empty (omega arith) (omega (arith, all, fits, room.shaped.bytes)) each))
+    ap (λ (es : List Element). Some es) (subst E sum (elements_grown kind 0 size size (put 0 zeros c.bytes) zero_is_empty (omega arith) (omega (arith, all, fits, room.shaped.bytes)) each))
 
 pub emptied_table : (t : TableState) (r : Told) → IsTable t → Rewrites 0 (replicate (t.size * width t.kind) 0) t.region r → Empties t (record t { region = r })
 emptied_table t r is rewrites = record {
   same = refl;
   bytes = rewrites;
-  elements = empties_by t.kind t.size t.region.page t.region.len (t.maximum * width t.kind) t.region.contents r.contents (omega (arith, is.room, mul-le-mul_right (width t.kind) is.within)) rewrites.contents is.contents;
+  elements = ap (λ (x : Told). option_map (λ c. elements_in t.kind t.size c.bytes) x.contents) rewrites ∙ empties_by t.kind t.size t.region.page t.region.len (t.maximum * width t.kind) t.region.contents (omega (arith, is.room, mul-le-mul_right (width t.kind) is.within)) is.contents;
 }
 
 -- a region that pages go back to zeros in, as a decommit leaves it

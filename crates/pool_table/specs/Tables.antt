@@ -2,7 +2,7 @@
 use Rattle.std.specs.Prelude.{◌≡◌, ℕ, ◌+◌, ◌-◌, ◌*◌, ◌^◌, ◌<◌, ◌≤◌, ◌++◌, List, map, replicate, slice_range, nat_le, if◌then◌else◌, Option, Some, None, IfSome, option_map, Result, Ok, Err}
 use Rattle.std.specs.List.{concat, range_with_len}
 use Rattle.pool_pages.specs.Contents.{Contents, IsShaped, CanReach, put, put_all}
-use Rattle.pool_pages.specs.Told.{Told}
+use Rattle.pool_pages.specs.Told.{Told, overwritten}
 use Rattle.pool_pages.specs.declared.module_types.IndexType.{IndexType}
 use Rattle.pool_pages.specs.declared.module_types.IndexType.TheVariants.{I32, I64}
 use Rattle.pool_pages.specs.declared.table_type.TableType.{TableType}
@@ -25,25 +25,9 @@ elements_in kind n bytes = map (λ e. element_of kind (slice_range bytes (e * wi
 abbrev pub elements : TableState → Option (List Element)
 elements t = option_map (λ c. elements_in t.kind t.size c.bytes) t.region.contents
 
--- Of what a region holds only bytes are written, from a place on: what pages go back to, which can be reached and
--- their colours stay.
-pub record IsRewritten (at : ℕ) (new : List ℕ) (old after : Contents) : Type 0 where
-  pub page : after.page ≡ old.page
-  pub bytes : after.bytes ≡ put at new old.bytes
-  pub origin : after.origin ≡ old.origin
-  pub accessible : after.accessible ≡ old.accessible
-  pub colour : after.colour ≡ old.colour
-
-abbrev pub IfRewritten : ℕ → List ℕ → Option Contents → Option Contents → Type 0
-IfRewritten at new None None = Unit {0}
-IfRewritten at new None (Some after) = ⊥
-IfRewritten at new (Some old) None = ⊥
-IfRewritten at new (Some old) (Some after) = IsRewritten at new old after
-
--- the region is the same but for these bytes
-pub record Rewrites (at : ℕ) (new : List ℕ) (old after : Told) : Type 0 where
-  pub same : after ≡ record old { contents = after.contents }
-  pub contents : IfRewritten at new old.contents after.contents
+-- The region is as a write of these bytes, from a place on, leaves it, in however many parts they were written.
+abbrev pub Rewrites : ℕ → List ℕ → Told → Told → Type 0
+Rewrites at new old after = after ≡ overwritten at new old
 
 -- what a region holds that a table can lie in: the first n bytes can be reached, all pages go back to zeros, and the bytes
 -- from one place to another are zeros

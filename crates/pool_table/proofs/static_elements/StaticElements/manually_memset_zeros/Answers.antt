@@ -2,7 +2,7 @@ use Rattle.std.proofs.Common.{◌≡◌, ◌*◌, ℕ, replicate, subst}
 use Rattle.pool_pages.specs.Told.{Told, overwritten}
 use Rattle.pool_table.specs.Elements.{width}
 use Rattle.pool_table.specs.Tables.{TableState, Empties}
-use Rattle.pool_table.proofs.Zeros.{rewrites_once, emptied_table}
+use Rattle.pool_table.proofs.Zeros.{emptied_table}
 use Rattle.pool_table.proofs.static_elements.StaticElements.manually_memset_zeros.Goals as goal
 
 pub returns : goal.returns
@@ -13,4 +13,4 @@ returns g c =
     let W : ℕ → Type 0 = λ n. r ≡ overwritten 0 (replicate (i.size * n) 0) t.region in
     let written : W (width t.kind) = subst W c.width.ensures c.fill.ensures.written in
     let E : TableState → Type 0 = λ s. Empties s (record t { region = r }) in
-    subst E c.self.view_is (emptied_table t r c.self.invariant (rewrites_once 0 (replicate (i.size * width t.kind) 0) t.region r written))
+    subst E c.self.view_is (emptied_table t r c.self.invariant written)
