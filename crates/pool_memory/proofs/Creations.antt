@@ -1,6 +1,6 @@
 -- Memories as the default creator makes them.
 use Rattle.std.proofs.Common.{◌≡◌, ℕ, ◌+◌, ◌-◌, ◌^◌, ◌<◌, ◌≤◌, Bool, true, false, List, [], ◌∷◌, length, min, refl, sym, ap, ◌∙◌, subst, inl, inr, arith, slice_range, replicate, nat_lt, Option, Some, None, Result, Ok, Err}
-use Rattle.std.specs.Prelude.{◌↔◌, ◌⊎◌, ◌==◌, ◌||◌, not, IfSome, is_some, if◌then◌else◌}
+use Rattle.std.specs.Prelude.{◌↔◌, ◌⊎◌, ◌==◌, ◌||◌, not, IfSome, is_some, option_map, if◌then◌else◌}
 use Rattle.std.specs.List.{list_any}
 use Rattle.std.proofs.lemmas.Bool.{cases_lt, lt-ltb}
 use Rattle.std.proofs.lemmas.Bool.Decides.{nat_tests}
@@ -44,9 +44,21 @@ asked_same old new asked = record {
   rises = omega (arith, next_risen old new asked);
 }
 
+mapped_some : {X Y : Type 0} (f : X → Y) (o : Option X) → is_some (option_map f o) ≡ is_some o
+mapped_some f None = refl
+mapped_some f (Some x) = refl
+
 plan_if : (b : Bool) (n : ℕ) (s : Slot) → (if b then raised n s else s).region.plan ≡ s.region.plan
 plan_if true n s = refl
 plan_if false n s = refl
+
+contents_if : (b : Bool) (n : ℕ) (s : Slot) → is_some (if b then raised n s else s).region.contents ≡ is_some s.region.contents
+contents_if true n s = mapped_some _ s.region.contents
+contents_if false n s = refl
+
+told_if : {X : Type 0} (b : Bool) (x : X) → b ≡ true → is_some (if b then Some x else None) ≡ true
+told_if true x is = refl
+told_if false x is = absurd cc
 
 -- the memory is as it is made
 pub mapped_as_made : (old new : MakerTold) (t : MemoryTunables) (minimum extra : ℕ) (m : Mapped) → m ≡ record { slot = slot_for old (first_layout old.page t minimum) minimum; size = minimum; extra = extra; as_made = true; known = true } → IsMadeSlot (first_layout old.page t minimum) minimum m.slot → IsAsked old new → IsAsMade minimum new.next old (mapped_linear m)
@@ -66,6 +78,7 @@ mapped_as_made old new t minimum extra m is made asked =
     ∙ ap (λ (k : ℕ). replicate {A = ℕ} k 0) n in
     record {
       size = size;
+      told = λ tells. mapped_some (λ c. slice_range c.bytes s.base.bytes (s.base.bytes + m.size)) s.region.contents ∙ ap (λ (x : Mapped). is_some x.slot.region.contents) is ∙ contents_if _ _ _ ∙ told_if old.tells _ tells;
       zeros = if_mapped (λ c. slice_range c.bytes s.base.bytes (s.base.bytes + m.size)) (λ b. b ≡ replicate minimum 0) s.region.contents
           (followed (λ c. P c × Q c) (λ c. slice_range c.bytes s.base.bytes (s.base.bytes + m.size) ≡ replicate minimum 0) s.region.contents part (paired P Q s.region.contents (all_there s made.fits) made.zeros));
       unmapped = ap is_some made.image;

@@ -1,5 +1,5 @@
 -- What makes the memories of instances: when it refuses, and what it makes.
-use Rattle.std.specs.Prelude.{◌≡◌, ℕ, ◌-◌, ◌^◌, ◌<◌, ◌≤◌, ◌⊎◌, ◌||◌, List, length, min, replicate, Bool, true, false, Option, Some, None, IfSome, Result, Ok, Err, if◌then◌else◌}
+use Rattle.std.specs.Prelude.{◌≡◌, ℕ, ◌-◌, ◌^◌, ◌<◌, ◌≤◌, ◌⊎◌, ◌||◌, List, length, min, replicate, Bool, true, false, Option, Some, None, IfSome, is_some, Result, Ok, Err, if◌then◌else◌}
 use Rattle.pool_pages.specs.MakerTold.{MakerTold, Planned, calls_of, plan_for}
 use Rattle.pool_pages.specs.Told.{Rose}
 use Rattle.pool_pages.specs.declared.module_types.MemoryTunables.{MemoryTunables}
@@ -47,9 +47,11 @@ abbrev pub IsOfMaker : ℕ → MakerTold → Storage → Type 0
 IsOfMaker to maker (in_slot s) = (n : ℕ) × (IsBetween maker.next to n × (s.region.plan ≡ plan_for (OnDemand n) maker))
 IsOfMaker to maker (stored len bytes) = Unit {0}
 
--- The memory is as it is made: so many zeros, and no image. The maker told this, and its next number is at `to` then.
+-- The memory is as it is made: so many zeros, and no image. It tells them where the maker's regions tell what they hold. The
+-- maker told this, and its next number is at `to` then.
 pub record IsAsMade (minimum to : ℕ) (maker : MakerTold) (l : Linear) : Type 0 where
   pub size : l.size ≡ minimum
+  pub told : maker.tells ≡ true → is_some (linear_bytes l) ≡ true
   pub zeros : IfSome (linear_bytes l) (λ b. b ≡ replicate minimum 0)
   pub unmapped : is_mapped l.storage ≡ false
   pub page : HasPage maker.page l.storage

@@ -1,5 +1,5 @@
 -- How a memory grows: what is asked in which order, what is answered, and what the memory and the limiter are left with.
-use Rattle.std.specs.Prelude.{◌≡◌, ℕ, ◌+◌, ◌-◌, ◌*◌, ◌^◌, ◌<◌, ◌≤◌, ◌==◌, ◌&&◌, ◌||◌, ◌++◌, replicate, min, Bool, true, false, not, nat_lt, Option, Some, None, IfSome, option_map, Result, Ok, Err}
+use Rattle.std.specs.Prelude.{◌≡◌, ℕ, ◌+◌, ◌-◌, ◌*◌, ◌^◌, ◌<◌, ◌≤◌, ◌==◌, ◌&&◌, ◌||◌, List, ◌++◌, replicate, min, is_some, Bool, true, false, not, nat_lt, Option, Some, None, IfSome, option_map, Result, Ok, Err}
 use Rattle.std.specs.Option.{option_map_or}
 use Rattle.std.specs.Result.{result_err}
 use Rattle.pool_pages.specs.Count.{rounded_up}
@@ -36,9 +36,15 @@ abbrev pub moved_room : ℕ → ℕ → Storage → ℕ
 moved_room size extra (in_slot s) = (moved_layout size extra (layout_of s)).capacity
 moved_room size extra (stored len bytes) = rounded_up 16 size
 
+-- a memory in a list tells its bytes if it told them
+abbrev pub StaysTold : Storage → Option (List ℕ) → Type 0
+StaysTold (in_slot s) bytes = Unit {0}
+StaysTold (stored len told) bytes = is_some bytes ≡ is_some told
+
 -- It has moved, and has the bytes that it had, with zeros behind them, where both places tell them.
 pub record MovesTo (size : ℕ) (old new : Linear) : Type 0 where
   pub bytes : IfSome (linear_bytes old) (λ b. IfSome (linear_bytes new) (λ c. c ≡ b ++ replicate (size - old.size) 0))
+  pub told : StaysTold old.storage (linear_bytes new)
   pub room : new.capacity ≡ moved_room size old.extra old.storage
 
 -- The memory has this size: its bytes are the old ones, with zeros behind them. Past what it could have it has moved.
