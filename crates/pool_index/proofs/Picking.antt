@@ -21,7 +21,7 @@ use Rattle.pool_index.proofs.Shards.{warm_slot_free, cold_slot_free}
 use Rattle.pool_index.proofs.SlotUnits.{out_more}
 
 -- the choice is a slot that can be taken
-abbrev IsChoice : ShardState → Choice → Type 0
+abbrev pub IsChoice : ShardState → Choice → Type 0
 IsChoice s (warm_at i) = i < length s.warm
 IsChoice s next_cold = s.cold < s.capacity
 
@@ -45,7 +45,7 @@ one_taken : (s : ShardState) (b : Bool) (x y : Option Choice) → IfSome x (IsCh
 one_taken s true x y g h = g
 one_taken s false x y g h = h
 
-choice_taken : (want : Option MemoryInModule) (s : ShardState) → IfSome (choice want s) (IsChoice s)
+pub choice_taken : (want : Option MemoryInModule) (s : ShardState) → IfSome (choice want s) (IsChoice s)
 choice_taken want s =
     let warm : IfSome (warm_choice s) (IsChoice s) = if_taken s (warm_at 0) (nat_lt 0 (length s.warm)) (λ e. ltb-true 0 (length s.warm) e) in
     let cold : IfSome (cold_choice s) (IsChoice s) = if_taken s next_cold (nat_lt s.cold s.capacity) (λ e. ltb-true s.cold s.capacity e) in

@@ -78,6 +78,13 @@ impl Shard {
         })
     }
 
+    /// What its slots are for.
+    pub fn kind(&self) -> SlotKind
+        ensures { result ≡ self.now.kind }
+    {
+        self.kind
+    }
+
     /// The number of slots.
     pub fn len(&self) -> usize
         ensures value { result ≡ self.now.capacity }

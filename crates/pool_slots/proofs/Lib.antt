@@ -8,6 +8,9 @@ pub mod Settings
 pub mod Planning
 pub mod PlanSizes
 pub mod PlansMade
+pub mod StripedPlans
+pub mod PartsMade
+pub mod PartPlaces
 pub mod ByHand
 pub mod SlotChanges
 pub mod SlotFaults

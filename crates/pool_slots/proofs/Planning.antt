@@ -1,5 +1,5 @@
 -- A plan whose blocks are separate gives each place one role, and each slot a home.
-use Rattle.std.proofs.Common.{◌≡◌, ℕ, ◌+◌, ◌-◌, ◌*◌, ◌/◌, ◌%◌, ◌<◌, ◌≤◌, Bool, true, false, List, [], ◌∷◌, ◌++◌, refl, sym, ap, ◌∙◌, subst, inl, inr, arith}
+use Rattle.std.proofs.Common.{◌≡◌, ℕ, ◌+◌, ◌-◌, ◌*◌, ◌/◌, ◌%◌, ◌^◌, ◌<◌, ◌≤◌, Bool, true, false, List, [], ◌∷◌, ◌++◌, refl, sym, ap, ◌∙◌, subst, inl, inr, arith}
 use Rattle.std.specs.Prelude.{map, ◌==◌, ◌&&◌, nat_le, nat_lt, if◌then◌else◌}
 use Rattle.std.specs.List.{AllByRecursion}
 use Rattle.std.proofs.lemmas.Bool.{cases_Bool, and_parts, and_from, eqb-true, le-leb, leb-true, lt-ltb, ltb-true}
@@ -8,7 +8,7 @@ use Rattle.pool_hall.specs.declared.unit_name.SlotKind.{SlotKind}
 use Rattle.pool_hall.specs.declared.unit_name.SlotKind.TheVariants.{Memory, Table, Stack, Heap}
 use Rattle.pool_images.proofs.Marks.{page_lt}
 use Rattle.pool_slots.specs.SlotNames.{of_kind}
-use Rattle.pool_slots.specs.Plans.{allocators_of, allocators, number_at, slots_at, has_number, home_in, home_among, shard_role, Block, shards_block, blocks, is_within, role_among, role_at, AreBesides, AreSeparate, IsAllocator, have_number, IsAtHome, SlotsAreAtHome}
+use Rattle.pool_slots.specs.Plans.{allocators_of, allocators, number_at, slots_at, has_number, home_in, home_among, shard_role, Block, shards_block, blocks, is_within, role_among, role_at, AreBesides, AreSeparate, IsAllocator, IsPlacedAllocator, IsPlanned, have_number, IsAtHome, SlotsAreAtHome}
 use Rattle.pool_slots.specs.declared.slot_name.SlotName.{SlotName}
 use Rattle.pool_slots.specs.declared.plan.Allocator.{Allocator}
 use Rattle.pool_slots.specs.declared.plan.Home.{Home}
@@ -55,24 +55,27 @@ roles (b ∷ bs) separate =
 abbrev pub HasShards : Plan → Allocator → Type 0
 HasShards plan a = (j : ℕ) → j < a.shards → role_at plan (a.first_place + j) ≡ shard_role a j
 
-all_shards : (plan : Plan) → AreSeparate (blocks plan) → AllByRecursion (HasShards plan) (allocators plan)
-all_shards plan separate =
-    let all = roles (blocks plan) separate in
-    each_mapped (HasRoles (blocks plan)) shards_block (allocators plan) all.1.1.1.1.1
+-- what holds of all allocators holds of those of a kind
+of_all : (P : Allocator → Type 0) (plan : Plan) (kind : SlotKind) → AllByRecursion P (allocators plan) → AllByRecursion P (allocators_of plan kind)
+of_all P plan Memory all = each_left P plan.memories (plan.tables ++ (plan.stacks ++ plan.heaps)) all
+of_all P plan Table all = each_left P plan.tables (plan.stacks ++ plan.heaps) (each_right P plan.memories (plan.tables ++ (plan.stacks ++ plan.heaps)) all)
+of_all P plan Stack all = each_left P plan.stacks plan.heaps (each_right P plan.tables (plan.stacks ++ plan.heaps) (each_right P plan.memories (plan.tables ++ (plan.stacks ++ plan.heaps)) all))
+of_all P plan Heap all = each_right P plan.stacks plan.heaps (each_right P plan.tables (plan.stacks ++ plan.heaps) (each_right P plan.memories (plan.tables ++ (plan.stacks ++ plan.heaps)) all))
 
 pub shards_of : (plan : Plan) (kind : SlotKind) → AreSeparate (blocks plan) → AllByRecursion (HasShards plan) (allocators_of plan kind)
-shards_of plan Memory separate = each_left (HasShards plan) plan.memories (plan.tables ++ (plan.stacks ++ plan.heaps)) (all_shards plan separate)
-shards_of plan Table separate =
-    each_left (HasShards plan) plan.tables (plan.stacks ++ plan.heaps)
-    (each_right (HasShards plan) plan.memories (plan.tables ++ (plan.stacks ++ plan.heaps)) (all_shards plan separate))
-shards_of plan Stack separate =
-    each_left (HasShards plan) plan.stacks plan.heaps
-    (each_right (HasShards plan) plan.tables (plan.stacks ++ plan.heaps)
-    (each_right (HasShards plan) plan.memories (plan.tables ++ (plan.stacks ++ plan.heaps)) (all_shards plan separate)))
-shards_of plan Heap separate =
-    each_right (HasShards plan) plan.stacks plan.heaps
-    (each_right (HasShards plan) plan.tables (plan.stacks ++ plan.heaps)
-    (each_right (HasShards plan) plan.memories (plan.tables ++ (plan.stacks ++ plan.heaps)) (all_shards plan separate)))
+shards_of plan kind separate =
+    let all = roles (blocks plan) separate in
+    of_all (HasShards plan) plan kind (each_mapped (HasRoles (blocks plan)) shards_block (allocators plan) all.1.1.1.1.1)
+
+-- where places are numbers of 32 bits, those of its shards are
+pub allocators_placed : (plan : Plan) (places : ℕ) → IsPlanned plan places → places < 2 ^ 32 → (kind : SlotKind) → AllByRecursion IsPlacedAllocator (allocators_of plan kind)
+allocators_placed plan places is fits kind =
+    let P : Allocator → Type 0 = λ a. a.first_place + a.shards ≤ places in
+    let ends : AllByRecursion P (allocators plan) = each_mapped (λ b. b.first + b.count ≤ places) shards_block (allocators plan) is.inside.1.1.1.1.1 in
+    each_both (IsAllocator kind (of_kind kind plan.totals)) P IsPlacedAllocator (allocators_of plan kind)
+    (λ a right end. record { some = right.some; apart = right.apart; covered = right.covered; places = omega (arith, end, fits) })
+    (is.slots kind).each
+    (of_all P plan kind ends)
 
 -- the number of an allocator's slot: which of its slots it is, in which shard, and where there
 pub record IsNumbered (a : Allocator) (n : ℕ) : Type 0 where

@@ -13,7 +13,7 @@ use Rattle.pool_pages.specs.declared.pages.DecommitBehavior.{DecommitBehavior}
 use Rattle.pool_slots.specs.Cells.{unmapped}
 use Rattle.pool_slots.specs.RegionCells.{CellState, memory_cell, no_cell}
 use Rattle.pool_slots.specs.Makings.{AreMadeInStripes, makes_listed_regions, IsListedPoolFault, RaisesPoolFaults, RaisesPoolBehind}
-use Rattle.pool_slots.specs.Colourings.{RaisesUnlessUncoloured, RaisesBehindUnlessUncoloured, SomeUncoloured, coloured_region}
+use Rattle.pool_slots.specs.Colourings.{RaisesUnlessGivenUp, RaisesBehindUnlessGivenUp, SomeUncoloured, coloured_region}
 use Rattle.pool_slots.specs.declared.errors.PoolNewError.{PoolNewError}
 use Rattle.pool_slots.specs.declared.errors.PoolNewError.TheVariants as refused
 
@@ -76,7 +76,7 @@ listed_of f o total i e under h =
     mapped_told (λ plan. IsListedPoolFault (f plan i) e) (λ plan. IsListedPoolFault (list_any (f plan) (range_with_len 0 total)) e) o (λ plan k. listed_by (f plan) total i e under k) h
 
 -- so it is with what it does to the maker's count of faults
-pub faults_of : (A B : Type 0) (old new : ℕ) (e : PoolNewError) → (A → B) → RaisesUnlessUncoloured A old new e → RaisesUnlessUncoloured B old new e
+pub faults_of : (A B : Type 0) (old new : ℕ) (e : PoolNewError) → (A → B) → RaisesUnlessGivenUp A old new e → RaisesUnlessGivenUp B old new e
 faults_of A B old new (refused.BadConfig b) all h = h
 faults_of A B old new refused.PageFault all h =
     elim h [
@@ -86,39 +86,36 @@ faults_of A B old new refused.PageFault all h =
 faults_of A B old new refused.Memory all h = h
 
 -- and to that of the maker behind
-pub behind_of : (A B : Type 0) (own : List Planned) (total i old new : ℕ) (e : PoolNewError) → i < total → (A → B) → RaisesBehindUnlessUncoloured A (fails_making (Memory i) own) old new e → RaisesBehindUnlessUncoloured B (makes_listed_regions own total) old new e
-behind_of A B own total i old new (refused.BadConfig b) under all h = h
-behind_of A B own total i old new refused.PageFault under all h =
+pub behind_of : (A B : Type 0) (f : ℕ → Bool) (total i old new : ℕ) (e : PoolNewError) → i < total → (A → B) → RaisesBehindUnlessGivenUp A (f i) old new e → RaisesBehindUnlessGivenUp B (list_any f (range_with_len 0 total)) old new e
+behind_of A B f total i old new (refused.BadConfig b) under all h = h
+behind_of A B f total i old new refused.PageFault under all h =
     elim h [
       | inl made ↦ elim made [
-        | inl listed ↦ inl (inl (some_of (λ (k : ℕ). fails_making (Memory k) own) total i under listed))
+        | inl listed ↦ inl (inl (some_of f total i under listed))
         | inr rose ↦ inl (inr rose)
       ]
       | inr one ↦ inr (all one.0, one.1)
     ]
-behind_of A B own total i old new refused.Memory under all h = h
+behind_of A B f total i old new refused.Memory under all h = h
 
--- In one stripe no region is given a colour.
-none_uncoloured : (len total : ℕ) (maker : MakerTold) → SomeUncoloured 1 len total maker → ⊥
-none_uncoloured len total maker some = false≢true some.2.some
-
-pub plain_faults : (len total : ℕ) (maker : MakerTold) (old new : ℕ) (e : PoolNewError) → RaisesUnlessUncoloured (SomeUncoloured 1 len total maker) old new e → RaisesPoolFaults old new e
-plain_faults len total maker old new (refused.BadConfig b) h = h
-plain_faults len total maker old new refused.PageFault h =
+-- where no region was given up
+pub plain_faults : (A : Type 0) → (A → ⊥) → (old new : ℕ) (e : PoolNewError) → RaisesUnlessGivenUp A old new e → RaisesPoolFaults old new e
+plain_faults A none old new (refused.BadConfig b) h = h
+plain_faults A none old new refused.PageFault h =
     elim h [
       | inl rose ↦ rose
-      | inr one ↦ absurd (none_uncoloured len total maker one.0)
+      | inr one ↦ absurd (none one.0)
     ]
-plain_faults len total maker old new refused.Memory h = h
+plain_faults A none old new refused.Memory h = h
 
-pub plain_behind : (len total : ℕ) (maker : MakerTold) (listed : Bool) (old new : ℕ) (e : PoolNewError) → RaisesBehindUnlessUncoloured (SomeUncoloured 1 len total maker) listed old new e → RaisesPoolBehind listed old new e
-plain_behind len total maker listed old new (refused.BadConfig b) h = h
-plain_behind len total maker listed old new refused.PageFault h =
+pub plain_behind : (A : Type 0) → (A → ⊥) → (listed : Bool) (old new : ℕ) (e : PoolNewError) → RaisesBehindUnlessGivenUp A listed old new e → RaisesPoolBehind listed old new e
+plain_behind A none listed old new (refused.BadConfig b) h = h
+plain_behind A none listed old new refused.PageFault h =
     elim h [
       | inl made ↦ made
-      | inr one ↦ absurd (none_uncoloured len total maker one.0)
+      | inr one ↦ absurd (none one.0)
     ]
-plain_behind len total maker listed old new refused.Memory h = h
+plain_behind A none listed old new refused.Memory h = h
 
 -- a maker whose counts of faults stay tells what it told
 pub same_maker : (old new : MakerTold) → new ≡ record old { behind = new.behind; faults = new.faults } → new.behind ≡ old.behind → new.faults ≡ old.faults → new ≡ old

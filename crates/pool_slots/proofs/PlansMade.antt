@@ -7,18 +7,18 @@ use Rattle.std.proofs.Math.Nat.{div-add-mod, mod-lt}
 use Rattle.pool_hall.specs.declared.unit_name.SlotKind.{SlotKind}
 use Rattle.pool_hall.specs.declared.unit_name.SlotKind.TheVariants.{Memory, Table, Stack, Heap}
 use Rattle.pool_slots.specs.SlotNames.{of_kind}
-use Rattle.pool_slots.specs.Plans.{allocators_of, allocators, queue_role, heaps_role, cells_block, has_number, have_number, home_among, home_of, IsAtHome, Block, shards_block, AreBesides, AreSeparate, IsAllocator, IsPlacedAllocator, AreAllocators, IsPlanned}
-use Rattle.pool_slots.specs.PlansMade.{HoldSlots, HaveShards, shards_from, shards_planned, places_planned, allocator_planned, IsPlanOf, home_planned, FollowOneAnother}
+use Rattle.pool_slots.specs.Plans.{allocators_of, allocators, queue_role, heaps_role, cells_block, has_number, have_number, home_among, home_of, IsAtHome, Block, shards_block, AreBesides, AreSeparate, IsPlacedAllocator, AreAllocators, IsPlanned}
+use Rattle.pool_slots.specs.PlansMade.{HoldSlots, HaveShards, shards_planned, places_planned, allocator_planned, IsPlanOf, IsPlanWith, home_planned, FollowOneAnother}
 use Rattle.pool_slots.specs.declared.slot_name.OfKinds.{OfKinds}
 use Rattle.pool_slots.specs.declared.slot_name.SlotName.{SlotName}
 use Rattle.pool_slots.specs.declared.plan.Allocator.{Allocator}
 use Rattle.pool_slots.specs.declared.plan.Plan.{Plan}
 use Rattle.pool_slots.specs.declared.plan_maker.PlanSettings.{PlanSettings}
-use Rattle.pool_slots.proofs.Planning.{slots_are_at_home}
+use Rattle.pool_slots.proofs.Planning.{slots_are_at_home, allocators_placed}
 use Rattle.pool_slots.proofs.Lists.{each_weaker, each_append}
 
 -- each block begins where the one before it ends, or later
-abbrev AreInLine : ℕ → List Block → ℕ → Type 0
+abbrev pub AreInLine : ℕ → List Block → ℕ → Type 0
 AreInLine p [] q = p ≤ q
 AreInLine p (b ∷ bs) q = (p ≤ b.first) × AreInLine (b.first + b.count) bs q
 
@@ -49,20 +49,50 @@ separate_behind s (b ∷ bs) ds from to mine theirs =
       separate_behind s bs ds from.1 to mine.1 theirs,
     )
 
--- the blocks behind the shards, and those of the shards
-abbrev four : PlanSettings → List Allocator
-four s = allocator_planned s Memory ∷ allocator_planned s Table ∷ allocator_planned s Stack ∷ allocator_planned s Heap ∷ []
+-- blocks that begin later, and two rows of shards one after the other
+earlier : (o p : ℕ) (bs : List Block) (q : ℕ) → o ≤ p → AreInLine p bs q → AreInLine o bs q
+earlier o p [] q before line = omega (arith, before, line)
+earlier o p (b ∷ bs) q before line = let here = line.0 in (omega (arith, before, here), line.1)
 
-shards_line : (s : PlanSettings) → AreInLine 0 (map shards_block (four s)) (shards_planned s)
-shards_line s = (omega arith, (omega arith, (omega arith, (omega arith, omega arith))))
+line_on : (p : ℕ) (as' bs : List Allocator) (q r : ℕ) → AreInLine p (map shards_block as') q → AreInLine q (map shards_block bs) r → AreInLine p (map shards_block (as' ++ bs)) r
+line_on p [] bs q r line more = earlier p q (map shards_block bs) r line more
+line_on p (a ∷ as') bs q r line more = (line.0, line_on (a.first_place + a.shards) as' bs q r line.1 more)
 
-four_are : (s : PlanSettings) (plan : Plan) → IsPlanOf s plan → allocators plan ≡ four s
-four_are s plan is =
-    let m : plan.memories ≡ allocator_planned s Memory ∷ [] = is.allocators Memory in
-    let t : plan.tables ≡ allocator_planned s Table ∷ [] = is.allocators Table in
-    let k : plan.stacks ≡ allocator_planned s Stack ∷ [] = is.allocators Stack in
-    let h : plan.heaps ≡ allocator_planned s Heap ∷ [] = is.allocators Heap in
-    rw (m, t, k, h) refl
+-- the shards of allocators follow one another, from a place to a place
+abbrev pub AreTiled : ℕ → List Allocator → ℕ → Type 0
+AreTiled p [] q = p ≡ q
+AreTiled p (a ∷ as') q = (a.first_place ≡ p) × AreTiled (p + a.shards) as' q
+
+pub tiled_line : (p : ℕ) (as' : List Allocator) (q : ℕ) → AreTiled p as' q → AreInLine p (map shards_block as') q
+tiled_line p [] q tiled = omega (arith, tiled)
+tiled_line p (a ∷ as') q tiled =
+    let here = tiled.0 in (omega (arith, here), subst (λ n. AreInLine (n + a.shards) (map shards_block as') q) (sym here) (tiled_line (p + a.shards) as' q tiled.1))
+
+-- the allocators of a kind in a plan with these of memories
+abbrev pub laid : PlanSettings → List Allocator → SlotKind → List Allocator
+laid s memories Memory = memories
+laid s memories Table = allocator_planned s Table ∷ []
+laid s memories Stack = allocator_planned s Stack ∷ []
+laid s memories Heap = allocator_planned s Heap ∷ []
+
+pub laid_are : (s : PlanSettings) (memories : List Allocator) (plan : Plan) → IsPlanWith s memories plan → (kind : SlotKind) → allocators_of plan kind ≡ laid s memories kind
+laid_are s memories plan is Memory = is.memories
+laid_are s memories plan is Table = is.tables
+laid_are s memories plan is Stack = is.stacks
+laid_are s memories plan is Heap = is.heaps
+
+-- the shards of other kinds come after those of memories
+abbrev three : PlanSettings → List Allocator
+three s = allocator_planned s Table ∷ allocator_planned s Stack ∷ allocator_planned s Heap ∷ []
+
+three_line : (s : PlanSettings) → AreInLine s.shards.memory (map shards_block (three s)) (shards_planned s)
+three_line s = (omega arith, (omega arith, (omega arith, omega arith)))
+
+abbrev pub HasLine : PlanSettings → List Allocator → Type 0
+HasLine s memories = AreInLine 0 (map shards_block memories) s.shards.memory
+
+shards_line : (s : PlanSettings) (memories : List Allocator) (plan : Plan) → IsPlanWith s memories plan → HasLine s memories → AreInLine 0 (map shards_block (allocators plan)) (shards_planned s)
+shards_line s memories plan is line = rw (is.memories, is.tables, is.stacks, is.heaps) (line_on 0 memories (three s) s.shards.memory (shards_planned s) line (three_line s))
 
 abbrev behind_shards : Plan → List Block
 behind_shards plan = cells_block plan Memory ∷ cells_block plan Table ∷ cells_block plan Stack
@@ -70,8 +100,8 @@ behind_shards plan = cells_block plan Memory ∷ cells_block plan Table ∷ cell
     ∷ record { first = plan.heap_list; count = min 1 plan.totals.heap; role = λ i. heaps_role }
     ∷ []
 
-cells_line : (s : PlanSettings) (plan : Plan) → IsPlanOf s plan → AreInLine (shards_planned s) (behind_shards plan) (places_planned s)
-cells_line s plan is =
+cells_line : (s : PlanSettings) (memories : List Allocator) (plan : Plan) → IsPlanWith s memories plan → AreInLine (shards_planned s) (behind_shards plan) (places_planned s)
+cells_line s memories plan is =
     let cm : plan.cells.memory ≡ shards_planned s = ap (λ (o : OfKinds). o.memory) is.cells in
     let ct : plan.cells.table ≡ shards_planned s + s.totals.memory = ap (λ (o : OfKinds). o.table) is.cells in
     let cs : plan.cells.stack ≡ shards_planned s + s.totals.memory + s.totals.table = ap (λ (o : OfKinds). o.stack) is.cells in
@@ -91,7 +121,7 @@ whole_steps n =
     let split : 1 * ((n - 0) / 1) + (n - 0) % 1 ≡ n - 0 = div-add-mod (n - 0) 1 in
     (omega arith, omega arith)
 
-has_each : (s : PlanSettings) (kind : SlotKind) (n : ℕ) → n < of_kind kind s.totals → has_number (allocator_planned s kind) n ≡ true
+pub has_each : (s : PlanSettings) (kind : SlotKind) (n : ℕ) → n < of_kind kind s.totals → has_number (allocator_planned s kind) n ≡ true
 has_each s kind n inside =
     let w = whole_steps n in
     rw (w.0, w.1) (and_from (nat_le 0 n) (nat_lt n (of_kind kind s.totals)) (le-leb 0 n (omega arith)) (lt-ltb n (of_kind kind s.totals) inside))
@@ -102,18 +132,17 @@ holds_of s Table have = have.table
 holds_of s Stack have = have.stack
 holds_of s Heap have = have.heap
 
-allocator_is : (s : PlanSettings) (kind : SlotKind) → HaveShards s → IsAllocator kind (of_kind kind s.totals) (allocator_planned s kind)
-allocator_is s kind have =
-    let holds = holds_of s kind have in
-    record { kind_is = refl; some = holds.some; apart = omega arith; covered = holds.covered; below = λ k inside. omega (arith, inside) }
+pub allocators_are : (s : PlanSettings) (kind : SlotKind) → HoldSlots (of_kind kind s.totals) (of_kind kind s.shards) (of_kind kind s.slots_per_shard) → AreAllocators kind (of_kind kind s.totals) (allocator_planned s kind ∷ [])
+allocators_are s kind holds =
+    record {
+      each = (record { kind_is = refl; some = holds.some; apart = omega arith; covered = holds.covered; below = λ k inside. omega (arith, inside) }, tt);
+      one = λ n inside. rw (has_each s kind n inside) refl;
+    }
 
-allocators_are : (s : PlanSettings) (kind : SlotKind) → HaveShards s → AreAllocators kind (of_kind kind s.totals) (allocator_planned s kind ∷ [])
-allocators_are s kind have = record { each = (allocator_is s kind have, tt); one = λ n inside. rw (has_each s kind n inside) refl }
-
-pub planned : (s : PlanSettings) (plan : Plan) → HaveShards s → IsPlanOf s plan → IsPlanned plan (places_planned s)
-planned s plan have is =
-    let shards : AreInLine 0 (map shards_block (allocators plan)) (shards_planned s) = rw (four_are s plan is) (shards_line s) in
-    let cells = cells_line s plan is in
+pub planned_with : (s : PlanSettings) (memories : List Allocator) (plan : Plan) → HasLine s memories → ((kind : SlotKind) → AreAllocators kind (of_kind kind s.totals) (laid s memories kind)) → IsPlanWith s memories plan → IsPlanned plan (places_planned s)
+planned_with s memories plan line right is =
+    let shards : AreInLine 0 (map shards_block (allocators plan)) (shards_planned s) = shards_line s memories plan is line in
+    let cells = cells_line s memories plan is in
     let ends : shards_planned s ≤ places_planned s = rises (shards_planned s) (behind_shards plan) (places_planned s) cells in
     record {
       separate =
@@ -127,24 +156,54 @@ planned s plan have is =
           (below 0 (map shards_block (allocators plan)) (shards_planned s) shards));
       slots = λ kind.
           let A : List Allocator → Type 0 = λ l. AreAllocators kind (of_kind kind plan.totals) l in
-          subst A (sym (is.allocators kind)) (rw is.totals (allocators_are s kind have));
+          subst A (sym (laid_are s memories plan is kind)) (rw is.totals (right kind));
     }
 
--- its shards have places that are numbers of 32 bits
-first_fits : (s : PlanSettings) (kind : SlotKind) → of_kind kind (shards_from s) + of_kind kind s.shards ≤ places_planned s
-first_fits s Memory = omega arith
-first_fits s Table = omega arith
-first_fits s Stack = omega arith
-first_fits s Heap = omega arith
+-- with one allocator of memories
+abbrev pub one_memory : PlanSettings → List Allocator
+one_memory s = allocator_planned s Memory ∷ []
+
+laid_one : (s : PlanSettings) (kind : SlotKind) → laid s (one_memory s) kind ≡ allocator_planned s kind ∷ []
+laid_one s Memory = refl
+laid_one s Table = refl
+laid_one s Stack = refl
+laid_one s Heap = refl
+
+pub made : (s : PlanSettings) (plan : Plan) → IsPlanWith s (one_memory s) plan → IsPlanOf s plan
+made s plan is = record {
+  allocators = λ kind. laid_are s (one_memory s) plan is kind ∙ laid_one s kind;
+  cells = is.cells;
+  totals = is.totals;
+  first_queue = is.first_queue;
+  queues = is.queues;
+  heap_list = is.heap_list;
+  shared = is.shared;
+}
+
+with_one : (s : PlanSettings) (plan : Plan) → IsPlanOf s plan → IsPlanWith s (one_memory s) plan
+with_one s plan is = record {
+  memories = is.allocators Memory;
+  tables = is.allocators Table;
+  stacks = is.allocators Stack;
+  heaps = is.allocators Heap;
+  cells = is.cells;
+  totals = is.totals;
+  first_queue = is.first_queue;
+  queues = is.queues;
+  heap_list = is.heap_list;
+  shared = is.shared;
+}
+
+pub planned : (s : PlanSettings) (plan : Plan) → HaveShards s → IsPlanOf s plan → IsPlanned plan (places_planned s)
+planned s plan have is =
+    let right : (kind : SlotKind) → AreAllocators kind (of_kind kind s.totals) (laid s (one_memory s) kind) =
+    λ kind. subst (AreAllocators kind (of_kind kind s.totals)) (sym (laid_one s kind)) (allocators_are s kind (holds_of s kind have)) in
+    planned_with s (one_memory s) plan (omega arith, omega arith) right (with_one s plan is)
 
 pub placed : (s : PlanSettings) (plan : Plan) → HaveShards s → places_planned s < 2 ^ 32 → IsPlanOf s plan → (kind : SlotKind) → AllByRecursion IsPlacedAllocator (allocators_of plan kind)
-placed s plan have fits is kind =
-    let holds = holds_of s kind have in
-    let first = first_fits s kind in
-    let A : List Allocator → Type 0 = λ l. AllByRecursion IsPlacedAllocator l in
-    subst A (sym (is.allocators kind)) (record { some = holds.some; apart = omega arith; covered = holds.covered; places = omega (arith, first, fits) }, tt)
+placed s plan have fits is kind = allocators_placed plan (places_planned s) (planned s plan have is) fits kind
 
-home_by : (s : PlanSettings) (name : SlotName) → name.slot < of_kind name.kind s.totals → home_among (allocator_planned s name.kind ∷ []) name.slot ≡ home_planned s name
+pub home_by : (s : PlanSettings) (name : SlotName) → name.slot < of_kind name.kind s.totals → home_among (allocator_planned s name.kind ∷ []) name.slot ≡ home_planned s name
 home_by s name inside =
     let w = whole_steps name.slot in
     rw (has_each s name.kind name.slot inside, w.1) refl
@@ -162,9 +221,9 @@ at_home s plan have is name inside =
     slots_are_at_home plan (places_planned s) name (planned s plan have is) (subst B (sym is.totals) inside)
 
 -- The settings determine the plan.
-pub one_plan : (s : PlanSettings) (a b : Plan) → IsPlanOf s a → IsPlanOf s b → a ≡ b
-one_plan s a b one two =
-    let lists : (kind : SlotKind) → allocators_of a kind ≡ allocators_of b kind = λ kind. one.allocators kind ∙ sym (two.allocators kind) in
+pub one_plan_with : (s : PlanSettings) (memories : List Allocator) (a b : Plan) → IsPlanWith s memories a → IsPlanWith s memories b → a ≡ b
+one_plan_with s memories a b one two =
+    let lists : (kind : SlotKind) → allocators_of a kind ≡ allocators_of b kind = λ kind. laid_are s memories a one kind ∙ sym (laid_are s memories b two kind) in
     let Lists : List Allocator → List Allocator → List Allocator → List Allocator → Plan =
     λ memories tables stacks heaps. record { memories = memories; tables = tables; stacks = stacks; heaps = heaps; cells = a.cells; totals = a.totals; first_queue = a.first_queue; queues = a.queues; heap_list = a.heap_list; owned = a.owned } in
     let Sizes : OfKinds → OfKinds → ℕ → ℕ → ℕ → Bool → Plan =
@@ -176,3 +235,6 @@ one_plan s a b one two =
     ∙ ap (λ (n : ℕ). Sizes b.cells b.totals b.first_queue n a.heap_list a.owned) (one.queues ∙ sym two.queues)
     ∙ ap (λ (n : ℕ). Sizes b.cells b.totals b.first_queue b.queues n a.owned) (one.heap_list ∙ sym two.heap_list)
     ∙ ap (Sizes b.cells b.totals b.first_queue b.queues b.heap_list) (one.shared ∙ sym two.shared)
+
+pub one_plan : (s : PlanSettings) (a b : Plan) → IsPlanOf s a → IsPlanOf s b → a ≡ b
+one_plan s a b one two = one_plan_with s (one_memory s) a b (with_one s a one) (with_one s b two)

@@ -20,11 +20,14 @@ stripe_colour num_stripes slot = if nat_lt 1 num_stripes then Some (stripe_of sl
 abbrev pub coloured_region : ℕ → MakerTold → DecommitBehavior → Count → ℕ → Told
 coloured_region num_stripes maker behaviour len i = coloured (stripe_colour num_stripes i) 0 len.bytes (made_region (Memory i) behaviour (count_of len.page 0) len maker)
 
--- The giving of the colour is the first call on a region. It is among those that fail; on a region without pages there is
--- no call.
+-- The first call on a region, over so many bytes, is among those that fail. Over none there is no call.
+abbrev pub fails_first_call : ℕ → List ℕ → Bool
+fails_first_call len calls = if len == 0 then false else list_any (λ call. call == 1) calls
+
+-- the giving of the colour is the first call on a region
 abbrev pub fails_colouring : Option ℕ → ℕ → List ℕ → Bool
 fails_colouring None len calls = false
-fails_colouring (Some colour) len calls = if len == 0 then false else list_any (λ call. call == 1) calls
+fails_colouring (Some colour) len calls = fails_first_call len calls
 
 -- the making of the region of slot i is listed as one that fails, or the giving of its colour
 abbrev pub fails_region : Option ℕ → ℕ → ℕ → List Planned → Bool
@@ -46,19 +49,20 @@ pub record IsUncoloured (colour : Option ℕ) (len i : ℕ) (maker : MakerTold) 
 abbrev pub SomeUncoloured : ℕ → ℕ → ℕ → MakerTold → Type 0
 SomeUncoloured num_stripes len total maker = (i : ℕ) × (i < total) × IsUncoloured (stripe_colour num_stripes i) len i maker
 
--- What a refusal does to the maker's count of faults: a page fault raises it, unless it is a colour that couldn't be
--- given; that counts with the region, which is gone. Want of memory leaves the count, and no other refusal comes.
-abbrev pub RaisesUnlessUncoloured : Type 0 → ℕ → ℕ → PoolNewError → Type 0
-RaisesUnlessUncoloured uncoloured old new (refused.BadConfig e) = ⊥
-RaisesUnlessUncoloured uncoloured old new refused.PageFault = Rose old new ⊎ (uncoloured × (new ≡ old))
-RaisesUnlessUncoloured uncoloured old new refused.Memory = new ≡ old
+-- What a refusal does to the maker's count of faults: a page fault raises it, unless a region was made and given up, as
+-- the first call on it failed; that counts with the region, which is gone. Want of memory leaves the count, and no other
+-- refusal comes.
+abbrev pub RaisesUnlessGivenUp : Type 0 → ℕ → ℕ → PoolNewError → Type 0
+RaisesUnlessGivenUp given_up old new (refused.BadConfig e) = ⊥
+RaisesUnlessGivenUp given_up old new refused.PageFault = Rose old new ⊎ (given_up × (new ≡ old))
+RaisesUnlessGivenUp given_up old new refused.Memory = new ≡ old
 
 -- What it does to the count of the maker behind: a page fault raises that, unless the making is one that the maker's own
--- list has, or it is a colour that couldn't be given.
-abbrev pub RaisesBehindUnlessUncoloured : Type 0 → Bool → ℕ → ℕ → PoolNewError → Type 0
-RaisesBehindUnlessUncoloured uncoloured listed old new (refused.BadConfig e) = ⊥
-RaisesBehindUnlessUncoloured uncoloured listed old new refused.PageFault = ((listed ≡ true) ⊎ Rose old new) ⊎ (uncoloured × (new ≡ old))
-RaisesBehindUnlessUncoloured uncoloured listed old new refused.Memory = new ≡ old
+-- list has, or a region was given up.
+abbrev pub RaisesBehindUnlessGivenUp : Type 0 → Bool → ℕ → ℕ → PoolNewError → Type 0
+RaisesBehindUnlessGivenUp given_up listed old new (refused.BadConfig e) = ⊥
+RaisesBehindUnlessGivenUp given_up listed old new refused.PageFault = ((listed ≡ true) ⊎ Rose old new) ⊎ (given_up × (new ≡ old))
+RaisesBehindUnlessGivenUp given_up listed old new refused.Memory = new ≡ old
 
 -- An image slot in its colour can be made of the region of each memory slot, as it is when it was given that colour.
 abbrev pub ColouredRegionsAreFresh : Type 0

@@ -10,11 +10,13 @@ pub mod Makings
 pub mod PartUnits
 pub mod ListUnits
 pub mod Parts
+pub mod PartsMade
 pub mod PlainSlots
 pub mod Plans
 pub mod PlansMade
 pub mod QueueMerges
 pub mod Slabs
+pub mod StripedPlans
 pub mod RegionCells
 pub mod SlotNames
 pub mod SlotOrders

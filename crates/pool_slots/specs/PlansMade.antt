@@ -1,7 +1,8 @@
 -- The plan of a pool that has one allocator for each kind of slot: the shards come first, then the cells, the queues, and
 -- the list of heaps.
-use Rattle.std.specs.Prelude.{◌≡◌, ℕ, ◌+◌, ◌*◌, ◌/◌, ◌%◌, ◌<◌, ◌≤◌, ◌∷◌, [], min, false}
+use Rattle.std.specs.Prelude.{◌≡◌, ℕ, ◌+◌, ◌*◌, ◌/◌, ◌%◌, ◌<◌, ◌≤◌, List, ◌∷◌, [], min, false}
 use Rattle.pool_hall.specs.declared.unit_name.SlotKind.{SlotKind}
+use Rattle.pool_hall.specs.declared.unit_name.SlotKind.TheVariants.{Table, Stack, Heap}
 use Rattle.pool_slots.specs.SlotNames.{of_kind}
 use Rattle.pool_slots.specs.Plans.{allocators_of, have_number, home_of, queue_tried}
 use Rattle.pool_slots.specs.declared.slot_name.OfKinds.{OfKinds}
@@ -64,6 +65,19 @@ allocator_planned s kind = record {
   step = 1;
   capacity = of_kind kind s.totals;
 }
+
+-- The plan has these allocators of memories, and of each other kind the one of these settings.
+pub record IsPlanWith (s : PlanSettings) (of_memories : List Allocator) (plan : Plan) : Type 0 where
+  pub memories : plan.memories ≡ of_memories
+  pub tables : plan.tables ≡ allocator_planned s Table ∷ []
+  pub stacks : plan.stacks ≡ allocator_planned s Stack ∷ []
+  pub heaps : plan.heaps ≡ allocator_planned s Heap ∷ []
+  pub cells : plan.cells ≡ cells_from s
+  pub totals : plan.totals ≡ s.totals
+  pub first_queue : plan.first_queue ≡ queues_from s
+  pub queues : plan.queues ≡ s.queues
+  pub heap_list : plan.heap_list ≡ heaps_from s
+  pub shared : plan.owned ≡ false
 
 -- the plan is that of these settings
 pub record IsPlanOf (s : PlanSettings) (plan : Plan) : Type 0 where

@@ -106,11 +106,12 @@ AreDistinct (m ∷ ms) = (holds m.name ms ≡ false) × AreDistinct ms
 abbrev pub AreApart : List Queued → List Queued → Type 0
 AreApart these those = AllByRecursion (λ m. holds m.name those ≡ false) these
 
--- A plain slot can be zeroed by hand: its pages go back to zeros and can be reached, and those from `n` on hold zeros.
+-- A plain slot can be zeroed by hand: its pages go back to zeros and can all be reached, and those from `n` on hold zeros.
 pub record CanBeZeroed (n : ℕ) (s : Slot) : Type 0 where
   pub fits : IsSlot s
   pub image : s.image ≡ None
   pub not_dirty : s.dirty ≡ false
+  pub all : s.accessible.bytes ≡ s.static_size
   pub within : n ≤ s.accessible.bytes
   pub ready : IfSome s.region.contents (IsReady s)
   pub rest : IfSome s.region.contents (Holds s n (size_of s))

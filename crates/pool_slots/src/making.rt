@@ -1,6 +1,6 @@
 ghost use Rattle.std.specs.Prelude.{◌≡◌, ◌<◌, false, IfOk, IfSome, MatchResult};
 ghost use Rattle.pool_slots.specs.Cells.{unmapped};
-ghost use Rattle.pool_slots.specs.Colourings.{RaisesUnlessUncoloured, RaisesBehindUnlessUncoloured, SomeUncoloured, fails_some_region};
+ghost use Rattle.pool_slots.specs.Colourings.{RaisesUnlessGivenUp, RaisesBehindUnlessGivenUp, SomeUncoloured, fails_some_region};
 ghost use Rattle.pool_slots.specs.RegionCells.{memory_cell};
 ghost use Rattle.pool_slots.specs.Makings.{AreMade, AreMadeInStripes, RaisesPoolFaults, RaisesPoolBehind, IsListedPoolFault, makes_listed_regions};
 
@@ -47,9 +47,9 @@ pub fn make_striped_cells<P: Pages, M: PageMaker<Region = P>>(
     ensures cells { IfOk result (λ v. AreMadeInStripes num_stripes (M.told maker.old) behaviour total len v.items) }
     ensures maker { M.told maker.new ≡ record (M.told maker.old) { behind = (M.told maker.new).behind; faults = (M.told maker.new).faults } }
     ensures borrows { M.borrows maker.new ≡ M.borrows maker.old }
-    ensures faults { MatchResult result (λ _. (M.told maker.new).faults ≡ (M.told maker.old).faults) (RaisesUnlessUncoloured (SomeUncoloured num_stripes len.bytes total (M.told maker.old)) (M.told maker.old).faults (M.told maker.new).faults) }
+    ensures faults { MatchResult result (λ _. (M.told maker.new).faults ≡ (M.told maker.old).faults) (RaisesUnlessGivenUp (SomeUncoloured num_stripes len.bytes total (M.told maker.old)) (M.told maker.old).faults (M.told maker.new).faults) }
     ensures listed { IfOk result (λ _. makes_listed_regions (M.told maker.old).listed total ≡ false) }
-    ensures behind { MatchResult result (λ _. (M.told maker.new).behind ≡ (M.told maker.old).behind) (RaisesBehindUnlessUncoloured (SomeUncoloured num_stripes len.bytes total (M.told maker.old)) (makes_listed_regions (M.told maker.old).listed total) (M.told maker.old).behind (M.told maker.new).behind) }
+    ensures behind { MatchResult result (λ _. (M.told maker.new).behind ≡ (M.told maker.old).behind) (RaisesBehindUnlessGivenUp (SomeUncoloured num_stripes len.bytes total (M.told maker.old)) (makes_listed_regions (M.told maker.old).listed total) (M.told maker.old).behind (M.told maker.new).behind) }
     ensures planned { MatchResult result (λ _. IfSome (M.told maker.old).plan (λ plan. fails_some_region num_stripes len.bytes total plan ≡ false)) (λ e. IfSome (M.told maker.old).plan (λ plan. IsListedPoolFault (fails_some_region num_stripes len.bytes total plan) e)) }
 {
     let Ok(mut cells) = Vec::with_capacity(alloc, total as usize) else {

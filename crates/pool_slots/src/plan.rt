@@ -155,7 +155,7 @@ fn home_among(allocators: &[Allocator], number: u32) -> Home
     unreachable!()
 }
 
-fn allocator_at(allocators: &[Allocator], at: usize) -> Allocator
+pub(crate) fn allocator_at(allocators: &[Allocator], at: usize) -> Allocator
     requires { at < length allocators.now }
     ensures { (d : Allocator) → result ≡ slice_index_or allocators.now at d }
 {

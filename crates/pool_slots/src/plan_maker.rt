@@ -4,7 +4,7 @@ ghost use Rattle.pool_hall.specs.declared.unit_name.SlotKind.{SlotKind};
 ghost use Rattle.pool_slots.specs.SlotNames.{of_kind};
 ghost use Rattle.pool_slots.specs.Plans.{allocators_of, home_of, IsPlacedAllocator, IsPlanned, IsAtHome};
 ghost use Rattle.pool_slots.specs.declared.slot_name.SlotName.{SlotName};
-ghost use Rattle.pool_slots.specs.PlansMade.{HaveShards, shards_from, shards_planned, cells_from, queues_from, heaps_from, places_planned, allocator_planned, IsPlanOf, FollowOneAnother};
+ghost use Rattle.pool_slots.specs.PlansMade.{HaveShards, shards_from, shards_planned, cells_from, queues_from, heaps_from, places_planned, allocator_planned, IsPlanOf, IsPlanWith, FollowOneAnother};
 
 use crate::plan::{Allocator, Plan};
 use crate::slot_name::OfKinds;
@@ -37,17 +37,22 @@ pub fn make_plan(alloc: Global, settings: &PlanSettings) -> Result<Plan, AllocEr
     if settings.places() > u32::MAX as u64 {
         return Err(AllocError);
     }
-    lay_out(alloc, settings)
+    let memories = one_allocator(alloc, settings.allocator(SlotKind::Memory))?;
+    lay_out(alloc, settings, memories)
 }
 
-// The plan where its places are numbers of 32 bits.
-fn lay_out(alloc: Global, settings: &PlanSettings) -> Result<Plan, AllocError>
+// The plan with these allocators of memories, where its places are numbers of 32 bits.
+pub(crate) fn lay_out(
+    alloc: Global,
+    settings: &PlanSettings,
+    memories: PlainList<Allocator>,
+) -> Result<Plan, AllocError>
     requires { places_planned settings.now < 2 ^ 32 }
-    ensures plan { IfOk result (IsPlanOf settings.now) }
+    ensures plan { IfOk result (IsPlanWith settings.now memories) }
 {
     let cells = settings.cells();
     Ok(Plan {
-        memories: one_allocator(alloc, settings.allocator(SlotKind::Memory))?,
+        memories,
         tables: one_allocator(alloc, settings.allocator(SlotKind::Table))?,
         stacks: one_allocator(alloc, settings.allocator(SlotKind::Stack))?,
         heaps: one_allocator(alloc, settings.allocator(SlotKind::Heap))?,

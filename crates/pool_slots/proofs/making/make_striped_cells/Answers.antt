@@ -5,7 +5,7 @@ use Rattle.pool_pages.specs.MakerTold.{MakerTold, Planned, fails_making, made_re
 use Rattle.pool_pages.specs.declared.pages.RegionName.TheVariants.{Memory}
 use Rattle.pool_images.specs.Slots.{coloured}
 use Rattle.pool_slots.specs.Cells.{unmapped}
-use Rattle.pool_slots.specs.Colourings.{IsUncoloured, RaisesUnlessUncoloured, RaisesBehindUnlessUncoloured, SomeUncoloured, fails_region, fails_some_region, stripe_colour}
+use Rattle.pool_slots.specs.Colourings.{IsUncoloured, RaisesUnlessGivenUp, RaisesBehindUnlessGivenUp, SomeUncoloured, fails_region, fails_some_region, stripe_colour}
 use Rattle.pool_slots.specs.RegionCells.{CellState, memory_cell}
 use Rattle.pool_slots.specs.Makings.{AreMadeInStripes, IsListedPoolFault}
 use Rattle.pool_slots.proofs.Plans.{NoneOf, none_of, behind_of, faults_of, none_more, mapped_told, both_told, any_told, made_more, listed_of, same_maker}
@@ -25,7 +25,7 @@ returns-in-Err-clause-faults g c =
     let first : MakerTold = g.M.PageMaker.told c.args.maker.now in
     let new : ℕ = (g.M.PageMaker.told c.make_region.new.maker).faults in
     let U : Option ℕ → Type 0 = λ o. IsUncoloured o c.args.len.bytes slot first in
-    let F : Option ℕ → MakerTold → Type 0 = λ o m. RaisesUnlessUncoloured (IsUncoloured o c.args.len.bytes slot m) m.faults new c.in-Err.refusal in
+    let F : Option ℕ → MakerTold → Type 0 = λ o m. RaisesUnlessGivenUp (IsUncoloured o c.args.len.bytes slot m) m.faults new c.in-Err.refusal in
     let told : F (stripe_colour c.args.num_stripes slot) first = subst (λ o. F o first) c.stripe_colour-colour.ensures (subst (F c.stripe_colour-colour.result) c.loop-slot.invariant.maker c.in-Err.ensures.faults) in
     faults_of (U (stripe_colour c.args.num_stripes slot)) (SomeUncoloured c.args.num_stripes c.args.len.bytes c.args.total first) first.faults new c.in-Err.refusal (λ u. (slot, c.loop-slot-test.true, u)) told
 
@@ -35,9 +35,9 @@ returns-in-Err-clause-behind g c =
     let first : MakerTold = g.M.PageMaker.told c.args.maker.now in
     let new : ℕ = (g.M.PageMaker.told c.make_region.new.maker).behind in
     let U : Option ℕ → Type 0 = λ o. IsUncoloured o c.args.len.bytes slot first in
-    let F : Option ℕ → MakerTold → Type 0 = λ o m. RaisesBehindUnlessUncoloured (IsUncoloured o c.args.len.bytes slot m) (fails_making (Memory slot) m.listed) m.behind new c.in-Err.refusal in
+    let F : Option ℕ → MakerTold → Type 0 = λ o m. RaisesBehindUnlessGivenUp (IsUncoloured o c.args.len.bytes slot m) (fails_making (Memory slot) m.listed) m.behind new c.in-Err.refusal in
     let told : F (stripe_colour c.args.num_stripes slot) first = subst (λ o. F o first) c.stripe_colour-colour.ensures (subst (F c.stripe_colour-colour.result) c.loop-slot.invariant.maker c.in-Err.ensures.behind) in
-    behind_of (U (stripe_colour c.args.num_stripes slot)) (SomeUncoloured c.args.num_stripes c.args.len.bytes c.args.total first) first.listed c.args.total slot first.behind new c.in-Err.refusal c.loop-slot-test.true (λ u. (slot, c.loop-slot-test.true, u)) told
+    behind_of (U (stripe_colour c.args.num_stripes slot)) (SomeUncoloured c.args.num_stripes c.args.len.bytes c.args.total first) (λ i. fails_making (Memory i) first.listed) c.args.total slot first.behind new c.in-Err.refusal c.loop-slot-test.true (λ u. (slot, c.loop-slot-test.true, u)) told
 
 pub returns-in_default-push-clause-planned : goal.returns-in_default-push-clause-planned
 returns-in_default-push-clause-planned g c = any_told _ (g.M.PageMaker.told c.args.maker.now).plan (λ plan. tt)

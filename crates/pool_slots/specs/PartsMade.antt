@@ -1,0 +1,154 @@
+-- The parts of a pool as they are made: each has at its place what the plan says that the place is for.
+use Rattle.std.specs.Prelude.{◌≡◌, ℕ, ◌+◌, ◌-◌, ◌<◌, ◌≤◌, ◌^◌, ◌||◌, List, [], ◌∷◌, ◌++◌, length, map, Bool, true, nat_lt, if◌then◌else◌, IfSome}
+use Rattle.std.specs.List.{list_any, range_with_len}
+use Rattle.pool_hall.specs.declared.unit_name.SlotKind.{SlotKind}
+use Rattle.pool_hall.specs.declared.unit_name.SlotKind.TheVariants as of_slot
+use Rattle.pool_index.specs.Layout.{budget_of}
+use Rattle.pool_index.specs.Shard.{ShardState, NumbersFit, fresh_shard}
+use Rattle.pool_pages.specs.Count.{Count}
+use Rattle.pool_pages.specs.MakerTold.{MakerTold, Planned, calls_of, fails_making, made_region, plan_for}
+use Rattle.pool_pages.specs.Told.{Told, hiding, succeeded}
+use Rattle.pool_pages.specs.declared.pages.DecommitBehavior.{DecommitBehavior}
+use Rattle.pool_pages.specs.declared.pages.RegionName.{RegionName}
+use Rattle.pool_pages.specs.declared.pages.RegionName.TheVariants as of_region
+use Rattle.pool_slots.specs.Cells.{unmapped}
+use Rattle.pool_slots.specs.Colourings.{coloured_region, stripe_colour, fails_first_call, fails_region, IsUncoloured}
+use Rattle.pool_slots.specs.Parts.{part_at}
+use Rattle.pool_slots.specs.Plans.{Role, shard_role, cell_role, queue_role, heaps_role, no_role, role_at, number_at, slots_at}
+use Rattle.pool_slots.specs.RegionCells.{cell_made, memory_cell}
+use Rattle.pool_slots.specs.SlotQueues.{empty_queue}
+use Rattle.pool_slots.specs.declared.queued_range.QueueKind.{QueueKind}
+use Rattle.pool_slots.specs.declared.queued_range.QueueKind.TheVariants as of_queue
+use Rattle.pool_slots.specs.declared.slot_name.OfKinds.{OfKinds}
+use Rattle.pool_slots.specs.declared.plan.Allocator.{Allocator}
+use Rattle.pool_slots.specs.declared.plan.Plan.{Plan}
+use Rattle.pool_slots.specs.declared.part.PoolPart.{PoolPart}
+use Rattle.pool_slots.specs.declared.part.PoolPart.TheVariants.{Shard, Memory, Table, Stack, Queue as queue_part}
+use Rattle.pool_slots.specs.declared.part_maker.PartSettings.{PartSettings}
+use Rattle.pool_slots.specs.declared.striped_plan.StripedPlanSettings.{StripedPlanSettings}
+
+-- only memories are kept warm
+abbrev pub warm_for : SlotKind → ℕ → ℕ
+warm_for of_slot.Memory warm = warm
+warm_for of_slot.Table warm = 0
+warm_for of_slot.Stack warm = 0
+warm_for of_slot.Heap warm = 0
+
+-- Shard j of an allocator: it has the next slots, all cold, and its share of the allocator's warm slots.
+abbrev pub shard_made : ℕ → Allocator → ℕ → ShardState
+shard_made warm a j = fresh_shard a.kind (number_at a j 0) a.step (slots_at a j) (budget_of (warm_for a.kind warm) a.shards j)
+
+-- the numbers of its slots are numbers of 32 bits, and so is how many they are
+pub record HasNumbers (a : Allocator) (j : ℕ) : Type 0 where
+  pub first : number_at a j 0 < 2 ^ 32
+  pub fit : NumbersFit (number_at a j 0) a.step (slots_at a j)
+  pub few : slots_at a j < 2 ^ 32
+
+abbrev pub HaveNumbers : Allocator → Type 0
+HaveNumbers a = (j : ℕ) → j < a.shards → HasNumbers a j
+
+-- The slots that have a region, in the order in which those are made: memories, then tables, then stacks. How many they
+-- are, and which is the one after n others.
+abbrev pub region_count : OfKinds → ℕ
+region_count totals = totals.memory + totals.table + totals.stack
+
+abbrev pub nth_region : OfKinds → ℕ → QueueKind × ℕ
+nth_region totals n =
+    if nat_lt n totals.memory
+    then (of_queue.Memory, n)
+    else (if nat_lt n (totals.memory + totals.table) then (of_queue.Table, n - totals.memory) else (of_queue.Stack, n - (totals.memory + totals.table)))
+
+abbrev pub region_name : QueueKind → ℕ → RegionName
+region_name of_queue.Memory i = of_region.Memory i
+region_name of_queue.Table i = of_region.Table i
+region_name of_queue.Stack i = of_region.Stack i
+
+-- The region of a table as it is made: all of it can be reached. So it is with a stack's, of which the first page is hidden
+-- then: its guard.
+abbrev pub table_region : MakerTold → DecommitBehavior → Count → ℕ → Told
+table_region maker behaviour len i = made_region (of_region.Table i) behaviour len len maker
+
+abbrev pub stack_region : MakerTold → DecommitBehavior → Count → ℕ → Told
+stack_region maker behaviour len i = succeeded (hiding 0 len.page) (made_region (of_region.Stack i) behaviour len len maker)
+
+-- the region of a slot of a pool in so many stripes; a memory's is in the colour of its stripe, where there are two or more
+abbrev pub slot_region : ℕ → MakerTold → PartSettings → QueueKind → ℕ → Told
+slot_region num_stripes maker s of_queue.Memory i = coloured_region num_stripes maker s.behaviour s.memory_len i
+slot_region num_stripes maker s of_queue.Table i = table_region maker s.behaviour s.table_len i
+slot_region num_stripes maker s of_queue.Stack i = stack_region maker s.behaviour s.stack_len i
+
+-- The making of a stack's region is listed as one that fails, or the hiding of its guard, which is the first call on it. That
+-- failed on a region that was made; where it tells which calls fail, this is one.
+abbrev pub fails_guard : ℕ → ℕ → List Planned → Bool
+fails_guard page i plan = fails_making (of_region.Stack i) plan || fails_first_call page (calls_of (of_region.Stack i) plan)
+
+abbrev pub IsUnguarded : ℕ → ℕ → MakerTold → Type 0
+IsUnguarded page i maker = IfSome (plan_for (of_region.Stack i) maker) (λ calls. fails_first_call page calls ≡ true)
+
+-- the making of a slot's region is listed as one that fails, or the first call on it
+abbrev pub fails_slot : ℕ → PartSettings → QueueKind → ℕ → List Planned → Bool
+fails_slot num_stripes s of_queue.Memory i plan = fails_region (stripe_colour num_stripes i) s.memory_len.bytes i plan
+fails_slot num_stripes s of_queue.Table i plan = fails_making (of_region.Table i) plan
+fails_slot num_stripes s of_queue.Stack i plan = fails_guard s.stack_len.page i plan
+
+-- the region was made and given up, as the first call on it failed
+abbrev pub IsGivenUp : ℕ → PartSettings → QueueKind → ℕ → MakerTold → Type 0
+IsGivenUp num_stripes s of_queue.Memory i maker = IsUncoloured (stripe_colour num_stripes i) s.memory_len.bytes i maker
+IsGivenUp num_stripes s of_queue.Table i maker = ⊥
+IsGivenUp num_stripes s of_queue.Stack i maker = IsUnguarded s.stack_len.page i maker
+
+-- so it is with some slot of a pool
+abbrev pub lists_some_making : OfKinds → List Planned → Bool
+lists_some_making totals plan = list_any (λ n. fails_making (region_name (nth_region totals n).0 (nth_region totals n).1) plan) (range_with_len 0 (region_count totals))
+
+abbrev pub fails_some_slot : StripedPlanSettings → PartSettings → List Planned → Bool
+fails_some_slot z s plan = list_any (λ n. fails_slot z.num_stripes s (nth_region z.totals n).0 (nth_region z.totals n).1 plan) (range_with_len 0 (region_count z.totals))
+
+abbrev pub SomeGivenUp : StripedPlanSettings → PartSettings → MakerTold → Type 0
+SomeGivenUp z s maker = (n : ℕ) × (n < region_count z.totals) × IsGivenUp z.num_stripes s (nth_region z.totals n).0 (nth_region z.totals n).1 maker
+
+-- a stack's region has room for its guard page
+abbrev pub HaveGuards : StripedPlanSettings → PartSettings → Type 0
+HaveGuards z s = 0 < z.totals.stack → s.stack_len.page ≤ s.stack_len.bytes
+
+module _ {P : Type 0} where
+  abbrev pub shard_part : ℕ → Allocator → ℕ → PoolPart P
+  shard_part warm a j = Shard (shard_made warm a j)
+
+  -- the shards of these allocators, one after the other
+  abbrev pub shard_parts : ℕ → List Allocator → List (PoolPart P)
+  shard_parts warm [] = []
+  shard_parts warm (a ∷ as') = map (shard_part warm a) (range_with_len 0 a.shards) ++ shard_parts warm as'
+
+  -- an empty queue
+  abbrev pub queue_made : ℕ → ℕ → PoolPart P
+  queue_made room i = queue_part (empty_queue room room)
+
+  -- the cell of a slot with its region
+  abbrev pub cell_part : QueueKind → ℕ → Told → PoolPart P
+  cell_part of_queue.Memory slot region = Memory (memory_cell slot (unmapped region))
+  cell_part of_queue.Table slot region = Table (cell_made (record { kind = of_slot.Table; slot = slot }) (unmapped region))
+  cell_part of_queue.Stack slot region = Stack (cell_made (record { kind = of_slot.Stack; slot = slot }) (unmapped region))
+
+  abbrev pub cell_part_made : ℕ → MakerTold → PartSettings → QueueKind → ℕ → PoolPart P
+  cell_part_made num_stripes maker s kind slot = cell_part kind slot (slot_region num_stripes maker s kind slot)
+
+  -- heaps have no cells
+  abbrev pub IsCellMade : ℕ → MakerTold → PartSettings → SlotKind → ℕ → PoolPart P → Type 0
+  IsCellMade num_stripes maker s of_slot.Memory slot x = x ≡ cell_part_made num_stripes maker s of_queue.Memory slot
+  IsCellMade num_stripes maker s of_slot.Table slot x = x ≡ cell_part_made num_stripes maker s of_queue.Table slot
+  IsCellMade num_stripes maker s of_slot.Stack slot x = x ≡ cell_part_made num_stripes maker s of_queue.Stack slot
+  IsCellMade num_stripes maker s of_slot.Heap slot x = ⊥
+
+  -- What is at a place of this role, in a pool of so many stripes. The list of heaps is no such part.
+  abbrev pub IsMadeAs : ℕ → MakerTold → PartSettings → Role → PoolPart P → Type 0
+  IsMadeAs num_stripes maker s (shard_role a j) x = HasNumbers a j × (x ≡ shard_part s.max_unused_warm_slots a j)
+  IsMadeAs num_stripes maker s (cell_role name) x = IsCellMade num_stripes maker s name.kind name.slot x
+  IsMadeAs num_stripes maker s queue_role x = x ≡ queue_made s.queue_room 0
+  IsMadeAs num_stripes maker s heaps_role x = ⊥
+  IsMadeAs num_stripes maker s no_role x = ⊥
+
+  -- the parts up to a place are as they are made, and there are no others
+  pub record AreMadeTo (plan : Plan) (num_stripes : ℕ) (maker : MakerTold) (s : PartSettings) (places : ℕ) (parts : List (PoolPart P)) : Type 0 where
+    pub count : length parts ≡ places
+    pub each : (place : ℕ) → place < places → IsMadeAs num_stripes maker s (role_at plan place) (part_at place parts)
