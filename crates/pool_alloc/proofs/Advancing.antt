@@ -1,5 +1,5 @@
 -- A step that the code makes, as a row of the table.
-use Rattle.std.proofs.Common.{◌≡◌, true, false, List, length, sym, ap, subst, ◌∙◌, Option, Some, None, Ok}
+use Rattle.std.proofs.Common.{◌≡◌, true, false, List, length, sym, ap, subst, ◌∙◌, Option, Some, None, Ok, refl}
 use Rattle.std.specs.Prelude.{IfSome, slice_get}
 use Rattle.pool_memory.specs.Linear.{no_slot as no_image_slot}
 use Rattle.pool_slots.specs.SlotQueues.{empty_queue}
@@ -44,7 +44,7 @@ module _ {P : Type 0} where
 
   -- nothing need pass where there is no limiter
   passes_at : (g : StepGiven) (next : Phase P) (f : Frame P) → LimiterHears (λ passed. Unit {0}) g next f
-  passes_at g (MakeMemory slot held) f = told_of_none (slice_get (memories_wanted f.asked) (length f.objects.items))
+  passes_at g (MakeMemory slot held) f = told_of_none (slice_get (memories_wanted f.asked) (length f.objects.memories.items))
   passes_at g next f = tt
 
   pub without_limiter : {old new : LimiterTold} (c : PoolCore P) (f : Frame P) (a : After P) → StepsTo old new c f a → StepsAsking (λ passed. Unit {0}) old new c f a
@@ -52,4 +52,4 @@ module _ {P : Type 0} where
 
   -- nothing is changed where no call is under way
   pub idle_row : (g : StepGiven) (c : PoolCore P) (f : Frame P) (left : Phase P) → left ≡ Idle → ◌≡◌ {A = After P} (record { core = c; frame = record f { phase = left }; outcome = None }) (stepped (row_of g Idle c (record f { phase = left })))
-  idle_row g c f left gone = ap (λ (p : Phase P). record { core = c; frame = record f { phase = p }; outcome = None }) gone
+  idle_row g c f left gone = refl

@@ -1,10 +1,11 @@
 -- The rows of a request until it has a slot.
-use Rattle.pool_hall.specs.declared.unit_name.SlotKind.TheVariants.{Memory as memory_kind}
+use Rattle.pool_slots.specs.declared.plan.Allocator.{Allocator}
+use Rattle.pool_slots.specs.declared.slot_name.SlotName.{SlotName}
 use Rattle.pool_hall.specs.declared.unit_name.SlotKind.{SlotKind}
 use Rattle.pool_hall.specs.Unit.{pick_unit}
-use Rattle.pool_alloc.proofs.PlanPlaces.{IsShardPlace, IsQueuePlace, apart_places, tried_is_shard, tried_is_queue, stripe_most}
+use Rattle.pool_alloc.proofs.PlanPlaces.{IsShardPlace, IsQueuePlace, apart_places, tried_role, tried_is_shard, tried_is_queue, stripe_most}
 use Rattle.std.proofs.Common.{◌≡◌, ℕ, ◌+◌, ◌<◌, ◌≤◌, Bool, true, false, List, [], length, refl, sym, ap, subst, inl, arith, Option, Some, None}
-use Rattle.std.specs.Prelude.{◌==◌, nat_lt, IfSome}
+use Rattle.std.specs.Prelude.{◌==◌, ◌%◌, nat_lt, IfSome}
 use Rattle.std.proofs.lemmas.Bool.{ltb-true, ltb-false}
 use Rattle.std.proofs.lemmas.List.Elements.{All-nil}
 use Rattle.std.proofs.Math.Nat.{mod-lt}
@@ -23,13 +24,14 @@ use Rattle.pool_slots.specs.SlotQueues.{Queue, after_take, taken_into}
 use Rattle.pool_slots.specs.declared.errors.AllocError.{AllocError}
 use Rattle.pool_slots.specs.declared.errors.AllocError.TheVariants as refusal
 use Rattle.pool_slots.proofs.SlotRuns.{no_slots}
-use Rattle.pool_alloc.specs.Bounds.{PoolSizes, give_back_bound, sizes_of, flush_left, memories_left}
+use Rattle.pool_alloc.specs.Bounds.{PoolSizes, give_back_bound, sizes_of, flush_left, objects_left}
 use Rattle.pool_alloc.specs.Leases.{Lease}
 use Rattle.pool_alloc.specs.Places.{right_to, queued_count, leased_count, freed_count, Thing, slot_count}
 use Rattle.pool_alloc.specs.Refusals.{memories_refused}
 use Rattle.pool_alloc.specs.Rows.{key_row, refused_at_once, reserved, validated, validate_row, counted, count_instance_row, picked, pick_on, in_shard, take_queue_on, in_queue}
 use Rattle.pool_alloc.specs.Searches.{AreFull, AreEmpty, IsSearchedBy}
-use Rattle.pool_alloc.specs.Sound.{IsCore, IsShared, IsLeaseOf, IsToGrant, AreBegun}
+use Rattle.pool_alloc.specs.Objects.{objects_in}
+use Rattle.pool_alloc.specs.Sound.{IsCore, IsSlotName, IsShared, IsLeaseOf, IsToGrant, AreBegun}
 use Rattle.pool_alloc.specs.Stages.{uncounted, asks, stage_by, IsUntested, Goes}
 use Rattle.pool_alloc.specs.Steps.{memories_wanted, images_wanted, wanted, shard_at, queue_at, with_shard, with_queue, counting_instances, shard_tried, queue_tried, memory_slots, allocator_for}
 use Rattle.pool_alloc.specs.Turns.{goes, next, flush, Row, failing, no_slot_left, memory_search}
@@ -44,21 +46,24 @@ use Rattle.pool_alloc.proofs.Searching.{tried_full, still_full, taken_empty, was
 use Rattle.pool_alloc.proofs.SlotCounts.{picked_count, pick_counts}
 use Rattle.pool_alloc.proofs.Supporting.{supported}
 use Rattle.pool_alloc.proofs.Telling.{told_weaker}
-use Rattle.pool_alloc.proofs.Ways.{Can, aims_grant, same_times, first_memory, next_round, next_queue, kept_part, same_way, fails_way}
-use Rattle.pool_alloc.proofs.PoolParts.{sound_shard, sound_queue, shard_part, queue_part, slot_of_shard, of_memories}
+use Rattle.pool_alloc.proofs.Ways.{Can, aims_grant, same_times, first_object, next_round, next_queue, kept_part, same_way, fails_way}
+use Rattle.pool_alloc.proofs.PoolParts.{planned_shard, sound_shard, sound_queue, shard_part, queue_part, slot_of_shard}
 use Rattle.pool_slots.specs.declared.part.PoolPart.TheVariants as part
 
--- how much the slot weighs that a pick answered, as that of a memory; and what the pick has in hand
-abbrev picked_slot : Thing → ShardState → Option (SlotId × ℕ) → ℕ
-picked_slot t s (Some p) = slot_count t (slot_number s p.0.0)
-picked_slot t s None = 0
+-- the slot of an allocator that a pick answered, how much it weighs, and what the pick has in hand
+abbrev picked_name : Allocator → ShardState → ℕ → SlotName
+picked_name a s k = record { kind = a.kind; slot = slot_number s k }
 
-abbrev picked_hand : ShardState → Option (SlotId × ℕ) → Hand
-picked_hand shard o = record { things = λ t. picked_slot t shard o; instances = 1; memories = 0 }
+abbrev picked_slot : Thing → Allocator → ShardState → Option (SlotId × ℕ) → ℕ
+picked_slot t a s (Some p) = slot_count t (picked_name a s p.0.0)
+picked_slot t a s None = 0
 
-picked_as : (t : Thing) (s : ShardState) (o : Option (SlotId × ℕ)) → s.kind ≡ memory_kind → picked_count t s o ≡ picked_slot t s o
-picked_as t s None kind = refl
-picked_as t s (Some p) kind = ap (λ (k : SlotKind). t (pick_unit k (slot_number s p.0.0))) kind
+abbrev picked_hand : Allocator → ShardState → Option (SlotId × ℕ) → Hand
+picked_hand a shard o = record { things = λ t. picked_slot t a shard o; instances = 1; memories = 0 }
+
+picked_as : (t : Thing) (a : Allocator) (s : ShardState) (o : Option (SlotId × ℕ)) → s.kind ≡ a.kind → picked_count t s o ≡ picked_slot t a s o
+picked_as t a s None kind = refl
+picked_as t a s (Some p) kind = ap (λ (k : SlotKind). t (pick_unit k (slot_number s p.0.0))) kind
 
 module _ {P : Type 0} (maker : MakerTold) (old new : LimiterTold) where
   abbrev Shows : Phase P → PoolCore P → Frame P → Row (PoolCore P) P → Type 0
@@ -99,13 +104,13 @@ module _ {P : Type 0} (maker : MakerTold) (old new : LimiterTold) where
   reserved_ready false c f can is =
       let rest = can.frame.shape.0 in
       let asking = can.frame.shape.1 in
-      let none : f.objects.items ≡ [] = rest.no_objects in
-      let has : Frame P = record f { phase = Idle; objects = record { items = []; room = length (memories_wanted f.asked) } } in
+      let none : f.objects.memories.items ≡ [] = rest.no_memories in
+      let has : Frame P = record f { phase = Idle; objects = record { memories = record { items = []; room = length (memories_wanted f.asked) } } } in
       record {
         kept = kept_part maker old new c (in_phase Validate f) c has can.core
             (record { stripe = can.frame.stripe; queue = can.frame.queue; freed_room = can.frame.freed_room; freed_each = can.frame.freed_each; objects = All-nil (IsLeaseOf maker c.settings c.plan) })
             refl refl refl refl;
-        shape = (refl, (record { settled = rest.settled; no_objects = refl }, asking, supported c.settings (memories_wanted f.asked) (images_wanted f.asked) can.core.settings.memories can.frame.shape.2 is, refl));
+        shape = (refl, (record { settled = rest.settled; no_memories = refl }, asking, supported c.settings (memories_wanted f.asked) (images_wanted f.asked) can.core.settings.memories can.frame.shape.2 is, refl));
         even = record { places = λ t. omega (arith, ap (leased_count t) none); instances = omega arith; memories = omega (arith, ap (length {A = Lease}) none) };
         fewer = omega arith;
         way = is;
@@ -124,9 +129,9 @@ module _ {P : Type 0} (maker : MakerTold) (old new : LimiterTold) where
   counted_ready true c f can is =
       let rest = can.frame.shape.0 in
       let asking = can.frame.shape.1 in
-      let none : f.objects.items ≡ [] = rest.no_objects in
+      let none : f.objects.memories.items ≡ [] = rest.no_memories in
       let now : PoolCore P = counting_instances (c.counters.core_instances + 1) c in
-      let B : List Lease → Type 0 = λ ls. AreBegun c.settings f.asked ls in
+      let B : List Lease → Type 0 = λ ls. AreBegun {P = P} c.settings f.asked (record f.objects { memories = record f.objects.memories { items = ls } }) in
       let to_grant : IsToGrant c.settings c.plan f.asked f.queues f.objects = record {
         supported = can.frame.shape.2;
         images = asking.images;
@@ -136,23 +141,23 @@ module _ {P : Type 0} (maker : MakerTold) (old new : LimiterTold) where
         taken = omega (arith, asking.none_taken);
       } in
       let S : Ending → Type 0 = λ x. IsSearchedBy x (AreEmpty f.queues now (in_phase Idle f)) in
-      let W : Ending → Type 0 = λ x. Goes maker old new c (in_phase CountInstance f) (asks uncounted) (stage_by x (length f.objects.items)) None in
+      let W : Ending → Type 0 = λ x. Goes maker old new c (in_phase CountInstance f) (asks uncounted) (stage_by x (objects_in f.objects)) None in
       record {
         kept = record { core = core_with_counters maker (record c.counters { core_instances = c.counters.core_instances + 1 }) c can.core; held = held_of maker c.settings c.plan (in_phase CountInstance f) can.frame; asked = refl; settings = refl; plan = refl; instances_by_one = omega arith; memories_by_one = omega arith };
         shape = (rest.settled, aims_grant c.settings c.plan f.ending f.asked f.queues f.objects asking.ending to_grant);
         even = record { places = λ t. omega arith; instances = omega arith; memories = omega arith };
-        fewer = first_memory (sizes_of c.plan) f.ending f.queues f.asked f.objects asking.ending asking.none_taken none;
+        fewer = first_object (sizes_of c.plan) f.ending f.queues f.asked f.objects asking.ending asking.none_taken (ap (length {A = Lease}) none);
         way = subst W (sym asking.ending) (ap (length {A = Lease}) none, ltb-true _ _ is);
         searched = λ s. subst S (sym asking.ending) (λ j below. absurd (omega (arith, below, asking.none_taken)));
       }
   counted_ready false c f can is =
       let rest = can.frame.shape.0 in
-      let none : f.objects.items ≡ [] = rest.no_objects in
+      let none : f.objects.memories.items ≡ [] = rest.no_memories in
       record {
         kept = record { core = core_with_counters maker (record c.counters { core_instances = c.counters.core_instances + 1 }) c can.core; held = held_of maker c.settings c.plan (in_phase CountInstance f) can.frame; asked = refl; settings = refl; plan = refl; instances_by_one = omega arith; memories_by_one = omega arith };
         shape = (rest.settled, tt);
         even = record { places = λ t. omega arith; instances = omega arith; memories = omega arith };
-        fewer = omega (arith, same_times (length f.objects.items) 0 (give_back_bound (sizes_of c.plan)) (ap (length {A = Lease}) none));
+        fewer = omega (arith, same_times (objects_in f.objects) 0 (give_back_bound (sizes_of c.plan)) (ap (length {A = Lease}) none));
         way = (refl, ltb-false _ _ is);
         searched = λ s. tt;
       }
@@ -166,8 +171,8 @@ module _ {P : Type 0} (maker : MakerTold) (old new : LimiterTold) where
       let e : Frame P = in_phase (Pick tried) f in
       Can maker (Pick tried) c f →
       IsCore maker d →
-      IfSome o (λ p. slot_number shard p.0.0 < memory_slots c.plan) →
-      Even maker old new c e (picked_hand shard o) d (in_phase Idle f) →
+      IfSome o (λ p. IsSlotName c.plan (picked_name (allocator_for c.plan f) shard p.0.0)) →
+      Even maker old new c e (picked_hand (allocator_for c.plan f) shard o) d (in_phase Idle f) →
       (o ≡ None → AreFull tried c f → AreFull (tried + 1) c f × AreFull (tried + 1) d f) →
       Ready maker old new c e d (in_phase Idle f) (picked c.plan o shard tried (in_phase Idle f)))
   picked_ready tried (Some p) shard next_shard c f can core inside even full = record {
@@ -175,7 +180,7 @@ module _ {P : Type 0} (maker : MakerTold) (old new : LimiterTold) where
     shape = (refl, (can.frame.shape.0, can.frame.shape.1, inside));
     even = even;
     fewer = omega (arith, can.frame.shape.2, stripe_most c.plan f.stripe can.frame.stripe);
-    way = same_way maker old new c (in_phase (Pick tried) f) f.ending (length f.objects.items);
+    way = same_way maker old new c (in_phase (Pick tried) f) f.ending (objects_in f.objects);
     searched = λ s. tt;
   }
   picked_ready tried None shard next_shard c f can core inside even full =
@@ -186,7 +191,7 @@ module _ {P : Type 0} (maker : MakerTold) (old new : LimiterTold) where
       let tried_place = tried_is_shard tried c.plan (length c.parts) f can.core.plan can.frame.stripe in
       let empty = still_empty f.queues (shard_tried tried c.plan f) (part.Shard next_shard) c f can.core.plan (λ q queue e. apart_places c.plan (shard_tried tried c.plan f) q tried_place queue (sym e)) in
       let kept = kept_part maker old new c e d (in_phase Idle f) core (held_of maker c.settings c.plan e can.frame) refl refl refl refl in
-      let stays = same_way maker old new c e f.ending (length f.objects.items) in
+      let stays = same_way maker old new c e f.ending (objects_in f.objects) in
       either_ready maker old new c e d (in_phase Idle f) (nat_lt (tried + 1) (allocator_for c.plan f).shards) (goes (Pick (tried + 1))) (memory_search c.plan f)
       (λ more. record {
         kept = kept;
@@ -205,11 +210,11 @@ module _ {P : Type 0} (maker : MakerTold) (old new : LimiterTold) where
         fewer = omega (arith, can.frame.shape.2, stripe_most c.plan f.stripe can.frame.stripe);
         way = (
           stays,
-          λ gone. fails_way maker old new c e f.ending (length f.objects.items) (no_slot_left c.plan f) allocating.ending (inl (record {
+          λ gone. fails_way maker old new c e f.ending (objects_in f.objects) (no_slot_left c.plan f) allocating.ending (inl (record {
             is = refl;
             number = refl;
             allocating = can.frame.shape.1;
-            has = λ k. omega (arith, ap (queued_count (right_to k)) settled.no_slots, ap (freed_count (right_to k)) settled.none_freed);
+            has = λ name. omega (arith, ap (queued_count (right_to name)) settled.no_slots, ap (freed_count (right_to name)) settled.none_freed);
             none = λ s k number. nothing_left maker c f can.core can.frame.stripe (λ j below. s.0 j (omega (arith, below, gone))) (λ j below. (full refl s.1).0 j (omega (arith, below, round))) k number;
           })),
         );
@@ -220,12 +225,14 @@ module _ {P : Type 0} (maker : MakerTold) (old new : LimiterTold) where
   pick_ready tried c f can =
       let j : ℕ = shard_tried tried c.plan f in
       let shard : ShardState = shard_at j c in
-      let below : IsShardPlace c.plan j = tried_is_shard tried c.plan (length c.parts) f can.core.plan can.frame.stripe in
+      let a : Allocator = allocator_for c.plan f in
+      let below : IsShardPlace c.plan j = record { allocator = a; index = (f.home + tried) % a.shards; role = tried_role tried c.plan (length c.parts) f can.core.plan can.frame.stripe } in
       let sound = sound_shard maker j c can.core below in
+      let kind : shard.kind ≡ a.kind = (planned_shard maker j c can.core below).kind in
       picked_ready tried (pick_answer (wanted f) shard) shard (after_pick (wanted f) shard) c f can
       (core_with_shard maker j (after_pick (wanted f) shard) c can.core below (picked_sound (wanted f) shard sound) (picked_same (wanted f) shard))
-      (told_weaker (λ p. p.0.0 < shard.capacity) (λ p. slot_number shard p.0.0 < memory_slots c.plan) (pick_answer (wanted f) shard) (λ p within. (slot_of_shard maker j p.0.0 c can.core below within).inside) (picked_inside (wanted f) shard sound))
-      (record { places = λ t. omega (arith, kept_shard t j (after_pick (wanted f) shard) c (shard_part maker j c can.core below), away_shard t j (after_pick (wanted f) shard) c (shard_part maker j c can.core below), pick_counts t (wanted f) shard sound, picked_as t shard (pick_answer (wanted f) shard) (of_memories maker j c can.core below).kind); instances = omega arith; memories = omega arith })
+      (told_weaker (λ p. p.0.0 < shard.capacity) (λ p. IsSlotName c.plan (picked_name a shard p.0.0)) (pick_answer (wanted f) shard) (λ p within. subst (λ (k : SlotKind). IsSlotName c.plan (record { kind = k; slot = slot_number shard p.0.0 })) kind (slot_of_shard maker j p.0.0 c can.core below within).named) (picked_inside (wanted f) shard sound))
+      (record { places = λ t. omega (arith, kept_shard t j (after_pick (wanted f) shard) c (shard_part maker j c can.core below), away_shard t j (after_pick (wanted f) shard) c (shard_part maker j c can.core below), pick_counts t (wanted f) shard sound, picked_as t a shard (pick_answer (wanted f) shard) kind); instances = omega arith; memories = omega arith })
       (λ none full. let more = tried_full maker tried c f can.core can.frame.stripe none full in (more, still_full maker (tried + 1) tried c f can.core can.frame.stripe none more))
 
   -- A queue is taken.
@@ -254,7 +261,7 @@ module _ {P : Type 0} (maker : MakerTold) (old new : LimiterTold) where
       refl refl refl refl in
       let even : Even maker old new c e (hand {P = P} next) d has = record { places = λ t. omega (arith, kept_queue t i (after_take q) c (queue_part maker i c can.core below), away_queue t i (after_take q) c (queue_part maker i c can.core below), ap (queued_count t) settled.no_slots); instances = omega arith; memories = omega arith } in
       let few = flush_few z (memory_slots c.plan) has.local f.freed shared.grouped (few_in_queue maker i c e can below) in
-      let stays = same_way maker old new c e f.ending (length f.objects.items) in
+      let stays = same_way maker old new c e f.ending (objects_in f.objects) in
       either_ready maker old new c e d has (length q.slots == 0) (memory_search c.plan has) flush
       (λ none.
       let empty = empty_length q.slots none in
@@ -262,14 +269,14 @@ module _ {P : Type 0} (maker : MakerTold) (old new : LimiterTold) where
         kept = kept;
         shape = (refl, record { no_ranges = no_slots q.ranges q.slots empty shared.owners; no_slots = empty; none_freed = settled.none_freed }, record { ending = can.frame.shape.1.ending; to_grant = to_grant; more = can.frame.shape.1.more });
         even = even;
-        fewer = omega (arith, next_queue z f.queues 0 (6 + memories_left z f.asked f.objects) can.frame.shape.2 (omega arith));
+        fewer = omega (arith, next_queue z f.queues 0 (6 + objects_left z f.asked f.objects) can.frame.shape.2 (omega arith));
         way = (
           stays,
-          λ gone. fails_way maker old new c e f.ending (length f.objects.items) (no_slot_left c.plan f) can.frame.shape.1.ending (inl (record {
+          λ gone. fails_way maker old new c e f.ending (objects_in f.objects) (no_slot_left c.plan f) can.frame.shape.1.ending (inl (record {
             is = refl;
             number = refl;
             allocating = can.frame.shape.1;
-            has = λ k. omega (arith, ap (queued_count (right_to k)) settled.no_slots, ap (freed_count (right_to k)) settled.none_freed);
+            has = λ name. omega (arith, ap (queued_count (right_to name)) settled.no_slots, ap (freed_count (right_to name)) settled.none_freed);
             none = λ s k number. nothing_left maker c f can.core can.frame.stripe (λ j under. was_empty f.queues c f empty s.0 j (omega (arith, under, gone))) s.1 k number;
           })),
         );
@@ -281,7 +288,7 @@ module _ {P : Type 0} (maker : MakerTold) (old new : LimiterTold) where
         kept = kept;
         shape = aims_grant c.settings c.plan f.ending f.asked (f.queues + 1) f.objects can.frame.shape.1.ending to_grant;
         even = even;
-        fewer = omega (arith, few, next_round z f.ending (f.queues + 1) f.asked f.objects can.frame.shape.1.ending, next_queue z f.queues (flush_left z has.local f.freed) (6 + memories_left z f.asked f.objects) can.frame.shape.2 (omega (arith, few)));
+        fewer = omega (arith, few, next_round z f.ending (f.queues + 1) f.asked f.objects can.frame.shape.1.ending, next_queue z f.queues (flush_left z has.local f.freed) (6 + objects_left z f.asked f.objects) can.frame.shape.2 (omega (arith, few)));
         way = stays;
         searched = λ s. subst S (sym can.frame.shape.1.ending) (taken_empty maker f.queues (after_take q) c f can.core refl s.0);
       })

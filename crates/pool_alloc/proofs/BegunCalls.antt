@@ -43,14 +43,14 @@ module _ {P : Type 0} where
           owners = tt;
           range_room = refl;
           slot_room = refl;
-          regions = All-nil (IsQueuedOf maker c.settings.behaviour c.settings.max_memory_size);
+          regions = All-nil (IsQueuedOf maker c.settings);
           queue = record { range_room = omega arith; slot_room = omega arith; distinct = tt; each = tt };
           grouped = omega arith;
         };
         freed_room = (refl, omega arith);
         freed_each = All-nil _;
         objects = All-nil (IsLeaseOf maker c.settings c.plan);
-        shape = record { settled = record { no_ranges = refl; no_slots = refl; none_freed = refl }; no_objects = refl };
+        shape = record { settled = record { no_ranges = refl; no_slots = refl; none_freed = refl }; no_memories = refl };
       }
 
   -- how often a call brings a thing along, and how many instances and memories that are counted
@@ -68,7 +68,7 @@ module _ {P : Type 0} where
   idle_of maker s plan (call.Module m) f may = may.0
   idle_of maker s plan (call.GiveBack grant) f may = may.0
 
-  begun_back : (maker : MakerTold) (leases : List Lease) (s : Settings) (plan : Plan) (f : Frame P) → Held maker s plan f → NothingWaits f.local f.freed → is_granting f.ending ≡ false → All (IsLeaseOf maker s plan) leases → IsFrame maker s plan (returned_next leases (record f { objects = record f.objects { items = leases } })).frame
+  begun_back : (maker : MakerTold) (leases : List Lease) (s : Settings) (plan : Plan) (f : Frame P) → Held maker s plan f → NothingWaits f.local f.freed → is_granting f.ending ≡ false → All (IsLeaseOf maker s plan) leases → IsFrame maker s plan (record (returned_next leases (record f { objects = record f.objects { memories = record f.objects.memories { items = leases } } })).frame { step_count = 0 })
   begun_back maker [] s plan f held rest is of =
       record {
         stripe = held.stripe;
@@ -76,7 +76,7 @@ module _ {P : Type 0} where
         freed_room = held.freed_room;
         freed_each = held.freed_each;
         objects = of;
-        shape = (record { settled = rest; no_objects = refl }, is);
+        shape = (record { settled = rest; no_memories = refl }, is);
       }
   begun_back maker (lease ∷ leases) s plan f held rest is of =
       record {
@@ -89,9 +89,9 @@ module _ {P : Type 0} where
       }
 
   begun_at : (maker : MakerTold) (asks : Call P) (s : Settings) (plan : Plan) (f : Frame P) → Held maker s plan f → IsAtRest f → MayBegin maker s plan asks f → IsFrame maker s plan (begun_call asks f)
-  begun_at maker call.Key s plan f held rest may = frame_of maker s plan (record f { phase = Key }) held rest
+  begun_at maker call.Key s plan f held rest may = frame_of maker s plan (record f { phase = Key; step_count = 0 }) held rest
   begun_at maker (call.Module m) s plan f held rest may = frame_of maker s plan (begun_call (call.Module m) f) held (rest, record { ending = refl; none_taken = refl; asked_for = refl; images = may.2 }, may.1)
-  begun_at maker (call.GiveBack (Instance lease)) s plan f held rest may = begun_back maker lease.memories.items s plan (record f { objects = lease.memories; ending = returned }) (record { stripe = held.stripe; queue = held.queue; freed_room = held.freed_room; freed_each = held.freed_each; objects = may.1 }) rest.settled refl may.1
+  begun_at maker (call.GiveBack (Instance lease)) s plan f held rest may = begun_back maker lease.memories.items s plan (record f { objects = lease; ending = returned }) (record { stripe = held.stripe; queue = held.queue; freed_room = held.freed_room; freed_each = held.freed_each; objects = may.1 }) rest.settled refl may.1
 
   -- the frame is sound once a call began that may
   pub begun_frame : (maker : MakerTold) (asks : Call P) (s : Settings) (plan : Plan) (f : Frame P) → IsFrame maker s plan f → MayBegin maker s plan asks f → IsFrame maker s plan (begun_call asks f)
@@ -101,7 +101,7 @@ module _ {P : Type 0} where
   idle_nothing : (t : Thing) (p : Phase P) → p ≡ Idle → phase_count t p ≡ 0
   idle_nothing t p idle = rw idle refl
 
-  count_returned : (t : Thing) (leases : List Lease) (f : Frame P) → phase_count t f.phase ≡ 0 → frame_count t (returned_next leases (record f { objects = record f.objects { items = leases } })).frame + leased_count t f.objects.items ≡ frame_count t f + leased_count t leases
+  count_returned : (t : Thing) (leases : List Lease) (f : Frame P) → phase_count t f.phase ≡ 0 → frame_count t (returned_next leases (record f { objects = record f.objects { memories = record f.objects.memories { items = leases } } })).frame + leased_count t f.objects.memories.items ≡ frame_count t f + leased_count t leases
   count_returned t [] f before = omega arith
   count_returned t (lease ∷ leases) f before = omega (arith, leased_first t lease leases)
 
@@ -109,8 +109,8 @@ module _ {P : Type 0} where
   count_at t call.Key f idle rest = let before : phase_count t f.phase ≡ 0 = idle_nothing t f.phase idle in omega arith
   count_at t (call.Module m) f idle rest = let before : phase_count t f.phase ≡ 0 = idle_nothing t f.phase idle in omega arith
   count_at t (call.GiveBack (Instance lease)) f idle rest =
-      let none : leased_count t f.objects.items ≡ 0 = rw rest.no_objects refl in
-      let back : Frame P = record f { objects = lease.memories; ending = returned } in
+      let none : leased_count t f.objects.memories.items ≡ 0 = rw rest.no_memories refl in
+      let back : Frame P = record f { objects = lease; ending = returned } in
       omega (arith, none, count_returned t lease.memories.items back (idle_nothing t f.phase idle))
 
   pub begun_count : (maker : MakerTold) (t : Thing) (asks : Call P) (s : Settings) (plan : Plan) (f : Frame P) → IsFrame maker s plan f → MayBegin maker s plan asks f → frame_count t (begun_call asks f) ≡ frame_count t f + call_has (grant_count t) asks
@@ -128,9 +128,9 @@ module _ {P : Type 0} where
   begun_instances maker (call.Module m) s plan f may = let before : phase_instances f.phase ≡ 0 = idle_instances f.phase may.0 in omega arith
   begun_instances maker (call.GiveBack (Instance lease)) s plan f may =
       let before : phase_instances f.phase ≡ 0 = idle_instances f.phase may.0 in
-      omega (arith, one_returned lease.memories.items (record f { objects = lease.memories; ending = returned }))
+      omega (arith, one_returned lease.memories.items (record f { objects = lease; ending = returned }))
 
-  memories_returned : (leases : List Lease) (f : Frame P) → frame_memories (returned_next leases (record f { objects = record f.objects { items = leases } })).frame ≡ length leases
+  memories_returned : (leases : List Lease) (f : Frame P) → frame_memories (returned_next leases (record f { objects = record f.objects { memories = record f.objects.memories { items = leases } } })).frame ≡ length leases
   memories_returned [] f = refl
   memories_returned (lease ∷ leases) f = omega arith
 
@@ -142,7 +142,7 @@ module _ {P : Type 0} where
   memories_at (call.Module m) f idle rest = let before : phase_memories f.phase ≡ 0 = idle_memories f.phase idle in omega arith
   memories_at (call.GiveBack (Instance lease)) f idle rest =
       let before : phase_memories f.phase ≡ 0 = idle_memories f.phase idle in
-      omega (arith, ap length rest.no_objects, memories_returned lease.memories.items (record f { objects = lease.memories; ending = returned }))
+      omega (arith, ap length rest.no_memories, memories_returned lease.memories.items (record f { objects = lease; ending = returned }))
 
   pub begun_memories : (maker : MakerTold) (asks : Call P) (s : Settings) (plan : Plan) (f : Frame P) → IsFrame maker s plan f → MayBegin maker s plan asks f → frame_memories (begun_call asks f) ≡ frame_memories f + call_has grant_memories asks
   begun_memories maker asks s plan f frame may = let idle : IsIdle f = idle_of maker s plan asks f may in memories_at asks f idle (at_rest maker s plan f frame idle)
@@ -156,11 +156,11 @@ module _ {P : Type 0} where
   idle_left c f idle = ap (λ (p : Phase P). steps_at (sizes_of c.plan) p f) idle
 
   -- and a call begins with no more than its bound.
-  returned_bounded : (z : PoolSizes) (leases : List Lease) (f : Frame P) → steps_at z (returned_next leases (record f { objects = record f.objects { items = leases } })).frame.phase (returned_next leases (record f { objects = record f.objects { items = leases } })).frame ≤ return_bound z (length leases)
+  returned_bounded : (z : PoolSizes) (leases : List Lease) (f : Frame P) → steps_at z (returned_next leases (record f { objects = record f.objects { memories = record f.objects.memories { items = leases } } })).frame.phase (record (returned_next leases (record f { objects = record f.objects { memories = record f.objects.memories { items = leases } } })).frame { step_count = 0 }) ≤ return_bound z (length leases)
   returned_bounded z [] f = omega arith
   returned_bounded z (lease ∷ leases) f = omega (arith, one_more (length (lease ∷ leases)) (length leases) (give_back_bound z) (omega arith))
 
   pub begun_bounded : (c : PoolCore P) (asks : Call P) (f : Frame P) → steps_left c (begun_call asks f) ≤ bound_of c asks
   begun_bounded c call.Key f = omega arith
   begun_bounded c (call.Module m) f = omega arith
-  begun_bounded c (call.GiveBack (Instance lease)) f = returned_bounded (sizes_of c.plan) lease.memories.items (record f { objects = lease.memories; ending = returned })
+  begun_bounded c (call.GiveBack (Instance lease)) f = returned_bounded (sizes_of c.plan) lease.memories.items (record f { objects = lease; ending = returned })

@@ -1,22 +1,24 @@
 -- The pool's parts stay sound where one of them changes.
-use Rattle.std.proofs.Common.{◌≡◌, ℕ, ◌<◌, List, length, refl, sym, ◌∙◌, subst, inl, inr, get_or, set}
+use Rattle.std.proofs.Common.{◌≡◌, ℕ, ◌<◌, List, length, sym, ◌∙◌, subst, inl, inr, get_or, set}
 use Rattle.std.proofs.lemmas.Bool.{cases_eq}
 use Rattle.std.proofs.lemmas.List.{length-set, get_or-set_same, get_or-set_other}
 use Rattle.pool_pages.specs.MakerTold.{MakerTold}
 use Rattle.pool_index.specs.Shard.{ShardState, IsShard, IsSameShard}
 use Rattle.pool_slots.specs.RegionCells.{CellState}
 use Rattle.pool_slots.specs.SlotQueues.{Queue}
-use Rattle.pool_alloc.specs.Steps.{shard_at, cell_of, memory_slots, with_shard, with_cell, with_queue, with_part}
-use Rattle.pool_alloc.specs.Sound.{IsPoolCell, IsCore, IsPoolPlan, IsShared, IsPartAt, IsPartFor}
+use Rattle.pool_alloc.specs.Steps.{shard_at, with_shard, with_cell, with_queue, with_part, part_holding}
+use Rattle.pool_alloc.specs.Sound.{IsCore, IsPoolPlan, IsShared, IsPartAt, IsPartFor, IsSlotName, IsCellOf}
 use Rattle.pool_alloc.specs.declared.pool_core.PoolCore.{PoolCore}
 use Rattle.pool_alloc.specs.declared.pool_core.Counters.{Counters}
 use Rattle.pool_alloc.proofs.PlanPlaces.{IsShardPlace, IsQueuePlace, cell_role_at}
-use Rattle.pool_alloc.proofs.PoolParts.{planned_shard}
+use Rattle.pool_alloc.proofs.PoolParts.{planned_shard, cell_again, planned_cell}
 use Rattle.pool_slots.specs.ListUnits.{IsShardOf}
-use Rattle.pool_slots.specs.Plans.{Role}
+use Rattle.pool_slots.specs.Plans.{Role, cell_place}
 use Rattle.pool_slots.specs.declared.plan.Allocator.{Allocator}
 use Rattle.pool_slots.specs.declared.part.PoolPart.{PoolPart}
 use Rattle.pool_slots.specs.declared.part.PoolPart.TheVariants as part
+use Rattle.pool_slots.specs.declared.slot_name.SlotName.{SlotName}
+use Rattle.pool_slots.specs.Parts.{part_at}
 
 -- what holds of an element at its place, where one was replaced
 pub at_set : {X : Type 0} (Q : ℕ → X → Type 0) (xs : List X) (j k : ℕ) (x d : X) → k < length xs → Q j x → Q k (get_or xs k d) → Q k (get_or (set xs j x) k d)
@@ -51,12 +53,14 @@ module _ {P : Type 0} where
   core_with_shard maker p shard c core place sound same =
       let was = planned_shard maker p c core place in
       let F : Role → Type 0 = λ r. IsPartFor {P = P} maker c.settings r (part.Shard shard) in
-      core_with_part maker p (part.Shard shard) c core (subst F (sym place.role) (was.0, shard_kept_for place.allocator place.index (shard_at p c) shard was.1 sound same))
+      core_with_part maker p (part.Shard shard) c core (subst F (sym place.role) (shard_kept_for place.allocator place.index (shard_at p c) shard was sound same))
 
-  pub core_with_cell : (maker : MakerTold) (slot : ℕ) (cell : CellState) (c : PoolCore P) → IsCore maker c → slot < memory_slots c.plan → IsPoolCell maker c.settings.behaviour c.settings.max_memory_size slot cell → IsCore maker (with_cell slot cell c)
-  core_with_cell maker slot cell c core below holds =
-      let F : Role → Type 0 = λ r. IsPartFor {P = P} maker c.settings r (part.Memory cell) in
-      core_with_part maker (cell_of c.plan slot) (part.Memory cell) c core (subst F (sym (cell_role_at c.plan (length c.parts) slot core.plan below)) (refl, holds))
+  pub core_with_cell : (maker : MakerTold) (name : SlotName) (cell : CellState) (c : PoolCore P) → IsCore maker c → IsSlotName c.plan name → IsCellOf maker c.settings name cell → IsCore maker (with_cell name cell c)
+  core_with_cell maker name cell c core named of =
+      let p : ℕ = cell_place c.plan name in
+      let x : PoolPart P = part_holding cell (part_at p c.parts) in
+      let F : Role → Type 0 = λ r. IsPartFor {P = P} maker c.settings r x in
+      core_with_part maker p x c core (subst F (sym (cell_role_at c.plan (length c.parts) name core.plan named)) (cell_again maker c.settings name cell (part_at p c.parts) (planned_cell maker name c core named) of))
 
   pub core_with_queue : (maker : MakerTold) (p : ℕ) (queue : Queue) (c : PoolCore P) → IsCore maker c → IsQueuePlace c.plan p → IsShared maker c.settings queue → IsCore maker (with_queue p queue c)
   core_with_queue maker p queue c core place shared =

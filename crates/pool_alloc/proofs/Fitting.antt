@@ -1,6 +1,6 @@
 -- A frame that fits the pool still fits after its step, and after another's.
-use Rattle.pool_slots.specs.declared.plan.Plan.{Plan}
-use Rattle.std.proofs.Common.{ℕ, Option, Some, None, ◌≡◌, refl, arith}
+use Rattle.std.proofs.Common.{Option, Some, None, ◌≡◌, refl, arith}
+use Rattle.pool_slots.specs.declared.slot_name.SlotName.{SlotName}
 use Rattle.pool_alloc.specs.Places.{right_to, region_of}
 use Rattle.pool_alloc.specs.Sound.{FitsCore}
 use Rattle.pool_alloc.specs.Turns.{After}
@@ -14,7 +14,7 @@ use Rattle.pool_alloc.proofs.QueueCounts.{leased_regions}
 
 module _ {P : Type 0} where
   -- A grant has the region of each slot.
-  pub granted_regions : (k : ℕ) (o : Option (Outcome P)) → count_granted (grant_count (region_of k)) o ≡ count_granted (grant_count (right_to k)) o
+  pub granted_regions : (k : SlotName) (o : Option (Outcome P)) → count_granted (grant_count (region_of k)) o ≡ count_granted (grant_count (right_to k)) o
   granted_regions k None = refl
   granted_regions k (Some answer.Key) = refl
   granted_regions k (Some (answer.Granted (Instance lease))) = leased_regions k lease.memories.items

@@ -1,31 +1,31 @@
 -- What a flush does, and what each part of it leaves.
 use Rattle.pool_hall.specs.declared.unit_name.SlotKind.TheVariants.{Memory as memory_kind}
-use Rattle.pool_alloc.proofs.PoolParts.{sound_queue}
-use Rattle.pool_alloc.proofs.Stages.{memories_in}
-use Rattle.pool_alloc.proofs.Held.{none_past}
+use Rattle.pool_hall.specs.declared.unit_name.SlotKind.{SlotKind}
+use Rattle.pool_slots.specs.declared.slot_name.SlotName.{SlotName}
+use Rattle.pool_alloc.proofs.Held.{right_is_out}
 use Rattle.pool_alloc.proofs.FreedSlots.{first_of}
 use Rattle.pool_alloc.proofs.PlanPlaces.{has_home, IsQueuePlace}
 use Rattle.pool_slots.proofs.PlanSizes.{shard_below}
 use Rattle.std.specs.List.{AllByRecursion}
-use Rattle.pool_alloc.specs.Sound.{IsStripe, IsPoolPlan, IsCore, IsQueuedOf}
+use Rattle.pool_alloc.specs.Sound.{IsStripe, IsPoolPlan, IsPooled, IsSlotName, IsCore, IsFreedOf}
 use Rattle.pool_slots.specs.declared.plan.Home.{Home}
 use Rattle.pool_slots.specs.declared.plan.Allocator.{Allocator}
-use Rattle.pool_slots.specs.Plans.{have_number, has_number, home_among, home_in}
+use Rattle.pool_slots.specs.Plans.{allocators_of, have_number, has_number, home_among, home_in, home_of}
 use Rattle.std.proofs.Common.{◌≡◌, ◌≢◌, ℕ, zero, suc, ◌+◌, ◌*◌, ◌<◌, ◌≤◌, Bool, true, false, List, [], ◌∷◌, ◌++◌, length, refl, sym, ap, ◌∙◌, subst, inl, inr, arith, ◌⊎◌}
 use Rattle.std.specs.Prelude.{◌==◌, nat_lt, filter, min, sum_by, if◌then◌else◌, All}
 use Rattle.std.proofs.lemmas.Bool.{eq-eqb, ne_eqb, eqb-true, lt-ltb, cases_eq, cases_lt, cases_Bool}
-use Rattle.std.proofs.lemmas.List.Elements.{length_all_zip, All-append}
+use Rattle.std.proofs.lemmas.List.Elements.{length_all_zip, All-weaker}
 use Rattle.std.proofs.lemmas.List.Sums.{sum_by-cons, sum_by_push}
 use Rattle.pool_pages.specs.MakerTold.{MakerTold}
 use Rattle.pool_index.specs.Shard.{one_if}
 use Rattle.pool_slots.specs.SlotQueues.{Queue, Queued, after_append, after_run, first_slot, IsLeftBy}
 use Rattle.pool_slots.specs.declared.queued_range.QueuedRange.{QueuedRange}
 use Rattle.pool_alloc.specs.Answers.{Decommits}
-use Rattle.pool_alloc.specs.Bounds.{PoolSizes, sizes_of, all_shards, is_home, waiting_for, shards_waiting, all_waiting, flush_left}
-use Rattle.pool_alloc.specs.Places.{right_to, freed_count, away_count, queued_count}
+use Rattle.pool_alloc.specs.Bounds.{PoolSizes, sizes_of, all_shards, is_home, waiting_for, shards_waiting, all_waiting, flush_left, flushed_allocators}
+use Rattle.pool_alloc.specs.Places.{right_to, away_count, queued_count}
 use Rattle.pool_alloc.specs.RangeRuns.{runs, IsGrouped}
 use Rattle.pool_alloc.specs.Reserved.{Reserved}
-use Rattle.pool_alloc.specs.Steps.{queue_at, shard_of, freed_of, freed_elsewhere, first_shard, memory_slots}
+use Rattle.pool_alloc.specs.Steps.{queue_at, freed_of, freed_elsewhere, first_shard, memory_slots}
 use Rattle.pool_alloc.specs.Stepping.{CanStep}
 use Rattle.pool_alloc.specs.declared.pool_core.PoolCore.{PoolCore}
 use Rattle.pool_slots.specs.declared.plan.Plan.{Plan}
@@ -33,7 +33,7 @@ use Rattle.pool_alloc.specs.declared.frame.Frame.{Frame}
 use Rattle.pool_alloc.specs.declared.frame.FreedSlot.{FreedSlot}
 use Rattle.pool_alloc.proofs.Below.{few_queued}
 use Rattle.pool_alloc.proofs.KeptCounts.{queue_kept, out_once}
-use Rattle.pool_alloc.proofs.QueueCounts.{queued_joined, run_numbers, faulted_numbers, queued_numbers}
+use Rattle.pool_alloc.proofs.QueueCounts.{queued_joined, run_names, faulted_names}
 use Rattle.pool_alloc.proofs.Runs.{runs_fewer}
 use Rattle.pool_alloc.proofs.SlotIdentity.{length_after_run}
 
@@ -50,19 +50,19 @@ kept_more p x xs =
 
 first_has_some : (plan : Plan) (xs : List FreedSlot) → 0 < length xs → 1 ≤ length (freed_of plan (first_shard plan xs) xs)
 first_has_some plan [] some = absurd (omega arith)
-first_has_some plan (x ∷ []) some = kept_one (λ y. shard_of plan y.slot == shard_of plan x.slot) x [] (eq-eqb (shard_of plan x.slot) (shard_of plan x.slot) refl)
+first_has_some plan (x ∷ []) some = kept_one (λ y. (home_of plan y.name).place == (home_of plan x.name).place) x [] (eq-eqb (home_of plan x.name).place (home_of plan x.name).place refl)
 first_has_some plan (x ∷ y ∷ rest) some =
-    let j : ℕ = shard_of plan x.slot in
+    let j : ℕ = (home_of plan x.name).place in
     let k : ℕ = first_shard plan (y ∷ rest) in
     let Some : ℕ → Type 0 = λ n. 1 ≤ length (freed_of plan n (x ∷ y ∷ rest)) in
     elim (cases_lt k j) [
       | inl less ↦
           let least : k ≡ min j k = omega arith in
           let rest_has : 1 ≤ length (freed_of plan k (y ∷ rest)) = first_has_some plan (y ∷ rest) (omega arith) in
-          subst Some least (omega (arith, rest_has, kept_more (λ v. shard_of plan v.slot == k) x (y ∷ rest)))
+          subst Some least (omega (arith, rest_has, kept_more (λ v. (home_of plan v.name).place == k) x (y ∷ rest)))
       | inr other ↦
           let least : j ≡ min j k = omega arith in
-          subst Some least (kept_one (λ v. shard_of plan v.slot == j) x (y ∷ rest) (eq-eqb j j refl))
+          subst Some least (kept_one (λ v. (home_of plan v.name).place == j) x (y ∷ rest) (eq-eqb j j refl))
     ]
 
 -- how many shards some slots wait for, where as many wait for each, or for fewer
@@ -153,6 +153,14 @@ home_among_them (a ∷ more) slot each some =
     (λ has. (omega arith, omega (arith, shard_below a slot each.0.placed has)))
     (λ other. home_among_them more slot each.1 (no_more b (have_number more slot) other some)))
 
+-- so that of each slot of the pool is one of those that a flush frees
+flushed_at : (plan : Plan) (places : ℕ) (kind : SlotKind) (slot : ℕ) → IsPoolPlan plan places → IsPooled kind → 0 < have_number (allocators_of plan kind) slot → IsAmong (flushed_allocators plan) (home_among (allocators_of plan kind) slot).place
+flushed_at plan places memory_kind slot is pooled has = home_among_them plan.memories slot is.shards has
+flushed_at plan places kind slot is pooled has = absurd pooled
+
+flushed_home : (plan : Plan) (places : ℕ) (name : SlotName) → IsPoolPlan plan places → IsSlotName plan name → IsAmong (flushed_allocators plan) (home_of plan name).place
+flushed_home plan places name is named = flushed_at plan places name.kind name.slot is named.pooled (has_home plan places name is named)
+
 one_at_most : (b : Bool) → one_if b ≤ 1
 one_at_most true = omega arith
 one_at_most false = omega arith
@@ -183,31 +191,31 @@ passing p (x ∷ xs) =
 
 -- those of one shard are gone once they are freed, and those of others stay
 abbrev count_of : Plan → ℕ → List FreedSlot → ℕ
-count_of plan i xs = sum_by (λ x. one_if (shard_of plan x.slot == i)) xs
+count_of plan i xs = sum_by (λ x. one_if ((home_of plan x.name).place == i)) xs
 
-count_first : (plan : Plan) (i : ℕ) (x : FreedSlot) (xs : List FreedSlot) → count_of plan i (x ∷ xs) ≡ one_if (shard_of plan x.slot == i) + count_of plan i xs
-count_first plan i x xs = sum_by-cons (λ (y : FreedSlot). one_if (shard_of plan y.slot == i)) x xs
+count_first : (plan : Plan) (i : ℕ) (x : FreedSlot) (xs : List FreedSlot) → count_of plan i (x ∷ xs) ≡ one_if ((home_of plan x.name).place == i) + count_of plan i xs
+count_first plan i x xs = sum_by-cons (λ (y : FreedSlot). one_if ((home_of plan y.name).place == i)) x xs
 
 elsewhere_none : (plan : Plan) (j : ℕ) (xs : List FreedSlot) → count_of plan j (freed_elsewhere plan j xs) ≡ 0
 elsewhere_none plan j [] = refl
 elsewhere_none plan j (x ∷ xs) =
-    elim (cases_Bool (shard_of plan x.slot == j)) [
+    elim (cases_Bool ((home_of plan x.name).place == j)) [
       | inl e ↦
           let left : freed_elsewhere plan j (x ∷ xs) ≡ freed_elsewhere plan j xs = rw e refl in
           ap (count_of plan j) left ∙ elsewhere_none plan j xs
       | inr e ↦
           let left : freed_elsewhere plan j (x ∷ xs) ≡ x ∷ freed_elsewhere plan j xs = rw e refl in
-          let here : one_if (shard_of plan x.slot == j) ≡ 0 = ap one_if e in
+          let here : one_if ((home_of plan x.name).place == j) ≡ 0 = ap one_if e in
           omega (arith, ap (count_of plan j) left, count_first plan j x (freed_elsewhere plan j xs), here, elsewhere_none plan j xs)
     ]
 
 elsewhere_same : (plan : Plan) (i j : ℕ) (xs : List FreedSlot) → i ≢ j → count_of plan i (freed_elsewhere plan j xs) ≡ count_of plan i xs
 elsewhere_same plan i j [] other = refl
 elsewhere_same plan i j (x ∷ xs) other =
-    elim (cases_Bool (shard_of plan x.slot == j)) [
+    elim (cases_Bool ((home_of plan x.name).place == j)) [
       | inl e ↦
           let left : freed_elsewhere plan j (x ∷ xs) ≡ freed_elsewhere plan j xs = rw e refl in
-          let not_here : one_if (shard_of plan x.slot == i) ≡ 0 = ap one_if (ne_eqb (shard_of plan x.slot) i (λ is. other (sym is ∙ eqb-true (shard_of plan x.slot) j e))) in
+          let not_here : one_if ((home_of plan x.name).place == i) ≡ 0 = ap one_if (ne_eqb (home_of plan x.name).place i (λ is. other (sym is ∙ eqb-true (home_of plan x.name).place j e))) in
           omega (arith, ap (count_of plan i) left, count_first plan i x xs, not_here, elsewhere_same plan i j xs other)
       | inr e ↦
           let left : freed_elsewhere plan j (x ∷ xs) ≡ x ∷ freed_elsewhere plan j xs = rw e refl in
@@ -215,8 +223,8 @@ elsewhere_same plan i j (x ∷ xs) other =
     ]
 
 -- what a flush does is no more than three steps a slot and one a shard
-pub flush_few : (z : PoolSizes) (slots : ℕ) (local : Queue) (freed : Reserved FreedSlot) → IsGrouped local → length local.slots ≤ slots → flush_left z local freed ≤ 3 * slots + all_shards z.allocators
-flush_few z slots local freed grouped few = omega (arith, grouped, few, all_few z z.allocators local.slots freed.items)
+pub flush_few : (z : PoolSizes) (slots : ℕ) (local : Queue) (freed : Reserved FreedSlot) → IsGrouped local → length local.slots ≤ slots → flush_left z local freed ≤ 3 * slots + all_shards (flushed_allocators z.plan)
+flush_few z slots local freed grouped few = omega (arith, grouped, few, all_few z (flushed_allocators z.plan) local.slots freed.items)
 
 runs_some : (rs : List QueuedRange) → 0 < length rs → 1 ≤ runs rs
 runs_some [] some = absurd (omega arith)
@@ -230,7 +238,7 @@ decommit_fewer z true old new freed faulted some =
       runs_some old.ranges some,
       ap runs faulted.ranges,
       length_all_zip (IsLeftBy (first_slot old.ranges)) old.slots new.slots faulted.slots,
-      all_same z z.allocators old.slots new.slots freed.items freed.items (λ j. omega (arith, faulted_numbers (λ k. is_home z j k) old new faulted)),
+      all_same z (flushed_allocators z.plan) old.slots new.slots freed.items freed.items (λ j. omega (arith, faulted_names (λ name n. is_home z j name) old new faulted)),
     )
 decommit_fewer z false old new freed run some =
     let F : Queue → Type 0 = λ q. flush_left z q freed + 1 ≤ flush_left z old freed in
@@ -239,52 +247,45 @@ decommit_fewer z false old new freed run some =
       arith,
       runs_fewer old.ranges some,
       length_after_run old,
-      all_same z z.allocators old.slots (after_run old).slots freed.items freed.items (λ j. omega (arith, run_numbers (λ k. is_home z j k) old)),
+      all_same z (flushed_allocators z.plan) old.slots (after_run old).slots freed.items freed.items (λ j. omega (arith, run_names (λ name n. is_home z j name) old)),
     ))
 
 -- a region less is to be put back once one was, and its slot still waits
-pub put_fewer : (z : PoolSizes) (m : Queued) (rest ms : List Queued) (xs : List FreedSlot) → ms ≡ m ∷ rest → all_waiting z z.allocators rest (xs ++ record { slot = m.name.slot; bytes = m.bytes } ∷ []) ≡ all_waiting z z.allocators ms xs
+pub put_fewer : (z : PoolSizes) (m : Queued) (rest ms : List Queued) (xs : List FreedSlot) → ms ≡ m ∷ rest → all_waiting z (flushed_allocators z.plan) rest (xs ++ record { name = m.name; bytes = m.bytes } ∷ []) ≡ all_waiting z (flushed_allocators z.plan) ms xs
 put_fewer z m rest ms xs is =
-    let x : FreedSlot = record { slot = m.name.slot; bytes = m.bytes } in
-    all_same z z.allocators ms rest xs (xs ++ x ∷ [])
+    let x : FreedSlot = record { name = m.name; bytes = m.bytes } in
+    all_same z (flushed_allocators z.plan) ms rest xs (xs ++ x ∷ [])
     (λ j.
-    let of : ℕ → ℕ = λ k. is_home z j k in
-    omega (arith, ap (sum_by (λ (q : Queued). of q.name.slot)) is, sum_by-cons (λ (q : Queued). of q.name.slot) m rest, sum_by_push (λ (y : FreedSlot). of y.slot) xs x))
+    let of : SlotName → ℕ = is_home z j in
+    omega (arith, ap (sum_by (λ (q : Queued). of q.name)) is, sum_by-cons (λ (q : Queued). of q.name) m rest, sum_by_push (λ (y : FreedSlot). of y.name) xs x))
 
 -- a shard less waits once its slots are freed
-pub free_fewer : (plan : Plan) (places : ℕ) (ms : List Queued) (xs : List FreedSlot) → IsPoolPlan plan places → ((k : ℕ) → 1 ≤ freed_count (right_to k) xs → k < memory_slots plan) → ms ≡ [] → 0 < length xs
-    → all_waiting (sizes_of plan) plan.memories ms (freed_elsewhere plan (first_shard plan xs) xs) + 1 ≤ all_waiting (sizes_of plan) plan.memories ms xs
-free_fewer plan places ms xs is inside none some =
+pub free_fewer : (plan : Plan) (places : ℕ) (ms : List Queued) (xs : List FreedSlot) → IsPoolPlan plan places → All (IsFreedOf plan) xs → ms ≡ [] → 0 < length xs
+    → all_waiting (sizes_of plan) (flushed_allocators plan) ms (freed_elsewhere plan (first_shard plan xs) xs) + 1 ≤ all_waiting (sizes_of plan) (flushed_allocators plan) ms xs
+free_fewer plan places ms xs is each none some =
     let p : ℕ = first_shard plan xs in
     let z : PoolSizes = sizes_of plan in
-    let among : IsAmong plan.memories p = first_of (IsAmong plan.memories) plan xs (λ slot below. home_among_them plan.memories slot is.shards (has_home plan places slot is below)) some inside in
-    all_less z p plan.memories ms ms xs (freed_elsewhere plan p xs) among
+    let A : ℕ → Type 0 = IsAmong (flushed_allocators plan) in
+    let among : A p = first_of A plan xs some (All-weaker (IsFreedOf plan) (λ x. A (home_of plan x.name).place) (λ x of. flushed_home plan places x.name is of.named) xs each) in
+    all_less z p (flushed_allocators plan) ms ms xs (freed_elsewhere plan p xs) among
     (record {
-      some = omega (arith, passing (λ x. shard_of plan x.slot == p) xs, first_has_some plan xs some);
-      none = omega (arith, ap (sum_by (λ (m : Queued). is_home z p m.name.slot)) none, elsewhere_none plan p xs);
+      some = omega (arith, passing (λ x. (home_of plan x.name).place == p) xs, first_has_some plan xs some);
+      none = omega (arith, ap (sum_by (λ (m : Queued). is_home z p m.name)) none, elsewhere_none plan p xs);
       others = λ q other. omega (arith, elsewhere_same plan q p xs other);
     })
 
 module _ {P : Type 0} where
-  few_of : (maker : MakerTold) (c : PoolCore P) (ms : List Queued) → IsCore maker c → All (λ m. m.name.kind ≡ memory_kind) ms → ((k : ℕ) → queued_count (right_to k) ms ≤ away_count (right_to k) c) → length ms ≤ memory_slots c.plan
-  few_of maker c ms core kinds out =
-      few_queued (memory_slots c.plan) ms
-      (λ k. omega (arith, queued_numbers k ms kinds, out k, (out_once maker k c core).0))
-      (λ k past. omega (arith, queued_numbers k ms kinds, out k, none_past maker k c core past))
+  few_of : (maker : MakerTold) (c : PoolCore P) (ms : List Queued) → IsCore maker c → ((name : SlotName) → queued_count (right_to name) ms ≤ away_count (right_to name) c) → length ms ≤ memory_slots c.plan
+  few_of maker c ms core out =
+      few_queued c.plan ms
+      (λ name. omega (arith, out name, (out_once maker name c core).0))
+      (λ name some. (right_is_out maker name c core (omega (arith, some, out name))).named)
 
   pub few_in_queue : (maker : MakerTold) (i : ℕ) (c : PoolCore P) (f : Frame P) → CanStep maker c f → IsQueuePlace c.plan i → length (queue_at i c).slots ≤ memory_slots c.plan
   few_in_queue maker i c f can place =
-      few_of maker c (queue_at i c).slots can.core (memories_in maker c.settings (queue_at i c).slots (sound_queue maker i c can.core place).regions)
-      (λ k. omega (arith, can.fits.once (right_to k), queue_kept maker (right_to k) i c can.core place))
+      few_of maker c (queue_at i c).slots can.core (λ name. omega (arith, can.fits.once (right_to name), queue_kept maker (right_to name) i c can.core place))
 
   pub few_in_both : (maker : MakerTold) (i : ℕ) (c : PoolCore P) (f : Frame P) → CanStep maker c f → IsQueuePlace c.plan i → length (after_append (queue_at i c) f.local).slots ≤ memory_slots c.plan
   few_in_both maker i c f can place =
-      let Q : Queued → Type 0 = IsQueuedOf maker c.settings.behaviour c.settings.max_memory_size in
       few_of maker c (after_append (queue_at i c) f.local).slots can.core
-      (memories_in maker c.settings (after_append (queue_at i c) f.local).slots (All-append Q (queue_at i c).slots f.local.slots (sound_queue maker i c can.core place).regions can.frame.queue.regions))
-      (λ k. omega (
-        arith,
-        queued_joined (right_to k) (queue_at i c).slots f.local.slots,
-        can.fits.once (right_to k),
-        queue_kept maker (right_to k) i c can.core place,
-      ))
+      (λ name. omega (arith, queued_joined (right_to name) (queue_at i c).slots f.local.slots, can.fits.once (right_to name), queue_kept maker (right_to name) i c can.core place))

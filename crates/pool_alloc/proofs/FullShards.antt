@@ -3,21 +3,19 @@ use Rattle.pool_alloc.proofs.UsedSlots.{used_is_out}
 use Rattle.pool_hall.proofs.Totals.{inside, total_zero}
 use Rattle.pool_slots.proofs.ListUnits.{read_at, kept_parts}
 use Rattle.pool_slots.specs.PartUnits.{part_kept}
-use Rattle.pool_index.specs.Part.{shard_units, used_units}
-use Rattle.pool_hall.specs.declared.unit_name.SlotKind.{SlotKind}
 use Rattle.pool_hall.specs.Sum.{total}
 use Rattle.pool_hall.specs.declared.unit_name.SlotKind.TheVariants.{Memory as memory_kind}
 use Rattle.pool_slots.proofs.Planning.{numbered}
 use Rattle.pool_alloc.proofs.PoolParts.{sound_shard, place_of}
-use Rattle.pool_alloc.proofs.PlanPlaces.{IsShardPlace, slot_at, stripe_holds, queue_of_role, queue_tried_at, queues_all, stripe_role, IsQueuePlace, IsSlotAt, home_place}
+use Rattle.pool_alloc.proofs.PlanPlaces.{slot_at, stripe_holds, queue_of_role, queue_tried_at, queues_all, stripe_role, IsQueuePlace, IsSlotAt, home_place}
 use Rattle.pool_slots.specs.declared.plan.Plan.{Plan}
 use Rattle.pool_slots.specs.declared.plan.Allocator.{Allocator}
-use Rattle.pool_slots.specs.Plans.{Role, shard_role, cell_role, queue_role, role_at, has_number}
-use Rattle.std.proofs.Common.{◌≡◌, ℕ, suc, ◌+◌, ◌-◌, ◌*◌, ◌/◌, ◌%◌, ◌<◌, ◌≤◌, Bool, true, false, List, [], ◌∷◌, length, Option, Some, None, is_some, refl, ap, ◌∙◌, subst, inl, inr, arith, sym}
-use Rattle.std.specs.Prelude.{◌==◌, nat_lt, if◌then◌else◌, sum_by, slice_index_or, option_map, IsSome, is_some}
+use Rattle.pool_slots.specs.Plans.{Role, queue_role, role_at, has_number, home_of}
+use Rattle.std.proofs.Common.{◌≡◌, ℕ, ◌+◌, ◌-◌, ◌*◌, ◌/◌, ◌%◌, ◌<◌, ◌≤◌, Bool, true, false, [], length, Option, Some, None, is_some, refl, ap, ◌∙◌, subst, inl, inr, arith, sym}
+use Rattle.std.specs.Prelude.{◌==◌, nat_lt, if◌then◌else◌, option_map, IsSome, is_some}
 use Rattle.std.specs.Option.{option_or, option_map_or}
-use Rattle.std.proofs.lemmas.Bool.{cases_lt, ltb-false, lt-ltb, ne_eqb, cases_eq}
-use Rattle.std.proofs.lemmas.List.Sums.{sum_by-cons, count_by-le-length}
+use Rattle.std.proofs.lemmas.Bool.{cases_lt, ltb-false, lt-ltb}
+use Rattle.std.proofs.lemmas.List.Sums.{count_by-le-length}
 use Rattle.std.proofs.lemmas.Nat.{mod-mul-add, div-add-mod'}
 use Rattle.std.proofs.Math.Nat.{mod-lt}
 use Rattle.pool_pages.specs.MakerTold.{MakerTold}
@@ -26,7 +24,9 @@ use Rattle.pool_index.specs.Shard.{ShardState, warm_at, next_cold, IsShard, choi
 use Rattle.pool_index.specs.declared.ids.MemoryInModule.{MemoryInModule}
 use Rattle.pool_index.specs.declared.warm_slot.WarmSlot.{WarmSlot}
 use Rattle.pool_alloc.specs.Places.{Thing, right_to, queued_count, kept_count, away_count}
-use Rattle.pool_alloc.specs.Steps.{shard_at, queue_at, shard_in, queue_in, shard_of, memory_slots, queues_searched, stripe_allocator, allocator_for, local_of}
+use Rattle.pool_alloc.specs.Leases.{memory_slot}
+use Rattle.pool_slots.specs.declared.slot_name.SlotName.{SlotName}
+use Rattle.pool_alloc.specs.Steps.{shard_at, queue_at, queue_in, memory_slots, queues_searched, stripe_allocator, allocator_for}
 use Rattle.pool_alloc.specs.declared.pool_core.PoolCore.{PoolCore}
 use Rattle.pool_alloc.specs.declared.frame.Frame.{Frame}
 use Rattle.pool_alloc.specs.Searches.{HasNoSlot, AreFull, AreEmpty}
@@ -106,13 +106,13 @@ around home i n inside =
     ]
 
 -- A slot of the stripe's allocator is at home in one of its shards.
-pub stripe_home : (plan : Plan) (places stripe k : ℕ) → IsPoolPlan plan places → stripe < length plan.memories → has_number (stripe_allocator plan stripe) k ≡ true → (i : ℕ) × (i < (stripe_allocator plan stripe).shards) × IsSlotAt plan ((stripe_allocator plan stripe).first_place + i) k
+pub stripe_home : (plan : Plan) (places stripe k : ℕ) → IsPoolPlan plan places → stripe < length plan.memories → has_number (stripe_allocator plan stripe) k ≡ true → (i : ℕ) × (i < (stripe_allocator plan stripe).shards) × IsSlotAt plan ((stripe_allocator plan stripe).first_place + i) (memory_slot k)
 stripe_home plan places stripe k is below has =
     let a : Allocator = stripe_allocator plan stripe in
     let of' = stripe_holds plan places stripe is below in
     let it = numbered a k memory_kind (memory_slots plan) of' has in
     let i : ℕ = (k - a.first) / a.step / a.slots_per_shard in
-    (i, it.shard, slot_at plan places (a.first_place + i) a i ((k - a.first) / a.step % a.slots_per_shard) k is (stripe_role plan places stripe i is below it.shard) of'.kind_is it.inside (sym it.number))
+    (i, it.shard, slot_at plan places (a.first_place + i) a i ((k - a.first) / a.step % a.slots_per_shard) (memory_slot k) is (stripe_role plan places stripe i is below it.shard) it.inside (sym of'.kind_is) (sym it.number))
 
 module _ {P : Type 0} where
   -- A part keeps nothing where it is no queue, or an empty one.
@@ -133,21 +133,22 @@ module _ {P : Type 0} where
       subst (λ (y : PoolPart P). total t (part_kept y) ≡ 0) is (part_none maker c.settings t (role_at c.plan p) (part_at p c.parts) (core.parts p (inside c.parts p x at)) (λ role. empty p role)))
 
   -- Where all shards of the stripe were tried, and all queues taken, each slot of the stripe is given out, and in no queue.
-  pub nothing_left : (maker : MakerTold) (c : PoolCore P) (f : Frame P) → IsCore maker c → f.stripe < length c.plan.memories → AreEmpty (queues_searched c.plan) c f → AreFull (allocator_for c.plan f).shards c f → (k : ℕ) → has_number (allocator_for c.plan f) k ≡ true → (kept_count (right_to k) c ≡ 0) × (away_count (right_to k) c ≡ 1)
+  pub nothing_left : (maker : MakerTold) (c : PoolCore P) (f : Frame P) → IsCore maker c → f.stripe < length c.plan.memories → AreEmpty (queues_searched c.plan) c f → AreFull (allocator_for c.plan f).shards c f → (k : ℕ) → has_number (allocator_for c.plan f) k ≡ true → (kept_count (right_to (memory_slot k)) c ≡ 0) × (away_count (right_to (memory_slot k)) c ≡ 1)
   nothing_left maker c f core stripe empty full k has =
       let a : Allocator = allocator_for c.plan f in
       let home = stripe_home c.plan (length c.parts) f.stripe k core.plan stripe has in
       let tried = around f.home home.0 a.shards home.1 in
-      let p : ℕ = shard_of c.plan k in
+      let name : SlotName = memory_slot k in
+      let p : ℕ = (home_of c.plan name).place in
       let at_home : HasNoSlot (shard_at p c) = subst (λ (q : ℕ). HasNoSlot (shard_at q c)) (ap (λ (i : ℕ). a.first_place + i) tried.2 ∙ home.2.home) (full tried.0 tried.1) in
-      let place = home_place c.plan (length c.parts) k core.plan home.2.inside in
-      let its = place_of maker c k core home.2.inside in
-      let used : is_used (shard_at p c) (local_of c.plan k).0 ≡ true = at_home (local_of c.plan k).0 (omega (arith, its.inside, (sound_shard maker p c core place).entries)) in (
-        none_kept maker (right_to k) c core
+      let place = home_place c.plan (length c.parts) name core.plan home.2.named in
+      let its = place_of maker c name core home.2.named in
+      let used : is_used (shard_at p c) (home_of c.plan name).local.0 ≡ true = at_home (home_of c.plan name).local.0 (omega (arith, its.inside, (sound_shard maker p c core place).entries)) in (
+        none_kept maker (right_to name) c core
             (λ q role.
             let i = queue_of_role c.plan (length c.parts) q core.plan role in
             let taken = around f.home i.0 c.plan.queues i.1 in
             let Q : ℕ → Type 0 = λ n. (queue_at n c).slots ≡ [] in
             subst Q (queue_tried_at c.plan taken.0 f core.plan.shared ∙ ap (λ (n : ℕ). c.plan.first_queue + n) taken.2 ∙ i.2) (empty taken.0 (omega (arith, taken.1, queues_all c.plan core.plan.shared)))),
-        used_is_out maker k c core home.2.inside used,
+        used_is_out maker name c core home.2.named used,
       )

@@ -14,14 +14,17 @@ use Rattle.pool_alloc.proofs.QueueCounts.{leased_first}
 use Rattle.pool_alloc.specs.Bounds.{PoolSizes, give_back_bound, sizes_of, flush_left, returns_left, queues_left, next_left, steps_at, steps_left}
 use Rattle.pool_alloc.specs.Calls.{IsGrantOf, IfGranted}
 use Rattle.pool_alloc.specs.Leases.{Lease}
-use Rattle.pool_alloc.specs.Places.{Thing, leased_count, queued_count, freed_count, kept_count, phase_count, frame_count, phase_instances, phase_memories, frame_memories, away_count}
-use Rattle.pool_alloc.specs.Reserved.{Reserved, no_room}
+use Rattle.pool_alloc.specs.Places.{Thing, leased_count, instance_count, queued_count, freed_count, kept_count, phase_count, frame_count, phase_instances, phase_memories, frame_memories, away_count}
+use Rattle.pool_alloc.specs.Objects.{objects_in, objects_wanted, no_objects}
+use Rattle.pool_alloc.specs.Reserved.{Reserved}
+use Rattle.pool_alloc.specs.declared.frame.Object.TheVariants.{Memory}
+use Rattle.pool_alloc.specs.declared.lease.InstanceLease.{InstanceLease}
 use Rattle.pool_alloc.specs.Searches.{AreFull, AreEmpty, IsSearchedBy, IsSearchedAt, IsSearched}
-use Rattle.pool_alloc.specs.Sound.{AreSupported, IsLocal, IsLeaseOf, IsCore, IsFrame, IsToGrant, Aims, HasNoneWaiting, IsAtRest, IsAiming, IsAllocating, IsReturning, IsShapedAt, AreBegun, IsFreedOf}
+use Rattle.pool_alloc.specs.Sound.{AreSupported, IsLocal, IsLeaseOf, AreLeasesOf, IsCore, IsFrame, IsToGrant, Aims, HasNoneWaiting, IsAtRest, IsAiming, IsAllocating, IsReturning, IsShapedAt, AreBegun, IsFreedOf}
 use Rattle.pool_alloc.specs.Stages.{admitted, Stage, no_call, keys, asks, returning, refusing, stage_by, stage_at, stage_of, Follows, Goes}
 use Rattle.pool_alloc.specs.Steps.{memories_wanted, images_wanted, allocator_for, queues_searched}
 use Rattle.pool_alloc.specs.Stepping.{count_granted, grant_count, grant_instances, grant_memories, is_idle}
-use Rattle.pool_alloc.specs.Turns.{Turn, goes, ends, next, flush, search, Row, Left, After, is_granting, failing, returned_next, next_by, is_flushed, after, finished, stepped}
+use Rattle.pool_alloc.specs.Turns.{Turn, goes, ends, next, flush, search, Row, Left, After, is_granting, failing, returned_next, next_by, is_flushed, after, finished, stepped, gone_to, stays}
 use Rattle.pool_alloc.specs.declared.pool_core.PoolCore.{PoolCore}
 use Rattle.pool_alloc.specs.declared.pool_core.Settings.{Settings}
 use Rattle.pool_alloc.specs.declared.frame.Ending.{Ending}
@@ -34,7 +37,7 @@ use Rattle.pool_alloc.specs.Asked.{ModuleAsked}
 use Rattle.pool_alloc.specs.declared.frame.Outcome.{Outcome}
 use Rattle.pool_alloc.specs.declared.frame.Outcome.TheVariants as answer
 use Rattle.pool_alloc.specs.declared.frame.Phase.{Phase}
-use Rattle.pool_alloc.specs.declared.frame.Phase.TheVariants.{Pick, TakeQueue, UncountMemory, Flush, UncountInstance}
+use Rattle.pool_alloc.specs.declared.frame.Phase.TheVariants.{Pick, TakeQueue, UncountObject, Flush, UncountInstance}
 
 -- one more of so many
 pub one_more : (m n x : ℕ) → m ≡ n + 1 → m * x ≡ n * x + x
@@ -48,12 +51,12 @@ some_length [] e = absurd (eqb-false 0 0 e refl)
 some_length (x ∷ xs) e = omega arith
 
 -- what a frame has, in whatever phase
-pub record IsHeld (maker : MakerTold) (s : Settings) (plan : Plan) (in_stripe : ℕ) (local : Queue) (freed : Reserved FreedSlot) (leases : List Lease) : Type 0 where
+pub record IsHeld {P : Type 0} (maker : MakerTold) (s : Settings) (plan : Plan) (in_stripe : ℕ) (local : Queue) (freed : Reserved FreedSlot) (lease : InstanceLease P) : Type 0 where
   pub stripe : in_stripe < length plan.memories
   pub queue : IsLocal maker s local
   pub freed_room : (freed.room ≡ 2 * s.batch) × (length freed.items + length local.slots ≤ 2 * s.batch)
   pub freed_each : All (IsFreedOf plan) freed.items
-  pub objects : All (IsLeaseOf maker s plan) leases
+  pub objects : AreLeasesOf maker s plan lease
 
 -- what a step has in hand: things, and how many instances and memories are counted
 pub record Hand : Type 0 where
@@ -73,7 +76,7 @@ module _ {P : Type 0} where
   in_phase phase f = record f { phase = phase }
 
   abbrev pub Held : MakerTold → Settings → Plan → Frame P → Type 0
-  Held maker s plan f = IsHeld maker s plan f.stripe f.local f.freed f.objects.items
+  Held maker s plan f = IsHeld maker s plan f.stripe f.local f.freed f.objects
 
   pub held_of : (maker : MakerTold) (s : Settings) (plan : Plan) (f : Frame P) → IsFrame maker s plan f → Held maker s plan f
   held_of maker s plan f frame = record { stripe = frame.stripe; queue = frame.queue; freed_room = frame.freed_room; freed_each = frame.freed_each; objects = frame.objects }
@@ -83,7 +86,7 @@ module _ {P : Type 0} where
 
   -- what a frame has but for its next step
   abbrev pub listed_count : Thing → Frame P → ℕ
-  listed_count t f = leased_count t f.objects.items + queued_count t f.local.slots + freed_count t f.freed.items
+  listed_count t f = instance_count t f.objects + queued_count t f.local.slots + freed_count t f.freed.items
 
   -- what a turn has in hand
   abbrev pub hand : Turn P → Hand
@@ -93,7 +96,8 @@ module _ {P : Type 0} where
 
   -- the steps that a turn leaves
   abbrev pub turn_steps : PoolSizes → Turn P → Frame P → ℕ
-  turn_steps z (goes p) f = steps_at z p (in_phase p f)
+  turn_steps z (goes p) f = steps_at z p (gone_to p f)
+  turn_steps z stays f = 0
   turn_steps z (ends o) f = 0
   turn_steps z next f = next_left z f.ending f.queues f.asked f.objects
   turn_steps z flush f = flush_left z f.local f.freed + next_left z f.ending f.queues f.asked f.objects
@@ -101,7 +105,8 @@ module _ {P : Type 0} where
 
   -- how far a search is that goes on so
   abbrev pub TurnSearched : PoolCore P → Frame P → Turn P → Type 0
-  TurnSearched c f (goes p) = IsSearchedAt p c (in_phase p f)
+  TurnSearched c f (goes p) = IsSearchedAt p c (gone_to p f)
+  TurnSearched c f stays = Unit {0}
   TurnSearched c f (ends o) = Unit {0}
   TurnSearched c f next = IsSearchedBy f.ending (AreEmpty f.queues c f)
   TurnSearched c f flush = IsSearchedBy f.ending (AreEmpty f.queues c f)
@@ -116,7 +121,7 @@ module _ {P : Type 0} (maker : MakerTold) (old new : LimiterTold) (d : PoolCore 
   pub record Even (h : Hand) (c : PoolCore P) (f : Frame P) : Type 0 where
     pub places : (t : Thing) → kept_count t c + (listed_count t f + h.things t) + away_count t d ≡ kept_count t d + frame_count t e + away_count t c
     pub instances : c.counters.core_instances + phase_instances e.phase ≡ d.counters.core_instances + h.instances
-    pub memories : c.counters.memories + frame_memories e ≡ d.counters.memories + (length f.objects.items + h.memories)
+    pub memories : c.counters.memories + frame_memories e ≡ d.counters.memories + (length f.objects.memories.items + h.memories)
 
   -- what is there, whatever comes next
   pub record Kept (c : PoolCore P) (f : Frame P) : Type 0 where
@@ -130,7 +135,8 @@ module _ {P : Type 0} (maker : MakerTold) (old new : LimiterTold) (d : PoolCore 
 
   -- what a turn wants of the frame
   abbrev pub TurnShape : PoolCore P → Frame P → Turn P → Type 0
-  TurnShape c f (goes p) = (is_idle p ≡ false) × IsShapedAt maker c.settings c.plan p (in_phase p f)
+  TurnShape c f (goes p) = (is_idle p ≡ false) × IsShapedAt maker c.settings c.plan p (gone_to p f)
+  TurnShape c f stays = ⊥
   TurnShape c f (ends o) = IsAtRest f × IfGranted (IsGrantOf maker c.settings c.plan e.asked) (Some o)
   TurnShape c f next = HasNoneWaiting f × IsAiming c.settings c.plan f
   TurnShape c f flush = IsAiming c.settings c.plan f
@@ -138,11 +144,12 @@ module _ {P : Type 0} (maker : MakerTold) (old new : LimiterTold) (d : PoolCore 
 
   -- and takes the call on so
   abbrev pub TurnGoes : PoolCore P → Frame P → Turn P → Type 0
-  TurnGoes c f (goes p) = GoesNow (stage_at p f.ending (length f.objects.items)) None
+  TurnGoes c f (goes p) = GoesNow (stage_at p f.ending (objects_in f.objects)) None
   TurnGoes c f (ends o) = GoesNow no_call (Some o)
-  TurnGoes c f next = GoesNow (stage_by f.ending (length f.objects.items)) None
-  TurnGoes c f flush = GoesNow (stage_by f.ending (length f.objects.items)) None
-  TurnGoes c f (search queues x) = GoesNow (stage_by f.ending (length f.objects.items)) None × (queues ≤ f.queues → GoesNow (refusing x) None)
+  TurnGoes c f stays = Unit {0}
+  TurnGoes c f next = GoesNow (stage_by f.ending (objects_in f.objects)) None
+  TurnGoes c f flush = GoesNow (stage_by f.ending (objects_in f.objects)) None
+  TurnGoes c f (search queues x) = GoesNow (stage_by f.ending (objects_in f.objects)) None × (queues ≤ f.queues → GoesNow (refusing x) None)
 
   -- what a row shows of what it leaves, before its turn
   pub record Ready (c : PoolCore P) (f : Frame P) (t : Turn P) : Type 0 where
@@ -186,7 +193,7 @@ module _ {P : Type 0} (maker : MakerTold) (old new : LimiterTold) (d : PoolCore 
   goes_ok c f p r =
       record {
         core = r.kept.core;
-        frame = frame_of maker c.settings c.plan (in_phase p f) r.kept.held r.shape.1;
+        frame = frame_of maker c.settings c.plan (gone_to p f) r.kept.held r.shape.1;
         granted_is = tt;
         places = λ t. omega (arith, r.even.places t);
         instances = omega (arith, r.even.instances);
@@ -223,16 +230,16 @@ module _ {P : Type 0} (maker : MakerTold) (old new : LimiterTold) (d : PoolCore 
       }
 
   -- what was granted so far is given back, or is still to be
-  back_ok : (c : PoolCore P) (f : Frame P) (leases : List Lease) → f.objects.items ≡ leases → Kept c f → HasNoneWaiting f → IsReturning f → Even (hand {P = P} next) c f → returns_left (sizes_of d.plan) f.objects + 1 ≤ steps_left d e → GoesNow (stage_by f.ending (length f.objects.items)) None → RowOk (finished c (returned_next leases f))
+  back_ok : (c : PoolCore P) (f : Frame P) (leases : List Lease) → f.objects.memories.items ≡ leases → Kept c f → HasNoneWaiting f → IsReturning f → Even (hand {P = P} next) c f → returns_left (sizes_of d.plan) f.objects + 1 ≤ steps_left d e → GoesNow (stage_by f.ending (objects_in f.objects)) None → RowOk (finished c (returned_next leases f))
   back_ok c f [] is kept settled back even fewer way =
-      goes_ok c f UncountInstance (record { kept = kept; shape = (refl, (record { settled = settled; no_objects = is }, back)); even = even; fewer = omega (arith, fewer); way = way; searched = λ s. tt })
+      goes_ok c f UncountInstance (record { kept = kept; shape = (refl, (record { settled = settled; no_memories = is }, back)); even = even; fewer = omega (arith, fewer); way = way; searched = λ s. tt })
   back_ok c f (lease ∷ rest) is kept settled back even fewer way =
       let L : Lease → Type 0 = IsLeaseOf maker c.settings c.plan in
-      let all : All L (lease ∷ rest) = All-same L (lease ∷ rest) f.objects.items (sym is) kept.held.objects in
-      let has : Frame P = record f { objects = record f.objects { items = rest } } in
-      let long : length f.objects.items ≡ length rest + 1 = ap (length {A = Lease}) is ∙ omega arith in
+      let all : All L (lease ∷ rest) = All-same L (lease ∷ rest) f.objects.memories.items (sym is) kept.held.objects in
+      let has : Frame P = record f { objects = record f.objects { memories = record f.objects.memories { items = rest } } } in
+      let long : objects_in f.objects ≡ length rest + 1 = ap (length {A = Lease}) is ∙ omega arith in
       let W : Stage → Type 0 = λ stage. GoesNow stage None in
-      goes_ok c has (UncountMemory lease)
+      goes_ok c has (UncountObject (Memory lease))
       (record {
         kept = record {
           core = kept.core;
@@ -245,13 +252,13 @@ module _ {P : Type 0} (maker : MakerTold) (old new : LimiterTold) (d : PoolCore 
         };
         shape = (refl, (settled, back, All-head L lease rest all));
         even = record { places = λ t. omega (arith, even.places t, leased_first t lease rest, ap (leased_count t) is); instances = even.instances; memories = omega (arith, even.memories, long) };
-        fewer = omega (arith, fewer, one_more (length f.objects.items) (length rest) (give_back_bound (sizes_of d.plan)) long);
-        way = subst W (stage_still f.ending (length f.objects.items) (length rest) back) way;
+        fewer = omega (arith, fewer, one_more (objects_in f.objects) (length rest) (give_back_bound (sizes_of d.plan)) long);
+        way = subst W (stage_still f.ending (objects_in f.objects) (length rest) back) way;
         searched = λ s. tt;
       })
 
   -- a request for which all is granted goes on to its answer
-  granted_way : (stage : Stage) (n : ℕ) (grant : Grant P) → Goes maker old new d e stage (asks (admitted n)) None → n ≡ length (memories_wanted e.asked) → AreSupported d.settings (memories_wanted e.asked) (images_wanted e.asked) → Goes maker old new d e stage no_call (Some (answer.Granted grant))
+  granted_way : (stage : Stage) (n : ℕ) (grant : Grant P) → Goes maker old new d e stage (asks (admitted n)) None → n ≡ objects_wanted e.asked → AreSupported d.settings (memories_wanted e.asked) (images_wanted e.asked) → Goes maker old new d e stage no_call (Some (answer.Granted grant))
   granted_way no_call n grant way is supported = absurd way
   granted_way keys n grant way is supported = absurd way
   granted_way (asks p) n grant way is supported = let F : ℕ → Type 0 = λ m. Follows old new d e p (admitted m) in (subst F is way, supported)
@@ -259,10 +266,10 @@ module _ {P : Type 0} (maker : MakerTold) (old new : LimiterTold) (d : PoolCore 
   granted_way (refusing x) n grant way is supported = absurd way
 
   -- the instance is whole: the call ends with it
-  whole_ready : (c : PoolCore P) (f : Frame P) → Kept c f → HasNoneWaiting f → IsToGrant c.settings c.plan f.asked f.queues f.objects → Even (hand {P = P} next) c f → 1 ≤ steps_left d e → GoesNow (asks (admitted (length f.objects.items))) None → length (memories_wanted f.asked) ≤ length f.objects.items → Ready c (record f { objects = no_room }) (ends (answer.Granted (Instance (record { memories = f.objects }))))
+  whole_ready : (c : PoolCore P) (f : Frame P) → Kept c f → HasNoneWaiting f → IsToGrant c.settings c.plan f.asked f.queues f.objects → Even (hand {P = P} next) c f → 1 ≤ steps_left d e → GoesNow (asks (admitted (objects_in f.objects))) None → objects_wanted f.asked ≤ objects_in f.objects → Ready c (record f { objects = no_objects }) (ends (answer.Granted (Instance f.objects)))
   whole_ready c f kept settled to_grant even fewer way all =
-      let W : Option ModuleAsked → Type 0 = λ a. length f.objects.items ≡ length (memories_wanted a) in
-      let B : Option ModuleAsked → Type 0 = λ a. AreBegun c.settings a f.objects.items in
+      let W : Option ModuleAsked → Type 0 = λ a. length f.objects.memories.items ≡ length (memories_wanted a) in
+      let B : Option ModuleAsked → Type 0 = λ a. AreBegun c.settings a f.objects in
       let A : Settings → Option ModuleAsked → Type 0 = λ s a. AreSupported s (memories_wanted a) (images_wanted a) in
       let supported : A d.settings e.asked = subst (A d.settings) kept.asked (subst (λ (s : Settings). A s f.asked) kept.settings to_grant.supported) in
       let long : W e.asked = subst W kept.asked (omega (arith, all, to_grant.few)) in
@@ -276,10 +283,10 @@ module _ {P : Type 0} (maker : MakerTold) (old new : LimiterTold) (d : PoolCore 
           instances_by_one = kept.instances_by_one;
           memories_by_one = kept.memories_by_one;
         };
-        shape = (record { settled = settled; no_objects = refl }, (kept.held.objects, long, subst B kept.asked to_grant.begun));
+        shape = (record { settled = settled; no_memories = refl }, (kept.held.objects, long, subst B kept.asked to_grant.begun));
         even = record { places = λ t. omega (arith, even.places t); instances = even.instances; memories = omega (arith, even.memories) };
         fewer = omega (arith, fewer);
-        way = granted_way (stage_of e) (length f.objects.items) (Instance (record { memories = f.objects })) way long supported;
+        way = granted_way (stage_of e) (objects_in f.objects) (Instance f.objects) way long supported;
         searched = λ s. tt;
       }
 
@@ -291,8 +298,8 @@ module _ {P : Type 0} (maker : MakerTold) (old new : LimiterTold) (d : PoolCore 
       let N : Ending → Type 0 = λ x. next_left z x f.queues f.asked f.objects + 1 ≤ steps_left d e in
       let left = subst N is r.fewer in
       let S : Ending → Type 0 = λ x. IsSearchedBy x (AreEmpty f.queues c f) in
-      let W : Ending → Type 0 = λ x. GoesNow (stage_by x (length f.objects.items)) None in
-      either_ok c (nat_lt (length f.objects.items) (length (memories_wanted f.asked))) _ _
+      let W : Ending → Type 0 = λ x. GoesNow (stage_by x (objects_in f.objects)) None in
+      either_ok c (nat_lt (objects_in f.objects) (objects_wanted f.asked)) _ _
       (λ more.
       let left_of_picks = rw more at left in
       goes_ok c f (Pick 0) (record {
@@ -303,13 +310,13 @@ module _ {P : Type 0} (maker : MakerTold) (old new : LimiterTold) (d : PoolCore 
         way = r.way;
         searched = λ s. (subst S is (r.searched s), λ j below. absurd (omega (arith, below)));
       }))
-      (λ last. ends_ok c (record f { objects = no_room }) (answer.Granted (Instance (record { memories = f.objects }))) (whole_ready c f r.kept r.shape.0 aim r.even (omega (arith, left)) (subst W is r.way) (ltb-false _ _ last)))
+      (λ last. ends_ok c (record f { objects = no_objects }) (answer.Granted (Instance f.objects)) (whole_ready c f r.kept r.shape.0 aim r.even (omega (arith, left)) (subst W is r.way) (ltb-false _ _ last)))
   next_ok c f returned is r =
       let N : Ending → Type 0 = λ x. next_left (sizes_of d.plan) x f.queues f.asked f.objects + 1 ≤ steps_left d e in
-      back_ok c f f.objects.items refl r.kept r.shape.0 (ap is_granting is) r.even (subst N is r.fewer) r.way
+      back_ok c f f.objects.memories.items refl r.kept r.shape.0 (ap is_granting is) r.even (subst N is r.fewer) r.way
   next_ok c f (refused x) is r =
       let N : Ending → Type 0 = λ x. next_left (sizes_of d.plan) x f.queues f.asked f.objects + 1 ≤ steps_left d e in
-      back_ok c f f.objects.items refl r.kept r.shape.0 (ap is_granting is) r.even (subst N is r.fewer) r.way
+      back_ok c f f.objects.memories.items refl r.kept r.shape.0 (ap is_granting is) r.even (subst N is r.fewer) r.way
 
   flushed : (c : PoolCore P) (f : Frame P) → Kept c f → is_flushed f ≡ true → HasNoneWaiting f
   flushed c f kept done =
@@ -321,6 +328,7 @@ module _ {P : Type 0} (maker : MakerTold) (old new : LimiterTold) (d : PoolCore 
   pub after_ok : (c : PoolCore P) (f : Frame P) (t : Turn P) → Ready c f t → RowOk (finished c (after f t))
   after_ok c f (goes p) r = goes_ok c f p r
   after_ok c f (ends o) r = ends_ok c f o r
+  after_ok c f stays r = absurd r.shape
   after_ok c f next r = next_ok c f f.ending refl r
   after_ok c f flush r =
       either_ok c (is_flushed f) _ _
@@ -329,7 +337,7 @@ module _ {P : Type 0} (maker : MakerTold) (old new : LimiterTold) (d : PoolCore 
   after_ok c f (search queues x) r =
       either_ok c (nat_lt f.queues queues) _ _
       (λ more. goes_ok c f TakeQueue (record { kept = r.kept; shape = (refl, (r.shape.1, r.shape.2, omega (arith, ltb-true _ _ more, r.shape.0))); even = r.even; fewer = r.fewer; way = r.way.0; searched = r.searched }))
-      (λ last. back_ok c (failing x f) f.objects.items refl
+      (λ last. back_ok c (failing x f) f.objects.memories.items refl
       (record { core = r.kept.core; held = r.kept.held; asked = r.kept.asked; settings = r.kept.settings; plan = r.kept.plan; instances_by_one = r.kept.instances_by_one; memories_by_one = r.kept.memories_by_one })
       r.shape.1 refl
       (record { places = r.even.places; instances = r.even.instances; memories = r.even.memories })

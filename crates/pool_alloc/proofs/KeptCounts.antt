@@ -1,16 +1,16 @@
 -- What the pool has given out, and what its queues keep, once one shard, one cell or one queue changed.
-use Rattle.std.proofs.Common.{◌≡◌, ℕ, ◌+◌, ◌<◌, ◌≤◌, true, false, [], length, refl, sym, ap, subst, ◌∙◌, arith}
+use Rattle.std.proofs.Common.{◌≡◌, ℕ, ◌+◌, ◌<◌, ◌≤◌, true, false, length, refl, sym, ap, ◌∙◌, arith}
 use Rattle.pool_hall.specs.Sum.{total}
 use Rattle.pool_hall.proofs.Totals.{element, total_at}
 use Rattle.pool_pages.specs.MakerTold.{MakerTold}
 use Rattle.pool_index.specs.Part.{shard_units}
 use Rattle.pool_index.specs.Shard.{ShardState}
 use Rattle.pool_slots.specs.Cells.{Cell, is_taken, taken}
-use Rattle.pool_slots.specs.RegionCells.{region_of as region_unit, CellState, cell_numbers, cell_emptied, cell_filled, cell_away}
+use Rattle.pool_slots.specs.RegionCells.{CellState, cell_numbers, cell_emptied, cell_filled, cell_away}
 use Rattle.pool_slots.specs.PartUnits.{part_away, part_kept}
-use Rattle.pool_slots.specs.ListUnits.{StandsAs, StandAsPlanned}
-use Rattle.pool_slots.specs.Parts.{IsAt, IsShardPart, part_at, cell_of_part}
-use Rattle.pool_slots.specs.Plans.{Role, shard_role, cell_role, queue_role, role_at}
+use Rattle.pool_slots.specs.ListUnits.{StandsAs}
+use Rattle.pool_slots.specs.Parts.{IsAt, IsShardPart, part_at, cell_of_part, IsCellPart}
+use Rattle.pool_slots.specs.Plans.{Role, shard_role, cell_role, queue_role, role_at, cell_place}
 use Rattle.pool_slots.specs.SlotQueues.{Queue}
 use Rattle.pool_slots.specs.declared.slot_name.SlotName.{SlotName}
 use Rattle.pool_slots.specs.declared.part.PoolPart.{PoolPart}
@@ -19,8 +19,8 @@ use Rattle.pool_slots.proofs.AwayOnce.{away_once}
 use Rattle.pool_slots.proofs.ListUnits.{read_at, away_parts, kept_parts, away_follows, kept_follows}
 use Rattle.pool_slots.proofs.PartUnits.{takes_count, puts_count}
 use Rattle.pool_alloc.specs.Places.{Thing, right_to, region_of, region_count, queued_count, away_count, kept_count}
-use Rattle.pool_alloc.specs.Sound.{IsPartFor, IsCore}
-use Rattle.pool_alloc.specs.Steps.{IsMemoryPart, IsQueuePart, memory_slot, cell_of, memory_slots, shard_in, queue_in, shard_at, queue_at, nth_cell, with_shard, with_cell, with_queue}
+use Rattle.pool_alloc.specs.Sound.{IsPartFor, IsCore, IsSlotName}
+use Rattle.pool_alloc.specs.Steps.{IsQueuePart, shard_in, queue_in, shard_at, queue_at, with_shard, with_cell, with_queue, part_holding, cell_named}
 use Rattle.pool_alloc.specs.declared.pool_core.PoolCore.{PoolCore}
 use Rattle.pool_alloc.specs.declared.pool_core.Settings.{Settings}
 use Rattle.pool_alloc.proofs.PlanPlaces.{IsShardPlace, IsQueuePlace}
@@ -40,9 +40,17 @@ module _ {P : Type 0} where
   shard_away_is t (part.Shard s) is = (refl, refl)
   shard_away_is t x is = absurd is
 
-  cell_away_is : (t : Thing) (x : PoolPart P) → IsMemoryPart x → (total t (part_away x) ≡ total t (cell_away (cell_of_part x))) × (total t (part_kept x) ≡ 0)
+  cell_away_is : (t : Thing) (x : PoolPart P) → IsCellPart x → (total t (part_away x) ≡ total t (cell_away (cell_of_part x))) × (total t (part_kept x) ≡ 0)
   cell_away_is t (part.Memory cell) is = (refl, refl)
+  cell_away_is t (part.Table cell) is = (refl, refl)
+  cell_away_is t (part.Stack cell) is = (refl, refl)
   cell_away_is t x is = absurd is
+
+  holding_away_is : (t : Thing) (cell : CellState) (x : PoolPart P) → IsCellPart x → (total t (part_away (part_holding cell x)) ≡ total t (cell_away cell)) × (total t (part_kept (part_holding cell x)) ≡ 0)
+  holding_away_is t cell (part.Memory old) is = (refl, refl)
+  holding_away_is t cell (part.Table old) is = (refl, refl)
+  holding_away_is t cell (part.Stack old) is = (refl, refl)
+  holding_away_is t cell x is = absurd is
 
   queue_away_is : (t : Thing) (x : PoolPart P) → IsQueuePart x → (total t (part_away x) ≡ 0) × (total t (part_kept x) ≡ queued_count t (queue_in x).slots)
   queue_away_is t (part.Queue q) is = (refl, refl)
@@ -61,26 +69,30 @@ module _ {P : Type 0} where
   pub kept_queue : (t : Thing) (p : ℕ) (queue : Queue) (c : PoolCore P) → IsAt IsQueuePart p c.parts → kept_count t (with_queue p queue c) + queued_count t (queue_at p c).slots ≡ kept_count t c + queued_count t queue.slots
   kept_queue t p queue c there = kept_follows P t p (λ x. part.Queue queue) c.parts (queued_count t queue.slots) (queued_count t (queue_at p c).slots) there.inside (omega (arith, (queue_away_is t (part_at p c.parts) there.part).1))
 
-  away_cell : (t : Thing) (slot : ℕ) (cell : CellState) (c : PoolCore P) → IsAt IsMemoryPart (cell_of c.plan slot) c.parts → away_count t (with_cell slot cell c) + total t (cell_away (nth_cell slot c)) ≡ away_count t c + total t (cell_away cell)
-  away_cell t slot cell c there = away_follows P t (cell_of c.plan slot) (λ x. part.Memory cell) c.parts (total t (cell_away cell)) (total t (cell_away (nth_cell slot c))) there.inside (omega (arith, (cell_away_is t (part_at (cell_of c.plan slot) c.parts) there.part).0))
+  away_cell : (t : Thing) (name : SlotName) (cell : CellState) (c : PoolCore P) → IsAt IsCellPart (cell_place c.plan name) c.parts → away_count t (with_cell name cell c) + total t (cell_away (cell_named name c)) ≡ away_count t c + total t (cell_away cell)
+  away_cell t name cell c there =
+      let x : PoolPart P = part_at (cell_place c.plan name) c.parts in
+      away_follows P t (cell_place c.plan name) (part_holding cell) c.parts (total t (cell_away cell)) (total t (cell_away (cell_named name c))) there.inside (omega (arith, (cell_away_is t x there.part).0, (holding_away_is t cell x there.part).0))
 
-  kept_cell : (t : Thing) (slot : ℕ) (cell : CellState) (c : PoolCore P) → IsAt IsMemoryPart (cell_of c.plan slot) c.parts → kept_count t (with_cell slot cell c) ≡ kept_count t c
-  kept_cell t slot cell c there = omega (arith, kept_follows P t (cell_of c.plan slot) (λ x. part.Memory cell) c.parts 0 0 there.inside (omega (arith, (cell_away_is t (part_at (cell_of c.plan slot) c.parts) there.part).1)))
+  kept_cell : (t : Thing) (name : SlotName) (cell : CellState) (c : PoolCore P) → IsAt IsCellPart (cell_place c.plan name) c.parts → kept_count t (with_cell name cell c) ≡ kept_count t c
+  kept_cell t name cell c there =
+      let x : PoolPart P = part_at (cell_place c.plan name) c.parts in
+      omega (arith, kept_follows P t (cell_place c.plan name) (part_holding cell) c.parts 0 0 there.inside (omega (arith, (cell_away_is t x there.part).1, (holding_away_is t cell x there.part).1)))
 
   -- A region leaves its cell, and comes back with the numbers that it went out with. What queues keep stays.
-  pub region_leaves : (maker : MakerTold) (t : Thing) (slot : ℕ) (c : PoolCore P) → IsCore maker c → slot < memory_slots c.plan → is_taken (nth_cell slot c).holds ≡ false → (away_count t (with_cell slot (cell_emptied (nth_cell slot c)) c) ≡ away_count t c + region_count t slot (cell_numbers (nth_cell slot c))) × (kept_count t (with_cell slot (cell_emptied (nth_cell slot c)) c) ≡ kept_count t c)
-  region_leaves maker t slot c core below has =
-      let cell : CellState = nth_cell slot c in
-      let there = cell_part maker slot c core below in
-      let named : t (region_unit cell.name (cell_numbers cell)) ≡ region_count t slot (cell_numbers cell) = ap (λ (n : SlotName). t (region_unit n (cell_numbers cell))) (sound_cell maker slot c core below).name in
-      (omega (arith, away_cell t slot (cell_emptied cell) c there, takes_count t cell (there_not_taken cell.holds has), named), kept_cell t slot (cell_emptied cell) c there)
+  pub region_leaves : (maker : MakerTold) (t : Thing) (name : SlotName) (c : PoolCore P) → IsCore maker c → IsSlotName c.plan name → is_taken (cell_named name c).holds ≡ false → (away_count t (with_cell name (cell_emptied (cell_named name c)) c) ≡ away_count t c + region_count t name (cell_numbers (cell_named name c))) × (kept_count t (with_cell name (cell_emptied (cell_named name c)) c) ≡ kept_count t c)
+  region_leaves maker t name c core named has =
+      let cell : CellState = cell_named name c in
+      let there = cell_part maker name c core named in
+      let is : region_count t cell.name (cell_numbers cell) ≡ region_count t name (cell_numbers cell) = ap (λ (n : SlotName). region_count t n (cell_numbers cell)) (sound_cell maker name c core named).named in
+      (omega (arith, away_cell t name (cell_emptied cell) c there, takes_count t cell (there_not_taken cell.holds has), is), kept_cell t name (cell_emptied cell) c there)
 
-  pub region_returns : (maker : MakerTold) (t : Thing) (slot : ℕ) (held : Cell) (c : PoolCore P) → IsCore maker c → slot < memory_slots c.plan → is_taken (nth_cell slot c).holds ≡ true → is_taken held ≡ false → (away_count t (with_cell slot (cell_filled held (nth_cell slot c)) c) + region_count t slot (nth_cell slot c).out ≡ away_count t c) × (kept_count t (with_cell slot (cell_filled held (nth_cell slot c)) c) ≡ kept_count t c)
-  region_returns maker t slot held c core below none has =
-      let cell : CellState = nth_cell slot c in
-      let there = cell_part maker slot c core below in
-      let named : t (region_unit cell.name cell.out) ≡ region_count t slot cell.out = ap (λ (n : SlotName). t (region_unit n cell.out)) (sound_cell maker slot c core below).name in
-      (omega (arith, away_cell t slot (cell_filled held cell) c there, puts_count t held cell (away_is_taken cell.holds none) (there_not_taken held has), named), kept_cell t slot (cell_filled held cell) c there)
+  pub region_returns : (maker : MakerTold) (t : Thing) (name : SlotName) (held : Cell) (c : PoolCore P) → IsCore maker c → IsSlotName c.plan name → is_taken (cell_named name c).holds ≡ true → is_taken held ≡ false → (away_count t (with_cell name (cell_filled held (cell_named name c)) c) + region_count t name (cell_named name c).out ≡ away_count t c) × (kept_count t (with_cell name (cell_filled held (cell_named name c)) c) ≡ kept_count t c)
+  region_returns maker t name held c core named none has =
+      let cell : CellState = cell_named name c in
+      let there = cell_part maker name c core named in
+      let is : region_count t cell.name cell.out ≡ region_count t name cell.out = ap (λ (n : SlotName). region_count t n cell.out) (sound_cell maker name c core named).named in
+      (omega (arith, away_cell t name (cell_filled held cell) c there, puts_count t held cell (away_is_taken cell.holds none) (there_not_taken held has), is), kept_cell t name (cell_filled held cell) c there)
 
   -- what one part has given out or keeps, all have
   pub part_away_in : (t : Thing) (p : ℕ) (c : PoolCore P) → p < length c.parts → total t (part_away (part_at p c.parts)) ≤ away_count t c
@@ -100,10 +112,10 @@ module _ {P : Type 0} where
       let there = shard_part maker p c core place in
       omega (arith, part_away_in t p c there.inside, (shard_away_is t (part_at p c.parts) there.part).0)
 
-  pub cell_away_in : (maker : MakerTold) (t : Thing) (slot : ℕ) (c : PoolCore P) → IsCore maker c → slot < memory_slots c.plan → total t (cell_away (nth_cell slot c)) ≤ away_count t c
-  cell_away_in maker t slot c core below =
-      let there = cell_part maker slot c core below in
-      omega (arith, part_away_in t (cell_of c.plan slot) c there.inside, (cell_away_is t (part_at (cell_of c.plan slot) c.parts) there.part).0)
+  pub cell_away_in : (maker : MakerTold) (t : Thing) (name : SlotName) (c : PoolCore P) → IsCore maker c → IsSlotName c.plan name → total t (cell_away (cell_named name c)) ≤ away_count t c
+  cell_away_in maker t name c core named =
+      let there = cell_part maker name c core named in
+      omega (arith, part_away_in t (cell_place c.plan name) c there.inside, (cell_away_is t (part_at (cell_place c.plan name) c.parts) there.part).0)
 
   pub queue_kept : (maker : MakerTold) (t : Thing) (p : ℕ) (c : PoolCore P) → IsCore maker c → IsQueuePlace c.plan p → queued_count t (queue_at p c).slots ≤ kept_count t c
   queue_kept maker t p c core place =
@@ -112,12 +124,12 @@ module _ {P : Type 0} where
 
   -- No slot is given out twice, and no region.
   stands : (maker : MakerTold) (s : Settings) (r : Role) (x : PoolPart P) → IsPartFor maker s r x → StandsAs r x
-  stands maker s (shard_role a j) (part.Shard shard) is = is.1
-  stands maker s (cell_role name) (part.Memory cell) is = (is.0, is.1.name ∙ (λ i. record { kind = sym is.0 i; slot = name.slot }))
+  stands maker s (shard_role a j) (part.Shard shard) is = is
+  stands maker s (cell_role name) (part.Memory cell) is = (is.0, is.1.named)
   stands maker s queue_role (part.Queue q) is = tt
   stands maker s r x is = absurd is
 
-  pub out_once : (maker : MakerTold) (k : ℕ) (c : PoolCore P) → IsCore maker c → (away_count (right_to k) c ≤ 1) × (away_count (region_of k) c ≤ 1)
-  out_once maker k c core =
-      away_once P c.plan c.parts (memory_slot k)
+  pub out_once : (maker : MakerTold) (name : SlotName) (c : PoolCore P) → IsCore maker c → (away_count (right_to name) c ≤ 1) × (away_count (region_of name) c ≤ 1)
+  out_once maker name c core =
+      away_once P c.plan c.parts name
       (record { planned = core.plan.planned; stand = λ p below. stands maker c.settings (role_at c.plan p) (part_at p c.parts) (core.parts p below) })

@@ -11,7 +11,7 @@ use Rattle.pool_pages.specs.declared.pages.DecommitBehavior.TheVariants.{Zero, R
 use Rattle.pool_images.specs.declared.ranges.ByteRange.{ByteRange}
 use Rattle.pool_images.specs.Slots.{Slot, IsSlot, IsClean, IsPart, size_of, kept_bytes, left_ranges, reset_slot, decommitted_all}
 use Rattle.pool_images.proofs.Resets.{kept_at_most}
-use Rattle.pool_hall.specs.declared.unit_name.SlotKind.TheVariants.{Memory as memory_kind}
+use Rattle.pool_alloc.specs.Leases.{memory_slot}
 use Rattle.pool_slots.specs.declared.queued_range.QueueKind.TheVariants.{Memory}
 use Rattle.pool_slots.specs.declared.slot_name.SlotName.{SlotName}
 use Rattle.pool_slots.specs.declared.queued_range.QueuedRange.{QueuedRange}
@@ -37,7 +37,7 @@ drained_shared maker s q settings range_room slot_room =
       slots = omega arith;
       range_room = range_room;
       slot_room = slot_room;
-      regions = All-nil (IsQueuedOf maker s.behaviour s.max_memory_size);
+      regions = All-nil (IsQueuedOf maker s);
       queue = record { range_room = omega arith; slot_room = omega arith; distinct = tt; each = tt };
       grouped = omega arith;
     }
@@ -71,7 +71,7 @@ drained_local maker s q range_room slot_room =
       owners = tt;
       range_room = range_room;
       slot_room = slot_room;
-      regions = All-nil (IsQueuedOf maker s.behaviour s.max_memory_size);
+      regions = All-nil (IsQueuedOf maker s);
       queue = record { range_room = omega arith; slot_room = omega arith; distinct = tt; each = tt };
       grouped = omega arith;
     }
@@ -83,7 +83,7 @@ joined_local maker s q more shared local apart one short =
       owners = owned_joined q more shared.owners local.owners;
       range_room = shared.range_room;
       slot_room = shared.slot_room;
-      regions = All-append (IsQueuedOf maker s.behaviour s.max_memory_size) q.slots more.slots shared.regions local.regions;
+      regions = All-append (IsQueuedOf maker s) q.slots more.slots shared.regions local.regions;
       queue = queue_joined q more shared.queue local.queue (omega (arith, shared.range_room, shared.short)) (omega (arith, shared.slot_room, shared.short, shared.slots)) shared.owners local.owners apart;
       grouped = grouped_joined q more shared.grouped local.grouped;
     }
@@ -113,7 +113,7 @@ decommitted_local maker s true old new faulted local =
         owners = faulted_owned old new faulted;
         range_room = faulted.range_room ∙ local.range_room;
         slot_room = faulted.slot_room ∙ local.slot_room;
-        regions = queued_faulted maker s.behaviour s.max_memory_size (first_slot old.ranges) old.slots new.slots faulted.slots local.regions;
+        regions = queued_faulted maker s (first_slot old.ranges) old.slots new.slots faulted.slots local.regions;
         queue = faulted.sound;
         grouped = grouped_decommitted true old new faulted local.grouped;
       };
@@ -126,7 +126,7 @@ decommitted_local maker s false old new run local =
         owners = run_owners old local.queue local.owners;
         range_room = local.range_room;
         slot_room = local.slot_room;
-        regions = queued_after_run maker s.behaviour s.max_memory_size old local.regions;
+        regions = queued_after_run maker s old local.regions;
         queue = run_queue old local.owners local.queue;
         grouped = grouped_decommitted false old (after_run old) refl local.grouped;
       };
@@ -142,7 +142,7 @@ rest_local maker s m rest q none is local =
       owners = subst (λ (rs : List QueuedRange). AllByRecursion H rs) (sym none) tt;
       range_room = local.range_room;
       slot_room = local.slot_room;
-      regions = All-rest (IsQueuedOf maker s.behaviour s.max_memory_size) m rest q.slots is local.regions;
+      regions = All-rest (IsQueuedOf maker s) m rest q.slots is local.regions;
       queue = rest_queue m rest q is local.queue;
       grouped = no_runs q.ranges (length rest) none;
     }
@@ -151,40 +151,36 @@ rest_local maker s m rest q none is local =
 abbrev ranges_listed : ℕ → List ByteRange → List QueuedRange
 ranges_listed slot ranges = map (λ r. record { kind = Memory; slot = record { 0 = slot }; range = r }) ranges
 
-abbrev memory_name : ℕ → SlotName
-memory_name slot = record { kind = memory_kind; slot = slot }
-
-owned_ranges : (slot : ℕ) (ranges : List ByteRange) (ms : List Queued) → holds (memory_name slot) ms ≡ true → AllByRecursion {X = QueuedRange} (λ r. holds (owner r) ms ≡ true) (ranges_listed slot ranges)
+owned_ranges : (slot : ℕ) (ranges : List ByteRange) (ms : List Queued) → holds (memory_slot slot) ms ≡ true → AllByRecursion {X = QueuedRange} (λ r. holds (owner r) ms ≡ true) (ranges_listed slot ranges)
 owned_ranges slot [] ms held = tt
 owned_ranges slot (r ∷ rs) ms held = (held, owned_ranges slot rs ms held)
 
-alone : (m : Queued) → m.name.kind ≡ memory_kind → holds (memory_name m.name.slot) (m ∷ []) ≡ true
-alone m memory =
+alone : (i : ℕ) (m : Queued) → m.name ≡ memory_slot i → holds (memory_slot i) (m ∷ []) ≡ true
+alone i m is =
     let H : SlotName → Type 0 = λ n. holds n (m ∷ []) ≡ true in
-    let name : m.name ≡ memory_name m.name.slot = ap (λ k. record m.name { kind = k }) memory in
-    subst H name (or_left _ _ (slot_self m.name))
+    subst H is (or_left _ _ (slot_self m.name))
 
-one_slot_local : (maker : MakerTold) (s : Settings) (ranges : List ByteRange) (m : Queued) (q : Queue) → q.range_room ≡ 2 * s.batch → q.slot_room ≡ 2 * s.batch → 1 ≤ s.batch → length ranges ≤ 2 * s.batch → IsQueuedOf maker s.behaviour s.max_memory_size m → q.ranges ≡ ranges_listed m.name.slot ranges → q.slots ≡ m ∷ [] → LeavesClean q.ranges m → IsLocal maker s q
-one_slot_local maker s ranges m q range_room slot_room some few of is holds_it leaves =
+one_slot_local : (maker : MakerTold) (s : Settings) (ranges : List ByteRange) (i : ℕ) (m : Queued) (q : Queue) → m.name ≡ memory_slot i → q.range_room ≡ 2 * s.batch → q.slot_room ≡ 2 * s.batch → 1 ≤ s.batch → length ranges ≤ 2 * s.batch → IsQueuedOf maker s m → q.ranges ≡ ranges_listed i ranges → q.slots ≡ m ∷ [] → LeavesClean q.ranges m → IsLocal maker s q
+one_slot_local maker s ranges i m q named range_room slot_room some few of is holds_it leaves =
     let H : QueuedRange → Type 0 = λ r. holds (owner r) q.slots ≡ true in
-    let held : holds (memory_name m.name.slot) q.slots ≡ true = rw holds_it (alone m of.kind) in
+    let held : holds (memory_slot i) q.slots ≡ true = rw holds_it (alone i m named) in
     let long : length q.ranges ≡ length ranges = ap length is ∙ length-map ranges _ in
     let one : length q.slots ≡ 1 = ap length holds_it in
-    let A : List Queued → Type 0 = λ ms. All (IsQueuedOf maker s.behaviour s.max_memory_size) ms in
+    let A : List Queued → Type 0 = λ ms. All (IsQueuedOf maker s) ms in
     let D : List Queued → Type 0 = λ ms. AreDistinct ms in
     let E : List Queued → Type 0 = λ ms. AllByRecursion (LeavesClean q.ranges) ms in
     record {
-      owners = subst (λ (rs : List QueuedRange). AllByRecursion H rs) (sym is) (owned_ranges m.name.slot ranges q.slots held);
+      owners = subst (λ (rs : List QueuedRange). AllByRecursion H rs) (sym is) (owned_ranges i ranges q.slots held);
       range_room = range_room;
       slot_room = slot_room;
-      regions = subst A (sym holds_it) (All-cons (IsQueuedOf maker s.behaviour s.max_memory_size) m [] of (All-nil (IsQueuedOf maker s.behaviour s.max_memory_size)));
+      regions = subst A (sym holds_it) (All-cons (IsQueuedOf maker s) m [] of (All-nil (IsQueuedOf maker s)));
       queue = record {
         range_room = omega arith;
         slot_room = omega arith;
         distinct = subst D (sym holds_it) (refl, tt);
         each = subst E (sym holds_it) (leaves, tt);
       };
-      grouped = omega (arith, ap runs is, one_run Memory m.name.slot ranges, one);
+      grouped = omega (arith, ap runs is, one_run Memory i ranges, one);
     }
 
 -- the local queue once a memory was reset into it: it has that slot alone
@@ -193,21 +189,21 @@ pub record IsResetLocal (maker : MakerTold) (s : Settings) (q : Queue) : Type 0 
   pub one : length q.slots ≡ 1
 
 -- The local queue after a reset of a slot that it is told of: the ranges are few, and all of that slot.
-pub reset_local : (maker : MakerTold) (s : Settings) (ranges : List ByteRange) (m : Queued) (q : Queue) → IsSettings s → IsLocal maker s q → q.ranges ≡ [] → q.slots ≡ [] → length ranges ≤ 2 * s.batch → IsQueuedOf maker s.behaviour s.max_memory_size m → LeavesClean (ranges_listed m.name.slot ranges) m → IsResetLocal maker s (with_slot m (record q { ranges = q.ranges ++ ranges_listed m.name.slot ranges }))
-reset_local maker s ranges m q settings local none no_slots few of leaves =
-    let listed : List QueuedRange = ranges_listed m.name.slot ranges in
+pub reset_local : (maker : MakerTold) (s : Settings) (ranges : List ByteRange) (i : ℕ) (m : Queued) (q : Queue) → m.name ≡ memory_slot i → IsSettings s → IsLocal maker s q → q.ranges ≡ [] → q.slots ≡ [] → length ranges ≤ 2 * s.batch → IsQueuedOf maker s m → LeavesClean (ranges_listed i ranges) m → IsResetLocal maker s (with_slot m (record q { ranges = q.ranges ++ ranges_listed i ranges }))
+reset_local maker s ranges i m q named settings local none no_slots few of leaves =
+    let listed : List QueuedRange = ranges_listed i ranges in
     let q' : Queue = with_slot m (record q { ranges = q.ranges ++ listed }) in
     let first : q.ranges ++ listed ≡ listed = ap (λ (rs : List QueuedRange). rs ++ listed) none in
     let only : q.slots ++ m ∷ [] ≡ m ∷ [] = ap (λ (ms : List Queued). ms ++ m ∷ []) no_slots in
     let L : List QueuedRange → Type 0 = λ rs. LeavesClean rs m in
     record {
-      queue = one_slot_local maker s ranges m q' local.range_room local.slot_room settings.batch.0 few of first only (subst L (sym first) leaves);
+      queue = one_slot_local maker s ranges i m q' named local.range_room local.slot_room settings.batch.0 few of first only (subst L (sym first) leaves);
       one = ap length only;
     }
 
 -- A memory's slot that was reset is as a reset leaves it,
 abbrev pub memory_queued : ℕ → TakenSlot → Slot → Queued
-memory_queued bytes at slot = record { name = memory_name at.slot; slot = slot; known = true; bytes = bytes; by_hand = None; numbers = at.numbers }
+memory_queued bytes at slot = record { name = memory_slot at.name.slot; slot = slot; known = true; bytes = bytes; by_hand = None; numbers = at.numbers }
 
 pub memory_reset : (keep accessible bytes : ℕ) (b : DecommitBehavior) (at : TakenSlot) (slot : Slot) (ranges : List ByteRange) → keep ≤ 2 ^ 32 → bytes ≡ kept_bytes b keep accessible → IsSlot slot → All (IsPart slot.region.page (size_of slot)) ranges → IsClean (decommitted_all ranges slot) → IsReset ranges (memory_queued bytes at slot)
 memory_reset keep accessible bytes b at slot ranges small kept fits parts clean =
@@ -217,7 +213,7 @@ memory_reset keep accessible bytes b at slot ranges small kept fits parts clean 
 pub reset_told : (keep bytes : ℕ) (at : TakenSlot) (slot new : Slot) (ranges : List ByteRange) → keep ≤ 2 ^ 32 → new ≡ reset_slot slot.region.behaviour keep slot → bytes ≡ kept_bytes slot.region.behaviour keep slot.accessible.bytes → ranges ≡ left_ranges slot.region.behaviour keep slot.accessible.bytes → IsSlot new → All (IsPart new.region.page (size_of new)) ranges → IsClean (decommitted_all ranges new) → Resets false keep at slot new
 reset_told keep bytes at slot new ranges small is kept left fits parts clean =
     let b : DecommitBehavior = slot.region.behaviour in
-    let L : List ByteRange → Slot → ℕ → Type 0 = λ rs s n. LeavesClean (ranges_listed at.slot rs) (memory_queued n at s) in
+    let L : List ByteRange → Slot → ℕ → Type 0 = λ rs s n. LeavesClean (ranges_listed at.name.slot rs) (memory_queued n at s) in
     let leaves : L ranges new bytes = leaves_clean Memory (memory_queued bytes at new) ranges (empty_queue 0 0) refl tt refl (memory_reset keep slot.accessible.bytes bytes b at new ranges small kept fits parts clean) in
     (is, subst (λ (n : ℕ). L (left_ranges b keep slot.accessible.bytes) (reset_slot b keep slot) n) kept (subst (λ (s : Slot). L (left_ranges b keep slot.accessible.bytes) s bytes) is (subst (λ (rs : List ByteRange). L rs new bytes) left leaves)))
 

@@ -1,45 +1,55 @@
 -- A pool as it is made is sound, and nothing of it is used.
-use Rattle.std.specs.List.{AllByRecursion}
-use Rattle.pool_slots.proofs.Lists.{each_both}
-use Rattle.pool_alloc.proofs.PlanPlaces.{stripe_role, cell_role_at, queue_role_at}
-use Rattle.pool_slots.specs.declared.slot_name.OfKinds.{OfKinds}
-use Rattle.pool_slots.specs.declared.plan_maker.PlanSettings.{PlanSettings}
+use Rattle.std.proofs.Common.{◌≡◌, ℕ, zero, suc, ◌+◌, ◌*◌, ◌^◌, ◌<◌, ◌≤◌, Bool, true, false, ◌||◌, List, [], ◌∷◌, ◌++◌, length, refl, sym, ap, subst, ◌∙◌, arith, get_or, replicate, Option, None, map}
+use Rattle.std.specs.List.{AllByRecursion, list_any, range_with_len}
+use Rattle.std.specs.Prelude.{IfSome, min}
+use Rattle.std.proofs.lemmas.Bool.{lt-ltb, false≢true}
+use Rattle.std.proofs.lemmas.List.Elements.{All-nil}
+use Rattle.pool_hall.specs.declared.unit_name.SlotKind.{SlotKind}
+use Rattle.pool_hall.specs.declared.unit_name.SlotKind.TheVariants.{Memory as memory_kind, Table as table_kind, Stack as stack_kind, Heap as heap_kind}
+use Rattle.pool_hall.specs.declared.unit_name.UnitName.{UnitName}
+use Rattle.pool_pages.specs.Count.{count, rounded_up, IsPageSize}
+use Rattle.pool_pages.specs.ConfigLimits.{IsWithinLimits}
+use Rattle.pool_pages.specs.MakerTold.{MakerTold, Planned, fails_making, made_region}
+use Rattle.pool_pages.specs.declared.config.PoolingAllocationConfig.{PoolingAllocationConfig}
+use Rattle.pool_pages.specs.declared.module_types.Tunables.{Tunables}
+use Rattle.pool_pages.specs.declared.offered.Offered.{Offered}
+use Rattle.pool_pages.specs.declared.pages.RegionName.TheVariants as of_region
+use Rattle.pool_images.proofs.PageSizes.{rounded_within, rounded_leaves}
+use Rattle.pool_index.specs.Part.{used_units}
+use Rattle.pool_index.specs.Shard.{ShardState}
+use Rattle.pool_index.specs.declared.ids.MemoryInModule.{MemoryInModule}
+use Rattle.pool_slots.specs.ListUnits.{all_away, all_kept}
+use Rattle.pool_slots.specs.Colourings.{IsUncoloured}
+use Rattle.pool_slots.specs.Makings.{makes_listed_regions}
+use Rattle.pool_slots.specs.PartUnits.{part_away, part_kept}
+use Rattle.pool_slots.specs.Parts.{part_at}
+use Rattle.pool_slots.specs.PartsMade.{nth_region, region_count, region_name, fails_slot, IsGivenUp, fails_some_slot, lists_some_making, SomeGivenUp, IsCellMade, IsMadeAs, AreMadeTo, queue_made, shard_made, shard_part, cell_part_made}
+use Rattle.pool_slots.specs.Plans.{Role, shard_role, cell_role, queue_role, heaps_role, no_role, role_at, IsPlacedAllocator}
+use Rattle.pool_slots.specs.PlansMade.{heaps_from, places_planned}
+use Rattle.pool_slots.specs.SlotNames.{of_kind}
+use Rattle.pool_slots.specs.SlotQueues.{empty_queue}
+use Rattle.pool_slots.specs.StripedPlans.{divided, stripe_allocator, stripe_allocators, IsStripedPlanOf}
+use Rattle.pool_slots.specs.declared.part.PoolPart.{PoolPart}
+use Rattle.pool_slots.specs.declared.part.PoolPart.TheVariants as part
+use Rattle.pool_slots.specs.declared.part_maker.PartSettings.{PartSettings}
 use Rattle.pool_slots.specs.declared.plan.Allocator.{Allocator}
 use Rattle.pool_slots.specs.declared.plan.Plan.{Plan}
-use Rattle.pool_slots.specs.ListUnits.{IsShardOf}
-use Rattle.pool_slots.specs.Plans.{Role, shard_role, cell_role, queue_role, role_at, IsPlacedAllocator}
-use Rattle.pool_slots.proofs.PlansMade.{planned, placed}
-use Rattle.pool_slots.specs.PlansMade.{HaveShards, IsPlanOf, places_planned, allocator_planned}
-use Rattle.std.proofs.Common.{◌≡◌, ℕ, zero, suc, ◌+◌, ◌*◌, ◌^◌, ◌<◌, ◌≤◌, List, [], ◌∷◌, length, refl, sym, ap, subst, ◌∙◌, arith, None, inl, inr, ◌++◌, map}
-use Rattle.std.proofs.lemmas.List.Elements.{All-nil}
-use Rattle.pool_pages.specs.Count.{IsPageSize}
-use Rattle.pool_pages.specs.MakerTold.{MakerTold}
-use Rattle.pool_pages.specs.ConfigLimits.{IsWithinLimits}
-use Rattle.pool_pages.specs.declared.config.PoolingAllocationConfig.{PoolingAllocationConfig}
-use Rattle.pool_pages.specs.declared.offered.Offered.{Offered}
-use Rattle.pool_pages.specs.declared.module_types.Tunables.{Tunables}
-use Rattle.pool_hall.specs.declared.unit_name.SlotKind.TheVariants.{Memory as memory_kind}
-use Rattle.pool_index.specs.Shard.{ShardState, IsShard, fresh_shard, use_of}
-use Rattle.pool_slots.specs.Cells.{is_taken, unmapped, region_made}
-use Rattle.pool_slots.specs.RegionCells.{CellState, memory_cell, no_cell}
-use Rattle.pool_slots.specs.SlotQueues.{empty_queue}
-use Rattle.pool_images.proofs.PageSizes.{rounded_within, rounded_leaves}
-use Rattle.pool_alloc.specs.Made.{settings_of, IsMadeCore, HasMadeParts, plan_settings}
-use Rattle.pool_alloc.specs.Steps.{shard_in, queue_in, cell_of, memory_slot, memory_slots, no_allocator, stripe_allocator}
-use Rattle.pool_alloc.specs.Sound.{IsSettings, IsShared, IsQueuedOf, IsCore, IsPartAt, IsStripe, IsPoolPlan, IsPartFor}
+use Rattle.pool_slots.specs.declared.queued_range.QueueKind.{QueueKind}
+use Rattle.pool_slots.specs.declared.queued_range.QueueKind.TheVariants as of_queue
+use Rattle.pool_slots.specs.declared.slot_name.OfKinds.{OfKinds}
+use Rattle.pool_slots.specs.declared.slot_name.SlotName.{SlotName}
+use Rattle.pool_slots.specs.declared.striped_plan.StripedPlanSettings.{StripedPlanSettings}
+use Rattle.pool_slots.proofs.Lists.{each_both}
+use Rattle.pool_slots.proofs.PartsMade.{made_shard_of}
+use Rattle.pool_slots.proofs.Planning.{allocators_placed}
+use Rattle.pool_slots.proofs.StripedPlans.{planned}
+use Rattle.pool_alloc.specs.Made.{settings_of, plan_settings, part_settings, IsMadeCore}
+use Rattle.pool_alloc.specs.Sound.{IsSettings, IsShared, IsQueuedOf, IsPooled, IsCore, IsPartAt, IsPartFor, IsStripe, IsPoolPlan}
 use Rattle.pool_alloc.specs.Whole.{IsUntouched}
 use Rattle.pool_alloc.specs.declared.pool_core.PoolCore.{PoolCore}
-use Rattle.pool_alloc.specs.declared.pool_core.Counters.{Counters}
 use Rattle.pool_alloc.specs.declared.pool_core.Settings.{Settings}
-use Rattle.pool_alloc.proofs.Rounding.{rounded_is_whole}
-use Rattle.pool_alloc.proofs.Telling.{replicated}
-use Rattle.pool_slots.specs.Parts.{part_at, cell_of_part}
-use Rattle.pool_slots.specs.declared.part.PoolPart.{PoolPart}
-use Rattle.std.proofs.lemmas.Bool.{cases_lt, cases_eq}
-use Rattle.pool_slots.specs.declared.part.PoolPart.TheVariants as part
-use Rattle.std.proofs.lemmas.List.{length-map, length-append, get_or_append_left, get_or_push, get_or-map, get_or_past}
-use Rattle.std.specs.Prelude.{slice_index_or}
-use Rattle.pool_pages.specs.declared.pages.DecommitBehavior.{DecommitBehavior}
+use Rattle.pool_alloc.proofs.PlanPlaces.{cell_below}
+use Rattle.pool_alloc.proofs.Rounding.{rounded_is_whole, rounded_whole}
 
 settings_sound : (page : ℕ) (config : PoolingAllocationConfig) (tunables : Tunables) (offered : Offered) → IsPageSize page → IsWithinLimits config → config.limits.max_memory_size + page ≤ 2 ^ 64 → IsSettings (settings_of page config tunables offered)
 settings_sound page config tunables offered paged within small =
@@ -53,36 +63,33 @@ settings_sound page config tunables offered paged within small =
       memories = omega (arith, within.memories_per_module);
     }
 
--- The plan as it is made: its one allocator of memories has all slots in one shard.
-pub shards_made : (config : PoolingAllocationConfig) → HaveShards (plan_settings config)
-shards_made config = record {
-  memory = record { some = omega arith; covered = omega arith };
-  table = record { some = omega arith; covered = omega arith };
-  stack = record { some = omega arith; covered = omega arith };
-  heap = record { some = omega arith; covered = omega arith };
-}
+-- each stripe's allocator has shards
+stripes_some : (z : StripedPlanSettings) (from n : ℕ) → AllByRecursion (λ a. 0 < a.shards) (map (stripe_allocator z) (range_with_len from n))
+stripes_some z from zero = tt
+stripes_some z from (suc n) = (omega arith, stripes_some z (from + 1) n)
 
-pub plan_made : (config : PoolingAllocationConfig) (plan : Plan) → IsPlanOf (plan_settings config) plan → places_planned (plan_settings config) < 2 ^ 32 → IsPoolPlan plan (places_planned (plan_settings config))
+-- The plan as it is made.
+pub plan_made : (config : PoolingAllocationConfig) (plan : Plan) → IsStripedPlanOf (plan_settings config) plan → places_planned (divided (plan_settings config)) < 2 ^ 32 → IsPoolPlan plan (places_planned (divided (plan_settings config)))
 plan_made config plan is small =
-    let z : PlanSettings = plan_settings config in
-    let have : HaveShards z = shards_made config in
-    let all : plan.memories ≡ allocator_planned z memory_kind ∷ [] = is.allocators memory_kind in
-    let some : AllByRecursion (λ a. 0 < a.shards) plan.memories = rw all (omega arith, tt) in
+    let z : StripedPlanSettings = plan_settings config in
+    let all = planned z plan (omega arith) is in
+    let some : AllByRecursion (λ a. 0 < a.shards) plan.memories = subst (λ (l : List Allocator). AllByRecursion (λ a. 0 < a.shards) l) (sym is.memories) (stripes_some z 0 z.num_stripes) in
     record {
-      planned = planned z plan have is;
+      planned = all;
       small = small;
-      stripes = rw all (omega arith);
-      few = rw all (omega arith);
-      shards = each_both (λ a. 0 < a.shards) IsPlacedAllocator IsStripe plan.memories (λ a more at. record { some = more; placed = at }) some (placed z plan have small is memory_kind);
-      queues = omega (arith, is.queues);
+      stripes = rw is.memories (omega arith);
+      few = rw is.memories (omega arith);
+      shards = each_both (λ a. 0 < a.shards) IsPlacedAllocator IsStripe plan.memories (λ a more at. record { some = more; placed = at }) some (allocators_placed plan (places_planned (divided z)) all small memory_kind);
+      pooled = pooled_kinds plan.totals (is.totals);
+      queues = rw is.queues (omega arith);
       shared = is.shared;
     }
-
-one_allocator : (config : PoolingAllocationConfig) (plan : Plan) → IsPlanOf (plan_settings config) plan → stripe_allocator plan 0 ≡ allocator_planned (plan_settings config) memory_kind
-one_allocator config plan is = ap (λ (l : List Allocator). slice_index_or l 0 no_allocator) (is.allocators memory_kind)
-
-one_shard : (config : PoolingAllocationConfig) (warm : ℕ) → IsShard (fresh_shard memory_kind 0 1 config.limits.total_memories warm) → IsShardOf (allocator_planned (plan_settings config) memory_kind) 0 (fresh_shard memory_kind 0 1 config.limits.total_memories warm)
-one_shard config warm sound = record { sound = sound; kind = refl; first = omega arith; step = refl; capacity = omega arith }
+  where
+    pooled_kinds : (totals : OfKinds) → totals ≡ (plan_settings config).totals → (kind : SlotKind) → 0 < of_kind kind totals → IsPooled kind
+    pooled_kinds totals is memory_kind some = tt
+    pooled_kinds totals is table_kind some = let none = ap (λ (o : OfKinds). o.table) is in absurd (omega (arith, some, none))
+    pooled_kinds totals is stack_kind some = let none = ap (λ (o : OfKinds). o.stack) is in absurd (omega (arith, some, none))
+    pooled_kinds totals is heap_kind some = let none = ap (λ (o : OfKinds). o.heap) is in absurd (omega (arith, some, none))
 
 empty_shared : (maker : MakerTold) (s : Settings) → 1 ≤ s.batch → IsShared maker s (empty_queue (2 * s.batch) (2 * s.batch))
 empty_shared maker s some = record {
@@ -91,102 +98,112 @@ empty_shared maker s some = record {
   slots = omega arith;
   range_room = refl;
   slot_room = refl;
-  regions = All-nil (IsQueuedOf maker s.behaviour s.max_memory_size);
+  regions = All-nil (IsQueuedOf maker s);
   queue = record { range_room = omega arith; slot_room = omega arith; distinct = tt; each = tt };
   grouped = omega arith;
 }
 
+-- no slot that is cold is given out
+cold_units : (kind : SlotKind) (step first n : ℕ) → used_units kind step first (replicate {A = Option (Option MemoryInModule)} n None) ≡ []
+cold_units kind step first zero = refl
+cold_units kind step first (suc n) = cold_units kind step (first + step) n
+
 module _ {P : Type 0} where
-  -- the list of a shard, cells as they are made, and a queue
-  pub parts_made : (maker : MakerTold) (behaviour : DecommitBehavior) (size total warm batch : ℕ) (cells : List CellState) (parts : List (PoolPart P)) → length cells ≡ total → ((i : ℕ) → i < total → slice_index_or cells i no_cell ≡ memory_cell i (unmapped (region_made maker behaviour size i)))
-      → parts ≡ part.Shard (fresh_shard memory_kind 0 1 total warm) ∷ (map (λ c. part.Memory c) cells ++ part.Queue (empty_queue (2 * batch) (2 * batch)) ∷ []) → HasMadeParts maker behaviour size total warm batch parts
-  parts_made maker behaviour size total warm batch cells parts long each is =
-      let x : PoolPart P = part.Shard (fresh_shard memory_kind 0 1 total warm) in
-      let q : PoolPart P = part.Queue (empty_queue (2 * batch) (2 * batch)) in
-      let into : CellState → PoolPart P = λ c. part.Memory c in
-      let memories : List (PoolPart P) = map into cells in
-      let H : List (PoolPart P) → Type 0 = λ l. HasMadeParts maker behaviour size total warm batch l in
-      let many : length memories ≡ total = length-map cells into ∙ long in
-      subst H (sym is) (record {
-        number = omega (arith, length-append memories (q ∷ []), many);
-        shard = refl;
-        cells = λ i below.
-            let here : i < length cells = omega (arith, long, below) in
-            ap (λ (n : ℕ). part_at n (x ∷ (memories ++ q ∷ []))) {x = 1 + i} {y = suc i} (omega arith)
-            ∙ get_or_append_left memories (q ∷ []) _ i (omega (arith, many, below))
-            ∙ get_or-map into cells i no_cell _ here
-            ∙ ap into (each i below);
-        queue = ap (λ (n : ℕ). part_at n (x ∷ (memories ++ q ∷ []))) {x = 1 + total} {y = suc total} (omega arith) ∙ get_or_push memories q _ total many;
-      })
+  -- where each part has nothing, they have nothing together
+  none_of_all : (of : PoolPart P → List UnitName) (all : List (PoolPart P) → List UnitName) → all [] ≡ [] → ((x : PoolPart P) (xs : List (PoolPart P)) → all (x ∷ xs) ≡ of x ++ all xs) → (xs : List (PoolPart P)) → ((p : ℕ) → p < length xs → of (part_at p xs) ≡ []) → all xs ≡ []
+  none_of_all of all start next [] none = start
+  none_of_all of all start next (x ∷ xs) none =
+      next x xs ∙ ap (λ us. us ++ all xs) (none zero (omega arith)) ∙ none_of_all of all start next xs (λ p below. none (suc p) (omega (arith, below)))
 
-  -- each part is made as its place says
-  made_part : (maker : MakerTold) (s : Settings) (config : PoolingAllocationConfig) (plan : Plan) (warm p : ℕ) (parts : List (PoolPart P)) → IsPlanOf (plan_settings config) plan → IsPoolPlan plan (length parts) → 1 ≤ s.batch → IsShard (fresh_shard memory_kind 0 1 config.limits.total_memories warm) → HasMadeParts maker s.behaviour s.max_memory_size config.limits.total_memories warm s.batch parts → p < length parts → IsPartAt maker s plan p (part_at p parts)
-  made_part maker s config plan warm zero parts is of some sound made below =
-      let shard : ShardState = fresh_shard memory_kind 0 1 config.limits.total_memories warm in
-      let a : Allocator = allocator_planned (plan_settings config) memory_kind in
-      let one : stripe_allocator plan 0 ≡ a = one_allocator config plan is in
-      let F : Role → PoolPart P → Type 0 = λ r x. IsPartFor maker s r x in
-      let R : Allocator → Type 0 = λ b. role_at plan (b.first_place + 0) ≡ shard_role b 0 in
-      let role : R a = subst R one (stripe_role plan (length parts) 0 0 of of.stripes (subst (λ (b : Allocator). 0 < b.shards) (sym one) (omega arith))) in
-      subst (F (role_at plan 0)) (sym made.shard) (subst (λ (r : Role). F r (part.Shard shard)) (sym role) (refl, one_shard config warm sound))
-  made_part maker s config plan warm (suc i) parts is of some sound made below =
-      let total : ℕ = config.limits.total_memories in
-      let F : Role → PoolPart P → Type 0 = λ r x. IsPartFor maker s r x in
-      let slots : memory_slots plan ≡ total = ap (λ (o : OfKinds). o.memory) is.totals in
-      elim (cases_lt i total) [
-        | inl inside ↦
-            let cell : CellState = memory_cell i (unmapped (region_made maker s.behaviour s.max_memory_size i)) in
-            let first : cell_of plan i ≡ suc i = ap (λ (o : OfKinds). o.memory + i) is.cells ∙ (omega arith) in
-            let role : role_at plan (suc i) ≡ cell_role (memory_slot i) = ap (role_at plan) (sym first) ∙ cell_role_at plan (length parts) i of (omega (arith, inside, slots)) in
-            subst (F (role_at plan (suc i))) (sym (ap (λ (n : ℕ). part_at n parts) {x = suc i} {y = 1 + i} (omega arith) ∙ made.cells i inside))
-            (subst (λ (r : Role). F r (part.Memory cell)) (sym role) (refl, record { name = refl; holds = refl }))
-        | inr past ↦
-            let last : suc i ≡ 1 + total = omega (arith, past, below, made.number) in
-            let first : plan.first_queue + 0 ≡ suc i = omega (arith, is.first_queue, last) in
-            let role : role_at plan (suc i) ≡ queue_role = ap (role_at plan) (sym first) ∙ queue_role_at plan (length parts) 0 of of.queues in
-            subst (F (role_at plan (suc i))) (sym (ap (λ (n : ℕ). part_at n parts) last ∙ made.queue)) (subst (λ (r : Role). F r (part.Queue (empty_queue (2 * s.batch) (2 * s.batch)))) (sym role) (empty_shared maker s some))
-      ]
+  -- A part as it is made is as its place says, has given out nothing, and keeps nothing.
+  made_cell : (maker : MakerTold) (config : PoolingAllocationConfig) (tunables : Tunables) (offered : Offered) (s : Settings) (kind : SlotKind) (slot : ℕ) (x : PoolPart P) → 0 < maker.page → s ≡ settings_of maker.page config tunables offered → IsPooled kind → IsCellMade 1 maker (part_settings maker.page config offered) kind slot x → IsPartFor maker s (cell_role (record { kind = kind; slot = slot })) x
+  made_cell maker config tunables offered s memory_kind slot x page settings pooled is =
+      let F : Settings → PoolPart P → Type 0 = λ t y. IsPartFor maker t (cell_role (record { kind = memory_kind; slot = slot })) y in
+      let size : ℕ = rounded_up maker.page config.limits.max_memory_size in
+      let same : size ≡ rounded_up maker.page size = sym (rounded_whole maker.page size page (rounded_is_whole maker.page config.limits.max_memory_size)) in
+      let region = ap (λ (n : ℕ). made_region (of_region.Memory slot) offered.behaviour (count maker.page 0) (count maker.page n) maker) same in
+      subst (λ (t : Settings). F t x) (sym settings) (subst (F (settings_of maker.page config tunables offered)) (sym is) (refl, record { named = refl; holds = region }))
+  made_cell maker config tunables offered s table_kind slot x page settings pooled is = absurd pooled
+  made_cell maker config tunables offered s stack_kind slot x page settings pooled is = absurd pooled
+  made_cell maker config tunables offered s heap_kind slot x page settings pooled is = absurd pooled
 
-  pub made_core : (maker : MakerTold) (config : PoolingAllocationConfig) (tunables : Tunables) (offered : Offered) (c : PoolCore P) → IsPageSize maker.page → IsWithinLimits config → config.limits.max_memory_size + maker.page ≤ 2 ^ 64 → IsShard (fresh_shard memory_kind 0 1 config.limits.total_memories config.max_unused_warm_slots) → IsMadeCore maker config tunables offered c → IsCore maker c
-  made_core maker config tunables offered c paged within small sound made =
-      let warm : ℕ = config.max_unused_warm_slots in
-      let batch : c.settings.batch ≡ config.decommit_batch_size = ap (λ (s : Settings). s.batch) made.settings in
+  made_part : (maker : MakerTold) (config : PoolingAllocationConfig) (tunables : Tunables) (offered : Offered) (s : Settings) (r : Role) (x : PoolPart P) → 0 < maker.page → s ≡ settings_of maker.page config tunables offered → 1 ≤ s.batch → ((name : SlotName) → r ≡ cell_role name → IsPooled name.kind) → IsMadeAs 1 maker (part_settings maker.page config offered) r x → IsPartFor maker s r x
+  made_part maker config tunables offered s (shard_role a j) x page settings some pooled is = subst (IsPartFor maker s (shard_role a j)) (sym is.1) (made_shard_of config.max_unused_warm_slots a j is.0)
+  made_part maker config tunables offered s (cell_role name) x page settings some pooled is = made_cell maker config tunables offered s name.kind name.slot x page settings (pooled name refl) is
+  made_part maker config tunables offered s queue_role x page settings some pooled is =
+      let batch : s.batch ≡ config.decommit_batch_size = ap (λ (t : Settings). t.batch) settings in
+      let same : x ≡ part.Queue (empty_queue (2 * s.batch) (2 * s.batch)) = is ∙ ap (λ (n : ℕ). queue_made {P = P} (2 * n) 0) (sym batch) in
+      subst (IsPartFor maker s queue_role) (sym same) (empty_shared maker s some)
+  made_part maker config tunables offered s heaps_role x page settings some pooled is = absurd is
+  made_part maker config tunables offered s no_role x page settings some pooled is = absurd is
+
+  cell_has_nothing : (maker : MakerTold) (ps : PartSettings) (kind : SlotKind) (slot : ℕ) (x : PoolPart P) → IsCellMade 1 maker ps kind slot x → (part_away x ≡ []) × (part_kept x ≡ [])
+  cell_has_nothing maker ps memory_kind slot x is = (ap part_away is, ap part_kept is)
+  cell_has_nothing maker ps table_kind slot x is = (ap part_away is, ap part_kept is)
+  cell_has_nothing maker ps stack_kind slot x is = (ap part_away is, ap part_kept is)
+  cell_has_nothing maker ps heap_kind slot x is = absurd is
+
+  has_nothing : (maker : MakerTold) (ps : PartSettings) (r : Role) (x : PoolPart P) → IsMadeAs 1 maker ps r x → (part_away x ≡ []) × (part_kept x ≡ [])
+  has_nothing maker ps (shard_role a j) x is =
+      let made : ShardState = shard_made ps.max_unused_warm_slots a j in
+      (ap part_away is.1 ∙ cold_units made.kind made.step made.first made.capacity, ap part_kept is.1)
+  has_nothing maker ps (cell_role name) x is = cell_has_nothing maker ps name.kind name.slot x is
+  has_nothing maker ps queue_role x is = (ap part_away is, ap part_kept is)
+  has_nothing maker ps heaps_role x is = absurd is
+  has_nothing maker ps no_role x is = absurd is
+
+  pub made_core : (maker : MakerTold) (config : PoolingAllocationConfig) (tunables : Tunables) (offered : Offered) (c : PoolCore P) → IsPageSize maker.page → IsWithinLimits config → config.limits.max_memory_size + maker.page ≤ 2 ^ 64 → IsMadeCore maker config tunables offered c → IsCore maker c
+  made_core maker config tunables offered c paged within small made =
+      let z : StripedPlanSettings = plan_settings config in
       let I : Settings → Type 0 = λ s. IsSettings s in
-      let H : ℕ → Type 0 = λ n. HasMadeParts maker c.settings.behaviour c.settings.max_memory_size config.limits.total_memories warm n c.parts in
-      let parts : H c.settings.batch = subst H (sym batch) made.parts in
-      let number : places_planned (plan_settings config) ≡ length c.parts = omega (arith, made.parts.number) in
+      let number : places_planned (divided z) ≡ length c.parts = omega (arith, made.parts.count) in
       let plan : IsPoolPlan c.plan (length c.parts) = subst (IsPoolPlan c.plan) number (plan_made config c.plan made.plan made.few) in
+      let batch : c.settings.batch ≡ config.decommit_batch_size = ap (λ (s : Settings). s.batch) made.settings in
       record {
         settings = subst I (sym made.settings) (settings_sound maker.page config tunables offered paged within small);
         page = ap (λ (s : Settings). s.page) made.settings;
         plan = plan;
-        parts = λ p below. made_part maker c.settings config c.plan warm p c.parts made.plan plan (omega (arith, batch, within.batch_at_least)) sound parts below;
+        parts = λ p below.
+            made_part maker config tunables offered c.settings (role_at c.plan p) (part_at p c.parts) (omega (arith, paged.at_least)) made.settings (omega (arith, batch, within.batch_at_least))
+            (λ name role. let inside = cell_below c.plan p name role in plan.pooled name.kind (omega (arith, inside)))
+            (made.parts.each p (omega (arith, below, made.parts.count)));
       }
-
-  -- what is so of the parts of which a list is made, is so of all, also past the end
-  made_each : (Q : PoolPart P → Type 0) (maker : MakerTold) (behaviour : DecommitBehavior) (size total warm batch p : ℕ) (parts : List (PoolPart P)) → HasMadeParts maker behaviour size total warm batch parts → Q (part.Shard (fresh_shard memory_kind 0 1 total warm)) → ((cell : CellState) → Q (part.Memory cell)) → Q (part.Queue (empty_queue (2 * batch) (2 * batch))) → Q (part_at p parts)
-  made_each Q maker behaviour size total warm batch zero parts made shard cell queue = subst Q (sym made.shard) shard
-  made_each Q maker behaviour size total warm batch (suc i) parts made shard cell queue =
-      elim (cases_lt i total) [
-        | inl inside ↦ subst Q (sym (ap (λ (n : ℕ). part_at n parts) {x = suc i} {y = 1 + i} (omega arith) ∙ made.cells i inside)) (cell _)
-        | inr past ↦ elim (cases_eq (suc i) (1 + total)) [
-          | inl last ↦ subst Q (sym (ap (λ (n : ℕ). part_at n parts) last ∙ made.queue)) queue
-          | inr other ↦ subst Q (sym (get_or_past parts (suc i) _ (omega (arith, past, other, made.number)))) (cell _)
-        ]
-      ]
 
   pub made_untouched : (maker : MakerTold) (config : PoolingAllocationConfig) (tunables : Tunables) (offered : Offered) (c : PoolCore P) → IsMadeCore maker config tunables offered c → IsUntouched c
   made_untouched maker config tunables offered c made =
-      let total : ℕ = config.limits.total_memories in
-      let each : (Q : PoolPart P → Type 0) (p : ℕ) → Q (part.Shard (fresh_shard memory_kind 0 1 total config.max_unused_warm_slots)) → ((cell : CellState) → Q (part.Memory cell)) → Q (part.Queue (empty_queue (2 * config.decommit_batch_size) (2 * config.decommit_batch_size))) → Q (part_at p c.parts) =
-      λ Q p shard cell queue. made_each Q maker c.settings.behaviour c.settings.max_memory_size total config.max_unused_warm_slots config.decommit_batch_size p c.parts made.parts shard cell queue in
+      let nothing : (p : ℕ) → p < length c.parts → (part_away (part_at p c.parts) ≡ []) × (part_kept (part_at p c.parts) ≡ []) = λ p below. has_nothing maker (part_settings maker.page config offered) (role_at c.plan p) (part_at p c.parts) (made.parts.each p (omega (arith, below, made.parts.count))) in
       record {
-        unused = λ p k. each (λ x. use_of (shard_in x) k ≡ None) p (replicated total k None) (λ cell. refl) refl;
-        home = λ i below.
-            let there : cell_of c.plan i ≡ 1 + i = ap (λ (o : OfKinds). o.memory + i) made.plan.cells in
-            let slots : memory_slots c.plan ≡ total = ap (λ (o : OfKinds). o.memory) made.plan.totals in
-            ap (λ (x : PoolPart P). is_taken (cell_of_part x).holds) (ap (λ (n : ℕ). part_at n c.parts) there ∙ made.parts.cells i (omega (arith, below, slots)));
-        none_queued = λ p. each (λ x. (queue_in x).slots ≡ []) p refl (λ cell. refl) refl;
-        instances = ap (λ (n : Counters). n.core_instances) made.counters;
-        memories = ap (λ (n : Counters). n.memories) made.counters;
+        none_away = none_of_all part_away all_away refl (λ x xs. refl) c.parts (λ p below. (nothing p below).0);
+        none_kept = none_of_all part_kept all_kept refl (λ x xs. refl) c.parts (λ p below. (nothing p below).1);
+        instances = ap (λ n. n.core_instances) made.counters;
+        memories = ap (λ n. n.memories) made.counters;
       }
+
+-- tests that agree on numbers agree on whether one passes
+same_any : (f g : ℕ → Bool) (from n : ℕ) → ((i : ℕ) → from ≤ i → i < from + n → f i ≡ g i) → list_any f (range_with_len from n) ≡ list_any g (range_with_len from n)
+same_any f g from zero same = refl
+same_any f g from (suc n) same = ap (λ b. b || list_any f (range_with_len (from + 1) n)) (same from (omega arith) (omega arith)) ∙ ap (λ b. g from || b) (same_any f g (from + 1) n (λ i low high. same i (omega (arith, low)) (omega (arith, high))))
+
+-- Where there are memories alone, in one stripe, a making fails where that of a memory's region does, and no region is given
+-- up.
+module _ (config : PoolingAllocationConfig) where
+  nth_memory : (n : ℕ) → n < region_count (plan_settings config).totals → nth_region (plan_settings config).totals n ≡ (of_queue.Memory, n)
+  nth_memory n inside = rw (lt-ltb n config.limits.total_memories (omega (arith, inside))) refl
+
+  over_memories : (f : QueueKind × ℕ → Bool) → list_any (λ n. f (nth_region (plan_settings config).totals n)) (range_with_len 0 (region_count (plan_settings config).totals)) ≡ list_any (λ n. f (of_queue.Memory, n)) (range_with_len 0 config.limits.total_memories)
+  over_memories f =
+      let all : region_count (plan_settings config).totals ≡ config.limits.total_memories = omega arith in
+      same_any (λ n. f (nth_region (plan_settings config).totals n)) (λ n. f (of_queue.Memory, n)) 0 (region_count (plan_settings config).totals) (λ i low high. ap f (nth_memory i (omega (arith, high))))
+      ∙ ap (λ (m : ℕ). list_any (λ n. f (of_queue.Memory, n)) (range_with_len 0 m)) all
+
+  pub fails_of_memories : (ps : PartSettings) (plan : List Planned) → fails_some_slot (plan_settings config) ps plan ≡ makes_listed_regions plan config.limits.total_memories
+  fails_of_memories ps plan = over_memories (λ p. fails_slot 1 ps p.0 p.1 plan)
+
+  pub lists_of_memories : (plan : List Planned) → lists_some_making (plan_settings config).totals plan ≡ makes_listed_regions plan config.limits.total_memories
+  lists_of_memories plan = over_memories (λ p. fails_making (region_name p.0 p.1) plan)
+
+  pub none_given_up : (ps : PartSettings) (maker : MakerTold) → SomeGivenUp (plan_settings config) ps maker → ⊥
+  none_given_up ps maker some =
+      let G : QueueKind × ℕ → Type 0 = λ p. IsGivenUp 1 ps p.0 p.1 maker in
+      let one : IsUncoloured None ps.memory_len.bytes some.0 maker = subst G (nth_memory some.0 some.1) some.2 in
+      false≢true one.some

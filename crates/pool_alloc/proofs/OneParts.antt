@@ -17,15 +17,17 @@ use Rattle.pool_alloc.specs.Turns.{After}
 use Rattle.pool_alloc.specs.declared.pool_core.PoolCore.{PoolCore}
 use Rattle.pool_alloc.specs.declared.frame.Frame.{Frame}
 use Rattle.pool_alloc.specs.declared.frame.Phase.{Phase}
+use Rattle.pool_alloc.specs.declared.frame.Object.TheVariants.{Memory}
 use Rattle.pool_alloc.specs.declared.frame.TakenSlot.{TakenSlot}
-use Rattle.pool_alloc.specs.declared.frame.Phase.TheVariants.{Idle, Key, Validate, CountInstance, Pick, TakeQueue, TakeRegion, Empty, Instantiate, MakeMemory, CountMemory, PutUnknown, FreeUnknown, UncountMemory, Reset, Merge, Flush, UncountInstance}
+use Rattle.pool_slots.specs.declared.slot_name.SlotName.{SlotName}
+use Rattle.pool_alloc.specs.declared.frame.Phase.TheVariants.{Idle, Key, Validate, CountInstance, Pick, TakeQueue, TakeRegion, Empty, Instantiate, MakeMemory, CountObject, PutBack, FreeOne, UncountObject, Reset, Merge, Flush, UncountInstance}
 
 module _ {P : Type 0} where
   one_shard : (j : ℕ) (shard : ShardState) (c : PoolCore P) → ChangesOnePart c (with_shard j shard c)
   one_shard j shard c = inr (inl (j, shard, refl))
 
-  one_cell : (slot : ℕ) (cell : CellState) (c : PoolCore P) → ChangesOnePart c (with_cell slot cell c)
-  one_cell slot cell c = inr (inr (inl (slot, cell, refl)))
+  one_cell : (name : SlotName) (cell : CellState) (c : PoolCore P) → ChangesOnePart c (with_cell name cell c)
+  one_cell name cell c = inr (inr (inl (name, cell, refl)))
 
   one_queue : (i : ℕ) (queue : Queue) (c : PoolCore P) → ChangesOnePart c (with_queue i queue c)
   one_queue i queue c = inr (inr (inr (inl (i, queue, refl))))
@@ -60,7 +62,7 @@ module _ {P : Type 0} where
 
   one_put : (ms : List Queued) (c : PoolCore P) (f : Frame P) → ChangesOnePart c (put_region_row ms c f).part
   one_put [] c f = inl refl
-  one_put (m ∷ rest) c f = one_cell m.name.slot _ c
+  one_put (m ∷ rest) c f = one_cell m.name _ c
 
   one_flushed : (step : FlushStep) (queue : Queue) (c : PoolCore P) (f : Frame P) → ChangesOnePart c (flush_row step queue c f).part
   one_flushed run queue c f = inl refl
@@ -78,11 +80,11 @@ module _ {P : Type 0} where
   one_part g (Empty slot held) c f = one_paged g.fault slot g.slot _ c f
   one_part g (Instantiate slot held) c f = one_paged g.fault slot g.slot _ c f
   one_part g (MakeMemory slot held) c f = one_made slot held _ c f
-  one_part g (CountMemory lease) c f = inr (inr (inr (inr (_, inr (inr refl)))))
-  one_part g (PutUnknown slot held) c f = one_cell slot.slot _ c
-  one_part g (FreeUnknown slot) c f = one_shard _ _ c
-  one_part g (UncountMemory lease) c f = inr (inr (inr (inr (_, inr (inr refl)))))
-  one_part g (Reset lease) c f = one_reset g.fault g.slot lease c f
+  one_part g (CountObject (Memory lease)) c f = inr (inr (inr (inr (_, inr (inr refl)))))
+  one_part g (PutBack at held) c f = one_cell at.name _ c
+  one_part g (FreeOne name) c f = one_shard _ _ c
+  one_part g (UncountObject (Memory lease)) c f = inr (inr (inr (inr (_, inr (inr refl)))))
+  one_part g (Reset (Memory lease)) c f = one_reset g.fault g.slot lease c f
   one_part g Merge c f =
       let i : ℕ = queue_tried 0 c.plan f in
       let whole : Queue = after_append (queue_at i c) f.local in

@@ -9,13 +9,14 @@ use Rattle.std.proofs.Math.Nat.{mod-lt}
 use Rattle.pool_hall.specs.declared.unit_name.SlotKind.{SlotKind}
 use Rattle.pool_hall.specs.declared.unit_name.SlotKind.TheVariants.{Memory as memory_kind, Table as table_kind, Stack as stack_kind}
 use Rattle.pool_slots.specs.SlotNames.{of_kind}
-use Rattle.pool_slots.specs.Plans.{Role, shard_role, cell_role, queue_role, heaps_role, no_role, Block, blocks, is_within, role_among, role_at, slots_at, number_in, have_number, IsAllocator, IsAtHome, home_of, shards_block, cells_block, allocators}
+use Rattle.pool_slots.specs.Plans.{Role, shard_role, cell_role, queue_role, heaps_role, no_role, Block, blocks, is_within, role_among, role_at, slots_at, number_in, have_number, IsAllocator, IsAtHome, home_of, cell_place, allocators_of, shards_block, cells_block, allocators}
 use Rattle.pool_slots.specs.declared.plan.Allocator.{Allocator}
 use Rattle.pool_slots.specs.declared.plan.Plan.{Plan}
 use Rattle.pool_slots.proofs.Planning.{roles, HasShards, shards_of, slots_are_at_home}
 use Rattle.pool_slots.proofs.AwayOnce.{shard_of_kind, home_there}
-use Rattle.pool_alloc.specs.Sound.{IsStripe, IsPoolPlan}
-use Rattle.pool_alloc.specs.Steps.{memory_slot, cell_of, shard_of, memory_slots, no_allocator, stripe_allocator, allocator_for, shard_tried, queue_tried, queues_searched}
+use Rattle.pool_alloc.specs.Leases.{memory_slot}
+use Rattle.pool_alloc.specs.Sound.{IsStripe, IsPoolPlan, IsPooled, IsSlotName}
+use Rattle.pool_alloc.specs.Steps.{memory_slots, no_allocator, stripe_allocator, allocator_for, shard_tried, queue_tried, queues_searched}
 use Rattle.pool_alloc.specs.declared.frame.Frame.{Frame}
 
 -- what is so of each element is so of that at a place
@@ -64,15 +65,31 @@ queue_inside plan places p is role = role_inside (blocks plan) places p queue_ro
 pub apart_places : (plan : Plan) (p q : ℕ) → IsShardPlace plan p → IsQueuePlace plan q → p ≡ q → ⊥
 apart_places plan p q place role e = let no : ◌≡◌ {A = ℕ} 1 3 = sym (ap role_number place.role) ∙ ap (λ (n : ℕ). role_number (role_at plan n)) e ∙ ap role_number role in omega arith
 
-pub cell_role_at : (plan : Plan) (places slot : ℕ) → IsPoolPlan plan places → slot < memory_slots plan → role_at plan (cell_of plan slot) ≡ cell_role (memory_slot slot)
-cell_role_at plan places slot is below = (roles (blocks plan) is.planned.separate).0 slot below
+-- a slot of the pool is one of a memory
+pub pooled_memory : (kind : SlotKind) → IsPooled kind → kind ≡ memory_kind
+pooled_memory memory_kind pooled = refl
+pooled_memory kind pooled = absurd pooled
 
-pub cell_inside : (plan : Plan) (places slot : ℕ) → IsPoolPlan plan places → slot < memory_slots plan → cell_of plan slot < places
-cell_inside plan places slot is below = omega (arith, is.planned.inside.0, below)
+pub memory_name : (name : SlotName) → IsPooled name.kind → name ≡ memory_slot name.slot
+memory_name name pooled = (λ i. record { kind = pooled_memory name.kind pooled i; slot = name.slot })
 
-pub queue_no_cell : (plan : Plan) (places p slot : ℕ) → IsPoolPlan plan places → slot < memory_slots plan → IsQueuePlace plan p → p ≡ cell_of plan slot → ⊥
-queue_no_cell plan places p slot is below role e =
-    let no : ◌≡◌ {A = ℕ} 3 2 = sym (ap role_number role) ∙ ap (λ (n : ℕ). role_number (role_at plan n)) e ∙ ap role_number (cell_role_at plan places slot is below) in
+-- the cell of a slot of the pool has its place
+abbrev IsCellPlace : Plan → ℕ → SlotKind → ℕ → Type 0
+IsCellPlace plan places kind slot = (role_at plan (of_kind kind plan.cells + slot) ≡ cell_role (record { kind = kind; slot = slot })) × (of_kind kind plan.cells + slot < places)
+
+cell_place_of : (plan : Plan) (places : ℕ) (kind : SlotKind) (slot : ℕ) → IsPoolPlan plan places → IsPooled kind → slot < of_kind kind plan.totals → IsCellPlace plan places kind slot
+cell_place_of plan places memory_kind slot is pooled below = ((roles (blocks plan) is.planned.separate).0 slot below, omega (arith, is.planned.inside.0, below))
+cell_place_of plan places kind slot is pooled below = absurd pooled
+
+pub cell_role_at : (plan : Plan) (places : ℕ) (name : SlotName) → IsPoolPlan plan places → IsSlotName plan name → role_at plan (cell_place plan name) ≡ cell_role name
+cell_role_at plan places name is named = (cell_place_of plan places name.kind name.slot is named.pooled named.inside).0
+
+pub cell_inside : (plan : Plan) (places : ℕ) (name : SlotName) → IsPoolPlan plan places → IsSlotName plan name → cell_place plan name < places
+cell_inside plan places name is named = (cell_place_of plan places name.kind name.slot is named.pooled named.inside).1
+
+pub queue_no_cell : (plan : Plan) (places p : ℕ) (name : SlotName) → IsPoolPlan plan places → IsSlotName plan name → IsQueuePlace plan p → p ≡ cell_place plan name → ⊥
+queue_no_cell plan places p name is named role e =
+    let no : ◌≡◌ {A = ℕ} 3 2 = sym (ap role_number role) ∙ ap (λ (n : ℕ). role_number (role_at plan n)) e ∙ ap role_number (cell_role_at plan places name is named) in
     omega arith
 
 -- The allocator of a stripe is one of the plan's.
@@ -85,13 +102,6 @@ stripe_holds plan places stripe is below = each_at (IsAllocator memory_kind (mem
 pub stripe_role : (plan : Plan) (places stripe i : ℕ) → IsPoolPlan plan places → stripe < length plan.memories → i < (stripe_allocator plan stripe).shards → role_at plan ((stripe_allocator plan stripe).first_place + i) ≡ shard_role (stripe_allocator plan stripe) i
 stripe_role plan places stripe i is below inside = each_at (HasShards plan) plan.memories stripe no_allocator below (shards_of plan memory_kind is.planned.separate) i inside
 
-pub stripe_place : (plan : Plan) (places stripe i : ℕ) → IsPoolPlan plan places → stripe < length plan.memories → i < (stripe_allocator plan stripe).shards → IsShardPlace plan ((stripe_allocator plan stripe).first_place + i)
-stripe_place plan places stripe i is below inside = record {
-  allocator = stripe_allocator plan stripe;
-  index = i;
-  role = stripe_role plan places stripe i is below inside;
-}
-
 -- it has no more shards than the most
 most_at : (all : List Allocator) (i : ℕ) (d : Allocator) → i < length all → (get_or all i d).shards ≤ most_shards all
 most_at [] i d below = absurd (omega arith)
@@ -102,31 +112,32 @@ pub stripe_most : (plan : Plan) (stripe : ℕ) → stripe < length plan.memories
 stripe_most plan stripe below = most_at plan.memories stripe no_allocator below
 
 -- The home of a slot.
-pub at_home : (plan : Plan) (places slot : ℕ) → IsPoolPlan plan places → slot < memory_slots plan → IsAtHome plan (memory_slot slot) (home_of plan (memory_slot slot))
-at_home plan places slot is below = slots_are_at_home plan places (memory_slot slot) is.planned below
+pub at_home : (plan : Plan) (places : ℕ) (name : SlotName) → IsPoolPlan plan places → IsSlotName plan name → IsAtHome plan name (home_of plan name)
+at_home plan places name is named = slots_are_at_home plan places name is.planned named.inside
 
-pub home_place : (plan : Plan) (places slot : ℕ) → IsPoolPlan plan places → slot < memory_slots plan → IsShardPlace plan (shard_of plan slot)
-home_place plan places slot is below =
-    let home = at_home plan places slot is below in
+pub home_place : (plan : Plan) (places : ℕ) (name : SlotName) → IsPoolPlan plan places → IsSlotName plan name → IsShardPlace plan (home_of plan name).place
+home_place plan places name is named =
+    let home = at_home plan places name is named in
     record { allocator = home.allocator; index = home.shard; role = home.role }
 
 -- a slot of the pool is one of its allocators'
-pub has_home : (plan : Plan) (places slot : ℕ) → IsPoolPlan plan places → slot < memory_slots plan → 0 < have_number plan.memories slot
-has_home plan places slot is below = omega (arith, (is.planned.slots memory_kind).one slot below)
+pub has_home : (plan : Plan) (places : ℕ) (name : SlotName) → IsPoolPlan plan places → IsSlotName plan name → 0 < have_number (allocators_of plan name.kind) name.slot
+has_home plan places name is named = omega (arith, (is.planned.slots name.kind).one name.slot named.inside)
 
--- A slot of a shard of memories is one of the pool, and at home there.
-pub record IsSlotAt (plan : Plan) (p slot : ℕ) : Type 0 where
-  pub inside : slot < memory_slots plan
-  pub home : p ≡ shard_of plan slot
+-- A slot of a shard is one of the pool, and at home there.
+pub record IsSlotAt (plan : Plan) (p : ℕ) (name : SlotName) : Type 0 where
+  pub named : IsSlotName plan name
+  pub home : p ≡ (home_of plan name).place
 
-pub slot_at : (plan : Plan) (places p : ℕ) (a : Allocator) (j k slot : ℕ) → IsPoolPlan plan places → role_at plan p ≡ shard_role a j → a.kind ≡ memory_kind → k < slots_at a j → slot ≡ number_in a (j * a.slots_per_shard + k) → IsSlotAt plan p slot
-slot_at plan places p a j k slot is role kind below number =
+pub slot_at : (plan : Plan) (places p : ℕ) (a : Allocator) (j k : ℕ) (name : SlotName) → IsPoolPlan plan places → role_at plan p ≡ shard_role a j → k < slots_at a j → name.kind ≡ a.kind → name.slot ≡ number_in a (j * a.slots_per_shard + k) → IsSlotAt plan p name
+slot_at plan places p a j k name is role below kind number =
     let of' = shard_of_kind plan places p a j is.planned role in
-    let total : of_kind of'.kind plan.totals ≡ memory_slots plan = ap (λ (x : SlotKind). of_kind x plan.totals) (sym of'.is ∙ kind) in
+    let total : of_kind of'.kind plan.totals ≡ of_kind name.kind plan.totals = ap (λ (x : SlotKind). of_kind x plan.totals) (sym of'.is ∙ sym kind) in
     let in_shard : j * a.slots_per_shard + k < a.capacity = omega (arith, below) in
+    let inside : name.slot < of_kind name.kind plan.totals = omega (arith, number, of'.allocator.below (j * a.slots_per_shard + k) in_shard, total) in
     record {
-      inside = omega (arith, number, of'.allocator.below (j * a.slots_per_shard + k) in_shard, total);
-      home = home_there plan places p a j k (memory_slot slot) is.planned role (sym kind) below number;
+      named = record { pooled = is.pooled name.kind (omega (arith, inside)); inside = inside };
+      home = home_there plan places p a j k name is.planned role kind below number;
     }
 
 -- A place whose role is a queue is one of the queues.
@@ -215,9 +226,12 @@ queue_of false home next e = refl
 
 module _ {P : Type 0} where
   -- The shard that is tried, and the queue, has its place.
+  pub tried_role : (tried : ℕ) (plan : Plan) (places : ℕ) (f : Frame P) → IsPoolPlan plan places → f.stripe < length plan.memories → role_at plan (shard_tried tried plan f) ≡ shard_role (allocator_for plan f) ((f.home + tried) % (allocator_for plan f).shards)
+  tried_role tried plan places f is stripe =
+      stripe_role plan places f.stripe ((f.home + tried) % (allocator_for plan f).shards) is stripe (mod-lt (f.home + tried) (stripe_is plan places f.stripe is stripe).some)
+
   pub tried_is_shard : (tried : ℕ) (plan : Plan) (places : ℕ) (f : Frame P) → IsPoolPlan plan places → f.stripe < length plan.memories → IsShardPlace plan (shard_tried tried plan f)
-  tried_is_shard tried plan places f is stripe =
-      stripe_place plan places f.stripe ((f.home + tried) % (allocator_for plan f).shards) is stripe (mod-lt (f.home + tried) (stripe_is plan places f.stripe is stripe).some)
+  tried_is_shard tried plan places f is stripe = record { allocator = allocator_for plan f; index = (f.home + tried) % (allocator_for plan f).shards; role = tried_role tried plan places f is stripe }
 
   pub queue_tried_at : (plan : Plan) (queues : ℕ) (f : Frame P) → plan.owned ≡ false → queue_tried queues plan f ≡ plan.first_queue + (f.home + queues) % plan.queues
   queue_tried_at plan queues f shared = ap (λ (m : ℕ). plan.first_queue + m) (queue_of plan.owned f.home ((f.home + queues) % plan.queues) shared)

@@ -2,20 +2,21 @@
 use Rattle.std.proofs.Common.{◌≡◌, ℕ, ◌+◌, ◌*◌, ◌<◌, length, ap, subst, ◌∙◌, arith}
 use Rattle.std.proofs.lemmas.List.{get_or-set_same, get_or-set_other}
 use Rattle.pool_pages.specs.MakerTold.{MakerTold}
-use Rattle.pool_hall.specs.declared.unit_name.SlotKind.TheVariants.{Memory as memory_kind}
 use Rattle.pool_index.specs.Shard.{ShardState, IsShard, slot_number}
 use Rattle.pool_slots.specs.ListUnits.{IsShardOf}
-use Rattle.pool_slots.specs.Parts.{IsAt, IsShardPart, part_at, cell_of_part}
-use Rattle.pool_slots.specs.Plans.{Role, shard_role, cell_role, queue_role, role_at, number_at}
+use Rattle.pool_slots.specs.Parts.{IsAt, IsShardPart, part_at, cell_of_part, IsCellPart}
+use Rattle.pool_slots.specs.Plans.{Role, shard_role, cell_role, queue_role, role_at, number_at, home_of, cell_place}
 use Rattle.pool_slots.specs.declared.part.PoolPart.{PoolPart}
 use Rattle.pool_slots.specs.declared.part.PoolPart.TheVariants as part
 use Rattle.pool_slots.specs.declared.plan.Allocator.{Allocator}
 use Rattle.pool_slots.specs.declared.plan.Plan.{Plan}
-use Rattle.pool_alloc.specs.Sound.{IsPoolCell, IsShared, IsPartFor, IsCore}
-use Rattle.pool_alloc.specs.Steps.{IsMemoryPart, IsQueuePart, memory_slot, cell_of, shard_of, local_of, memory_slots, shard_in, queue_in, shard_at, nth_cell, queue_at, with_part}
+use Rattle.pool_alloc.specs.Sound.{IsShared, IsPartFor, IsCore, IsSlotName, IsCellOf}
+use Rattle.pool_alloc.specs.Steps.{IsQueuePart, shard_in, queue_in, shard_at, queue_at, with_part, part_holding, cell_named}
 use Rattle.pool_alloc.specs.declared.pool_core.PoolCore.{PoolCore}
 use Rattle.pool_alloc.specs.declared.pool_core.Settings.{Settings}
 use Rattle.pool_alloc.proofs.PlanPlaces.{IsShardPlace, IsQueuePlace, IsSlotAt, shard_inside, queue_inside, cell_inside, cell_role_at, at_home, slot_at}
+use Rattle.pool_slots.specs.declared.slot_name.SlotName.{SlotName}
+use Rattle.pool_slots.specs.RegionCells.{CellState}
 
 -- slot k of shard j of an allocator has the number that the shard gives it
 number_of : (a : Allocator) (j k : ℕ) (s : ShardState) → IsShardOf a j s → slot_number s k ≡ number_at a j k
@@ -27,15 +28,15 @@ number_of a j k s is =
     spread : (f m k t : ℕ) → (f + (m + 0) * t) + k * t ≡ f + (m + k) * t
     spread f m k t = omega arith
 
--- the slot of the pool with this number is one of the shard
-pub record HasPlace (plan : Plan) (shard : ShardState) (slot : ℕ) : Type 0 where
-  pub inside : (local_of plan slot).0 < length shard.used
-  pub number : slot_number shard (local_of plan slot).0 ≡ slot
+-- the slot of the pool with this name is one of the shard
+pub record HasPlace (plan : Plan) (shard : ShardState) (name : SlotName) : Type 0 where
+  pub kind : shard.kind ≡ name.kind
+  pub inside : (home_of plan name).local.0 < length shard.used
+  pub number : slot_number shard (home_of plan name).local.0 ≡ name.slot
 
--- a shard of memories' slots, whose numbers are apart
-pub record IsOfMemories (shard : ShardState) : Type 0 where
-  pub kind : shard.kind ≡ memory_kind
-  pub apart : 0 < shard.step
+-- the name of a slot of a shard
+abbrev pub name_in : ShardState → ℕ → SlotName
+name_in shard k = record { kind = shard.kind; slot = slot_number shard k }
 
 module _ {P : Type 0} where
   -- a part that was replaced, and any other
@@ -48,22 +49,26 @@ module _ {P : Type 0} where
   -- what a part of each role is
   record IsShardFor (a : Allocator) (j : ℕ) (x : PoolPart P) : Type 0 where
     part : IsShardPart x
-    kind : a.kind ≡ memory_kind
     is : IsShardOf a j (shard_in x)
 
   shard_for : (maker : MakerTold) (s : Settings) (a : Allocator) (j : ℕ) (x : PoolPart P) → IsPartFor maker s (shard_role a j) x → IsShardFor a j x
-  shard_for maker s a j (part.Shard shard) is = record { part = tt; kind = is.0; is = is.1 }
+  shard_for maker s a j (part.Shard shard) is = record { part = tt; is = is }
   shard_for maker s a j (part.Memory cell) is = absurd is
   shard_for maker s a j (part.Queue q) is = absurd is
   shard_for maker s a j (part.Table cell) is = absurd is
   shard_for maker s a j (part.Stack cell) is = absurd is
 
-  cell_for : (maker : MakerTold) (s : Settings) (slot : ℕ) (x : PoolPart P) → IsPartFor maker s (cell_role (memory_slot slot)) x → IsMemoryPart x × IsPoolCell maker s.behaviour s.max_memory_size slot (cell_of_part x)
-  cell_for maker s slot (part.Shard shard) is = absurd is
-  cell_for maker s slot (part.Memory cell) is = (tt, is.1)
-  cell_for maker s slot (part.Queue q) is = absurd is
-  cell_for maker s slot (part.Table cell) is = absurd is
-  cell_for maker s slot (part.Stack cell) is = absurd is
+  cell_for : (maker : MakerTold) (s : Settings) (name : SlotName) (x : PoolPart P) → IsPartFor maker s (cell_role name) x → IsCellPart x × IsCellOf maker s name (cell_of_part x)
+  cell_for maker s name (part.Shard shard) is = absurd is
+  cell_for maker s name (part.Memory cell) is = (tt, is.1)
+  cell_for maker s name (part.Queue q) is = absurd is
+  cell_for maker s name (part.Table cell) is = absurd is
+  cell_for maker s name (part.Stack cell) is = absurd is
+
+  -- a cell in another state is that of the same slot
+  pub cell_again : (maker : MakerTold) (s : Settings) (name : SlotName) (cell : CellState) (x : PoolPart P) → IsPartFor maker s (cell_role name) x → IsCellOf maker s name cell → IsPartFor maker s (cell_role name) (part_holding cell x)
+  cell_again maker s name cell (part.Memory old) is new = (is.0, new)
+  cell_again maker s name cell x is new = absurd is
 
   queue_for : (maker : MakerTold) (s : Settings) (x : PoolPart P) → IsPartFor maker s queue_role x → IsQueuePart x × IsShared maker s (queue_in x)
   queue_for maker s (part.Shard shard) is = absurd is
@@ -81,10 +86,11 @@ module _ {P : Type 0} where
   shard_there : (maker : MakerTold) (p : ℕ) (c : PoolCore P) → IsCore maker c → (place : IsShardPlace c.plan p) → IsShardFor place.allocator place.index (part_at p c.parts)
   shard_there maker p c core place = shard_for maker c.settings place.allocator place.index (part_at p c.parts) (part_for maker c p (shard_role place.allocator place.index) core (shard_inside c.plan (length c.parts) p core.plan place) place.role)
 
-  cell_there : (maker : MakerTold) (slot : ℕ) (c : PoolCore P) → IsCore maker c → slot < memory_slots c.plan → IsMemoryPart (part_at (cell_of c.plan slot) c.parts) × IsPoolCell maker c.settings.behaviour c.settings.max_memory_size slot (nth_cell slot c)
-  cell_there maker slot c core below =
-      let p : ℕ = cell_of c.plan slot in
-      cell_for maker c.settings slot (part_at p c.parts) (part_for maker c p (cell_role (memory_slot slot)) core (cell_inside c.plan (length c.parts) slot core.plan below) (cell_role_at c.plan (length c.parts) slot core.plan below))
+  pub planned_cell : (maker : MakerTold) (name : SlotName) (c : PoolCore P) → IsCore maker c → IsSlotName c.plan name → IsPartFor maker c.settings (cell_role name) (part_at (cell_place c.plan name) c.parts)
+  planned_cell maker name c core named = part_for maker c (cell_place c.plan name) (cell_role name) core (cell_inside c.plan (length c.parts) name core.plan named) (cell_role_at c.plan (length c.parts) name core.plan named)
+
+  cell_there : (maker : MakerTold) (name : SlotName) (c : PoolCore P) → IsCore maker c → IsSlotName c.plan name → IsCellPart (part_at (cell_place c.plan name) c.parts) × IsCellOf maker c.settings name (cell_named name c)
+  cell_there maker name c core named = cell_for maker c.settings name (part_at (cell_place c.plan name) c.parts) (planned_cell maker name c core named)
 
   queue_there : (maker : MakerTold) (p : ℕ) (c : PoolCore P) → IsCore maker c → IsQueuePlace c.plan p → IsQueuePart (part_at p c.parts) × IsShared maker c.settings (queue_at p c)
   queue_there maker p c core place = queue_for maker c.settings (part_at p c.parts) (part_for maker c p queue_role core (queue_inside c.plan (length c.parts) p core.plan place) place)
@@ -93,39 +99,38 @@ module _ {P : Type 0} where
   pub shard_part : (maker : MakerTold) (p : ℕ) (c : PoolCore P) → IsCore maker c → IsShardPlace c.plan p → IsAt IsShardPart p c.parts
   shard_part maker p c core place = record { inside = shard_inside c.plan (length c.parts) p core.plan place; part = (shard_there maker p c core place).part }
 
-  pub cell_part : (maker : MakerTold) (slot : ℕ) (c : PoolCore P) → IsCore maker c → slot < memory_slots c.plan → IsAt IsMemoryPart (cell_of c.plan slot) c.parts
-  cell_part maker slot c core below = record { inside = cell_inside c.plan (length c.parts) slot core.plan below; part = (cell_there maker slot c core below).0 }
+  pub cell_part : (maker : MakerTold) (name : SlotName) (c : PoolCore P) → IsCore maker c → IsSlotName c.plan name → IsAt IsCellPart (cell_place c.plan name) c.parts
+  cell_part maker name c core named = record { inside = cell_inside c.plan (length c.parts) name core.plan named; part = (cell_there maker name c core named).0 }
 
   pub queue_part : (maker : MakerTold) (p : ℕ) (c : PoolCore P) → IsCore maker c → IsQueuePlace c.plan p → IsAt IsQueuePart p c.parts
   queue_part maker p c core place = record { inside = queue_inside c.plan (length c.parts) p core.plan place; part = (queue_there maker p c core place).0 }
 
   -- and is sound.
-  pub planned_shard : (maker : MakerTold) (p : ℕ) (c : PoolCore P) → IsCore maker c → (place : IsShardPlace c.plan p) → (place.allocator.kind ≡ memory_kind) × IsShardOf place.allocator place.index (shard_at p c)
-  planned_shard maker p c core place = let is = shard_there maker p c core place in (is.kind, is.is)
+  pub planned_shard : (maker : MakerTold) (p : ℕ) (c : PoolCore P) → IsCore maker c → (place : IsShardPlace c.plan p) → IsShardOf place.allocator place.index (shard_at p c)
+  planned_shard maker p c core place = (shard_there maker p c core place).is
 
   pub sound_shard : (maker : MakerTold) (p : ℕ) (c : PoolCore P) → IsCore maker c → IsShardPlace c.plan p → IsShard (shard_at p c)
   sound_shard maker p c core place = (shard_there maker p c core place).is.sound
 
-  pub of_memories : (maker : MakerTold) (p : ℕ) (c : PoolCore P) → IsCore maker c → IsShardPlace c.plan p → IsOfMemories (shard_at p c)
-  of_memories maker p c core place = let is = shard_there maker p c core place in record { kind = is.is.kind ∙ is.kind; apart = is.is.sound.numbers.apart }
-
-  pub sound_cell : (maker : MakerTold) (slot : ℕ) (c : PoolCore P) → IsCore maker c → slot < memory_slots c.plan → IsPoolCell maker c.settings.behaviour c.settings.max_memory_size slot (nth_cell slot c)
-  sound_cell maker slot c core below = (cell_there maker slot c core below).1
+  pub sound_cell : (maker : MakerTold) (name : SlotName) (c : PoolCore P) → IsCore maker c → IsSlotName c.plan name → IsCellOf maker c.settings name (cell_named name c)
+  sound_cell maker name c core named = (cell_there maker name c core named).1
 
   pub sound_queue : (maker : MakerTold) (p : ℕ) (c : PoolCore P) → IsCore maker c → IsQueuePlace c.plan p → IsShared maker c.settings (queue_at p c)
   sound_queue maker p c core place = (queue_there maker p c core place).1
 
   -- A slot of the pool is one of its shard, and each slot of a shard is one of the pool, and at home there.
-  pub place_of : (maker : MakerTold) (c : PoolCore P) (slot : ℕ) → IsCore maker c → slot < memory_slots c.plan → HasPlace c.plan (shard_at (shard_of c.plan slot) c) slot
-  place_of maker c slot core below =
-      let home = at_home c.plan (length c.parts) slot core.plan below in
-      let is : IsShardOf home.allocator home.shard (shard_at (shard_of c.plan slot) c) = (shard_there maker (shard_of c.plan slot) c core (record { allocator = home.allocator; index = home.shard; role = home.role })).is in
+  pub place_of : (maker : MakerTold) (c : PoolCore P) (name : SlotName) → IsCore maker c → IsSlotName c.plan name → HasPlace c.plan (shard_at (home_of c.plan name).place c) name
+  place_of maker c name core named =
+      let p : ℕ = (home_of c.plan name).place in
+      let home = at_home c.plan (length c.parts) name core.plan named in
+      let is : IsShardOf home.allocator home.shard (shard_at p c) = (shard_there maker p c core (record { allocator = home.allocator; index = home.shard; role = home.role })).is in
       record {
+        kind = is.kind ∙ home.kind;
         inside = omega (arith, home.inside, is.capacity, is.sound.entries);
-        number = number_of home.allocator home.shard (local_of c.plan slot).0 _ is ∙ home.number;
+        number = number_of home.allocator home.shard (home_of c.plan name).local.0 _ is ∙ home.number;
       }
 
-  pub slot_of_shard : (maker : MakerTold) (p k : ℕ) (c : PoolCore P) → IsCore maker c → IsShardPlace c.plan p → k < (shard_at p c).capacity → IsSlotAt c.plan p (slot_number (shard_at p c) k)
+  pub slot_of_shard : (maker : MakerTold) (p k : ℕ) (c : PoolCore P) → IsCore maker c → IsShardPlace c.plan p → k < (shard_at p c).capacity → IsSlotAt c.plan p (name_in (shard_at p c) k)
   slot_of_shard maker p k c core place below =
       let is = shard_there maker p c core place in
-      slot_at c.plan (length c.parts) p place.allocator place.index k (slot_number (shard_at p c) k) core.plan place.role is.kind (omega (arith, below, is.is.capacity)) (number_of place.allocator place.index k (shard_at p c) is.is)
+      slot_at c.plan (length c.parts) p place.allocator place.index k (name_in (shard_at p c) k) core.plan place.role (omega (arith, below, is.is.capacity)) is.is.kind (number_of place.allocator place.index k (shard_at p c) is.is)

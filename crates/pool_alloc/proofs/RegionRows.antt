@@ -1,7 +1,6 @@
 -- The rows of a request that has a slot.
-use Rattle.pool_slots.specs.declared.slot_name.RegionNumbers.{RegionNumbers}
 use Rattle.pool_slots.specs.declared.plan.Plan.{Plan}
-use Rattle.pool_alloc.proofs.PlanPlaces.{IsShardPlace, home_place}
+use Rattle.pool_alloc.proofs.PlanPlaces.{IsShardPlace, home_place, pooled_memory}
 use Rattle.std.proofs.Common.{◌≡◌, ℕ, ◌+◌, ◌<◌, ◌≤◌, Bool, true, false, List, [], ◌∷◌, ◌++◌, length, refl, sym, ap, subst, inl, inr, arith, Option, Some, None, Result, Ok, Err}
 use Rattle.std.specs.Prelude.{◌^◌, nat_le, nat_lt, if◌then◌else◌, IfSome, IsSome, IfOk, slice_get, slice_index_or}
 use Rattle.std.proofs.lemmas.List.{length_push}
@@ -36,33 +35,45 @@ use Rattle.pool_alloc.specs.declared.frame.Ending.{Ending}
 use Rattle.pool_alloc.specs.declared.frame.Frame.{Frame}
 use Rattle.pool_alloc.specs.declared.frame.Phase.{Phase}
 use Rattle.pool_alloc.specs.declared.frame.TakenSlot.{TakenSlot}
-use Rattle.pool_alloc.specs.declared.frame.Phase.TheVariants.{Idle, TakeRegion, Empty, Instantiate, MakeMemory, CountMemory, PutUnknown, FreeUnknown}
+use Rattle.pool_alloc.specs.declared.frame.Phase.TheVariants.{Idle, TakeRegion, Empty, Instantiate, MakeMemory, CountObject, PutBack, FreeOne}
 use Rattle.pool_alloc.specs.Answers.{AsksForMemory}
-use Rattle.pool_alloc.specs.Bounds.{sizes_of, memories_left, steps_at, steps_left}
+use Rattle.pool_alloc.specs.Bounds.{sizes_of, objects_left, steps_at, steps_left}
 use Rattle.pool_images.specs.Slots.{IsClean, IsLeft}
 use Rattle.std.specs.Prelude.{is_some}
-use Rattle.pool_alloc.specs.Leases.{Lease, IsUsable}
-use Rattle.pool_alloc.specs.Own.{made_of, made_of_limits, made_for, memory_made}
-use Rattle.pool_alloc.specs.Places.{Thing, right_to, slot_count, both_count, phase_count, phase_instances, phase_memories, region_count}
-use Rattle.pool_alloc.specs.Rows.{in_cell, in_shard, region_next, take_region_on, paged, empty_row, instantiate_row, was_made, make_memory_row, count_memory_row, put_unknown_on, free_unknown_on}
+use Rattle.pool_alloc.specs.Leases.{IsUsable, memory_slot}
+use Rattle.pool_alloc.specs.Own.{made_of, made_of_limits, made_for, memory_made, image_made}
+use Rattle.pool_alloc.specs.Places.{Thing, right_to, both_count, phase_count, phase_instances, phase_memories, region_count, taken_count}
+use Rattle.pool_alloc.specs.Rows.{in_cell, in_shard, region_next, take_region_on, paged, empty_row, instantiate_row, was_made, make_memory_row, count_object_row, put_back_on, free_one_on}
 use Rattle.pool_alloc.specs.Searches.{AreEmpty, IsSearchedBy, IsSearchedAt, IsSearched}
-use Rattle.pool_alloc.specs.Sound.{IsInPoolCell, IsCore, IsLeaseOf, IsToGrant, IsAllocating, HasNoneWaiting, IsShapedAt, IsSupported, HasSlot, HasBegun, IsMadeOf, IsNew}
+use Rattle.pool_alloc.specs.Sound.{IsCore, IsLeaseOf, IsToGrant, IsAllocating, HasNoneWaiting, IsShapedAt, IsSupported, HasSlot, HasBegun, IsMadeOf, IsNew, IsPoolSlot, MayHold, HasRegion, IsPooled, IsSlotName}
 use Rattle.pool_alloc.specs.Stages.{Stage, refusing, stage_by, stage_at, Goes}
 use Rattle.pool_alloc.specs.Stepping.{is_idle}
-use Rattle.pool_alloc.specs.Steps.{memories_wanted, images_wanted, image_wanted, shard_at, nth_cell, shard_of, local_of, with_shard, with_cell, counting_memories, memory_slots}
-use Rattle.pool_alloc.specs.Turns.{Row}
+use Rattle.pool_alloc.specs.Steps.{memories_wanted, images_wanted, image_wanted, shard_at, with_shard, with_cell, counting_memories, memory_slots, cell_named}
+use Rattle.pool_alloc.specs.Turns.{Row, gone_to}
 use Rattle.pool_alloc.proofs.CoreChanges.{core_with_shard, core_with_cell, core_with_counters}
 use Rattle.pool_alloc.proofs.Hands.{in_phase, held_of, Even, Kept, Ready, IsReadyRow}
-use Rattle.pool_alloc.proofs.PoolParts.{place_of, of_memories}
+use Rattle.pool_alloc.proofs.PoolParts.{place_of}
 use Rattle.pool_alloc.proofs.KeptCounts.{kept_shard, away_shard, region_leaves, region_returns}
 use Rattle.pool_alloc.proofs.QueueCounts.{leased_last}
 use Rattle.pool_alloc.proofs.Frees.{freed_one}
 use Rattle.pool_alloc.proofs.SlotIdentity.{IsOneSlot, one_wiped, slot_of_one, slot_made, clean_made, fresh_made}
 use Rattle.pool_alloc.proofs.ShardFrees.{IsShardOf, freed_shard}
-use Rattle.pool_alloc.proofs.Stages.{picked_is_home, unknown_is_away, unknown_is_used}
+use Rattle.pool_alloc.proofs.Stages.{picked_is_home, back_is_away, back_is_used}
 use Rattle.pool_alloc.proofs.Telling.{told_both, told_weaker, told_there}
-use Rattle.pool_alloc.proofs.Ways.{Can, searched_back, push_at, aims_grant, aims_back, next_memory, next_returns, kept_part, same_way, fails_way, made_way}
+use Rattle.pool_alloc.proofs.Ways.{Can, searched_back, push_at, aims_grant, aims_back, next_returns, kept_part, same_way, fails_way, made_way, next_object}
 use Rattle.pool_alloc.proofs.PoolParts.{sound_shard, sound_cell, shard_part}
+use Rattle.pool_slots.specs.declared.slot_name.SlotName.{SlotName}
+use Rattle.pool_hall.specs.declared.unit_name.SlotKind.{SlotKind}
+use Rattle.pool_alloc.specs.Objects.{objects_in}
+use Rattle.pool_alloc.specs.declared.frame.Object.{Object}
+use Rattle.pool_slots.specs.declared.cells.ImageSlot.{ImageSlot}
+use Rattle.pool_slots.specs.Plans.{home_of}
+use Rattle.pool_slots.specs.CellOf.{cell_of}
+use Rattle.pool_hall.specs.declared.unit_name.SlotKind.TheVariants.{Memory as memory_kind}
+use Rattle.pool_alloc.specs.declared.frame.Object.TheVariants.{Memory}
+use Rattle.pool_slots.specs.CellOf.{cell_of}
+use Rattle.pool_alloc.specs.declared.lease.InstanceLease.{InstanceLease}
+use Rattle.pool_slots.specs.SlotNames.{of_kind}
 
 one_instantiated : (fault : Bool) (initial : ℕ) (hide : Bool) (image : Option Image) (old new : Slot) → InstantiatesAs fault initial hide image old new → IsOneSlot old new
 one_instantiated true initial hide image old new told = told.same
@@ -108,8 +119,26 @@ made_in_of (Err e) room decls k held is = tt
 made_in : (s : Settings) (decls : List MemoryDecl) (k : ℕ) (answer : Result Bool LimiterError) (held : Slot) → IfOk (memory_made s decls k answer held) (IsMadeIn s.max_memory_size decls k held)
 made_in s decls k answer held = made_in_of (memory_made s decls k answer held) s.max_memory_size decls k held (made_for_ok answer s.max_memory_size (slice_get decls k) held)
 
-has_of_one : (maker : MakerTold) (s : Settings) (plan : Plan) (slot : ℕ) (old new : Slot) → IsOneSlot old new → HasSlot maker s plan slot old → HasSlot maker s plan slot new
-has_of_one maker s plan slot old new one has = record { inside = has.inside; region = slot_of_one maker s.behaviour s.max_memory_size slot old new one has.region }
+has_of_one : (maker : MakerTold) (s : Settings) (plan : Plan) (name : SlotName) (old new : Slot) → IsOneSlot old new → HasSlot maker s plan name old → HasSlot maker s plan name new
+has_of_one maker s plan name old new one has = record { kind = has.kind; inside = has.inside; region = slot_of_one maker s.behaviour s.max_memory_size name.slot old new one has.region }
+
+memory_inside : (plan : Plan) (name : SlotName) → name.kind ≡ memory_kind → IsSlotName plan name → name.slot < memory_slots plan
+memory_inside plan name kind named = subst (λ (k : SlotKind). name.slot < of_kind k plan.totals) kind named.inside
+
+-- the slot of a memory that a call has is one of the pool, and so it goes back with nothing known of it
+may_hold : (maker : MakerTold) (s : Settings) (kind : SlotKind) (i : ℕ) (held : Slot) → kind ≡ memory_kind → IsPoolSlot maker s.behaviour s.max_memory_size i held → MayHold maker s kind i (unknown held)
+may_hold maker s kind i held is of = let M : SlotKind → Type 0 = λ k. MayHold maker s k i (unknown held) in subst M (sym is) of
+
+-- and its name is that of a memory's slot
+name_of : (name : SlotName) → name.kind ≡ memory_kind → name ≡ memory_slot name.slot
+name_of name kind = (λ i. record { kind = kind i; slot = name.slot })
+
+pub goes_back : (maker : MakerTold) (s : Settings) (plan : Plan) (name : SlotName) (held : Slot) → HasSlot maker s plan name held → HasRegion maker s plan name (unknown held)
+goes_back maker s plan name held has = record {
+  named = record { pooled = subst IsPooled (sym has.kind) tt; inside = subst (λ (k : SlotKind). name.slot < of_kind k plan.totals) (sym has.kind) has.inside };
+  holds = may_hold maker s name.kind name.slot held has.kind has.region;
+  there = refl;
+}
 
 one_emptied : (fault : Bool) (had held : Slot) → Empties fault had held → IsOneSlot had held
 one_emptied true had held told = told.same
@@ -131,32 +160,38 @@ some_used : {X : Type 0} (o : Option X) → is_some o ≡ true → IsSome o
 some_used None e = absurd cc
 some_used (Some x) e = refl
 
+-- An empty cell is one of its slot.
+pub emptied_holds : (maker : MakerTold) (s : Settings) (kind : SlotKind) (i : ℕ) → IsPooled kind → MayHold maker s kind i taken
+emptied_holds maker s memory_kind i pooled = tt
+emptied_holds maker s kind i pooled = absurd pooled
+
 module _ {P : Type 0} where
   -- A region that was never used can be made an image slot of.
-  fresh_cell : (maker : MakerTold) (slot : ℕ) (cell : Cell) (c : PoolCore P) → IsCore maker c → IsInPoolCell maker c.settings.behaviour c.settings.max_memory_size slot cell → (region : Told) → cell ≡ unmapped region → IsFresh (count c.settings.page 0) (count c.settings.page 0) c.settings.max_memory_size None region
-  fresh_cell maker slot cell c core holds region is =
-      let C : Cell → Type 0 = λ x. IsInPoolCell maker c.settings.behaviour c.settings.max_memory_size slot x in
-      fresh_made maker c.settings.behaviour c.settings.page c.settings.max_memory_size slot region core.page core.settings.bounded (subst C is holds)
+  fresh_cell : (maker : MakerTold) (kind : SlotKind) (i : ℕ) (cell : Cell) (c : PoolCore P) → IsCore maker c → IsPooled kind → MayHold maker c.settings kind i cell → (region : Told) → cell ≡ unmapped region → IsFresh (count c.settings.page 0) (count c.settings.page 0) c.settings.max_memory_size None region
+  fresh_cell maker memory_kind i cell c core pooled holds region is =
+      let C : Cell → Type 0 = MayHold maker c.settings memory_kind i in
+      fresh_made maker c.settings.behaviour c.settings.page c.settings.max_memory_size i region core.page core.settings.bounded (subst C is holds)
+  fresh_cell maker kind i cell c core pooled holds region is = absurd pooled
 
-  pub region_is_fresh : (maker : MakerTold) (slot : ℕ) (c : PoolCore P) → IsCore maker c → slot < memory_slots c.plan → (region : Told) → (nth_cell slot c).holds ≡ unmapped region → IsFresh (count c.settings.page 0) (count c.settings.page 0) c.settings.max_memory_size None region
-  region_is_fresh maker slot c core inside region is = fresh_cell maker slot (nth_cell slot c).holds c core (sound_cell maker slot c core inside).holds region is
+  pub region_is_fresh : (maker : MakerTold) (name : SlotName) (c : PoolCore P) → IsCore maker c → IsSlotName c.plan name → (region : Told) → (cell_named name c).holds ≡ unmapped region → IsFresh (count c.settings.page 0) (count c.settings.page 0) c.settings.max_memory_size None region
+  region_is_fresh maker name c core named region is = fresh_cell maker name.kind name.slot (cell_named name c).holds c core named.pooled (sound_cell maker name c core named).holds region is
 
   one_told : (s : Settings) (plan : Plan) (fault : Bool) (new had : Slot) (f : Frame P) → IsAllocating s plan f → IfAllocated f (λ decl. InstantiatesFor s decl fault (image_wanted f) had new) → IsOneSlot had new
   one_told s plan fault new had f allocating told =
-      told_there (IsOneSlot had new) (memories_wanted f.asked) (length f.objects.items) allocating.more
-      (told_weaker (λ decl. InstantiatesFor s decl fault (image_wanted f) had new) (λ decl. IsOneSlot had new) (slice_get (memories_wanted f.asked) (length f.objects.items))
+      told_there (IsOneSlot had new) (memories_wanted f.asked) (length f.objects.memories.items) allocating.more
+      (told_weaker (λ decl. InstantiatesFor s decl fault (image_wanted f) had new) (λ decl. IsOneSlot had new) (slice_get (memories_wanted f.asked) (length f.objects.memories.items))
       (λ decl tells. one_instantiated fault (minimum_byte_size decl.ty) (hides decl.ty s.tunables had.region.page) (image_wanted f) had new tells) told)
 
-  memory_new : (room : ℕ) (f : Frame P) (had : Slot) (memory : MemoryState) → IsMadeIn room (memories_wanted f.asked) (length f.objects.items) had memory → IfAllocated f (HasBegun (image_wanted f) had) → IfAllocated f (IsNew room (image_wanted f) memory)
+  memory_new : (room : ℕ) (f : Frame P) (had : Slot) (memory : MemoryState) → IsMadeIn room (memories_wanted f.asked) (length f.objects.memories.items) had memory → IfAllocated f (HasBegun (image_wanted f) had) → IfAllocated f (IsNew room (image_wanted f) memory)
   memory_new room f had memory in_slot begun =
       let B : Slot → Type 0 = λ s. IfAllocated f (HasBegun (image_wanted f) s) in
-      told_both (HasBegun (image_wanted f) (slot_of memory)) (IsMadeOf room memory) (IsNew room (image_wanted f) memory) (slice_get (memories_wanted f.asked) (length f.objects.items))
+      told_both (HasBegun (image_wanted f) (slot_of memory)) (IsMadeOf room memory) (IsNew room (image_wanted f) memory) (slice_get (memories_wanted f.asked) (length f.objects.memories.items))
       (λ decl has made. record { slot = has; made = made })
       (subst B (sym in_slot.slot) begun) in_slot.made
 
   memory_of : (s : Settings) (plan : Plan) (f : Frame P) (memory : MemoryState) → IsAllocating s plan f → IfAllocated f (IsNew s.max_memory_size (image_wanted f) memory) → IsUsable memory
   memory_of s plan f memory allocating new =
-      let k : ℕ = length f.objects.items in
+      let k : ℕ = objects_in f.objects in
       told_there (IsUsable memory) (memories_wanted f.asked) k allocating.more
       (told_both (λ decl. IsSupported s decl (slice_index_or (images_wanted f.asked) k None)) (IsNew s.max_memory_size (image_wanted f) memory) (λ decl. IsUsable memory) (slice_get (memories_wanted f.asked) k)
       (λ decl fits is. record {
@@ -171,82 +206,102 @@ module _ {P : Type 0} (maker : MakerTold) (old new : LimiterTold) where
   Shows p c f r = IsReadyRow maker old new c (in_phase p f) r
 
   -- The region leaves its cell.
-  abbrev emptied : ℕ → PoolCore P → PoolCore P
-  emptied slot c = with_cell slot (cell_emptied (nth_cell slot c)) c
+  abbrev emptied : SlotName → PoolCore P → PoolCore P
+  emptied name c = with_cell name (cell_emptied (cell_named name c)) c
 
-  taken_kept : (slot : ℕ) (c : PoolCore P) (f : Frame P) → Can maker (TakeRegion slot) c f → Kept maker old new c (in_phase (TakeRegion slot) f) (emptied slot c) (in_phase Idle f)
-  taken_kept slot c f can =
-      let was = sound_cell maker slot c can.core can.frame.shape.2 in
-      kept_part maker old new c (in_phase (TakeRegion slot) f) (emptied slot c) (in_phase Idle f) (core_with_cell maker slot (cell_emptied (nth_cell slot c)) c can.core can.frame.shape.2 (record { name = was.name; holds = tt })) (held_of maker c.settings c.plan (in_phase (TakeRegion slot) f) can.frame) refl refl refl refl
+  taken_kept : (name : SlotName) (c : PoolCore P) (f : Frame P) → Can maker (TakeRegion name) c f → Kept maker old new c (in_phase (TakeRegion name) f) (emptied name c) (in_phase Idle f)
+  taken_kept name c f can =
+      let named : IsSlotName c.plan name = can.frame.shape.2 in
+      let was = sound_cell maker name c can.core named in
+      kept_part maker old new c (in_phase (TakeRegion name) f) (emptied name c) (in_phase Idle f) (core_with_cell maker name (cell_emptied (cell_named name c)) c can.core named (record { named = was.named; holds = emptied_holds maker c.settings name.kind name.slot named.pooled })) (held_of maker c.settings c.plan (in_phase (TakeRegion name) f) can.frame) refl refl refl refl
 
-  taken_even : (slot : ℕ) (n : RegionNumbers) (c : PoolCore P) (f : Frame P) → Can maker (TakeRegion slot) c f → n ≡ cell_numbers (nth_cell slot c) → Even maker old new c (in_phase (TakeRegion slot) f) (record { things = λ t. both_count t slot n; instances = 1; memories = 0 }) (emptied slot c) (in_phase Idle f)
-  taken_even slot n c f can its = record { places = λ t. let leaves = region_leaves maker t slot c can.core can.frame.shape.2 (picked_is_home maker slot c f can.core can.fits) in omega (arith, leaves.0, leaves.1, ap (region_count t slot) its); instances = omega arith; memories = omega arith }
+  taken_even : (at : TakenSlot) (c : PoolCore P) (f : Frame P) → Can maker (TakeRegion at.name) c f → at.numbers ≡ cell_numbers (cell_named at.name c) → Even maker old new c (in_phase (TakeRegion at.name) f) (record { things = λ t. taken_count t at; instances = 1; memories = 0 }) (emptied at.name c) (in_phase Idle f)
+  taken_even at c f can its = record { places = λ t. let leaves = region_leaves maker t at.name c can.core can.frame.shape.2 (picked_is_home maker at.name c f can.core can.fits) in omega (arith, leaves.0, leaves.1, ap (region_count t at.name) its); instances = omega arith; memories = omega arith }
 
-  holds_ready : (at : TakenSlot) (held : Cell) (c : PoolCore P) (f : Frame P) → Can maker (TakeRegion at.slot) c f → at.numbers ≡ cell_numbers (nth_cell at.slot c) → IsInPoolCell maker c.settings.behaviour c.settings.max_memory_size at.slot held → is_taken held ≡ false → Ready maker old new c (in_phase (TakeRegion at.slot) f) (emptied at.slot c) (in_phase Idle f) (region_next c.settings at held)
-  holds_ready at (unmapped region) c f can its holds there = record {
-    kept = taken_kept at.slot c f can;
-    shape = (refl, (can.frame.shape.0, can.frame.shape.1, record { inside = can.frame.shape.2; region = slot_made maker c.settings.behaviour c.settings.page c.settings.max_memory_size at.slot region can.core.page holds }, clean_made maker c.settings.behaviour c.settings.page c.settings.max_memory_size at.slot region can.core.page holds));
-    even = taken_even at.slot at.numbers c f can its;
-    fewer = omega arith;
-    way = same_way maker old new c (in_phase (TakeRegion at.slot) f) f.ending (length f.objects.items);
-    searched = λ s. tt;
-  }
-  holds_ready at (unknown had) c f can its holds there = record {
-    kept = taken_kept at.slot c f can;
-    shape = (refl, (can.frame.shape.0, can.frame.shape.1, record { inside = can.frame.shape.2; region = holds }));
-    even = taken_even at.slot at.numbers c f can its;
-    fewer = omega arith;
-    way = same_way maker old new c (in_phase (TakeRegion at.slot) f) f.ending (length f.objects.items);
-    searched = λ s. tt;
-  }
-  holds_ready at (previously_used had) c f can its holds there = record {
-    kept = taken_kept at.slot c f can;
-    shape = (refl, (can.frame.shape.0, can.frame.shape.1, record { inside = can.frame.shape.2; region = holds.0 }, holds.1));
-    even = taken_even at.slot at.numbers c f can its;
-    fewer = omega arith;
-    way = same_way maker old new c (in_phase (TakeRegion at.slot) f) f.ending (length f.objects.items);
-    searched = λ s. tt;
-  }
-  holds_ready at taken c f can its holds there = absurd cc
+  -- It is that of a memory.
+  record HasLeft (at : TakenSlot) (c : PoolCore P) (f : Frame P) : Type 0 where
+    can : Can maker (TakeRegion at.name) c f
+    numbers : at.numbers ≡ cell_numbers (cell_named at.name c)
+    kind : at.name.kind ≡ memory_kind
 
-  pub take_region_ready : (slot : ℕ) (c : PoolCore P) (f : Frame P) → Can maker (TakeRegion slot) c f → Shows (TakeRegion slot) c f (in_cell slot c (take_region_on c.settings slot (nth_cell slot c) (in_phase Idle f)))
-  take_region_ready slot c f can =
-      let cell : CellState = nth_cell slot c in
-      holds_ready (record { slot = slot; numbers = cell_numbers cell }) cell.holds c f can refl (sound_cell maker slot c can.core can.frame.shape.2).holds (picked_is_home maker slot c f can.core can.fits)
+  has_left : (at : TakenSlot) (held : Slot) (c : PoolCore P) (f : Frame P) → HasLeft at c f → IsPoolSlot maker c.settings.behaviour c.settings.max_memory_size at.name.slot held → HasSlot maker c.settings c.plan at.name held
+  has_left at held c f left of = record { kind = left.kind; inside = memory_inside c.plan at.name left.kind left.can.frame.shape.2; region = of }
+
+  holds_ready : (at : TakenSlot) (held : Cell) (c : PoolCore P) (f : Frame P) → HasLeft at c f → MayHold maker c.settings memory_kind at.name.slot held → is_taken held ≡ false → Ready maker old new c (in_phase (TakeRegion at.name) f) (emptied at.name c) (in_phase Idle f) (region_next c.settings at held)
+  holds_ready at (unmapped region) c f left holds there =
+      let can = left.can in
+      let s : Settings = c.settings in
+      record {
+        kept = taken_kept at.name c f can;
+        shape = (refl, (can.frame.shape.0, can.frame.shape.1, has_left at (image_made s.page s.max_memory_size region) c f left (slot_made maker s.behaviour s.page s.max_memory_size at.name.slot region can.core.page holds), clean_made maker s.behaviour s.page s.max_memory_size at.name.slot region can.core.page holds));
+        even = taken_even at c f can left.numbers;
+        fewer = omega arith;
+        way = same_way maker old new c (in_phase (TakeRegion at.name) f) f.ending (objects_in f.objects);
+        searched = λ s. tt;
+      }
+  holds_ready at (unknown had) c f left holds there =
+      let can = left.can in
+      record {
+        kept = taken_kept at.name c f can;
+        shape = (refl, (can.frame.shape.0, can.frame.shape.1, has_left at had c f left holds));
+        even = taken_even at c f can left.numbers;
+        fewer = omega arith;
+        way = same_way maker old new c (in_phase (TakeRegion at.name) f) f.ending (objects_in f.objects);
+        searched = λ s. tt;
+      }
+  holds_ready at (previously_used had) c f left holds there =
+      let can = left.can in
+      record {
+        kept = taken_kept at.name c f can;
+        shape = (refl, (can.frame.shape.0, can.frame.shape.1, has_left at had c f left holds.0, holds.1));
+        even = taken_even at c f can left.numbers;
+        fewer = omega arith;
+        way = same_way maker old new c (in_phase (TakeRegion at.name) f) f.ending (objects_in f.objects);
+        searched = λ s. tt;
+      }
+  holds_ready at taken c f left holds there = absurd cc
+
+  pub take_region_ready : (name : SlotName) (c : PoolCore P) (f : Frame P) → Can maker (TakeRegion name) c f → Shows (TakeRegion name) c f (in_cell name c (take_region_on c.settings name (cell_named name c) (in_phase Idle f)))
+  take_region_ready name c f can =
+      let cell : CellState = cell_named name c in
+      let named : IsSlotName c.plan name = can.frame.shape.2 in
+      let kind : name.kind ≡ memory_kind = pooled_memory name.kind named.pooled in
+      let holds : MayHold maker c.settings memory_kind name.slot cell.holds = subst (λ (k : SlotKind). MayHold maker c.settings k name.slot cell.holds) kind (sound_cell maker name c can.core named).holds in
+      holds_ready (record { name = name; numbers = cell_numbers cell }) cell.holds c f (record { can = can; numbers = refl; kind = kind }) holds (picked_is_home maker name c f can.core can.fits)
 
   -- A page call of the slot in hand failed, or the call goes on with it.
   paged_ready : (p phase : Phase P) (fault : Bool) (at : TakenSlot) (had held : Slot) (c : PoolCore P) (f : Frame P) →
       Can maker p c f →
       HasNoneWaiting f →
       IsAllocating c.settings c.plan (in_phase p f) →
-      HasSlot maker c.settings c.plan at.slot had →
+      HasSlot maker c.settings c.plan at.name had →
       IsOneSlot had held →
-      ((t : Thing) → phase_count t p ≡ both_count t at.slot at.numbers) →
-      ((t : Thing) → phase_count t phase ≡ both_count t at.slot at.numbers) →
+      ((t : Thing) → phase_count t p ≡ taken_count t at) →
+      ((t : Thing) → phase_count t phase ≡ taken_count t at) →
       (phase_instances p ≡ 1) × (phase_instances phase ≡ 1) →
       (phase_memories p ≡ 0) × (phase_memories phase ≡ 0) →
-      (stage_at p f.ending (length f.objects.items) ≡ stage_by f.ending (length f.objects.items)) × (stage_at phase f.ending (length f.objects.items) ≡ stage_by f.ending (length f.objects.items)) →
+      (stage_at p f.ending (objects_in f.objects) ≡ stage_by f.ending (objects_in f.objects)) × (stage_at phase f.ending (objects_in f.objects) ≡ stage_by f.ending (objects_in f.objects)) →
       (fault ≡ true → IsLeft had held) →
-      (fault ≡ false → (is_idle phase ≡ false) × IsShapedAt maker c.settings c.plan phase (in_phase phase f)) →
-      (steps_at (sizes_of c.plan) phase (in_phase phase f) + 1 ≤ steps_left c (in_phase p f)) × (3 + memories_left (sizes_of c.plan) f.asked f.objects ≤ steps_left c (in_phase p f)) →
-      (IsSearched c (in_phase p f) → IsSearchedAt phase c (in_phase phase f)) →
+      (fault ≡ false → (is_idle phase ≡ false) × IsShapedAt maker c.settings c.plan phase (gone_to phase f)) →
+      (steps_at (sizes_of c.plan) phase (gone_to phase f) + 1 ≤ steps_left c (in_phase p f)) × (3 + objects_left (sizes_of c.plan) f.asked f.objects ≤ steps_left c (in_phase p f)) →
+      (IsSearched c (in_phase p f) → IsSearchedAt phase c (gone_to phase f)) →
       IsReadyRow maker old new c (in_phase p f) (paged fault at held phase c (in_phase Idle f))
   paged_ready p phase true at had held c f can settled allocating has one here there counted none stages left shape steps searched = record {
     kept = kept_part maker old new c (in_phase p f) c _ can.core (held_of maker c.settings c.plan (in_phase p f) can.frame) refl refl refl refl;
-    shape = (refl, (settled, refl, has_of_one maker c.settings c.plan at.slot had (forgotten held) one has));
+    shape = (refl, (settled, refl, goes_back maker c.settings c.plan at.name (forgotten held) (has_of_one maker c.settings c.plan at.name had (forgotten held) one has)));
     even = record { places = λ t. omega (arith, here t); instances = omega (arith, counted.0); memories = omega (arith, none.0) };
     fewer = omega (arith, steps.1);
     way = subst (λ (x : Stage). Goes maker old new c (in_phase p f) x (refusing refusal.PageFault) None) (sym stages.0)
-        (fails_way maker old new c (in_phase p f) f.ending (length f.objects.items) refusal.PageFault allocating.ending (inr (inl (record {
+        (fails_way maker old new c (in_phase p f) f.ending (objects_in f.objects) refusal.PageFault allocating.ending (inr (inl (record {
           is = refl;
           number = refl;
           allocating = allocating;
-          slot = at.slot;
+          name = at.name;
           old = had;
           new = held;
           region = has;
           left = left refl;
-          has = λ k. omega (arith, here (right_to k));
+          has = λ other. omega (arith, here (right_to other));
         }))));
     searched = λ s. tt;
   }
@@ -255,8 +310,8 @@ module _ {P : Type 0} (maker : MakerTold) (old new : LimiterTold) where
     shape = shape refl;
     even = record { places = λ t. omega (arith, here t, there t); instances = omega (arith, counted.0, counted.1); memories = omega (arith, none.0, none.1) };
     fewer = steps.0;
-    way = subst (λ (x : Stage). Goes maker old new c (in_phase p f) x (stage_at phase f.ending (length f.objects.items)) None) (sym stages.0)
-        (subst (λ (x : Stage). Goes maker old new c (in_phase p f) (stage_by f.ending (length f.objects.items)) x None) (sym stages.1) (same_way maker old new c (in_phase p f) f.ending (length f.objects.items)));
+    way = subst (λ (x : Stage). Goes maker old new c (in_phase p f) x (stage_at phase f.ending (objects_in f.objects)) None) (sym stages.0)
+        (subst (λ (x : Stage). Goes maker old new c (in_phase p f) (stage_by f.ending (objects_in f.objects)) x None) (sym stages.1) (same_way maker old new c (in_phase p f) f.ending (objects_in f.objects)));
     searched = searched;
   }
 
@@ -267,14 +322,14 @@ module _ {P : Type 0} (maker : MakerTold) (old new : LimiterTold) where
       paged_ready (Empty at had) (Instantiate at held) fault at had held c f can can.frame.shape.0 can.frame.shape.1 can.frame.shape.2 one
       (λ t. refl) (λ t. refl) (refl, refl) (refl, refl) (refl, refl)
       (left_emptied fault had held told)
-      (λ done. (refl, (can.frame.shape.0, can.frame.shape.1, has_of_one maker c.settings c.plan at.slot had held one can.frame.shape.2, clean_emptied fault had held told done)))
+      (λ done. (refl, (can.frame.shape.0, can.frame.shape.1, has_of_one maker c.settings c.plan at.name had held one can.frame.shape.2, clean_emptied fault had held told done)))
       (omega arith, omega arith) (λ s. tt)
 
   -- The slot is instantiated.
   left_told : (s : Settings) (plan : Plan) (p : Phase P) (fault : Bool) (had held : Slot) (f : Frame P) → IsAllocating s plan (in_phase p f) → IfAllocated f (λ decl. InstantiatesFor s decl fault (image_wanted f) had held) → fault ≡ true → IsLeft had held
   left_told s plan p fault had held f allocating told is =
-      told_there (IsLeft had held) (memories_wanted f.asked) (length f.objects.items) allocating.more
-      (told_weaker (λ decl. InstantiatesFor s decl fault (image_wanted f) had held) (λ decl. IsLeft had held) (slice_get (memories_wanted f.asked) (length f.objects.items))
+      told_there (IsLeft had held) (memories_wanted f.asked) (length f.objects.memories.items) allocating.more
+      (told_weaker (λ decl. InstantiatesFor s decl fault (image_wanted f) had held) (λ decl. IsLeft had held) (slice_get (memories_wanted f.asked) (length f.objects.memories.items))
       (λ decl tells. left_instantiated s decl fault (image_wanted f) had held tells is) told)
 
   pub instantiate_ready : (fault : Bool) (held : Slot) (at : TakenSlot) (had : Slot) (c : PoolCore P) (f : Frame P) → Can maker (Instantiate at had) c f → IfAllocated f (λ decl. InstantiatesFor c.settings decl fault (image_wanted f) had held) → Shows (Instantiate at had) c f (instantiate_row fault held at c (in_phase Idle f))
@@ -288,113 +343,114 @@ module _ {P : Type 0} (maker : MakerTold) (old new : LimiterTold) where
         (
           can.frame.shape.0,
           can.frame.shape.1,
-          has_of_one maker c.settings c.plan at.slot had held one can.frame.shape.2,
-          told_weaker (λ decl. InstantiatesFor c.settings decl fault (image_wanted f) had held) (λ decl. HasBegun (image_wanted f) held decl) (slice_get (memories_wanted f.asked) (length f.objects.items))
+          has_of_one maker c.settings c.plan at.name had held one can.frame.shape.2,
+          told_weaker (λ decl. InstantiatesFor c.settings decl fault (image_wanted f) had held) (λ decl. HasBegun (image_wanted f) held decl) (slice_get (memories_wanted f.asked) (length f.objects.memories.items))
               (λ decl tells. begun_as c.settings decl fault (image_wanted f) had held done tells) told,
         ),
       ))
       (omega arith, omega arith) (λ s. tt)
 
   -- The memory is made.
-  made_ready : (at : TakenSlot) (had : Slot) (given : Result Bool LimiterError) (r : Result MemoryState AllocError) (c : PoolCore P) (f : Frame P) → Can maker (MakeMemory at had) c f → IfAllocated f (AsksForMemory given old new) → memory_made c.settings (memories_wanted f.asked) (length f.objects.items) given had ≡ r → IfOk r (IsMadeIn c.settings.max_memory_size (memories_wanted f.asked) (length f.objects.items) had) → Shows (MakeMemory at had) c f (was_made at had r c (in_phase Idle f))
+  made_ready : (at : TakenSlot) (had : Slot) (given : Result Bool LimiterError) (r : Result MemoryState AllocError) (c : PoolCore P) (f : Frame P) → Can maker (MakeMemory at had) c f → IfAllocated f (AsksForMemory given old new) → memory_made c.settings (memories_wanted f.asked) (length f.objects.memories.items) given had ≡ r → IfOk r (IsMadeIn c.settings.max_memory_size (memories_wanted f.asked) (length f.objects.memories.items) had) → Shows (MakeMemory at had) c f (was_made at had r c (in_phase Idle f))
   made_ready at had given (Ok memory) c f can asked is in_slot =
       let e : Frame P = in_phase (MakeMemory at had) f in
-      let H : Slot → Type 0 = λ s. HasSlot maker c.settings c.plan at.slot s in
+      let H : Slot → Type 0 = λ s. HasSlot maker c.settings c.plan at.name s in
       let begins : IfAllocated f (IsNew c.settings.max_memory_size (image_wanted f) memory) = memory_new c.settings.max_memory_size f had memory in_slot can.frame.shape.3 in
       let has : H (slot_of memory) = subst H (sym in_slot.slot) can.frame.shape.2 in
       record {
         kept = kept_part maker old new c e c _ can.core (held_of maker c.settings c.plan e can.frame) refl refl refl refl;
         shape = (refl, (can.frame.shape.0, can.frame.shape.1, record { inside = has.inside; slot = has.region; memory = memory_of c.settings c.plan e memory can.frame.shape.1 begins }, begins));
-        even = record { places = λ t. omega arith; instances = omega arith; memories = omega arith };
+        even = record { places = λ t. omega (arith, ap (λ (n : SlotName). both_count t n at.numbers) (name_of at.name has.kind)); instances = omega arith; memories = omega arith };
         fewer = omega arith;
-        way = made_way maker old new c e f.ending (length f.objects.items) can.frame.shape.1.ending (inr (refl, memory, record { number = refl; allocating = can.frame.shape.1; given = given; held = had; asked = asked; is = is }));
+        way = made_way maker old new c e f.ending (objects_in f.objects) can.frame.shape.1.ending (inr (refl, memory, record { number = refl; allocating = can.frame.shape.1; given = given; held = had; asked = asked; is = is }));
         searched = λ s. tt;
       }
   made_ready at had given (Err x) c f can asked is in_slot =
       let e : Frame P = in_phase (MakeMemory at had) f in
       record {
         kept = kept_part maker old new c e c _ can.core (held_of maker c.settings c.plan e can.frame) refl refl refl refl;
-        shape = (refl, (can.frame.shape.0, refl, has_of_one maker c.settings c.plan at.slot had (forgotten had) refl can.frame.shape.2));
+        shape = (refl, (can.frame.shape.0, refl, goes_back maker c.settings c.plan at.name (forgotten had) (has_of_one maker c.settings c.plan at.name had (forgotten had) refl can.frame.shape.2)));
         even = record { places = λ t. omega arith; instances = omega arith; memories = omega arith };
         fewer = omega arith;
-        way = fails_way maker old new c e f.ending (length f.objects.items) x can.frame.shape.1.ending (inr (inr (record { number = refl; allocating = can.frame.shape.1; given = given; held = had; asked = asked; is = is })));
+        way = fails_way maker old new c e f.ending (objects_in f.objects) x can.frame.shape.1.ending (inr (inr (record { number = refl; allocating = can.frame.shape.1; given = given; held = had; asked = asked; is = is })));
         searched = λ s. tt;
       }
 
   pub make_memory_ready : (given : Result Bool LimiterError) (at : TakenSlot) (had : Slot) (c : PoolCore P) (f : Frame P) → Can maker (MakeMemory at had) c f → IfAllocated f (AsksForMemory given old new) → Shows (MakeMemory at had) c f (make_memory_row given at had c (in_phase Idle f))
   make_memory_ready given at had c f can asked =
-      made_ready at had given (memory_made c.settings (memories_wanted f.asked) (length f.objects.items) given had) c f can asked refl
-      (made_in c.settings (memories_wanted f.asked) (length f.objects.items) given had)
+      made_ready at had given (memory_made c.settings (memories_wanted f.asked) (length f.objects.memories.items) given had) c f can asked refl
+      (made_in c.settings (memories_wanted f.asked) (length f.objects.memories.items) given had)
 
   -- The memory is granted.
-  pub count_memory_ready : (lease : Lease) (c : PoolCore P) (f : Frame P) → Can maker (CountMemory lease) c f → Shows (CountMemory lease) c f (count_memory_row lease c (in_phase Idle f))
-  count_memory_ready lease c f can =
-      let e : Frame P = in_phase (CountMemory lease) f in
+  pub count_object_ready : (object : Object P) (c : PoolCore P) (f : Frame P) → Can maker (CountObject object) c f → Shows (CountObject object) c f (count_object_row object c (in_phase Idle f))
+  count_object_ready (Memory lease) c f can =
+      let e : Frame P = in_phase (CountObject (Memory lease)) f in
       let allocating = can.frame.shape.1 in
       let was = allocating.to_grant in
       let now : PoolCore P = counting_memories (c.counters.memories + 1) c in
-      let has : Frame P = record f { phase = Idle; objects = with_item lease f.objects; queues = 0 } in
-      let long : length (f.objects.items ++ lease ∷ []) ≡ length f.objects.items + 1 = length_push f.objects.items lease in
-      let to_grant : IsToGrant c.settings c.plan f.asked 0 (with_item lease f.objects) = record {
+      let objects : InstanceLease P = record f.objects { memories = with_item lease f.objects.memories } in
+      let has : Frame P = record f { phase = Idle; objects = objects; queues = 0 } in
+      let long : length (f.objects.memories.items ++ lease ∷ []) ≡ length f.objects.memories.items + 1 = length_push f.objects.memories.items lease in
+      let to_grant : IsToGrant c.settings c.plan f.asked 0 objects = record {
         supported = was.supported;
         images = was.images;
         room = was.room;
         few = omega (arith, allocating.more, long);
-        begun = push_at (λ k l. IfSome (slice_get (memories_wanted f.asked) k) (IsNew c.settings.max_memory_size (slice_index_or (images_wanted f.asked) k None) l.memory)) f.objects.items lease was.begun can.frame.shape.3;
+        begun = push_at (λ k l. IfSome (slice_get (memories_wanted f.asked) k) (IsNew c.settings.max_memory_size (slice_index_or (images_wanted f.asked) k None) l.memory)) f.objects.memories.items lease was.begun can.frame.shape.3;
         taken = omega arith;
       } in
       let S : Ending → Type 0 = λ x. IsSearchedBy x (AreEmpty 0 now has) in
-      let W : ℕ → Type 0 = λ n. Goes maker old new c e (stage_by f.ending (length f.objects.items + 1)) (stage_by f.ending n) None in
+      let W : ℕ → Type 0 = λ n. Goes maker old new c e (stage_by f.ending (objects_in f.objects + 1)) (stage_by f.ending n) None in
       record {
         kept = record {
           core = core_with_counters maker (record c.counters { memories = c.counters.memories + 1 }) c can.core;
-          held = record { stripe = can.frame.stripe; queue = can.frame.queue; freed_room = can.frame.freed_room; freed_each = can.frame.freed_each; objects = All-push (IsLeaseOf maker c.settings c.plan) f.objects.items lease can.frame.objects can.frame.shape.2 };
+          held = record { stripe = can.frame.stripe; queue = can.frame.queue; freed_room = can.frame.freed_room; freed_each = can.frame.freed_each; objects = All-push (IsLeaseOf maker c.settings c.plan) f.objects.memories.items lease can.frame.objects can.frame.shape.2 };
           asked = refl;
           settings = refl;
           plan = refl;
           instances_by_one = omega arith;
           memories_by_one = omega arith;
         };
-        shape = (can.frame.shape.0, aims_grant c.settings c.plan f.ending f.asked 0 (with_item lease f.objects) allocating.ending to_grant);
-        even = record { places = λ t. omega (arith, leased_last t f.objects.items lease); instances = omega arith; memories = omega (arith, long) };
-        fewer = omega (arith, next_memory (sizes_of c.plan) f.ending f.asked lease f.objects allocating.ending);
-        way = subst W (sym long) (same_way maker old new c e f.ending (length f.objects.items + 1));
+        shape = (can.frame.shape.0, aims_grant c.settings c.plan f.ending f.asked 0 objects allocating.ending to_grant);
+        even = record { places = λ t. omega (arith, leased_last t f.objects.memories.items lease); instances = omega arith; memories = omega (arith, long) };
+        fewer = omega (arith, next_object (sizes_of c.plan) f.ending f.asked f.objects objects allocating.ending long);
+        way = subst W (sym long) (same_way maker old new c e f.ending (objects_in f.objects + 1));
         searched = λ s. subst S (sym allocating.ending) (λ j below. absurd (omega (arith, below)));
       }
 
-  -- The region of a slot of which nothing is known is put back,
-  pub put_unknown_ready : (at : TakenSlot) (held : Slot) (c : PoolCore P) (f : Frame P) → Can maker (PutUnknown at held) c f → Shows (PutUnknown at held) c f (in_cell at.slot c (put_unknown_on at.slot held (nth_cell at.slot c) (in_phase Idle f)))
-  put_unknown_ready at held c f can =
-      let e : Frame P = in_phase (PutUnknown at held) f in
-      let gone = unknown_is_away maker at held c f can.core can.fits in
-      let inside : at.slot < memory_slots c.plan = omega (arith, can.frame.shape.2.inside) in
-      let cell : CellState = cell_filled (unknown held) (nth_cell at.slot c) in
+  -- The region of a slot is put back,
+  pub put_back_ready : (at : TakenSlot) (held : ImageSlot P) (c : PoolCore P) (f : Frame P) → Can maker (PutBack at held) c f → Shows (PutBack at held) c f (in_cell at.name c (put_back_on at.name (cell_of held) (cell_named at.name c) (in_phase Idle f)))
+  put_back_ready at held c f can =
+      let e : Frame P = in_phase (PutBack at held) f in
+      let gone = back_is_away maker at held c f can.core can.fits in
+      let region = can.frame.shape.2 in
+      let cell : CellState = cell_filled (cell_of held) (cell_named at.name c) in
       record {
-        kept = kept_part maker old new c e (with_cell at.slot cell c) (in_phase Idle f) (core_with_cell maker at.slot cell c can.core inside (record { name = (sound_cell maker at.slot c can.core inside).name; holds = can.frame.shape.2.region })) (held_of maker c.settings c.plan e can.frame) refl refl refl refl;
-        shape = (refl, (can.frame.shape.0, can.frame.shape.1, can.frame.shape.2.inside));
-        even = record { places = λ t. let back = region_returns maker t at.slot (unknown held) c can.core inside gone.away refl in omega (arith, back.0, back.1, ap (region_count t at.slot) gone.out); instances = omega arith; memories = omega arith };
+        kept = kept_part maker old new c e (with_cell at.name cell c) (in_phase Idle f) (core_with_cell maker at.name cell c can.core region.named (record { named = (sound_cell maker at.name c can.core region.named).named; holds = region.holds })) (held_of maker c.settings c.plan e can.frame) refl refl refl refl;
+        shape = (refl, (can.frame.shape.0, can.frame.shape.1, region.named));
+        even = record { places = λ t. let back = region_returns maker t at.name (cell_of held) c can.core region.named gone.away region.there in omega (arith, back.0, back.1, ap (region_count t at.name) gone.out); instances = omega arith; memories = omega arith };
         fewer = omega arith;
-        way = same_way maker old new c e f.ending (length f.objects.items);
+        way = same_way maker old new c e f.ending (objects_in f.objects);
         searched = λ s. tt;
       }
 
   -- and the slot freed.
-  pub free_unknown_ready : (slot : ℕ) (c : PoolCore P) (f : Frame P) → Can maker (FreeUnknown slot) c f → Shows (FreeUnknown slot) c f (in_shard (shard_of c.plan slot) c (free_unknown_on c.plan slot (shard_at (shard_of c.plan slot) c) (in_phase Idle f)))
-  free_unknown_ready slot c f can =
-      let e : Frame P = in_phase (FreeUnknown slot) f in
-      let j : ℕ = shard_of c.plan slot in
+  pub free_one_ready : (name : SlotName) (c : PoolCore P) (f : Frame P) → Can maker (FreeOne name) c f → Shows (FreeOne name) c f (in_shard (home_of c.plan name).place c (free_one_on c.plan name (shard_at (home_of c.plan name).place c) (in_phase Idle f)))
+  free_one_ready name c f can =
+      let e : Frame P = in_phase (FreeOne name) f in
+      let j : ℕ = (home_of c.plan name).place in
       let shard : ShardState = shard_at j c in
-      let inside : slot < memory_slots c.plan = omega (arith, can.frame.shape.2) in
-      let place = place_of maker c slot can.core inside in
-      let used = unknown_is_used maker slot c f can in
-      let freed : ShardState = after_free (local_of c.plan slot) 0 shard in
-      let there : IsShardPlace c.plan j = home_place c.plan (length c.parts) slot can.core.plan inside in
-      let next_shard : IsShardOf shard freed = freed_shard (local_of c.plan slot) 0 shard (sound_shard maker j c can.core there) (some_used _ used) (omega arith) in
+      let named : IsSlotName c.plan name = can.frame.shape.2 in
+      let place = place_of maker c name can.core named in
+      let used = back_is_used maker name c f can in
+      let freed : ShardState = after_free (home_of c.plan name).local 0 shard in
+      let there : IsShardPlace c.plan j = home_place c.plan (length c.parts) name can.core.plan named in
+      let next_shard : IsShardOf shard freed = freed_shard (home_of c.plan name).local 0 shard (sound_shard maker j c can.core there) (some_used _ used) (omega arith) in
       record {
         kept = kept_part maker old new c e (with_shard j freed c) (in_phase Idle f) (core_with_shard maker j freed c can.core there next_shard.sound next_shard.same) (held_of maker c.settings c.plan e can.frame) refl refl refl refl;
         shape = (can.frame.shape.0, aims_back c.settings c.plan f.ending f.asked f.queues f.objects can.frame.shape.1);
-        even = record { places = λ t. omega (arith, kept_shard t j freed c (shard_part maker j c can.core there), away_shard t j freed c (shard_part maker j c can.core there), freed_one t c.plan shard slot 0 (of_memories maker j c can.core there) place used); instances = omega arith; memories = omega arith };
+        even = record { places = λ t. omega (arith, kept_shard t j freed c (shard_part maker j c can.core there), away_shard t j freed c (shard_part maker j c can.core there), freed_one t c.plan shard name 0 place used); instances = omega arith; memories = omega arith };
         fewer = omega (arith, next_returns (sizes_of c.plan) f.ending f.queues f.asked f.objects can.frame.shape.1);
-        way = same_way maker old new c e f.ending (length f.objects.items);
+        way = same_way maker old new c e f.ending (objects_in f.objects);
         searched = λ s. searched_back f.ending _ can.frame.shape.1;
       }

@@ -14,7 +14,7 @@ use Rattle.pool_alloc.specs.declared.frame.Frame.{Frame}
 use Rattle.pool_alloc.specs.declared.frame.FreedSlot.{FreedSlot}
 use Rattle.pool_alloc.specs.declared.frame.Phase.{Phase}
 use Rattle.pool_alloc.specs.declared.frame.TakenSlot.{TakenSlot}
-use Rattle.pool_alloc.specs.declared.frame.Phase.TheVariants.{Idle, UncountMemory, Reset, Merge, Flush, UncountInstance}
+use Rattle.pool_alloc.specs.declared.frame.Phase.TheVariants.{Idle, UncountObject, Reset, Merge, Flush, UncountInstance}
 use Rattle.pool_pages.specs.declared.pages.DecommitBehavior.{DecommitBehavior}
 use Rattle.pool_pages.specs.declared.pages.DecommitBehavior.TheVariants.{Zero, RestoreOriginalMapping}
 use Rattle.pool_images.specs.Slots.{Slot, IsClean, forgotten, left_ranges, reset_slot}
@@ -24,25 +24,33 @@ use Rattle.pool_memory.specs.Memories.{slot_of as image_slot_of}
 use Rattle.pool_slots.specs.Cells.{unknown, previously_used, is_taken}
 use Rattle.pool_slots.specs.RegionCells.{CellState, cell_filled}
 use Rattle.pool_slots.specs.SlotQueues.{Queue, Queued, LeavesClean, taken_into, drained, after_append}
-use Rattle.pool_alloc.specs.Answers.{Decommits, Resets, FlushTold}
+use Rattle.pool_alloc.specs.Answers.{Decommits, Resets, FlushTold, ResetTold}
 use Rattle.pool_alloc.specs.Bounds.{sizes_of}
 use Rattle.pool_alloc.specs.Freeing.{AreUsedInTurn}
-use Rattle.pool_alloc.specs.Leases.{Lease, slot_taken}
+use Rattle.pool_alloc.specs.Leases.{Lease, memory_slot, slot_taken}
 use Rattle.pool_alloc.specs.Own.{slot_ended, reset_into}
 use Rattle.pool_alloc.specs.Places.{Thing, both_count, queued_count, region_count}
 use Rattle.pool_alloc.specs.Reserved.{with_item}
-use Rattle.pool_alloc.specs.Rows.{FlushStep, run, put, free, flush_step, merged, merge_on, in_queue, uncount_memory_row, was_reset, uncount_instance_row, decommit_row, put_region_row, free_row, flush_row}
-use Rattle.pool_alloc.specs.Sound.{IsInPoolCell, IsPoolSlot, IsCore, IsShared, IsLocal, IsQueuedOf, IsFreedOf}
-use Rattle.pool_alloc.specs.Steps.{StepGiven, shard_at, nth_cell, queue_at, shard_of, freed_of, freed_elsewhere, first_shard, after_frees, cell_returned, queue_tried, with_shard, with_cell, with_queue, cell_of, memory_slots}
+use Rattle.pool_alloc.specs.Rows.{FlushStep, run, put, free, flush_step, merged, merge_on, in_queue, uncount_object_row, was_reset, reset_row, uncount_instance_row, decommit_row, put_region_row, free_row, flush_row}
+use Rattle.pool_hall.specs.declared.unit_name.SlotKind.{SlotKind}
+use Rattle.pool_hall.specs.declared.unit_name.SlotKind.TheVariants.{Memory as memory_kind}
+use Rattle.pool_slots.specs.Plans.{home_of, cell_place}
+use Rattle.pool_alloc.specs.declared.frame.Object.{Object}
+use Rattle.pool_alloc.specs.declared.frame.Object.TheVariants.{Memory}
+use Rattle.pool_alloc.specs.declared.pool_core.Settings.{Settings}
+use Rattle.pool_alloc.specs.Objects.{objects_in}
+use Rattle.pool_alloc.specs.Sound.{MayHold, MayQueue, IsPoolSlot, IsCore, IsShared, IsLocal, IsQueuedOf, IsFreedOf}
+use Rattle.pool_alloc.specs.Steps.{StepGiven, shard_at, cell_named, queue_at, freed_of, freed_elsewhere, first_shard, after_frees, cell_returned, queue_tried, with_shard, with_cell, with_queue, memory_slots}
 use Rattle.pool_alloc.specs.Turns.{goes, next, flush, Row, is_flushed}
 use Rattle.pool_alloc.proofs.CoreChanges.{core_with_shard, core_with_cell, core_with_queue, core_with_counters}
 use Rattle.pool_alloc.proofs.FlushSteps.{few_in_both, flush_few, decommit_fewer, put_fewer, free_fewer}
-use Rattle.pool_alloc.proofs.FreedSlots.{freed_counts, freed_inside}
+use Rattle.pool_alloc.proofs.FreedSlots.{freed_counts}
 use Rattle.pool_alloc.proofs.Hands.{empty_length, some_length, in_phase, hand, held_of, Even, Kept, IsReadyRow, either_ready}
 use Rattle.pool_alloc.proofs.KeptCounts.{kept_shard, kept_queue, away_shard, away_queue, region_returns}
 use Rattle.pool_alloc.proofs.LocalQueues.{IsStillLocal, reset_local, drained_shared, taken_local, drained_local, joined_local, joined_shared, decommitted_local, rest_local}
-use Rattle.pool_alloc.proofs.QueueCounts.{queued_first, queued_last, queued_joined, freed_last, freed_parted, run_counts, faulted_counts, one_of_memory}
+use Rattle.pool_alloc.proofs.QueueCounts.{queued_first, queued_last, queued_joined, freed_last, freed_parted, run_counts, faulted_counts}
 use Rattle.pool_alloc.proofs.QueueRuns.{first_leaves}
+use Rattle.pool_alloc.proofs.RegionRows.{goes_back}
 use Rattle.pool_alloc.proofs.ShardFrees.{IsShardOf, frees_shard}
 use Rattle.pool_alloc.proofs.SlotIdentity.{one_reset, slot_of_one}
 use Rattle.pool_alloc.proofs.Stages.{local_is_apart, first_can_be_put, first_can_be_freed}
@@ -53,9 +61,10 @@ use Rattle.pool_alloc.proofs.Searching.{still_empty}
 use Rattle.pool_alloc.specs.Searches.{AreEmpty}
 use Rattle.pool_slots.specs.declared.part.PoolPart.TheVariants as part
 
-returned_if : (maker : MakerTold) (behaviour : DecommitBehavior) (static_size i : ℕ) (known : Bool) (s : Slot) → IsPoolSlot maker behaviour static_size i s → (known ≡ true → IsClean s) → IsInPoolCell maker behaviour static_size i (if known then previously_used s else unknown s)
-returned_if maker behaviour static_size i true s of clean = (of, clean refl)
-returned_if maker behaviour static_size i false s of clean = of
+returned_if : (maker : MakerTold) (s : Settings) (kind : SlotKind) (i : ℕ) (known : Bool) (held : Slot) → MayQueue maker s kind i held → (known ≡ true → IsClean held) → MayHold maker s kind i (if known then previously_used held else unknown held)
+returned_if maker s memory_kind i true held of clean = (of, clean refl)
+returned_if maker s memory_kind i false held of clean = of
+returned_if maker s kind i known held of clean = absurd of
 
 -- a reset leaves one range at most
 one_if_more : (b : Bool) (r : ByteRange) → length (if b then r ∷ [] else []) ≤ 1
@@ -70,7 +79,7 @@ fewer : (p : FreedSlot → Bool) (xs : List FreedSlot) → length (filter (λ x.
 fewer p xs = omega (arith, length-filter_both p (λ (x : FreedSlot). not (p x)) (λ x. refl) xs)
 
 -- a reset puts the slot of its memory into the queue
-reset_counts : (t : Thing) (keep : ℕ) (at : TakenSlot) (slot : Slot) (q : Queue) → queued_count t (reset_into keep at slot q).slots ≡ queued_count t q.slots + both_count t at.slot at.numbers
+reset_counts : (t : Thing) (keep : ℕ) (at : TakenSlot) (slot : Slot) (q : Queue) → queued_count t (reset_into keep at slot q).slots ≡ queued_count t q.slots + both_count t (memory_slot at.name.slot) at.numbers
 reset_counts t keep at slot q = queued_last t q.slots _
 
 -- a cell to which a region is returned has it
@@ -118,34 +127,34 @@ module _ {P : Type 0} (maker : MakerTold) (old new : LimiterTold) where
   abbrev Shows : Phase P → PoolCore P → Frame P → Row (PoolCore P) P → Type 0
   Shows p c f r = IsReadyRow maker old new c (in_phase p f) r
 
-  -- A memory that is given back is no grant any more.
-  pub uncount_memory_ready : (lease : Lease) (c : PoolCore P) (f : Frame P) → Can maker (UncountMemory lease) c f → Shows (UncountMemory lease) c f (uncount_memory_row lease c (in_phase Idle f))
-  uncount_memory_ready lease c f can =
-      let e : Frame P = in_phase (UncountMemory lease) f in
+  -- An object that is given back is no grant any more.
+  pub uncount_object_ready : (object : Object P) (c : PoolCore P) (f : Frame P) → Can maker (UncountObject object) c f → Shows (UncountObject object) c f (uncount_object_row object c (in_phase Idle f))
+  uncount_object_ready (Memory lease) c f can =
+      let e : Frame P = in_phase (UncountObject (Memory lease)) f in
       record {
         kept = record { core = core_with_counters maker (record c.counters { memories = c.counters.memories - 1 }) c can.core; held = held_of maker c.settings c.plan e can.frame; asked = refl; settings = refl; plan = refl; instances_by_one = omega arith; memories_by_one = omega arith };
         shape = (refl, can.frame.shape);
         even = record { places = λ t. omega arith; instances = omega arith; memories = omega (arith, can.fits.memories) };
         fewer = omega arith;
-        way = same_way maker old new c e f.ending (length f.objects.items);
+        way = same_way maker old new c e f.ending (objects_in f.objects);
         searched = λ s. tt;
       }
 
   -- The memory is reset, or a page call of that failed.
-  pub reset_ready : (fault : Bool) (held : Slot) (lease : Lease) (c : PoolCore P) (f : Frame P) → Can maker (Reset lease) c f → Resets fault c.settings.keep_resident.bytes (slot_taken lease) (image_slot_of lease.memory) held → Shows (Reset lease) c f (was_reset fault held lease c (in_phase Idle f))
-  reset_ready true held lease c f can told =
-      let e : Frame P = in_phase (Reset lease) f in
+  memory_reset_ready : (fault : Bool) (held : Slot) (lease : Lease) (c : PoolCore P) (f : Frame P) → Can maker (Reset (Memory lease)) c f → Resets fault c.settings.keep_resident.bytes (slot_taken lease) (image_slot_of lease.memory) held → Shows (Reset (Memory lease)) c f (was_reset fault held lease c (in_phase Idle f))
+  memory_reset_ready true held lease c f can told =
+      let e : Frame P = in_phase (Reset (Memory lease)) f in
       let of = can.frame.shape.2 in
       record {
         kept = kept_part maker old new c e c (in_phase Idle f) can.core (held_of maker c.settings c.plan e can.frame) refl refl refl refl;
-        shape = (refl, (can.frame.shape.0, can.frame.shape.1, record { inside = of.inside; region = slot_of_one maker c.settings.behaviour c.settings.max_memory_size lease.index (image_slot_of lease.memory) (forgotten held) told.1.same of.slot }));
+        shape = (refl, (can.frame.shape.0, can.frame.shape.1, goes_back maker c.settings c.plan (memory_slot lease.index) (forgotten held) (record { kind = refl; inside = of.inside; region = slot_of_one maker c.settings.behaviour c.settings.max_memory_size lease.index (image_slot_of lease.memory) (forgotten held) told.1.same of.slot })));
         even = record { places = λ t. omega arith; instances = omega arith; memories = omega arith };
         fewer = omega arith;
-        way = same_way maker old new c e f.ending (length f.objects.items);
+        way = same_way maker old new c e f.ending (objects_in f.objects);
         searched = λ s. tt;
       }
-  reset_ready false held lease c f can told =
-      let e : Frame P = in_phase (Reset lease) f in
+  memory_reset_ready false held lease c f can told =
+      let e : Frame P = in_phase (Reset (Memory lease)) f in
       let settled = can.frame.shape.0 in
       let back = can.frame.shape.1 in
       let of = can.frame.shape.2 in
@@ -153,7 +162,7 @@ module _ {P : Type 0} (maker : MakerTold) (old new : LimiterTold) where
       let slot : Slot = image_slot_of lease.memory in
       let still : IsPoolSlot maker c.settings.behaviour c.settings.max_memory_size lease.index (reset_slot slot.region.behaviour keep slot) = slot_of_one maker c.settings.behaviour c.settings.max_memory_size lease.index slot (reset_slot slot.region.behaviour keep slot) (one_reset slot.region.behaviour keep slot) of.slot in
       let ranges : List ByteRange = left_ranges slot.region.behaviour keep slot.accessible.bytes in
-      let is = reset_local maker c.settings ranges (slot_ended keep (slot_taken lease) slot) f.local can.core.settings can.frame.queue settled.no_ranges settled.no_slots (omega (arith, one_range slot.region.behaviour keep slot.accessible.bytes, can.core.settings.batch.0)) (record { kind = refl; slot = still }) told.1 in
+      let is = reset_local maker c.settings ranges lease.index (slot_ended keep (slot_taken lease) slot) f.local refl can.core.settings can.frame.queue settled.no_ranges settled.no_slots (omega (arith, one_range slot.region.behaviour keep slot.accessible.bytes, can.core.settings.batch.0)) still told.1 in
       let q : Queue = reset_into keep (slot_taken lease) slot f.local in
       let has : Frame P = record f { phase = Idle; local = q } in
       let kept : Kept maker old new c e c has = kept_part maker old new c e c has can.core
@@ -161,7 +170,7 @@ module _ {P : Type 0} (maker : MakerTold) (old new : LimiterTold) where
       refl refl refl refl in
       let even : Even maker old new c e (hand {P = P} next) c has = record { places = λ t. omega (arith, reset_counts t keep (slot_taken lease) slot f.local); instances = omega arith; memories = omega arith } in
       let few = flush_few (sizes_of c.plan) (memory_slots c.plan) q f.freed is.queue.grouped (omega (arith, is.one, of.inside)) in
-      let stays = same_way maker old new c e f.ending (length f.objects.items) in
+      let stays = same_way maker old new c e f.ending (objects_in f.objects) in
       either_ready maker old new c e c has ((length q.ranges == 0) || nat_le c.settings.batch (length q.ranges)) flush (goes Merge)
       (λ full. record {
         kept = kept;
@@ -182,6 +191,9 @@ module _ {P : Type 0} (maker : MakerTold) (old new : LimiterTold) where
         searched = λ s. tt;
       })
 
+  pub reset_ready : (g : StepGiven) (object : Object P) (c : PoolCore P) (f : Frame P) → Can maker (Reset object) c f → ResetTold c.settings g object → Shows (Reset object) c f (reset_row g object c (in_phase Idle f))
+  reset_ready g (Memory lease) c f can told = memory_reset_ready g.fault g.slot lease c f can told
+
   -- The local queue is appended.
   merged_ready : (b : Bool) (c : PoolCore P) (f : Frame P) → Can maker Merge c f → nat_le c.settings.batch (length (after_append (queue_at (queue_tried 0 c.plan f) c) f.local).ranges) ≡ b → Shows Merge c f (in_queue (queue_tried 0 c.plan f) c (merged b (after_append (queue_at (queue_tried 0 c.plan f) c) f.local) (record f { phase = Idle; local = drained f.local })))
   merged_ready true c f can is =
@@ -192,7 +204,7 @@ module _ {P : Type 0} (maker : MakerTold) (old new : LimiterTold) where
       let below : IsQueuePlace c.plan i = tried_is_queue 0 c.plan (length c.parts) f can.core.plan in
       let shape = can.frame.shape in
       let shared : IsShared maker c.settings q = sound_queue maker i c can.core below in
-      let both : IsLocal maker c.settings whole = joined_local maker c.settings q f.local shared can.frame.queue (local_is_apart maker i c e can.core can.frame can.fits below) shape.2 shape.4 in
+      let both : IsLocal maker c.settings whole = joined_local maker c.settings q f.local shared can.frame.queue (local_is_apart maker i c e can.core can.fits below) shape.2 shape.4 in
       let slots : length whole.slots ≡ length q.slots + length f.local.slots = length-append q.slots f.local.slots in
       let has : Frame P = record f { phase = Idle; local = taken_into (drained f.local) whole } in
       record {
@@ -209,7 +221,7 @@ module _ {P : Type 0} (maker : MakerTold) (old new : LimiterTold) where
         shape = aims_back c.settings c.plan f.ending f.asked f.queues f.objects shape.0;
         even = record { places = λ t. omega (arith, kept_queue t i (drained whole) c (queue_part maker i c can.core below), away_queue t i (drained whole) c (queue_part maker i c can.core below), queued_joined t q.slots f.local.slots); instances = omega arith; memories = omega arith };
         fewer = omega (arith, flush_few (sizes_of c.plan) (memory_slots c.plan) (taken_into (drained f.local) whole) f.freed both.grouped (few_in_both maker i c e can below), next_returns (sizes_of c.plan) f.ending f.queues f.asked f.objects shape.0);
-        way = same_way maker old new c e f.ending (length f.objects.items);
+        way = same_way maker old new c e f.ending (objects_in f.objects);
         searched = λ s. searched_back f.ending _ shape.0;
       }
   merged_ready false c f can is =
@@ -220,7 +232,7 @@ module _ {P : Type 0} (maker : MakerTold) (old new : LimiterTold) where
       let below : IsQueuePlace c.plan i = tried_is_queue 0 c.plan (length c.parts) f can.core.plan in
       let shape = can.frame.shape in
       let shared : IsShared maker c.settings q = sound_queue maker i c can.core below in
-      let both : IsLocal maker c.settings whole = joined_local maker c.settings q f.local shared can.frame.queue (local_is_apart maker i c e can.core can.frame can.fits below) shape.2 shape.4 in
+      let both : IsLocal maker c.settings whole = joined_local maker c.settings q f.local shared can.frame.queue (local_is_apart maker i c e can.core can.fits below) shape.2 shape.4 in
       let has : Frame P = record f { phase = Idle; local = drained f.local } in
       record {
         kept = kept_part maker old new c e (with_queue i whole c) has
@@ -236,7 +248,7 @@ module _ {P : Type 0} (maker : MakerTold) (old new : LimiterTold) where
         shape = (record { no_ranges = refl; no_slots = refl; none_freed = shape.1 }, aims_back c.settings c.plan f.ending f.asked f.queues f.objects shape.0);
         even = record { places = λ t. omega (arith, kept_queue t i whole c (queue_part maker i c can.core below), away_queue t i whole c (queue_part maker i c can.core below), queued_joined t q.slots f.local.slots); instances = omega arith; memories = omega arith };
         fewer = omega (arith, next_returns (sizes_of c.plan) f.ending f.queues f.asked f.objects shape.0);
-        way = same_way maker old new c e f.ending (length f.objects.items);
+        way = same_way maker old new c e f.ending (objects_in f.objects);
         searched = λ s. searched_back f.ending _ shape.0;
       }
 
@@ -252,7 +264,7 @@ module _ {P : Type 0} (maker : MakerTold) (old new : LimiterTold) where
         shape = (can.frame.shape.0, none_granted _ f.ending);
         even = record { places = λ t. omega (arith, none_counted {P = P} (grant_count t) f.ending); instances = omega (arith, can.fits.instances, none_counted {P = P} grant_instances f.ending); memories = omega (arith, none_counted {P = P} grant_memories f.ending) };
         fewer = omega arith;
-        way = ends_way maker old new c e f.ending (length f.objects.items) can.frame.shape.1;
+        way = ends_way maker old new c e f.ending (objects_in f.objects) can.frame.shape.1;
         searched = λ s. tt;
       }
 
@@ -269,7 +281,7 @@ module _ {P : Type 0} (maker : MakerTold) (old new : LimiterTold) where
         shape = can.frame.shape.0;
         even = record { places = λ t. omega (arith, decommit_counts t fault f.local queue told); instances = omega arith; memories = omega arith };
         fewer = omega (arith, decommit_fewer (sizes_of c.plan) fault f.local queue f.freed told some);
-        way = same_way maker old new c e f.ending (length f.objects.items);
+        way = same_way maker old new c e f.ending (objects_in f.objects);
         searched = λ s. s;
       }
 
@@ -278,32 +290,32 @@ module _ {P : Type 0} (maker : MakerTold) (old new : LimiterTold) where
   put_ready [] c f can none is some = absurd (omega arith)
   put_ready (m ∷ rest) c f can none is some =
       let e : Frame P = in_phase Flush f in
-      let Q : Queued → Type 0 = IsQueuedOf maker c.settings.behaviour c.settings.max_memory_size in
+      let Q : Queued → Type 0 = IsQueuedOf maker c.settings in
       let of = All-head Q m rest (All-same Q (m ∷ rest) f.local.slots (sym is) can.frame.queue.regions) in
       let leaves : LeavesClean [] m = first_leaves m rest f.local none is can.frame.queue.queue in
-      let x : FreedSlot = record { slot = m.name.slot; bytes = m.bytes } in
-      let cell : CellState = cell_filled (cell_returned m) (nth_cell m.name.slot c) in
-      let d : PoolCore P = with_cell m.name.slot cell c in
+      let x : FreedSlot = record { name = m.name; bytes = m.bytes } in
+      let cell : CellState = cell_filled (cell_returned m) (cell_named m.name c) in
+      let d : PoolCore P = with_cell m.name cell c in
       let has : Frame P = record f { phase = Idle; local = record f.local { slots = rest }; freed = with_item x f.freed } in
       let long : length f.local.slots ≡ length (m ∷ rest) = ap (length {A = Queued}) is in
       let more : length (f.freed.items ++ x ∷ []) ≡ length f.freed.items + 1 = length_push f.freed.items x in
-      let can_put = first_can_be_put maker c f m rest can.core can.fits of.kind is in
+      let can_put = first_can_be_put maker c f m rest can.core can.fits is in
       record {
         kept = kept_part maker old new c e d has
-            (core_with_cell maker m.name.slot cell c can.core can_put.inside (record { name = (sound_cell maker m.name.slot c can.core can_put.inside).name; holds = returned_if maker c.settings.behaviour c.settings.max_memory_size m.name.slot m.known m.slot of.slot leaves.clean }))
+            (core_with_cell maker m.name cell c can.core can_put.named (record { named = (sound_cell maker m.name c can.core can_put.named).named; holds = returned_if maker c.settings m.name.kind m.name.slot m.known m.slot of leaves.clean }))
             (record {
               stripe = can.frame.stripe;
               queue = rest_local maker c.settings m rest f.local none is can.frame.queue;
               freed_room = (can.frame.freed_room.0, omega (arith, can.frame.freed_room.1, more, long));
-              freed_each = All-push (IsFreedOf c.plan) f.freed.items x can.frame.freed_each (record { inside = can_put.inside; bytes = leaves.bytes });
+              freed_each = All-push (IsFreedOf c.plan) f.freed.items x can.frame.freed_each (record { named = can_put.named; bytes = leaves.bytes });
               objects = can.frame.objects;
             })
             refl refl refl refl;
         shape = can.frame.shape.0;
-        even = record { places = λ t. omega (arith, ap (queued_count t) is, queued_first t m rest, one_of_memory t m of.kind, (region_returns maker t m.name.slot (cell_returned m) c can.core can_put.inside can_put.away (returned_has m.known m.slot)).0, (region_returns maker t m.name.slot (cell_returned m) c can.core can_put.inside can_put.away (returned_has m.known m.slot)).1, ap (region_count t m.name.slot) can_put.out, freed_last t f.freed.items x); instances = omega arith; memories = omega arith };
+        even = record { places = λ t. omega (arith, ap (queued_count t) is, queued_first t m rest, (region_returns maker t m.name (cell_returned m) c can.core can_put.named can_put.away (returned_has m.known m.slot)).0, (region_returns maker t m.name (cell_returned m) c can.core can_put.named can_put.away (returned_has m.known m.slot)).1, ap (region_count t m.name) can_put.out, freed_last t f.freed.items x); instances = omega arith; memories = omega arith };
         fewer = omega (arith, more, long, put_fewer (sizes_of c.plan) m rest f.local.slots f.freed.items is);
-        way = same_way maker old new c e f.ending (length f.objects.items);
-        searched = searched_still f.ending (AreEmpty f.queues c f) (AreEmpty f.queues d f) (still_empty f.queues (cell_of c.plan m.name.slot) (part.Memory cell) c f can.core.plan (λ q queue. queue_no_cell c.plan (length c.parts) q m.name.slot can.core.plan can_put.inside queue));
+        way = same_way maker old new c e f.ending (objects_in f.objects);
+        searched = searched_still f.ending (AreEmpty f.queues c f) (AreEmpty f.queues d f) (still_empty f.queues (cell_place c.plan m.name) _ c f can.core.plan (λ q queue. queue_no_cell c.plan (length c.parts) q m.name can.core.plan can_put.named queue));
       }
 
   -- The slots of one shard are freed.
@@ -316,22 +328,22 @@ module _ {P : Type 0} (maker : MakerTold) (old new : LimiterTold) where
       let shard : ShardState = after_frees c.plan (freed_of c.plan j f.freed.items) (shard_at j c) in
       let d : PoolCore P = with_shard j shard c in
       let has : Frame P = record f { phase = Idle; freed = record f.freed { items = freed_elsewhere c.plan j f.freed.items } } in
-      let less : length (freed_elsewhere c.plan j f.freed.items) ≤ length f.freed.items = fewer (λ x. shard_of c.plan x.slot == j) f.freed.items in
+      let less : length (freed_elsewhere c.plan j f.freed.items) ≤ length f.freed.items = fewer (λ x. (home_of c.plan x.name).place == j) f.freed.items in
       record {
         kept = kept_part maker old new c e d has
-            (core_after_frees maker j (freed_of c.plan j f.freed.items) c can.core first.shard first.used (All-filter (λ x. shard_of c.plan x.slot == j) (λ x. x.bytes ≤ 2 ^ 32) f.freed.items (bytes_of c.plan f.freed.items can.frame.freed_each)))
+            (core_after_frees maker j (freed_of c.plan j f.freed.items) c can.core first.shard first.used (All-filter (λ x. (home_of c.plan x.name).place == j) (λ x. x.bytes ≤ 2 ^ 32) f.freed.items (bytes_of c.plan f.freed.items can.frame.freed_each)))
             (record {
               stripe = can.frame.stripe;
               queue = can.frame.queue;
               freed_room = (can.frame.freed_room.0, omega (arith, can.frame.freed_room.1, less));
-              freed_each = All-filter (λ x. not (shard_of c.plan x.slot == j)) (IsFreedOf c.plan) f.freed.items can.frame.freed_each;
+              freed_each = All-filter (λ x. not ((home_of c.plan x.name).place == j)) (IsFreedOf c.plan) f.freed.items can.frame.freed_each;
               objects = can.frame.objects;
             })
             refl refl refl refl;
         shape = can.frame.shape.0;
-        even = record { places = λ t. omega (arith, kept_shard t j shard c (shard_part maker j c can.core first.shard), away_shard t j shard c (shard_part maker j c can.core first.shard), freed_counts t maker j c e can.core can.fits first.shard, freed_parted t (λ x. shard_of c.plan x.slot == j) f.freed.items); instances = omega arith; memories = omega arith };
-        fewer = omega (arith, free_fewer c.plan (length c.parts) f.local.slots f.freed.items can.core.plan (λ k more. freed_inside maker k c e can.core can.fits more) no_slots some);
-        way = same_way maker old new c e f.ending (length f.objects.items);
+        even = record { places = λ t. omega (arith, kept_shard t j shard c (shard_part maker j c can.core first.shard), away_shard t j shard c (shard_part maker j c can.core first.shard), freed_counts t maker j c e can.core can.fits can.frame.freed_each first.shard, freed_parted t (λ x. (home_of c.plan x.name).place == j) f.freed.items); instances = omega arith; memories = omega arith };
+        fewer = omega (arith, free_fewer c.plan (length c.parts) f.local.slots f.freed.items can.core.plan can.frame.freed_each no_slots some);
+        way = same_way maker old new c e f.ending (objects_in f.objects);
         searched = searched_still f.ending (AreEmpty f.queues c f) (AreEmpty f.queues d f) (still_empty f.queues j (part.Shard shard) c f can.core.plan (λ q queue e. apart_places c.plan j q first.shard queue (sym e)));
       }
 

@@ -10,8 +10,9 @@ use Rattle.pool_index.specs.declared.ids.SlotId.{SlotId}
 use Rattle.pool_index.specs.declared.warm_slot.WarmSlot.{WarmSlot}
 use Rattle.pool_index.specs.Shard.{ShardState, IsShard, IsSameShard, one_if, use_of, used_count, warm_count, after_free}
 use Rattle.pool_alloc.specs.Freeing.{AreUsedInTurn}
-use Rattle.pool_alloc.specs.Steps.{local_of, after_frees}
+use Rattle.pool_alloc.specs.Steps.{after_frees}
 use Rattle.pool_alloc.specs.declared.frame.FreedSlot.{FreedSlot}
+use Rattle.pool_slots.specs.Plans.{home_of}
 use Rattle.pool_slots.specs.declared.plan.Plan.{Plan}
 
 -- a shard with the slots of another one
@@ -89,6 +90,6 @@ pub frees_shard : (plan : Plan) (slots : List FreedSlot) (shard : ShardState) �
 frees_shard plan [] shard sound used small = record { sound = sound; same = record { kind = refl; first = refl; step = refl; capacity = refl; budget = refl } }
 frees_shard plan (x ∷ rest) shard sound used small =
     let B : FreedSlot → Type 0 = λ y. y.bytes ≤ 2 ^ 32 in
-    let first : IsShardOf shard (after_free (local_of plan x.slot) x.bytes shard) = freed_shard (local_of plan x.slot) x.bytes shard sound used.0 (All-head B x rest small) in
-    shard_of_shard shard (after_free (local_of plan x.slot) x.bytes shard) (after_frees plan rest (after_free (local_of plan x.slot) x.bytes shard)) first.same
-    (frees_shard plan rest (after_free (local_of plan x.slot) x.bytes shard) first.sound used.1 (All-tail B x rest small))
+    let first : IsShardOf shard (after_free (home_of plan x.name).local x.bytes shard) = freed_shard (home_of plan x.name).local x.bytes shard sound used.0 (All-head B x rest small) in
+    shard_of_shard shard (after_free (home_of plan x.name).local x.bytes shard) (after_frees plan rest (after_free (home_of plan x.name).local x.bytes shard)) first.same
+    (frees_shard plan rest (after_free (home_of plan x.name).local x.bytes shard) first.sound used.1 (All-tail B x rest small))

@@ -1,62 +1,60 @@
 -- What slots and regions weigh, and how what a shard has given out changes as one of its slots is picked or freed.
-use Rattle.pool_alloc.specs.Steps.{memory_slot}
-use Rattle.pool_slots.specs.RegionCells.{region_of as unit_region}
-use Rattle.std.proofs.Common.{◌≡◌, ℕ, zero, suc, ◌+◌, ◌*◌, ◌<◌, ◌≤◌, Bool, true, false, List, [], ◌∷◌, length, Option, Some, None, refl, sym, ap, subst, ◌∙◌, inl, inr, arith, ◌⊎◌}
+use Rattle.pool_slots.specs.RegionCells.{right_to as unit_right, region_of as unit_region}
+use Rattle.std.proofs.Common.{◌≡◌, ℕ, zero, suc, ◌+◌, ◌*◌, ◌<◌, ◌≤◌, Bool, true, false, List, [], ◌∷◌, length, Option, Some, None, refl, ap, ◌∙◌, inl, inr, arith, ◌⊎◌}
 use Rattle.std.specs.Prelude.{◌&&◌, ◌==◌, IfSome, is_some, option_map, slice_index_or, slice_set}
 use Rattle.std.specs.Option.{option_map_or}
-use Rattle.std.proofs.lemmas.Bool.{eq-eqb, ne_eqb, eqb-true, cases_Bool, cases_lt}
-use Rattle.std.proofs.lemmas.Option.{same_Some}
+use Rattle.std.proofs.lemmas.Bool.{cases_lt}
 use Rattle.pool_hall.specs.Sum.{one_if, total}
 use Rattle.pool_hall.specs.Unit.{kind_number, pick_unit, same}
 use Rattle.pool_hall.specs.declared.unit_name.SlotKind.{SlotKind}
-use Rattle.pool_hall.specs.declared.unit_name.SlotKind.TheVariants.{Memory as memory_kind}
 use Rattle.pool_hall.specs.declared.unit_name.UnitName.{UnitName}
 use Rattle.pool_index.specs.Part.{used_units, shard_units, slot_unit}
-use Rattle.pool_index.specs.Shard.{ShardState, IsShard, Choice, warm_at, next_cold, choice, entry_at, slot_and_bytes, after_choice, after_full, after_pick, after_free, pick_answer, is_used, slot_number}
+use Rattle.pool_index.specs.Shard.{ShardState, IsShard, Choice, warm_at, next_cold, choice, entry_at, slot_and_bytes, after_choice, after_full, after_pick, after_free, pick_answer, is_used}
 use Rattle.pool_index.specs.declared.ids.MemoryInModule.{MemoryInModule}
 use Rattle.pool_index.specs.declared.ids.SlotId.{SlotId}
 use Rattle.pool_index.proofs.Shards.{warm_slot_free, cold_slot_free}
 use Rattle.pool_slots.specs.declared.slot_name.RegionNumbers.{RegionNumbers}
 use Rattle.pool_alloc.proofs.Picks.{IsChoice, choice_taken}
-use Rattle.pool_alloc.specs.Places.{Thing, right_to, region_of, slot_count, region_count}
+use Rattle.pool_alloc.specs.Places.{Thing, right_to, region_of, slot_count, region_count, both_count}
+use Rattle.pool_slots.specs.declared.slot_name.SlotName.{SlotName}
+use Rattle.pool_hall.proofs.Units.{same_self, same_is}
 
-none_of : (b : Bool) → one_if (b && false) ≡ 0
-none_of true = refl
-none_of false = refl
+pub none_of : (a b : Bool) → one_if (a && (b && false)) ≡ 0
+none_of true true = refl
+none_of true false = refl
+none_of false b = refl
+
+pub one_true : (b : Bool) → 0 < one_if b → b ≡ true
+one_true true some = refl
+one_true false some = absurd (omega arith)
 
 -- a slot is itself and no other, and so is its region, whatever numbers that tells; neither is the other
-pub slot_once : (i : ℕ) → slot_count (right_to i) i ≡ 1
-slot_once i = ap (λ (b : Bool). one_if (b && true)) (eq-eqb i i refl)
+pub slot_once : (name : SlotName) → slot_count (right_to name) name ≡ 1
+slot_once name = ap one_if (same_self (unit_right name))
 
-pub region_once : (i : ℕ) (n : RegionNumbers) → region_count (region_of i) i n ≡ 1
-region_once i n = ap (λ (b : Bool). one_if (b && true)) (eq-eqb i i refl)
+pub region_once : (name : SlotName) (n : RegionNumbers) → region_count (region_of name) name n ≡ 1
+region_once name n = ap one_if (same_self (unit_region name (record { faults = 0; erases = 0 })))
 
-pub region_other : (k i : ℕ) (n : RegionNumbers) → (k ≡ i → ⊥) → region_count (region_of k) i n ≡ 0
-region_other k i n other = ap (λ (b : Bool). one_if (b && true)) (ne_eqb k i other)
+pub slot_regions : (name other : SlotName) → slot_count (region_of name) other ≡ 0
+slot_regions name other = none_of (kind_number name.kind == kind_number other.kind) (name.slot == other.slot)
 
-pub slot_regions : (k i : ℕ) → slot_count (region_of k) i ≡ 0
-slot_regions k i = none_of (k == i)
-
-pub region_rights : (k i : ℕ) (n : RegionNumbers) → region_count (right_to k) i n ≡ 0
-region_rights k i n = none_of (k == i)
+pub region_rights : (name other : SlotName) (n : RegionNumbers) → region_count (right_to name) other n ≡ 0
+region_rights name other n = none_of (kind_number name.kind == kind_number other.kind) (name.slot == other.slot)
 
 -- a slot and its region weigh the same, each as what it is
-pub region_as_slot : (k i : ℕ) (n : RegionNumbers) → region_count (region_of k) i n ≡ slot_count (right_to k) i
-region_as_slot k i n = refl
+pub both_regions : (name other : SlotName) (n : RegionNumbers) → both_count (region_of name) other n ≡ both_count (right_to name) other n
+both_regions name other n =
+    let same' : region_count (region_of name) other n ≡ slot_count (right_to name) other = refl in
+    omega (arith, slot_regions name other, region_rights name other n, same')
 
 -- a right to a slot of which the weight is some is the right to that slot
-named : (a b c : Bool) → 0 < one_if (a && (b && c)) → b ≡ true
-named true true c some = refl
-named true false c some = absurd (omega arith)
-named false b c some = absurd (omega arith)
+pub right_named : (name other : SlotName) → 0 < slot_count (right_to name) other → name ≡ other
+right_named name other some = ap (λ (u : UnitName). record { kind = u.kind; slot = u.slot }) (same_is (unit_right name) (unit_right other) (one_true (same (unit_right name) (unit_right other)) some))
 
-pub right_named : (k : ℕ) (kind : SlotKind) (n : ℕ) → 0 < right_to k (pick_unit kind n) → k ≡ n
-right_named k kind n some = eqb-true k n (named (kind_number memory_kind == kind_number kind) (k == n) true some)
-
-pub slot_other : (k i : ℕ) → (k ≡ i → ⊥) → slot_count (right_to k) i ≡ 0
-slot_other k i other =
-    elim (cases_lt 0 (slot_count (right_to k) i)) [
-      | inl some ↦ absurd (other (right_named k memory_kind i some))
+pub slot_other : (name other : SlotName) → (name ≡ other → ⊥) → slot_count (right_to name) other ≡ 0
+slot_other name other apart =
+    elim (cases_lt 0 (slot_count (right_to name) other)) [
+      | inl some ↦ absurd (apart (right_named name other some))
       | inr none ↦ omega (arith, none)
     ]
 
@@ -89,43 +87,42 @@ used_less t kind step first (Some u ∷ uses) (suc k) below used =
     omega (arith, used_less t kind step (first + step) uses k (omega (arith, below)) used)
 
 -- what is given out of a shard is the right to a used slot
-pub record IsUsedAs (k step first : ℕ) (uses : List (Option (Option MemoryInModule))) : Type 0 where
+pub record IsUsedAs (name : SlotName) (kind : SlotKind) (step first : ℕ) (uses : List (Option (Option MemoryInModule))) : Type 0 where
   pub slot : ℕ
   pub inside : slot < length uses
   pub used : is_some (slice_index_or uses slot None) ≡ true
-  pub number : first + slot * step ≡ k
+  pub kind_is : name.kind ≡ kind
+  pub number : first + slot * step ≡ name.slot
 
-used_behind : (k step first : ℕ) (u : Option (Option MemoryInModule)) (uses : List (Option (Option MemoryInModule))) → IsUsedAs k step (first + step) uses → IsUsedAs k step first (u ∷ uses)
-used_behind k step first u uses is = record { slot = suc is.slot; inside = omega (arith, is.inside); used = is.used; number = omega (arith, is.number) }
+used_behind : (name : SlotName) (kind : SlotKind) (step first : ℕ) (u : Option (Option MemoryInModule)) (uses : List (Option (Option MemoryInModule))) → IsUsedAs name kind step (first + step) uses → IsUsedAs name kind step first (u ∷ uses)
+used_behind name kind step first u uses is = record { slot = suc is.slot; inside = omega (arith, is.inside); used = is.used; kind_is = is.kind_is; number = omega (arith, is.number) }
 
-pub used_as : (k : ℕ) (kind : SlotKind) (step first : ℕ) (uses : List (Option (Option MemoryInModule))) → 0 < total (right_to k) (used_units kind step first uses) → IsUsedAs k step first uses
-used_as k kind step first [] some = absurd (omega arith)
-used_as k kind step first (None ∷ uses) some = used_behind k step first None uses (used_as k kind step (first + step) uses (omega (arith, some)))
-used_as k kind step first (Some u ∷ uses) some =
-    elim (some_of_two (right_to k (pick_unit kind first)) (total (right_to k) (used_units kind step (first + step) uses)) some) [
-      | inl here ↦ record { slot = zero; inside = omega arith; used = refl; number = omega (arith, right_named k kind first here) }
-      | inr later ↦ used_behind k step first (Some u) uses (used_as k kind step (first + step) uses later)
+pub used_as : (name : SlotName) (kind : SlotKind) (step first : ℕ) (uses : List (Option (Option MemoryInModule))) → 0 < total (right_to name) (used_units kind step first uses) → IsUsedAs name kind step first uses
+used_as name kind step first [] some = absurd (omega arith)
+used_as name kind step first (None ∷ uses) some = used_behind name kind step first None uses (used_as name kind step (first + step) uses (omega (arith, some)))
+used_as name kind step first (Some u ∷ uses) some =
+    let its : SlotName = record { kind = kind; slot = first } in
+    elim (some_of_two (slot_count (right_to name) its) (total (right_to name) (used_units kind step (first + step) uses)) some) [
+      | inl here ↦
+          let is : name ≡ its = right_named name its here in
+          record { slot = zero; inside = omega arith; used = refl; kind_is = ap (λ (n : SlotName). n.kind) is; number = omega (arith, ap (λ (n : SlotName). n.slot) is) }
+      | inr later ↦ used_behind name kind step first (Some u) uses (used_as name kind step (first + step) uses later)
     ]
   where
     some_of_two : (m n : ℕ) → 0 < m + n → (0 < m) ⊎ (0 < n)
     some_of_two zero n h = inr (omega (arith, h))
     some_of_two (suc m) n h = inl (omega arith)
 
-pub used_there : (k step first : ℕ) (uses : List (Option (Option MemoryInModule))) (l : ℕ) → l < length uses → is_some (slice_index_or uses l None) ≡ true → first + l * step ≡ k → 1 ≤ total (right_to k) (used_units memory_kind step first uses)
-used_there k step first uses l inside used number =
-    let here : slot_count (right_to k) (first + l * step) ≡ 1 = ap (slot_count (right_to k)) number ∙ slot_once k in
-    omega (arith, here, used_less (right_to k) memory_kind step first uses l inside used)
+pub used_there : (name : SlotName) (step first : ℕ) (uses : List (Option (Option MemoryInModule))) (l : ℕ) → l < length uses → is_some (slice_index_or uses l None) ≡ true → first + l * step ≡ name.slot → 1 ≤ total (right_to name) (used_units name.kind step first uses)
+used_there name step first uses l inside used number =
+    let here : right_to name (pick_unit name.kind (first + l * step)) ≡ 1 = ap (λ (n : ℕ). right_to name (pick_unit name.kind n)) number ∙ slot_once name in
+    omega (arith, here, used_less (right_to name) name.kind step first uses l inside used)
 
 -- and of a shard no region is
-no_region : (a b : Bool) → one_if (a && (b && false)) ≡ 0
-no_region true true = refl
-no_region true false = refl
-no_region false b = refl
-
-pub no_units : (k : ℕ) (n : RegionNumbers) (kind : SlotKind) (step first : ℕ) (uses : List (Option (Option MemoryInModule))) → total (λ w. one_if (same (unit_region (memory_slot k) n) w)) (used_units kind step first uses) ≡ 0
-no_units k n kind step first [] = refl
-no_units k n kind step first (None ∷ uses) = no_units k n kind step (first + step) uses
-no_units k n kind step first (Some u ∷ uses) = omega (arith, no_region (kind_number memory_kind == kind_number kind) (k == first), no_units k n kind step (first + step) uses)
+pub no_units : (name : SlotName) (n : RegionNumbers) (kind : SlotKind) (step first : ℕ) (uses : List (Option (Option MemoryInModule))) → total (λ w. one_if (same (unit_region name n) w)) (used_units kind step first uses) ≡ 0
+no_units name n kind step first [] = refl
+no_units name n kind step first (None ∷ uses) = no_units name n kind step (first + step) uses
+no_units name n kind step first (Some u ∷ uses) = omega (arith, none_of (kind_number name.kind == kind_number kind) (name.slot == first), no_units name n kind step (first + step) uses)
 
 choice_more : (t : Thing) (want : Option MemoryInModule) (s : ShardState) (c : Choice) → IsShard s → IsChoice s c → total t (shard_units (after_choice want s c)) ≡ total t (shard_units s) + t (slot_unit s (slot_and_bytes s c).0.0)
 choice_more t want s (warm_at i) sound is =

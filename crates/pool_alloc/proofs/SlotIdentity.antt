@@ -20,7 +20,8 @@ use Rattle.pool_hall.specs.declared.unit_name.SlotKind.TheVariants.{Memory, Tabl
 use Rattle.pool_slots.specs.declared.slot_name.SlotName.{SlotName}
 use Rattle.pool_slots.specs.SlotQueues.{IsSlotLeft, front, Queue, Queued, IsLeftBy, forgotten_slot, is_of, first_slot, change_at, after_run}
 use Rattle.pool_alloc.specs.Own.{image_made}
-use Rattle.pool_alloc.specs.Sound.{IsPoolSlot, IsQueuedOf}
+use Rattle.pool_alloc.specs.Sound.{IsPoolSlot, MayQueue, IsQueuedOf}
+use Rattle.pool_alloc.specs.declared.pool_core.Settings.{Settings}
 use Rattle.pool_alloc.proofs.Telling.{replicated, told_weaker}
 
 -- it is the slot of the same region
@@ -115,20 +116,24 @@ fresh_made maker behaviour page static_size i region paged bounded is =
     subst (λ (n : ℕ). P n region) (sym paged) (subst (P maker.page) (sym is) made)
 
 -- Queued slots stay those of their regions as ranges of one are decommitted.
-changed_if : (maker : MakerTold) (behaviour : DecommitBehavior) (static_size : ℕ) (change : Slot → Slot) (m : Queued) (b : Bool) → ((s : Slot) → IsOneSlot s (change s)) → IsQueuedOf maker behaviour static_size m → IsQueuedOf maker behaviour static_size (if b then record m { slot = change m.slot } else m)
-changed_if maker behaviour static_size change m true one of = record { kind = of.kind; slot = slot_of_one maker behaviour static_size m.name.slot m.slot (change m.slot) (one m.slot) of.slot }
-changed_if maker behaviour static_size change m false one of = of
+queued_of_one : (maker : MakerTold) (s : Settings) (kind : SlotKind) (i : ℕ) (old new : Slot) → IsOneSlot old new → MayQueue maker s kind i old → MayQueue maker s kind i new
+queued_of_one maker s Memory i old new one of = slot_of_one maker s.behaviour s.max_memory_size i old new one of
+queued_of_one maker s kind i old new one of = absurd of
 
-queued_changed : (maker : MakerTold) (behaviour : DecommitBehavior) (static_size : ℕ) (slot : SlotName) (ranges : List ByteRange) (ms : List Queued) → All (IsQueuedOf maker behaviour static_size) ms → All (IsQueuedOf maker behaviour static_size) (map (change_at slot (decommitted_all ranges)) ms)
-queued_changed maker behaviour static_size slot ranges [] of = All-nil (IsQueuedOf maker behaviour static_size)
-queued_changed maker behaviour static_size slot ranges (m ∷ ms) of =
-    let P : Queued → Type 0 = IsQueuedOf maker behaviour static_size in
+changed_if : (maker : MakerTold) (s : Settings) (change : Slot → Slot) (m : Queued) (b : Bool) → ((x : Slot) → IsOneSlot x (change x)) → IsQueuedOf maker s m → IsQueuedOf maker s (if b then record m { slot = change m.slot } else m)
+changed_if maker s change m true one of = queued_of_one maker s m.name.kind m.name.slot m.slot (change m.slot) (one m.slot) of
+changed_if maker s change m false one of = of
+
+queued_changed : (maker : MakerTold) (s : Settings) (slot : SlotName) (ranges : List ByteRange) (ms : List Queued) → All (IsQueuedOf maker s) ms → All (IsQueuedOf maker s) (map (change_at slot (decommitted_all ranges)) ms)
+queued_changed maker s slot ranges [] of = All-nil (IsQueuedOf maker s)
+queued_changed maker s slot ranges (m ∷ ms) of =
+    let P : Queued → Type 0 = IsQueuedOf maker s in
     All-cons P (change_at slot (decommitted_all ranges) m) (map (change_at slot (decommitted_all ranges)) ms)
-    (changed_if maker behaviour static_size (decommitted_all ranges) m _ (λ s. one_decommitted s ranges) (All-head P m ms of))
-    (queued_changed maker behaviour static_size slot ranges ms (All-tail P m ms of))
+    (changed_if maker s (decommitted_all ranges) m _ (λ x. one_decommitted x ranges) (All-head P m ms of))
+    (queued_changed maker s slot ranges ms (All-tail P m ms of))
 
-pub queued_after_run : (maker : MakerTold) (behaviour : DecommitBehavior) (static_size : ℕ) (q : Queue) → All (IsQueuedOf maker behaviour static_size) q.slots → All (IsQueuedOf maker behaviour static_size) (after_run q).slots
-queued_after_run maker behaviour static_size q of = queued_changed maker behaviour static_size (first_slot q.ranges) (map (λ r. r.range) (front (is_of (first_slot q.ranges)) q.ranges)) q.slots of
+pub queued_after_run : (maker : MakerTold) (s : Settings) (q : Queue) → All (IsQueuedOf maker s) q.slots → All (IsQueuedOf maker s) (after_run q).slots
+queued_after_run maker s q of = queued_changed maker s (first_slot q.ranges) (map (λ r. r.range) (front (is_of (first_slot q.ranges)) q.ranges)) q.slots of
 
 pub length_after_run : (q : Queue) → length (after_run q).slots ≡ length q.slots
 length_after_run q = length-map q.slots (change_at (first_slot q.ranges) (decommitted_all (map (λ r. r.range) (front (is_of (first_slot q.ranges)) q.ranges))))
@@ -144,16 +149,15 @@ left_if : (b : Bool) (old new : Slot) → IsSlotLeft b old new → IsOneSlot old
 left_if true old new left = left.same
 left_if false old new same = ap (λ (s : Slot). identity s) same
 
-queued_left : (maker : MakerTold) (behaviour : DecommitBehavior) (static_size : ℕ) (faulted : SlotName) (old new : Queued) → IsLeftBy faulted old new → IsQueuedOf maker behaviour static_size old → IsQueuedOf maker behaviour static_size new
-queued_left maker behaviour static_size faulted old new left of =
-    let I : SlotName → Type 0 = λ n. (n.kind ≡ Memory) × IsPoolSlot maker behaviour static_size n.slot new.slot in
-    let is = subst I (sym (ap (λ (m : Queued). m.name) left.same)) (of.kind, slot_of_one maker behaviour static_size old.name.slot old.slot new.slot (left_if _ (forgotten_slot old.name.kind old.slot) new.slot left.slot ∙ one_unknown old.name.kind old.slot) of.slot) in
-    record { kind = is.0; slot = is.1 }
+queued_left : (maker : MakerTold) (s : Settings) (faulted : SlotName) (old new : Queued) → IsLeftBy faulted old new → IsQueuedOf maker s old → IsQueuedOf maker s new
+queued_left maker s faulted old new left of =
+    let one : IsOneSlot old.slot new.slot = left_if _ (forgotten_slot old.name.kind old.slot) new.slot left.slot ∙ one_unknown old.name.kind old.slot in
+    subst (λ (n : SlotName). MayQueue maker s n.kind n.slot new.slot) (sym (ap (λ (m : Queued). m.name) left.same)) (queued_of_one maker s old.name.kind old.name.slot old.slot new.slot one of)
 
-pub queued_faulted : (maker : MakerTold) (behaviour : DecommitBehavior) (static_size : ℕ) (faulted : SlotName) (olds news : List Queued) → AllZip (IsLeftBy faulted) olds news → All (IsQueuedOf maker behaviour static_size) olds → All (IsQueuedOf maker behaviour static_size) news
-queued_faulted maker behaviour static_size faulted [] [] left of = of
-queued_faulted maker behaviour static_size faulted [] (n ∷ ns) left of = absurd left
-queued_faulted maker behaviour static_size faulted (m ∷ ms) [] left of = absurd left
-queued_faulted maker behaviour static_size faulted (m ∷ ms) (n ∷ ns) left of =
-    let P : Queued → Type 0 = IsQueuedOf maker behaviour static_size in
-    All-cons P n ns (queued_left maker behaviour static_size faulted m n left.0 (All-head P m ms of)) (queued_faulted maker behaviour static_size faulted ms ns left.1 (All-tail P m ms of))
+pub queued_faulted : (maker : MakerTold) (s : Settings) (faulted : SlotName) (olds news : List Queued) → AllZip (IsLeftBy faulted) olds news → All (IsQueuedOf maker s) olds → All (IsQueuedOf maker s) news
+queued_faulted maker s faulted [] [] left of = of
+queued_faulted maker s faulted [] (n ∷ ns) left of = absurd left
+queued_faulted maker s faulted (m ∷ ms) [] left of = absurd left
+queued_faulted maker s faulted (m ∷ ms) (n ∷ ns) left of =
+    let P : Queued → Type 0 = IsQueuedOf maker s in
+    All-cons P n ns (queued_left maker s faulted m n left.0 (All-head P m ms of)) (queued_faulted maker s faulted ms ns left.1 (All-tail P m ms of))

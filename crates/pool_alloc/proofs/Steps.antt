@@ -1,10 +1,17 @@
 -- What the code of a step needs follows of what holds between steps, and what a step leaves is as its row shows.
 use Rattle.pool_slots.proofs.Lists.{each_weaker}
 use Rattle.pool_alloc.specs.Freeing.{HasHome, CanBeFreed}
-use Rattle.pool_slots.specs.Plans.{IsPlacedAllocator}
+use Rattle.std.specs.List.{AllByRecursion}
+use Rattle.pool_hall.specs.declared.unit_name.SlotKind.{SlotKind}
+use Rattle.pool_hall.specs.declared.unit_name.SlotKind.TheVariants.{Memory as memory_kind}
+use Rattle.pool_slots.specs.CellOf.{cell_of}
+use Rattle.pool_slots.specs.Cells.{Cell, unmapped, unknown, previously_used, taken, IsCleanOnceUsed}
+use Rattle.pool_slots.specs.Plans.{IsPlacedAllocator, allocators_of, home_of}
+use Rattle.pool_slots.specs.declared.slot_name.SlotName.{SlotName}
+use Rattle.pool_alloc.specs.declared.frame.Object.TheVariants.{Memory}
 use Rattle.pool_slots.specs.declared.plan.Plan.{Plan}
-use Rattle.pool_alloc.proofs.PlanPlaces.{tried_is_shard, tried_is_queue, cell_inside, has_home, home_place, stripe_is, IsQueuePlace, queues_all}
-use Rattle.std.proofs.Common.{◌≡◌, ℕ, ◌+◌, ◌<◌, ◌≤◌, true, false, ◌∷◌, length, get_or, refl, sym, ap, subst, ◌∙◌, arith, Option, Some, None, true≢false}
+use Rattle.pool_alloc.proofs.PlanPlaces.{tried_is_shard, tried_is_queue, cell_inside, pooled_memory, has_home, home_place, stripe_is, IsQueuePlace, queues_all}
+use Rattle.std.proofs.Common.{◌≡◌, ℕ, ◌+◌, ◌<◌, ◌≤◌, true, false, length, get_or, refl, sym, ap, subst, ◌∙◌, arith, Option, Some, None, true≢false}
 use Rattle.std.specs.Prelude.{IfSome, IsSome, is_some, slice_get}
 use Rattle.pool_pages.specs.MakerTold.{MakerTold}
 use Rattle.pool_pages.specs.MemoryTypes.{minimum_byte_size}
@@ -18,26 +25,25 @@ use Rattle.pool_alloc.specs.Calls.{IsGrantOf, IfGranted}
 use Rattle.pool_alloc.specs.CanStep.{CanStepAt, CanFlush, HasNext, CanBegin, CanMake, CanPlace, CanTryQueue}
 use Rattle.pool_alloc.specs.Rows.{FlushStep, run, put, free, flush_step, row_of}
 use Rattle.pool_alloc.specs.Searches.{IsSearched}
-use Rattle.std.proofs.lemmas.List.Elements.{All-head, All-same, All-weaker}
-use Rattle.pool_alloc.specs.Sound.{IsPoolSlot, IsQueuedOf, IsCore, IsFrame, IsSettings, IsAllocating, IsSupported, HasSlot, HasBegun, IsStripe, IsFreedOf}
+use Rattle.std.proofs.lemmas.List.Elements.{All-weaker}
+use Rattle.pool_alloc.specs.Sound.{IsPoolSlot, IsPoolPlan, IsPooled, IsSlotName, MayHold, IsCore, IsFrame, IsSettings, IsAllocating, IsSupported, HasSlot, HasBegun, IsStripe, IsFreedOf}
 use Rattle.pool_alloc.specs.Stages.{GoesOn}
-use Rattle.pool_alloc.specs.Steps.{StepGiven, memories_wanted, images_wanted, image_wanted, queue_tried, shard_of, first_shard, shard_tried, memory_slots}
+use Rattle.pool_alloc.specs.Steps.{StepGiven, memories_wanted, images_wanted, image_wanted, queue_tried, first_shard, shard_tried}
 use Rattle.pool_alloc.specs.Stepping.{CanStep, CanCount, StepsTo, Conserves, EndsWith, IsSameSize, is_idle}
 use Rattle.pool_alloc.specs.Turns.{After, stepped}
 use Rattle.pool_alloc.specs.declared.pool_core.PoolCore.{PoolCore}
 use Rattle.pool_alloc.specs.declared.pool_core.Settings.{Settings}
 use Rattle.pool_alloc.specs.declared.frame.Frame.{Frame}
-use Rattle.pool_slots.specs.SlotQueues.{Queued}
 use Rattle.pool_alloc.specs.Asked.{ModuleAsked}
 use Rattle.pool_alloc.specs.declared.frame.Phase.{Phase}
-use Rattle.pool_alloc.specs.declared.frame.Phase.TheVariants.{Idle, Key, Validate, CountInstance, Pick, TakeQueue, TakeRegion, Empty, Instantiate, MakeMemory, CountMemory, PutUnknown, FreeUnknown, UncountMemory, Reset, Merge, Flush, UncountInstance}
+use Rattle.pool_alloc.specs.declared.frame.Phase.TheVariants.{Idle, Key, Validate, CountInstance, Pick, TakeQueue, TakeRegion, Empty, Instantiate, MakeMemory, CountObject, PutBack, FreeOne, UncountObject, Reset, Merge, Flush, UncountInstance}
 use Rattle.pool_alloc.proofs.AskingRows.{key_ready, validate_ready, count_instance_ready, pick_ready, take_queue_ready}
 use Rattle.pool_alloc.proofs.Fitting.{fits_after}
 use Rattle.pool_alloc.proofs.Hands.{in_phase, RowOk, row_ok}
-use Rattle.pool_alloc.proofs.RegionRows.{region_is_fresh, take_region_ready, empty_ready, instantiate_ready, make_memory_ready, count_memory_ready, put_unknown_ready, free_unknown_ready}
-use Rattle.pool_alloc.proofs.ReturnRows.{Finds, finds, some_freed, uncount_memory_ready, reset_ready, merge_ready, uncount_instance_ready, flush_ready}
+use Rattle.pool_alloc.proofs.RegionRows.{region_is_fresh, take_region_ready, empty_ready, instantiate_ready, make_memory_ready, count_object_ready, put_back_ready, free_one_ready}
+use Rattle.pool_alloc.proofs.ReturnRows.{Finds, finds, some_freed, uncount_object_ready, reset_ready, merge_ready, uncount_instance_ready, flush_ready}
 use Rattle.pool_alloc.proofs.Rounding.{rounded_whole}
-use Rattle.pool_alloc.proofs.Stages.{local_is_spare, picked_is_home, unknown_is_used, local_is_apart, home_has_room, first_can_be_put, first_can_be_freed}
+use Rattle.pool_alloc.proofs.Stages.{local_is_spare, picked_is_home, back_is_used, local_is_apart, home_has_room, first_can_be_put, first_can_be_freed}
 use Rattle.pool_alloc.proofs.Telling.{told_both, told_weaker}
 use Rattle.pool_alloc.proofs.PoolParts.{shard_part, cell_part, queue_part, sound_queue}
 
@@ -62,41 +68,56 @@ page_of_slot maker s i held page of = ap (λ (z : SlotIdentity). z.page) of.same
 size_of_slot : (maker : MakerTold) (s : Settings) (i : ℕ) (held : Slot) → IsPoolSlot maker s.behaviour s.max_memory_size i held → held.static_size ≡ s.max_memory_size
 size_of_slot maker s i held of = ap (λ (z : SlotIdentity). z.static_size) of.same
 
+-- what a cell may hold is clean where it was used before
+clean_in : (maker : MakerTold) (s : Settings) (i : ℕ) (held : Cell) → MayHold maker s memory_kind i held → IsCleanOnceUsed held
+clean_in maker s i (unmapped region) holds = tt
+clean_in maker s i (unknown slot) holds = tt
+clean_in maker s i (previously_used slot) holds = holds.1
+clean_in maker s i taken holds = tt
+
+clean_held : (maker : MakerTold) (s : Settings) (kind : SlotKind) (i : ℕ) (held : Cell) → IsPooled kind → MayHold maker s kind i held → IsCleanOnceUsed held
+clean_held maker s memory_kind i held pooled holds = clean_in maker s i held holds
+clean_held maker s kind i held pooled holds = absurd pooled
+
+placed_of : (plan : Plan) (places : ℕ) (kind : SlotKind) → IsPoolPlan plan places → IsPooled kind → AllByRecursion IsPlacedAllocator (allocators_of plan kind)
+placed_of plan places memory_kind is pooled = each_weaker IsStripe IsPlacedAllocator plan.memories (λ a stripe. stripe.placed) is.shards
+placed_of plan places kind is pooled = absurd pooled
+
 module _ {P : Type 0} where
-  has_next : (s : Settings) (plan : Plan) (f : Frame P) → IsAllocating s plan f → HasNext f.asked (length f.objects.items)
+  has_next : (s : Settings) (plan : Plan) (f : Frame P) → IsAllocating s plan f → HasNext f.asked (length f.objects.memories.items)
   has_next s plan f allocating = record {
-    asked = some_asked f.asked (length f.objects.items) allocating.more;
+    asked = some_asked f.asked (length f.objects.memories.items) allocating.more;
     images = allocating.to_grant.images;
     small = omega (arith, allocating.more, allocating.to_grant.supported.few);
     more = allocating.more;
   }
 
-  can_begin : (maker : MakerTold) (s : Settings) (plan : Plan) (slot : ℕ) (held : Slot) (f : Frame P) → s.page ≡ maker.page → IsSettings s → IsAllocating s plan f → HasSlot maker s plan slot held → IfSome (slice_get (memories_wanted f.asked) (length f.objects.items)) (CanBegin held (image_wanted f))
-  can_begin maker s plan slot held f page settings allocating has =
-      let sized : held.static_size ≡ s.max_memory_size = size_of_slot maker s slot held has.region in
-      told_weaker (λ decl. IsSupported s decl (image_wanted f)) (CanBegin held (image_wanted f)) (slice_get (memories_wanted f.asked) (length f.objects.items))
+  can_begin : (maker : MakerTold) (s : Settings) (plan : Plan) (name : SlotName) (held : Slot) (f : Frame P) → s.page ≡ maker.page → IsSettings s → IsAllocating s plan f → HasSlot maker s plan name held → IfSome (slice_get (memories_wanted f.asked) (length f.objects.memories.items)) (CanBegin held (image_wanted f))
+  can_begin maker s plan name held f page settings allocating has =
+      let sized : held.static_size ≡ s.max_memory_size = size_of_slot maker s name.slot held has.region in
+      told_weaker (λ decl. IsSupported s decl (image_wanted f)) (CanBegin held (image_wanted f)) (slice_get (memories_wanted f.asked) (length f.objects.memories.items))
       (λ decl is. record {
         page_log2 = is.page_log2;
         minimum = rw sized is.minimum;
         bounded = omega (arith, sized, settings.bounded, settings.page.at_least);
-        image_fits = fits_region s.page held.region.page (minimum_byte_size decl.ty) (image_wanted f) (page_of_slot maker s slot held page has.region) is.image_fits;
+        image_fits = fits_region s.page held.region.page (minimum_byte_size decl.ty) (image_wanted f) (page_of_slot maker s name.slot held page has.region) is.image_fits;
       })
-      (allocating.to_grant.supported.each (length f.objects.items))
+      (allocating.to_grant.supported.each (length f.objects.memories.items))
 
-  can_make : (maker : MakerTold) (s : Settings) (plan : Plan) (slot : ℕ) (held : Slot) (f : Frame P) → s.page ≡ maker.page → IsSettings s → IsAllocating s plan f → HasSlot maker s plan slot held → IfSome (slice_get (memories_wanted f.asked) (length f.objects.items)) (HasBegun (image_wanted f) held) → IfSome (slice_get (memories_wanted f.asked) (length f.objects.items)) (CanMake s held)
-  can_make maker s plan slot held f page settings allocating has begun =
-      let paged : held.region.page ≡ s.page = page_of_slot maker s slot held page has.region in
-      told_both (λ decl. IsSupported s decl (image_wanted f)) (HasBegun (image_wanted f) held) (CanMake s held) (slice_get (memories_wanted f.asked) (length f.objects.items))
+  can_make : (maker : MakerTold) (s : Settings) (plan : Plan) (name : SlotName) (held : Slot) (f : Frame P) → s.page ≡ maker.page → IsSettings s → IsAllocating s plan f → HasSlot maker s plan name held → IfSome (slice_get (memories_wanted f.asked) (length f.objects.memories.items)) (HasBegun (image_wanted f) held) → IfSome (slice_get (memories_wanted f.asked) (length f.objects.memories.items)) (CanMake s held)
+  can_make maker s plan name held f page settings allocating has begun =
+      let paged : held.region.page ≡ s.page = page_of_slot maker s name.slot held page has.region in
+      told_both (λ decl. IsSupported s decl (image_wanted f)) (HasBegun (image_wanted f) held) (CanMake s held) (slice_get (memories_wanted f.asked) (length f.objects.memories.items))
       (λ decl is begins. record {
         page_log2 = is.page_log2;
         limits = is.limits;
         slot = λ represented. begins.holds;
-        room = rw paged (omega (arith, rounded_whole s.page s.max_memory_size (omega (arith, settings.page.at_least)) settings.whole, size_of_slot maker s slot held has.region));
+        room = rw paged (omega (arith, rounded_whole s.page s.max_memory_size (omega (arith, settings.page.at_least)) settings.whole, size_of_slot maker s name.slot held has.region));
       })
-      (allocating.to_grant.supported.each (length f.objects.items)) begun
+      (allocating.to_grant.supported.each (length f.objects.memories.items)) begun
 
-  can_place : (maker : MakerTold) (slot : ℕ) (c : PoolCore P) → IsCore maker c → slot < memory_slots c.plan → CanPlace c.plan slot
-  can_place maker slot c core below = omega (arith, cell_inside c.plan (length c.parts) slot core.plan below, core.plan.small)
+  can_place : (maker : MakerTold) (name : SlotName) (c : PoolCore P) → IsCore maker c → IsSlotName c.plan name → CanPlace c.plan name
+  can_place maker name c core named = omega (arith, cell_inside c.plan (length c.parts) name core.plan named, core.plan.small)
 
   can_try_queue : (maker : MakerTold) (home : ℕ) (c : PoolCore P) → IsCore maker c → CanTryQueue c.plan home
   can_try_queue maker home c core = record {
@@ -106,32 +127,25 @@ module _ {P : Type 0} where
     own = λ owned. absurd (true≢false (sym owned ∙ core.plan.shared));
   }
 
-  can_find_home : (maker : MakerTold) (slot : ℕ) (c : PoolCore P) → IsCore maker c → slot < memory_slots c.plan → HasHome c.plan slot
-  can_find_home maker slot c core below = record {
-    placed = each_weaker IsStripe IsPlacedAllocator c.plan.memories (λ a is. is.placed) core.plan.shards;
-    has = has_home c.plan (length c.parts) slot core.plan below;
-  }
+  can_find_home : (maker : MakerTold) (name : SlotName) (c : PoolCore P) → IsCore maker c → IsSlotName c.plan name → HasHome c.plan name
+  can_find_home maker name c core named = record { placed = placed_of c.plan (length c.parts) name.kind core.plan named.pooled; has = has_home c.plan (length c.parts) name core.plan named }
 
   can_flush : (maker : MakerTold) (step : FlushStep) (c : PoolCore P) (f : Frame P) → CanStep maker c (in_phase Flush f) → Finds f.local step → CanFlush step c (in_phase Flush f)
   can_flush maker run c f can found = (found.ranges refl, can.frame.queue.owners)
   can_flush maker put c f can found = (
     λ m rest is.
-        let Q : Queued → Type 0 = IsQueuedOf maker c.settings.behaviour c.settings.max_memory_size in
-        let kind = (All-head Q m rest (All-same Q (m ∷ rest) f.local.slots (sym is) can.frame.queue.regions)).kind in
-        let inside = (first_can_be_put maker c f m rest can.core can.fits kind is).inside in
-        (can_place maker m.name.slot c can.core inside, cell_part maker m.name.slot c can.core inside),
+        let named = (first_can_be_put maker c f m rest can.core can.fits is).named in
+        (can_place maker m.name c can.core named, cell_part maker m.name c can.core named),
     record {
       no_ranges = found.put_none refl;
       some = found.put_some refl;
-      kind = λ m rest is.
-          let Q : Queued → Type 0 = IsQueuedOf maker c.settings.behaviour c.settings.max_memory_size in
-          (All-head Q m rest (All-same Q (m ∷ rest) f.local.slots (sym is) can.frame.queue.regions)).kind;
+      kind = λ m rest is. pooled_memory m.name.kind (first_can_be_put maker c f m rest can.core can.fits is).named.pooled;
       room = omega (arith, can.frame.freed_room.0, can.frame.freed_room.1, found.put_some refl);
     },
   )
   can_flush maker free c f can found =
       let first = first_can_be_freed maker c f can (some_freed f can.frame.shape.1 (found.free_slots refl)) in
-      (shard_part maker (first_shard c.plan f.freed.items) c can.core first.shard, record { used = first.used; each = All-weaker (IsFreedOf c.plan) (CanBeFreed c.plan) (λ x of. record { home = can_find_home maker x.slot c can.core of.inside; bytes = of.bytes }) f.freed.items can.frame.freed_each })
+      (shard_part maker (first_shard c.plan f.freed.items) c can.core first.shard, record { used = first.used; each = All-weaker (IsFreedOf c.plan) (CanBeFreed c.plan) (λ x of. record { home = can_find_home maker x.name c can.core of.named; bytes = of.bytes }) f.freed.items can.frame.freed_each })
 
   -- Just what the code of a step needs, phase by phase.
   can_at : (maker : MakerTold) (next : Phase P) (c : PoolCore P) (f : Frame P) → CanStep maker c (in_phase next f) → CanCount c → CanStepAt next c (in_phase next f)
@@ -145,25 +159,27 @@ module _ {P : Type 0} where
       let settled = can.frame.shape.0 in
       let i : ℕ = queue_tried f.queues c.plan f in
       (can.frame.shape.2, can.frame.stripe, can_try_queue maker f.home c can.core, queue_part maker i c can.core (tried_is_queue f.queues c.plan (length c.parts) f can.core.plan), local_is_spare maker i c (in_phase TakeQueue f) can.core can.frame (tried_is_queue f.queues c.plan (length c.parts) f can.core.plan) settled.no_ranges settled.no_slots)
-  can_at maker (TakeRegion slot) c f can counts =
-      let inside : slot < memory_slots c.plan = can.frame.shape.2 in
-      (can_place maker slot c can.core inside, cell_part maker slot c can.core inside, record { there = picked_is_home maker slot c f can.core can.fits; fresh = region_is_fresh maker slot c can.core inside })
+  can_at maker (TakeRegion name) c f can counts =
+      let named : IsSlotName c.plan name = can.frame.shape.2 in
+      (can_place maker name c can.core named, cell_part maker name c can.core named, record { there = picked_is_home maker name c f can.core can.fits; fresh = region_is_fresh maker name c can.core named })
   can_at maker (Empty slot held) c f can counts = tt
   can_at maker (Instantiate slot held) c f can counts =
-      (has_next c.settings c.plan (in_phase (Instantiate slot held) f) can.frame.shape.1, can.frame.shape.3, can_begin maker c.settings c.plan slot.slot held (in_phase (Instantiate slot held) f) can.core.page can.core.settings can.frame.shape.1 can.frame.shape.2)
+      (has_next c.settings c.plan (in_phase (Instantiate slot held) f) can.frame.shape.1, can.frame.shape.3, can_begin maker c.settings c.plan slot.name held (in_phase (Instantiate slot held) f) can.core.page can.core.settings can.frame.shape.1 can.frame.shape.2)
   can_at maker (MakeMemory slot held) c f can counts =
-      (has_next c.settings c.plan (in_phase (MakeMemory slot held) f) can.frame.shape.1, can_make maker c.settings c.plan slot.slot held (in_phase (MakeMemory slot held) f) can.core.page can.core.settings can.frame.shape.1 can.frame.shape.2 can.frame.shape.3)
-  can_at maker (CountMemory lease) c f can counts = (counts.memories, omega (arith, can.frame.shape.1.more, can.frame.shape.1.to_grant.room))
-  can_at maker (PutUnknown slot held) c f can counts = (can_place maker slot.slot c can.core can.frame.shape.2.inside, cell_part maker slot.slot c can.core can.frame.shape.2.inside)
-  can_at maker (FreeUnknown slot) c f can counts = (
-    shard_part maker (shard_of c.plan slot) c can.core (home_place c.plan (length c.parts) slot can.core.plan can.frame.shape.2),
+      (has_next c.settings c.plan (in_phase (MakeMemory slot held) f) can.frame.shape.1, can_make maker c.settings c.plan slot.name held (in_phase (MakeMemory slot held) f) can.core.page can.core.settings can.frame.shape.1 can.frame.shape.2 can.frame.shape.3)
+  can_at maker (CountObject (Memory lease)) c f can counts = (counts.memories, omega (arith, can.frame.shape.1.more, can.frame.shape.1.to_grant.room))
+  can_at maker (PutBack at held) c f can counts =
+      let region = can.frame.shape.2 in
+      (can_place maker at.name c can.core region.named, cell_part maker at.name c can.core region.named, clean_held maker c.settings at.name.kind at.name.slot (cell_of held) region.named.pooled region.holds)
+  can_at maker (FreeOne name) c f can counts = (
+    shard_part maker (home_of c.plan name).place c can.core (home_place c.plan (length c.parts) name can.core.plan can.frame.shape.2),
     record {
-      home = can_find_home maker slot c can.core can.frame.shape.2;
-      used = some_of _ (unknown_is_used maker slot c f can);
+      home = can_find_home maker name c can.core can.frame.shape.2;
+      used = some_of _ (back_is_used maker name c f can);
     },
   )
-  can_at maker (UncountMemory lease) c f can counts = omega (arith, can.fits.memories)
-  can_at maker (Reset lease) c f can counts =
+  can_at maker (UncountObject (Memory lease)) c f can counts = omega (arith, can.fits.memories)
+  can_at maker (Reset (Memory lease)) c f can counts =
       let settled = can.frame.shape.0 in
       record {
         page = can.core.settings.keep_page ∙ sym (page_of_slot maker c.settings lease.index (image_slot_of lease.memory) can.core.page can.frame.shape.2.slot);
@@ -186,7 +202,7 @@ module _ {P : Type 0} where
           slots = room.slots;
           owners = shared.owners;
           local_owners = can.frame.queue.owners;
-          apart = local_is_apart maker i c (in_phase Merge f) can.core can.frame can.fits below;
+          apart = local_is_apart maker i c (in_phase Merge f) can.core can.fits below;
           range_room = can.frame.queue.range_room ∙ sym shared.range_room;
           slot_room = can.frame.queue.slot_room ∙ sym shared.slot_room;
         },
@@ -211,11 +227,11 @@ module _ {P : Type 0} (maker : MakerTold) (old new : LimiterTold) where
   rows_ok g (Empty slot had) c f on can told asks = row_ok maker old new c _ _ (empty_ready maker old new g.fault g.slot slot had c f can told)
   rows_ok g (Instantiate slot had) c f on can told asks = row_ok maker old new c _ _ (instantiate_ready maker old new g.fault g.slot slot had c f can told)
   rows_ok g (MakeMemory slot had) c f on can told asks = row_ok maker old new c _ _ (make_memory_ready maker old new g.limiter slot had c f can asks)
-  rows_ok g (CountMemory lease) c f on can told asks = row_ok maker old new c _ _ (count_memory_ready maker old new lease c f can)
-  rows_ok g (PutUnknown slot had) c f on can told asks = row_ok maker old new c _ _ (put_unknown_ready maker old new slot had c f can)
-  rows_ok g (FreeUnknown slot) c f on can told asks = row_ok maker old new c _ _ (free_unknown_ready maker old new slot c f can)
-  rows_ok g (UncountMemory lease) c f on can told asks = row_ok maker old new c _ _ (uncount_memory_ready maker old new lease c f can)
-  rows_ok g (Reset lease) c f on can told asks = row_ok maker old new c _ _ (reset_ready maker old new g.fault g.slot lease c f can told)
+  rows_ok g (CountObject object) c f on can told asks = row_ok maker old new c _ _ (count_object_ready maker old new object c f can)
+  rows_ok g (PutBack at had) c f on can told asks = row_ok maker old new c _ _ (put_back_ready maker old new at had c f can)
+  rows_ok g (FreeOne name) c f on can told asks = row_ok maker old new c _ _ (free_one_ready maker old new name c f can)
+  rows_ok g (UncountObject object) c f on can told asks = row_ok maker old new c _ _ (uncount_object_ready maker old new object c f can)
+  rows_ok g (Reset object) c f on can told asks = row_ok maker old new c _ _ (reset_ready maker old new g object c f can told)
   rows_ok g Merge c f on can told asks = row_ok maker old new c _ _ (merge_ready maker old new c f can)
   rows_ok g Flush c f on can told asks = row_ok maker old new c _ _ (flush_ready maker old new g c f can told)
   rows_ok g UncountInstance c f on can told asks = row_ok maker old new c _ _ (uncount_instance_ready maker old new c f can)

@@ -1,52 +1,54 @@
 -- A slot of the pool is given out where it is used in its shard, and what a pick gives was not. What queues keep, one after
 -- the other.
-use Rattle.std.proofs.Common.{◌≡◌, ℕ, ◌+◌, ◌<◌, ◌≤◌, true, List, [], ◌∷◌, length, Option, Some, refl, sym, ap, subst, ◌∙◌, arith}
+use Rattle.std.proofs.Common.{◌≡◌, ℕ, ◌+◌, ◌≤◌, true, List, [], ◌∷◌, length, Option, Some, refl, sym, subst, arith}
 use Rattle.std.specs.Prelude.{sum_by}
 use Rattle.std.proofs.lemmas.List.Sums.{sum_by-cons}
 use Rattle.pool_pages.specs.MakerTold.{MakerTold}
 use Rattle.pool_hall.specs.Sum.{total}
-use Rattle.pool_hall.specs.Unit.{pick_unit}
 use Rattle.pool_hall.specs.declared.unit_name.SlotKind.{SlotKind}
 use Rattle.pool_hall.proofs.Totals.{total_append}
 use Rattle.pool_index.specs.Part.{used_units, shard_units}
-use Rattle.pool_index.specs.Shard.{ShardState, is_used, slot_number, pick_answer, after_pick}
+use Rattle.pool_index.specs.Shard.{ShardState, is_used, pick_answer, after_pick}
 use Rattle.pool_index.specs.declared.ids.MemoryInModule.{MemoryInModule}
 use Rattle.pool_index.specs.declared.ids.SlotId.{SlotId}
 use Rattle.pool_slots.specs.ListUnits.{all_kept}
 use Rattle.pool_slots.specs.PartUnits.{part_kept}
 use Rattle.pool_slots.specs.declared.part.PoolPart.{PoolPart}
 use Rattle.pool_slots.specs.declared.part.PoolPart.TheVariants as part
-use Rattle.pool_alloc.specs.Places.{Thing, right_to, queued_count, kept_count, away_count}
-use Rattle.pool_alloc.specs.Sound.{IsCore}
-use Rattle.pool_alloc.specs.Steps.{shard_at, queue_in, shard_of, local_of, memory_slots, with_shard}
+use Rattle.pool_alloc.specs.Places.{Thing, right_to, queued_count, kept_count, away_count, slot_count}
+use Rattle.pool_alloc.specs.Sound.{IsCore, IsSlotName}
+use Rattle.pool_alloc.specs.Steps.{shard_at, queue_in, with_shard}
 use Rattle.pool_alloc.specs.declared.pool_core.PoolCore.{PoolCore}
 use Rattle.pool_alloc.proofs.CoreChanges.{core_with_shard}
 use Rattle.pool_alloc.proofs.KeptCounts.{shard_away, away_shard, out_once}
 use Rattle.pool_alloc.proofs.Picks.{picked_sound, picked_same}
 use Rattle.pool_alloc.proofs.PlanPlaces.{IsShardPlace, home_place}
-use Rattle.pool_alloc.proofs.PoolParts.{shard_part, sound_shard, place_of, of_memories}
+use Rattle.pool_alloc.proofs.PoolParts.{shard_part, sound_shard, place_of, name_in, HasPlace}
 use Rattle.pool_alloc.proofs.SlotCounts.{slot_once, used_there, picked_count, pick_counts}
+use Rattle.pool_slots.specs.declared.plan.Plan.{Plan}
+use Rattle.pool_slots.specs.declared.slot_name.SlotName.{SlotName}
+use Rattle.pool_slots.specs.Plans.{home_of}
+
+-- the shard of a slot that is used has given it out
+pub used_away : (plan : Plan) (name : SlotName) (s : ShardState) → HasPlace plan s name → is_used s (home_of plan name).local.0 ≡ true → 1 ≤ total (right_to name) (shard_units s)
+used_away plan name s its used =
+    subst (λ (kind : SlotKind). 1 ≤ total (right_to name) (used_units kind s.step s.first s.used)) (sym its.kind) (used_there name s.step s.first s.used (home_of plan name).local.0 its.inside used its.number)
 
 module _ {P : Type 0} where
-  pub used_is_out : (maker : MakerTold) (k : ℕ) (c : PoolCore P) → IsCore maker c → k < memory_slots c.plan → is_used (shard_at (shard_of c.plan k) c) (local_of c.plan k).0 ≡ true → away_count (right_to k) c ≡ 1
-  used_is_out maker k c core below used =
-      let p : ℕ = shard_of c.plan k in
-      let s : ShardState = shard_at p c in
-      let place = home_place c.plan (length c.parts) k core.plan below in
-      let its = place_of maker c k core below in
-      let there : 1 ≤ total (right_to k) (shard_units s) = subst (λ (kind : SlotKind). 1 ≤ total (right_to k) (used_units kind s.step s.first s.used)) (sym (of_memories maker p c core place).kind) (used_there k s.step s.first s.used (local_of c.plan k).0 its.inside used its.number) in
-      omega (arith, there, shard_away maker (right_to k) p c core place, (out_once maker k c core).0)
+  pub used_is_out : (maker : MakerTold) (name : SlotName) (c : PoolCore P) → IsCore maker c → IsSlotName c.plan name → is_used (shard_at (home_of c.plan name).place c) (home_of c.plan name).local.0 ≡ true → away_count (right_to name) c ≡ 1
+  used_is_out maker name c core named used =
+      let p : ℕ = (home_of c.plan name).place in
+      omega (arith, used_away c.plan name (shard_at p c) (place_of maker c name core named) used, shard_away maker (right_to name) p c core (home_place c.plan (length c.parts) name core.plan named), (out_once maker name c core).0)
 
-  pub picked_was_in : (maker : MakerTold) (want : Option MemoryInModule) (p : ℕ) (x : SlotId × ℕ) (c : PoolCore P) → IsCore maker c → IsShardPlace c.plan p → pick_answer want (shard_at p c) ≡ Some x → away_count (right_to (slot_number (shard_at p c) x.0.0)) c ≡ 0
+  pub picked_was_in : (maker : MakerTold) (want : Option MemoryInModule) (p : ℕ) (x : SlotId × ℕ) (c : PoolCore P) → IsCore maker c → IsShardPlace c.plan p → pick_answer want (shard_at p c) ≡ Some x → away_count (right_to (name_in (shard_at p c) x.0.0)) c ≡ 0
   picked_was_in maker want p x c core place answer =
       let s : ShardState = shard_at p c in
-      let k : ℕ = slot_number s x.0.0 in
+      let k : SlotName = name_in s x.0.0 in
       let sound = sound_shard maker p c core place in
       let d : PoolCore P = with_shard p (after_pick want s) c in
       let after = core_with_shard maker p (after_pick want s) c core place (picked_sound want s sound) (picked_same want s) in
-      let one : right_to k (pick_unit s.kind k) ≡ 1 = ap (λ (kind : SlotKind). right_to k (pick_unit kind k)) (of_memories maker p c core place).kind ∙ slot_once k in
-      let counts : total (right_to k) (shard_units (after_pick want s)) ≡ total (right_to k) (shard_units s) + right_to k (pick_unit s.kind k) = subst (λ (o : Option (SlotId × ℕ)). total (right_to k) (shard_units (after_pick want s)) ≡ total (right_to k) (shard_units s) + picked_count (right_to k) s o) answer (pick_counts (right_to k) want s sound) in
-      omega (arith, one, counts, away_shard (right_to k) p (after_pick want s) c (shard_part maker p c core place), (out_once maker k d after).0)
+      let counts : total (right_to k) (shard_units (after_pick want s)) ≡ total (right_to k) (shard_units s) + slot_count (right_to k) k = subst (λ (o : Option (SlotId × ℕ)). total (right_to k) (shard_units (after_pick want s)) ≡ total (right_to k) (shard_units s) + picked_count (right_to k) s o) answer (pick_counts (right_to k) want s sound) in
+      omega (arith, slot_once k, counts, away_shard (right_to k) p (after_pick want s) c (shard_part maker p c core place), (out_once maker k d after).0)
 
   part_sum : (t : Thing) (x : PoolPart P) → total t (part_kept x) ≡ queued_count t (queue_in x).slots
   part_sum t (part.Queue q) = refl

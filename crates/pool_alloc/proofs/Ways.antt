@@ -4,19 +4,17 @@ use Rattle.pool_slots.specs.declared.plan.Plan.{Plan}
 use Rattle.std.proofs.Common.{◌≡◌, ℕ, ◌+◌, ◌*◌, ◌-◌, ◌<◌, ◌≤◌, Bool, true, false, List, [], ◌∷◌, ◌++◌, length, zero, suc, refl, sym, ap, subst, inl, arith, Option, Some, None}
 use Rattle.std.specs.Prelude.{nat_lt, if◌then◌else◌, slice_get, IfSome}
 use Rattle.std.proofs.lemmas.Bool.{ltb-true}
-use Rattle.std.proofs.lemmas.List.{length_push}
 use Rattle.pool_pages.specs.MakerTold.{MakerTold}
 use Rattle.pool_limits.specs.LimiterTold.{LimiterTold}
-use Rattle.pool_alloc.specs.Bounds.{PoolSizes, allocation_bound, give_back_bound, return_bound, flush_bound, returns_left, memories_left, picks_left, next_left, all_shards}
-use Rattle.pool_alloc.specs.Leases.{Lease}
-use Rattle.pool_alloc.specs.Reserved.{Reserved, with_item}
+use Rattle.pool_alloc.specs.Bounds.{PoolSizes, allocation_bound, give_back_bound, return_bound, flush_bound, returns_left, objects_left, picks_left, next_left, all_shards, flushed_allocators}
+use Rattle.pool_alloc.specs.Objects.{objects_in, objects_wanted}
+use Rattle.pool_alloc.specs.declared.lease.InstanceLease.{InstanceLease}
 use Rattle.pool_slots.specs.declared.errors.AllocError.{AllocError}
 use Rattle.pool_alloc.specs.Calls.{IfGranted}
 use Rattle.pool_alloc.specs.Rows.{answer_of}
 use Rattle.pool_alloc.specs.Searches.{IsSearchedBy}
 use Rattle.pool_alloc.specs.Sound.{IsCore, Aims, IsToGrant}
 use Rattle.pool_alloc.specs.Stages.{admitted, no_call, refusing, stage_by, Follows, Raises, Goes}
-use Rattle.pool_alloc.specs.Steps.{memories_wanted}
 use Rattle.pool_alloc.specs.Stepping.{CanStep, count_granted}
 use Rattle.pool_alloc.specs.declared.frame.Grant.{Grant}
 use Rattle.pool_alloc.specs.Turns.{is_granting}
@@ -49,12 +47,12 @@ searched_back returned known back = tt
 searched_back (refused x) known back = tt
 
 -- a call that gives back aims at nothing else
-pub aims_back : (s : Settings) (plan : Plan) (e : Ending) (asked : Option ModuleAsked) (queues : ℕ) (objects : Reserved Lease) → is_granting e ≡ false → Aims s plan e asked queues objects
+pub aims_back : {P : Type 0} (s : Settings) (plan : Plan) (e : Ending) (asked : Option ModuleAsked) (queues : ℕ) (objects : InstanceLease P) → is_granting e ≡ false → Aims s plan e asked queues objects
 aims_back s plan granted asked queues objects back = absurd cc
 aims_back s plan returned asked queues objects back = tt
 aims_back s plan (refused x) asked queues objects back = tt
 
-pub aims_grant : (s : Settings) (plan : Plan) (e : Ending) (asked : Option ModuleAsked) (queues : ℕ) (objects : Reserved Lease) → e ≡ granted → IsToGrant s plan asked queues objects → Aims s plan e asked queues objects
+pub aims_grant : {P : Type 0} (s : Settings) (plan : Plan) (e : Ending) (asked : Option ModuleAsked) (queues : ℕ) (objects : InstanceLease P) → e ≡ granted → IsToGrant s plan asked queues objects → Aims s plan e asked queues objects
 aims_grant s plan e asked queues objects is to_grant = let A : Ending → Type 0 = λ x. Aims s plan x asked queues objects in subst A (sym is) to_grant
 
 pub same_times : (m n x : ℕ) → m ≡ n → m * x ≡ n * x
@@ -88,45 +86,44 @@ at_most_if : (b : Bool) (m n : ℕ) → (b ≡ true → m ≤ n) → (if b then 
 at_most_if true m n most = most refl
 at_most_if false m n most = omega arith
 
--- another memory is granted, and there is a next one, or none
-pub next_memory : (z : PoolSizes) (e : Ending) (asked : Option ModuleAsked) (lease : Lease) (objects : Reserved Lease) → e ≡ granted → next_left z e 0 asked (with_item lease objects) ≤ memories_left z asked objects
-next_memory z e asked lease objects is =
-    let k : ℕ = length (memories_wanted asked) in
-    let n : ℕ = length objects.items in
-    let long : length (objects.items ++ lease ∷ []) ≡ n + 1 = length_push objects.items lease in
-    let E : Ending → Type 0 = λ x. next_left z x 0 asked (with_item lease objects) ≤ memories_left z asked objects in
+-- another object is granted, and there is a next one, or none
+pub next_object : {P : Type 0} (z : PoolSizes) (e : Ending) (asked : Option ModuleAsked) (before after : InstanceLease P) → e ≡ granted → objects_in after ≡ objects_in before + 1 → next_left z e 0 asked after ≤ objects_left z asked before
+next_object z e asked before after is long =
+    let k : ℕ = objects_wanted asked in
+    let n : ℕ = objects_in before in
+    let E : Ending → Type 0 = λ x. next_left z x 0 asked after ≤ objects_left z asked before in
     let M : ℕ → Type 0 = λ i. rounds_of z + (6 + left_of z k i) ≤ left_of z k n in
     subst E (sym is)
-    (at_most_if (nat_lt (length (objects.items ++ lease ∷ [])) k) (picks_left z 0 0 asked (with_item lease objects)) (memories_left z asked objects)
-    (λ more. let there : M (length (objects.items ++ lease ∷ [])) = subst M (sym long) (following_left z k n (omega (arith, ltb-true _ _ more, long))) in omega (arith, there)))
+    (at_most_if (nat_lt (objects_in after) k) (picks_left z 0 0 asked after) (objects_left z asked before)
+    (λ more. let there : M (objects_in after) = subst M (sym long) (following_left z k n (omega (arith, ltb-true _ _ more, long))) in omega (arith, there)))
 
--- the first memory is allocated, or there is none
-pub first_memory : (z : PoolSizes) (e : Ending) (queues : ℕ) (asked : Option ModuleAsked) (objects : Reserved Lease) → e ≡ granted → queues ≡ 0 → objects.items ≡ [] → next_left z e queues asked objects + 1 ≤ 2 + length (memories_wanted asked) * (allocation_bound z + give_back_bound z)
-first_memory z e queues asked objects is none_taken none =
-    let k : ℕ = length (memories_wanted asked) in
+-- the first object is allocated, or there is none
+pub first_object : {P : Type 0} (z : PoolSizes) (e : Ending) (queues : ℕ) (asked : Option ModuleAsked) (objects : InstanceLease P) → e ≡ granted → queues ≡ 0 → objects_in objects ≡ 0 → next_left z e queues asked objects + 1 ≤ 2 + objects_wanted asked * (allocation_bound z + give_back_bound z)
+first_object z e queues asked objects is none_taken none =
+    let k : ℕ = objects_wanted asked in
     let most : ℕ = 1 + k * (allocation_bound z + give_back_bound z) in
     let E : Ending → Type 0 = λ x. next_left z x queues asked objects ≤ most in
     let Q : ℕ → Type 0 = λ q. next_left z granted q asked objects ≤ most in
     let M : ℕ → Type 0 = λ i. rounds_of z + (6 + left_of z k i) + 1 ≤ 2 + k * (allocation_bound z + give_back_bound z) in
     let few : next_left z e queues asked objects ≤ most =
     subst E (sym is) (subst Q (sym none_taken)
-    (at_most_if (nat_lt (length objects.items) k) (picks_left z 0 0 asked objects) most
-    (λ more. let there : M (length objects.items) = subst M (sym (ap length none)) (first_left z k (omega (arith, ltb-true _ _ more, ap length none))) in omega (arith, there)))) in
+    (at_most_if (nat_lt (objects_in objects) k) (picks_left z 0 0 asked objects) most
+    (λ more. let there : M (objects_in objects) = subst M (sym none) (first_left z k (omega (arith, ltb-true _ _ more, none))) in omega (arith, there)))) in
     omega (arith, few)
 
 -- the search goes on with a round of picks
-pub next_round : (z : PoolSizes) (e : Ending) (queues : ℕ) (asked : Option ModuleAsked) (objects : Reserved Lease) → e ≡ granted → next_left z e queues asked objects ≤ picks_left z queues 0 asked objects
+pub next_round : {P : Type 0} (z : PoolSizes) (e : Ending) (queues : ℕ) (asked : Option ModuleAsked) (objects : InstanceLease P) → e ≡ granted → next_left z e queues asked objects ≤ picks_left z queues 0 asked objects
 next_round z e queues asked objects is =
     let E : Ending → Type 0 = λ x. next_left z x queues asked objects ≤ picks_left z queues 0 asked objects in
-    subst E (sym is) (at_most_if (nat_lt (length objects.items) (length (memories_wanted asked))) (picks_left z queues 0 asked objects) (picks_left z queues 0 asked objects) (λ more. omega arith))
+    subst E (sym is) (at_most_if (nat_lt (objects_in objects) (objects_wanted asked)) (picks_left z queues 0 asked objects) (picks_left z queues 0 asked objects) (λ more. omega arith))
 
-pub next_returns : (z : PoolSizes) (e : Ending) (queues : ℕ) (asked : Option ModuleAsked) (objects : Reserved Lease) → is_granting e ≡ false → next_left z e queues asked objects ≡ returns_left z objects
+pub next_returns : {P : Type 0} (z : PoolSizes) (e : Ending) (queues : ℕ) (asked : Option ModuleAsked) (objects : InstanceLease P) → is_granting e ≡ false → next_left z e queues asked objects ≡ returns_left z objects
 next_returns z granted queues asked objects back = absurd cc
 next_returns z returned queues asked objects back = refl
 next_returns z (refused x) queues asked objects back = refl
 
 -- a queue less, with its flush
-pub next_queue : (z : PoolSizes) (queues flush more : ℕ) → queues < z.queues → flush ≤ 3 * z.slots + all_shards z.allocators → flush + (z.shards - 0 + ((z.queues - (queues + 1)) * (flush_bound z + z.shards) + more)) + 1 ≤ (z.queues - queues) * (flush_bound z + z.shards) + more
+pub next_queue : (z : PoolSizes) (queues flush more : ℕ) → queues < z.queues → flush ≤ 3 * z.slots + all_shards (flushed_allocators z.plan) → flush + (z.shards - 0 + ((z.queues - (queues + 1)) * (flush_bound z + z.shards) + more)) + 1 ≤ (z.queues - queues) * (flush_bound z + z.shards) + more
 next_queue z queues flush more below few = omega (arith, one_more (z.queues - queues) (z.queues - (queues + 1)) (flush_bound z + z.shards) (omega arith))
 
 module _ {P : Type 0} where

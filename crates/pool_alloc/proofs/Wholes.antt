@@ -1,9 +1,10 @@
 -- A pool with all that have something of it: each of them fits, and no two have a slot.
 use Rattle.pool_pages.specs.MakerTold.{MakerTold}
-use Rattle.std.proofs.Common.{◌≡◌, ◌≢◌, ℕ, zero, suc, ◌+◌, ◌<◌, ◌≤◌, List, [], ◌∷◌, length, refl, ap, arith, All}
+use Rattle.std.proofs.Common.{◌≢◌, ℕ, zero, suc, ◌+◌, ◌<◌, ◌≤◌, List, [], ◌∷◌, length, refl, ap, arith, All}
 use Rattle.std.specs.Prelude.{sum_by, slice_index_or}
 use Rattle.std.proofs.lemmas.List.Elements.{All-head, All-tail}
 use Rattle.std.proofs.lemmas.List.Sums.{sum_by-cons, get_or-le-sum_by}
+use Rattle.pool_slots.specs.declared.slot_name.SlotName.{SlotName}
 use Rattle.pool_alloc.specs.Places.{right_to, region_of}
 use Rattle.pool_alloc.specs.Sound.{IsCore, FitsCore}
 use Rattle.pool_alloc.specs.Whole.{Holding, HasSlots, AddUp, held_by, IsPartitioned}
@@ -21,14 +22,14 @@ two_of_sum of (x ∷ xs) (suc i) zero d below also other = omega (arith, sum_by-
 two_of_sum of (x ∷ xs) (suc i) (suc j) d below also other = omega (arith, sum_by-cons of x xs, two_of_sum of xs i j d (omega (arith, below)) (omega (arith, also)) (λ e. other (ap suc e)))
 
 -- all have no region without its slot together
-all_have_slots : (k : ℕ) (hs : List Holding) → All HasSlots hs → sum_by (λ h. h.places (region_of k)) hs ≤ sum_by (λ h. h.places (right_to k)) hs
+all_have_slots : (k : SlotName) (hs : List Holding) → All HasSlots hs → sum_by (λ h. h.places (region_of k)) hs ≤ sum_by (λ h. h.places (right_to k)) hs
 all_have_slots k [] slots = omega arith
 all_have_slots k (h ∷ hs) slots =
     let here : h.places (region_of k) ≤ h.places (right_to k) = All-head HasSlots h hs slots k in
     omega (arith, here, sum_by-cons (λ (x : Holding). x.places (region_of k)) h hs, sum_by-cons (λ (x : Holding). x.places (right_to k)) h hs, all_have_slots k hs (All-tail HasSlots h hs slots))
 
 -- nor have others than one
-others_have_slots : (k : ℕ) (hs : List Holding) (i : ℕ) (d : Holding) → All HasSlots hs → i < length hs → sum_by (λ h. h.places (region_of k)) hs + (slice_index_or hs i d).places (right_to k) ≤ sum_by (λ h. h.places (right_to k)) hs + (slice_index_or hs i d).places (region_of k)
+others_have_slots : (k : SlotName) (hs : List Holding) (i : ℕ) (d : Holding) → All HasSlots hs → i < length hs → sum_by (λ h. h.places (region_of k)) hs + (slice_index_or hs i d).places (right_to k) ≤ sum_by (λ h. h.places (right_to k)) hs + (slice_index_or hs i d).places (region_of k)
 others_have_slots k [] i d slots below = absurd (omega arith)
 others_have_slots k (h ∷ hs) zero d slots below =
     omega (arith, sum_by-cons (λ (x : Holding). x.places (region_of k)) h hs, sum_by-cons (λ (x : Holding). x.places (right_to k)) h hs, all_have_slots k hs (All-tail HasSlots h hs slots))
@@ -53,7 +54,7 @@ module _ {P : Type 0} where
   }
 
   -- No slot is with two of them.
-  pub slots_apart : (maker : MakerTold) (c : PoolCore P) (hs : List Holding) (i j k : ℕ) (d : Holding) → IsCore maker c → IsPartitioned (λ h. h) c hs → i < length hs → j < length hs → i ≢ j → (slice_index_or hs i d).places (right_to k) + (slice_index_or hs j d).places (right_to k) ≤ 1
+  pub slots_apart : (maker : MakerTold) (c : PoolCore P) (hs : List Holding) (i j : ℕ) (k : SlotName) (d : Holding) → IsCore maker c → IsPartitioned (λ h. h) c hs → i < length hs → j < length hs → i ≢ j → (slice_index_or hs i d).places (right_to k) + (slice_index_or hs j d).places (right_to k) ≤ 1
   slots_apart maker c hs i j k d core whole below also other =
       omega (arith, whole.places (right_to k), (out_once maker k c core).0, two_of_sum (λ (h : Holding). h.places (right_to k)) hs i j d below also other)
 

@@ -24,6 +24,8 @@ use Rattle.pool_alloc.specs.Rows.{FlushStep, run, flush_step}
 use Rattle.pool_alloc.specs.declared.pool_core.Settings.{Settings}
 use Rattle.pool_alloc.specs.declared.frame.Frame.{Frame}
 use Rattle.pool_alloc.specs.declared.frame.Phase.{Phase}
+use Rattle.pool_alloc.specs.declared.frame.Object.{Object}
+use Rattle.pool_alloc.specs.declared.frame.Object.TheVariants.{Memory}
 use Rattle.pool_alloc.specs.declared.frame.TakenSlot.{TakenSlot}
 use Rattle.pool_alloc.specs.declared.frame.Phase.TheVariants.{Empty, Instantiate, MakeMemory, Reset, Flush}
 
@@ -36,7 +38,7 @@ Empties false old new = (new ≡ wiped old) × IsClean new
 -- does where pages go back to a mapped image.
 abbrev pub Resets : Bool → ℕ → TakenSlot → Slot → Slot → Type 0
 Resets true keep at old new = (old.region.behaviour ≡ Zero) × IsLeft old new
-Resets false keep at old new = (new ≡ (slot_ended keep at old).slot) × LeavesClean (reset_listed keep at.slot old) (slot_ended keep at old)
+Resets false keep at old new = (new ≡ (slot_ended keep at old).slot) × LeavesClean (reset_listed keep at.name.slot old) (slot_ended keep at old)
 
 -- What is so of an instantiation where the slot has the wanted image already, or what where it hasn't. Where its pages
 -- aren't told it is one of both.
@@ -101,11 +103,18 @@ FlushPlanned run g local = FollowsRun g.fault local g.queue
 FlushPlanned _ g local = Unit {0}
 
 module _ {P : Type 0} where
+  -- an object is reset
+  abbrev pub ResetTold : Settings → StepGiven → Object P → Type 0
+  ResetTold s g (Memory lease) = Resets g.fault s.keep_resident.bytes (slot_taken lease) (slot_of lease.memory) g.slot
+
+  abbrev pub ResetPlanned : Settings → StepGiven → Object P → Type 0
+  ResetPlanned s g (Memory lease) = FollowsReset s.keep_resident.bytes g.fault (slot_of lease.memory) g.slot
+
   -- the given answers may come in this phase
   abbrev pub MayBeTold : Settings → StepGiven → Phase P → Frame P → Type 0
   MayBeTold s g (Empty at held) f = Empties g.fault held g.slot
   MayBeTold s g (Instantiate at held) f = IfAllocated f (λ decl. InstantiatesFor s decl g.fault (image_wanted f) held g.slot)
-  MayBeTold s g (Reset lease) f = Resets g.fault s.keep_resident.bytes (slot_taken lease) (slot_of lease.memory) g.slot
+  MayBeTold s g (Reset object) f = ResetTold s g object
   MayBeTold s g Flush f = FlushTold (flush_step f.local) g f.local
   MayBeTold s g _ f = Unit {0}
 
@@ -124,6 +133,6 @@ module _ {P : Type 0} where
   abbrev pub IsPlanned : Settings → StepGiven → Phase P → Frame P → Type 0
   IsPlanned s g (Empty at held) f = Follows (wiping held) (not g.fault) held.region g.slot.region
   IsPlanned s g (Instantiate at held) f = IfAllocated f (λ decl. FollowsPlanFor s decl g.fault (image_wanted f) held g.slot)
-  IsPlanned s g (Reset lease) f = FollowsReset s.keep_resident.bytes g.fault (slot_of lease.memory) g.slot
+  IsPlanned s g (Reset object) f = ResetPlanned s g object
   IsPlanned s g Flush f = FlushPlanned (flush_step f.local) g f.local
   IsPlanned s g _ f = Unit {0}

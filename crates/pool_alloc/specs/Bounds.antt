@@ -2,14 +2,16 @@
 use Rattle.std.specs.Prelude.{ℕ, List, ◌+◌, ◌*◌, ◌-◌, length, nat_lt, if◌then◌else◌, Option, Some, ◌==◌, zero, suc, sum_by, ◌∷◌, [], max}
 use Rattle.pool_slots.specs.SlotQueues.{Queue, Queued}
 use Rattle.pool_index.specs.Shard.{one_if}
-use Rattle.pool_alloc.specs.Leases.{Lease}
+use Rattle.pool_alloc.specs.Objects.{objects_in, objects_wanted}
+use Rattle.pool_alloc.specs.declared.lease.InstanceLease.{InstanceLease}
 use Rattle.pool_alloc.specs.Reserved.{Reserved}
 use Rattle.pool_alloc.specs.RangeRuns.{runs}
-use Rattle.pool_slots.specs.Plans.{home_among}
+use Rattle.pool_slots.specs.Plans.{home_of}
+use Rattle.pool_slots.specs.declared.slot_name.SlotName.{SlotName}
 use Rattle.pool_slots.specs.declared.plan.Allocator.{Allocator}
 use Rattle.pool_slots.specs.declared.plan.Plan.{Plan}
-use Rattle.pool_alloc.specs.Steps.{memories_wanted, memory_slots, queues_searched}
-use Rattle.pool_alloc.specs.Stepping.{grant_memories}
+use Rattle.pool_alloc.specs.Steps.{memory_slots, queues_searched}
+use Rattle.pool_alloc.specs.declared.frame.Grant.TheVariants.{Instance}
 use Rattle.pool_alloc.specs.declared.pool_core.PoolCore.{PoolCore}
 use Rattle.pool_alloc.specs.declared.frame.Call.{Call}
 use Rattle.pool_alloc.specs.declared.frame.Call.TheVariants as call
@@ -19,14 +21,14 @@ use Rattle.pool_alloc.specs.declared.frame.Frame.{Frame}
 use Rattle.pool_alloc.specs.declared.frame.FreedSlot.{FreedSlot}
 use Rattle.pool_alloc.specs.Asked.{ModuleAsked}
 use Rattle.pool_alloc.specs.declared.frame.Phase.{Phase}
-use Rattle.pool_alloc.specs.declared.frame.Phase.TheVariants.{Idle, Key, Validate, CountInstance, Pick, TakeQueue, TakeRegion, Empty, Instantiate, MakeMemory, CountMemory, PutUnknown, FreeUnknown, UncountMemory, Reset, Merge, Flush, UncountInstance}
+use Rattle.pool_alloc.specs.declared.frame.Phase.TheVariants.{Idle, Key, Validate, CountInstance, Pick, TakeQueue, TakeRegion, Empty, Instantiate, MakeMemory, CountObject, PutBack, FreeOne, UncountObject, Reset, Merge, Flush, UncountInstance}
 
--- The sizes on which bounds rest: the most shards of one allocator, the queues, the slots, and the allocators.
+-- The sizes on which bounds rest: the most shards of one allocator, the queues, the slots, and where the plan has each.
 pub record PoolSizes : Type 0 where
   pub shards : ℕ
   pub queues : ℕ
   pub slots : ℕ
-  pub allocators : List Allocator
+  pub plan : Plan
 
 -- the most shards of one of these allocators, and the shards of all of them
 abbrev pub most_shards : List Allocator → ℕ
@@ -37,37 +39,41 @@ abbrev pub all_shards : List Allocator → ℕ
 all_shards [] = 0
 all_shards (a ∷ more) = a.shards + all_shards more
 
+-- the allocators of slots that a flush frees
+abbrev pub flushed_allocators : Plan → List Allocator
+flushed_allocators plan = plan.memories
+
 -- the sizes of a pool
 abbrev pub sizes_of : Plan → PoolSizes
-sizes_of plan = record { shards = most_shards plan.memories; queues = queues_searched plan; slots = memory_slots plan; allocators = plan.memories }
+sizes_of plan = record { shards = most_shards (flushed_allocators plan); queues = queues_searched plan; slots = memory_slots plan; plan = plan }
 
 -- A flush, with the step that begins it: three steps for each slot, and one for each shard. (Of memories it makes fewer.)
 abbrev pub flush_bound : PoolSizes → ℕ
-flush_bound z = 1 + 3 * z.slots + all_shards z.allocators
+flush_bound z = 1 + 3 * z.slots + all_shards (flushed_allocators z.plan)
 
 -- an allocation: a round of picks at first and one after the flush of each queue, and what is done with the slot
 abbrev pub allocation_bound : PoolSizes → ℕ
 allocation_bound z = (z.queues + 1) * z.shards + z.queues * flush_bound z + 8
 
--- a memory's giving back: counted, reset, appended to a queue and flushed
+-- an object's giving back: counted, reset, appended to a queue and flushed
 abbrev pub give_back_bound : PoolSizes → ℕ
 give_back_bound z = 4 + flush_bound z
 
--- an instance with so many memories, which may all be given back where it is refused in the end
+-- an instance with so many objects, which may all be given back where it is refused in the end
 abbrev pub instance_bound : PoolSizes → ℕ → ℕ
-instance_bound z memories = 3 + memories * (allocation_bound z + give_back_bound z)
+instance_bound z objects = 3 + objects * (allocation_bound z + give_back_bound z)
 
--- the end of an instance with so many memories
+-- the end of an instance with so many objects
 abbrev pub return_bound : PoolSizes → ℕ → ℕ
-return_bound z memories = 1 + memories * give_back_bound z
+return_bound z objects = 1 + objects * give_back_bound z
 
 -- 1 for a slot that is at home in the shard at this place, and how many such slots wait: those that are queued, and those
 -- that are to be freed
-abbrev pub is_home : PoolSizes → ℕ → ℕ → ℕ
-is_home z place slot = one_if ((home_among z.allocators slot).place == place)
+abbrev pub is_home : PoolSizes → ℕ → SlotName → ℕ
+is_home z place name = one_if ((home_of z.plan name).place == place)
 
 abbrev pub waiting_for : PoolSizes → ℕ → List Queued → List FreedSlot → ℕ
-waiting_for z place queued freed = sum_by (λ m. is_home z place m.name.slot) queued + sum_by (λ x. is_home z place x.slot) freed
+waiting_for z place queued freed = sum_by (λ m. is_home z place m.name) queued + sum_by (λ x. is_home z place x.name) freed
 
 -- for how many of the first n shards from a place on some do, and for how many shards of these allocators
 abbrev pub shards_waiting : PoolSizes → ℕ → ℕ → List Queued → List FreedSlot → ℕ
@@ -81,29 +87,29 @@ all_waiting z (a ∷ more) queued freed = shards_waiting z a.first_place a.shard
 -- What is left of a flush: each run of ranges, each region that is to be put back, and each shard of which slots are to be
 -- freed, however many.
 abbrev pub flush_left : PoolSizes → Queue → Reserved FreedSlot → ℕ
-flush_left z local freed = runs local.ranges + length local.slots + all_waiting z z.allocators local.slots freed.items
+flush_left z local freed = runs local.ranges + length local.slots + all_waiting z (flushed_allocators z.plan) local.slots freed.items
 
--- the memories that are still to be given back, and the instance
-abbrev pub returns_left : PoolSizes → Reserved Lease → ℕ
-returns_left z returning = return_bound z (length returning.items)
+-- the objects that are still to be given back, and the instance
+abbrev pub returns_left : {P : Type 0} → PoolSizes → InstanceLease P → ℕ
+returns_left z objects = return_bound z (objects_in objects)
 
--- What is left once the memory that is allocated is granted or refused: the module's other memories, and that all which
+-- What is left once the object that is allocated is granted or refused: the module's other objects, and that all which
 -- are granted until then may be given back.
-abbrev pub memories_left : PoolSizes → Option ModuleAsked → Reserved Lease → ℕ
-memories_left z asked objects = (length (memories_wanted asked) - (length objects.items + 1)) * (allocation_bound z + give_back_bound z) + return_bound z (length objects.items + 1)
+abbrev pub objects_left : {P : Type 0} → PoolSizes → Option ModuleAsked → InstanceLease P → ℕ
+objects_left z asked objects = (objects_wanted asked - (objects_in objects + 1)) * (allocation_bound z + give_back_bound z) + return_bound z (objects_in objects + 1)
 
 -- what is left of an allocation where so many queues were gone through: their flushes with the rounds of picks after them,
 -- and six steps with the slot
-abbrev pub queues_left : PoolSizes → ℕ → Option ModuleAsked → Reserved Lease → ℕ
-queues_left z queues asked objects = (z.queues - queues) * (flush_bound z + z.shards) + (6 + memories_left z asked objects)
+abbrev pub queues_left : {P : Type 0} → PoolSizes → ℕ → Option ModuleAsked → InstanceLease P → ℕ
+queues_left z queues asked objects = (z.queues - queues) * (flush_bound z + z.shards) + (6 + objects_left z asked objects)
 
 -- and where so many shards were tried then
-abbrev pub picks_left : PoolSizes → ℕ → ℕ → Option ModuleAsked → Reserved Lease → ℕ
+abbrev pub picks_left : {P : Type 0} → PoolSizes → ℕ → ℕ → Option ModuleAsked → InstanceLease P → ℕ
 picks_left z queues tried asked objects = (z.shards - tried) + queues_left z queues asked objects
 
 -- what is left of a call where its ending says what is next
-abbrev pub next_left : PoolSizes → Ending → ℕ → Option ModuleAsked → Reserved Lease → ℕ
-next_left z granted queues asked objects = if nat_lt (length objects.items) (length (memories_wanted asked)) then picks_left z queues 0 asked objects else 0
+abbrev pub next_left : {P : Type 0} → PoolSizes → Ending → ℕ → Option ModuleAsked → InstanceLease P → ℕ
+next_left z granted queues asked objects = if nat_lt (objects_in objects) (objects_wanted asked) then picks_left z queues 0 asked objects else 0
 next_left z returned queues asked objects = returns_left z objects
 next_left z (refused e) queues asked objects = returns_left z objects
 
@@ -111,8 +117,8 @@ module _ {P : Type 0} where
   -- at most how many steps a call makes, on a pool of these sizes and on this one
   abbrev pub bound_of_call : PoolSizes → Call P → ℕ
   bound_of_call z call.Key = 1
-  bound_of_call z (call.Module m) = instance_bound z (length (memories_wanted (Some m)))
-  bound_of_call z (call.GiveBack grant) = return_bound z (grant_memories grant)
+  bound_of_call z (call.Module m) = instance_bound z (objects_wanted (Some m))
+  bound_of_call z (call.GiveBack (Instance lease)) = return_bound z (objects_in lease)
 
   abbrev pub bound_of : PoolCore P → Call P → ℕ
   bound_of c call = bound_of_call (sizes_of c.plan) call
@@ -121,19 +127,19 @@ module _ {P : Type 0} where
   abbrev pub steps_at : PoolSizes → Phase P → Frame P → ℕ
   steps_at z Idle f = 0
   steps_at z Key f = 1
-  steps_at z Validate f = instance_bound z (length (memories_wanted f.asked))
-  steps_at z CountInstance f = 2 + length (memories_wanted f.asked) * (allocation_bound z + give_back_bound z)
+  steps_at z Validate f = instance_bound z (objects_wanted f.asked)
+  steps_at z CountInstance f = 2 + objects_wanted f.asked * (allocation_bound z + give_back_bound z)
   steps_at z (Pick tried) f = picks_left z f.queues tried f.asked f.objects
   steps_at z TakeQueue f = queues_left z f.queues f.asked f.objects
-  steps_at z (TakeRegion slot) f = 6 + memories_left z f.asked f.objects
-  steps_at z (Empty at held) f = 5 + memories_left z f.asked f.objects
-  steps_at z (Instantiate at held) f = 4 + memories_left z f.asked f.objects
-  steps_at z (MakeMemory at held) f = 3 + memories_left z f.asked f.objects
-  steps_at z (CountMemory lease) f = 1 + memories_left z f.asked f.objects
-  steps_at z (PutUnknown at held) f = 2 + returns_left z f.objects
-  steps_at z (FreeUnknown slot) f = 1 + returns_left z f.objects
-  steps_at z (UncountMemory lease) f = give_back_bound z + returns_left z f.objects
-  steps_at z (Reset lease) f = 1 + flush_bound z + returns_left z f.objects
+  steps_at z (TakeRegion name) f = 6 + objects_left z f.asked f.objects
+  steps_at z (Empty at held) f = 5 + objects_left z f.asked f.objects
+  steps_at z (Instantiate at held) f = 4 + objects_left z f.asked f.objects
+  steps_at z (MakeMemory at held) f = 3 + objects_left z f.asked f.objects
+  steps_at z (CountObject object) f = 1 + objects_left z f.asked f.objects
+  steps_at z (PutBack at held) f = 2 + returns_left z f.objects
+  steps_at z (FreeOne name) f = 1 + returns_left z f.objects
+  steps_at z (UncountObject object) f = give_back_bound z + returns_left z f.objects
+  steps_at z (Reset object) f = 1 + flush_bound z + returns_left z f.objects
   steps_at z Merge f = flush_bound z + returns_left z f.objects
   steps_at z Flush f = flush_left z f.local f.freed + next_left z f.ending f.queues f.asked f.objects
   steps_at z UncountInstance f = 1

@@ -1,12 +1,12 @@
 -- A party's calls: its frame as made, what a call begins with, and what it grants.
-use Rattle.std.specs.Prelude.{◌≡◌, ℕ, ◌*◌, [], length, All, Option, Some, None}
+use Rattle.std.specs.Prelude.{◌≡◌, ℕ, ◌*◌, [], length, Option, Some, None}
 use Rattle.pool_pages.specs.MakerTold.{MakerTold}
 use Rattle.pool_slots.specs.SlotQueues.{empty_queue}
 use Rattle.pool_slots.specs.declared.plan.Plan.{Plan}
-use Rattle.pool_alloc.specs.Reserved.{no_room}
+use Rattle.pool_alloc.specs.Objects.{no_objects}
 use Rattle.pool_alloc.specs.Steps.{memories_wanted, images_wanted}
 use Rattle.pool_alloc.specs.Turns.{returned_next}
-use Rattle.pool_alloc.specs.Sound.{IsLeaseOf, AreImagesOf, AreBegun}
+use Rattle.pool_alloc.specs.Sound.{AreLeasesOf, AreImagesOf, AreBegun}
 use Rattle.pool_alloc.specs.Modules.{HasImages}
 use Rattle.pool_alloc.specs.declared.pool_core.Settings.{Settings}
 use Rattle.pool_alloc.specs.declared.frame.Frame.{Frame}
@@ -28,24 +28,25 @@ module _ {P : Type 0} where
     stripe = 0;
     asked = None;
     ending = returned;
-    objects = no_room;
+    objects = no_objects;
     queues = 0;
     local = empty_queue (2 * s.batch) (2 * s.batch);
     freed = record { items = []; room = 2 * s.batch };
     phase = Idle;
+    step_count = 0;
   }
 
   -- no call is under way
   abbrev pub IsIdle : Frame P → Type 0
   IsIdle f = f.phase ≡ Idle
 
-  -- the grant is one of the pool: its memories are leases of it
+  -- the grant is one of the pool: its objects are leases of it
   abbrev pub IsGrant : MakerTold → Settings → Plan → Grant P → Type 0
-  IsGrant maker s plan (Instance lease) = All (IsLeaseOf maker s plan) lease.memories.items
+  IsGrant maker s plan (Instance lease) = AreLeasesOf maker s plan lease
 
-  -- and it has a memory for each that was asked for, which begins as that is to
+  -- and it has an object for each that was asked for, which begins as that is to
   abbrev pub IsGrantOf : MakerTold → Settings → Plan → Option ModuleAsked → Grant P → Type 0
-  IsGrantOf maker s plan asked (Instance lease) = All (IsLeaseOf maker s plan) lease.memories.items × (length lease.memories.items ≡ length (memories_wanted asked)) × AreBegun s asked lease.memories.items
+  IsGrantOf maker s plan asked (Instance lease) = AreLeasesOf maker s plan lease × (length lease.memories.items ≡ length (memories_wanted asked)) × AreBegun s asked lease
 
   -- what is granted, if a call ends with a grant
   abbrev pub IfGranted : (Grant P → Type 0) → Option (Outcome P) → Type 0
@@ -59,12 +60,12 @@ module _ {P : Type 0} where
   MayBegin maker s plan (call.Module m) f = IsIdle f × AreImagesOf s (memories_wanted (Some m)) (images_wanted (Some m)) × HasImages (Some m)
   MayBegin maker s plan (call.GiveBack grant) f = IsIdle f × IsGrant maker s plan grant
 
-  -- the memories of a grant are given back in order, and then the instance
+  -- the objects of a grant are given back in order, and then the instance
   abbrev pub gives_back : Grant P → Frame P → Frame P
-  gives_back (Instance lease) f = (returned_next lease.memories.items (record f { objects = lease.memories; ending = returned })).frame
+  gives_back (Instance lease) f = record (returned_next lease.memories.items (record f { objects = lease; ending = returned })).frame { step_count = 0 }
 
   -- the frame once the call began
   abbrev pub begun_call : Call P → Frame P → Frame P
-  begun_call call.Key f = record f { phase = Key }
-  begun_call (call.Module m) f = record f { asked = Some m; ending = granted; queues = 0; phase = Validate }
+  begun_call call.Key f = record f { phase = Key; step_count = 0 }
+  begun_call (call.Module m) f = record f { asked = Some m; ending = granted; queues = 0; phase = Validate; step_count = 0 }
   begun_call (call.GiveBack grant) f = gives_back grant f

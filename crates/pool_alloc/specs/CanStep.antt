@@ -10,30 +10,33 @@ use Rattle.pool_index.specs.Shard.{ShardState, use_of}
 use Rattle.pool_hall.specs.declared.unit_name.SlotKind.TheVariants.{Memory as memory_kind}
 use Rattle.pool_memory.specs.Memories.{slot_of}
 use Rattle.pool_memory.specs.Static.{CanHold}
-use Rattle.pool_slots.specs.Cells.{is_taken, unmapped}
+use Rattle.pool_slots.specs.Cells.{is_taken, unmapped, IsCleanOnceUsed}
 use Rattle.pool_slots.specs.RegionCells.{CellState}
 use Rattle.pool_slots.specs.SlotQueues.{Queue, Queued, HasOwners, IsSpareOf}
 use Rattle.pool_slots.specs.declared.plan.Plan.{Plan}
-use Rattle.pool_slots.specs.Plans.{IsPlacedAllocator}
+use Rattle.pool_slots.specs.CellOf.{cell_of}
+use Rattle.pool_slots.specs.Plans.{cell_place, home_of, IsPlacedAllocator}
+use Rattle.pool_slots.specs.declared.slot_name.SlotName.{SlotName}
 use Rattle.pool_alloc.specs.Freeing.{AreUsedInTurn, HasHome, CanBeFreed}
 use Rattle.pool_alloc.specs.Modules.{HasImages, IfAllocated}
 use Rattle.pool_alloc.specs.Reserved.{Reserved}
 use Rattle.pool_alloc.specs.Rows.{FlushStep, run, put, free, flush_step}
 use Rattle.pool_alloc.specs.Turns.{is_granting}
 use Rattle.pool_slots.specs.QueueMerges.{CanMerge}
-use Rattle.pool_slots.specs.Parts.{IsAt, IsShardPart}
-use Rattle.pool_alloc.specs.Steps.{memories_wanted, image_wanted, IsMemoryPart, IsQueuePart, cell_of, stripe_allocator, queues_searched, shard_at, nth_cell, queue_at, shard_of, local_of, freed_of, first_shard, shard_tried, queue_tried}
+use Rattle.pool_slots.specs.Parts.{IsAt, IsShardPart, IsCellPart}
+use Rattle.pool_alloc.specs.Steps.{memories_wanted, image_wanted, IsQueuePart, stripe_allocator, queues_searched, shard_at, cell_named, queue_at, freed_of, first_shard, shard_tried, queue_tried}
 use Rattle.pool_alloc.specs.declared.pool_core.PoolCore.{PoolCore}
 use Rattle.pool_alloc.specs.declared.pool_core.Settings.{Settings}
 use Rattle.pool_alloc.specs.declared.frame.Frame.{Frame}
 use Rattle.pool_alloc.specs.declared.frame.FreedSlot.{FreedSlot}
+use Rattle.pool_alloc.specs.declared.frame.Object.TheVariants.{Memory}
 use Rattle.pool_alloc.specs.Asked.{ModuleAsked}
 use Rattle.pool_alloc.specs.declared.frame.Phase.{Phase}
-use Rattle.pool_alloc.specs.declared.frame.Phase.TheVariants.{Idle, Key, Validate, CountInstance, Pick, TakeQueue, TakeRegion, Empty, Instantiate, MakeMemory, CountMemory, PutUnknown, FreeUnknown, UncountMemory, Reset, Merge, Flush, UncountInstance}
+use Rattle.pool_alloc.specs.declared.frame.Phase.TheVariants.{Idle, Key, Validate, CountInstance, Pick, TakeQueue, TakeRegion, Empty, Instantiate, MakeMemory, CountObject, PutBack, FreeOne, UncountObject, Reset, Merge, Flush, UncountInstance}
 
 -- the place of a slot's cell, that of a shard that is tried, and that of a queue are numbers that the code can compute
-abbrev pub CanPlace : Plan → ℕ → Type 0
-CanPlace plan slot = cell_of plan slot < 2 ^ 32
+abbrev pub CanPlace : Plan → SlotName → Type 0
+CanPlace plan name = cell_place plan name < 2 ^ 32
 
 pub record CanTryShard (plan : Plan) (of tried : ℕ) : Type 0 where
   pub stripe : of < length plan.memories
@@ -77,9 +80,9 @@ pub record CanMake (s : Settings) (held : Slot) (decl : MemoryDecl) : Type 0 whe
   pub room : rounded_up held.region.page s.max_memory_size ≤ held.static_size
 
 -- a slot of a shard is used
-pub record CanFreeOne (slot : ℕ) (plan : Plan) (shard : ShardState) : Type 0 where
-  pub home : HasHome plan slot
-  pub used : IsSome (use_of shard (local_of plan slot).0)
+pub record CanFreeOne (name : SlotName) (plan : Plan) (shard : ShardState) : Type 0 where
+  pub home : HasHome plan name
+  pub used : IsSome (use_of shard (home_of plan name).local.0)
 
 -- the local queue is empty, and has room
 pub record CanReset (s : Settings) (held : Slot) (local : Queue) : Type 0 where
@@ -107,7 +110,7 @@ module _ {P : Type 0} where
   -- just the next part of a flush
   abbrev pub CanFlush : FlushStep → PoolCore P → Frame P → Type 0
   CanFlush run c f = (0 < length f.local.ranges) × HasOwners f.local
-  CanFlush put c f = ((m : Queued) (rest : List Queued) → f.local.slots ≡ m ∷ rest → CanPlace c.plan m.name.slot × IsAt IsMemoryPart (cell_of c.plan m.name.slot) c.parts) × CanPutNext f.local f.freed
+  CanFlush put c f = ((m : Queued) (rest : List Queued) → f.local.slots ≡ m ∷ rest → CanPlace c.plan m.name × IsAt IsCellPart (cell_place c.plan m.name) c.parts) × CanPutNext f.local f.freed
   CanFlush free c f = IsAt IsShardPart (first_shard c.plan f.freed.items) c.parts × CanFree c.plan f.freed.items (shard_at (first_shard c.plan f.freed.items) c)
 
   -- in each phase
@@ -116,17 +119,17 @@ module _ {P : Type 0} where
   CanStepAt Key c f = (0 < length c.plan.memories) × (length c.plan.memories < 2 ^ 32)
   CanStepAt Validate c f = CanValidate (memories_wanted f.asked)
   CanStepAt CountInstance c f = c.counters.core_instances + 1 < 2 ^ 64
-  CanStepAt (Pick tried) c f = CanTryShard c.plan f.stripe tried × IsAt IsShardPart (shard_tried tried c.plan f) c.parts × (length f.objects.items < 2 ^ 32)
+  CanStepAt (Pick tried) c f = CanTryShard c.plan f.stripe tried × IsAt IsShardPart (shard_tried tried c.plan f) c.parts × (length f.objects.memories.items < 2 ^ 32)
   CanStepAt TakeQueue c f = (f.queues < queues_searched c.plan) × (f.stripe < length c.plan.memories) × CanTryQueue c.plan f.home × IsAt IsQueuePart (queue_tried f.queues c.plan f) c.parts × IsSpareOf (queue_at (queue_tried f.queues c.plan f) c) f.local
-  CanStepAt (TakeRegion slot) c f = CanPlace c.plan slot × IsAt IsMemoryPart (cell_of c.plan slot) c.parts × CanTakeRegion c.settings (nth_cell slot c)
+  CanStepAt (TakeRegion name) c f = CanPlace c.plan name × IsAt IsCellPart (cell_place c.plan name) c.parts × CanTakeRegion c.settings (cell_named name c)
   CanStepAt (Empty at held) c f = Unit {0}
-  CanStepAt (Instantiate at held) c f = HasNext f.asked (length f.objects.items) × IsClean held × IfAllocated f (CanBegin held (image_wanted f))
-  CanStepAt (MakeMemory at held) c f = HasNext f.asked (length f.objects.items) × IfAllocated f (CanMake c.settings held)
-  CanStepAt (CountMemory lease) c f = (c.counters.memories + 1 < 2 ^ 64) × (length f.objects.items < f.objects.room)
-  CanStepAt (PutUnknown at held) c f = CanPlace c.plan at.slot × IsAt IsMemoryPart (cell_of c.plan at.slot) c.parts
-  CanStepAt (FreeUnknown slot) c f = IsAt IsShardPart (shard_of c.plan slot) c.parts × CanFreeOne slot c.plan (shard_at (shard_of c.plan slot) c)
-  CanStepAt (UncountMemory lease) c f = 0 < c.counters.memories
-  CanStepAt (Reset lease) c f = CanReset c.settings (slot_of lease.memory) f.local
+  CanStepAt (Instantiate at held) c f = HasNext f.asked (length f.objects.memories.items) × IsClean held × IfAllocated f (CanBegin held (image_wanted f))
+  CanStepAt (MakeMemory at held) c f = HasNext f.asked (length f.objects.memories.items) × IfAllocated f (CanMake c.settings held)
+  CanStepAt (CountObject (Memory lease)) c f = (c.counters.memories + 1 < 2 ^ 64) × (length f.objects.memories.items < f.objects.memories.room)
+  CanStepAt (PutBack at held) c f = CanPlace c.plan at.name × IsAt IsCellPart (cell_place c.plan at.name) c.parts × IsCleanOnceUsed (cell_of held)
+  CanStepAt (FreeOne name) c f = IsAt IsShardPart (home_of c.plan name).place c.parts × CanFreeOne name c.plan (shard_at (home_of c.plan name).place c)
+  CanStepAt (UncountObject (Memory lease)) c f = 0 < c.counters.memories
+  CanStepAt (Reset (Memory lease)) c f = CanReset c.settings (slot_of lease.memory) f.local
   CanStepAt Merge c f = CanTryQueue c.plan f.home × IsAt IsQueuePart (queue_tried 0 c.plan f) c.parts × CanMerge (queue_at (queue_tried 0 c.plan f) c) f.local
   CanStepAt Flush c f = CanFlush (flush_step f.local) c f
   CanStepAt UncountInstance c f = (0 < c.counters.core_instances) × (is_granting f.ending ≡ false)

@@ -2,36 +2,36 @@
 use Rattle.std.specs.List.{AllByRecursion}
 use Rattle.std.specs.Prelude.{◌≡◌, ℕ, ◌^◌, ◌≤◌, ◌==◌, List, [], ◌∷◌, ◌++◌, if◌then◌else◌, IsSome, ◌<◌}
 use Rattle.pool_index.specs.Shard.{ShardState, use_of, after_free}
-use Rattle.pool_slots.specs.Plans.{have_number, IsPlacedAllocator}
+use Rattle.pool_slots.specs.Plans.{allocators_of, home_of, have_number, IsPlacedAllocator}
 use Rattle.pool_slots.specs.declared.plan.Plan.{Plan}
-use Rattle.pool_alloc.specs.Steps.{shard_of, local_of}
+use Rattle.pool_slots.specs.declared.slot_name.SlotName.{SlotName}
 use Rattle.pool_alloc.specs.declared.frame.FreedSlot.{FreedSlot}
 
 -- each slot of the list is used in the shard when its turn comes
 abbrev pub AreUsedInTurn : Plan → List FreedSlot → ShardState → Type 0
 AreUsedInTurn plan [] shard = Unit {0}
-AreUsedInTurn plan (x ∷ rest) shard = IsSome (use_of shard (local_of plan x.slot).0) × AreUsedInTurn plan rest (after_free (local_of plan x.slot) x.bytes shard)
+AreUsedInTurn plan (x ∷ rest) shard = IsSome (use_of shard (home_of plan x.name).local.0) × AreUsedInTurn plan rest (after_free (home_of plan x.name).local x.bytes shard)
 
--- the plan says where a memory slot is at home
-pub record HasHome (plan : Plan) (slot : ℕ) : Type 0 where
-  pub placed : AllByRecursion IsPlacedAllocator plan.memories
-  pub has : 0 < have_number plan.memories slot
+-- the plan says where a slot is at home
+pub record HasHome (plan : Plan) (name : SlotName) : Type 0 where
+  pub placed : AllByRecursion IsPlacedAllocator (allocators_of plan name.kind)
+  pub has : 0 < have_number (allocators_of plan name.kind) name.slot
 
 -- and a slot can be freed that keeps no more bytes resident than a slot may
 pub record CanBeFreed (plan : Plan) (x : FreedSlot) : Type 0 where
-  pub home : HasHome plan x.slot
+  pub home : HasHome plan x.name
   pub bytes : x.bytes ≤ 2 ^ 32
 
 -- A turn of a free of the shard at a place: the first of the slots is freed where it is the shard's, and goes to the end
 -- where it isn't.
 abbrev pub CanFreeNext : Plan → ℕ → List FreedSlot → ShardState → Type 0
 CanFreeNext plan place [] shard = ⊥
-CanFreeNext plan place (x ∷ rest) shard = (shard_of plan x.slot ≡ place → IsSome (use_of shard (local_of plan x.slot).0)) × CanBeFreed plan x
+CanFreeNext plan place (x ∷ rest) shard = ((home_of plan x.name).place ≡ place → IsSome (use_of shard (home_of plan x.name).local.0)) × CanBeFreed plan x
 
 abbrev pub shard_after_next : Plan → ℕ → List FreedSlot → ShardState → ShardState
 shard_after_next plan place [] shard = shard
-shard_after_next plan place (x ∷ rest) shard = if shard_of plan x.slot == place then after_free (local_of plan x.slot) x.bytes shard else shard
+shard_after_next plan place (x ∷ rest) shard = if (home_of plan x.name).place == place then after_free (home_of plan x.name).local x.bytes shard else shard
 
 abbrev pub freed_after_next : Plan → ℕ → List FreedSlot → List FreedSlot
 freed_after_next plan place [] = []
-freed_after_next plan place (x ∷ rest) = if shard_of plan x.slot == place then rest else rest ++ x ∷ []
+freed_after_next plan place (x ∷ rest) = if (home_of plan x.name).place == place then rest else rest ++ x ∷ []

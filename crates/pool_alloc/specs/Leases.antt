@@ -7,7 +7,9 @@ use Rattle.pool_limits.specs.declared.errors.GrowFault.{GrowFault}
 use Rattle.pool_limits.specs.declared.errors.Trap.{Trap}
 use Rattle.pool_memory.specs.Growing.{GrowsAsking}
 use Rattle.pool_memory.specs.Memories.{MemoryState, slot_of, memory_written, access_answer}
+use Rattle.pool_hall.specs.declared.unit_name.SlotKind.TheVariants.{Memory as memory_kind}
 use Rattle.pool_slots.specs.declared.slot_name.RegionNumbers.{RegionNumbers}
+use Rattle.pool_slots.specs.declared.slot_name.SlotName.{SlotName}
 use Rattle.pool_alloc.specs.Reserved.{Reserved}
 use Rattle.pool_alloc.specs.declared.frame.TakenSlot.{TakenSlot}
 
@@ -17,9 +19,13 @@ pub record Lease : Type 0 where
   pub memory : MemoryState
   pub numbers : RegionNumbers
 
+-- the name of a memory slot
+abbrev pub memory_slot : ℕ → SlotName
+memory_slot slot = record { kind = memory_kind; slot = slot }
+
 -- the slot with those numbers
 abbrev pub slot_taken : Lease → TakenSlot
-slot_taken l = record { slot = l.index; numbers = l.numbers }
+slot_taken l = record { name = memory_slot l.index; numbers = l.numbers }
 
 -- the memory can be read and written, is no larger than it may be, and stays where it is
 pub record IsUsable (m : MemoryState) : Type 0 where

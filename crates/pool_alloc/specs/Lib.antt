@@ -7,6 +7,7 @@ pub mod Freeing
 pub mod Leases
 pub mod Made
 pub mod Modules
+pub mod Objects
 pub mod Own
 pub mod Places
 pub mod RangeRuns
@@ -20,4 +21,5 @@ pub mod Stepping
 pub mod Steps
 pub mod Sums
 pub mod Turns
+pub mod Wants
 pub mod Whole

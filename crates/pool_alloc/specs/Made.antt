@@ -1,5 +1,5 @@
 -- A pool as it is made.
-use Rattle.std.specs.Prelude.{◌≡◌, ◌⊎◌, ℕ, ◌+◌, ◌*◌, ◌<◌, List, length, max, Bool, true, Option, Some, None, ◌^◌}
+use Rattle.std.specs.Prelude.{◌≡◌, ◌⊎◌, ℕ, ◌*◌, ◌<◌, Bool, true, Option, Some, None, ◌^◌}
 use Rattle.pool_pages.specs.Count.{count, rounded_up}
 use Rattle.pool_pages.specs.MakerTold.{MakerTold}
 use Rattle.pool_pages.specs.Told.{Rose}
@@ -9,16 +9,11 @@ use Rattle.pool_pages.specs.declared.module_types.Tunables.{Tunables}
 use Rattle.pool_pages.specs.declared.module_types.MemoryKind.TheVariants.{LinearMemory}
 use Rattle.pool_pages.specs.declared.offered.Offered.{Offered}
 use Rattle.pool_pages.specs.declared.pages.DecommitBehavior.{DecommitBehavior}
-use Rattle.pool_hall.specs.declared.unit_name.SlotKind.TheVariants.{Memory as memory_kind}
-use Rattle.pool_index.specs.Shard.{fresh_shard}
-use Rattle.pool_slots.specs.Cells.{unmapped, region_made}
-use Rattle.pool_slots.specs.RegionCells.{memory_cell}
-use Rattle.pool_slots.specs.Parts.{part_at}
-use Rattle.pool_slots.specs.declared.part.PoolPart.{PoolPart}
-use Rattle.pool_slots.specs.declared.part.PoolPart.TheVariants as part
-use Rattle.pool_slots.specs.SlotQueues.{empty_queue}
-use Rattle.pool_slots.specs.PlansMade.{IsPlanOf, places_planned}
-use Rattle.pool_slots.specs.declared.plan_maker.PlanSettings.{PlanSettings}
+use Rattle.pool_slots.specs.PartsMade.{AreMadeTo}
+use Rattle.pool_slots.specs.PlansMade.{heaps_from, places_planned}
+use Rattle.pool_slots.specs.StripedPlans.{divided, IsStripedPlanOf}
+use Rattle.pool_slots.specs.declared.part_maker.PartSettings.{PartSettings}
+use Rattle.pool_slots.specs.declared.striped_plan.StripedPlanSettings.{StripedPlanSettings}
 use Rattle.pool_slots.specs.declared.errors.PoolNewError.{PoolNewError}
 use Rattle.pool_slots.specs.declared.errors.PoolNewError.TheVariants as refused
 use Rattle.pool_alloc.specs.declared.pool_core.PoolCore.{PoolCore}
@@ -37,28 +32,34 @@ settings_of page config tunables offered = record {
   tunables = record { tunables = tunables; kind = LinearMemory };
 }
 
--- All slots of memories are one shard's, there is one stripe and one queue, and nothing of other kinds.
-abbrev pub plan_settings : PoolingAllocationConfig → PlanSettings
+-- How many slots of each kind there are: memories alone, in one stripe. The slots of each kind are one shard's, and there is
+-- one queue.
+abbrev pub plan_settings : PoolingAllocationConfig → StripedPlanSettings
 plan_settings config = record {
   totals = record { memory = config.limits.total_memories; table = 0; stack = 0; heap = 0 };
-  shards = record { memory = 1; table = 0; stack = 0; heap = 0 };
-  slots_per_shard = record { memory = max config.limits.total_memories 1; table = 1; stack = 1; heap = 1 };
+  num_stripes = 1;
+  requested_shards = 1;
   queues = 1;
 }
 
--- one shard, a cell for each slot with its region, which was never used, and one queue
-pub record HasMadeParts {P : Type 0} (maker : MakerTold) (behaviour : DecommitBehavior) (max_memory_size total warm batch : ℕ) (parts : List (PoolPart P)) : Type 0 where
-  pub number : length parts ≡ 1 + (total + 1)
-  pub shard : part_at 0 parts ≡ part.Shard (fresh_shard memory_kind 0 1 total warm)
-  pub cells : (i : ℕ) → i < total → part_at (1 + i) parts ≡ part.Memory (memory_cell i (unmapped (region_made maker behaviour max_memory_size i)))
-  pub queue : part_at (1 + total) parts ≡ part.Queue (empty_queue (2 * batch) (2 * batch))
+-- with what the parts are made: regions of memories have the largest size, and a queue has room for twice a batch
+abbrev pub part_settings : ℕ → PoolingAllocationConfig → Offered → PartSettings
+part_settings page config offered = record {
+  behaviour = offered.behaviour;
+  memory_len = count page (rounded_up page config.limits.max_memory_size);
+  table_len = count page 0;
+  stack_len = count page 0;
+  max_unused_warm_slots = config.max_unused_warm_slots;
+  queue_room = 2 * config.decommit_batch_size;
+}
 
--- Every slot is cold and has its region in its cell, the one queue is empty, and nothing is counted.
+-- Each place has the part that the plan has there, as it is made: slots are cold and have their regions in their cells, and
+-- queues are empty. Nothing is counted.
 pub record IsMadeCore {P : Type 0} (maker : MakerTold) (config : PoolingAllocationConfig) (tunables : Tunables) (offered : Offered) (c : PoolCore P) : Type 0 where
   pub settings : c.settings ≡ settings_of maker.page config tunables offered
-  pub plan : IsPlanOf (plan_settings config) c.plan
-  pub few : places_planned (plan_settings config) < 2 ^ 32
-  pub parts : HasMadeParts maker c.settings.behaviour c.settings.max_memory_size config.limits.total_memories config.max_unused_warm_slots config.decommit_batch_size c.parts
+  pub plan : IsStripedPlanOf (plan_settings config) c.plan
+  pub few : places_planned (divided (plan_settings config)) < 2 ^ 32
+  pub parts : AreMadeTo c.plan (plan_settings config).num_stripes maker (part_settings maker.page config offered) (heaps_from (divided (plan_settings config))) c.parts
   pub counters : c.counters ≡ record { key = 0; core_instances = 0; memories = 0 }
 
 -- No pool is made where a rule of the settings is broken, and then the refusal names the first.

@@ -12,4 +12,4 @@ HasImages asked = IfSome asked (λ m. IfSome m.images (λ images. length images 
 module _ {P : Type 0} where
   -- the memory that is allocated
   abbrev pub IfAllocated : Frame P → (MemoryDecl → Type 0) → Type 0
-  IfAllocated f Q = IfSome (slice_get (memories_wanted f.asked) (length f.objects.items)) Q
+  IfAllocated f Q = IfSome (slice_get (memories_wanted f.asked) (length f.objects.memories.items)) Q

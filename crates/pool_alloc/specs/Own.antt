@@ -17,7 +17,7 @@ use Rattle.pool_slots.specs.declared.queued_range.QueuedRange.{QueuedRange}
 use Rattle.pool_slots.specs.declared.queued_range.QueueKind.TheVariants as queued
 use Rattle.pool_slots.specs.declared.errors.AllocError.{AllocError}
 use Rattle.pool_slots.specs.declared.errors.AllocError.TheVariants as refusal
-use Rattle.pool_hall.specs.declared.unit_name.SlotKind.TheVariants.{Memory as memory_kind}
+use Rattle.pool_alloc.specs.Leases.{memory_slot}
 use Rattle.pool_alloc.specs.declared.frame.TakenSlot.{TakenSlot}
 use Rattle.pool_alloc.specs.declared.pool_core.Settings.{Settings}
 
@@ -36,7 +36,7 @@ image_made page static_size region = record {
 -- the slot of a memory that has ended, once it was reset so that as many of its bytes as are wanted stay resident
 abbrev pub slot_ended : ℕ → TakenSlot → Slot → Queued
 slot_ended keep at slot = record {
-  name = record { kind = memory_kind; slot = at.slot };
+  name = memory_slot at.name.slot;
   slot = reset_slot slot.region.behaviour keep slot;
   known = true;
   bytes = kept_bytes slot.region.behaviour keep slot.accessible.bytes;
@@ -50,7 +50,7 @@ reset_listed keep index slot = map (λ r. record { kind = queued.Memory; slot = 
 
 -- the local queue with these ranges and that slot
 abbrev pub reset_into : ℕ → TakenSlot → Slot → Queue → Queue
-reset_into keep at slot q = with_slot (slot_ended keep at slot) (record q { ranges = q.ranges ++ reset_listed keep at.slot slot })
+reset_into keep at slot q = with_slot (slot_ended keep at slot) (record q { ranges = q.ranges ++ reset_listed keep at.name.slot slot })
 
 -- why a memory isn't made, as the refusal of an allocation
 abbrev pub refusal_of : MemoryError → AllocError

@@ -11,6 +11,10 @@ use Rattle.pool_memory.specs.MemoryStates.{state_of}
 use Rattle.pool_memory.specs.declared.memory.Memory.{Memory}
 use Rattle.pool_memory.specs.declared.memory_error.MemoryError.{MemoryError}
 use Rattle.pool_slots.specs.Cells.{Cell, unmapped, unknown, previously_used, taken}
+use Rattle.pool_slots.specs.CellOf.{cell_of}
+use Rattle.pool_slots.specs.Plans.{home_of}
+use Rattle.pool_slots.specs.declared.cells.ImageSlot.TheVariants.{Unknown}
+use Rattle.pool_slots.specs.declared.slot_name.SlotName.{SlotName}
 use Rattle.pool_slots.specs.RegionCells.{CellState, cell_numbers, cell_emptied, cell_filled}
 use Rattle.pool_slots.specs.SlotQueues.{Queue, Queued, after_append, after_take, taken_into, drained}
 use Rattle.pool_slots.specs.declared.plan.Plan.{Plan}
@@ -21,16 +25,18 @@ use Rattle.pool_alloc.specs.Reserved.{with_item}
 use Rattle.pool_alloc.specs.Leases.{Lease, slot_taken}
 use Rattle.pool_alloc.specs.Own.{image_made, reset_into, refusal_of, memory_made}
 use Rattle.pool_alloc.specs.Refusals.{memories_refused}
-use Rattle.pool_alloc.specs.Steps.{StepGiven, memories_wanted, shard_at, nth_cell, queue_at, shard_of, local_of, freed_of, freed_elsewhere, first_shard, after_frees, allocator_for, with_shard, with_cell, with_queue, counting_keys, counting_instances, counting_memories, wanted, cell_returned, shard_tried, queue_tried}
-use Rattle.pool_alloc.specs.Turns.{Turn, goes, ends, next, flush, Row, lifted, After, failing, memory_search, stepped}
+use Rattle.pool_alloc.specs.Steps.{StepGiven, memories_wanted, shard_at, cell_named, queue_at, freed_of, freed_elsewhere, first_shard, after_frees, allocator_for, with_shard, with_cell, with_queue, counting_keys, counting_instances, counting_memories, wanted, cell_returned, shard_tried, queue_tried}
+use Rattle.pool_alloc.specs.Turns.{Turn, goes, ends, next, flush, stays, Row, lifted, After, failing, memory_search, stepped}
 use Rattle.pool_alloc.specs.declared.pool_core.PoolCore.{PoolCore}
 use Rattle.pool_alloc.specs.declared.pool_core.Settings.{Settings}
 use Rattle.pool_alloc.specs.declared.frame.Frame.{Frame}
 use Rattle.pool_alloc.specs.declared.frame.Phase.{Phase}
 use Rattle.pool_alloc.specs.declared.frame.TakenSlot.{TakenSlot}
-use Rattle.pool_alloc.specs.declared.frame.Phase.TheVariants.{Idle, Key, Validate, CountInstance, Pick, TakeQueue, TakeRegion, Empty, Instantiate, MakeMemory, CountMemory, PutUnknown, FreeUnknown, UncountMemory, Reset, Merge, Flush, UncountInstance}
+use Rattle.pool_alloc.specs.declared.frame.Phase.TheVariants.{Idle, Key, Validate, CountInstance, Pick, TakeQueue, TakeRegion, Empty, Instantiate, MakeMemory, CountObject, PutBack, FreeOne, UncountObject, Reset, Merge, Flush, UncountInstance}
 use Rattle.pool_alloc.specs.declared.frame.Ending.{Ending}
 use Rattle.pool_alloc.specs.declared.frame.Ending.TheVariants.{Refused as refused}
+use Rattle.pool_alloc.specs.declared.frame.Object.{Object}
+use Rattle.pool_alloc.specs.declared.frame.Object.TheVariants as object
 use Rattle.pool_alloc.specs.declared.frame.Outcome.{Outcome}
 use Rattle.pool_alloc.specs.declared.frame.Outcome.TheVariants as answer
 
@@ -47,7 +53,7 @@ flush_step local = if length local.ranges == 0 then (if length local.slots == 0 
 module _ {P : Type 0} where
   -- A slot is picked from a shard: the shard gave one, the next is tried, or after the last the search goes on.
   abbrev pub picked : Plan → Option (SlotId × ℕ) → ShardState → ℕ → Frame P → Turn P
-  picked plan (Some p) shard tried f = goes (TakeRegion (slot_number shard p.0.0))
+  picked plan (Some p) shard tried f = goes (TakeRegion (record { kind = (allocator_for plan f).kind; slot = slot_number shard p.0.0 }))
   picked plan None shard tried f = if nat_lt (tried + 1) (allocator_for plan f).shards then goes (Pick (tried + 1)) else memory_search plan f
 
   abbrev pub pick_on : Plan → ℕ → ShardState → Frame P → Row ShardState P
@@ -58,8 +64,8 @@ module _ {P : Type 0} where
   }
 
   -- One slot is freed. Nothing is known of it.
-  abbrev pub free_unknown_on : Plan → ℕ → ShardState → Frame P → Row ShardState P
-  free_unknown_on plan slot shard f = record { part = after_free (local_of plan slot) 0 shard; frame = f; turn = next }
+  abbrev pub free_one_on : Plan → SlotName → ShardState → Frame P → Row ShardState P
+  free_one_on plan name shard f = record { part = after_free (home_of plan name).local 0 shard; frame = f; turn = next }
 
   -- All slots of the shard are freed that wait for it.
   abbrev pub free_on : Plan → ℕ → ShardState → Frame P → Row ShardState P
@@ -76,18 +82,18 @@ module _ {P : Type 0} where
   region_next s at (previously_used held) = goes (Instantiate at held)
   region_next s at taken = goes Idle
 
-  abbrev pub take_region_on : Settings → ℕ → CellState → Frame P → Row CellState P
-  take_region_on s slot cell f = record { part = cell_emptied cell; frame = f; turn = region_next s (record { slot = slot; numbers = cell_numbers cell }) cell.holds }
+  abbrev pub take_region_on : Settings → SlotName → CellState → Frame P → Row CellState P
+  take_region_on s name cell f = record { part = cell_emptied cell; frame = f; turn = region_next s (record { name = name; numbers = cell_numbers cell }) cell.holds }
 
-  -- A region goes back into its cell, and nothing is known of it.
-  abbrev pub put_unknown_on : ℕ → Slot → CellState → Frame P → Row CellState P
-  put_unknown_on slot held cell f = record { part = cell_filled (unknown held) cell; frame = f; turn = goes (FreeUnknown slot) }
+  -- A region goes back into its cell after a failure.
+  abbrev pub put_back_on : SlotName → Cell → CellState → Frame P → Row CellState P
+  put_back_on name held cell f = record { part = cell_filled held cell; frame = f; turn = goes (FreeOne name) }
 
   -- A slot that was in the local queue goes back into its cell, and waits to be freed.
   abbrev pub region_put : Queued → CellState → Frame P → Row CellState P
   region_put m cell f = record {
     part = cell_filled (cell_returned m) cell;
-    frame = record f { freed = with_item (record { slot = m.name.slot; bytes = m.bytes }) f.freed };
+    frame = record f { freed = with_item (record { name = m.name; bytes = m.bytes }) f.freed };
     turn = flush;
   }
 
@@ -117,8 +123,8 @@ module _ {P : Type 0} where
   abbrev pub in_shard : ℕ → PoolCore P → Row ShardState P → Row (PoolCore P) P
   in_shard place c r = lifted (λ shard. with_shard place shard c) r
 
-  abbrev pub in_cell : ℕ → PoolCore P → Row CellState P → Row (PoolCore P) P
-  in_cell slot c r = lifted (λ cell. with_cell slot cell c) r
+  abbrev pub in_cell : SlotName → PoolCore P → Row CellState P → Row (PoolCore P) P
+  in_cell name c r = lifted (λ cell. with_cell name cell c) r
 
   abbrev pub in_queue : ℕ → PoolCore P → Row Queue P → Row (PoolCore P) P
   in_queue place c r = lifted (λ queue. with_queue place queue c) r
@@ -141,16 +147,16 @@ module _ {P : Type 0} where
   abbrev pub refused_at_once : AllocError → PoolCore P → Frame P → Row (PoolCore P) P
   refused_at_once e c f = record { part = c; frame = failing e f; turn = ends (answer.Refused e) }
 
-  -- the list of the memories that are to be granted is reserved, or there was no memory for it
+  -- the lists of what is to be granted are reserved, or there was no memory for them
   abbrev pub reserved : Bool → PoolCore P → Frame P → Row (PoolCore P) P
   reserved true c f = refused_at_once refusal.Memory c f
-  reserved false c f = record { part = c; frame = record f { objects = record { items = []; room = length (memories_wanted f.asked) } }; turn = goes CountInstance }
+  reserved false c f = record { part = c; frame = record f { objects = record { memories = record { items = []; room = length (memories_wanted f.asked) } } }; turn = goes CountInstance }
 
   abbrev pub validated : Option Unsupported → Bool → PoolCore P → Frame P → Row (PoolCore P) P
   validated (Some rule) wants c f = refused_at_once (refusal.Unsupported rule) c f
   validated None wants c f = reserved wants c f
 
-  -- The module is tested, and the list of its memories reserved.
+  -- The module is tested, and the lists of its objects reserved.
   abbrev pub validate_row : Bool → PoolCore P → Frame P → Row (PoolCore P) P
   validate_row wants c f = validated (memories_refused c.settings (memories_wanted f.asked)) wants c f
 
@@ -164,7 +170,7 @@ module _ {P : Type 0} where
 
   -- A page call on the region in hand failed: it is put back, and the call fails. Else it goes on so.
   abbrev pub paged : Bool → TakenSlot → Slot → Phase P → PoolCore P → Frame P → Row (PoolCore P) P
-  paged true at held phase c f = record { part = c; frame = failing refusal.PageFault f; turn = goes (PutUnknown at (forgotten held)) }
+  paged true at held phase c f = record { part = c; frame = failing refusal.PageFault f; turn = goes (PutBack at (Unknown (forgotten held))) }
   paged false at held phase c f = record { part = c; frame = f; turn = goes phase }
 
   abbrev pub empty_row : Bool → Slot → TakenSlot → PoolCore P → Frame P → Row (PoolCore P) P
@@ -175,8 +181,8 @@ module _ {P : Type 0} where
 
   -- The limiter is asked, and the memory made.
   abbrev pub was_made : TakenSlot → Slot → Result MemoryState AllocError → PoolCore P → Frame P → Row (PoolCore P) P
-  was_made at held (Ok memory) c f = record { part = c; frame = f; turn = goes (CountMemory (record { index = at.slot; memory = memory; numbers = at.numbers })) }
-  was_made at held (Err e) c f = record { part = c; frame = failing e f; turn = goes (PutUnknown at (forgotten held)) }
+  was_made at held (Ok memory) c f = record { part = c; frame = f; turn = goes (CountObject (object.Memory (record { index = at.name.slot; memory = memory; numbers = at.numbers }))) }
+  was_made at held (Err e) c f = record { part = c; frame = failing e f; turn = goes (PutBack at (Unknown (forgotten held))) }
 
   -- the same of what the code's making answers
   abbrev pub made_by : {M L : Type 0} → TakenSlot → Result (Memory M L) (Slot × MemoryError) → PoolCore P → Frame P → Row (PoolCore P) P
@@ -184,19 +190,19 @@ module _ {P : Type 0} where
   made_by at (Err left) c f = was_made at left.0 (Err (refusal_of left.1)) c f
 
   abbrev pub make_memory_row : Result Bool LimiterError → TakenSlot → Slot → PoolCore P → Frame P → Row (PoolCore P) P
-  make_memory_row given at held c f = was_made at held (memory_made c.settings (memories_wanted f.asked) (length f.objects.items) given held) c f
+  make_memory_row given at held c f = was_made at held (memory_made c.settings (memories_wanted f.asked) (length f.objects.memories.items) given held) c f
 
-  -- The memory is granted. The search for the next one's slot begins anew.
-  abbrev pub count_memory_row : Lease → PoolCore P → Frame P → Row (PoolCore P) P
-  count_memory_row lease c f = record {
+  -- The object is granted. The search for the next one's slot begins anew.
+  abbrev pub count_object_row : Object P → PoolCore P → Frame P → Row (PoolCore P) P
+  count_object_row (object.Memory lease) c f = record {
     part = counting_memories (c.counters.memories + 1) c;
-    frame = record f { objects = with_item lease f.objects; queues = 0 };
+    frame = record f { objects = record f.objects { memories = with_item lease f.objects.memories }; queues = 0 };
     turn = next;
   }
 
-  -- The memory is no grant any more.
-  abbrev pub uncount_memory_row : Lease → PoolCore P → Frame P → Row (PoolCore P) P
-  uncount_memory_row lease c f = record { part = counting_memories (c.counters.memories - 1) c; frame = f; turn = goes (Reset lease) }
+  -- The object is no grant any more.
+  abbrev pub uncount_object_row : Object P → PoolCore P → Frame P → Row (PoolCore P) P
+  uncount_object_row (object.Memory lease) c f = record { part = counting_memories (c.counters.memories - 1) c; frame = f; turn = goes (Reset (object.Memory lease)) }
 
   -- The memory is reset into the local queue. That is flushed where it has no range or as many as a batch, and else
   -- appended to the home queue. Where a page call of the reset failed, nothing is known of the slot.
@@ -204,10 +210,13 @@ module _ {P : Type 0} where
   reset_turn batch local = if (length local.ranges == 0) || nat_le batch (length local.ranges) then flush else goes Merge
 
   abbrev pub was_reset : Bool → Slot → Lease → PoolCore P → Frame P → Row (PoolCore P) P
-  was_reset true held lease c f = record { part = c; frame = f; turn = goes (PutUnknown (slot_taken lease) (forgotten held)) }
+  was_reset true held lease c f = record { part = c; frame = f; turn = goes (PutBack (slot_taken lease) (Unknown (forgotten held))) }
   was_reset false held lease c f =
       let local : Queue = reset_into c.settings.keep_resident.bytes (slot_taken lease) (slot_of lease.memory) f.local in
       record { part = c; frame = record f { local = local }; turn = reset_turn c.settings.batch local }
+
+  abbrev pub reset_row : StepGiven → Object P → PoolCore P → Frame P → Row (PoolCore P) P
+  reset_row g (object.Memory lease) c f = was_reset g.fault g.slot lease c f
 
   -- the answer that a call ends with once all is given back
   abbrev pub answer_of : Ending → Outcome P
@@ -223,7 +232,7 @@ module _ {P : Type 0} where
 
   abbrev pub put_region_row : List Queued → PoolCore P → Frame P → Row (PoolCore P) P
   put_region_row [] c f = record { part = c; frame = f; turn = goes Idle }
-  put_region_row (m ∷ rest) c f = in_cell m.name.slot c (put_region_on m rest (nth_cell m.name.slot c) f)
+  put_region_row (m ∷ rest) c f = in_cell m.name c (put_region_on m rest (cell_named m.name c) f)
 
   abbrev pub free_row : PoolCore P → Frame P → Row (PoolCore P) P
   free_row c f = let place : ℕ = first_shard c.plan f.freed.items in in_shard place c (free_on c.plan place (shard_at place c) f)
@@ -236,21 +245,21 @@ module _ {P : Type 0} where
 -- The table.
 module _ {P : Type 0} where
   abbrev pub row_of : StepGiven → Phase P → PoolCore P → Frame P → Row (PoolCore P) P
-  row_of g Idle c f = record { part = c; frame = f; turn = goes Idle }
+  row_of g Idle c f = record { part = c; frame = f; turn = stays }
   row_of g Key c f = key_row c f
   row_of g Validate c f = validate_row g.wants c f
   row_of g CountInstance c f = count_instance_row c f
   row_of g (Pick tried) c f = let place : ℕ = shard_tried tried c.plan f in in_shard place c (pick_on c.plan tried (shard_at place c) f)
   row_of g TakeQueue c f = let place : ℕ = queue_tried f.queues c.plan f in in_queue place c (take_queue_on c.plan (queue_at place c) f)
-  row_of g (TakeRegion slot) c f = in_cell slot c (take_region_on c.settings slot (nth_cell slot c) f)
+  row_of g (TakeRegion name) c f = in_cell name c (take_region_on c.settings name (cell_named name c) f)
   row_of g (Empty at held) c f = empty_row g.fault g.slot at c f
   row_of g (Instantiate at held) c f = instantiate_row g.fault g.slot at c f
   row_of g (MakeMemory at held) c f = make_memory_row g.limiter at held c f
-  row_of g (CountMemory lease) c f = count_memory_row lease c f
-  row_of g (PutUnknown at held) c f = in_cell at.slot c (put_unknown_on at.slot held (nth_cell at.slot c) f)
-  row_of g (FreeUnknown slot) c f = let place : ℕ = shard_of c.plan slot in in_shard place c (free_unknown_on c.plan slot (shard_at place c) f)
-  row_of g (UncountMemory lease) c f = uncount_memory_row lease c f
-  row_of g (Reset lease) c f = was_reset g.fault g.slot lease c f
+  row_of g (CountObject held) c f = count_object_row held c f
+  row_of g (PutBack at held) c f = in_cell at.name c (put_back_on at.name (cell_of held) (cell_named at.name c) f)
+  row_of g (FreeOne name) c f = let place : ℕ = (home_of c.plan name).place in in_shard place c (free_one_on c.plan name (shard_at place c) f)
+  row_of g (UncountObject held) c f = uncount_object_row held c f
+  row_of g (Reset held) c f = reset_row g held c f
   row_of g Merge c f = let place : ℕ = queue_tried 0 c.plan f in in_queue place c (merge_on c.settings (queue_at place c) f)
   row_of g Flush c f = flush_row (flush_step f.local) g.queue c f
   row_of g UncountInstance c f = uncount_instance_row c f

@@ -12,7 +12,15 @@ use Rattle.pool_hall.specs.declared.unit_name.SlotKind.TheVariants.{Memory as me
 use Rattle.pool_memory.specs.Memories.{MemoryState, slot_of as image_slot_of}
 use Rattle.pool_memory.specs.Making.{maximum_asked}
 use Rattle.pool_memory.specs.Static.{CanHold, static_capacity}
-use Rattle.pool_slots.specs.Cells.{Cell, IsCell, IsSlotOf, region_made}
+use Rattle.pool_slots.specs.Cells.{Cell, IsCell, IsSlotOf, region_made, is_taken}
+use Rattle.pool_slots.specs.CellOf.{cell_of}
+use Rattle.pool_slots.specs.SlotNames.{of_kind}
+use Rattle.pool_slots.specs.declared.slot_name.SlotName.{SlotName}
+use Rattle.pool_hall.specs.declared.unit_name.SlotKind.{SlotKind}
+use Rattle.pool_alloc.specs.Objects.{objects_in, objects_wanted}
+use Rattle.pool_alloc.specs.declared.frame.Object.{Object}
+use Rattle.pool_alloc.specs.declared.frame.Object.TheVariants.{Memory}
+use Rattle.pool_alloc.specs.declared.lease.InstanceLease.{InstanceLease}
 use Rattle.pool_slots.specs.RegionCells.{CellState}
 use Rattle.pool_slots.specs.ListUnits.{IsShardOf}
 use Rattle.pool_slots.specs.Parts.{part_at}
@@ -37,7 +45,7 @@ use Rattle.pool_alloc.specs.declared.frame.Frame.{Frame}
 use Rattle.pool_alloc.specs.Asked.{ModuleAsked}
 use Rattle.pool_alloc.specs.declared.frame.FreedSlot.{FreedSlot}
 use Rattle.pool_alloc.specs.declared.frame.Phase.{Phase}
-use Rattle.pool_alloc.specs.declared.frame.Phase.TheVariants.{Idle, Key, Validate, CountInstance, Pick, TakeQueue, TakeRegion, Empty, Instantiate, MakeMemory, CountMemory, PutUnknown, FreeUnknown, UncountMemory, Reset, Merge, Flush, UncountInstance}
+use Rattle.pool_alloc.specs.declared.frame.Phase.TheVariants.{Idle, Key, Validate, CountInstance, Pick, TakeQueue, TakeRegion, Empty, Instantiate, MakeMemory, CountObject, PutBack, FreeOne, UncountObject, Reset, Merge, Flush, UncountInstance}
 
 -- the settings make sense
 pub record IsSettings (s : Settings) : Type 0 where
@@ -49,12 +57,18 @@ pub record IsSettings (s : Settings) : Type 0 where
   pub batch : (1 ≤ s.batch) × (s.batch ≤ 4096)
   pub memories : s.max_memories_per_module < 2 ^ 32
 
+-- the kinds of slots that the pool has
+abbrev pub IsPooled : SlotKind → Type 0
+IsPooled memory_kind = Unit {0}
+IsPooled _ = ⊥
+
 -- the allocator of a stripe has shards, whose places are numbers of 32 bits
 pub record IsStripe (a : Allocator) : Type 0 where
   pub some : 0 < a.shards
   pub placed : IsPlacedAllocator a
 
--- The plan is right for a pool with so many places. It has stripes, each with shards, and queues that all parties share.
+-- The plan is right for a pool with so many places. It has stripes, each with shards, and queues that all parties share,
+-- and slots of no other kinds.
 pub record IsPoolPlan (plan : Plan) (places : ℕ) : Type 0 where
   pub planned : IsPlanned plan places
   pub small : places < 2 ^ 32
@@ -63,23 +77,33 @@ pub record IsPoolPlan (plan : Plan) (places : ℕ) : Type 0 where
   pub shards : AllByRecursion IsStripe plan.memories
   pub queues : 0 < plan.queues
   pub shared : plan.owned ≡ false
+  pub pooled : (kind : SlotKind) → 0 < of_kind kind plan.totals → IsPooled kind
 
 -- the image slot of memory slot i of the pool: the one that was made of its region, without a colour
 abbrev pub IsPoolSlot : MakerTold → DecommitBehavior → ℕ → ℕ → Slot → Type 0
 IsPoolSlot maker behaviour static_size i slot = IsSlotOf (region_made maker behaviour static_size i) None static_size slot
 
--- what its cell may hold, and its cell
-abbrev pub IsInPoolCell : MakerTold → DecommitBehavior → ℕ → ℕ → Cell → Type 0
-IsInPoolCell maker behaviour static_size i held = IsCell (region_made maker behaviour static_size i) None static_size held
+-- the name of one of the pool's slots
+pub record IsSlotName (plan : Plan) (name : SlotName) : Type 0 where
+  pub pooled : IsPooled name.kind
+  pub inside : name.slot < of_kind name.kind plan.totals
 
-pub record IsPoolCell (maker : MakerTold) (behaviour : DecommitBehavior) (static_size i : ℕ) (cell : CellState) : Type 0 where
-  pub name : cell.name ≡ record { kind = memory_kind; slot = i }
-  pub holds : IsInPoolCell maker behaviour static_size i cell.holds
+-- by its kind, what the cell of a slot may hold, and its cell
+abbrev pub MayHold : MakerTold → Settings → SlotKind → ℕ → Cell → Type 0
+MayHold maker s memory_kind i held = IsCell (region_made maker s.behaviour s.max_memory_size i) None s.max_memory_size held
+MayHold maker s _ i held = ⊥
 
--- a slot in a queue is that of a region of the pool
-pub record IsQueuedOf (maker : MakerTold) (behaviour : DecommitBehavior) (static_size : ℕ) (m : Queued) : Type 0 where
-  pub kind : m.name.kind ≡ memory_kind
-  pub slot : IsPoolSlot maker behaviour static_size m.name.slot m.slot
+pub record IsCellOf (maker : MakerTold) (s : Settings) (name : SlotName) (cell : CellState) : Type 0 where
+  pub named : cell.name ≡ name
+  pub holds : MayHold maker s name.kind name.slot cell.holds
+
+-- and as what it lies in a queue
+abbrev pub MayQueue : MakerTold → Settings → SlotKind → ℕ → Slot → Type 0
+MayQueue maker s memory_kind i slot = IsPoolSlot maker s.behaviour s.max_memory_size i slot
+MayQueue maker s _ i slot = ⊥
+
+abbrev pub IsQueuedOf : MakerTold → Settings → Queued → Type 0
+IsQueuedOf maker s m = MayQueue maker s m.name.kind m.name.slot m.slot
 
 -- A shared queue has fewer ranges than a batch, no more slots than ranges, and room for twice the batch. The ranges of each
 -- slot lie together.
@@ -89,14 +113,14 @@ pub record IsShared (maker : MakerTold) (s : Settings) (q : Queue) : Type 0 wher
   pub slots : length q.slots ≤ length q.ranges
   pub range_room : q.range_room ≡ 2 * s.batch
   pub slot_room : q.slot_room ≡ 2 * s.batch
-  pub regions : All (IsQueuedOf maker s.behaviour s.max_memory_size) q.slots
+  pub regions : All (IsQueuedOf maker s) q.slots
   pub queue : IsQueue q
   pub grouped : IsGrouped q
 
--- The part has a role: it is a shard of an allocator of memories, the cell of a memory slot, or a queue.
+-- The part has a role: it is a shard of an allocator, the cell of a slot, or a queue.
 abbrev pub IsPartFor : {P : Type 0} → MakerTold → Settings → Role → PoolPart P → Type 0
-IsPartFor maker s (shard_role a j) (part.Shard shard) = (a.kind ≡ memory_kind) × IsShardOf a j shard
-IsPartFor maker s (cell_role name) (part.Memory cell) = (name.kind ≡ memory_kind) × IsPoolCell maker s.behaviour s.max_memory_size name.slot cell
+IsPartFor maker s (shard_role a j) (part.Shard shard) = IsShardOf a j shard
+IsPartFor maker s (cell_role name) (part.Memory cell) = (name.kind ≡ memory_kind) × IsCellOf maker s name cell
 IsPartFor maker s queue_role (part.Queue queue) = IsShared maker s queue
 IsPartFor maker s _ _ = ⊥
 
@@ -117,9 +141,16 @@ pub record IsLeaseOf (maker : MakerTold) (s : Settings) (plan : Plan) (l : Lease
   pub slot : IsPoolSlot maker s.behaviour s.max_memory_size l.index (image_slot_of l.memory)
   pub memory : IsUsable l.memory
 
+-- an object is a lease of the pool, and so is each of an instance
+abbrev pub IsObjectOf : {P : Type 0} → MakerTold → Settings → Plan → Object P → Type 0
+IsObjectOf maker s plan (Memory lease) = IsLeaseOf maker s plan lease
+
+abbrev pub AreLeasesOf : {P : Type 0} → MakerTold → Settings → Plan → InstanceLease P → Type 0
+AreLeasesOf maker s plan lease = All (IsLeaseOf maker s plan) lease.memories.items
+
 -- a slot of the pool that is to be freed, and keeps no more bytes resident than a slot may
 pub record IsFreedOf (plan : Plan) (x : FreedSlot) : Type 0 where
-  pub inside : x.slot < memory_slots plan
+  pub named : IsSlotName plan x.name
   pub bytes : x.bytes ≤ 2 ^ 32
 
 -- the slots that a party has on their way back
@@ -127,7 +158,7 @@ pub record IsLocal (maker : MakerTold) (s : Settings) (q : Queue) : Type 0 where
   pub owners : HasOwners q
   pub range_room : q.range_room ≡ 2 * s.batch
   pub slot_room : q.slot_room ≡ 2 * s.batch
-  pub regions : All (IsQueuedOf maker s.behaviour s.max_memory_size) q.slots
+  pub regions : All (IsQueuedOf maker s) q.slots
   pub queue : IsQueue q
   pub grouped : IsGrouped q
 
@@ -147,10 +178,17 @@ pub record AreSupported (s : Settings) (memories : List MemoryDecl) (images : Li
 pub record AreImagesOf (s : Settings) (memories : List MemoryDecl) (images : List (Option Image)) : Type 0 where
   pub each : (k : ℕ) → IfSome (slice_get memories k) (λ decl. (decl.ty.page_size_log2 < 64) × IfSome (slice_index_or images k None) (FitsInto s.page (minimum_byte_size decl.ty)))
 
--- the slot of the pool with this number, as a call has it in its hands
-pub record HasSlot (maker : MakerTold) (s : Settings) (plan : Plan) (slot : ℕ) (held : Slot) : Type 0 where
-  pub inside : slot < memory_slots plan
-  pub region : IsPoolSlot maker s.behaviour s.max_memory_size slot held
+-- the memory slot of the pool with this name, as a call has it in its hands
+pub record HasSlot (maker : MakerTold) (s : Settings) (plan : Plan) (name : SlotName) (held : Slot) : Type 0 where
+  pub kind : name.kind ≡ memory_kind
+  pub inside : name.slot < memory_slots plan
+  pub region : IsPoolSlot maker s.behaviour s.max_memory_size name.slot held
+
+-- the region of a slot, as a call puts it back into its cell
+pub record HasRegion (maker : MakerTold) (s : Settings) (plan : Plan) (name : SlotName) (held : Cell) : Type 0 where
+  pub named : IsSlotName plan name
+  pub holds : MayHold maker s name.kind name.slot held
+  pub there : is_taken held ≡ false
 
 -- it is in use, and begins with this image
 pub record HasBegun (image : Option Image) (held : Slot) (decl : MemoryDecl) : Type 0 where
@@ -176,30 +214,30 @@ pub record NothingWaits (local : Queue) (freed : Reserved FreedSlot) : Type 0 wh
   pub none_freed : freed.items ≡ []
 
 -- nor is anything granted or given back
-pub record NothingHeld (local : Queue) (freed : Reserved FreedSlot) (objects : Reserved Lease) : Type 0 where
+pub record NothingHeld {P : Type 0} (local : Queue) (freed : Reserved FreedSlot) (objects : InstanceLease P) : Type 0 where
   pub settled : NothingWaits local freed
-  pub no_objects : objects.items ≡ []
+  pub no_memories : objects.memories.items ≡ []
 
--- the memories that were granted so far begin as asked
-abbrev pub AreBegun : Settings → Option ModuleAsked → List Lease → Type 0
-AreBegun s asked leases =
-    (k : ℕ) → IfSome (slice_get leases k) (λ lease. IfSome (slice_get (memories_wanted asked) k) (IsNew s.max_memory_size (slice_index_or (images_wanted asked) k None) lease.memory))
+-- the objects that were granted so far begin as asked
+abbrev pub AreBegun : {P : Type 0} → Settings → Option ModuleAsked → InstanceLease P → Type 0
+AreBegun s asked lease =
+    (k : ℕ) → IfSome (slice_get lease.memories.items k) (λ lease. IfSome (slice_get (memories_wanted asked) k) (IsNew s.max_memory_size (slice_index_or (images_wanted asked) k None) lease.memory))
 
 -- A call that is to be granted an instance: its module is supported, what it was granted so far begins as asked, and it
 -- has taken no more queues than there are.
-pub record IsToGrant (s : Settings) (plan : Plan) (asked : Option ModuleAsked) (queues : ℕ) (objects : Reserved Lease) : Type 0 where
+pub record IsToGrant {P : Type 0} (s : Settings) (plan : Plan) (asked : Option ModuleAsked) (queues : ℕ) (objects : InstanceLease P) : Type 0 where
   pub supported : AreSupported s (memories_wanted asked) (images_wanted asked)
   pub images : HasImages asked
-  pub room : objects.room ≡ length (memories_wanted asked)
-  pub few : length objects.items ≤ length (memories_wanted asked)
-  pub begun : AreBegun s asked objects.items
+  pub room : objects.memories.room ≡ length (memories_wanted asked)
+  pub few : length objects.memories.items ≤ length (memories_wanted asked)
+  pub begun : AreBegun s asked objects
   pub taken : queues ≤ queues_searched plan
 
--- a request is to be granted, and there is a next memory
-pub record GrantsMore (s : Settings) (plan : Plan) (aim : Ending) (asked : Option ModuleAsked) (queues : ℕ) (objects : Reserved Lease) : Type 0 where
+-- a request is to be granted, and there is a next object
+pub record GrantsMore {P : Type 0} (s : Settings) (plan : Plan) (aim : Ending) (asked : Option ModuleAsked) (queues : ℕ) (objects : InstanceLease P) : Type 0 where
   pub ending : aim ≡ granted
   pub to_grant : IsToGrant s plan asked queues objects
-  pub more : length objects.items < length (memories_wanted asked)
+  pub more : objects_in objects < objects_wanted asked
 
 -- a request as it begins, and once its module was tested
 pub record IsRequest (aim : Ending) (asked : Option ModuleAsked) (queues : ℕ) : Type 0 where
@@ -209,7 +247,7 @@ pub record IsRequest (aim : Ending) (asked : Option ModuleAsked) (queues : ℕ) 
   pub images : HasImages asked
 
 -- by its ending, what a call has beside its next step
-abbrev pub Aims : Settings → Plan → Ending → Option ModuleAsked → ℕ → Reserved Lease → Type 0
+abbrev pub Aims : {P : Type 0} → Settings → Plan → Ending → Option ModuleAsked → ℕ → InstanceLease P → Type 0
 Aims s plan granted asked queues objects = IsToGrant s plan asked queues objects
 Aims s plan returned asked queues objects = Unit {0}
 Aims s plan (refused e) asked queues objects = Unit {0}
@@ -243,18 +281,18 @@ module _ {P : Type 0} where
   IsShapedAt maker s plan Idle f = IsAtRest f
   IsShapedAt maker s plan Key f = IsAtRest f
   IsShapedAt maker s plan Validate f = IsAtRest f × IsRequested f × AreImagesOf s (memories_wanted f.asked) (images_wanted f.asked)
-  IsShapedAt maker s plan CountInstance f = IsAtRest f × IsRequested f × AreSupported s (memories_wanted f.asked) (images_wanted f.asked) × (f.objects.room ≡ length (memories_wanted f.asked))
+  IsShapedAt maker s plan CountInstance f = IsAtRest f × IsRequested f × AreSupported s (memories_wanted f.asked) (images_wanted f.asked) × (f.objects.memories.room ≡ length (memories_wanted f.asked))
   IsShapedAt maker s plan (Pick tried) f = HasNoneWaiting f × IsAllocating s plan f × (tried < (allocator_for plan f).shards)
   IsShapedAt maker s plan TakeQueue f = HasNoneWaiting f × IsAllocating s plan f × (f.queues < queues_searched plan)
-  IsShapedAt maker s plan (TakeRegion slot) f = HasNoneWaiting f × IsAllocating s plan f × (slot < memory_slots plan)
-  IsShapedAt maker s plan (Empty at held) f = HasNoneWaiting f × IsAllocating s plan f × HasSlot maker s plan at.slot held
-  IsShapedAt maker s plan (Instantiate at held) f = HasNoneWaiting f × IsAllocating s plan f × HasSlot maker s plan at.slot held × IsClean held
-  IsShapedAt maker s plan (MakeMemory at held) f = HasNoneWaiting f × IsAllocating s plan f × HasSlot maker s plan at.slot held × IfAllocated f (HasBegun (image_wanted f) held)
-  IsShapedAt maker s plan (CountMemory lease) f = HasNoneWaiting f × IsAllocating s plan f × IsLeaseOf maker s plan lease × IfAllocated f (IsNew s.max_memory_size (image_wanted f) lease.memory)
-  IsShapedAt maker s plan (PutUnknown at held) f = HasNoneWaiting f × IsReturning f × HasSlot maker s plan at.slot held
-  IsShapedAt maker s plan (FreeUnknown slot) f = HasNoneWaiting f × IsReturning f × (slot < memory_slots plan)
-  IsShapedAt maker s plan (UncountMemory lease) f = HasNoneWaiting f × IsReturning f × IsLeaseOf maker s plan lease
-  IsShapedAt maker s plan (Reset lease) f = HasNoneWaiting f × IsReturning f × IsLeaseOf maker s plan lease
+  IsShapedAt maker s plan (TakeRegion name) f = HasNoneWaiting f × IsAllocating s plan f × IsSlotName plan name
+  IsShapedAt maker s plan (Empty at held) f = HasNoneWaiting f × IsAllocating s plan f × HasSlot maker s plan at.name held
+  IsShapedAt maker s plan (Instantiate at held) f = HasNoneWaiting f × IsAllocating s plan f × HasSlot maker s plan at.name held × IsClean held
+  IsShapedAt maker s plan (MakeMemory at held) f = HasNoneWaiting f × IsAllocating s plan f × HasSlot maker s plan at.name held × IfAllocated f (HasBegun (image_wanted f) held)
+  IsShapedAt maker s plan (CountObject (Memory lease)) f = HasNoneWaiting f × IsAllocating s plan f × IsLeaseOf maker s plan lease × IfAllocated f (IsNew s.max_memory_size (image_wanted f) lease.memory)
+  IsShapedAt maker s plan (PutBack at held) f = HasNoneWaiting f × IsReturning f × HasRegion maker s plan at.name (cell_of held)
+  IsShapedAt maker s plan (FreeOne name) f = HasNoneWaiting f × IsReturning f × IsSlotName plan name
+  IsShapedAt maker s plan (UncountObject object) f = HasNoneWaiting f × IsReturning f × IsObjectOf maker s plan object
+  IsShapedAt maker s plan (Reset object) f = HasNoneWaiting f × IsReturning f × IsObjectOf maker s plan object
   IsShapedAt maker s plan Merge f = IsReturning f × (f.freed.items ≡ []) × (length f.local.slots ≡ 1) × (0 < length f.local.ranges) × (length f.local.ranges + 1 ≤ s.batch)
   IsShapedAt maker s plan Flush f = IsAiming s plan f × (is_flushed f ≡ false)
   IsShapedAt maker s plan UncountInstance f = IsAtRest f × IsReturning f
@@ -265,13 +303,13 @@ module _ {P : Type 0} where
     pub queue : IsLocal maker s f.local
     pub freed_room : HasFreedRoom s f
     pub freed_each : All (IsFreedOf plan) f.freed.items
-    pub objects : All (IsLeaseOf maker s plan) f.objects.items
+    pub objects : AreLeasesOf maker s plan f.objects
     pub shape : IsShapedAt maker s plan f.phase f
 
   -- What the frame has fits what the pool has given out: that is with the frame, in a queue, or with others, who have no
   -- region without its slot. What the frame has counted is counted.
   pub record FitsCore (c : PoolCore P) (f : Frame P) : Type 0 where
     pub once : (t : Thing) → kept_count t c + frame_count t f ≤ away_count t c
-    pub others : (i : ℕ) → away_count (region_of i) c + (kept_count (right_to i) c + frame_count (right_to i) f) ≤ away_count (right_to i) c + (kept_count (region_of i) c + frame_count (region_of i) f)
+    pub others : (name : SlotName) → away_count (region_of name) c + (kept_count (right_to name) c + frame_count (right_to name) f) ≤ away_count (right_to name) c + (kept_count (region_of name) c + frame_count (region_of name) f)
     pub instances : phase_instances f.phase ≤ c.counters.core_instances
     pub memories : frame_memories f ≤ c.counters.memories

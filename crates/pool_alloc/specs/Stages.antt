@@ -1,6 +1,6 @@
 -- How far a call is, as its party may know it, and how a step takes it on: to which stage, with which answer, and what is
 -- known then.
-use Rattle.std.specs.Prelude.{◌≡◌, ◌⊎◌, ℕ, ◌+◌, ◌<◌, ◌≤◌, length, slice_get, Bool, false, Option, Some, None, IfSome, Result, Ok, Err, true}
+use Rattle.std.specs.Prelude.{◌≡◌, ◌⊎◌, ℕ, ◌+◌, ◌<◌, ◌≤◌, length, Bool, false, Option, Some, None, Result, Ok, Err, true}
 use Rattle.pool_pages.specs.MakerTold.{MakerTold}
 use Rattle.pool_pages.specs.declared.unsupported.Unsupported.{Unsupported}
 use Rattle.pool_images.specs.Slots.{Slot, IsLeft}
@@ -10,8 +10,12 @@ use Rattle.pool_memory.specs.Memories.{MemoryState}
 use Rattle.pool_slots.specs.declared.errors.AllocError.{AllocError}
 use Rattle.pool_slots.specs.declared.errors.AllocError.TheVariants as refusal
 use Rattle.pool_alloc.specs.Answers.{AsksForMemory}
+use Rattle.pool_alloc.specs.Leases.{memory_slot}
+use Rattle.pool_alloc.specs.Modules.{IfAllocated}
+use Rattle.pool_alloc.specs.Objects.{objects_in, objects_wanted}
 use Rattle.pool_alloc.specs.Own.{memory_made}
-use Rattle.pool_alloc.specs.Places.{right_to, slot_count, leased_count, kept_count, away_count, frame_count}
+use Rattle.pool_slots.specs.declared.slot_name.SlotName.{SlotName}
+use Rattle.pool_alloc.specs.Places.{right_to, slot_count, instance_count, kept_count, away_count, frame_count}
 use Rattle.pool_alloc.specs.Refusals.{memories_refused}
 use Rattle.pool_alloc.specs.Rows.{no_instance_left}
 use Rattle.pool_alloc.specs.Searches.{IsSearched}
@@ -27,7 +31,7 @@ use Rattle.pool_alloc.specs.declared.frame.Frame.{Frame}
 use Rattle.pool_alloc.specs.declared.frame.Outcome.{Outcome}
 use Rattle.pool_alloc.specs.declared.frame.Outcome.TheVariants as answer
 use Rattle.pool_alloc.specs.declared.frame.Phase.{Phase}
-use Rattle.pool_alloc.specs.declared.frame.Phase.TheVariants.{Idle, Key, Validate, CountInstance, CountMemory}
+use Rattle.pool_alloc.specs.declared.frame.Phase.TheVariants.{Idle, Key, Validate, CountInstance, CountObject}
 
 -- how far a request is: its module isn't tested yet; its instance isn't counted yet; it is, and so many of its memories
 -- are made
@@ -62,41 +66,41 @@ module _ {P : Type 0} where
   stage_at Key ending granted_so_far = keys
   stage_at Validate ending granted_so_far = asks untested
   stage_at CountInstance ending granted_so_far = asks uncounted
-  stage_at (CountMemory lease) ending granted_so_far = stage_by ending (granted_so_far + 1)
+  stage_at (CountObject object) ending granted_so_far = stage_by ending (granted_so_far + 1)
   stage_at _ ending granted_so_far = stage_by ending granted_so_far
 
   abbrev pub stage_of : Frame P → Stage
-  stage_of f = stage_at f.phase f.ending (length f.objects.items)
+  stage_of f = stage_at f.phase f.ending (objects_in f.objects)
 
   -- No slot is found for the next memory. The call has no slots but those of its memories, and where nobody freed one
   -- meanwhile, each of its stripe is given out, and none lies in a queue.
   pub record FindsNone (c : PoolCore P) (f : Frame P) (n : ℕ) (e : AllocError) : Type 0 where
     pub is : e ≡ no_slot_left c.plan f
-    pub number : n ≡ length f.objects.items
+    pub number : n ≡ objects_in f.objects
     pub allocating : IsAllocating c.settings c.plan f
-    pub has : (k : ℕ) → frame_count (right_to k) f ≡ leased_count (right_to k) f.objects.items
-    pub none : IsSearched c f → (k : ℕ) → has_number (allocator_for c.plan f) k ≡ true → (kept_count (right_to k) c ≡ 0) × (away_count (right_to k) c ≡ 1)
+    pub has : (name : SlotName) → frame_count (right_to name) f ≡ instance_count (right_to name) f.objects
+    pub none : IsSearched c f → (k : ℕ) → has_number (allocator_for c.plan f) k ≡ true → (kept_count (right_to (memory_slot k)) c ≡ 0) × (away_count (right_to (memory_slot k)) c ≡ 1)
 
   -- A page call failed on the region of a slot that the call has.
   pub record IsPageFaulted (maker : MakerTold) (c : PoolCore P) (f : Frame P) (n : ℕ) (e : AllocError) : Type 0 where
     pub is : e ≡ refusal.PageFault
-    pub number : n ≡ length f.objects.items
+    pub number : n ≡ objects_in f.objects
     pub allocating : IsAllocating c.settings c.plan f
-    pub slot : ℕ
+    pub name : SlotName
     pub old : Slot
     pub new : Slot
-    pub region : HasSlot maker c.settings c.plan slot old
+    pub region : HasSlot maker c.settings c.plan name old
     pub left : IsLeft old new
-    pub has : (k : ℕ) → slot_count (right_to k) slot ≤ frame_count (right_to k) f
+    pub has : (other : SlotName) → slot_count (right_to other) name ≤ frame_count (right_to other) f
 
   -- The limiter is asked for memory n, and this comes of making it.
   pub record Makes (old new : LimiterTold) (c : PoolCore P) (f : Frame P) (n : ℕ) (made : Result MemoryState AllocError) : Type 0 where
-    pub number : n ≡ length f.objects.items
+    pub number : n ≡ objects_in f.objects
     pub allocating : IsAllocating c.settings c.plan f
     pub given : Result Bool LimiterError
     pub held : Slot
-    pub asked : IfSome (slice_get (memories_wanted f.asked) n) (AsksForMemory given old new)
-    pub is : memory_made c.settings (memories_wanted f.asked) n given held ≡ made
+    pub asked : IfAllocated f (AsksForMemory given old new)
+    pub is : memory_made c.settings (memories_wanted f.asked) (length f.objects.memories.items) given held ≡ made
 
   -- Why a step fails a request that is so far.
   abbrev pub Raises : MakerTold → LimiterTold → LimiterTold → PoolCore P → Frame P → Progress → AllocError → Type 0
@@ -118,7 +122,7 @@ module _ {P : Type 0} where
   Goes maker old new c f keys no_call (Some answer.Key) = Unit {0}
   Goes maker old new c f (asks p) (asks q) None = Follows old new c f p q
   Goes maker old new c f (asks p) (refusing e) None = Raises maker old new c f p e
-  Goes maker old new c f (asks p) no_call (Some (answer.Granted grant)) = Follows old new c f p (admitted (length (memories_wanted f.asked))) × AreSupported c.settings (memories_wanted f.asked) (images_wanted f.asked)
+  Goes maker old new c f (asks p) no_call (Some (answer.Granted grant)) = Follows old new c f p (admitted (objects_wanted f.asked)) × AreSupported c.settings (memories_wanted f.asked) (images_wanted f.asked)
   Goes maker old new c f (asks untested) no_call (Some (answer.Refused e)) = Raises maker old new c f untested e
   Goes maker old new c f returning returning None = Unit {0}
   Goes maker old new c f returning no_call (Some answer.Returned) = Unit {0}

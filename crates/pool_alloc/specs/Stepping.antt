@@ -6,11 +6,12 @@ use Rattle.pool_limits.specs.LimiterTold.{LimiterTold}
 use Rattle.pool_alloc.specs.Steps.{StepGiven, with_shard, with_cell, with_queue, counting_keys, counting_instances, counting_memories}
 use Rattle.pool_index.specs.Shard.{ShardState}
 use Rattle.pool_slots.specs.RegionCells.{CellState}
+use Rattle.pool_slots.specs.declared.slot_name.SlotName.{SlotName}
 use Rattle.pool_slots.specs.SlotQueues.{Queue}
 use Rattle.pool_alloc.specs.Turns.{After}
 use Rattle.pool_alloc.specs.Rows.{row}
 use Rattle.pool_alloc.specs.Answers.{MayBeTold, IsPlanned, AsksOf, LimiterHears}
-use Rattle.pool_alloc.specs.Places.{Thing, kept_count, away_count, frame_count, leased_count, phase_instances, frame_memories}
+use Rattle.pool_alloc.specs.Places.{Thing, kept_count, away_count, frame_count, instance_count, phase_instances, frame_memories}
 use Rattle.pool_alloc.specs.Sound.{IsCore, IsFrame, FitsCore}
 use Rattle.pool_alloc.specs.declared.pool_core.PoolCore.{PoolCore}
 use Rattle.pool_alloc.specs.declared.frame.Frame.{Frame}
@@ -24,7 +25,7 @@ use Rattle.pool_alloc.specs.declared.frame.Outcome.TheVariants.{Key, Granted, Re
 module _ {P : Type 0} where
   -- what a grant has
   abbrev pub grant_count : Thing → Grant P → ℕ
-  grant_count t (Instance lease) = leased_count t lease.memories.items
+  grant_count t (Instance lease) = instance_count t lease
 
   abbrev pub grant_instances : Grant P → ℕ
   grant_instances (Instance lease) = 1
@@ -72,7 +73,7 @@ module _ {P : Type 0} where
   ChangesShard old new = (place : ℕ) × (shard : ShardState) × (new ≡ with_shard place shard old)
 
   abbrev pub ChangesCell : PoolCore P → PoolCore P → Type 0
-  ChangesCell old new = (slot : ℕ) × (cell : CellState) × (new ≡ with_cell slot cell old)
+  ChangesCell old new = (name : SlotName) × (cell : CellState) × (new ≡ with_cell name cell old)
 
   abbrev pub ChangesQueue : PoolCore P → PoolCore P → Type 0
   ChangesQueue old new = (place : ℕ) × (queue : Queue) × (new ≡ with_queue place queue old)

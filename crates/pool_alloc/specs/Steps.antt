@@ -5,7 +5,6 @@ use Rattle.pool_images.specs.Images.{Image}
 use Rattle.pool_images.specs.Slots.{Slot}
 use Rattle.pool_index.specs.Shard.{ShardState, fresh_shard, after_free}
 use Rattle.pool_index.specs.declared.ids.MemoryInModule.{MemoryInModule}
-use Rattle.pool_index.specs.declared.ids.SlotId.{SlotId}
 use Rattle.pool_hall.specs.declared.unit_name.SlotKind.TheVariants.{Memory as memory_kind}
 use Rattle.pool_limits.specs.declared.errors.LimiterError.{LimiterError}
 use Rattle.pool_slots.specs.Cells.{Cell, unknown, previously_used}
@@ -45,19 +44,6 @@ abbrev pub images_wanted : Option ModuleAsked → List (Option Image)
 images_wanted None = []
 images_wanted (Some m) = images_made m.images
 
--- the name of a memory slot, the place of its cell, the place of the shard that has it, and its number there
-abbrev pub memory_slot : ℕ → SlotName
-memory_slot slot = record { kind = memory_kind; slot = slot }
-
-abbrev pub cell_of : Plan → ℕ → ℕ
-cell_of plan slot = cell_place plan (memory_slot slot)
-
-abbrev pub shard_of : Plan → ℕ → ℕ
-shard_of plan slot = (home_of plan (memory_slot slot)).place
-
-abbrev pub local_of : Plan → ℕ → SlotId
-local_of plan slot = (home_of plan (memory_slot slot)).local
-
 -- how many memory slots there are, and through how many queues a search for one goes
 abbrev pub memory_slots : Plan → ℕ
 memory_slots plan = plan.totals.memory
@@ -74,37 +60,33 @@ stripe_allocator plan stripe = slice_index_or plan.memories stripe no_allocator
 
 -- of slots that are to be freed: those of the shard at a place, and the others
 abbrev pub freed_of : Plan → ℕ → List FreedSlot → List FreedSlot
-freed_of plan place slots = filter (λ x. shard_of plan x.slot == place) slots
+freed_of plan place slots = filter (λ x. (home_of plan x.name).place == place) slots
 
 abbrev pub freed_elsewhere : Plan → ℕ → List FreedSlot → List FreedSlot
-freed_elsewhere plan place slots = filter (λ x. not (shard_of plan x.slot == place)) slots
+freed_elsewhere plan place slots = filter (λ x. not ((home_of plan x.name).place == place)) slots
 
 -- the place of the first shard that has some of them
 abbrev pub first_shard : Plan → List FreedSlot → ℕ
 first_shard plan [] = 0
-first_shard plan (x ∷ []) = shard_of plan x.slot
-first_shard plan (x ∷ y ∷ rest) = min (shard_of plan x.slot) (first_shard plan (y ∷ rest))
+first_shard plan (x ∷ []) = (home_of plan x.name).place
+first_shard plan (x ∷ y ∷ rest) = min ((home_of plan x.name).place) (first_shard plan (y ∷ rest))
 
 -- the shard after they are freed, in order
 abbrev pub after_frees : Plan → List FreedSlot → ShardState → ShardState
 after_frees plan [] shard = shard
-after_frees plan (x ∷ rest) shard = after_frees plan rest (after_free (local_of plan x.slot) x.bytes shard)
+after_frees plan (x ∷ rest) shard = after_frees plan rest (after_free (home_of plan x.name).local x.bytes shard)
 
 -- which memory of the module that is asked for has this number
 abbrev pub wanted_of : Option ModuleAsked → ℕ → Option MemoryInModule
 wanted_of None index = None
 wanted_of (Some m) index = Some (record { 0 = m.id; 1 = record { 0 = index } })
 
--- what a region's cell holds once the memory is given back
+-- what a region's cell holds once its memory is given back
 abbrev pub cell_returned : Queued → Cell
 cell_returned m = if m.known then previously_used m.slot else unknown m.slot
 
 module _ {P : Type 0} where
-  -- the part is the cell of a memory, or a queue
-  abbrev pub IsMemoryPart : PoolPart P → Type 0
-  IsMemoryPart (part.Memory cell) = Unit {0}
-  IsMemoryPart _ = ⊥
-
+  -- the part is a queue
   abbrev pub IsQueuePart : PoolPart P → Type 0
   IsQueuePart (part.Queue q) = Unit {0}
   IsQueuePart _ = ⊥
@@ -118,12 +100,19 @@ module _ {P : Type 0} where
   queue_in (part.Queue q) = q
   queue_in _ = empty_queue 0 0
 
+  -- the cell that a part is, in another state
+  abbrev pub part_holding : CellState → PoolPart P → PoolPart P
+  part_holding cell (part.Memory old) = part.Memory cell
+  part_holding cell (part.Table old) = part.Table cell
+  part_holding cell (part.Stack old) = part.Stack cell
+  part_holding cell x = x
+
   -- the shard at a place, the cell of a slot, and the queue at a place
   abbrev pub shard_at : ℕ → PoolCore P → ShardState
   shard_at place c = shard_in (part_at place c.parts)
 
-  abbrev pub nth_cell : ℕ → PoolCore P → CellState
-  nth_cell slot c = cell_of_part (part_at (cell_of c.plan slot) c.parts)
+  abbrev pub cell_named : SlotName → PoolCore P → CellState
+  cell_named name c = cell_of_part (part_at (cell_place c.plan name) c.parts)
 
   abbrev pub queue_at : ℕ → PoolCore P → Queue
   queue_at place c = queue_in (part_at place c.parts)
@@ -135,8 +124,8 @@ module _ {P : Type 0} where
   abbrev pub with_shard : ℕ → ShardState → PoolCore P → PoolCore P
   with_shard place shard c = with_part place (part.Shard shard) c
 
-  abbrev pub with_cell : ℕ → CellState → PoolCore P → PoolCore P
-  with_cell slot cell c = with_part (cell_of c.plan slot) (part.Memory cell) c
+  abbrev pub with_cell : SlotName → CellState → PoolCore P → PoolCore P
+  with_cell name cell c = with_part (cell_place c.plan name) (part_holding cell (part_at (cell_place c.plan name) c.parts)) c
 
   abbrev pub with_queue : ℕ → Queue → PoolCore P → PoolCore P
   with_queue place queue c = with_part place (part.Queue queue) c
@@ -153,10 +142,10 @@ module _ {P : Type 0} where
 
   -- which memory is allocated
   abbrev pub wanted : Frame P → Option MemoryInModule
-  wanted f = wanted_of f.asked (length f.objects.items)
+  wanted f = wanted_of f.asked (length f.objects.memories.items)
 
   abbrev pub image_wanted : Frame P → Option Image
-  image_wanted f = slice_index_or (images_wanted f.asked) (length f.objects.items) None
+  image_wanted f = slice_index_or (images_wanted f.asked) (length f.objects.memories.items) None
 
   -- the allocator of a party's memories, which is that of its stripe
   abbrev pub allocator_for : Plan → Frame P → Allocator

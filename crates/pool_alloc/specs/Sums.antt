@@ -6,6 +6,10 @@ use Rattle.pool_memory.specs.Memories.{slot_of}
 use Rattle.pool_pages.specs.MakerTold.{no_calls}
 use Rattle.pool_pages.specs.CallSums.{added}
 use Rattle.pool_slots.specs.Cells.{all_calls, calls_in}
+use Rattle.pool_slots.specs.CellOf.{cell_of}
+use Rattle.pool_alloc.specs.declared.frame.Object.{Object}
+use Rattle.pool_alloc.specs.declared.frame.Object.TheVariants.{Memory}
+use Rattle.pool_alloc.specs.declared.lease.InstanceLease.{InstanceLease}
 use Rattle.pool_slots.specs.declared.part.PoolPart.{PoolPart}
 use Rattle.pool_slots.specs.declared.part.PoolPart.TheVariants as part
 use Rattle.pool_slots.specs.SlotQueues.{calls_held}
@@ -14,7 +18,7 @@ use Rattle.pool_alloc.specs.declared.pool_core.PoolCore.{PoolCore}
 use Rattle.pool_alloc.specs.declared.metrics.Metrics.{Metrics}
 use Rattle.pool_alloc.specs.declared.frame.Frame.{Frame}
 use Rattle.pool_alloc.specs.declared.frame.Phase.{Phase}
-use Rattle.pool_alloc.specs.declared.frame.Phase.TheVariants.{Empty, Instantiate, MakeMemory, CountMemory, PutUnknown, UncountMemory, Reset}
+use Rattle.pool_alloc.specs.declared.frame.Phase.TheVariants.{Empty, Instantiate, MakeMemory, CountObject, PutBack, UncountObject, Reset}
 
 -- how many slots of the shards are warm, and how many bytes those keep resident, up to the ends of their types
 abbrev pub warm_in : {P : Type 0} → PoolPart P → ℕ
@@ -40,9 +44,15 @@ part_calls _ = no_calls
 abbrev pub calls_of_parts : {P : Type 0} → List (PoolPart P) → PageCalls
 calls_of_parts parts = all_calls (map part_calls parts)
 
--- the calls on the regions of memories, together
+-- the calls on the region of an object, and on those of memories and of an instance, together
+abbrev pub calls_of_object : {P : Type 0} → Object P → PageCalls
+calls_of_object (Memory lease) = (slot_of lease.memory).region.calls
+
 abbrev pub calls_of_leases : List Lease → PageCalls
 calls_of_leases leases = all_calls (map (λ l. (slot_of l.memory).region.calls) leases)
+
+abbrev pub calls_of_instance : {P : Type 0} → InstanceLease P → PageCalls
+calls_of_instance lease = calls_of_leases lease.memories.items
 
 module _ {P : Type 0} where
   -- the calls on the regions in the pool's parts, together
@@ -54,14 +64,14 @@ module _ {P : Type 0} where
   calls_in_phase (Empty at held) = held.region.calls
   calls_in_phase (Instantiate at held) = held.region.calls
   calls_in_phase (MakeMemory at held) = held.region.calls
-  calls_in_phase (CountMemory lease) = (slot_of lease.memory).region.calls
-  calls_in_phase (PutUnknown at held) = held.region.calls
-  calls_in_phase (UncountMemory lease) = (slot_of lease.memory).region.calls
-  calls_in_phase (Reset lease) = (slot_of lease.memory).region.calls
+  calls_in_phase (CountObject object) = calls_of_object object
+  calls_in_phase (PutBack at held) = calls_in (cell_of held)
+  calls_in_phase (UncountObject object) = calls_of_object object
+  calls_in_phase (Reset object) = calls_of_object object
   calls_in_phase _ = no_calls
 
   abbrev pub calls_in_frame : Frame P → PageCalls
-  calls_in_frame f = added (calls_of_leases f.objects.items) (added (calls_held f.local.slots) (calls_in_phase f.phase))
+  calls_in_frame f = added (calls_of_instance f.objects) (added (calls_held f.local.slots) (calls_in_phase f.phase))
 
   -- the pool's numbers
   abbrev pub metrics_of : PoolCore P → Metrics

@@ -1,31 +1,34 @@
 -- How a call goes on: a row of the step table gives a part, the frame and a turn, and one function says what the turn
 -- leaves of the frame.
-use Rattle.std.specs.Prelude.{◌&&◌, ◌==◌, List, [], ◌∷◌, length, Bool, true, false, nat_lt, if◌then◌else◌, Option, Some, None, ℕ}
+use Rattle.std.specs.Prelude.{◌&&◌, ◌==◌, List, [], ◌∷◌, length, Bool, true, false, nat_lt, if◌then◌else◌, Option, Some, None, ℕ, ◌+◌, ◌%◌, ◌^◌}
 use Rattle.pool_slots.specs.declared.errors.AllocError.{AllocError}
 use Rattle.pool_slots.specs.declared.errors.AllocError.TheVariants as refusal
 use Rattle.pool_slots.specs.declared.errors.ConcurrencyKind.TheVariants.{MemoryStripe}
-use Rattle.pool_alloc.specs.Reserved.{no_room}
+use Rattle.pool_alloc.specs.Objects.{objects_in, objects_wanted, no_objects}
 use Rattle.pool_alloc.specs.Leases.{Lease}
-use Rattle.pool_alloc.specs.Steps.{memories_wanted, queues_searched, allocator_for}
+use Rattle.pool_alloc.specs.Steps.{queues_searched, allocator_for}
 use Rattle.pool_alloc.specs.declared.pool_core.PoolCore.{PoolCore}
 use Rattle.pool_slots.specs.declared.plan.Plan.{Plan}
 use Rattle.pool_alloc.specs.declared.frame.Frame.{Frame}
 use Rattle.pool_alloc.specs.declared.frame.Phase.{Phase}
-use Rattle.pool_alloc.specs.declared.frame.Phase.TheVariants.{Idle, Pick, TakeQueue, UncountMemory, Flush, UncountInstance}
+use Rattle.pool_alloc.specs.declared.frame.Phase.TheVariants.{Idle, Pick, TakeQueue, UncountObject, Flush, UncountInstance}
 use Rattle.pool_alloc.specs.declared.frame.Ending.{Ending}
 use Rattle.pool_alloc.specs.declared.frame.Ending.TheVariants.{Granted as granted, Returned as returned, Refused as refused}
 use Rattle.pool_alloc.specs.declared.frame.Grant.TheVariants.{Instance}
+use Rattle.pool_alloc.specs.declared.frame.Object.TheVariants.{Memory}
 use Rattle.pool_alloc.specs.declared.frame.Outcome.{Outcome}
 use Rattle.pool_alloc.specs.declared.frame.Outcome.TheVariants as answer
 
 -- How a call goes on: with this phase; it ends; with what its ending says is next; with the next part of a flush, or with
--- what is next once that is done; with the next queue of a search through so many, or with this refusal after the last.
+-- what is next once that is done; with the next queue of a search through so many, or with this refusal after the last;
+-- or it stays as it is, where no call is under way.
 pub data Turn (P : Type 0) : Type 0 where
   goes : Phase P → Turn P
   ends : Outcome P → Turn P
   next : Turn P
   flush : Turn P
   search : ℕ → AllocError → Turn P
+  stays : Turn P
 
 -- what a row gives: what it leaves of a part, or of the whole pool; the frame; and the turn
 pub record Row (X P : Type 0) : Type 0 where
@@ -63,29 +66,33 @@ module _ {P : Type 0} where
   abbrev pub failing : AllocError → Frame P → Frame P
   failing e f = record f { ending = refused e }
 
-  abbrev pub goes_to : Frame P → Phase P → Left P
-  goes_to f phase = record { frame = record f { phase = phase }; outcome = None }
+  -- a step more was made, and this is the next
+  abbrev pub gone_to : Phase P → Frame P → Frame P
+  gone_to phase f = record f { phase = phase; step_count = (f.step_count + 1) % 2 ^ 64 }
 
-  -- a call that ends leaves nothing of itself
+  abbrev pub goes_to : Frame P → Phase P → Left P
+  goes_to f phase = record { frame = gone_to phase f; outcome = None }
+
+  -- a call that ends leaves nothing of itself but the number of its steps
   abbrev pub ends_with : Frame P → Outcome P → Left P
-  ends_with f outcome = record { frame = record f { phase = Idle; asked = None; ending = returned; queues = 0 }; outcome = Some outcome }
+  ends_with f outcome = record { frame = record f { phase = Idle; asked = None; ending = returned; queues = 0; step_count = (f.step_count + 1) % 2 ^ 64 }; outcome = Some outcome }
 
   -- the next of these memories is given back, or else the instance
   abbrev pub returned_next : List Lease → Frame P → Left P
   returned_next [] f = goes_to f UncountInstance
-  returned_next (lease ∷ rest) f = goes_to (record f { objects = record f.objects { items = rest } }) (UncountMemory lease)
+  returned_next (lease ∷ rest) f = goes_to (record f { objects = record f.objects { memories = record f.objects.memories { items = rest } } }) (UncountObject (Memory lease))
 
-  -- the next memory of the instance is picked a slot for, or the instance is whole
+  -- a slot is picked for the next object of the instance, or the instance is whole
   abbrev pub granted_next : Frame P → Left P
   granted_next f =
-      if nat_lt (length f.objects.items) (length (memories_wanted f.asked))
+      if nat_lt (objects_in f.objects) (objects_wanted f.asked)
       then goes_to f (Pick 0)
-      else ends_with (record f { objects = no_room }) (answer.Granted (Instance (record { memories = f.objects })))
+      else ends_with (record f { objects = no_objects }) (answer.Granted (Instance f.objects))
 
   abbrev pub next_by : Ending → Frame P → Left P
   next_by granted f = granted_next f
-  next_by returned f = returned_next f.objects.items f
-  next_by (refused e) f = returned_next f.objects.items f
+  next_by returned f = returned_next f.objects.memories.items f
+  next_by (refused e) f = returned_next f.objects.memories.items f
 
   -- the local queue is flushed, and its slots are free
   abbrev pub is_flushed : Frame P → Bool
@@ -98,7 +105,7 @@ module _ {P : Type 0} where
   search_next queues e f =
       if nat_lt f.queues queues
       then goes_to f TakeQueue
-      else returned_next f.objects.items (failing e f)
+      else returned_next f.objects.memories.items (failing e f)
 
   -- what a turn leaves
   abbrev pub after : Frame P → Turn P → Left P
@@ -107,6 +114,7 @@ module _ {P : Type 0} where
   after f next = next_by f.ending f
   after f flush = flush_next f
   after f (search queues e) = search_next queues e f
+  after f stays = record { frame = f; outcome = None }
 
   -- the search for a memory's slot: the refusal for room, where the stripe has so many slots, and its turn
   abbrev pub no_slot_left : Plan → Frame P → AllocError

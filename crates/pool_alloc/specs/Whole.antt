@@ -1,9 +1,8 @@
 -- A pool with all that have something of it.
-use Rattle.std.specs.Prelude.{◌≡◌, ℕ, ◌+◌, ◌<◌, ◌≤◌, List, [], sum_by, None, false}
-use Rattle.pool_index.specs.Shard.{use_of}
-use Rattle.pool_slots.specs.Cells.{is_taken}
-use Rattle.pool_alloc.specs.Steps.{shard_at, nth_cell, queue_at, memory_slots}
+use Rattle.std.specs.Prelude.{◌≡◌, ℕ, ◌+◌, ◌≤◌, List, [], sum_by}
+use Rattle.pool_slots.specs.ListUnits.{all_away, all_kept}
 use Rattle.pool_alloc.specs.Places.{Thing, right_to, region_of, kept_count, away_count, frame_count, phase_instances, frame_memories}
+use Rattle.pool_slots.specs.declared.slot_name.SlotName.{SlotName}
 use Rattle.pool_alloc.specs.declared.pool_core.PoolCore.{PoolCore}
 use Rattle.pool_alloc.specs.declared.frame.Frame.{Frame}
 
@@ -15,7 +14,7 @@ pub record Holding : Type 0 where
 
 -- no region without its slot
 abbrev pub HasSlots : Holding → Type 0
-HasSlots h = (k : ℕ) → h.places (region_of k) ≤ h.places (right_to k)
+HasSlots h = (name : SlotName) → h.places (region_of name) ≤ h.places (right_to name)
 
 -- two holdings make a third
 pub record AddUp (some more all : Holding) : Type 0 where
@@ -35,10 +34,9 @@ module _ {P : Type 0} where
     pub instances : c.counters.core_instances ≡ sum_by (λ x. (has x).instances) holders
     pub memories : c.counters.memories ≡ sum_by (λ x. (has x).memories) holders
 
-  -- No slot is used, each region is in its cell, and nothing is queued or counted, as where the pool is made.
+  -- Nothing is given out, nothing is queued, and nothing is counted, as where the pool is made.
   pub record IsUntouched (c : PoolCore P) : Type 0 where
-    pub unused : (place k : ℕ) → use_of (shard_at place c) k ≡ None
-    pub home : (slot : ℕ) → slot < memory_slots c.plan → is_taken (nth_cell slot c).holds ≡ false
-    pub none_queued : (place : ℕ) → (queue_at place c).slots ≡ []
+    pub none_away : all_away c.parts ≡ []
+    pub none_kept : all_kept c.parts ≡ []
     pub instances : c.counters.core_instances ≡ 0
     pub memories : c.counters.memories ≡ 0

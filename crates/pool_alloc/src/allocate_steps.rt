@@ -2,22 +2,23 @@ ghost use Rattle.std.specs.Prelude.{◌≡◌, ◌+◌, ◌<◌, ◌≤◌, ◌^
 ghost use Rattle.pool_pages.specs.Count.{count};
 ghost use Rattle.pool_images.specs.Slots.{IsFresh};
 ghost use Rattle.pool_index.specs.Shard.{use_of};
-ghost use Rattle.pool_slots.specs.Cells.{is_taken, unmapped};
+ghost use Rattle.pool_slots.specs.Cells.{is_taken, unmapped, IsCleanOnceUsed};
+ghost use Rattle.pool_slots.specs.CellOf.{cell_of};
+ghost use Rattle.pool_slots.specs.Plans.{cell_place, home_of};
 ghost use Rattle.pool_slots.specs.SlotQueues.{IsSpareOf};
-ghost use Rattle.pool_slots.specs.Parts.{IsAt, IsShardPart};
-ghost use Rattle.pool_alloc.specs.CanStep.{CanPlace, CanTryShard, CanTryQueue, CanTakeRegion, CanFreeOne};
-ghost use Rattle.pool_alloc.specs.Rows.{key_row, count_instance_row, pick_on, in_shard, take_queue_on, in_queue, take_region_on, in_cell, count_memory_row, put_unknown_on, free_unknown_on};
-ghost use Rattle.pool_alloc.specs.Steps.{IsMemoryPart, IsQueuePart, cell_of, shard_at, nth_cell, queue_at, shard_of, queues_searched, shard_tried, queue_tried};
+ghost use Rattle.pool_slots.specs.Parts.{IsAt, IsShardPart, IsCellPart};
+ghost use Rattle.pool_alloc.specs.CanStep.{CanPlace, CanTryShard, CanTryQueue, CanTakeRegion, CanFreeOne, CanStepAt};
+ghost use Rattle.pool_alloc.specs.Rows.{key_row, count_instance_row, pick_on, in_shard, take_queue_on, in_queue, take_region_on, in_cell, count_object_row, put_back_on, free_one_on};
+ghost use Rattle.pool_alloc.specs.Steps.{IsQueuePart, shard_at, cell_named, queue_at, queues_searched, shard_tried, queue_tried};
 ghost use Rattle.pool_alloc.specs.Turns.{After, stepped};
 
-use crate::frame::{Frame, Outcome, TakenSlot};
-use crate::freeing::{home, memory_slot};
+use crate::frame::{Frame, Object, Outcome, Phase, TakenSlot};
+use crate::freeing::home;
 use crate::lease::MemoryLease;
 use crate::part_steps;
 use crate::pool_core::PoolCore;
-use pool_images::MemoryImageSlot;
 use pool_pages::Pages;
-use pool_slots::{AllocError, ConcurrencyKind, PoolConcurrencyLimitError};
+use pool_slots::{AllocError, ConcurrencyKind, ImageSlot, PoolConcurrencyLimitError, SlotName};
 use std::alloc::Global;
 
 impl<P: Pages> PoolCore<P> {
@@ -59,7 +60,7 @@ impl<P: Pages> PoolCore<P> {
     pub(crate) fn pick(&mut self, frame: &mut Frame<P>, tried: u32) -> Option<Outcome<P>>
         requires tries { CanTryShard self.old.plan frame.old.stripe tried }
         requires shard { IsAt IsShardPart (shard_tried tried self.old.plan frame.old) self.old.parts }
-        requires few { length frame.old.objects.items < 2 ^ 32 }
+        requires few { length frame.old.objects.memories.items < 2 ^ 32 }
         ensures { ◌≡◌ {A = After P} (record { core = self.new; frame = frame.new; outcome = result }) (stepped (in_shard (shard_tried tried self.old.plan frame.old) self.old (pick_on self.old.plan tried (shard_at (shard_tried tried self.old.plan frame.old) self.old) frame.old))) }
     {
         let place = frame.allocator(&self.plan).shard_tried(frame.home, tried);
@@ -82,63 +83,78 @@ impl<P: Pages> PoolCore<P> {
     }
 
     // Takes the region of a slot out of its cell.
-    pub(crate) fn take_region(&mut self, frame: &mut Frame<P>, slot: u32) -> Option<Outcome<P>>
-        requires place { CanPlace self.old.plan slot }
-        requires cell { IsAt IsMemoryPart (cell_of self.old.plan slot) self.old.parts }
-        requires can { CanTakeRegion self.old.settings (nth_cell slot self.old) }
-        ensures { ◌≡◌ {A = After P} (record { core = self.new; frame = frame.new; outcome = result }) (stepped (in_cell slot self.old (take_region_on self.old.settings slot (nth_cell slot self.old) frame.old))) }
+    pub(crate) fn take_region(&mut self, frame: &mut Frame<P>, name: SlotName) -> Option<Outcome<P>>
+        requires place { CanPlace self.old.plan name }
+        requires cell { IsAt IsCellPart (cell_place self.old.plan name) self.old.parts }
+        requires can { CanTakeRegion self.old.settings (cell_named name self.old) }
+        ensures { ◌≡◌ {A = After P} (record { core = self.new; frame = frame.new; outcome = result }) (stepped (in_cell name self.old (take_region_on self.old.settings name (cell_named name self.old) frame.old))) }
     {
-        let place = self.plan.cell_place(memory_slot(slot));
+        let place = self.plan.cell_place(name);
         let part = self.parts.at(place);
-        part_steps::take_region(part, &self.settings, frame, slot)
+        part_steps::take_region(part, &self.settings, frame, name)
     }
 
-    // Grants a memory. The search for the next one's slot begins anew.
-    pub(crate) fn count_memory(
+    // Grants an object. The search for the next one's slot begins anew.
+    pub(crate) fn count_object(
+        &mut self,
+        alloc: Global,
+        frame: &mut Frame<P>,
+        object: Object<P>,
+    ) -> Option<Outcome<P>>
+        requires { CanStepAt (Phase.CountObject object) self.old frame.old }
+        ensures { ◌≡◌ {A = After P} (record { core = self.new; frame = frame.new; outcome = result }) (stepped (count_object_row object self.old frame.old)) }
+    {
+        match object {
+            Object::Memory(lease) => self.count_memory(alloc, frame, lease),
+        }
+    }
+
+    fn count_memory(
         &mut self,
         alloc: Global,
         frame: &mut Frame<P>,
         lease: MemoryLease<P>,
     ) -> Option<Outcome<P>>
         requires count { self.old.counters.memories + 1 < 2 ^ 64 }
-        requires room { length frame.old.objects.items < frame.old.objects.room }
-        ensures { ◌≡◌ {A = After P} (record { core = self.new; frame = frame.new; outcome = result }) (stepped (count_memory_row lease self.old frame.old)) }
+        requires room { length frame.old.objects.memories.items < frame.old.objects.memories.room }
+        ensures { ◌≡◌ {A = After P} (record { core = self.new; frame = frame.new; outcome = result }) (stepped (count_object_row (Object.Memory lease) self.old frame.old)) }
     {
         self.counters.memories += 1;
-        frame.objects.push(lease);
+        frame.objects.memories.push(lease);
         frame.queues = 0;
         frame.next(alloc)
     }
 
-    // Puts the region of a slot back. Nothing is known of it.
-    pub(crate) fn put_unknown(
+    // Puts the region of a slot back after a failure.
+    pub(crate) fn put_back(
         &mut self,
         frame: &mut Frame<P>,
         at: TakenSlot,
-        held: MemoryImageSlot<P>,
+        held: ImageSlot<P>,
     ) -> Option<Outcome<P>>
-        requires place { CanPlace self.old.plan at.slot }
-        requires cell { IsAt IsMemoryPart (cell_of self.old.plan at.slot) self.old.parts }
-        ensures { ◌≡◌ {A = After P} (record { core = self.new; frame = frame.new; outcome = result }) (stepped (in_cell at.slot self.old (put_unknown_on at.slot held (nth_cell at.slot self.old) frame.old))) }
+        requires place { CanPlace self.old.plan at.name }
+        requires cell { IsAt IsCellPart (cell_place self.old.plan at.name) self.old.parts }
+        requires clean { IsCleanOnceUsed (cell_of held) }
+        ensures { ◌≡◌ {A = After P} (record { core = self.new; frame = frame.new; outcome = result }) (stepped (in_cell at.name self.old (put_back_on at.name (cell_of held) (cell_named at.name self.old) frame.old))) }
     {
-        let place = self.plan.cell_place(memory_slot(at.slot));
+        let place = self.plan.cell_place(at.name);
         let part = self.parts.at(place);
-        part_steps::put_unknown(part, frame, at.slot, held)
+        part_steps::put_back(part, frame, at.name, held)
     }
 
-    // Frees a slot of which nothing is known.
-    pub(crate) fn free_unknown(
+    // Frees the slot then.
+    pub(crate) fn free_one(
         &mut self,
         alloc: Global,
         frame: &mut Frame<P>,
-        slot: u32,
+        name: SlotName,
     ) -> Option<Outcome<P>>
-        requires shard { IsAt IsShardPart (shard_of self.old.plan slot) self.old.parts }
-        requires can { CanFreeOne slot self.old.plan (shard_at (shard_of self.old.plan slot) self.old) }
-        ensures { ◌≡◌ {A = After P} (record { core = self.new; frame = frame.new; outcome = result }) (stepped (in_shard (shard_of self.old.plan slot) self.old (free_unknown_on self.old.plan slot (shard_at (shard_of self.old.plan slot) self.old) frame.old))) }
+        requires shard { IsAt IsShardPart (home_of self.old.plan name).place self.old.parts }
+        requires can { CanFreeOne name self.old.plan (shard_at (home_of self.old.plan name).place self.old) }
+        ensures { ◌≡◌ {A = After P} (record { core = self.new; frame = frame.new; outcome = result }) (stepped (in_shard (home_of self.old.plan name).place self.old (free_one_on self.old.plan name (shard_at (home_of self.old.plan name).place self.old) frame.old))) }
     {
-        let place = home(&self.plan, slot).place;
+        let place = home(&self.plan, name).place;
         let part = self.parts.at(place);
-        part_steps::free_unknown(part, &self.plan, alloc, frame, slot)
+        part_steps::free_one(part, &self.plan, alloc, frame, name)
     }
 }

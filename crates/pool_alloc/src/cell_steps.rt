@@ -6,7 +6,7 @@ ghost use Rattle.pool_slots.specs.RegionCells.{CellState};
 ghost use Rattle.pool_slots.specs.CellOf.{cell_of};
 ghost use Rattle.pool_slots.specs.SlotQueues.{Queued, IsSettled};
 ghost use Rattle.pool_alloc.specs.Own.{image_made};
-ghost use Rattle.pool_alloc.specs.Rows.{take_region_on, put_unknown_on, region_put};
+ghost use Rattle.pool_alloc.specs.Rows.{take_region_on, put_back_on, region_put};
 ghost use Rattle.pool_alloc.specs.Steps.{cell_returned};
 ghost use Rattle.pool_alloc.specs.Turns.{PartAfter, part_after};
 
@@ -15,7 +15,7 @@ use crate::pool_core::Settings;
 use pool_images::MemoryImageSlot;
 use pool_index::SlotKind;
 use pool_pages::{PageRegion, Pages};
-use pool_slots::{HeldSlot, ImageSlot, QueuedSlot, RegionCell};
+use pool_slots::{HeldSlot, ImageSlot, QueuedSlot, RegionCell, SlotName};
 use std::alloc::Global;
 
 // Takes the region of a slot out of its cell. An image slot is made of a region that was never used.
@@ -23,21 +23,21 @@ pub(crate) fn take_region<P: Pages>(
     cell: &mut RegionCell<P>,
     settings: &Settings,
     frame: &mut Frame<P>,
-    slot: u32,
+    name: SlotName,
 ) -> Option<Outcome<P>>
     requires there { is_taken cell.old.holds ≡ false }
     requires fresh { (region : _) → cell.old.holds ≡ unmapped region → IsFresh (count settings.now.page 0) (count settings.now.page 0) settings.now.max_memory_size None region }
-    ensures { ◌≡◌ {A = PartAfter CellState P} (record { part = cell.new; frame = frame.new; outcome = result }) (part_after (take_region_on settings.now slot cell.old frame.old)) }
+    ensures { ◌≡◌ {A = PartAfter CellState P} (record { part = cell.new; frame = frame.new; outcome = result }) (part_after (take_region_on settings.now name cell.old frame.old)) }
 {
     let (held, numbers) = cell.take();
-    let at = TakenSlot { slot, numbers };
-    frame.phase = match held {
+    let at = TakenSlot { name, numbers };
+    let phase = match held {
         ImageSlot::Unmapped(region) => Phase::Instantiate(at, image_slot_of(settings, region)),
         ImageSlot::Unknown(held) => Phase::Empty(at, held),
         ImageSlot::PreviouslyUsed(held) => Phase::Instantiate(at, held),
         ImageSlot::Taken => unreachable!(),
     };
-    None
+    frame.go(phase)
 }
 
 // The image slot of a region that was never used.
@@ -55,18 +55,18 @@ fn image_slot_of<P: Pages>(settings: &Settings, region: PageRegion<P>) -> Memory
     )
 }
 
-// Puts the region of a slot back. Nothing is known of it.
-pub(crate) fn put_unknown<P: Pages>(
+// Puts the region of a slot back after a failure.
+pub(crate) fn put_back<P: Pages>(
     cell: &mut RegionCell<P>,
     frame: &mut Frame<P>,
-    slot: u32,
-    held: MemoryImageSlot<P>,
+    name: SlotName,
+    held: ImageSlot<P>,
 ) -> Option<Outcome<P>>
-    ensures { ◌≡◌ {A = PartAfter CellState P} (record { part = cell.new; frame = frame.new; outcome = result }) (part_after (put_unknown_on slot held cell.old frame.old)) }
+    requires { IsCleanOnceUsed (cell_of held) }
+    ensures { ◌≡◌ {A = PartAfter CellState P} (record { part = cell.new; frame = frame.new; outcome = result }) (part_after (put_back_on name (cell_of held) cell.old frame.old)) }
 {
-    cell.put(ImageSlot::Unknown(held));
-    frame.phase = Phase::FreeUnknown(slot);
-    None
+    cell.put(held);
+    frame.go(Phase::FreeOne(name))
 }
 
 // Puts the region of a slot back that was in the local queue. The slot waits to be freed then.
@@ -81,10 +81,10 @@ pub(crate) fn put_region<P: Pages>(
     requires room { length frame.old.freed.items < frame.old.freed.room }
     ensures { ◌≡◌ {A = PartAfter CellState P} (record { part = cell.new; frame = frame.new; outcome = result }) (part_after (region_put item cell.old frame.old)) }
 {
-    let slot = item.number();
+    let name = item.name();
     let bytes = item.bytes;
     cell.put(cell_returned(item));
-    frame.freed.push(FreedSlot { slot, bytes });
+    frame.freed.push(FreedSlot { name, bytes });
     frame.flush(alloc)
 }
 

@@ -4,13 +4,14 @@ ghost use Rattle.pool_slots.specs.SlotQueues.{Queue, Queued, HasOwners, IsSettle
 ghost use Rattle.pool_alloc.specs.Answers.{FlushTold, FlushPlanned, Decommits, FollowsRun};
 ghost use Rattle.pool_alloc.specs.CanStep.{CanPlace, CanTryQueue, CanPutNext, CanFree, CanFlush};
 ghost use Rattle.pool_alloc.specs.Rows.{flush_step, in_queue, merge_on, decommit_row, put_region_row, free_row, flush_row};
+ghost use Rattle.pool_slots.specs.Plans.{cell_place};
 ghost use Rattle.pool_slots.specs.QueueMerges.{CanMerge};
-ghost use Rattle.pool_slots.specs.Parts.{IsAt, IsShardPart};
-ghost use Rattle.pool_alloc.specs.Steps.{StepGiven, IsMemoryPart, IsQueuePart, cell_of, shard_at, queue_at, first_shard, queue_tried};
+ghost use Rattle.pool_slots.specs.Parts.{IsAt, IsShardPart, IsCellPart};
+ghost use Rattle.pool_alloc.specs.Steps.{StepGiven, IsQueuePart, shard_at, queue_at, first_shard, queue_tried};
 ghost use Rattle.pool_alloc.specs.Turns.{After, stepped};
 
 use crate::frame::{Frame, Outcome};
-use crate::freeing::{first_shard, memory_slot};
+use crate::freeing::first_shard;
 use crate::part_steps;
 use crate::pool_core::PoolCore;
 use pool_index::SlotKind;
@@ -57,13 +58,12 @@ impl<P: Pages> PoolCore<P> {
 
     // Puts the first region of the local queue back into its cell.
     fn put_region(&mut self, alloc: Global, frame: &mut Frame<P>) -> Option<Outcome<P>>
-        requires cell { (m : Queued) (rest : List Queued) → frame.old.local.slots ≡ m ∷ rest → CanPlace self.old.plan m.name.slot × IsAt IsMemoryPart (cell_of self.old.plan m.name.slot) self.old.parts }
+        requires cell { (m : Queued) (rest : List Queued) → frame.old.local.slots ≡ m ∷ rest → CanPlace self.old.plan m.name × IsAt IsCellPart (cell_place self.old.plan m.name) self.old.parts }
         requires can { CanPutNext frame.old.local frame.old.freed }
         ensures { ◌≡◌ {A = After P} (record { core = self.new; frame = frame.new; outcome = result }) (stepped (put_region_row frame.old.local.slots self.old frame.old)) }
     {
         let item = pop_memory(&mut frame.local);
-        let slot = item.number();
-        let place = self.plan.cell_place(memory_slot(slot));
+        let place = self.plan.cell_place(item.name());
         let part = self.parts.at(place);
         part_steps::put_region(part, alloc, frame, item)
     }

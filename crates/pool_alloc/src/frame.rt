@@ -2,7 +2,7 @@ use crate::lease::{InstanceLease, MemoryLease};
 use crate::reserved::ReservedList;
 use pool_images::{MemoryImageSlot, ModuleMemoryImages};
 use pool_pages::{CompiledModuleId, ModuleInfo, Pages};
-use pool_slots::{AllocError, DecommitQueue, RegionNumbers};
+use pool_slots::{AllocError, DecommitQueue, ImageSlot, RegionNumbers, SlotName};
 use std::marker::Model;
 use std::sync::Arc;
 
@@ -61,18 +61,24 @@ pub enum Ending {
 /// A slot that is to be freed, and how many bytes it keeps resident.
 #[derive(Clone, Copy, Debug, PartialEq, Eq)]
 pub struct FreedSlot {
-    pub slot: u32,
+    pub name: SlotName,
     pub bytes: usize,
 }
 
-/// A slot of which the region was taken, by its number in the pool, and what the region's unit tells since.
+/// A slot of which the region was taken, and what the region's unit tells since.
 #[derive(Clone, Copy, Debug, PartialEq, Eq)]
 pub struct TakenSlot {
-    pub slot: u32,
+    pub name: SlotName,
     pub numbers: RegionNumbers,
 }
 
-/// The step that a party makes next, with what it has taken for it. A slot is named by its number in the pool.
+/// What is allocated for an instance, one after the other.
+#[derive(Drop)]
+pub enum Object<P: Pages> {
+    Memory(MemoryLease<P>),
+}
+
+/// The step that a party makes next, with what it has taken for it.
 #[derive(Drop)]
 pub enum Phase<P: Pages> {
     /// No call is under way.
@@ -86,19 +92,20 @@ pub enum Phase<P: Pages> {
     Pick(u32),
     /// Take the whole next queue, which is as many after the home queue as the search has taken so far.
     TakeQueue,
-    TakeRegion(u32),
+    TakeRegion(SlotName),
     /// Empty an image slot of which nothing is known.
     Empty(TakenSlot, MemoryImageSlot<P>),
     Instantiate(TakenSlot, MemoryImageSlot<P>),
     /// Ask the limiter, and make the memory.
     MakeMemory(TakenSlot, MemoryImageSlot<P>),
-    CountMemory(MemoryLease<P>),
-    /// Put the region of a slot back, as one of which nothing is known.
-    PutUnknown(TakenSlot, MemoryImageSlot<P>),
-    FreeUnknown(u32),
-    /// Count a memory that is given back as no grant any more.
-    UncountMemory(MemoryLease<P>),
-    Reset(MemoryLease<P>),
+    CountObject(Object<P>),
+    /// Put the region of a slot back after a failure. Nothing is known of it.
+    PutBack(TakenSlot, ImageSlot<P>),
+    /// Free the slot then.
+    FreeOne(SlotName),
+    /// Count what is given back as no grant any more.
+    UncountObject(Object<P>),
+    Reset(Object<P>),
     /// Append the local queue to the home queue.
     Merge,
     /// The next part of a flush of the local queue: decommit the next ranges of one slot; where there are none, put the
@@ -118,8 +125,8 @@ pub struct Frame<P: Pages> {
     pub asked: Option<ModuleCall>,
     /// What the call is to end with.
     pub ending: Ending,
-    /// The memories that were granted so far, in order, or those that are still to be given back: the ending says which.
-    pub objects: ReservedList<MemoryLease<P>>,
+    /// What was granted so far, in order, or what is still to be given back: the ending says which.
+    pub objects: InstanceLease<P>,
     /// How many queues the search for a slot has taken.
     pub queues: u32,
     /// The local queue. It is empty but while memories are given back or queues flushed.
@@ -127,4 +134,6 @@ pub struct Frame<P: Pages> {
     /// The slots whose regions are back in their cells, and which aren't free yet.
     pub freed: ReservedList<FreedSlot>,
     pub phase: Phase<P>,
+    /// How many steps the call under way made so far, or the last one. Counts modulo 2^64.
+    pub step_count: u64,
 }

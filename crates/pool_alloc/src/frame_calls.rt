@@ -4,11 +4,10 @@ ghost use Rattle.pool_alloc.specs.Calls.{IsIdle, MayBegin, begun_call, gives_bac
 ghost use Rattle.pool_alloc.specs.Sound.{IsFrame};
 ghost use Rattle.pool_slots.specs.declared.plan.Plan.{Plan};
 ghost use Rattle.pool_alloc.specs.declared.pool_core.Settings.{Settings};
-ghost use Rattle.pool_alloc.specs.Sums.{calls_in_frame, calls_in_phase};
+ghost use Rattle.pool_alloc.specs.Sums.{calls_in_frame, calls_in_phase, calls_of_object};
 ghost use Rattle.pool_alloc.specs.Steps.{memories_wanted, wanted};
 
-use crate::frame::{Call, Ending, Frame, Grant, Phase};
-use crate::lease::calls_of;
+use crate::frame::{Call, Ending, Frame, Grant, Object, Phase};
 use pool_index::MemoryInModule;
 use pool_pages::{DefinedMemoryIndex, PageCalls, Pages};
 
@@ -20,28 +19,40 @@ impl<P: Pages> Frame<P> {
         ensures sound { (maker : MakerTold) (s : Settings) (plan : Plan) → IsFrame maker s plan self.old → MayBegin maker s plan call self.old → IsFrame maker s plan self.new }
     {
         match call {
-            Call::Key => self.phase = Phase::Key,
+            Call::Key => {
+                self.phase = Phase::Key;
+                self.step_count = 0;
+            }
             Call::Module(module) => {
                 self.asked = Some(module);
                 self.ending = Ending::Granted;
                 self.queues = 0;
                 self.phase = Phase::Validate;
+                self.step_count = 0;
             }
             Call::GiveBack(grant) => self.give_back(grant),
         }
     }
 
-    // The memories of an instance are given back in order, and then the instance.
+    // The objects of an instance are given back in order, and then the instance.
     fn give_back(&mut self, grant: Grant<P>)
         ensures { self.new ≡ gives_back grant self.old }
     {
         match grant {
             Grant::Instance(lease) => {
-                self.objects = lease.memories;
+                self.objects = lease;
                 self.ending = Ending::Returned;
                 let _none = self.return_next();
+                self.step_count = 0;
             }
         }
+    }
+
+    /// How many steps the call under way made so far, or the last one. Counts modulo 2^64.
+    pub fn steps(&self) -> u64
+        ensures { result ≡ self.now.step_count }
+    {
+        self.step_count
     }
 
     /// The calls made so far on the regions that the call under way has.
@@ -49,7 +60,7 @@ impl<P: Pages> Frame<P> {
         ensures { result ≡ calls_in_frame self.now }
     {
         let waiting = self.local.page_calls().plus(self.phase.page_calls());
-        calls_of(&self.objects).plus(waiting)
+        self.objects.page_calls().plus(waiting)
     }
 
     // How many memories the module has that is asked for.
@@ -64,10 +75,10 @@ impl<P: Pages> Frame<P> {
 
     // The memory that is allocated, where slots may be affine to it.
     pub(crate) fn wanted(&self) -> Option<MemoryInModule>
-        requires { length self.now.objects.items < 2 ^ 32 }
+        requires { length self.now.objects.memories.items < 2 ^ 32 }
         ensures { result ≡ wanted self.now }
     {
-        let index = DefinedMemoryIndex(self.objects.len() as u32);
+        let index = DefinedMemoryIndex(self.objects.memories.len() as u32);
         match &self.asked {
             None => None,
             Some(call) => Some(MemoryInModule(call.id, index)),
@@ -84,11 +95,22 @@ impl<P: Pages> Phase<P> {
             Phase::Empty(_, held) => held.region().calls(),
             Phase::Instantiate(_, held) => held.region().calls(),
             Phase::MakeMemory(_, held) => held.region().calls(),
-            Phase::PutUnknown(_, held) => held.region().calls(),
-            Phase::CountMemory(lease) => lease.page_calls(),
-            Phase::UncountMemory(lease) => lease.page_calls(),
-            Phase::Reset(lease) => lease.page_calls(),
+            Phase::PutBack(_, held) => held.page_calls(),
+            Phase::CountObject(object) => object.page_calls(),
+            Phase::UncountObject(object) => object.page_calls(),
+            Phase::Reset(object) => object.page_calls(),
             _ => PageCalls::none(),
+        }
+    }
+}
+
+impl<P: Pages> Object<P> {
+    // The calls made so far on its region.
+    fn page_calls(&self) -> PageCalls
+        ensures { result ≡ calls_of_object self.now }
+    {
+        match self {
+            Object::Memory(lease) => lease.page_calls(),
         }
     }
 }

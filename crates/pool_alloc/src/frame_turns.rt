@@ -1,10 +1,9 @@
 ghost use Rattle.std.specs.Prelude.{◌≡◌, ◌<◌, length};
 ghost use Rattle.pool_alloc.specs.Steps.{allocator_for};
-ghost use Rattle.pool_alloc.specs.Turns.{Left, next, flush, search, memory_search, after, ends_with, failing, granted_next, returned_next, next_by, is_flushed};
+ghost use Rattle.pool_alloc.specs.Turns.{Left, next, flush, search, memory_search, after, goes_to, ends_with, failing, granted_next, returned_next, next_by, is_flushed};
 
-use crate::frame::{Ending, Frame, Grant, Outcome, Phase};
+use crate::frame::{Ending, Frame, Grant, Object, Outcome, Phase};
 use crate::lease::InstanceLease;
-use crate::reserved::ReservedList;
 use pool_index::SlotKind;
 use pool_pages::Pages;
 use pool_slots::{AllocError, Allocator, ConcurrencyKind, Plan, PoolConcurrencyLimitError};
@@ -20,10 +19,20 @@ impl<P: Pages> Frame<P> {
         self.ending = Ending::Refused(error);
     }
 
-    // The call ends with this answer, and leaves nothing of itself.
+    // The call goes on with this phase.
+    pub(crate) fn go(&mut self, phase: Phase<P>) -> Option<Outcome<P>>
+        ensures { ◌≡◌ {A = Left P} (record { frame = self.new; outcome = result }) (goes_to self.old phase) }
+    {
+        self.step_count = self.step_count.wrapping_add(1);
+        self.phase = phase;
+        None
+    }
+
+    // The call ends with this answer, and leaves nothing of itself but the number of its steps.
     pub(crate) fn end(&mut self, outcome: Outcome<P>) -> Option<Outcome<P>>
         ensures { ◌≡◌ {A = Left P} (record { frame = self.new; outcome = result }) (ends_with self.old outcome) }
     {
+        self.step_count = self.step_count.wrapping_add(1);
         self.phase = Phase::Idle;
         self.asked = None;
         self.ending = Ending::Returned;
@@ -42,27 +51,26 @@ impl<P: Pages> Frame<P> {
         }
     }
 
-    // The next memory of the instance is picked a slot for, or the instance is granted.
+    // A slot is picked for the next object of the instance, or the instance is granted.
     fn grant_next(&mut self, alloc: Global) -> Option<Outcome<P>>
         ensures { ◌≡◌ {A = Left P} (record { frame = self.new; outcome = result }) (granted_next self.old) }
     {
-        if self.objects.len() < self.memories_wanted() {
-            self.phase = Phase::Pick(0);
-            return None;
+        if self.objects.memories.len() < self.memories_wanted() {
+            return self.go(Phase::Pick(0));
         }
-        let memories = mem::replace(&mut self.objects, ReservedList::none(alloc));
-        self.end(Outcome::Granted(Grant::Instance(InstanceLease { memories })))
+        let lease = mem::replace(&mut self.objects, InstanceLease::none(alloc));
+        self.end(Outcome::Granted(Grant::Instance(lease)))
     }
 
-    // The next memory is given back, or else the instance.
+    // The next object is given back, or else the instance.
     pub(crate) fn return_next(&mut self) -> Option<Outcome<P>>
-        ensures { ◌≡◌ {A = Left P} (record { frame = self.new; outcome = result }) (returned_next self.old.objects.items self.old) }
+        ensures { ◌≡◌ {A = Left P} (record { frame = self.new; outcome = result }) (returned_next self.old.objects.memories.items self.old) }
     {
-        self.phase = match self.objects.pop_first() {
-            Some(lease) => Phase::UncountMemory(lease),
+        let phase = match self.objects.memories.pop_first() {
+            Some(lease) => Phase::UncountObject(Object::Memory(lease)),
             None => Phase::UncountInstance,
         };
-        None
+        self.go(phase)
     }
 
     // The next part of a flush, or what is next once it is done.
@@ -72,8 +80,7 @@ impl<P: Pages> Frame<P> {
         if self.is_flushed() {
             return self.next(alloc);
         }
-        self.phase = Phase::Flush;
-        None
+        self.go(Phase::Flush)
     }
 
     fn is_flushed(&self) -> bool
@@ -99,8 +106,7 @@ impl<P: Pages> Frame<P> {
         ensures { ◌≡◌ {A = Left P} (record { frame = self.new; outcome = result }) (after self.old (search queues refusal)) }
     {
         if self.queues < queues {
-            self.phase = Phase::TakeQueue;
-            return None;
+            return self.go(Phase::TakeQueue);
         }
         self.fail(refusal);
         self.return_next()

@@ -1,7 +1,8 @@
 ghost use Rattle.std.specs.Prelude.{◌≡◌, ◌^◌, ◌<◌, ◌≤◌, length, All};
 ghost use Rattle.pool_slots.specs.Plans.{home_of};
 ghost use Rattle.pool_alloc.specs.Freeing.{AreUsedInTurn, HasHome, CanBeFreed, CanFreeNext, shard_after_next, freed_after_next};
-ghost use Rattle.pool_alloc.specs.Steps.{memory_slot, freed_of, freed_elsewhere, first_shard, after_frees};
+ghost use Rattle.pool_alloc.specs.Leases.{memory_slot};
+ghost use Rattle.pool_alloc.specs.Steps.{freed_of, freed_elsewhere, first_shard, after_frees};
 
 use crate::frame::FreedSlot;
 use crate::reserved::ReservedList;
@@ -20,19 +21,19 @@ pub(crate) fn first_shard(plan: &Plan, freed: &ReservedList<FreedSlot>) -> u32
     if count == 0 {
         return 0;
     }
-    let mut first = home(plan, freed.get(0).slot).place;
+    let mut first = home(plan, freed.get(0).name).place;
     for at in 1..count {
-        first = first.min(home(plan, freed.get(at).slot).place);
+        first = first.min(home(plan, freed.get(at).name).place);
     }
     first
 }
 
-// Where a memory slot is at home.
-pub(crate) fn home(plan: &Plan, slot: u32) -> Home
-    requires { HasHome plan.now slot }
-    ensures { result ≡ home_of plan.now (memory_slot slot) }
+// Where a slot is at home.
+pub(crate) fn home(plan: &Plan, name: SlotName) -> Home
+    requires { HasHome plan.now name }
+    ensures { result ≡ home_of plan.now name }
 {
-    plan.home_of(memory_slot(slot))
+    plan.home_of(name)
 }
 
 // The name of a memory slot.
@@ -69,7 +70,7 @@ fn free_next(shard: &mut Shard, plan: &Plan, place: u32, freed: &mut ReservedLis
     ensures freed { freed.new ≡ record freed.old { items = freed_after_next plan.now place freed.old.items } }
 {
     let next = freed.remove_first();
-    let home = home(plan, next.slot);
+    let home = home(plan, next.name);
     if home.place == place {
         free_of::<Brand>(shard, home.local, next.bytes, Blank::new(1));
     } else {

@@ -1,5 +1,6 @@
 ghost use Rattle.std.specs.Prelude.{◌≡◌, ◌≢◌, ℕ, ◌+◌, ◌<◌, ◌≤◌, List, All, length, slice_index_or};
 ghost use Rattle.pool_pages.specs.MakerTold.{MakerTold};
+ghost use Rattle.pool_slots.specs.declared.slot_name.SlotName.{SlotName};
 ghost use Rattle.pool_alloc.specs.Places.{right_to};
 ghost use Rattle.pool_alloc.specs.Sound.{IsCore, FitsCore};
 ghost use Rattle.pool_alloc.specs.Whole.{Holding, HasSlots, AddUp, held_by, IsPartitioned};
@@ -14,6 +15,6 @@ impl<P: Pages> PoolCore<P> {
     pub fn holders_law(&self, frame: &Frame<P>)
         ensures slots { HasSlots (held_by frame.now) }
         ensures fits { (holders : List Holding) (i : ℕ) (d rest : Holding) → IsPartitioned (λ h. h) self.now holders → All HasSlots holders → i < length holders → AddUp (held_by frame.now) rest (slice_index_or holders i d) → HasSlots rest → FitsCore self.now frame.now }
-        ensures apart { (maker : MakerTold) (holders : List Holding) (i j k : ℕ) (d : Holding) → IsCore maker self.now → IsPartitioned (λ h. h) self.now holders → i < length holders → j < length holders → i ≢ j → (slice_index_or holders i d).places (right_to k) + (slice_index_or holders j d).places (right_to k) ≤ 1 }
+        ensures apart { (maker : MakerTold) (holders : List Holding) (i j : ℕ) (name : SlotName) (d : Holding) → IsCore maker self.now → IsPartitioned (λ h. h) self.now holders → i < length holders → j < length holders → i ≢ j → (slice_index_or holders i d).places (right_to name) + (slice_index_or holders j d).places (right_to name) ≤ 1 }
     {}
 }

@@ -14,7 +14,7 @@ use crate::frame::{Frame, ModuleCall, Outcome, Phase, TakenSlot};
 use crate::pool_core::PoolCore;
 use pool_images::{MemoryImage, MemoryImageSlot};
 use pool_pages::{DefinedMemoryIndex, MemoryTunables, MemoryType, Pages};
-use pool_slots::AllocError;
+use pool_slots::{AllocError, ImageSlot};
 use std::sync::Arc;
 
 impl ModuleCall {
@@ -39,7 +39,7 @@ impl<P: Pages> PoolCore<P> {
         at: TakenSlot,
         held: MemoryImageSlot<P>,
     ) -> Option<Outcome<P>>
-        requires next { HasNext frame.old.asked (length frame.old.objects.items) }
+        requires next { HasNext frame.old.asked (length frame.old.objects.memories.items) }
         requires clean { IsClean held }
         requires can { IfAllocated frame.old (CanBegin held (image_wanted frame.old)) }
         ensures { (fault : Bool) × (after : Slot) × IfAllocated frame.old (λ decl. InstantiatesFor self.old.settings decl fault (image_wanted frame.old) held after) × IfAllocated frame.old (λ decl. FollowsPlanFor self.old.settings decl fault (image_wanted frame.old) held after) × (◌≡◌ {A = After P} (record { core = self.new; frame = frame.new; outcome = result }) (stepped (instantiate_row fault after at self.old frame.old))) }
@@ -51,13 +51,13 @@ impl<P: Pages> PoolCore<P> {
 
     // Whether a page call failed.
     fn begin(&self, frame: &Frame<P>, held: &mut MemoryImageSlot<P>) -> bool
-        requires next { HasNext frame.now.asked (length frame.now.objects.items) }
+        requires next { HasNext frame.now.asked (length frame.now.objects.memories.items) }
         requires clean { IsClean held.old }
         requires can { IfAllocated frame.now (CanBegin held.old (image_wanted frame.now)) }
         ensures begun { IfAllocated frame.now (λ decl. InstantiatesFor self.now.settings decl result (image_wanted frame.now) held.old held.new) }
         ensures planned { IfAllocated frame.now (λ decl. FollowsPlanFor self.now.settings decl result (image_wanted frame.now) held.old held.new) }
     {
-        let memory = frame.objects.len();
+        let memory = frame.objects.memories.len();
         match &frame.asked {
             None => unreachable!(),
             Some(call) => {
@@ -104,11 +104,10 @@ fn begun<P: Pages>(
     if fault {
         held.forget();
         frame.fail(AllocError::PageFault);
-        frame.phase = Phase::PutUnknown(at, held);
+        frame.go(Phase::PutBack(at, ImageSlot::Unknown(held)))
     } else {
-        frame.phase = Phase::MakeMemory(at, held);
+        frame.go(Phase::MakeMemory(at, held))
     }
-    None
 }
 
 fn minimum_of(ty: &MemoryType) -> usize

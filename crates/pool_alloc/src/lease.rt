@@ -1,13 +1,15 @@
 ghost use Rattle.std.specs.Prelude.{◌≡◌, ◌<◌, length, replicate};
 ghost use Rattle.pool_memory.specs.Memories.{slot_of};
 ghost use Rattle.pool_alloc.specs.Leases.{IsWritten, IsGrown, IsChanged};
-ghost use Rattle.pool_alloc.specs.Sums.{calls_of_leases};
+ghost use Rattle.pool_alloc.specs.Objects.{no_objects};
+ghost use Rattle.pool_alloc.specs.Sums.{calls_of_leases, calls_of_instance};
 
 use crate::reserved::ReservedList;
 use pool_limits::{GrowFault, ResourceLimiter, Trap};
 use pool_memory::{Memory, StaticMemory};
 use pool_pages::{PageCalls, Pages};
 use pool_slots::{MemoryAllocationIndex, RegionNumbers};
+use std::alloc::Global;
 use std::marker::Model;
 
 /// A memory that was granted, and its slot. It must be given back, or its slot stays used for good.
@@ -112,16 +114,25 @@ pub struct InstanceLease<P: Pages> {
 }
 
 impl<P: Pages> InstanceLease<P> {
-    /// The calls made so far on the regions of its memories, together.
+    // Nothing of an instance. Takes no memory.
+    pub(crate) fn none(alloc: Global) -> Self
+        ensures { result ≡ no_objects }
+    {
+        InstanceLease {
+            memories: ReservedList::none(alloc),
+        }
+    }
+
+    /// The calls made so far on the regions of its objects, together.
     pub fn page_calls(&self) -> PageCalls
-        ensures { result ≡ calls_of_leases self.now.memories.items }
+        ensures { result ≡ calls_of_instance self.now }
     {
         calls_of(&self.memories)
     }
 }
 
 // The calls made so far on the regions of memories, together.
-pub(crate) fn calls_of<P: Pages>(leases: &ReservedList<MemoryLease<P>>) -> PageCalls
+fn calls_of<P: Pages>(leases: &ReservedList<MemoryLease<P>>) -> PageCalls
     ensures { result ≡ calls_of_leases leases.now.items }
 {
     let mut calls = PageCalls::none();

@@ -26,7 +26,7 @@ mod shard_steps;
 mod step;
 mod validate_step;
 
-pub use frame::{Call, Frame, Grant, ModuleCall, Outcome, Phase, TakenSlot};
+pub use frame::{Call, Frame, Grant, ModuleCall, Object, Outcome, Phase, TakenSlot};
 pub use lease::{InstanceLease, MemoryLease};
 pub use metrics::Metrics;
 pub use pool_core::{Counters, PoolCore, Settings};

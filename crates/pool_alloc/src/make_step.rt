@@ -15,14 +15,14 @@ ghost use Rattle.pool_alloc.specs.Rows.{made_by, make_memory_row};
 ghost use Rattle.pool_alloc.specs.Turns.{After, stepped};
 ghost use Rattle.pool_alloc.specs.declared.pool_core.PoolCore.{PoolCore};
 
-use crate::frame::{Frame, Outcome, Phase, TakenSlot};
+use crate::frame::{Frame, Object, Outcome, Phase, TakenSlot};
 use crate::lease::MemoryLease;
 use crate::pool_core::{PoolCore, Settings};
 use pool_images::MemoryImageSlot;
 use pool_limits::ResourceLimiter;
 use pool_memory::{Memory, MemoryError, StaticMemory};
 use pool_pages::{MemoryType, Pages};
-use pool_slots::{AllocError, MemoryAllocationIndex};
+use pool_slots::{AllocError, ImageSlot, MemoryAllocationIndex};
 
 // A memory in its slot, or the slot of a memory that is refused.
 type Making<P> = Result<Memory<(), StaticMemory<P>>, (MemoryImageSlot<P>, MemoryError)>;
@@ -36,7 +36,7 @@ impl<P: Pages> PoolCore<P> {
         held: MemoryImageSlot<P>,
         limiter: &mut L,
     ) -> Option<Outcome<P>>
-        requires next { HasNext frame.old.asked (length frame.old.objects.items) }
+        requires next { HasNext frame.old.asked (length frame.old.objects.memories.items) }
         requires can { IfAllocated frame.old (CanMake self.old.settings held) }
         ensures { (answer : Result Bool LimiterError) × IfAllocated frame.old (AsksForMemory answer (L.told limiter.old) (L.told limiter.new)) × IfAllocated frame.old (λ decl. Exchanged L.leads (may_grow (minimum_question decl.ty) answer ∷ []) limiter.old limiter.new) × (◌≡◌ {A = After P} (record { core = self.new; frame = frame.new; outcome = result }) (stepped (make_memory_row answer at held self.old frame.old))) }
     {
@@ -51,13 +51,13 @@ impl<P: Pages> PoolCore<P> {
         held: MemoryImageSlot<P>,
         limiter: &mut L,
     ) -> Making<P>
-        requires next { HasNext frame.now.asked (length frame.now.objects.items) }
+        requires next { HasNext frame.now.asked (length frame.now.objects.memories.items) }
         requires can { IfAllocated frame.now (CanMake self.now.settings held) }
         ensures asked { IfAllocated frame.now (AsksForMemory (static_limiter_answer result) (L.told limiter.old) (L.told limiter.new)) }
         ensures exchanged { IfAllocated frame.now (λ decl. Exchanged L.leads (may_grow (minimum_question decl.ty) (static_limiter_answer result) ∷ []) limiter.old limiter.new) }
         ensures value { IfAllocated frame.now (λ decl. result ≡ static_answer (static_limiter_answer result) decl.ty self.now.settings.max_memory_size held) }
     {
-        let memory = frame.objects.len();
+        let memory = frame.objects.memories.len();
         match &frame.asked {
             None => unreachable!(),
             Some(call) => {
@@ -96,19 +96,19 @@ fn make_memory<P: Pages, L: ResourceLimiter>(
 fn was_made<P: Pages>(frame: &mut Frame<P>, at: TakenSlot, making: Making<P>) -> Option<Outcome<P>>
     ensures { (c : PoolCore P) → ◌≡◌ {A = After P} (record { core = c; frame = frame.new; outcome = result }) (stepped (made_by at making c frame.old)) }
 {
-    frame.phase = match making {
-        Ok(memory) => Phase::CountMemory(MemoryLease {
-            index: MemoryAllocationIndex(at.slot),
+    let phase = match making {
+        Ok(memory) => Phase::CountObject(Object::Memory(MemoryLease {
+            index: MemoryAllocationIndex(at.name.slot),
             memory,
             numbers: at.numbers,
-        }),
+        })),
         Err((mut held, error)) => {
             held.forget();
             frame.fail(refusal_of(error));
-            Phase::PutUnknown(at, held)
+            Phase::PutBack(at, ImageSlot::Unknown(held))
         }
     };
-    None
+    frame.go(phase)
 }
 
 // Why an allocation is refused whose memory isn't made.

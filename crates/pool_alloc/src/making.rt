@@ -1,27 +1,25 @@
-ghost use Rattle.std.specs.Prelude.{◌≡◌, ◌+◌, ◌*◌, ◌^◌, ◌<◌, ◌≤◌, [], ◌∷◌, ◌++◌, length, map, vec_capacity, false, None, IfOk, IfErr, IfSome, OnOk, MatchResult};
-ghost use Rattle.pool_hall.specs.declared.unit_name.SlotKind.TheVariants.{Memory as memory_kind};
+ghost use Rattle.std.specs.Prelude.{◌≡◌, ◌+◌, ◌^◌, ◌≤◌, false, None, IfOk, IfErr, IfSome, OnOk, MatchResult};
 ghost use Rattle.pool_pages.specs.ConfigLimits.{IsWithinLimits};
 ghost use Rattle.pool_pages.specs.MakerTold.{MakerTold};
 ghost use Rattle.pool_pages.specs.SettingsRules.{first_broken_rule};
-ghost use Rattle.pool_index.specs.Shard.{IsShard, fresh_shard};
 ghost use Rattle.pool_slots.specs.Makings.{RaisesPoolFaults, RaisesPoolBehind, makes_listed_regions, IsListedPoolFault};
-ghost use Rattle.pool_slots.specs.SlotQueues.{empty_queue};
 ghost use Rattle.pool_alloc.specs.Calls.{frame_made};
-ghost use Rattle.pool_alloc.specs.Made.{settings_of, plan_settings, IsMadeCore, IsRefusedFor, CountsFault, NeedsFault, NeedsListed};
+ghost use Rattle.pool_alloc.specs.Made.{settings_of, plan_settings, part_settings, IsMadeCore, IsRefusedFor, CountsFault, NeedsFault, NeedsListed};
 ghost use Rattle.pool_alloc.specs.Sound.{IsCore, IsFrame};
 ghost use Rattle.pool_alloc.specs.Whole.{IsUntouched};
 
 use crate::frame::{Ending, Frame, Phase};
+use crate::lease::InstanceLease;
 use crate::parts::Parts;
 use crate::pool_core::{Counters, PoolCore, Settings};
 use crate::reserved::ReservedList;
-use pool_index::{Shard, SlotKind};
 use pool_pages::{
     HostAlignedByteCount, MemoryKind, MemoryTunables, Offered, PageMaker, PageSize, Pages,
     PoolingAllocationConfig, Tunables,
 };
 use pool_slots::{
-    DecommitQueue, OfKinds, PlanSettings, PoolNewError, PoolPart, RegionCell, make_cells, make_plan,
+    DecommitQueue, OfKinds, PartSettings, PoolNewError, StripedPlanSettings, make_parts,
+    make_striped_plan,
 };
 use std::alloc::{AllocError, Global};
 
@@ -83,20 +81,17 @@ impl<P: Pages> PoolCore<P> {
     {
         let _bytes = page.get();
         let settings = settings_of(page, config, tunables, offered);
-        let total = config.limits.total_memories;
         let numbers = plan_settings(config);
-        let Ok(plan) = make_plan(alloc, &numbers) else {
+        let Ok(plan) = make_striped_plan(alloc, &numbers) else {
             return Err(PoolNewError::Memory);
         };
-        let shard = make_shard(alloc, total, config.max_unused_warm_slots)?;
-        let queue = make_queue(alloc, settings.batch)?;
-        let Ok(list) = reserve_parts(alloc, total) else {
-            return Err(PoolNewError::Memory);
+        let parts = part_settings(page, config, offered);
+        let list = match make_parts(alloc, maker, &plan, &numbers, &parts) {
+            Ok(list) => list,
+            Err(refusal) => return Err(refusal),
         };
-        let len = HostAlignedByteCount::rounded_up_unchecked(page, settings.max_memory_size);
-        let cells = make_cells(alloc, maker, offered.behaviour, total, len)?;
         Ok(PoolCore {
-            parts: Parts::new(filled(list, shard, cells, queue)),
+            parts: Parts::new(list),
             counters: Counters {
                 key: 0,
                 core_instances: 0,
@@ -121,11 +116,12 @@ impl<P: Pages> PoolCore<P> {
             stripe: 0,
             asked: None,
             ending: Ending::Returned,
-            objects: ReservedList::none(alloc),
+            objects: InstanceLease::none(alloc),
             queues: 0,
             local,
             freed,
             phase: Phase::Idle,
+            step_count: 0,
         })
     }
 }
@@ -158,94 +154,40 @@ fn settings_of(
     }
 }
 
-// How many slots of each kind there are, and how they are divided among shards. No other kind has slots as yet.
-fn plan_settings(config: &PoolingAllocationConfig) -> PlanSettings
+// How many slots of each kind there are. No other kind has slots as yet.
+fn plan_settings(config: &PoolingAllocationConfig) -> StripedPlanSettings
     ensures { result ≡ plan_settings config.now }
 {
-    let total = config.limits.total_memories;
-    PlanSettings {
-        totals: memories_alone(total, 0),
-        shards: memories_alone(1, 0),
-        slots_per_shard: memories_alone(total.max(1), 1),
+    StripedPlanSettings {
+        totals: OfKinds {
+            memory: config.limits.total_memories,
+            table: 0,
+            stack: 0,
+            heap: 0,
+        },
+        num_stripes: 1,
+        requested_shards: 1,
         queues: 1,
     }
 }
 
-// A number for memories, and one for each other kind.
-fn memories_alone(memory: u32, other: u32) -> OfKinds
-    ensures { result ≡ record { memory = memory; table = other; stack = other; heap = other } }
+fn part_settings(
+    page: PageSize,
+    config: &PoolingAllocationConfig,
+    offered: &Offered,
+) -> PartSettings
+    requires size { config.now.limits.max_memory_size + page ≤ 2 ^ 64 }
+    requires batch { config.now.decommit_batch_size ≤ 4096 }
+    ensures { result ≡ part_settings page config.now offered.now }
 {
-    OfKinds {
-        memory,
-        table: other,
-        stack: other,
-        heap: other,
+    let _bytes = page.get();
+    let size = config.limits.max_memory_size;
+    PartSettings {
+        behaviour: offered.behaviour,
+        memory_len: HostAlignedByteCount::rounded_up_unchecked(page, size),
+        table_len: page.zero(),
+        stack_len: page.zero(),
+        max_unused_warm_slots: config.max_unused_warm_slots,
+        queue_room: 2 * config.decommit_batch_size,
     }
-}
-
-// All memory slots are one shard's.
-fn make_shard(alloc: Global, total: u32, warm: u32) -> Result<Shard, PoolNewError>
-    ensures made { IfOk result (λ s. s ≡ fresh_shard memory_kind 0 1 total warm) }
-    ensures sound { IfOk result (λ s. IsShard (fresh_shard memory_kind 0 1 total warm)) }
-    ensures memory { IfErr result (λ e. e ≡ PoolNewError.Memory) }
-{
-    match Shard::new(alloc, SlotKind::Memory, 0, 1, total, warm) {
-        Ok(shard) => Ok(shard),
-        Err(_) => Err(PoolNewError::Memory),
-    }
-}
-
-// A queue with room for twice a batch.
-fn make_queue<P: Pages>(alloc: Global, batch: usize) -> Result<DecommitQueue<P>, PoolNewError>
-    requires { batch ≤ 4096 }
-    ensures made { IfOk result (λ q. q ≡ empty_queue (2 * batch) (2 * batch)) }
-    ensures memory { IfErr result (λ e. e ≡ PoolNewError.Memory) }
-{
-    let room = 2 * batch;
-    match DecommitQueue::new(alloc, room, room) {
-        Ok(queue) => Ok(queue),
-        Err(_) => Err(PoolNewError::Memory),
-    }
-}
-
-// An empty list with room for the cells of so many slots, one shard and one queue.
-fn reserve_parts<P: Pages>(alloc: Global, total: u32) -> Result<Vec<PoolPart<P>>, PoolNewError>
-    ensures made { IfOk result (λ v. (v.items ≡ []) × (total + 2 ≤ vec_capacity v)) }
-    ensures memory { IfErr result (λ e. e ≡ PoolNewError.Memory) }
-{
-    match Vec::with_capacity(alloc, total as usize + 2) {
-        Ok(list) => Ok(list),
-        Err(_) => Err(PoolNewError::Memory),
-    }
-}
-
-// The list of a shard, cells and a queue.
-fn filled<P: Pages>(
-    list: Vec<PoolPart<P>>,
-    shard: Shard,
-    cells: Vec<RegionCell<P>>,
-    queue: DecommitQueue<P>,
-) -> Vec<PoolPart<P>>
-    requires empty { list.items ≡ [] }
-    requires room { length cells.items + 2 ≤ vec_capacity list }
-    ensures { result.items ≡ PoolPart.Shard shard ∷ (map (λ c. PoolPart.Memory c) cells.items ++ PoolPart.Queue queue ∷ []) }
-{
-    let mut list = list;
-    list.push_reserved(PoolPart::Shard(shard));
-    let mut list = with_cells(list, cells);
-    list.push_reserved(PoolPart::Queue(queue));
-    list
-}
-
-// The list with cells behind it, and room for one part more.
-fn with_cells<P: Pages>(list: Vec<PoolPart<P>>, cells: Vec<RegionCell<P>>) -> Vec<PoolPart<P>>
-    requires { length list.items + (length cells.items + 1) ≤ vec_capacity list }
-    ensures value { result.items ≡ list.items ++ map (λ c. PoolPart.Memory c) cells.items }
-    ensures room { length result.items + 1 ≤ vec_capacity result }
-{
-    let mut list = list;
-    for cell in cells {
-        list.push_reserved(PoolPart::Memory(cell));
-    }
-    list
 }

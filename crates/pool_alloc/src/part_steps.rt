@@ -2,25 +2,26 @@ ghost use Rattle.std.specs.Prelude.{◌≡◌, ◌+◌, ◌<◌, ◌≤◌, ◌^
 ghost use Rattle.pool_pages.specs.Count.{count};
 ghost use Rattle.pool_images.specs.Slots.{IsFresh};
 ghost use Rattle.pool_index.specs.Shard.{use_of};
-ghost use Rattle.pool_slots.specs.Cells.{is_taken, unmapped};
+ghost use Rattle.pool_slots.specs.Cells.{is_taken, unmapped, IsCleanOnceUsed};
+ghost use Rattle.pool_slots.specs.CellOf.{cell_of};
+ghost use Rattle.pool_slots.specs.Plans.{home_of};
 ghost use Rattle.pool_slots.specs.QueueMerges.{CanMerge};
-ghost use Rattle.pool_slots.specs.Parts.{IsShardPart, cell_of_part};
+ghost use Rattle.pool_slots.specs.Parts.{IsShardPart, IsCellPart, cell_of_part};
 ghost use Rattle.pool_slots.specs.SlotQueues.{IsSpareOf, IsSettled};
 ghost use Rattle.pool_slots.specs.declared.part.PoolPart.{PoolPart};
 ghost use Rattle.pool_alloc.specs.CanStep.{CanTryShard};
 ghost use Rattle.pool_alloc.specs.Freeing.{AreUsedInTurn, HasHome, CanBeFreed};
-ghost use Rattle.pool_alloc.specs.Rows.{pick_on, free_unknown_on, free_on, take_region_on, put_unknown_on, region_put, take_queue_on, merge_on};
+ghost use Rattle.pool_alloc.specs.Rows.{pick_on, free_one_on, free_on, take_region_on, put_back_on, region_put, take_queue_on, merge_on};
 ghost use Rattle.pool_alloc.specs.Sums.{warm_in, resident_in, part_calls};
-ghost use Rattle.pool_alloc.specs.Steps.{IsMemoryPart, IsQueuePart, shard_in, queue_in, local_of, freed_of};
+ghost use Rattle.pool_alloc.specs.Steps.{IsQueuePart, shard_in, queue_in, part_holding, freed_of};
 ghost use Rattle.pool_alloc.specs.Turns.{PartAfter, part_after, lifted};
 
 use crate::frame::{Frame, Outcome};
 use crate::pool_core::Settings;
 use crate::{cell_steps, queue_steps, shard_steps};
-use pool_images::MemoryImageSlot;
 use pool_index::SlotKind;
 use pool_pages::{PageCalls, Pages};
-use pool_slots::{Plan, PoolPart, QueuedSlot};
+use pool_slots::{ImageSlot, Plan, PoolPart, QueuedSlot, SlotName};
 use std::alloc::Global;
 
 // The steps that change one part, on that part alone.
@@ -33,7 +34,7 @@ pub(crate) fn pick<P: Pages>(
 ) -> Option<Outcome<P>>
     requires shard { IsShardPart part.old }
     requires tries { CanTryShard plan.now frame.old.stripe tried }
-    requires few { length frame.old.objects.items < 2 ^ 32 }
+    requires few { length frame.old.objects.memories.items < 2 ^ 32 }
     ensures { ◌≡◌ {A = PartAfter (PoolPart P) P} (record { part = part.new; frame = frame.new; outcome = result }) (part_after (lifted (λ x. PoolPart.Shard x) (pick_on plan.now tried (shard_in part.old) frame.old))) }
 {
     match part {
@@ -42,20 +43,20 @@ pub(crate) fn pick<P: Pages>(
     }
 }
 
-pub(crate) fn free_unknown<P: Pages>(
+pub(crate) fn free_one<P: Pages>(
     part: &mut PoolPart<P>,
     plan: &Plan,
     alloc: Global,
     frame: &mut Frame<P>,
-    slot: u32,
+    name: SlotName,
 ) -> Option<Outcome<P>>
     requires shard { IsShardPart part.old }
-    requires home { HasHome plan.now slot }
-    requires used { IsSome (use_of (shard_in part.old) (local_of plan.now slot).0) }
-    ensures { ◌≡◌ {A = PartAfter (PoolPart P) P} (record { part = part.new; frame = frame.new; outcome = result }) (part_after (lifted (λ x. PoolPart.Shard x) (free_unknown_on plan.now slot (shard_in part.old) frame.old))) }
+    requires home { HasHome plan.now name }
+    requires used { IsSome (use_of (shard_in part.old) (home_of plan.now name).local.0) }
+    ensures { ◌≡◌ {A = PartAfter (PoolPart P) P} (record { part = part.new; frame = frame.new; outcome = result }) (part_after (lifted (λ x. PoolPart.Shard x) (free_one_on plan.now name (shard_in part.old) frame.old))) }
 {
     match part {
-        PoolPart::Shard(shard) => shard_steps::free_unknown(shard, plan, alloc, frame, slot),
+        PoolPart::Shard(shard) => shard_steps::free_one(shard, plan, alloc, frame, name),
         _ => unreachable!(),
     }
 }
@@ -82,30 +83,35 @@ pub(crate) fn take_region<P: Pages>(
     part: &mut PoolPart<P>,
     settings: &Settings,
     frame: &mut Frame<P>,
-    slot: u32,
+    name: SlotName,
 ) -> Option<Outcome<P>>
-    requires cell { IsMemoryPart part.old }
+    requires cell { IsCellPart part.old }
     requires there { is_taken (cell_of_part part.old).holds ≡ false }
     requires fresh { (region : _) → (cell_of_part part.old).holds ≡ unmapped region → IsFresh (count settings.now.page 0) (count settings.now.page 0) settings.now.max_memory_size None region }
-    ensures { ◌≡◌ {A = PartAfter (PoolPart P) P} (record { part = part.new; frame = frame.new; outcome = result }) (part_after (lifted (λ x. PoolPart.Memory x) (take_region_on settings.now slot (cell_of_part part.old) frame.old))) }
+    ensures { ◌≡◌ {A = PartAfter (PoolPart P) P} (record { part = part.new; frame = frame.new; outcome = result }) (part_after (lifted (λ x. part_holding x part.old) (take_region_on settings.now name (cell_of_part part.old) frame.old))) }
 {
     match part {
-        PoolPart::Memory(cell) => cell_steps::take_region(cell, settings, frame, slot),
+        PoolPart::Memory(cell) => cell_steps::take_region(cell, settings, frame, name),
+        PoolPart::Table(cell) => cell_steps::take_region(cell, settings, frame, name),
+        PoolPart::Stack(cell) => cell_steps::take_region(cell, settings, frame, name),
         _ => unreachable!(),
     }
 }
 
-pub(crate) fn put_unknown<P: Pages>(
+pub(crate) fn put_back<P: Pages>(
     part: &mut PoolPart<P>,
     frame: &mut Frame<P>,
-    slot: u32,
-    held: MemoryImageSlot<P>,
+    name: SlotName,
+    held: ImageSlot<P>,
 ) -> Option<Outcome<P>>
-    requires cell { IsMemoryPart part.old }
-    ensures { ◌≡◌ {A = PartAfter (PoolPart P) P} (record { part = part.new; frame = frame.new; outcome = result }) (part_after (lifted (λ x. PoolPart.Memory x) (put_unknown_on slot held (cell_of_part part.old) frame.old))) }
+    requires cell { IsCellPart part.old }
+    requires clean { IsCleanOnceUsed (cell_of held) }
+    ensures { ◌≡◌ {A = PartAfter (PoolPart P) P} (record { part = part.new; frame = frame.new; outcome = result }) (part_after (lifted (λ x. part_holding x part.old) (put_back_on name (cell_of held) (cell_of_part part.old) frame.old))) }
 {
     match part {
-        PoolPart::Memory(cell) => cell_steps::put_unknown(cell, frame, slot, held),
+        PoolPart::Memory(cell) => cell_steps::put_back(cell, frame, name, held),
+        PoolPart::Table(cell) => cell_steps::put_back(cell, frame, name, held),
+        PoolPart::Stack(cell) => cell_steps::put_back(cell, frame, name, held),
         _ => unreachable!(),
     }
 }
@@ -116,14 +122,16 @@ pub(crate) fn put_region<P: Pages>(
     frame: &mut Frame<P>,
     item: QueuedSlot<P>,
 ) -> Option<Outcome<P>>
-    requires cell { IsMemoryPart part.old }
+    requires cell { IsCellPart part.old }
     requires memory { item.name.kind ≡ SlotKind.Memory }
     requires settled { IsSettled item }
     requires room { length frame.old.freed.items < frame.old.freed.room }
-    ensures { ◌≡◌ {A = PartAfter (PoolPart P) P} (record { part = part.new; frame = frame.new; outcome = result }) (part_after (lifted (λ x. PoolPart.Memory x) (region_put item (cell_of_part part.old) frame.old))) }
+    ensures { ◌≡◌ {A = PartAfter (PoolPart P) P} (record { part = part.new; frame = frame.new; outcome = result }) (part_after (lifted (λ x. part_holding x part.old) (region_put item (cell_of_part part.old) frame.old))) }
 {
     match part {
         PoolPart::Memory(cell) => cell_steps::put_region(cell, alloc, frame, item),
+        PoolPart::Table(cell) => cell_steps::put_region(cell, alloc, frame, item),
+        PoolPart::Stack(cell) => cell_steps::put_region(cell, alloc, frame, item),
         _ => unreachable!(),
     }
 }

@@ -2,15 +2,16 @@ ghost use Rattle.std.specs.Prelude.{◌≡◌, ◌<◌, not, false, Bool};
 ghost use Rattle.pool_images.specs.Orders.{Follows, wiping};
 ghost use Rattle.pool_images.specs.Slots.{Slot};
 ghost use Rattle.pool_alloc.specs.Answers.{Empties};
-ghost use Rattle.pool_alloc.specs.Rows.{empty_row, uncount_memory_row, uncount_instance_row, answer_of};
+ghost use Rattle.pool_alloc.specs.CanStep.{CanStepAt};
+ghost use Rattle.pool_alloc.specs.Rows.{empty_row, uncount_object_row, uncount_instance_row, answer_of};
 ghost use Rattle.pool_alloc.specs.Turns.{After, stepped, is_granting};
 
-use crate::frame::{Ending, Frame, Outcome, Phase, TakenSlot};
+use crate::frame::{Ending, Frame, Object, Outcome, Phase, TakenSlot};
 use crate::lease::MemoryLease;
 use crate::pool_core::PoolCore;
 use pool_images::MemoryImageSlot;
 use pool_pages::Pages;
-use pool_slots::AllocError;
+use pool_slots::{AllocError, ImageSlot};
 
 impl<P: Pages> PoolCore<P> {
     // Empties an image slot of which nothing is known.
@@ -23,29 +24,37 @@ impl<P: Pages> PoolCore<P> {
         ensures { (fault : Bool) × (after : Slot) × Empties fault held after × Follows (wiping held) (not fault) held.region after.region × (◌≡◌ {A = After P} (record { core = self.new; frame = frame.new; outcome = result }) (stepped (empty_row fault after at self.old frame.old))) }
     {
         let mut held = held;
-        frame.phase = match held.reset_with_anon_memory() {
+        let phase = match held.reset_with_anon_memory() {
             Ok(()) => Phase::Instantiate(at, held),
             Err(_) => {
                 held.forget();
                 frame.fail(AllocError::PageFault);
-                Phase::PutUnknown(at, held)
+                Phase::PutBack(at, ImageSlot::Unknown(held))
             }
         };
-        None
+        frame.go(phase)
     }
 
-    // A memory that is given back is no grant any more.
-    pub(crate) fn uncount_memory(
+    // An object that is given back is no grant any more.
+    pub(crate) fn uncount_object(
         &mut self,
         frame: &mut Frame<P>,
-        lease: MemoryLease<P>,
+        object: Object<P>,
     ) -> Option<Outcome<P>>
+        requires { CanStepAt (Phase.UncountObject object) self.old frame.old }
+        ensures { ◌≡◌ {A = After P} (record { core = self.new; frame = frame.new; outcome = result }) (stepped (uncount_object_row object self.old frame.old)) }
+    {
+        match object {
+            Object::Memory(lease) => self.uncount_memory(frame, lease),
+        }
+    }
+
+    fn uncount_memory(&mut self, frame: &mut Frame<P>, lease: MemoryLease<P>) -> Option<Outcome<P>>
         requires { 0 < self.old.counters.memories }
-        ensures { ◌≡◌ {A = After P} (record { core = self.new; frame = frame.new; outcome = result }) (stepped (uncount_memory_row lease self.old frame.old)) }
+        ensures { ◌≡◌ {A = After P} (record { core = self.new; frame = frame.new; outcome = result }) (stepped (uncount_object_row (Object.Memory lease) self.old frame.old)) }
     {
         self.counters.memories -= 1;
-        frame.phase = Phase::Reset(lease);
-        None
+        frame.go(Phase::Reset(Object::Memory(lease)))
     }
 
     pub(crate) fn uncount_instance(&mut self, frame: &mut Frame<P>) -> Option<Outcome<P>>

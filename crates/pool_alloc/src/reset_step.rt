@@ -1,25 +1,41 @@
 ghost use Rattle.std.specs.Prelude.{◌≡◌, ◌^◌, ◌<◌, ◌≤◌, [], Bool, true, None};
 ghost use Rattle.pool_images.specs.Slots.{Slot};
 ghost use Rattle.pool_memory.specs.Memories.{slot_of};
-ghost use Rattle.pool_hall.specs.declared.unit_name.SlotKind.TheVariants.{Memory as memory_kind};
-ghost use Rattle.pool_alloc.specs.Answers.{Resets, FollowsReset};
-ghost use Rattle.pool_alloc.specs.CanStep.{CanReset};
-ghost use Rattle.pool_alloc.specs.Leases.{slot_taken};
-ghost use Rattle.pool_alloc.specs.Rows.{was_reset, reset_turn};
+ghost use Rattle.pool_alloc.specs.Answers.{Resets, FollowsReset, ResetTold, ResetPlanned};
+ghost use Rattle.pool_alloc.specs.CanStep.{CanReset, CanStepAt};
+ghost use Rattle.pool_alloc.specs.Leases.{memory_slot, slot_taken};
+ghost use Rattle.pool_alloc.specs.Rows.{was_reset, reset_turn, reset_row};
+ghost use Rattle.pool_alloc.specs.Steps.{StepGiven};
 ghost use Rattle.pool_alloc.specs.Turns.{After, Left, after, stepped};
 
-use crate::frame::{Frame, Outcome, Phase, TakenSlot};
+use crate::frame::{Frame, Object, Outcome, Phase, TakenSlot};
+use crate::freeing::memory_slot;
 use crate::lease::MemoryLease;
 use crate::pool_core::PoolCore;
 use pool_images::{MemoryImageSlot, Ranges};
 use pool_pages::Pages;
-use pool_slots::{HeldSlot, QueueKind, QueuedSlot};
+use pool_slots::{HeldSlot, ImageSlot, QueueKind, QueuedSlot};
 use std::alloc::Global;
 
 impl<P: Pages> PoolCore<P> {
+    // Resets an object into the local queue.
+    pub(crate) fn reset(
+        &mut self,
+        alloc: Global,
+        frame: &mut Frame<P>,
+        object: Object<P>,
+    ) -> Option<Outcome<P>>
+        requires { CanStepAt (Phase.Reset object) self.old frame.old }
+        ensures { (g : StepGiven) × ResetTold self.old.settings g object × ResetPlanned self.old.settings g object × (◌≡◌ {A = After P} (record { core = self.new; frame = frame.new; outcome = result }) (stepped (reset_row g object self.old frame.old))) }
+    {
+        match object {
+            Object::Memory(lease) => self.reset_memory(alloc, frame, lease),
+        }
+    }
+
     // Resets a memory into the local queue. That is flushed where it has no range or as many as a batch, and else goes
     // to the home queue. Where a page call of the reset failed, nothing is known of the slot.
-    pub(crate) fn reset(
+    fn reset_memory(
         &mut self,
         alloc: Global,
         frame: &mut Frame<P>,
@@ -34,8 +50,7 @@ impl<P: Pages> PoolCore<P> {
         let keep = self.settings.keep_resident;
         let Ok(kept) = slot.clear_and_remain_ready(false, keep, &mut ranges) else {
             slot.forget();
-            frame.phase = Phase::PutUnknown(at, slot);
-            return None;
+            return frame.go(Phase::PutBack(at, ImageSlot::Unknown(slot)));
         };
         let item = memory_queued(at, slot, kept);
         let listed = ranges.as_slice();
@@ -46,10 +61,10 @@ impl<P: Pages> PoolCore<P> {
 
 // A memory's slot on its way back, which is clean once its ranges are decommitted, and keeps so many bytes resident.
 fn memory_queued<P: Pages>(at: TakenSlot, slot: MemoryImageSlot<P>, kept: usize) -> QueuedSlot<P>
-    ensures { result ≡ record { name = record { kind = memory_kind; slot = at.slot }; slot = slot; known = true; bytes = kept; by_hand = None; numbers = at.numbers } }
+    ensures { result ≡ record { name = memory_slot at.name.slot; slot = slot; known = true; bytes = kept; by_hand = None; numbers = at.numbers } }
 {
     QueuedSlot {
-        slot: at.slot,
+        slot: at.name.slot,
         held: HeldSlot::Memory(slot),
         known: true,
         bytes: kept,
@@ -62,7 +77,7 @@ fn slot_taken<P: Pages>(lease: &MemoryLease<P>) -> TakenSlot
     ensures { result ≡ slot_taken lease.now }
 {
     TakenSlot {
-        slot: lease.index.0,
+        name: memory_slot(lease.index.0),
         numbers: lease.numbers,
     }
 }
@@ -75,6 +90,5 @@ fn was_reset<P: Pages>(alloc: Global, batch: usize, frame: &mut Frame<P>) -> Opt
     if ranges == 0 || batch <= ranges {
         return frame.flush(alloc);
     }
-    frame.phase = Phase::Merge;
-    None
+    frame.go(Phase::Merge)
 }

@@ -2,15 +2,16 @@ ghost use Rattle.std.specs.Prelude.{◌≡◌, ◌+◌, ◌<◌, ◌≤◌, ◌^
 ghost use Rattle.pool_index.specs.Shard.{ShardState, IsShard, IsSameShard, use_of, pick_answer, after_pick, after_free, slot_number};
 ghost use Rattle.pool_alloc.specs.CanStep.{CanTryShard};
 ghost use Rattle.pool_alloc.specs.Freeing.{AreUsedInTurn, HasHome, CanBeFreed};
-ghost use Rattle.pool_alloc.specs.Rows.{picked, pick_on, free_unknown_on, free_on};
-ghost use Rattle.pool_alloc.specs.Steps.{local_of, freed_of, allocator_for};
+ghost use Rattle.pool_alloc.specs.Rows.{picked, pick_on, free_one_on, free_on};
+ghost use Rattle.pool_slots.specs.Plans.{home_of};
+ghost use Rattle.pool_alloc.specs.Steps.{freed_of, allocator_for};
 ghost use Rattle.pool_alloc.specs.Turns.{Left, PartAfter, after, part_after, goes, memory_search};
 
 use crate::frame::{Frame, Outcome, Phase};
 use crate::freeing::{free_all, home};
 use pool_index::{MemoryInModule, Shard, SlotId, Steps};
 use pool_pages::Pages;
-use pool_slots::Plan;
+use pool_slots::{Plan, SlotName};
 use std::alloc::Global;
 use std::marker::Brand;
 use std::sync::ledger::{Blank, Ledger};
@@ -23,16 +24,22 @@ pub(crate) fn pick<P: Pages>(
     tried: u32,
 ) -> Option<Outcome<P>>
     requires tries { CanTryShard plan.now frame.old.stripe tried }
-    requires few { length frame.old.objects.items < 2 ^ 32 }
+    requires few { length frame.old.objects.memories.items < 2 ^ 32 }
     ensures { ◌≡◌ {A = PartAfter ShardState P} (record { part = shard.new; frame = frame.new; outcome = result }) (part_after (pick_on plan.now tried shard.old frame.old)) }
 {
     match pick_of::<Brand>(shard, frame.wanted(), Blank::new(1)) {
-        Some(slot) => {
-            frame.phase = Phase::TakeRegion(slot);
-            None
-        }
+        Some(slot) => go_to_slot(plan, frame, slot),
         None => pick_next(plan, frame, tried),
     }
+}
+
+// The shard had this slot.
+fn go_to_slot<P: Pages>(plan: &Plan, frame: &mut Frame<P>, slot: u32) -> Option<Outcome<P>>
+    requires { frame.old.stripe < length plan.now.memories }
+    ensures { ◌≡◌ {A = Left P} (record { frame = frame.new; outcome = result }) (after frame.old (goes (Phase.TakeRegion (record { kind = (allocator_for plan.now frame.old).kind; slot = slot })))) }
+{
+    let kind = frame.allocator(plan).kind;
+    frame.go(Phase::TakeRegion(SlotName { kind, slot }))
 }
 
 // The shard had no slot: the next is tried, unless it was the last.
@@ -42,25 +49,24 @@ fn pick_next<P: Pages>(plan: &Plan, frame: &mut Frame<P>, tried: u32) -> Option<
 {
     let shards = frame.allocator(plan).shards;
     if tried + 1 < shards {
-        frame.phase = Phase::Pick(tried + 1);
-        return None;
+        return frame.go(Phase::Pick(tried + 1));
     }
     frame.search_memory(plan)
 }
 
 // Frees a slot of a shard. Nothing is known of it.
-pub(crate) fn free_unknown<P: Pages>(
+pub(crate) fn free_one<P: Pages>(
     shard: &mut Shard,
     plan: &Plan,
     alloc: Global,
     frame: &mut Frame<P>,
-    slot: u32,
+    name: SlotName,
 ) -> Option<Outcome<P>>
-    requires home { HasHome plan.now slot }
-    requires used { IsSome (use_of shard.old (local_of plan.now slot).0) }
-    ensures { ◌≡◌ {A = PartAfter ShardState P} (record { part = shard.new; frame = frame.new; outcome = result }) (part_after (free_unknown_on plan.now slot shard.old frame.old)) }
+    requires home { HasHome plan.now name }
+    requires used { IsSome (use_of shard.old (home_of plan.now name).local.0) }
+    ensures { ◌≡◌ {A = PartAfter ShardState P} (record { part = shard.new; frame = frame.new; outcome = result }) (part_after (free_one_on plan.now name shard.old frame.old)) }
 {
-    let local = home(plan, slot).local;
+    let local = home(plan, name).local;
     free_of::<Brand>(shard, local, 0, Blank::new(1));
     frame.next(alloc)
 }

@@ -8,6 +8,7 @@ ghost use Rattle.pool_alloc.specs.Steps.{memories_wanted};
 ghost use Rattle.pool_alloc.specs.Turns.{After, stepped};
 
 use crate::frame::{Frame, Outcome, Phase};
+use crate::lease::InstanceLease;
 use crate::pool_core::{PoolCore, Settings};
 use crate::reserved::ReservedList;
 use pool_pages::{ImageDecl, MemoryDecl, MemoryType, PageSize, Pages, Unsupported};
@@ -15,7 +16,7 @@ use pool_slots::AllocError;
 use std::alloc::Global;
 
 impl<P: Pages> PoolCore<P> {
-    // Tests the module, and reserves the list of the memories that are to be granted.
+    // Tests the module, and reserves the lists of what is to be granted.
     pub(crate) fn validate(&mut self, alloc: Global, frame: &mut Frame<P>) -> Option<Outcome<P>>
         requires { CanValidate (memories_wanted frame.old.asked) }
         ensures { (wants : Bool) × (◌≡◌ {A = After P} (record { core = self.new; frame = frame.new; outcome = result }) (stepped (validate_row wants self.old frame.old))) }
@@ -37,10 +38,9 @@ impl<P: Pages> PoolCore<P> {
         ensures { (wants : Bool) × (◌≡◌ {A = After P} (record { core = self.new; frame = frame.new; outcome = result }) (stepped (validated None wants self.old frame.old))) }
     {
         match ReservedList::with_room(alloc, frame.memories_wanted()) {
-            Ok(objects) => {
-                frame.objects = objects;
-                frame.phase = Phase::CountInstance;
-                None
+            Ok(memories) => {
+                frame.objects = InstanceLease { memories };
+                frame.go(Phase::CountInstance)
             }
             Err(_) => self.refuse_at_once(frame, AllocError::Memory),
         }

@@ -2,7 +2,8 @@ use Rattle.std.proofs.Common.{◌≡◌, ◌<◌, length, take, length-take, get
 use Rattle.std.specs.Prelude.{min}
 use Rattle.std.proofs.lemmas.List.{take_more}
 use Rattle.pool_slots.specs.declared.plan.Home.{Home}
-use Rattle.pool_alloc.specs.Steps.{first_shard, shard_of}
+use Rattle.pool_slots.specs.Plans.{home_of}
+use Rattle.pool_alloc.specs.Steps.{first_shard}
 use Rattle.pool_alloc.proofs.FreeTurns.{first_more}
 use Rattle.pool_alloc.proofs.freeing.first_shard.Goals as goal
 
@@ -14,8 +15,8 @@ loop-at-preserved c =
     let x = c.get-in-loop-at.result.now in
     let inside : i < length xs = omega (arith, c.loop-at.invariant.all, c.loop-at-test.true) in
     let some : 0 < length (take i xs) = omega (arith, length-take i xs, c.loop-at.invariant.some) in
-    let now : shard_of plan (get_or xs i x).slot ≡ c.home.result.place = ap (λ y. shard_of plan y.slot) (sym c.get-in-loop-at.ensures) ∙ ap (λ (h : Home). h.place) (sym c.home.ensures) in
-    let more : first_shard plan (take (i + 1) xs) ≡ min (first_shard plan (take i xs)) (shard_of plan (get_or xs i x).slot) = ap (first_shard plan) (take_more xs i x inside) ∙ first_more plan (take i xs) (get_or xs i x) some in
+    let now : (home_of plan (get_or xs i x).name).place ≡ c.home.result.place = ap (λ y. (home_of plan y.name).place) (sym c.get-in-loop-at.ensures) ∙ ap (λ (h : Home). h.place) (sym c.home.ensures) in
+    let more : first_shard plan (take (i + 1) xs) ≡ min (first_shard plan (take i xs)) (home_of plan (get_or xs i x).name).place = ap (first_shard plan) (take_more xs i x inside) ∙ first_more plan (take i xs) (get_or xs i x) some in
     record {
       first = rw (c.min-first.ensures, more, now, c.loop-at.invariant.first) refl;
       some = omega (arith, c.loop-at.invariant.some);

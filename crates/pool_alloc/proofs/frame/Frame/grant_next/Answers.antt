@@ -4,5 +4,5 @@ use Rattle.pool_alloc.proofs.frame.Frame.grant_next.Goals as goal
 
 pub returns : goal.returns
 returns g c =
-    let some : length (memories_wanted c.args.self.now.asked) ≤ length c.args.self.now.objects.items = rw (← c.memories_wanted.ensures, ← c.len.ensures.value) c.if-len-memories_wanted.false in
-    c.end.ensures ∙ rw (c.replace-memories.ensures.value, c.replace-memories.ensures.after, c.none.ensures, le-ltb _ _ some) refl
+    let some : length (memories_wanted c.args.self.now.asked) ≤ length c.args.self.now.objects.memories.items = rw (← c.memories_wanted.ensures, ← c.len.ensures.value) c.if-len-memories_wanted.false in
+    c.end.ensures ∙ rw (c.replace-lease.ensures.value, c.replace-lease.ensures.after, c.none.ensures, le-ltb _ _ some) refl

@@ -1,6 +1,6 @@
 use Rattle.std.proofs.Common.{refl, sym, ◌∙◌}
 use Rattle.pool_limits.specs.Exchanges.{Exchanged}
-use Rattle.pool_alloc.specs.declared.frame.Phase.TheVariants.{Idle, Key, Validate, CountInstance, Pick, TakeQueue, TakeRegion, Empty, Instantiate, MakeMemory, CountMemory, PutUnknown, FreeUnknown, UncountMemory, Reset, Merge, Flush, UncountInstance}
+use Rattle.pool_alloc.specs.declared.frame.Phase.TheVariants.{Idle, Key, Validate, CountInstance, Pick, TakeQueue, TakeRegion, Empty, Instantiate, MakeMemory, CountObject, PutBack, FreeOne, UncountObject, Reset, Merge, Flush, UncountInstance}
 use Rattle.pool_alloc.proofs.Advancing.{nothing_told, by_row, quiet, idle_row}
 use Rattle.pool_alloc.proofs.pool_core.PoolCore.advance.Goals as goal
 
@@ -17,7 +17,7 @@ pub returns-in-Instantiate : goal.returns-in-Instantiate
 returns-in-Instantiate g c = quiet g.L.ResourceLimiter.leads c.args.limiter.now _ (record nothing_told { fault = c.instantiate.ensures.0; slot = c.instantiate.ensures.1 }) (Instantiate c.in-Instantiate.at c.in-Instantiate.held) c.args.self.now c.args.frame.now _ c.replace.new.dest (sym c.replace.ensures.value ∙ c.in-Instantiate.is) c.replace.ensures.after c.instantiate.ensures.2 c.instantiate.ensures.3 refl refl c.instantiate.ensures.4
 
 pub returns-in-Reset : goal.returns-in-Reset
-returns-in-Reset g c = quiet g.L.ResourceLimiter.leads c.args.limiter.now _ (record nothing_told { fault = c.reset.ensures.0; slot = c.reset.ensures.1 }) (Reset c.in-Reset.lease) c.args.self.now c.args.frame.now _ c.replace.new.dest (sym c.replace.ensures.value ∙ c.in-Reset.is) c.replace.ensures.after c.reset.ensures.2 c.reset.ensures.3 refl refl c.reset.ensures.4
+returns-in-Reset g c = quiet g.L.ResourceLimiter.leads c.args.limiter.now _ c.reset.ensures.0 (Reset c.in-Reset.object) c.args.self.now c.args.frame.now _ c.replace.new.dest (sym c.replace.ensures.value ∙ c.in-Reset.is) c.replace.ensures.after c.reset.ensures.1 c.reset.ensures.2 refl refl c.reset.ensures.3
 
 pub returns-in-Flush : goal.returns-in-Flush
 returns-in-Flush g c = quiet g.L.ResourceLimiter.leads c.args.limiter.now _ c.flush.ensures.0 (Flush) c.args.self.now c.args.frame.now _ c.replace.new.dest (sym c.replace.ensures.value ∙ c.in-Flush.is) c.replace.ensures.after c.flush.ensures.1 c.flush.ensures.2 refl refl c.flush.ensures.3
@@ -35,19 +35,19 @@ pub returns-in-TakeQueue : goal.returns-in-TakeQueue
 returns-in-TakeQueue g c = quiet g.L.ResourceLimiter.leads c.args.limiter.now _ nothing_told (TakeQueue) c.args.self.now c.args.frame.now _ c.replace.new.dest (sym c.replace.ensures.value ∙ c.in-TakeQueue.is) c.replace.ensures.after tt tt refl refl c.take_queue.ensures
 
 pub returns-in-TakeRegion : goal.returns-in-TakeRegion
-returns-in-TakeRegion g c = quiet g.L.ResourceLimiter.leads c.args.limiter.now _ nothing_told (TakeRegion c.in-TakeRegion.slot) c.args.self.now c.args.frame.now _ c.replace.new.dest (sym c.replace.ensures.value ∙ c.in-TakeRegion.is) c.replace.ensures.after tt tt refl refl c.take_region.ensures
+returns-in-TakeRegion g c = quiet g.L.ResourceLimiter.leads c.args.limiter.now _ nothing_told (TakeRegion c.in-TakeRegion.name) c.args.self.now c.args.frame.now _ c.replace.new.dest (sym c.replace.ensures.value ∙ c.in-TakeRegion.is) c.replace.ensures.after tt tt refl refl c.take_region.ensures
 
-pub returns-in-CountMemory : goal.returns-in-CountMemory
-returns-in-CountMemory g c = quiet g.L.ResourceLimiter.leads c.args.limiter.now _ nothing_told (CountMemory c.in-CountMemory.lease) c.args.self.now c.args.frame.now _ c.replace.new.dest (sym c.replace.ensures.value ∙ c.in-CountMemory.is) c.replace.ensures.after tt tt refl refl c.count_memory.ensures
+pub returns-in-CountObject : goal.returns-in-CountObject
+returns-in-CountObject g c = quiet g.L.ResourceLimiter.leads c.args.limiter.now _ nothing_told (CountObject c.in-CountObject.object) c.args.self.now c.args.frame.now _ c.replace.new.dest (sym c.replace.ensures.value ∙ c.in-CountObject.is) c.replace.ensures.after tt tt refl refl c.count_object.ensures
 
-pub returns-in-PutUnknown : goal.returns-in-PutUnknown
-returns-in-PutUnknown g c = quiet g.L.ResourceLimiter.leads c.args.limiter.now _ nothing_told (PutUnknown c.in-PutUnknown.at c.in-PutUnknown.held) c.args.self.now c.args.frame.now _ c.replace.new.dest (sym c.replace.ensures.value ∙ c.in-PutUnknown.is) c.replace.ensures.after tt tt refl refl c.put_unknown.ensures
+pub returns-in-PutBack : goal.returns-in-PutBack
+returns-in-PutBack g c = quiet g.L.ResourceLimiter.leads c.args.limiter.now _ nothing_told (PutBack c.in-PutBack.at c.in-PutBack.held) c.args.self.now c.args.frame.now _ c.replace.new.dest (sym c.replace.ensures.value ∙ c.in-PutBack.is) c.replace.ensures.after tt tt refl refl c.put_back.ensures
 
-pub returns-in-FreeUnknown : goal.returns-in-FreeUnknown
-returns-in-FreeUnknown g c = quiet g.L.ResourceLimiter.leads c.args.limiter.now _ nothing_told (FreeUnknown c.in-FreeUnknown.slot) c.args.self.now c.args.frame.now _ c.replace.new.dest (sym c.replace.ensures.value ∙ c.in-FreeUnknown.is) c.replace.ensures.after tt tt refl refl c.free_unknown.ensures
+pub returns-in-FreeOne : goal.returns-in-FreeOne
+returns-in-FreeOne g c = quiet g.L.ResourceLimiter.leads c.args.limiter.now _ nothing_told (FreeOne c.in-FreeOne.name) c.args.self.now c.args.frame.now _ c.replace.new.dest (sym c.replace.ensures.value ∙ c.in-FreeOne.is) c.replace.ensures.after tt tt refl refl c.free_one.ensures
 
-pub returns-in-UncountMemory : goal.returns-in-UncountMemory
-returns-in-UncountMemory g c = quiet g.L.ResourceLimiter.leads c.args.limiter.now _ nothing_told (UncountMemory c.in-UncountMemory.lease) c.args.self.now c.args.frame.now _ c.replace.new.dest (sym c.replace.ensures.value ∙ c.in-UncountMemory.is) c.replace.ensures.after tt tt refl refl c.uncount_memory.ensures
+pub returns-in-UncountObject : goal.returns-in-UncountObject
+returns-in-UncountObject g c = quiet g.L.ResourceLimiter.leads c.args.limiter.now _ nothing_told (UncountObject c.in-UncountObject.object) c.args.self.now c.args.frame.now _ c.replace.new.dest (sym c.replace.ensures.value ∙ c.in-UncountObject.is) c.replace.ensures.after tt tt refl refl c.uncount_object.ensures
 
 pub returns-in-Merge : goal.returns-in-Merge
 returns-in-Merge g c = quiet g.L.ResourceLimiter.leads c.args.limiter.now _ nothing_told (Merge) c.args.self.now c.args.frame.now _ c.replace.new.dest (sym c.replace.ensures.value ∙ c.in-Merge.is) c.replace.ensures.after tt tt refl refl c.merge.ensures
