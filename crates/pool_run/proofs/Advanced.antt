@@ -6,6 +6,7 @@ use Rattle.std.proofs.lemmas.Option.{slice_get_within, slice_get-get_or}
 use Rattle.pool_pages.specs.MakerTold.{MakerTold}
 use Rattle.pool_index.specs.Shard.{one_if}
 use Rattle.pool_slots.specs.declared.errors.AllocError.TheVariants as alloc
+use Rattle.pool_alloc.specs.Objects.{objects_in}
 use Rattle.pool_alloc.specs.Bounds.{bound_of, steps_left}
 use Rattle.pool_alloc.specs.Calls.{IsIdle, begun_call}
 use Rattle.pool_alloc.specs.Turns.{After}
@@ -21,7 +22,7 @@ use Rattle.pool_alloc.proofs.BegunCalls.{idle_left, begun_bounded}
 use Rattle.pool_run.specs.Rooms.{World}
 use Rattle.pool_run.specs.Progress.{begun_by, begins_by, bound_asked, bound_returned, bound_begun, bound_keyed, bound_by}
 use Rattle.pool_run.specs.Ties.{CanTurn}
-use Rattle.pool_run.specs.Turns.{Turned, answered, Steps, Turns, Opening, replies, makes_step, drop_opening, OpensRequest, OpensAct, OpensNext, OpensAt, Leaves}
+use Rattle.pool_run.specs.Turns.{Turned, one_step, answered, Steps, Turns, Opening, replies, makes_step, drop_opening, OpensRequest, OpensAct, OpensNext, OpensAt, Leaves}
 use Rattle.pool_run.specs.Worlds.{IsCallFor, AreCallsFor}
 use Rattle.pool_run.specs.declared.command.Command.{Command}
 use Rattle.pool_run.specs.declared.command.Command.TheVariants as command
@@ -90,7 +91,7 @@ module _ {P : Type 0} where
   ends_where false none o is busy = is
 
   is_none_of : (f : Frame P) → is_none (stage_of f) ≡ is_idle f.phase
-  is_none_of f = none_idle f.phase f.ending (length f.objects.items)
+  is_none_of f = none_idle f.phase f.ending (objects_in f.objects)
 
   -- A step of the call under way.
   step_advanced : (maker : MakerTold) (bound : ℕ) (c : PoolCore P) (p : RunningParty P) (t : Turned P) → CanTurn maker c p → IsReady p.frame → is_idle p.frame.phase ≡ false → Steps c p t → HasAdvanced 0 bound c p t
@@ -125,7 +126,7 @@ module _ {P : Type 0} (maker : MakerTold) (c : PoolCore P) (p : RunningParty P) 
 
   -- a command that ends at once
   replies_on : (live : List (Option (Grant P))) (reply : Reply) (t : Turned P) → Leaves (replies reply live) c p t → HasAdvanced 1 1 c p t
-  replies_on live reply t leaves = subst (HasAdvanced 1 1 c p) (sym leaves) (record { ready = ready; fewer = λ busy. never busy; bounded = λ idles. none_left; begun = omega arith })
+  replies_on live reply t leaves = subst (HasAdvanced 1 1 c p) (sym leaves) (record { ready = ready; fewer = λ busy. never busy; bounded = λ idles. omega (arith, idle_left c (one_step p.frame) idle); begun = omega arith })
 
   -- a call that begins, and makes its first step
   begins_step : (bound : ℕ) (frame : Frame P) (live : List (Option (Grant P))) (t : Turned P) → IsStep maker c p frame live → IsReady frame → steps_left c frame ≤ bound → Leaves (makes_step frame live) c p t → HasAdvanced 1 bound c p t

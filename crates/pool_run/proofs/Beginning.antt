@@ -3,6 +3,7 @@ use Rattle.std.proofs.Common.{◌≡◌, ℕ, ◌+◌, ◌<◌, ◌≤◌, Bool,
 use Rattle.std.specs.Prelude.{IfSome, IsSome, option_map, slice_get, slice_set, slice_index_or}
 use Rattle.std.proofs.lemmas.Option.{slice_get_within}
 use Rattle.pool_slots.specs.declared.errors.AllocError.TheVariants as alloc
+use Rattle.pool_alloc.specs.Objects.{objects_in}
 use Rattle.pool_alloc.specs.Calls.{IsIdle, begun_call}
 use Rattle.pool_alloc.specs.Stepping.{is_idle}
 use Rattle.pool_alloc.specs.declared.pool_core.PoolCore.{PoolCore}
@@ -15,7 +16,7 @@ use Rattle.pool_alloc.specs.Stages.{Stage, no_call, stage_at, stage_of}
 use Rattle.pool_run.specs.PartyRules.{rule_of}
 use Rattle.pool_run.specs.Private.{PrivateInstance, Grants, grant_at, request_of, MovesGrants, Drops, private_memories}
 use Rattle.pool_run.specs.Rooms.{World, TellsOfPool}
-use Rattle.pool_run.specs.Turns.{Turned, with_reply, private_memory, LeaseMoves, private_grant, grants_of, Turns, memory_leases, Opening, replies, makes_step, drop_opening, OpensRequest, OpensAct, OpensNext, OpensAt, Leaves}
+use Rattle.pool_run.specs.Turns.{Turned, one_step, with_reply, private_memory, LeaseMoves, private_grant, grants_of, Turns, memory_leases, Opening, replies, makes_step, drop_opening, OpensRequest, OpensAct, OpensNext, OpensAt, Leaves}
 use Rattle.pool_run.specs.Ties.{TiedAs, IsPrivate, CanTurn, IsAlone}
 use Rattle.pool_run.proofs.Parties.{returned_stage}
 use Rattle.pool_run.specs.Worlds.{IsWorldOf, IsCallFor, AreCallsFor}
@@ -48,7 +49,7 @@ module _ {P : Type 0} (w : World) (start : Grants) (commands : List Command) (be
 
   module _ (idle : IsIdle p.frame) where
     none : stage_of p.frame ≡ no_call
-    none = ap (λ (phase : Phase P). stage_at phase p.frame.ending (length p.frame.objects.items)) idle
+    none = ap (λ (phase : Phase P). stage_at phase p.frame.ending (objects_in p.frame.objects)) idle
 
     told_now : grants_of p.live ≡ private.grants
     told_now =
@@ -58,7 +59,7 @@ module _ {P : Type 0} (w : World) (start : Grants) (commands : List Command) (be
     -- a command ends at once
     ends_seen : (act : Act) (live : List (Option (Grant P))) (reply : Reply) (t : Turned P) → act_at commands p.done ≡ Some act → MovesGrants w.terms p.done private.grants act reply (grants_of live) → TellsOfPool w private.grants act reply → Leaves (replies reply live) c p t → SeesTurn w start commands before t
     ends_seen act live reply t next step pool follows =
-        subst (SeesTurn w start commands before) (sym follows) (replied w start commands before p (record p { live = live; done = p.done + 1 }) act reply private refl none next step pool)
+        subst (SeesTurn w start commands before) (sym follows) (replied w start commands before p (record p { frame = one_step p.frame; live = live; done = p.done + 1 }) act reply private refl none next step pool)
 
     -- a give-back
     drops_seen : (of : ℕ) (x : Option (Grant P)) (t : Turned P) → slice_index_or p.live of None ≡ x → Leaves (drop_opening x of p) c p t → act_at commands p.done ≡ Some (drops of) → SeesTurn w start commands before t

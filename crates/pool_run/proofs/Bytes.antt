@@ -18,7 +18,7 @@ use Rattle.pool_alloc.specs.Leases.{Lease}
 use Rattle.pool_alloc.specs.Sound.{IsNew, IsPoolSlot}
 use Rattle.pool_alloc.specs.declared.pool_core.Settings.{Settings}
 use Rattle.pool_pages.specs.MakerTold.{MakerTold}
-use Rattle.pool_run.specs.Private.{Terms, PrivateMemory, new_memory, begun_memory, private_written}
+use Rattle.pool_run.specs.Private.{Terms, PrivateMemory, begun_memory, private_written}
 use Rattle.pool_run.specs.Turns.{seen_as, private_memory}
 
 -- what is written into the first n elements is written into a list's first n
@@ -82,7 +82,7 @@ storage_begun maker behaviour static_size i least image (in_slot s) of begun le 
     begun_bytes s.region.contents image least s.static_size s.base.bytes maker.tells (ap (λ (z : SlotIdentity). z.tells) of.same ∙ told_if maker.tells _) (ap (λ (z : SlotIdentity). z.base.bytes) of.same) (omega (arith, le, ap (λ (z : SlotIdentity). z.static_size) of.same)) fits begun.reads
 
 -- a memory that is new is to the party as private ones begin
-pub begun_seen : (t : Terms) (maker : MakerTold) (s : Settings) (image : Option Image) (decl : MemoryDecl) (l : Lease) → t.tells ≡ maker.tells → t.settings ≡ s → IsPoolSlot maker s.behaviour s.max_memory_size l.index (image_slot_of l.memory) → IsNew s.max_memory_size image l.memory decl → IfSome image (FitsInto s.page (minimum_byte_size decl.ty)) → private_memory l ≡ begun_memory t l.index (new_memory decl image)
+pub begun_seen : (t : Terms) (maker : MakerTold) (s : Settings) (image : Option Image) (decl : MemoryDecl) (l : Lease) → t.tells ≡ maker.tells → t.settings ≡ s → IsPoolSlot maker s.behaviour s.max_memory_size l.index (image_slot_of l.memory) → IsNew s.max_memory_size image l.memory decl → IfSome image (FitsInto s.page (minimum_byte_size decl.ty)) → private_memory l ≡ begun_memory t l.index (record { decl = decl; image = image })
 begun_seen t maker s image decl l tells same of new fits =
     let least : ℕ = minimum_byte_size decl.ty in
     let Tells : Bool → Type 0 = λ b. first_bytes least l.memory.linear.storage ≡ (if b then Some (start image least) else None) in
@@ -91,5 +91,5 @@ begun_seen t maker s image decl l tells same of new fits =
     let roomy : ℕ = static_capacity t.settings.max_memory_size (maximum_asked decl.ty) in
     let Parts : MemoryType → ℕ → Option (List ℕ) → PrivateMemory = λ ty n b. record { slot = l.index; ty = ty; size = least; capacity = n; bytes = b } in
     let room : l.memory.linear.capacity ≡ roomy = new.made.capacity ∙ ap (λ (x : Settings). static_capacity x.max_memory_size (maximum_asked decl.ty)) (sym same) in
-    let Q : ℕ → Type 0 = λ n. ◌≡◌ {A = PrivateMemory} (record { slot = l.index; ty = l.memory.ty; size = n; capacity = l.memory.linear.capacity; bytes = first_bytes n l.memory.linear.storage }) (begun_memory t l.index (new_memory decl image)) in
+    let Q : ℕ → Type 0 = λ n. ◌≡◌ {A = PrivateMemory} (record { slot = l.index; ty = l.memory.ty; size = n; capacity = l.memory.linear.capacity; bytes = first_bytes n l.memory.linear.storage }) (begun_memory t l.index (record { decl = decl; image = image })) in
     subst Q (sym new.made.size) (ap (Parts l.memory.ty l.memory.linear.capacity) bytes ∙ ap (λ (n : ℕ). Parts l.memory.ty n started) room ∙ ap (λ (ty : MemoryType). Parts ty roomy started) new.made.ty)

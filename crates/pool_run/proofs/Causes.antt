@@ -5,7 +5,7 @@ use Rattle.std.specs.Option.{option_or}
 use Rattle.std.proofs.lemmas.Bool.{le-leb}
 use Rattle.std.proofs.lemmas.Option.{same_Some}
 use Rattle.pool_pages.specs.MemoryTypes.{minimum_byte_size, allow_growth_to}
-use Rattle.pool_pages.specs.declared.module_types.MemoryDecl.{MemoryDecl}
+use Rattle.pool_alloc.specs.Wants.{MemoryWant, Want, new_memory}
 use Rattle.pool_pages.specs.declared.module_types.MemoryType.{MemoryType}
 use Rattle.pool_pages.specs.declared.unsupported.Unsupported.{Unsupported}
 use Rattle.pool_pages.specs.declared.unsupported.Unsupported.TheVariants.{InitialSize, AddressSpace, MemoryMinimum}
@@ -24,16 +24,16 @@ use Rattle.pool_slots.specs.declared.errors.AllocError.TheVariants as alloc
 use Rattle.pool_slots.specs.declared.errors.ConcurrencyKind.TheVariants.{MemoryStripe, CoreInstances}
 use Rattle.pool_alloc.specs.Sound.{IsPoolSlot}
 use Rattle.pool_alloc.specs.Own.{made_of, made_of_limits}
-use Rattle.pool_run.specs.Private.{Grants, Terms, Want, new_memory, Request, refused_by, own_refusal, first_refusal, slots_asked, no_memory, no_instance, no_slot, page_fault, IsGiven, IsRefused}
+use Rattle.pool_run.specs.Private.{Grants, Terms, Request, wants_of, refused_by, own_refusal, first_refusal, slots_asked, no_memory, no_instance, no_slot, page_fault, IsGiven, IsRefused}
 use Rattle.pool_run.specs.Rooms.{World, live_count, instance_count, SomeMayFault, IsForRoom}
 use Rattle.pool_run.specs.Ties.{HasNoRefusal, HasCause}
 
 -- what comes from elsewhere, and what it tells of room
 abbrev pub ComesFor : World → Request → Grants → AllocError → Type 0
-ComesFor w request told e = IsGiven w.terms request.wants e × IsForRoom w request told e
+ComesFor w request told e = IsGiven w.terms (wants_of request) e × IsForRoom w request told e
 
 -- no slot is free for memory k
-pub slots_given : (w : World) (request : Request) (told : Grants) (total stripe k : ℕ) → w.terms.slots ≡ total → stripe ≡ 0 → k < slots_asked w.terms.rule request.wants → (w.alone ≡ true → w.terms.slots ≤ live_count told + k) → ComesFor w request told (alloc.Limit (record { limit = total; kind = MemoryStripe stripe }))
+pub slots_given : (w : World) (request : Request) (told : Grants) (total stripe k : ℕ) → w.terms.slots ≡ total → stripe ≡ 0 → k < slots_asked w.terms.rule (wants_of request) → (w.alone ≡ true → w.terms.slots ≤ live_count told + k) → ComesFor w request told (alloc.Limit (record { limit = total; kind = MemoryStripe stripe }))
 slots_given w request told total stripe k is first asked full =
     let E : ℕ → ℕ → AllocError = λ n i. alloc.Limit (record { limit = n; kind = MemoryStripe i }) in
     ((no_slot k, ap (λ (i : ℕ). E total i) first ∙ ap (λ (n : ℕ). E n 0) (sym is), asked), λ alone. (k, asked, full alone))
@@ -45,7 +45,7 @@ instances_given w request told most is full =
     ((no_instance, ap E (sym is), tt), full)
 
 -- a call on the pages of memory k's slot failed
-pub fault_given : (w : World) (request : Request) (told : Grants) (k : ℕ) → k < slots_asked w.terms.rule request.wants → SomeMayFault w → live_count told < w.terms.slots → ComesFor w request told alloc.PageFault
+pub fault_given : (w : World) (request : Request) (told : Grants) (k : ℕ) → k < slots_asked w.terms.rule (wants_of request) → SomeMayFault w → live_count told < w.terms.slots → ComesFor w request told alloc.PageFault
 fault_given w request told k asked some free = ((page_fault k, refl, asked), (some, free))
 
 -- it was one on the region of a slot of the pool
@@ -56,7 +56,7 @@ fault_of_slot w behaviour static_size total slot held new is inside of left =
 
 -- A refusal that is given, of a module that breaks no rule.
 pub given_cause : (w : World) (request : Request) (told : Grants) (e : AllocError) → request.broken ≡ None → ComesFor w request told e → HasCause w request told e
-given_cause w request told e supported comes = let R : Option Unsupported → Type 0 = λ o. IsRefused o w.terms request.wants e in (subst R (sym supported) (inr comes.0), comes.1)
+given_cause w request told e supported comes = let R : Option Unsupported → Type 0 = λ o. IsRefused o w.terms (wants_of request) e in (subst R (sym supported) (inr comes.0), comes.1)
 
 -- an own refusal is none for room
 own_by : (w : World) (request : Request) (told : Grants) (ty : MemoryType) (represented allowed : Bool) (e : AllocError) → refused_by {X = ℕ × Option ℕ} (if represented then (if allowed then Ok (minimum_byte_size ty, maximum_asked ty) else Err (unmade.Unsupported AddressSpace)) else Err (unmade.Unsupported (MemoryMinimum ty.limits.min))) ≡ Some e → IsForRoom w request told e
@@ -70,14 +70,14 @@ own_for_room w request told (Ok false) ty e is = let R : AllocError → Type 0 =
 own_for_room w request told (Ok true) ty e is = own_by w request told ty (nat_lt (minimum_byte_size ty) (2 ^ 64)) (allow_growth_to ty (minimum_byte_size ty)) e is
 
 -- Its first own refusal, which is that of this memory.
-pub own_cause : (w : World) (request : Request) (told : Grants) (decl : MemoryDecl) (image : Option Image) (e : AllocError) → request.broken ≡ None → own_refusal w.terms.rule (new_memory decl image) ≡ Some e → first_refusal w.terms.rule request.wants ≡ Some e → HasCause w request told e
-own_cause w request told decl image e supported own first =
-    let R : Option Unsupported → Type 0 = λ o. IsRefused o w.terms request.wants e in
-    (subst R (sym supported) (inl first), own_for_room w request told (memory_answer (Some w.terms.rule) (Ok true) (minimum_asked decl.ty) (maximum_asked decl.ty)) decl.ty e own)
+pub own_cause : (w : World) (request : Request) (told : Grants) (want : MemoryWant) (e : AllocError) → request.broken ≡ None → own_refusal w.terms.rule (new_memory want) ≡ Some e → first_refusal w.terms.rule (wants_of request) ≡ Some e → HasCause w request told e
+own_cause w request told want e supported own first =
+    let R : Option Unsupported → Type 0 = λ o. IsRefused o w.terms (wants_of request) e in
+    (subst R (sym supported) (inl first), own_for_room w request told (memory_answer (Some w.terms.rule) (Ok true) (minimum_asked want.decl.ty) (maximum_asked want.decl.ty)) want.decl.ty e own)
 
 -- The rule that it breaks.
 pub broken_cause : (w : World) (request : Request) (told : Grants) (rule : Unsupported) → request.broken ≡ Some rule → HasCause w request told (alloc.Unsupported rule)
-broken_cause w request told rule broken = let R : Option Unsupported → Type 0 = λ o. IsRefused o w.terms request.wants (alloc.Unsupported rule) in (subst R (sym broken) (inl refl), tt)
+broken_cause w request told rule broken = let R : Option Unsupported → Type 0 = λ o. IsRefused o w.terms (wants_of request) (alloc.Unsupported rule) in (subst R (sym broken) (inl refl), tt)
 
 -- Want of memory.
 memory_given : (o : Option Unsupported) (t : Terms) (wants : List Want) → IsRefused o t wants alloc.Memory
@@ -85,7 +85,7 @@ memory_given None t wants = inr (no_memory, refl, tt)
 memory_given (Some rule) t wants = inr refl
 
 pub memory_cause : (w : World) (request : Request) (told : Grants) → HasCause w request told alloc.Memory
-memory_cause w request told = (memory_given request.broken w.terms request.wants, tt)
+memory_cause w request told = (memory_given request.broken w.terms (wants_of request), tt)
 
 -- Where nothing that is asked for has one, there is no first.
 pub none_first : (rule : GrowthRule) (wants : List Want) → ((k : ℕ) → k < length wants → HasNoRefusal rule wants k) → first_refusal rule wants ≡ None
@@ -134,7 +134,7 @@ answer_goes (Ok false) ty room held fits = refl
 answer_goes (Ok true) ty room held fits = limits_go (nat_lt (minimum_byte_size ty) (2 ^ 64)) (allow_growth_to ty (minimum_byte_size ty)) ty room held fits
 
 -- A memory is made, or refused with its own refusal, where it fits the slot.
-pub own_goes : (rule : GrowthRule) (answer : Result Bool LimiterError) (decl : MemoryDecl) (image : Option Image) (room : ℕ) (held : Slot) → answer ≡ memory_answer (Some rule) (Ok true) (minimum_asked decl.ty) (maximum_asked decl.ty) → minimum_byte_size decl.ty ≤ room → GoesWith (own_refusal rule (new_memory decl image)) (made_of_limits (limits_answer answer decl.ty) decl.ty room held)
-own_goes rule answer decl image room held is fits =
-    let G : Result Bool LimiterError → Type 0 = λ a. GoesWith (refused_by (limits_answer a decl.ty)) (made_of_limits (limits_answer answer decl.ty) decl.ty room held) in
-    subst G is (answer_goes answer decl.ty room held fits)
+pub own_goes : (rule : GrowthRule) (answer : Result Bool LimiterError) (want : MemoryWant) (room : ℕ) (held : Slot) → answer ≡ memory_answer (Some rule) (Ok true) (minimum_asked want.decl.ty) (maximum_asked want.decl.ty) → minimum_byte_size want.decl.ty ≤ room → GoesWith (own_refusal rule (new_memory want)) (made_of_limits (limits_answer answer want.decl.ty) want.decl.ty room held)
+own_goes rule answer want room held is fits =
+    let G : Result Bool LimiterError → Type 0 = λ a. GoesWith (refused_by (limits_answer a want.decl.ty)) (made_of_limits (limits_answer answer want.decl.ty) want.decl.ty room held) in
+    subst G is (answer_goes answer want.decl.ty room held fits)

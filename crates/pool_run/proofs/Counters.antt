@@ -1,80 +1,65 @@
 -- No counter of a run comes to its end: there are no more instances than commands, and no more memories than slots.
-use Rattle.std.proofs.Common.{◌≡◌, ℕ, ◌+◌, ◌^◌, ◌<◌, ◌≤◌, List, length, Option, Some, None, refl, ap, inl, inr, arith}
+use Rattle.std.proofs.Common.{◌≡◌, ℕ, ◌+◌, ◌^◌, ◌<◌, ◌≤◌, List, length, Option, Some, None, refl, inl, inr, arith}
 use Rattle.std.specs.Prelude.{sum_by, ◌-◌}
-use Rattle.std.proofs.lemmas.Bool.{cases_lt, le-ltb, cases_eq}
+use Rattle.std.proofs.lemmas.Bool.{cases_eq}
 use Rattle.std.proofs.lemmas.List.Sums.{sum_by-le-sum_by}
 use Rattle.pool_pages.specs.MakerTold.{MakerTold}
-use Rattle.pool_index.specs.Shard.{one_if}
-use Rattle.pool_alloc.specs.Leases.{Lease}
-use Rattle.pool_alloc.specs.Places.{right_to, both_count, leased_count, phase_count, phase_instances, phase_memories}
-use Rattle.pool_alloc.specs.Stepping.{CanCount, grant_count, grant_instances, grant_memories}
+use Rattle.pool_slots.specs.declared.plan.Plan.{Plan}
+use Rattle.pool_alloc.specs.Leases.{Lease, memory_slot}
+use Rattle.pool_alloc.specs.Places.{right_to, instance_count, phase_count, phase_instances, phase_memories}
+use Rattle.pool_alloc.specs.Sound.{IsPoolPlan}
+use Rattle.pool_alloc.specs.Stepping.{CanCount, grant_count, grant_instances}
+use Rattle.pool_alloc.specs.Steps.{memory_slots}
 use Rattle.pool_alloc.specs.declared.pool_core.PoolCore.{PoolCore}
 use Rattle.pool_alloc.specs.declared.frame.Grant.{Grant}
 use Rattle.pool_alloc.specs.declared.frame.Grant.TheVariants.{Instance as instance}
+use Rattle.pool_alloc.specs.declared.frame.Object.TheVariants.{Memory}
 use Rattle.pool_alloc.specs.declared.frame.Phase.{Phase}
-use Rattle.pool_alloc.specs.declared.frame.Phase.TheVariants.{Idle, UncountMemory}
-use Rattle.pool_alloc.proofs.Below.{below, below_sum, below_le, below_most, below_one, sum_below, ones}
-use Rattle.pool_run.proofs.SlotsMade.{made_slot, made_once, away_made}
-use Rattle.pool_alloc.proofs.SlotCounts.{slot_once, region_rights}
+use Rattle.pool_alloc.specs.declared.frame.Phase.TheVariants.{Idle, UncountObject}
+use Rattle.pool_alloc.proofs.Below.{below, below_sum, below_most}
+use Rattle.pool_alloc.proofs.PlanPlaces.{cell_inside}
 use Rattle.pool_run.specs.Ties.{granted_to, held_by_party, IsRunning}
 use Rattle.pool_run.specs.declared.running_party.RunningParty.{RunningParty}
-use Rattle.pool_alloc.specs.Steps.{memory_slots}
-use Rattle.pool_slots.specs.declared.plan.Plan.{Plan}
-use Rattle.pool_alloc.specs.Sound.{IsPoolPlan}
-use Rattle.pool_alloc.proofs.PlanPlaces.{cell_inside}
-
-lease_below : (n : ℕ) (l : Lease) → ((k : ℕ) → n ≤ k → both_count (right_to k) l.index l.numbers ≡ 0) → 1 ≤ below (λ k. both_count (right_to k) l.index l.numbers) n
-lease_below n l none =
-    let one : both_count (right_to l.index) l.index l.numbers ≡ 1 = omega (arith, slot_once l.index, region_rights l.index l.index l.numbers) in
-    elim (cases_lt l.index n) [
-      | inl inside ↦ below_one (λ k. both_count (right_to k) l.index l.numbers) l.index n inside one
-      | inr past ↦ absurd (omega (arith, one, none l.index past))
-    ]
-
-pub leases_below : (n : ℕ) (leases : List Lease) → ((k : ℕ) → n ≤ k → leased_count (right_to k) leases ≡ 0) → length leases ≤ below (λ k. leased_count (right_to k) leases) n
-leases_below n leases none = omega (arith, ones leases, sum_below (λ k (l : Lease). both_count (right_to k) l.index l.numbers) (λ l. 1) n leases (lease_below n) none)
+use Rattle.pool_run.proofs.Exhausted.{memory_one, memories_below, live_below}
+use Rattle.pool_run.proofs.SlotsBelow.{below_le, sum_below, ones, one_below, none_made}
+use Rattle.pool_run.proofs.SlotsMade.{made_once, away_made}
 
 -- a pool has fewer slots than places
 few_slots : (plan : Plan) (places : ℕ) → IsPoolPlan plan places → memory_slots plan < 2 ^ 32
 few_slots plan places is =
     elim (cases_eq (memory_slots plan) 0) [
       | inl none ↦ omega (arith, none)
-      | inr some ↦ omega (arith, some, is.small, cell_inside plan places (memory_slots plan - 1) is (omega (arith, some)))
+      | inr some ↦ omega (arith, some, is.small, cell_inside plan places (memory_slot (memory_slots plan - 1)) is (record { pooled = tt; inside = omega (arith, some) }))
     ]
 
 module _ {P : Type 0} where
-  pub grant_below : (n : ℕ) (o : Option (Grant P)) → ((k : ℕ) → n ≤ k → granted_to (grant_count (right_to k)) o ≡ 0) → granted_to grant_memories o ≤ below (λ k. granted_to (grant_count (right_to k)) o) n
-  grant_below n None none = omega arith
-  grant_below n (Some (instance lease)) none = leases_below n lease.memories.items none
-
-  -- a memory that is uncounted has a slot
-  phase_below : (n : ℕ) (phase : Phase P) → ((k : ℕ) → n ≤ k → phase_count (right_to k) phase ≡ 0) → phase_memories phase ≤ below (λ k. phase_count (right_to k) phase) n
-  phase_below n (UncountMemory lease) none = lease_below n lease none
+  -- what is uncounted has a slot
+  phase_below : (n : ℕ) (phase : Phase P) → ((k : ℕ) → n ≤ k → phase_count (right_to (memory_slot k)) phase ≡ 0) → phase_memories phase ≤ below (λ k. phase_count (right_to (memory_slot k)) phase) n
+  phase_below n (UncountObject (Memory lease)) none = one_below memory_slot memory_one (λ (l : Lease). l.index) (λ l. l.numbers) n lease none
   phase_below n _ none = omega arith
 
-  party_below : (n : ℕ) (p : RunningParty P) → ((k : ℕ) → n ≤ k → (held_by_party p).places (right_to k) ≡ 0) → (held_by_party p).memories ≤ below (λ k. (held_by_party p).places (right_to k)) n
+  party_below : (n : ℕ) (p : RunningParty P) → ((k : ℕ) → n ≤ k → (held_by_party p).places (right_to (memory_slot k)) ≡ 0) → (held_by_party p).memories ≤ below (λ k. (held_by_party p).places (right_to (memory_slot k))) n
   party_below n p none =
-      let objects : ℕ → ℕ = λ k. leased_count (right_to k) p.frame.objects.items in
-      let phase : ℕ → ℕ = λ k. phase_count (right_to k) p.frame.phase in
-      let live : ℕ → ℕ = λ k. sum_by (granted_to (grant_count (right_to k))) p.live in
-      let first = leases_below n p.frame.objects.items (λ k past. omega (arith, none k past)) in
+      let objects : ℕ → ℕ = λ k. instance_count (right_to (memory_slot k)) p.frame.objects in
+      let phase : ℕ → ℕ = λ k. phase_count (right_to (memory_slot k)) p.frame.phase in
+      let live : ℕ → ℕ = λ k. sum_by (granted_to (grant_count (right_to (memory_slot k)))) p.live in
+      let first = memories_below n p.frame.objects (λ k past. omega (arith, none k past)) in
       let second = phase_below n p.frame.phase (λ k past. omega (arith, none k past)) in
-      let third = sum_below (λ k o. granted_to (grant_count (right_to k)) o) (granted_to grant_memories) n p.live (grant_below n) (λ k past. omega (arith, none k past)) in
+      let third = live_below n p.live (λ k past. omega (arith, none k past)) in
       let two = below_sum objects phase (λ k. objects k + phase k) (λ k. refl) n in
       let three = below_sum (λ k. objects k + phase k) live (λ k. objects k + phase k + live k) (λ k. refl) n in
-      let all = below_le (λ k. objects k + phase k + live k) (λ k. (held_by_party p).places (right_to k)) (λ k. omega arith) n in
+      let all = below_le (λ k. objects k + phase k + live k) (λ k. (held_by_party p).places (right_to (memory_slot k))) (λ k. omega arith) n in
       omega (arith, first, second, third, two, three, all)
 
   -- There are no more memories than slots.
   pub few_memories : (maker : MakerTold) (c : PoolCore P) (parties : List (RunningParty P)) → IsRunning maker c parties → c.counters.memories ≤ memory_slots c.plan
   few_memories maker c parties running =
       let n : ℕ = memory_slots c.plan in
-      let outside : (k : ℕ) → n ≤ k → made_slot k n ≡ 0 = λ k past. ap one_if (le-ltb k n past) in
       omega (
         arith,
         running.whole.memories,
-        sum_below (λ k p. (held_by_party p).places (right_to k)) (λ p. (held_by_party p).memories) n parties (party_below n) (λ k past. omega (arith, running.whole.places (right_to k), away_made maker k c running.core, outside k past)),
-        below_most (λ k. sum_by (λ p. (held_by_party p).places (right_to k)) parties) (λ k. omega (arith, running.whole.places (right_to k), away_made maker k c running.core, made_once k n)) n,
+        sum_below (λ k p. (held_by_party p).places (right_to (memory_slot k))) (λ p. (held_by_party p).memories) n parties (party_below n) (λ k past. omega (arith, running.whole.places (right_to (memory_slot k)), away_made maker (memory_slot k) c running.core, none_made k n past)),
+        below_most (λ k. sum_by (λ p. (held_by_party p).places (right_to (memory_slot k))) parties) (λ k. omega (arith, running.whole.places (right_to (memory_slot k)), away_made maker (memory_slot k) c running.core, made_once k n)) n,
       )
 
   phase_counts_one : (phase : Phase P) → phase_instances phase ≤ 1

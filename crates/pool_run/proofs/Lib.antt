@@ -44,6 +44,7 @@ pub mod SharedCounts
 pub mod SharedGrowth
 pub mod SharedMade
 pub mod SharedMoves
+pub mod SlotsBelow
 pub mod SlotsMade
 pub mod Sounds
 pub mod StageSteps

@@ -4,6 +4,7 @@ use Rattle.std.specs.Prelude.{sum_by, slice_set, slice_index_or}
 use Rattle.std.proofs.lemmas.Bool.{cases_lt}
 use Rattle.std.proofs.lemmas.List.{set_past, get_or_past}
 use Rattle.std.proofs.lemmas.List.Sums.{sum_by-set}
+use Rattle.pool_alloc.specs.Objects.{objects_in}
 use Rattle.pool_alloc.specs.Stepping.{count_granted, grant_instances}
 use Rattle.pool_alloc.specs.declared.pool_core.PoolCore.{PoolCore}
 use Rattle.pool_alloc.specs.declared.frame.Frame.{Frame}
@@ -29,7 +30,7 @@ use Rattle.pool_alloc.specs.Turns.{After}
 module _ {P : Type 0} where
   -- A party has counted what it is admitted for.
   pub admitted_held : (p : RunningParty P) → admitted_to p ≤ (held_by_party p).instances
-  admitted_held p = omega (arith, admitted_counts p.frame.phase p.frame.ending (length p.frame.objects.items))
+  admitted_held p = omega (arith, admitted_counts p.frame.phase p.frame.ending (objects_in p.frame.objects))
 
   -- what live grants have, once there is another in one of their places
   replaced : (of : Grant P → ℕ) (live : List (Option (Grant P))) (i : ℕ) (o : Option (Grant P)) → sum_by (granted_to of) (slice_set live i o) + granted_to of (slice_index_or live i None) ≤ sum_by (granted_to of) live + granted_to of o

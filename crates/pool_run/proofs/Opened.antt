@@ -6,10 +6,11 @@ use Rattle.std.proofs.lemmas.Option.{slice_get_within, get_or_from_slice_get}
 use Rattle.std.proofs.lemmas.List.{length-set, get_or-set_other}
 use Rattle.std.proofs.lemmas.List.Sums.{sum_by-set}
 use Rattle.pool_pages.specs.MakerTold.{MakerTold}
+use Rattle.pool_alloc.specs.Objects.{objects_in}
 use Rattle.pool_alloc.specs.Calls.{IsIdle, begun_call}
 use Rattle.pool_alloc.specs.Leases.{Lease, slot_taken}
 use Rattle.pool_alloc.specs.Sound.{IsLeaseOf}
-use Rattle.pool_alloc.specs.Places.{Thing, both_count, leased_count}
+use Rattle.pool_alloc.specs.Places.{Thing, taken_count, leased_count}
 use Rattle.pool_alloc.specs.Stepping.{is_idle, grant_count, grant_instances, grant_memories}
 use Rattle.pool_alloc.specs.declared.pool_core.PoolCore.{PoolCore}
 use Rattle.pool_alloc.specs.declared.frame.Call.TheVariants as call
@@ -45,7 +46,7 @@ module _ {P : Type 0} where
   pub returned_busy : (grant : Grant P) (f : Frame P) → is_idle (begun_call (call.GiveBack grant) f).phase ≡ false
   returned_busy grant f =
       let g : Frame P = begun_call (call.GiveBack grant) f in
-      sym (none_idle g.phase g.ending (length g.objects.items)) ∙ ap is_none (returned_stage grant f)
+      sym (none_idle g.phase g.ending (objects_in g.objects)) ∙ ap is_none (returned_stage grant f)
 
 -- a party that may turn
 module _ {P : Type 0} (maker : MakerTold) (c : PoolCore P) (p : RunningParty P) where
@@ -89,10 +90,10 @@ module _ {P : Type 0} (maker : MakerTold) (c : PoolCore P) (p : RunningParty P) 
     -- a move: the grant has the same slots
     lease_same : (x : Thing) (k : ℕ) (items : List Lease) (l new : Lease) → slice_get items k ≡ Some l → slot_taken new ≡ slot_taken l → leased_count x (slice_set items k new) ≡ leased_count x items
     lease_same x k items l new there same =
-        let of : TakenSlot → ℕ = λ at. both_count x at.slot at.numbers in
+        let of : TakenSlot → ℕ = taken_count x in
         let here : of (slot_taken (get_or items k l)) ≡ of (slot_taken l) = ap (λ (m : Lease). of (slot_taken m)) (get_or_from_slice_get items k l l there) in
         let moved : of (slot_taken new) ≡ of (slot_taken l) = ap of same in
-        omega (arith, here, moved, sum_by-set (λ (m : Lease). both_count x m.index m.numbers) items k new l (slice_get_within items k l there))
+        omega (arith, here, moved, sum_by-set (λ (m : Lease). of (slot_taken m)) items k new l (slice_get_within items k l there))
 
     swapped : (of : Grant P → ℕ) (j : ℕ) (old new : Grant P) → slice_index_or p.live j None ≡ Some old → of new ≡ of old → sum_by (granted_to of) (slice_set p.live j (Some new)) ≡ sum_by (granted_to of) p.live
     swapped of j old new is same =

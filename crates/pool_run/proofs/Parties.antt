@@ -29,14 +29,15 @@ use Rattle.pool_alloc.proofs.QueueCounts.{sum_by_agree, leased_regions}
 use Rattle.pool_run.specs.Ties.{is_asking, granted_to, held_by_party, FitsParty, CanTurn}
 use Rattle.pool_run.specs.declared.running_party.RunningParty.{RunningParty}
 use Rattle.pool_slots.specs.declared.plan.Plan.{Plan}
+use Rattle.pool_slots.specs.declared.slot_name.SlotName.{SlotName}
 
 module _ {P : Type 0} where
-  grant_regions : (k : ℕ) (o : Option (Grant P)) → granted_to (grant_count (region_of k)) o ≡ granted_to (grant_count (right_to k)) o
+  grant_regions : (k : SlotName) (o : Option (Grant P)) → granted_to (grant_count (region_of k)) o ≡ granted_to (grant_count (right_to k)) o
   grant_regions k None = refl
   grant_regions k (Some (instance lease)) = leased_regions k lease.memories.items
 
   -- The live grants have the region of each of their slots.
-  pub live_regions : (k : ℕ) (live : List (Option (Grant P))) → sum_by (granted_to (grant_count (region_of k))) live ≡ sum_by (granted_to (grant_count (right_to k))) live
+  pub live_regions : (k : SlotName) (live : List (Option (Grant P))) → sum_by (granted_to (grant_count (region_of k))) live ≡ sum_by (granted_to (grant_count (right_to k))) live
   live_regions k live = sum_by_agree (granted_to (grant_count (region_of k))) (granted_to (grant_count (right_to k))) (grant_regions k) live
 
   -- The party's call can make its next step.
@@ -140,7 +141,7 @@ module _ {P : Type 0} where
   next_stage (l ∷ ls) f = refl
 
   pub returned_stage : (grant : Grant P) (f : Frame P) → stage_of (begun_call (call.GiveBack grant) f) ≡ returning
-  returned_stage (instance lease) f = next_stage lease.memories.items (record f { objects = lease.memories })
+  returned_stage (instance lease) f = next_stage lease.memories.items (record f { objects = lease })
 
   pub returned_asks : (grant : Grant P) (f : Frame P) → is_asking (stage_of (begun_call (call.GiveBack grant) f)) ≡ true → ⊥
   returned_asks grant f asking = let no : is_asking (stage_of (begun_call (call.GiveBack grant) f)) ≡ false = ap is_asking (returned_stage grant f) in absurd cc
@@ -152,9 +153,9 @@ module _ {P : Type 0} where
       (λ k behind. still_none p.live i k (can.party.to_come k behind))
       (λ asking. absurd (returned_asks grant p.frame asking))
 
-  next_searched : (leases : List Lease) (c : PoolCore P) (f : Frame P) → IsSearched c (returned_next leases f).frame
+  next_searched : (leases : List Lease) (c : PoolCore P) (f : Frame P) → IsSearched c (record (returned_next leases f).frame { step_count = 0 })
   next_searched [] c f = tt
   next_searched (l ∷ ls) c f = tt
 
   pub returned_searched : (grant : Grant P) (c : PoolCore P) (f : Frame P) → IsSearched c (begun_call (call.GiveBack grant) f)
-  returned_searched (instance lease) c f = next_searched lease.memories.items c (record f { objects = lease.memories; ending = ending.Returned })
+  returned_searched (instance lease) c f = next_searched lease.memories.items c (record f { objects = lease; ending = ending.Returned })

@@ -1,5 +1,5 @@
 -- A request that passed its test is never refused for want of memory.
-use Rattle.std.proofs.Common.{◌≡◌, ◌≢◌, ℕ, ◌^◌, Bool, true, false, Option, Some, None, Result, Ok, Err, refl, sym, ap, ◌∙◌, subst, inl, inr, arith}
+use Rattle.std.proofs.Common.{◌≡◌, ◌≢◌, ℕ, ◌^◌, Bool, true, false, length, Option, Some, None, Result, Ok, Err, refl, sym, ap, ◌∙◌, subst, inl, inr, arith}
 use Rattle.std.specs.Prelude.{nat_le, nat_lt, if◌then◌else◌, slice_get}
 use Rattle.pool_pages.specs.MakerTold.{MakerTold}
 use Rattle.pool_pages.specs.MemoryTypes.{minimum_byte_size, allow_growth_to}
@@ -93,7 +93,7 @@ module _ {P : Type 0} (maker : MakerTold) (old new : LimiterTold) (c : PoolCore 
             elim rest [
               | inl fault ↦ λ is. let wrong = sym fault.is ∙ is in absurd cc
               | inr makes ↦
-                  at_place (slice_get (memories_wanted f.asked) n) (get_there (memories_wanted f.asked) n (omega (arith, makes.number, makes.allocating.more)))
+                  at_place (slice_get (memories_wanted f.asked) (length f.objects.memories.items)) (get_there (memories_wanted f.asked) (length f.objects.memories.items) (omega (arith, makes.allocating.more)))
                   (λ decl there.
                   let made : made_for c.settings.max_memory_size makes.given makes.held (Some decl) ≡ Err e = ap (made_for c.settings.max_memory_size makes.given makes.held) (sym there) ∙ makes.is in
                   not_memory (made_for c.settings.max_memory_size makes.given makes.held (Some decl)) e (answer_finds makes.given decl.ty c.settings.max_memory_size makes.held) made)

@@ -5,22 +5,23 @@ use Rattle.std.specs.Option.{option_map_or}
 use Rattle.std.proofs.lemmas.Bool.{cases_eq, cases_Bool, true≢false}
 use Rattle.std.proofs.lemmas.List.Sums.{sum_by-cons}
 use Rattle.std.proofs.lemmas.Option.{get_or_from_slice_get, slice_get_within}
-use Rattle.pool_index.specs.Shard.{ShardState, is_used, slot_number, pick_answer}
+use Rattle.pool_index.specs.Shard.{ShardState, is_used, pick_answer}
 use Rattle.pool_index.specs.declared.ids.SlotId.{SlotId}
 use Rattle.pool_pages.specs.MakerTold.{MakerTold}
 use Rattle.pool_slots.specs.Parts.{part_at}
-use Rattle.pool_slots.specs.Plans.{Role, shard_role, cell_role, queue_role, heaps_role, no_role, role_at}
+use Rattle.pool_slots.specs.Plans.{Role, shard_role, cell_role, queue_role, heaps_role, no_role, role_at, home_of}
+use Rattle.pool_slots.specs.declared.slot_name.SlotName.{SlotName}
 use Rattle.pool_slots.specs.declared.plan.Allocator.{Allocator}
 use Rattle.pool_slots.specs.declared.part.PoolPart.{PoolPart}
 use Rattle.pool_slots.specs.declared.part.PoolPart.TheVariants as part
 use Rattle.pool_alloc.specs.Places.{right_to, queued_count, away_count}
-use Rattle.pool_alloc.specs.Steps.{memory_slots, shard_in, shard_at, queue_in, shard_of, local_of}
-use Rattle.pool_alloc.specs.Sound.{IsPartFor, IsPartAt}
+use Rattle.pool_alloc.specs.Steps.{shard_in, shard_at, queue_in}
+use Rattle.pool_alloc.specs.Sound.{IsPartFor, IsPartAt, IsSlotName}
 use Rattle.pool_alloc.specs.declared.pool_core.Settings.{Settings}
 use Rattle.pool_alloc.proofs.Held.{right_is_out}
 use Rattle.pool_alloc.proofs.KeptCounts.{out_once}
 use Rattle.pool_alloc.proofs.PlanPlaces.{IsShardPlace}
-use Rattle.pool_alloc.proofs.PoolParts.{slot_of_shard, sound_shard}
+use Rattle.pool_alloc.proofs.PoolParts.{name_in, slot_of_shard, sound_shard}
 use Rattle.pool_alloc.proofs.Picks.{picked_inside}
 use Rattle.pool_alloc.proofs.UsedSlots.{used_is_out, picked_was_in, kept_sum}
 use Rattle.pool_run.specs.Folds.{RunState, HoldsBetween}
@@ -67,7 +68,7 @@ shard_role_of P maker s queue_role shard is = absurd is
 shard_role_of P maker s heaps_role shard is = absurd is
 shard_role_of P maker s no_role shard is = absurd is
 
-module _ {P : Type 0} (maker : MakerTold) (s : RunState P) (k : ℕ) (holds : HoldsBetween maker s) where
+module _ {P : Type 0} (maker : MakerTold) (s : RunState P) (k : SlotName) (holds : HoldsBetween maker s) where
   abbrev of_queue : PoolPart P → ℕ
   of_queue x = queued_count (right_to k) (queue_in x).slots
 
@@ -92,7 +93,7 @@ module _ {P : Type 0} (maker : MakerTold) (s : RunState P) (k : ℕ) (holds : Ho
   party_most i = at_most_all of_party s.parties i
 
   abbrev used : Bool
-  used = is_used (shard_at (shard_of s.core.plan k) s.core) (local_of s.core.plan k).0
+  used = is_used (shard_at (home_of s.core.plan k).place s.core) (home_of s.core.plan k).local.0
 
   -- A slot that is given out is used, and one that is free isn't given out.
   none_out : used ≡ false → away_count (right_to k) s.core ≡ 0
@@ -140,7 +141,7 @@ module _ {P : Type 0} (maker : MakerTold) (s : RunState P) (k : ℕ) (holds : Ho
   is_in place one = record { once = one; nowhere_else = λ other some. apart place other one some }
 
   -- and in one it is.
-  placed : k < memory_slots s.core.plan → (place : Place) × IsIn s k place
+  placed : IsSlotName s.core.plan k → (place : Place) × IsIn s k place
   placed below =
       elim (cases_Bool used) [
         | inl is ↦
@@ -153,7 +154,7 @@ module _ {P : Type 0} (maker : MakerTold) (s : RunState P) (k : ℕ) (holds : Ho
       ]
 
   -- What a pick gives is free, in the shard where it is at home.
-  not_elsewhere : (x : IsPicked s k) → (x.place ≡ shard_of s.core.plan k) × IsIn s k free
+  not_elsewhere : (x : IsPicked s k) → (x.place ≡ (home_of s.core.plan k).place) × IsIn s k free
   not_elsewhere x =
       let core = holds.running.core in
       let at : part_at x.place s.core.parts ≡ part.Shard x.shard = get_or_from_slice_get s.core.parts x.place (part.Shard x.shard) _ x.there in
@@ -163,15 +164,15 @@ module _ {P : Type 0} (maker : MakerTold) (s : RunState P) (k : ℕ) (holds : Ho
       let place : IsShardPlace s.core.plan x.place = record { allocator = role.0; index = role.1; role = role.2 } in
       let is : shard_at x.place s.core ≡ x.shard = ap shard_in at in
       let A : ShardState → Type 0 = λ y. pick_answer x.want y ≡ Some x.pick in
-      let N : ShardState → Type 0 = λ y. slot_number y x.pick.0.0 ≡ k in
+      let N : ShardState → Type 0 = λ y. name_in y x.pick.0.0 ≡ k in
       let answer : A (shard_at x.place s.core) = subst A (sym is) x.picked in
-      let number : N (shard_at x.place s.core) = subst N (sym is) x.number in
+      let number : N (shard_at x.place s.core) = subst N (sym is) x.named in
       let sound = sound_shard maker x.place s.core core place in
       let within : x.pick.0.0 < (shard_at x.place s.core).capacity = subst (λ (o : Option (SlotId × ℕ)). IfSome o (λ p. p.0.0 < (shard_at x.place s.core).capacity)) answer (picked_inside x.want (shard_at x.place s.core) sound) in
-      let none : away_count (right_to k) s.core ≡ 0 = ap (λ (n : ℕ). away_count (right_to n) s.core) (sym number) ∙ picked_was_in maker x.want x.place x.pick s.core core place answer in
+      let none : away_count (right_to k) s.core ≡ 0 = ap (λ (n : SlotName). away_count (right_to n) s.core) (sym number) ∙ picked_was_in maker x.want x.place x.pick s.core core place answer in
       let slot = slot_of_shard maker x.place x.pick.0.0 s.core core place within in
-      let inside : k < memory_slots s.core.plan = omega (arith, number, slot.inside) in (
-        slot.home ∙ ap (shard_of s.core.plan) number,
+      let inside : IsSlotName s.core.plan k = subst (IsSlotName s.core.plan) number slot.named in (
+        slot.home ∙ ap (λ (n : SlotName). (home_of s.core.plan n).place) number,
         elim (cases_Bool used) [
           | inl is' ↦ absurd (omega (arith, none, used_is_out maker k s.core core inside is'))
           | inr other ↦ is_in free (rw other refl)

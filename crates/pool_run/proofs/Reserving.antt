@@ -5,6 +5,7 @@ use Rattle.std.proofs.lemmas.Bool.{cases_eq}
 use Rattle.std.proofs.lemmas.List.{length-map, length-replicate, length-set, get_or-map, get_or-replicate, get_or-set_same, get_or-set_other}
 use Rattle.pool_pages.specs.MakerTold.{MakerTold}
 use Rattle.pool_limits.specs.LimiterTold.{LimiterTold}
+use Rattle.pool_alloc.specs.Objects.{objects_in}
 use Rattle.pool_alloc.specs.Calls.{IsGrantOf, IfGranted, begun_call}
 use Rattle.pool_alloc.specs.Reserved.{Reserved, no_room}
 use Rattle.pool_alloc.specs.Steps.{memories_wanted}
@@ -58,7 +59,7 @@ module _ {P : Type 0} where
   -- A step leaves it, or the reply takes it.
   pub step_reserved : {old new : LimiterTold} (maker : MakerTold) (c : PoolCore P) (f : Frame P) (a : After P) (slots left : Reserved ℕ) → IsReserved f slots → IsStepped maker old new c f a → left ≡ slots_after a.outcome slots → IsReserved a.frame left
   step_reserved maker c f a slots left reserved on is =
-      let idle : is_none (stage_of a.frame) ≡ is_idle a.frame.phase = none_idle a.frame.phase a.frame.ending (length a.frame.objects.items) in
+      let idle : is_none (stage_of a.frame) ≡ is_idle a.frame.phase = none_idle a.frame.phase a.frame.ending (objects_in a.frame.objects) in
       subst (IsReserved a.frame) (sym is) (after_reserved a.outcome f a.frame slots reserved on.staged (λ asking. on.goes.asked (sym idle ∙ asking_some (stage_of a.frame) asking)))
 
   answered_frame : (o : Option (Outcome P)) (c : PoolCore P) (p : RunningParty P) → (answered o c p).party.frame ≡ p.frame

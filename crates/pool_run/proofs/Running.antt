@@ -19,6 +19,7 @@ use Rattle.pool_run.proofs.Parties.{live_regions}
 use Rattle.pool_run.proofs.Turned.{HasTurned}
 use Rattle.pool_run.proofs.Sounds.{IsSoundTurn, over_size}
 use Rattle.pool_slots.specs.declared.plan.Plan.{Plan}
+use Rattle.pool_slots.specs.declared.slot_name.SlotName.{SlotName}
 use Rattle.pool_alloc.specs.Steps.{memory_slots}
 
 module _ {P : Type 0} where
@@ -26,7 +27,7 @@ module _ {P : Type 0} where
   party_has_slots : (p : RunningParty P) → HasSlots (held_by_party p)
   party_has_slots p k = omega (arith, frame_regions k p.frame, live_regions k p.live)
 
-  others_have_slots : (parties : List (RunningParty P)) (i k : ℕ) (d : RunningParty P) → i < length parties → sum_by (λ p. (held_by_party p).places (region_of k)) parties + (held_by_party (slice_index_or parties i d)).places (right_to k) ≤ sum_by (λ p. (held_by_party p).places (right_to k)) parties + (held_by_party (slice_index_or parties i d)).places (region_of k)
+  others_have_slots : (parties : List (RunningParty P)) (i : ℕ) (k : SlotName) (d : RunningParty P) → i < length parties → sum_by (λ p. (held_by_party p).places (region_of k)) parties + (held_by_party (slice_index_or parties i d)).places (right_to k) ≤ sum_by (λ p. (held_by_party p).places (right_to k)) parties + (held_by_party (slice_index_or parties i d)).places (region_of k)
   others_have_slots parties i k d below =
       omega (
         arith,

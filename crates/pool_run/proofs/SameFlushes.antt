@@ -12,7 +12,9 @@ use Rattle.pool_slots.specs.declared.queued_range.QueuedRange.{QueuedRange}
 use Rattle.pool_slots.specs.declared.slot_name.SlotName.{SlotName}
 use Rattle.pool_slots.proofs.SlotNames.{slot_is}
 use Rattle.pool_alloc.specs.Answers.{Decommits, FollowsRun}
-use Rattle.pool_alloc.specs.Sound.{IsQueuedOf, IsLocal}
+use Rattle.pool_hall.specs.declared.unit_name.SlotKind.{SlotKind}
+use Rattle.pool_hall.specs.declared.unit_name.SlotKind.TheVariants as kind
+use Rattle.pool_alloc.specs.Sound.{MayQueue, IsQueuedOf, IsLocal}
 use Rattle.pool_alloc.specs.declared.pool_core.Settings.{Settings}
 use Rattle.pool_run.proofs.SameMoves.{slot_planned}
 use Rattle.pool_run.proofs.SameSlots.{follow_same, not_same, forgotten_same}
@@ -20,13 +22,23 @@ use Rattle.pool_run.proofs.SameSlots.{follow_same, not_same, forgotten_same}
 -- the slots of a pool, on which a run of ranges of the one with this name is decommitted
 module _ (maker : MakerTold) (s : Settings) (planned : IsSome maker.plan) (name : SlotName) (ranges : List ByteRange) where
   abbrev Is : Queued → Type 0
-  Is m = IsQueuedOf maker s.behaviour s.max_memory_size m
+  Is m = IsQueuedOf maker s m
+
+  -- by the kind of a slot: the calls on its region are planned,
+  planned_by : (kind : SlotKind) (i : ℕ) (slot : Slot) → MayQueue maker s kind i slot → IsSome slot.region.plan
+  planned_by kind.Memory i slot is = slot_planned maker s i slot planned is
+  planned_by _ i slot is = absurd is
+
+  -- and what is left of it after a fault is known so far as it is read
+  left_here : (kind : SlotKind) (i : ℕ) (slot new other : Slot) → MayQueue maker s kind i slot → IsSlotLeft true (forgotten_slot kind slot) new → IsSlotLeft true (forgotten_slot kind slot) other → new.region ≡ other.region → forgotten_slot kind new ≡ forgotten_slot kind other
+  left_here kind.Memory i slot new other is one two region = forgotten_same (forgotten_slot kind.Memory slot) new other one two region
+  left_here _ i slot new other is one two region = absurd is
 
   -- calls on it fail both times, or neither
   fault_here : (a b : Bool) (m new other : Queued) → Is m → same_slot name m.name ≡ true → FollowsAt name ranges (not a) m new → FollowsAt name ranges (not b) m other → (not a ≡ not b) × (new.slot.region ≡ other.slot.region)
   fault_here a b m new other is here one two =
       let named : m.name ≡ name = sym (slot_is name m.name here) in
-      follow_same (decommits m.slot.base.bytes ranges) (not a) (not b) m.slot.region new.slot.region other.slot.region (slot_planned maker s m.name.slot m.slot planned is.slot) (one named) (two named)
+      follow_same (decommits m.slot.base.bytes ranges) (not a) (not b) m.slot.region new.slot.region other.slot.region (planned_by m.name.kind m.name.slot m.slot is) (one named) (two named)
 
   fault_by : (v : Bool) (a b : Bool) (m new other : Queued) (ms : List Queued) → same_slot name m.name ≡ v → (v || holds name ms) ≡ true → Is m → FollowsAt name ranges (not a) m new → FollowsAt name ranges (not b) m other → (holds name ms ≡ true → a ≡ b) → a ≡ b
   fault_by true a b m new other ms here there is one two rest = not_same a b (fault_here a b m new other is here one two).0
@@ -41,8 +53,7 @@ module _ (maker : MakerTold) (s : Settings) (planned : IsSome maker.plan) (name 
 
   -- what is left of each slot then
   left_by : (v : Bool) (m : Queued) (new other : Slot) → same_slot name m.name ≡ v → Is m → IsSlotLeft v (forgotten_slot m.name.kind m.slot) new → IsSlotLeft v (forgotten_slot m.name.kind m.slot) other → (v ≡ true → new.region ≡ other.region) → forgotten_slot m.name.kind new ≡ forgotten_slot m.name.kind other
-  left_by true m new other here is one two region =
-      subst (λ k. forgotten_slot k new ≡ forgotten_slot k other) (sym is.kind) (forgotten_same (forgotten_slot m.name.kind m.slot) new other one two (region refl))
+  left_by true m new other here is one two region = left_here m.name.kind m.name.slot m.slot new other is one two (region refl)
   left_by false m new other here is one two region = ap (forgotten_slot m.name.kind) (one ∙ sym two)
 
   left_same : (old new other : List Queued) → All Is old → AreInOrder name ranges false old new → AreInOrder name ranges false old other → AllZip (IsLeftBy name) old new → AllZip (IsLeftBy name) old other → new ≡ other

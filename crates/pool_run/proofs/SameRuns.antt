@@ -7,7 +7,7 @@ use Rattle.pool_pages.specs.declared.module_types.Tunables.{Tunables}
 use Rattle.pool_pages.specs.declared.offered.Offered.{Offered}
 use Rattle.pool_pages.specs.declared.pages.PageCalls.{PageCalls}
 use Rattle.pool_alloc.specs.Asked.{ModuleAsked}
-use Rattle.pool_alloc.specs.Made.{IsMadeCore, HasMadeParts, plan_settings}
+use Rattle.pool_alloc.specs.Made.{IsMadeCore, plan_settings, part_settings}
 use Rattle.pool_alloc.specs.Sums.{metrics_of}
 use Rattle.pool_alloc.specs.declared.metrics.Metrics.{Metrics}
 use Rattle.pool_alloc.specs.declared.pool_core.Counters.{Counters}
@@ -31,12 +31,18 @@ use Rattle.pool_run.specs.declared.running_party.RunningParty.{RunningParty}
 use Rattle.pool_run.proofs.InputsRun.{made_under_way, holds_from_start}
 use Rattle.pool_run.proofs.SameFolds.{AllClear, folds_same, runs_same}
 use Rattle.pool_run.proofs.Cleared.{IsClearIdle}
-use Rattle.pool_slots.proofs.PlansMade.{one_plan}
+use Rattle.pool_hall.specs.declared.unit_name.SlotKind.{SlotKind}
+use Rattle.pool_hall.specs.declared.unit_name.SlotKind.TheVariants as of_slot
+use Rattle.pool_slots.specs.PartsMade.{IsCellMade, IsMadeAs, AreMadeTo}
+use Rattle.pool_slots.specs.Plans.{Role, shard_role, cell_role, queue_role, heaps_role, no_role, role_at}
+use Rattle.pool_slots.specs.PlansMade.{heaps_from}
+use Rattle.pool_slots.specs.StripedPlans.{divided, stripe_allocators}
+use Rattle.pool_slots.specs.declared.part_maker.PartSettings.{PartSettings}
+use Rattle.pool_slots.specs.declared.striped_plan.StripedPlanSettings.{StripedPlanSettings}
+use Rattle.pool_slots.proofs.PlansMade.{one_plan_with}
 use Rattle.pool_slots.specs.Parts.{part_at}
 use Rattle.pool_slots.specs.declared.plan.Plan.{Plan}
 use Rattle.pool_slots.specs.declared.part.PoolPart.{PoolPart}
-use Rattle.pool_pages.specs.declared.pages.DecommitBehavior.{DecommitBehavior}
-use Rattle.std.proofs.lemmas.Bool.{cases_lt}
 
 -- lists with the same elements in each place are one
 places_same : {X : Type 0} (xs ys : List X) (d : X) → length xs ≡ length ys → ((i : ℕ) → i < length xs → slice_index_or xs i d ≡ slice_index_or ys i d) → xs ≡ ys
@@ -53,28 +59,33 @@ made_clear P settings (x ∷ xs) zero = λ idle. record { asked_for = refl; aim 
 made_clear P settings (x ∷ xs) (suc k) = made_clear P settings xs k
 
 module _ {P : Type 0} where
-  -- parts that are made alike are one in each place
-  made_same : (maker : MakerTold) (behaviour : DecommitBehavior) (size total warm batch p : ℕ) (xs ys : List (PoolPart P)) → HasMadeParts maker behaviour size total warm batch xs → HasMadeParts maker behaviour size total warm batch ys → p < length xs → part_at p xs ≡ part_at p ys
-  made_same maker behaviour size total warm batch zero xs ys one two below = one.shard ∙ sym two.shard
-  made_same maker behaviour size total warm batch (suc i) xs ys one two below =
-      elim (cases_lt i total) [
-        | inl inside ↦
-            let there : suc i ≡ 1 + i = omega arith in
-            ap (λ (n : ℕ). part_at n xs) there ∙ one.cells i inside ∙ sym (two.cells i inside) ∙ sym (ap (λ (n : ℕ). part_at n ys) there)
-        | inr past ↦ let last : suc i ≡ 1 + total = omega (arith, past, below, one.number) in ap (λ (n : ℕ). part_at n xs) last ∙ one.queue ∙ sym two.queue ∙ sym (ap (λ (n : ℕ). part_at n ys) last)
-      ]
+  -- parts that are made alike for a place are one
+  cells_same : (stripes : ℕ) (maker : MakerTold) (ps : PartSettings) (kind : SlotKind) (slot : ℕ) (x y : PoolPart P) → IsCellMade stripes maker ps kind slot x → IsCellMade stripes maker ps kind slot y → x ≡ y
+  cells_same stripes maker ps of_slot.Memory slot x y one two = one ∙ sym two
+  cells_same stripes maker ps of_slot.Table slot x y one two = one ∙ sym two
+  cells_same stripes maker ps of_slot.Stack slot x y one two = one ∙ sym two
+  cells_same stripes maker ps of_slot.Heap slot x y one two = absurd one
+
+  made_same : (stripes : ℕ) (maker : MakerTold) (ps : PartSettings) (r : Role) (x y : PoolPart P) → IsMadeAs stripes maker ps r x → IsMadeAs stripes maker ps r y → x ≡ y
+  made_same stripes maker ps (shard_role a j) x y one two = one.1 ∙ sym two.1
+  made_same stripes maker ps (cell_role name) x y one two = cells_same stripes maker ps name.kind name.slot x y one two
+  made_same stripes maker ps queue_role x y one two = one ∙ sym two
+  made_same stripes maker ps heaps_role x y one two = absurd one
+  made_same stripes maker ps no_role x y one two = absurd one
 
   -- A pool is made in one way,
   core_same : (maker : MakerTold) (config : PoolingAllocationConfig) (tunables : Tunables) (offered : Offered) (a b : PoolCore P) → IsMadeCore maker config tunables offered a → IsMadeCore maker config tunables offered b → a ≡ b
   core_same maker config tunables offered a b one two =
+      let z : StripedPlanSettings = plan_settings config in
+      let ps : PartSettings = part_settings maker.page config offered in
       let settings : a.settings ≡ b.settings = one.settings ∙ sym two.settings in
-      let H : Settings → Type 0 = λ s. HasMadeParts maker s.behaviour s.max_memory_size config.limits.total_memories config.max_unused_warm_slots config.decommit_batch_size b.parts in
-      let others : H a.settings = subst H (sym settings) two.parts in
-      let parts : a.parts ≡ b.parts = places_same a.parts b.parts (part_at 0 []) (one.parts.number ∙ sym two.parts.number) (λ p below. made_same maker a.settings.behaviour a.settings.max_memory_size config.limits.total_memories config.max_unused_warm_slots config.decommit_batch_size p a.parts b.parts one.parts others below) in
+      let plans : a.plan ≡ b.plan = one_plan_with (divided z) (stripe_allocators z) a.plan b.plan one.plan two.plan in
+      let others : AreMadeTo a.plan z.num_stripes maker ps (heaps_from (divided z)) b.parts = subst (λ plan. AreMadeTo plan z.num_stripes maker ps (heaps_from (divided z)) b.parts) (sym plans) two.parts in
+      let parts : a.parts ≡ b.parts = places_same a.parts b.parts (part_at 0 []) (one.parts.count ∙ sym two.parts.count) (λ p below. made_same z.num_stripes maker ps (role_at a.plan p) (part_at p a.parts) (part_at p b.parts) (one.parts.each p (omega (arith, below, one.parts.count))) (others.each p (omega (arith, below, one.parts.count)))) in
       let C : List (PoolPart P) → Counters → Settings → Plan → PoolCore P = λ ps n s plan. record { parts = ps; counters = n; settings = s; plan = plan } in
       ap (λ (ps : List (PoolPart P)). C ps a.counters a.settings a.plan) parts
       ∙ ap (λ (n : Counters). C b.parts n a.settings a.plan) (one.counters ∙ sym two.counters)
-      ∙ ap (λ (s : Settings). C b.parts b.counters s a.plan) settings ∙ ap (C b.parts b.counters b.settings) (one_plan (plan_settings config) a.plan b.plan one.plan two.plan)
+      ∙ ap (λ (s : Settings). C b.parts b.counters s a.plan) settings ∙ ap (C b.parts b.counters b.settings) plans
 
   -- and so is a run.
   start_same : (input : Input) (maker : MakerTold) (a b : RunParts P) → IsMadeRun input maker a → IsMadeRun input maker b → a ≡ b

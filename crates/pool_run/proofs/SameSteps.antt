@@ -29,8 +29,11 @@ use Rattle.pool_alloc.specs.Steps.{StepGiven, memories_wanted, image_wanted}
 use Rattle.pool_alloc.specs.Turns.{After, Row, goes, failing, stepped}
 use Rattle.pool_alloc.specs.declared.frame.Frame.{Frame}
 use Rattle.pool_alloc.specs.declared.frame.Phase.{Phase}
-use Rattle.pool_alloc.specs.declared.frame.Phase.TheVariants.{Idle, Validate, Empty, Instantiate, MakeMemory, PutUnknown, Reset, Flush}
+use Rattle.pool_alloc.specs.declared.frame.Phase.TheVariants.{Idle, Validate, Empty, Instantiate, MakeMemory, PutBack, Reset, Flush}
 use Rattle.pool_alloc.specs.declared.frame.TakenSlot.{TakenSlot}
+use Rattle.pool_alloc.specs.declared.frame.Object.TheVariants as object
+use Rattle.pool_slots.specs.declared.slot_name.SlotName.{SlotName}
+use Rattle.pool_slots.specs.declared.cells.ImageSlot.TheVariants as image_slot
 use Rattle.pool_alloc.specs.declared.pool_core.PoolCore.{PoolCore}
 use Rattle.pool_run.specs.Turns.{StepsUnder}
 use Rattle.pool_run.proofs.Growths.{answer_told}
@@ -137,13 +140,13 @@ runs_some local step is runs none =
 module _ {P : Type 0} (c : PoolCore P) (f : Frame P) where
   -- The rows under what comes of these.
   paged_same : (a b : Bool) (at : TakenSlot) (goes_on : Slot → Phase P) (new other : Slot) → IsSameSlot a b new other → paged a at new (goes_on new) c f ≡ paged b at other (goes_on other) c f
-  paged_same true true at goes_on new other same = ap (λ (s : Slot). record { part = c; frame = failing refusal.PageFault f; turn = goes (PutUnknown at s) }) (same.left refl)
+  paged_same true true at goes_on new other same = ap (λ (s : Slot). record { part = c; frame = failing refusal.PageFault f; turn = goes (PutBack at (image_slot.Unknown s)) }) (same.left refl)
   paged_same false false at goes_on new other same = ap (λ (s : Slot). record { part = c; frame = f; turn = goes (goes_on s) }) (same.is refl)
   paged_same true false at goes_on new other same = let wrong : true ≡ false = same.fault in absurd cc
   paged_same false true at goes_on new other same = let wrong : false ≡ true = same.fault in absurd cc
 
   was_reset_same : (a b : Bool) (lease : Lease) (new other : Slot) → IsSameSlot a b new other → was_reset a new lease c f ≡ was_reset b other lease c f
-  was_reset_same true true lease new other same = ap (λ (s : Slot). record { part = c; frame = f; turn = goes (PutUnknown (slot_taken lease) s) }) (same.left refl)
+  was_reset_same true true lease new other same = ap (λ (s : Slot). record { part = c; frame = f; turn = goes (PutBack (slot_taken lease) (image_slot.Unknown s)) }) (same.left refl)
   was_reset_same false false lease new other same = refl
   was_reset_same true false lease new other same = let wrong : true ≡ false = same.fault in absurd cc
   was_reset_same false true lease new other same = let wrong : false ≡ true = same.fault in absurd cc
@@ -168,11 +171,11 @@ module _ {P : Type 0} (maker : MakerTold) (tells : maker.tells ≡ true) (planne
     pub plan : IsPlanned c.settings g phase f
     pub limiter : AsksOf old new g phase f
 
-  with_plan : (at : ℕ) (held : Slot) → HasSlot maker c.settings c.plan at held → IsSome held.region.plan
-  with_plan at held has = slot_planned maker c.settings at held planned has.region
+  with_plan : (name : SlotName) (held : Slot) → HasSlot maker c.settings c.plan name held → IsSome held.region.plan
+  with_plan name held has = slot_planned maker c.settings name.slot held planned has.region
 
-  allocated : length f.objects.items < length (memories_wanted f.asked) → IsSome (slice_get (memories_wanted f.asked) (length f.objects.items))
-  allocated more = get_there (memories_wanted f.asked) (length f.objects.items) more
+  allocated : length f.objects.memories.items < length (memories_wanted f.asked) → IsSome (slice_get (memories_wanted f.asked) (length f.objects.memories.items))
+  allocated more = get_there (memories_wanted f.asked) (length f.objects.memories.items) more
 
   flushed_same : (step : FlushStep) (g h : StepGiven) → flush_step f.local ≡ step → FlushTold step g f.local → FlushTold step h f.local → FlushPlanned step g f.local → FlushPlanned step h f.local → flush_row step g.queue c bare ≡ flush_row step h.queue c bare
   flushed_same run g h is left right one two =
@@ -183,10 +186,10 @@ module _ {P : Type 0} (maker : MakerTold) (tells : maker.tells ≡ true) (planne
   row_same : (g h : StepGiven) (phase : Phase P) → is_test phase ≡ false → IsShapedAt maker c.settings c.plan phase f → IsGivenAt g phase → IsGivenAt h phase → row_of g phase c bare ≡ row_of h phase c bare
   row_same g h Validate test shape one two = absurd cc
   row_same g h (Empty at held) test shape one two =
-      paged_same c bare g.fault h.fault at (λ s. Instantiate at s) g.slot h.slot (emptied_same g.fault h.fault held g.slot h.slot (with_plan at.slot held shape.2) one.told two.told one.plan two.plan)
+      paged_same c bare g.fault h.fault at (λ s. Instantiate at s) g.slot h.slot (emptied_same g.fault h.fault held g.slot h.slot (with_plan at.name held shape.2) one.told two.told one.plan two.plan)
   row_same g h (Instantiate at held) test shape one two =
       let image : Option Image = image_wanted f in
-      at_place (slice_get (memories_wanted f.asked) (length f.objects.items)) (allocated shape.1.more)
+      at_place (slice_get (memories_wanted f.asked) (length f.objects.memories.items)) (allocated shape.1.more)
       (λ decl there.
       let Told : StepGiven → Type 0 = λ x. InstantiatesFor c.settings decl x.fault image held x.slot in
       let Plan : StepGiven → Type 0 = λ x. FollowsPlanFor c.settings decl x.fault image held x.slot in
@@ -195,9 +198,9 @@ module _ {P : Type 0} (maker : MakerTold) (tells : maker.tells ≡ true) (planne
       let way : Plan g = held_of (λ d. FollowsPlanFor c.settings d g.fault image held g.slot) _ decl there one.plan in
       let also : Plan h = held_of (λ d. FollowsPlanFor c.settings d h.fault image held h.slot) _ decl there two.plan in
       paged_same c bare g.fault h.fault at (λ s. MakeMemory at s) g.slot h.slot
-      (instantiated_same (minimum_byte_size decl.ty) (hides decl.ty c.settings.tunables held.region.page) image held (slot_tells maker c.settings at.slot held tells shape.2.region) (with_plan at.slot held shape.2) g.fault h.fault g.slot h.slot first second way also))
+      (instantiated_same (minimum_byte_size decl.ty) (hides decl.ty c.settings.tunables held.region.page) image held (slot_tells maker c.settings at.name.slot held tells shape.2.region) (with_plan at.name held shape.2) g.fault h.fault g.slot h.slot first second way also))
   row_same g h (MakeMemory at held) test shape one two =
-      at_place (slice_get (memories_wanted f.asked) (length f.objects.items)) (allocated shape.1.more)
+      at_place (slice_get (memories_wanted f.asked) (length f.objects.memories.items)) (allocated shape.1.more)
       (λ decl there.
       let first : AsksForMemory g.limiter one.old one.new decl = held_of (AsksForMemory g.limiter one.old one.new) _ decl there one.limiter in
       let second : AsksForMemory h.limiter two.old two.new decl = held_of (AsksForMemory h.limiter two.old two.new) _ decl there two.limiter in
@@ -205,7 +208,7 @@ module _ {P : Type 0} (maker : MakerTold) (tells : maker.tells ≡ true) (planne
       let most : Option ℕ = maximum_asked decl.ty in
       let same : g.limiter ≡ h.limiter = answer_told by one.old.rule g.limiter least most one.rule first.answer ∙ sym (answer_told by two.old.rule h.limiter least most two.rule second.answer) in
       ap (λ (r : Result Bool LimiterError). make_memory_row r at held c bare) same)
-  row_same g h (Reset lease) test shape one two =
+  row_same g h (Reset (object.Memory lease)) test shape one two =
       was_reset_same c bare g.fault h.fault lease g.slot h.slot
       (reset_same g.fault h.fault c.settings.keep_resident.bytes (slot_taken lease) (slot_of lease.memory) g.slot h.slot (slot_planned maker c.settings lease.index (slot_of lease.memory) planned shape.2.slot) one.told two.told one.plan two.plan)
   row_same g h Flush test shape one two = flushed_same (flush_step f.local) g h refl one.told two.told one.plan two.plan

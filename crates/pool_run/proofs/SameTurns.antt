@@ -4,6 +4,7 @@ use Rattle.std.specs.Prelude.{◌&&◌, not, slice_get, slice_set, slice_index_o
 use Rattle.std.specs.Option.{option_and_then}
 use Rattle.std.proofs.lemmas.Option.{slice_get_within, get_or_from_slice_get}
 use Rattle.pool_slots.specs.declared.errors.AllocError.TheVariants as alloc
+use Rattle.pool_alloc.specs.Objects.{objects_in}
 use Rattle.pool_alloc.specs.Asked.{ModuleAsked}
 use Rattle.pool_alloc.specs.Calls.{begun_call}
 use Rattle.pool_alloc.specs.Leases.{Lease}
@@ -30,7 +31,7 @@ use Rattle.pool_run.specs.Objects.{object_at, MovesObject}
 use Rattle.pool_run.specs.PartyRules.{rule_of}
 use Rattle.pool_run.specs.Rooms.{World}
 use Rattle.pool_run.specs.Ties.{CanTurn}
-use Rattle.pool_run.specs.Turns.{Turned, Turns, StepsUnder, Opening, rests, replies, makes_step, ended_with, answered, after_step, LeaseMoves, memory_leases, OpensRequest, OpensAct, OpensNext, OpensAt, Leaves}
+use Rattle.pool_run.specs.Turns.{Turned, Turns, StepsUnder, Opening, rests, replies, makes_step, ended_at_once, answered, after_step, LeaseMoves, memory_leases, OpensRequest, OpensAct, OpensNext, OpensAt, Leaves}
 use Rattle.pool_run.specs.declared.command.Command.{Command}
 use Rattle.pool_run.specs.declared.reply.Reply.{Reply}
 use Rattle.pool_run.specs.declared.reply.Refusal.TheVariants.{Alloc}
@@ -108,10 +109,10 @@ module _ {P : Type 0} (w : World) (tells : w.maker.tells ≡ true) (planned : Is
   there of k grant l granted is = ap (λ (o : Option (Grant P)). option_and_then (λ g. slice_get (memory_leases.in_grant g) k) o) granted ∙ is
 
   -- the replies decide
-  replied_alike : (r q : Reply) (live other : List (Option (Grant P))) (t u : Turned P) → t ≡ ended_with r c (record p { live = live }) → u ≡ ended_with q c (record p { live = other }) → ((live ≡ other) × (r ≡ q)) ⊎ (((r ≡ want_of_memory) × (q ≢ want_of_memory)) ⊎ ((q ≡ want_of_memory) × (r ≢ want_of_memory))) → AreAlike t u
+  replied_alike : (r q : Reply) (live other : List (Option (Grant P))) (t u : Turned P) → t ≡ ended_at_once r c (record p { live = live }) → u ≡ ended_at_once q c (record p { live = other }) → ((live ≡ other) × (r ≡ q)) ⊎ (((r ≡ want_of_memory) × (q ≢ want_of_memory)) ⊎ ((q ≡ want_of_memory) × (r ≢ want_of_memory))) → AreAlike t u
   replied_alike r q live other t u one two are =
       let Later : Turned P → Type 0 = λ x. PastReply x.reply (stage_of x.party.frame) in
-      let E : Reply → List (Option (Grant P)) → Turned P = λ x ls. ended_with x c (record p { live = ls }) in
+      let E : Reply → List (Option (Grant P)) → Turned P = λ x ls. ended_at_once x c (record p { live = ls }) in
       elim are [
         | inl same ↦ inl (one ∙ ap (E r) same.0 ∙ ap (λ (x : Reply). E x other) same.1 ∙ sym two)
         | inr apart ↦
@@ -147,11 +148,11 @@ module _ {P : Type 0} (w : World) (tells : w.maker.tells ≡ true) (planned : Is
       ]
 
   -- A request, of which one finds no memory at once, and the other makes its test.
-  wants_by : (o : Option Unsupported) (v : Bool) (m : ModuleAsked) (t u : Turned P) → p.frame.phase ≡ Idle → IsClear p.frame.asked p.frame.ending p.frame.queues → t ≡ ended_with want_of_memory c (record p { live = p.live })
+  wants_by : (o : Option Unsupported) (v : Bool) (m : ModuleAsked) (t u : Turned P) → p.frame.phase ≡ Idle → IsClear p.frame.asked p.frame.ending p.frame.queues → t ≡ ended_at_once want_of_memory c p
       → u ≡ after_step (stepped (validated o v c (record (begun_call (call.Module m) p.frame) { phase = Idle }))) (record p { frame = begun_call (call.Module m) p.frame; live = p.live }) → AreAlike t u
   wants_by (Some rule) v m t u idle clear one two =
       inr (inl (record { wants = ap (λ (x : Turned P). x.reply) one; later = subst (λ (x : Turned P). PastReply x.reply (stage_of x.party.frame)) (sym two) (unsupported_is rule) }))
-  wants_by None true m t u idle clear one two = inl (one ∙ ap (λ (f : Frame P). ended_with want_of_memory c (record p { frame = f })) (sym (clear_is p.frame idle clear)) ∙ sym two)
+  wants_by None true m t u idle clear one two = inl (one ∙ ap (λ (f : Frame P). ended_at_once want_of_memory c (record p { frame = f })) (sym (clear_is p.frame idle clear)) ∙ sym two)
   wants_by None false m t u idle clear one two =
       inr (inl (record { wants = ap (λ (x : Turned P). x.reply) one; later = subst (λ (x : Turned P). PastReply x.reply (stage_of x.party.frame)) (sym two) tt }))
 
@@ -207,8 +208,8 @@ module _ {P : Type 0} (maker : MakerTold) (c : PoolCore P) (p : RunningParty P) 
   step_clear : (frame : Frame P) (a : After P) → CanStep maker c frame → is_idle frame.phase ≡ false → StepsUnder (rule_of p.limits) c frame a → IsClearIdle a.frame
   step_clear frame a can busy steps idle =
       let on : IsStepped maker steps.0 steps.1 c frame a = stepped_so maker steps.0 steps.1 c frame a can steps.3 in
-      let none : is_none (stage_of frame) ≡ false = none_idle frame.phase frame.ending (length frame.objects.items) ∙ busy in
-      let ended : is_none (stage_of a.frame) ≡ true = none_idle a.frame.phase a.frame.ending (length a.frame.objects.items) ∙ idle in
+      let none : is_none (stage_of frame) ≡ false = none_idle frame.phase frame.ending (objects_in frame.objects) ∙ busy in
+      let ended : is_none (stage_of a.frame) ≡ true = none_idle a.frame.phase a.frame.ending (objects_in a.frame.objects) ∙ idle in
       let some : is_some a.outcome ≡ true = on.staged.answer ∙ ap (λ (b : Bool). not b && is_none (stage_of a.frame)) none ∙ ended in
       let Clear : After P → Type 0 = λ x. is_some x.outcome ≡ true → IsClear x.frame.asked x.frame.ending x.frame.queues in
       subst Clear (sym steps.3.1.is) (stepped_clear (row_of steps.3.0 frame.phase c (record frame { phase = Idle }))) some

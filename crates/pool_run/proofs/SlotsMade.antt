@@ -6,7 +6,8 @@ use Rattle.pool_pages.specs.MakerTold.{MakerTold}
 use Rattle.pool_index.specs.Shard.{one_if}
 use Rattle.pool_alloc.specs.Places.{right_to, away_count}
 use Rattle.pool_alloc.specs.Sound.{IsCore}
-use Rattle.pool_alloc.specs.Steps.{memory_slots}
+use Rattle.pool_slots.specs.SlotNames.{of_kind}
+use Rattle.pool_slots.specs.declared.slot_name.SlotName.{SlotName}
 use Rattle.pool_alloc.specs.declared.pool_core.PoolCore.{PoolCore}
 use Rattle.pool_alloc.proofs.Held.{none_past}
 use Rattle.pool_alloc.proofs.KeptCounts.{out_once}
@@ -30,11 +31,11 @@ pub made_inside : (k total : ℕ) → 1 ≤ made_slot k total → k < total
 made_inside k total some = ltb-true k total (one_true (nat_lt k total) some)
 
 -- what is given out is one of them
-pub away_made : {P : Type 0} (maker : MakerTold) (k : ℕ) (c : PoolCore P) → IsCore maker c → away_count (right_to k) c ≤ made_slot k (memory_slots c.plan)
-away_made maker k c core =
-    elim (cases_lt k (memory_slots c.plan)) [
+pub away_made : {P : Type 0} (maker : MakerTold) (name : SlotName) (c : PoolCore P) → IsCore maker c → away_count (right_to name) c ≤ made_slot name.slot (of_kind name.kind c.plan.totals)
+away_made maker name c core =
+    elim (cases_lt name.slot (of_kind name.kind c.plan.totals)) [
       | inl below ↦
-          let one : made_slot k (memory_slots c.plan) ≡ 1 = ap one_if (lt-ltb k (memory_slots c.plan) below) in
-          omega (arith, one, (out_once maker k c core).0)
-      | inr past ↦ omega (arith, none_past maker k c core past)
+          let one : made_slot name.slot (of_kind name.kind c.plan.totals) ≡ 1 = ap one_if (lt-ltb name.slot (of_kind name.kind c.plan.totals) below) in
+          omega (arith, one, (out_once maker name c core).0)
+      | inr past ↦ omega (arith, none_past maker name c core past)
     ]

@@ -6,22 +6,25 @@ use Rattle.std.proofs.lemmas.Option.{slice_get_within, get_or_from_slice_get}
 use Rattle.pool_limits.specs.LimiterTold.{LimiterTold}
 use Rattle.pool_pages.specs.MakerTold.{MakerTold}
 use Rattle.pool_alloc.specs.Asked.{ModuleAsked}
-use Rattle.pool_alloc.specs.Calls.{IsGrant, IsGrantOf, IfGranted}
+use Rattle.pool_alloc.specs.Calls.{IsIdle, IsGrant, IsGrantOf, IfGranted}
 use Rattle.pool_alloc.specs.Leases.{Lease}
-use Rattle.pool_alloc.specs.Sound.{IsCore, IsFrame, IsLeaseOf}
+use Rattle.pool_alloc.specs.Sound.{IsCore, IsFrame, IsShapedAt, IsLeaseOf}
 use Rattle.pool_alloc.specs.Turns.{After}
 use Rattle.pool_alloc.specs.declared.pool_core.PoolCore.{PoolCore}
 use Rattle.pool_alloc.specs.declared.pool_core.Settings.{Settings}
 use Rattle.pool_alloc.specs.declared.frame.Frame.{Frame}
+use Rattle.pool_alloc.specs.declared.frame.Phase.{Phase}
 use Rattle.pool_alloc.specs.declared.frame.Grant.{Grant}
 use Rattle.pool_alloc.specs.declared.frame.Grant.TheVariants.{Instance as instance}
 use Rattle.pool_alloc.specs.declared.frame.Outcome.{Outcome}
 use Rattle.pool_alloc.specs.declared.frame.Outcome.TheVariants as answer
 use Rattle.pool_alloc.specs.declared.lease.InstanceLease.{InstanceLease}
-use Rattle.pool_run.specs.Turns.{Turned, leases_of, with_lease, ended_with, answered, after_step}
+use Rattle.pool_run.specs.Turns.{Turned, leases_of, with_lease, one_step, ended_at_once, answered, after_step}
 use Rattle.pool_run.specs.Ties.{IsSoundParty}
 use Rattle.pool_run.specs.declared.reply.Reply.{Reply}
 use Rattle.pool_run.specs.declared.running_party.RunningParty.{RunningParty}
+use Rattle.pool_alloc.proofs.BegunCalls.{at_rest}
+use Rattle.pool_alloc.proofs.Hands.{held_of, frame_of}
 use Rattle.pool_run.proofs.Parties.{live_grant}
 use Rattle.pool_run.proofs.Stepped.{IsStepped}
 use Rattle.pool_slots.specs.declared.plan.Plan.{Plan}
@@ -60,8 +63,11 @@ module _ {P : Type 0} where
       answered_sound maker c p a.core a.frame a.outcome (over_size Grants c a.core on.size sound.grants) on.core on.frame (over_size Granted c a.core on.size (granted_any maker c.settings c.plan p.frame.asked a.outcome on.granted))
 
   -- So does a command that ends at once,
-  pub reply_sound : (maker : MakerTold) (c : PoolCore P) (p : RunningParty P) (reply : Reply) → IsCore maker c → IsSoundParty maker c p → IsSoundTurn maker (ended_with reply c p)
-  reply_sound maker c p reply core sound = record { core = core; party = record { frame = sound.frame; grants = sound.grants } }
+  pub reply_sound : (maker : MakerTold) (c : PoolCore P) (p : RunningParty P) (reply : Reply) → IsCore maker c → IsIdle p.frame → IsSoundParty maker c p → IsSoundTurn maker (ended_at_once reply c p)
+  reply_sound maker c p reply core idle sound =
+      let Shaped : Phase P → Type 0 = λ phase. IsShapedAt maker c.settings c.plan phase (one_step p.frame) in
+      let rest : Shaped p.frame.phase = subst Shaped (sym idle) (at_rest maker c.settings c.plan p.frame sound.frame idle) in
+      record { core = core; party = record { frame = frame_of maker c.settings c.plan (one_step p.frame) (held_of maker c.settings c.plan p.frame sound.frame) rest; grants = sound.grants } }
 
   -- and a move of a memory that stays one of the pool.
   pub move_sound : (maker : MakerTold) (c : PoolCore P) (p : RunningParty P) (of k : ℕ) (lease : InstanceLease P) (new : Lease) → IsSoundParty maker c p → slice_index_or p.live of None ≡ Some (instance lease) → IsLeaseOf maker c.settings c.plan new → IsSoundParty maker c (record p { live = slice_set p.live of (Some (with_lease k new (instance lease))) })

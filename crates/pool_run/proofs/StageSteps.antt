@@ -16,7 +16,7 @@ use Rattle.pool_alloc.specs.declared.frame.Grant.TheVariants.{Instance as instan
 use Rattle.pool_alloc.specs.declared.frame.Outcome.{Outcome}
 use Rattle.pool_alloc.specs.declared.frame.Outcome.TheVariants as answer
 use Rattle.pool_alloc.specs.declared.frame.Phase.{Phase}
-use Rattle.pool_alloc.specs.declared.frame.Phase.TheVariants.{Idle, Key, Validate, CountInstance, CountMemory}
+use Rattle.pool_alloc.specs.declared.frame.Phase.TheVariants.{Idle, Key, Validate, CountInstance, CountObject}
 use Rattle.pool_run.specs.Limits.{admitted_at}
 use Rattle.pool_run.specs.RunsMade.{is_drawing}
 use Rattle.pool_run.specs.Ties.{is_asking}
@@ -61,7 +61,7 @@ module _ {P : Type 0} where
   none_idle Key e n = refl
   none_idle Validate e n = refl
   none_idle CountInstance e n = refl
-  none_idle (CountMemory lease) e n = none_by e (n + 1)
+  none_idle (CountObject object) e n = none_by e (n + 1)
   none_idle _ e n = none_by e n
 
   -- and a call that was admitted has counted its instance,
@@ -70,7 +70,7 @@ module _ {P : Type 0} where
   admitted_counts Key e n = omega arith
   admitted_counts Validate e n = omega arith
   admitted_counts CountInstance e n = omega arith
-  admitted_counts (CountMemory lease) e n = omega (arith, admitted_by e (n + 1))
+  admitted_counts (CountObject object) e n = omega (arith, admitted_by e (n + 1))
   admitted_counts _ e n = omega (arith, admitted_by e n)
 
   -- and one that isn't counted yet hasn't.
@@ -79,7 +79,7 @@ module _ {P : Type 0} where
   uncounted_none Key e n is = refl
   uncounted_none Validate e n is = refl
   uncounted_none CountInstance e n is = refl
-  uncounted_none (CountMemory lease) e n is = absurd (counted_by e (n + 1) is)
+  uncounted_none (CountObject object) e n is = absurd (counted_by e (n + 1) is)
   uncounted_none _ e n is = absurd (counted_by e n is)
 
   abbrev pub is_key : Option (Outcome P) → Bool

@@ -1,5 +1,4 @@
 -- A run as it starts: nobody has anything, and nobody was told anything.
-use Rattle.pool_alloc.proofs.FullShards.{none_kept}
 use Rattle.std.proofs.Common.{true, ◌≡◌, ℕ, zero, suc, ◌<◌, Bool, false, List, [], ◌∷◌, length, map, get_or, replicate, Option, None, refl, sym, ap, ◌∙◌, subst, arith, All}
 use Rattle.std.specs.Prelude.{IfSome, sum_by, slice_index_or}
 use Rattle.std.proofs.lemmas.List.{length-replicate}
@@ -17,7 +16,7 @@ use Rattle.pool_alloc.specs.declared.frame.Frame.{Frame}
 use Rattle.pool_alloc.specs.declared.frame.Grant.{Grant}
 use Rattle.pool_alloc.specs.Asked.{ModuleAsked}
 use Rattle.pool_alloc.proofs.BegunCalls.{made_frame, made_count, made_instances, made_memories}
-use Rattle.pool_alloc.proofs.Untouched.{untouched_is_whole, none_away}
+use Rattle.pool_alloc.proofs.Untouched.{untouched_is_whole, none_away, none_kept}
 use Rattle.pool_run.specs.PartyRules.{rule_of}
 use Rattle.pool_run.specs.Private.{Grants, no_grants}
 use Rattle.pool_run.specs.Rooms.{World, under}
@@ -106,7 +105,7 @@ module _ {P : Type 0} where
   started_running maker c inputs parties core untouched made = record {
     core = core;
     each = each_made (IsParty maker c) c.settings inputs parties (λ home n limits. party_is_sound maker home n limits c core) made;
-    whole = untouched_is_whole maker held_by_party c parties core untouched (recursion_from_All (λ p. HasNothing (held_by_party p)) parties (each_made (λ p. HasNothing (held_by_party p)) c.settings inputs parties (λ home n limits. party_has_nothing P home limits c.settings n) made));
+    whole = untouched_is_whole held_by_party c parties untouched (recursion_from_All (λ p. HasNothing (held_by_party p)) parties (each_made (λ p. HasNothing (held_by_party p)) c.settings inputs parties (λ home n limits. party_has_nothing P home limits c.settings n) made));
   }
 
   -- One party is alone.
@@ -114,7 +113,7 @@ module _ {P : Type 0} where
   made_alone maker home n limits c core untouched =
       let nothing : HasNothing (held_by_party (party_made {P = P} home limits c.settings n)) = party_has_nothing P home limits c.settings n in
       record {
-        places = λ t. omega (arith, none_away maker t c core untouched, none_kept maker t c core (λ p role. untouched.none_queued p), nothing.places t);
+        places = λ t. omega (arith, none_away t c untouched, none_kept t c untouched, nothing.places t);
         instances = omega (arith, untouched.instances, nothing.instances);
         searched = tt;
       }

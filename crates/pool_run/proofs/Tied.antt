@@ -5,7 +5,11 @@ use Rattle.std.proofs.lemmas.List.{length-map}
 use Rattle.pool_limits.specs.LimiterTold.{LimiterTold}
 use Rattle.pool_slots.specs.declared.errors.AllocError.{AllocError}
 use Rattle.pool_alloc.specs.Calls.{IsGrantOf, IfGranted}
-use Rattle.pool_alloc.specs.Leases.{Lease}
+use Rattle.pool_alloc.specs.Leases.{Lease, memory_slot}
+use Rattle.pool_alloc.specs.Objects.{objects_wanted}
+use Rattle.pool_alloc.specs.Wants.{new_memory}
+use Rattle.pool_slots.specs.SlotNames.{of_kind}
+use Rattle.pool_slots.specs.declared.slot_name.SlotName.{SlotName}
 use Rattle.pool_alloc.specs.Places.{right_to, phase_instances}
 use Rattle.pool_run.proofs.SlotsMade.{made_slot}
 use Rattle.pool_alloc.specs.Sound.{AreSupported}
@@ -20,17 +24,17 @@ use Rattle.pool_alloc.specs.declared.frame.Grant.TheVariants.{Instance as instan
 use Rattle.pool_alloc.specs.declared.frame.Outcome.{Outcome}
 use Rattle.pool_alloc.specs.declared.frame.Outcome.TheVariants as answer
 use Rattle.pool_run.specs.Acts.{Act, requests, drops, act_at}
-use Rattle.pool_run.specs.Private.{PrivateMemory, PrivateInstance, Grants, grant_at, Want, request_of, begun_memories, MovesGrants, Drops}
-use Rattle.pool_run.specs.Rooms.{World, TellsOfPool}
+use Rattle.pool_run.specs.Private.{PrivateInstance, Grants, grant_at, Request, request_of, wants_of, begun_instance, MovesGrants, Drops}
+use Rattle.pool_run.specs.Rooms.{World, live_count, HasNoMemoryIn, AreFreeSlots, TellsOfPool}
 use Rattle.pool_run.specs.Turns.{private_grant, grants_of, granted_reply, private_memory}
-use Rattle.pool_run.specs.Ties.{granted_to, wants_asked, IsAdmitted, IsSoFar, IsRequest, IsToRefuse, IsToReturn, TiedAs}
+use Rattle.pool_run.specs.Ties.{granted_to, IsFor, IsAdmitted, IsSoFar, IsRequest, IsToRefuse, IsToReturn, TiedAs}
 use Rattle.pool_run.specs.declared.command.Command.{Command}
 use Rattle.pool_run.specs.declared.reply.Reply.{Reply}
 use Rattle.pool_run.specs.declared.reply.Reply.TheVariants.{Returned, Refused}
 use Rattle.pool_run.specs.declared.reply.Refusal.TheVariants.{Alloc}
 use Rattle.pool_run.proofs.Causes.{none_first}
 use Rattle.pool_run.proofs.Exhausted.{live_told, room_for}
-use Rattle.pool_run.proofs.FreeSlots.{slots_inside, slots_apart, slots_free}
+use Rattle.pool_run.proofs.FreeSlots.{are_free}
 use Rattle.pool_run.proofs.Grants.{grants_set}
 use Rattle.pool_run.proofs.Requests.{slots_of, IsBefore, same_number, raised_cause, goes_so_far, granted_begun}
 use Rattle.pool_run.proofs.StageSteps.{is_none}
@@ -64,42 +68,39 @@ module _ {P : Type 0} (w : World) (commands : List Command) (done : ℕ) (live :
   returned is = record { act = drops is.of; next = is.act; moves = dropped (grant_at told is.of) told (grants_of live) is.of is.there is.ended; pool = tt }
 
 module _ {P : Type 0} (w : World) (old new : LimiterTold) (c : PoolCore P) (f : Frame P) (commands : List Command) (done : ℕ) (live : List (Option (Grant P))) (told : Grants) (is : IsBefore w old new c f live told) where
-  all_admitted : (p : Progress) (number : ℕ) → grants_of live ≡ told → wants_asked f.asked ≡ (request_of w.terms number).wants → IsSoFar w (request_of w.terms number) told p → Follows old new c f p (admitted (length (memories_wanted f.asked))) → IsAdmitted w (request_of w.terms number) told (length (memories_wanted f.asked))
-  all_admitted p number seen asked so follows = goes_so_far w old new c f live told is seen number asked p (admitted (length (memories_wanted f.asked))) so follows
+  all_admitted : (p : Progress) (number : ℕ) → grants_of live ≡ told → IsFor (request_of w.terms number) f.asked → IsSoFar w (request_of w.terms number) told p → Follows old new c f p (admitted (objects_wanted f.asked)) → IsAdmitted w (request_of w.terms number) told (objects_wanted f.asked)
+  all_admitted p number seen asked so follows = goes_so_far w old new c f live told is seen number asked p (admitted (objects_wanted f.asked)) so follows
 
   -- an instance is whole, and granted
-  granted : (p : Progress) (grant : Grant P) → grants_of live ≡ told → (request : IsRequest w commands done f.asked told p) → Follows old new c f p (admitted (length (memories_wanted f.asked))) → AreSupported c.settings (memories_wanted f.asked) (images_wanted f.asked) → IsGrantOf w.maker c.settings c.plan f.asked grant → ((k : ℕ) → grant_count (right_to k) grant + sum_by (granted_to (grant_count (right_to k))) live ≤ made_slot k (memory_slots c.plan)) → Replies w commands done live told (granted_reply grant) (slice_set live done (Some grant))
+  granted : (p : Progress) (grant : Grant P) → grants_of live ≡ told → (request : IsRequest w commands done f.asked told p) → Follows old new c f p (admitted (objects_wanted f.asked)) → AreSupported c.settings (memories_wanted f.asked) (images_wanted f.asked) → IsGrantOf w.maker c.settings c.plan f.asked grant → ((name : SlotName) → grant_count (right_to name) grant + sum_by (granted_to (grant_count (right_to name))) live ≤ made_slot name.slot (of_kind name.kind c.plan.totals)) → Replies w commands done live told (granted_reply grant) (slice_set live done (Some grant))
   granted p (instance lease) seen request follows supported of apart =
       let items : List Lease = lease.memories.items in
       let grant : Grant P = instance lease in
       let n : ℕ = request.number in
-      let wants : List Want = (request_of w.terms n).wants in
-      let counts : length (memories_wanted f.asked) ≡ length wants = same_number w old new c f live told is seen n request.asked_for in
-      let so : IsAdmitted w (request_of w.terms n) told (length (memories_wanted f.asked)) = all_admitted p n seen request.asked_for request.so_far follows in
-      let begun : List PrivateMemory = begun_memories w.terms wants (slots_of items) in
-      let memories : map private_memory items ≡ begun = granted_begun w old new c f live told is seen n request.asked_for items of.0 of.1 of.2 supported in
-      let grants : grants_of (slice_set live done (Some grant)) ≡ slice_set told done (Some (record { memories = begun })) =
-      grants_set live done (Some grant) ∙ ap (λ (g : Grants). slice_set g done (Some (private_grant grant))) seen ∙ ap (λ (ms : List PrivateMemory). slice_set told done (Some (record { memories = ms }))) memories in
+      let asked : Request = request_of w.terms n in
+      let counts : objects_wanted f.asked ≡ length (wants_of asked) = same_number w old new c f live told is seen n request.asked_for in
+      let so : IsAdmitted w asked told (objects_wanted f.asked) = all_admitted p n seen request.asked_for request.so_far follows in
+      let begun : private_grant grant ≡ begun_instance w.terms asked (slots_of items) = granted_begun w old new c f live told is seen n request.asked_for lease of.0 of.1 of.2 supported in
+      let grants : grants_of (slice_set live done (Some grant)) ≡ slice_set told done (Some (begun_instance w.terms asked (slots_of items))) =
+      grants_set live done (Some grant) ∙ ap (λ (g : Grants). slice_set g done (Some (private_grant grant))) seen ∙ ap (λ (g : PrivateInstance). slice_set told done (Some g)) begun in
       let total : ℕ = memory_slots c.plan in
-      let Inside : ℕ → Type 0 = λ k. All (λ slot. slot < k) (slots_of items) in
+      let room : live_count told + length items ≤ total = omega (arith, live_told live told seen, room_for total lease live (λ k. apart (memory_slot k))) in
+      let Free : ℕ → Type 0 = λ n. AreFreeSlots n (live_count told) (λ slot. HasNoMemoryIn slot told) (slots_of items) in
       record {
         act = requests n;
         next = request.act;
         moves = (
           record {
             supported = so.supported;
-            allowed = none_first w.terms.rule wants (λ k below. so.allowed k (omega (arith, below, counts)));
-            count = length-map items (λ (l : Lease). l.index) ∙ of.1 ∙ counts;
+            allowed = none_first w.terms.rule (wants_of asked) (λ k below. so.allowed k (omega (arith, below, counts)));
+            count = length-map items (λ (l : Lease). l.index) ∙ of.1 ∙ counts ∙ length-map asked.memories new_memory;
           },
           refl,
           grants,
         );
         pool = record {
-          inside = subst Inside (sym is.world.plan.total) (slots_inside items live total apart);
-          free = slots_free items live told total seen apart;
-          differ = slots_apart items live total apart;
+          memories = subst Free (sym is.world.plan.total) (are_free memory_slot (λ (l : Lease). l.index) (λ l. l.numbers) (λ l. l.memories.items) private_memory (λ m. m.slot) (λ g. g.memories) (λ l. refl) (λ l. refl) (λ k l. refl) items live told total (live_count told) seen (λ k. apart (memory_slot k)) room);
           instances = so.counted;
-          memories = omega (arith, is.world.plan.total, live_told live told seen, room_for total items live apart, of.1, counts);
         };
       }
 
@@ -108,12 +109,12 @@ module _ {P : Type 0} (w : World) (old new : LimiterTold) (c : PoolCore P) (f : 
 
   goes_asking : (p q : Progress) (asked : Option ModuleAsked) → asked ≡ f.asked → grants_of live ≡ told → IsRequest w commands done f.asked told p → Follows old new c f p q → IsRequest w commands done asked told q
   goes_asking p q asked same seen request follows =
-      let For : Option ModuleAsked → Type 0 = λ o. wants_asked o ≡ (request_of w.terms request.number).wants in
+      let For : Option ModuleAsked → Type 0 = λ o. IsFor (request_of w.terms request.number) o in
       record { number = request.number; act = request.act; asked_for = subst For (sym same) request.asked_for; so_far = goes_so_far w old new c f live told is seen request.number request.asked_for p q request.so_far follows }
 
   -- After each step of a call what the party has fits what it was told.
   pub tied_by : (s t : Stage) (asked : Option ModuleAsked) (o : Option (Outcome P)) → (s ≡ asks uncounted → phase_instances f.phase ≡ 0) → (is_none t ≡ false → asked ≡ f.asked) → IfGranted (IsGrantOf w.maker c.settings c.plan f.asked) o
-      → IfGranted (λ g. (k : ℕ) → grant_count (right_to k) g + sum_by (granted_to (grant_count (right_to k))) live ≤ made_slot k (memory_slots c.plan)) o → Goes w.maker old new c f s t o → TiedAs w s commands done f.asked (grants_of live) told → TiedBy w commands done live told t asked o
+      → IfGranted (λ g. (name : SlotName) → grant_count (right_to name) g + sum_by (granted_to (grant_count (right_to name))) live ≤ made_slot name.slot (of_kind name.kind c.plan.totals)) o → Goes w.maker old new c f s t o → TiedAs w s commands done f.asked (grants_of live) told → TiedBy w commands done live told t asked o
   tied_by no_call no_call asked None none same of apart goes tied = tied
   tied_by keys no_call asked (Some answer.Key) none same of apart goes tied = tied
   tied_by (asks p) (asks q) asked None none same of apart goes tied = (tied.0, goes_asking p q asked (same refl) tied.0 tied.1 goes)

@@ -2,6 +2,8 @@
 use Rattle.std.proofs.Common.{◌≡◌, ℕ, ◌+◌, ◌<◌, ◌≤◌, List, length, Option, Some, None, refl, sym, ap, ◌∙◌, subst, arith, true}
 use Rattle.std.specs.Prelude.{slice_set, slice_index_or, sum_by}
 use Rattle.pool_pages.specs.MakerTold.{MakerTold}
+use Rattle.pool_alloc.specs.Objects.{objects_in}
+use Rattle.pool_alloc.specs.Calls.{IsIdle}
 use Rattle.pool_alloc.specs.Turns.{After}
 use Rattle.pool_alloc.specs.declared.pool_core.PoolCore.{PoolCore}
 use Rattle.pool_alloc.specs.declared.frame.Frame.{Frame}
@@ -11,7 +13,7 @@ use Rattle.pool_alloc.specs.declared.frame.Outcome.{Outcome}
 use Rattle.pool_alloc.specs.declared.frame.Outcome.TheVariants as answer
 use Rattle.pool_alloc.specs.declared.frame.Phase.{Phase}
 use Rattle.pool_run.specs.Rooms.{World}
-use Rattle.pool_run.specs.Turns.{Turned, ended_with, answered, Steps, Turns, Opening, rests, replies, makes_step, Leaves}
+use Rattle.pool_run.specs.Turns.{Turned, one_step, ended_at_once, answered, Steps, Turns, Opening, rests, replies, makes_step, Leaves}
 use Rattle.pool_run.specs.Ties.{CanTurn, is_asking}
 use Rattle.pool_run.proofs.Sounds.{reply_sound, step_sound, IsSoundTurn}
 use Rattle.pool_run.specs.Worlds.{AreCallsFor}
@@ -26,8 +28,8 @@ use Rattle.pool_alloc.specs.Stepping.{Conserves, IsSameSize, grant_count, grant_
 use Rattle.pool_run.specs.Ties.{granted_to, held_by_party}
 use Rattle.pool_run.proofs.Parties.{HaveSame}
 use Rattle.pool_run.proofs.Opened.{IsOpened, opened}
-use Rattle.pool_alloc.specs.Searches.{IsSearched}
-use Rattle.pool_alloc.specs.Stages.{no_call, stage_at, stage_of}
+use Rattle.pool_alloc.specs.Searches.{IsSearchedAt, IsSearched}
+use Rattle.pool_alloc.specs.Stages.{stage_at, stage_of}
 use Rattle.pool_run.proofs.StageSteps.{IsStagedStep, settled_place}
 use Rattle.pool_run.proofs.Stepped.{IsStepped, stepped}
 
@@ -53,8 +55,8 @@ module _ {P : Type 0} where
   stayed c p to_come place = record { places = λ x. refl; instances = refl; memories = refl; size = same_size c; room = refl; limits = refl; to_come = to_come; place = place; searched = λ s. s }
 
   -- A command ended at once, and the party has the same of the pool.
-  ended : (c : PoolCore P) (p : RunningParty P) (live : List (Option (Grant P))) (reply : Reply) → HaveSame p (record p { live = live }) → length live ≡ length p.live → ((k : ℕ) → p.done ≤ k → slice_index_or live k None ≡ None) → stage_of p.frame ≡ no_call → HasTurned c p (ended_with reply c (record p { live = live }))
-  ended c p live reply same room to_come settled = record {
+  ended : (c : PoolCore P) (p : RunningParty P) (live : List (Option (Grant P))) (reply : Reply) → HaveSame p (record p { live = live }) → length live ≡ length p.live → ((k : ℕ) → p.done ≤ k → slice_index_or live k None ≡ None) → IsIdle p.frame → HasTurned c p (ended_at_once reply c (record p { live = live }))
+  ended c p live reply same room to_come idle = record {
     places = λ x. omega (arith, same.places x);
     instances = omega (arith, same.instances);
     memories = omega (arith, same.memories);
@@ -62,8 +64,8 @@ module _ {P : Type 0} where
     room = room;
     limits = refl;
     to_come = λ k behind. to_come k (omega (arith, behind));
-    place = λ is. settled_place (stage_of p.frame) settled is;
-    searched = λ s. s;
+    place = λ is. settled_place (stage_of p.frame) (ap (λ (phase : Phase P). stage_at phase p.frame.ending (objects_in p.frame.objects)) idle) is;
+    searched = λ s. let S : Phase P → Type 0 = λ phase. IsSearchedAt phase c (one_step p.frame) in subst S (sym idle) tt;
   }
 
   -- what the live grants have, once one more is granted
@@ -155,15 +157,13 @@ module _ {P : Type 0} where
 module _ {P : Type 0} (maker : MakerTold) (c : PoolCore P) (p : RunningParty P) (can : CanTurn maker c p) where
   follows_turned : (o : Opening P) (t : Turned P) → IsOpened maker c p o → Leaves o c p t → HasTurned c p t
   follows_turned rests t is follows = subst (HasTurned c p) (sym follows) (stayed c p can.party.to_come can.party.place)
-  follows_turned (replies reply live) t is follows =
-      let settled : stage_of p.frame ≡ no_call = ap (λ (phase : Phase P). stage_at phase p.frame.ending (length p.frame.objects.items)) is.idle in
-      subst (HasTurned c p) (sym follows) (ended c p live reply is.same is.room is.to_come settled)
+  follows_turned (replies reply live) t is follows = subst (HasTurned c p) (sym follows) (ended c p live reply is.same is.room is.to_come is.idle)
   follows_turned (makes_step frame live) t is follows = turned_from c p (record p { frame = frame; live = live }) t is.same is.room refl is.searched (step_turned maker c (record p { frame = frame; live = live }) t is.can follows)
 
   -- What it leaves is sound.
   follows_sound : (o : Opening P) (t : Turned P) → IsOpened maker c p o → Leaves o c p t → IsSoundTurn maker t
   follows_sound rests t is leaves = subst (IsSoundTurn maker) (sym leaves) (record { core = can.core; party = can.party.sound })
-  follows_sound (replies reply live) t is leaves = subst (IsSoundTurn maker) (sym leaves) (reply_sound maker c (record p { live = live }) reply can.core is.sound)
+  follows_sound (replies reply live) t is leaves = subst (IsSoundTurn maker) (sym leaves) (reply_sound maker c (record p { live = live }) reply can.core is.idle is.sound)
   follows_sound (makes_step frame live) t is leaves =
       let q : RunningParty P = record p { frame = frame; live = live } in
       let on : IsStepped maker leaves.1.0 leaves.1.1 c frame leaves.0 = stepped maker leaves.1.0 leaves.1.1 c frame leaves.0 (can_step maker c q is.can) leaves.1.3 in

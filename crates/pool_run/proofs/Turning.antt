@@ -4,6 +4,7 @@ use Rattle.std.proofs.Common.{◌≡◌, ℕ, ◌+◌, List, [], ◌∷◌, ◌+
 use Rattle.std.specs.Prelude.{option_map, slice_get, slice_set, is_some, sum_by}
 use Rattle.std.proofs.lemmas.List.{length_push}
 use Rattle.pool_limits.specs.Growth.{GrowthRule}
+use Rattle.pool_alloc.specs.Objects.{objects_in}
 use Rattle.pool_alloc.specs.Turns.{After}
 use Rattle.pool_alloc.specs.declared.pool_core.PoolCore.{PoolCore}
 use Rattle.pool_alloc.specs.declared.frame.Frame.{Frame}
@@ -34,7 +35,8 @@ use Rattle.pool_run.proofs.SlotsMade.{made_slot, away_made}
 use Rattle.pool_alloc.specs.Stepping.{is_idle, Conserves, grant_count, count_granted}
 use Rattle.pool_alloc.specs.declared.frame.Grant.{Grant}
 use Rattle.pool_limits.specs.LimiterTold.{LimiterTold}
-use Rattle.pool_alloc.specs.Steps.{memory_slots}
+use Rattle.pool_slots.specs.SlotNames.{of_kind}
+use Rattle.pool_slots.specs.declared.slot_name.SlotName.{SlotName}
 
 -- the command that does this
 command_at : (o : Option Command) (act : Act) → option_map act_of o ≡ Some act → (command : Command) × (o ≡ Some command) × (act_of command ≡ act)
@@ -74,7 +76,7 @@ module _ {P : Type 0} where
   answered_private w start commands before c p f (Some (answer.Refused e)) private settled tied = replied w start commands before p (record p { frame = f; done = p.done + 1 }) tied.act (Refused (Alloc e)) private refl (settled refl) tied.next tied.moves tied.pool
 
   -- what is granted isn't the party's yet, and is made once
-  apart : (c : PoolCore P) (f : Frame P) (live : List (Option (Grant P))) (a : After P) (o : Option (Outcome P)) → o ≡ a.outcome → ((t : Thing) → kept_count t c + (frame_count t f + sum_by (granted_to (grant_count t)) live) ≤ away_count t c) → Conserves c f a → ((k : ℕ) → away_count (right_to k) a.core ≤ made_slot k (memory_slots c.plan)) → IfGranted (λ g. (k : ℕ) → grant_count (right_to k) g + sum_by (granted_to (grant_count (right_to k))) live ≤ made_slot k (memory_slots c.plan)) o
+  apart : (c : PoolCore P) (f : Frame P) (live : List (Option (Grant P))) (a : After P) (o : Option (Outcome P)) → o ≡ a.outcome → ((t : Thing) → kept_count t c + (frame_count t f + sum_by (granted_to (grant_count t)) live) ≤ away_count t c) → Conserves c f a → ((name : SlotName) → away_count (right_to name) a.core ≤ made_slot name.slot (of_kind name.kind c.plan.totals)) → IfGranted (λ g. (name : SlotName) → grant_count (right_to name) g + sum_by (granted_to (grant_count (right_to name))) live ≤ made_slot name.slot (of_kind name.kind c.plan.totals)) o
   apart c f live a None is once b most = tt
   apart c f live a (Some answer.Key) is once b most = tt
   apart c f live a (Some (answer.Granted grant)) is once b most =
@@ -100,9 +102,9 @@ module _ {P : Type 0} where
         alone = alone;
         rule = steps.1.2 ∙ ap (λ (r : GrowthRule). Some r) ruled;
       } in
-      let idle : is_none (stage_of a.frame) ≡ is_idle a.frame.phase = none_idle a.frame.phase a.frame.ending (length a.frame.objects.items) in
+      let idle : is_none (stage_of a.frame) ≡ is_idle a.frame.phase = none_idle a.frame.phase a.frame.ending (objects_in a.frame.objects) in
       subst (SeesTurn w start commands before) (sym steps.2)
       (answered_private w start commands before a.core p a.frame a.outcome private on.staged.settled
       (tied_by w old steps.1.1 c f commands p.done p.live private.grants is (stage_of f) (stage_of a.frame) a.frame.asked a.outcome
-      (uncounted_none f.phase f.ending (length f.objects.items)) (λ none. on.goes.asked (sym idle ∙ none)) on.granted
-      (apart c f p.live a a.outcome refl can.fits.once on.conserves (λ k. omega (arith, away_made w.maker k a.core on.core, ap (λ (plan : Plan). made_slot k (memory_slots plan)) on.size.plan))) on.goes.way private.tied))
+      (uncounted_none f.phase f.ending (objects_in f.objects)) (λ none. on.goes.asked (sym idle ∙ none)) on.granted
+      (apart c f p.live a a.outcome refl can.fits.once on.conserves (λ k. omega (arith, away_made w.maker k a.core on.core, ap (λ (plan : Plan). made_slot k.slot (of_kind k.kind plan.totals)) on.size.plan))) on.goes.way private.tied))

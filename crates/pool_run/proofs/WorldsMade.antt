@@ -21,11 +21,14 @@ use Rattle.pool_alloc.specs.Made.{IsMadeCore, plan_settings}
 use Rattle.pool_alloc.specs.declared.pool_core.PoolCore.{PoolCore}
 use Rattle.pool_alloc.specs.declared.pool_core.Settings.{Settings}
 use Rattle.pool_alloc.specs.Asked.{ModuleAsked}
-use Rattle.pool_alloc.specs.Steps.{images_made, stripe_allocator, no_allocator, memory_slot}
+use Rattle.pool_alloc.specs.Steps.{images_made, stripe_allocator, no_allocator}
+use Rattle.pool_alloc.specs.Leases.{memory_slot}
+use Rattle.pool_alloc.specs.Wants.{wants_from}
 use Rattle.pool_run.specs.Built.{is_built_memory, is_built_module}
 use Rattle.pool_run.specs.Made.{call_made, calls_made}
-use Rattle.pool_run.specs.Private.{Terms, memories_of, has_images, images_of, wants_from}
+use Rattle.pool_run.specs.Private.{Terms, no_module, module_of, has_images, images_of, request_for}
 use Rattle.pool_run.specs.Runs.{world_of}
+use Rattle.std.proofs.lemmas.Option.{get_or_from_slice_get}
 use Rattle.pool_run.specs.Worlds.{IsWorldOf, IsCallFor, AreCallsFor, HasOneStripe}
 use Rattle.pool_run.specs.declared.input.Input.{Input}
 use Rattle.pool_run.proofs.BuiltInputs.{built_memories, small_pages}
@@ -33,9 +36,10 @@ use Rattle.pool_run.proofs.Tests.{second, of_all}
 use Rattle.pool_slots.specs.declared.plan.Plan.{Plan}
 use Rattle.pool_slots.specs.declared.plan.Allocator.{Allocator}
 use Rattle.pool_slots.specs.Plans.{has_number, have_number}
-use Rattle.pool_slots.specs.PlansMade.{IsPlanOf, allocator_planned}
-use Rattle.pool_slots.specs.declared.plan_maker.PlanSettings.{PlanSettings}
-use Rattle.pool_slots.proofs.PlansMade.{follow}
+use Rattle.pool_slots.specs.StripedPlans.{IsStripedPlanOf, stripe_allocator as stripe_made}
+use Rattle.pool_slots.specs.declared.striped_plan.StripedPlanSettings.{StripedPlanSettings}
+use Rattle.pool_slots.proofs.StripedPlans.{follow}
+use Rattle.pool_pages.specs.declared.config.PoolingAllocationConfig.{PoolingAllocationConfig}
 use Rattle.pool_slots.specs.declared.slot_name.OfKinds.{OfKinds}
 
 -- what holds of the element at a place, whichever that is, holds if there is one
@@ -48,23 +52,23 @@ only_one true is = refl
 only_one false is = absurd (omega (arith, is))
 
 -- A plan that is made has one stripe.
-one_stripe : (s : PlanSettings) (plan : Plan) → IsPlanOf s plan → HasOneStripe s.totals.memory plan
-one_stripe s plan made =
-    let a : Allocator = allocator_planned s (memory_slot 0).kind in
-    let one : plan.memories ≡ a ∷ [] = made.allocators (memory_slot 0).kind in
+one_stripe : (config : PoolingAllocationConfig) (plan : Plan) → IsStripedPlanOf (plan_settings config) plan → HasOneStripe config.limits.total_memories plan
+one_stripe config plan made =
+    let z : StripedPlanSettings = plan_settings config in
+    let a : Allocator = stripe_made z 0 in
     let Has : ℕ → List Allocator → Type 0 = λ k as'. have_number as' k ≡ 1 in
-    let first : stripe_allocator plan 0 ≡ a = ap (λ (as' : List Allocator). slice_index_or as' 0 no_allocator) one in
+    let first : stripe_allocator plan 0 ≡ a = ap (λ (as' : List Allocator). slice_index_or as' 0 no_allocator) made.memories in
     record {
       total = sym (ap (λ (n : OfKinds). n.memory) made.totals);
-      one = ap (length {A = Allocator}) one;
-      room = ap (λ (x : Allocator). x.capacity) first;
-      each = λ k inside. ap (λ (x : Allocator). has_number x k) first ∙ only_one (has_number a k) (subst (Has k) one ((follow s plan made).one (memory_slot k) inside));
+      one = ap (length {A = Allocator}) made.memories;
+      room = ap (λ (x : Allocator). x.capacity) first ∙ omega arith;
+      each = λ k inside. ap (λ (x : Allocator). has_number x k) first ∙ only_one (has_number a k) (subst (Has k) made.memories ((follow z plan (omega arith) made).one (memory_slot k) inside));
     }
 
 module _ {P : Type 0} where
   -- The pool as it is made has the sizes of the world.
   pub is_world : (input : Input) (maker : MakerTold) (c : PoolCore P) → IsMadeCore maker input.config input.tunables input.offered c → IsWorldOf (world_of input maker) c
-  is_world input maker c made = record { tells = refl; settings = sym made.settings; plan = one_stripe (plan_settings input.config) c.plan made.plan }
+  is_world input maker c made = record { tells = refl; settings = sym made.settings; plan = one_stripe input.config c.plan made.plan }
 
 count_from : (id : CompiledModuleId) (page n : ℕ) (decls : List MemoryDecl) → length (images_from id page n decls) ≡ length decls
 count_from id page n [] = refl
@@ -108,11 +112,11 @@ is_call_for t s number m there built page some =
     let id : CompiledModuleId = record { 0 = number } in
     let tunables : Tunables = t.settings.tunables.tunables in
     let all : Bool = has_images tunables t.settings.page m.memories in
-    let memories : m.memories ≡ memories_of t number = ap (λ (o : Option ModuleInfo). option_map_or (λ x. x.memories) o []) (sym there) in
+    let is : m ≡ module_of t number = sym (get_or_from_slice_get t.modules number m no_module there) in
     let made : Option (List (Option Image)) = images_of tunables t.settings.page number m.memories in
     let given : List (Option Image) = unwrap_or made [] in
     record {
-      asked = ap (wants_from m.memories) (asked_images made) ∙ ap (λ (decls : List MemoryDecl). wants_from decls (unwrap_or (images_of tunables t.settings.page number decls) [])) memories;
+      asked = record { memories = ap (wants_from m.memories) (asked_images made) ∙ ap (λ (x : ModuleInfo). (request_for t number x).memories) is };
       fit = record {
         images = record {
           each = λ k.

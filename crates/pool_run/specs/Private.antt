@@ -1,6 +1,6 @@
 -- What a party may see: its grants as private lists of bytes, which its commands read and write, and no pool.
-use Rattle.std.specs.Prelude.{◌≡◌, ℕ, ◌+◌, ◌-◌, ◌*◌, ◌^◌, ◌<◌, ◌≤◌, ◌==◌, ◌||◌, ◌&&◌, List, [], ◌∷◌, ◌++◌, length, slice_get, slice_index_or, slice_range, slice_set, replicate, min, ◌⊎◌, Bool, true, false, not, nat_lt, if◌then◌else◌, Option, Some, None, IfSome, is_some, option_map, unwrap_or, Result, Ok, Err}
-use Rattle.std.specs.Option.{option_map_or, option_or}
+use Rattle.std.specs.Prelude.{◌≡◌, ℕ, ◌+◌, ◌-◌, ◌*◌, ◌^◌, ◌<◌, ◌≤◌, ◌==◌, ◌||◌, ◌&&◌, List, [], ◌∷◌, ◌++◌, length, slice_get, slice_index_or, slice_range, slice_set, replicate, map, min, ◌⊎◌, Bool, true, false, not, nat_lt, if◌then◌else◌, Option, Some, None, IfSome, is_some, option_map, unwrap_or, Result, Ok, Err}
+use Rattle.std.specs.Option.{option_or}
 use Rattle.std.specs.List.{list_all}
 use Rattle.pool_pages.specs.Contents.{put}
 use Rattle.pool_pages.specs.MemoryTypes.{minimum_byte_size, page_size, allow_growth_to}
@@ -22,6 +22,7 @@ use Rattle.pool_slots.specs.declared.errors.AllocError.TheVariants as alloc
 use Rattle.pool_slots.specs.declared.errors.ConcurrencyKind.TheVariants.{MemoryStripe, CoreInstances}
 use Rattle.pool_alloc.specs.Own.{refusal_of}
 use Rattle.pool_alloc.specs.Refusals.{memories_refused}
+use Rattle.pool_alloc.specs.Wants.{MemoryWant, Want, new_memory, wants_from}
 use Rattle.pool_alloc.specs.declared.pool_core.Settings.{Settings}
 use Rattle.pool_run.specs.Objects.{Objects, MovesObject}
 use Rattle.pool_run.specs.Acts.{MemoryOp, reads, writes, fills, grows, asks_size, Act, requests, on_memory, drops, act_of}
@@ -61,9 +62,13 @@ pub record Terms : Type 0 where
   pub slots : ℕ
   pub rule : GrowthRule
 
--- the memories that the module of this number defines
-abbrev pub memories_of : Terms → ℕ → List MemoryDecl
-memories_of t number = option_map_or (λ m. m.memories) (slice_get t.modules number) []
+-- a module of nothing, which none of those that there are need be
+abbrev pub no_module : ModuleInfo
+no_module = record { memories = []; tables = []; state_bytes = 0; parts = [] }
+
+-- the module of this number
+abbrev pub module_of : Terms → ℕ → ModuleInfo
+module_of t number = slice_index_or t.modules number no_module
 
 -- Images are made for these memories: where memories begin as images at all, and each of them begins with a page and,
 -- padded, ends within its memory's minimum.
@@ -74,44 +79,45 @@ has_images tunables page decls = tunables.memory_init_cow && (not (is_some (firs
 abbrev pub images_of : Tunables → ℕ → ℕ → List MemoryDecl → Option (List (Option Image))
 images_of tunables page number decls = if has_images tunables page decls then Some (images_from (record { 0 = number }) page 0 decls) else None
 
--- one thing that a request is for: a memory, and the image that it begins with
-pub data Want : Type 0 where
-  new_memory : MemoryDecl → Option Image → Want
-
--- these memories, each with its image, if one is given
-abbrev pub wants_from : List MemoryDecl → List (Option Image) → List Want
-wants_from [] images = []
-wants_from (decl ∷ decls) [] = new_memory decl None ∷ wants_from decls []
-wants_from (decl ∷ decls) (image ∷ images) = new_memory decl image ∷ wants_from decls images
-
--- a request: the first rule of the pool that it breaks, and what it is for, in order
+-- a request: the first rule of the pool that it breaks, and the memories that it is for, in order
 pub record Request : Type 0 where
   pub broken : Option Unsupported
-  pub wants : List Want
+  pub memories : List MemoryWant
 
--- the request for an instance of the module of this number
-abbrev pub request_of : Terms → ℕ → Request
-request_of t number = record {
-  broken = memories_refused t.settings (memories_of t number);
-  wants = wants_from (memories_of t number) (unwrap_or (images_of t.settings.tunables.tunables t.settings.page number (memories_of t number)) []);
+-- all that it is for
+abbrev pub wants_of : Request → List Want
+wants_of request = map new_memory request.memories
+
+-- the request for an instance of a module with this number
+abbrev pub request_for : Terms → ℕ → ModuleInfo → Request
+request_for t number m = record {
+  broken = memories_refused t.settings m.memories;
+  memories = wants_from m.memories (unwrap_or (images_of t.settings.tunables.tunables t.settings.page number m.memories) []);
 }
+
+abbrev pub request_of : Terms → ℕ → Request
+request_of t number = request_for t number (module_of t number)
 
 -- A memory as it begins: its minimum of bytes, which are its image at its offset and zeros elsewhere. It can become as
 -- large as a slot of the pool, or as its type allows if that is less.
-abbrev pub begun_memory : Terms → ℕ → Want → PrivateMemory
-begun_memory t slot (new_memory decl image) = record {
+abbrev pub begun_memory : Terms → ℕ → MemoryWant → PrivateMemory
+begun_memory t slot want = record {
   slot = slot;
-  ty = decl.ty;
-  size = minimum_byte_size decl.ty;
-  capacity = static_capacity t.settings.max_memory_size (maximum_asked decl.ty);
-  bytes = if t.tells then Some (start image (minimum_byte_size decl.ty)) else None;
+  ty = want.decl.ty;
+  size = minimum_byte_size want.decl.ty;
+  capacity = static_capacity t.settings.max_memory_size (maximum_asked want.decl.ty);
+  bytes = if t.tells then Some (start want.image (minimum_byte_size want.decl.ty)) else None;
 }
 
--- what is made for a request, in these slots
-abbrev pub begun_memories : Terms → List Want → List ℕ → List PrivateMemory
-begun_memories t [] slots = []
-begun_memories t (want ∷ wants) [] = []
-begun_memories t (want ∷ wants) (slot ∷ slots) = begun_memory t slot want ∷ begun_memories t wants slots
+-- what is made of these, each in one of these slots
+abbrev pub begun : {W X : Type 0} → (ℕ → W → X) → List W → List ℕ → List X
+begun make [] slots = []
+begun make (want ∷ wants) [] = []
+begun make (want ∷ wants) (slot ∷ slots) = make slot want ∷ begun make wants slots
+
+-- the instance that is made for a request, in these slots
+abbrev pub begun_instance : Terms → Request → List ℕ → PrivateInstance
+begun_instance t request memories = record { memories = begun (begun_memory t) request.memories memories }
 
 -- the refusal in an answer, if it is one
 abbrev pub refused_by : {X : Type 0} → Result X MemoryError → Option AllocError
@@ -121,7 +127,7 @@ refused_by (Err e) = Some (refusal_of e)
 -- A memory's own refusal, whatever slot it gets: the limiter is asked for its minimum first, then a minimum is refused
 -- that no size can be.
 abbrev pub own_refusal : GrowthRule → Want → Option AllocError
-own_refusal rule (new_memory decl image) = refused_by (limits_answer (memory_answer (Some rule) (Ok true) (minimum_asked decl.ty) (maximum_asked decl.ty)) decl.ty)
+own_refusal rule (new_memory want) = refused_by (limits_answer (memory_answer (Some rule) (Ok true) (minimum_asked want.decl.ty) (maximum_asked want.decl.ty)) want.decl.ty)
 
 -- that of the first memory which has one
 abbrev pub first_refusal : GrowthRule → List Want → Option AllocError
@@ -166,18 +172,18 @@ IsRefused None t wants e = (first_refusal t.rule wants ≡ Some e) ⊎ IsGiven t
 
 abbrev pub IsCause : Terms → Request → Refusal → Type 0
 IsCause t request NoSuchGrant = ⊥
-IsCause t request (Alloc e) = IsRefused request.broken t request.wants e
+IsCause t request (Alloc e) = IsRefused request.broken t (wants_of request) e
 
 -- a request is granted: nothing of it is refused, and each of its memories has a slot
 pub record IsGranted (t : Terms) (request : Request) (slots : List ℕ) : Type 0 where
   pub supported : request.broken ≡ None
-  pub allowed : first_refusal t.rule request.wants ≡ None
-  pub count : length slots ≡ length request.wants
+  pub allowed : first_refusal t.rule (wants_of request) ≡ None
+  pub count : length slots ≡ length request.memories
 
 -- the reply to command n, which makes this request for an instance
 abbrev pub Instantiates : Terms → ℕ → Request → Grants → Reply → Grants → Type 0
 Instantiates t n request grants (Instance memories tables) new =
-    IsGranted t request memories × (tables ≡ []) × (new ≡ slice_set grants n (Some (record { memories = begun_memories t request.wants memories })))
+    IsGranted t request memories × (tables ≡ []) × (new ≡ slice_set grants n (Some (begun_instance t request memories)))
 Instantiates t n request grants (Refused refusal) new = IsCause t request refusal × (new ≡ grants)
 Instantiates t n request grants _ new = ⊥
 

@@ -8,7 +8,7 @@ use Rattle.pool_slots.specs.declared.errors.AllocError.{AllocError}
 use Rattle.pool_slots.specs.declared.errors.AllocError.TheVariants as alloc
 use Rattle.pool_slots.specs.declared.errors.ConcurrencyKind.{ConcurrencyKind}
 use Rattle.pool_slots.specs.declared.errors.ConcurrencyKind.TheVariants.{MemoryStripe, CoreInstances}
-use Rattle.pool_run.specs.Private.{PrivateMemory, PrivateInstance, PrivateState, PrivateStep, Grants, Terms, grant_at, private_memories, Request, request_of, slots_asked, growth, StepsBy, with_grants, no_grants}
+use Rattle.pool_run.specs.Private.{PrivateMemory, PrivateInstance, PrivateState, PrivateStep, Grants, Terms, grant_at, private_memories, Request, request_of, wants_of, slots_asked, growth, StepsBy, with_grants, no_grants}
 use Rattle.pool_run.specs.Objects.{object_at}
 use Rattle.pool_run.specs.Acts.{MemoryOp, grows, Act, requests, on_memory, act_of}
 use Rattle.pool_run.specs.declared.command.Command.{Command}
@@ -48,27 +48,31 @@ abbrev pub world_at : World → ℕ → World
 world_at w i = under (slice_index_or w.rules i always) w
 
 -- no live memory is in this slot
-abbrev pub IsOfNoGrant : ℕ → Grants → Type 0
-IsOfNoGrant slot grants = (i : ℕ) → IfSome (grant_at grants i) (λ g. All (λ m. m.slot ≢ slot) g.memories)
+abbrev pub HasNoMemoryIn : ℕ → Grants → Type 0
+HasNoMemoryIn slot grants = (i : ℕ) → IfSome (grant_at grants i) (λ g. All (λ m. m.slot ≢ slot) g.memories)
 
 -- no slot is named twice
 abbrev pub AllDiffer : List ℕ → Type 0
 AllDiffer slots = (i j : ℕ) → i < length slots → j < length slots → slice_index_or slots i 0 ≡ slice_index_or slots j 0 → i ≡ j
 
--- An instance that is granted has slots of the pool, which are free and differ, and the party's own grants leave room for
--- it.
-pub record HasRoom (w : World) (request : Request) (grants : Grants) (slots : List ℕ) : Type 0 where
-  pub inside : All (λ slot. slot < w.terms.slots) slots
-  pub free : All (λ slot. IsOfNoGrant slot grants) slots
+-- These slots of a kind, of which there are so many, are slots of the pool, free and different, and those that are live
+-- leave room for them.
+pub record AreFreeSlots (total live : ℕ) (IsFree : ℕ → Type 0) (slots : List ℕ) : Type 0 where
+  pub inside : All (λ slot. slot < total) slots
+  pub free : All IsFree slots
   pub differ : AllDiffer slots
-  pub memories : live_count grants + length request.wants ≤ w.terms.slots
+  pub few : live + length slots ≤ total
+
+-- An instance that is granted has free slots, and the party's own grants leave room for it.
+pub record HasRoom (w : World) (grants : Grants) (memory_slots : List ℕ) : Type 0 where
+  pub memories : AreFreeSlots w.terms.slots (live_count grants) (λ slot. HasNoMemoryIn slot grants) memory_slots
   pub instances : instance_count grants < w.terms.settings.max_core_instances
 
 -- A party that is alone is refused for room only where all that there is of this kind is its own: instances, or the slots,
 -- with those of the memories of the request before the one for which none is free.
 abbrev pub IsFull : World → Request → Grants → ConcurrencyKind → Type 0
 IsFull w request grants CoreInstances = w.terms.settings.max_core_instances ≤ instance_count grants
-IsFull w request grants (MemoryStripe s) = (i : ℕ) × (i < slots_asked w.terms.rule request.wants) × (w.terms.slots ≤ live_count grants + i)
+IsFull w request grants (MemoryStripe s) = (i : ℕ) × (i < slots_asked w.terms.rule (wants_of request)) × (w.terms.slots ≤ live_count grants + i)
 IsFull w request grants _ = ⊥
 
 -- the plan that this slot's region is made with, where it is told, lists a call on it
@@ -86,7 +90,7 @@ IsForRoom w request grants _ = Unit {0}
 
 -- what the reply to a request for an instance tells of room
 abbrev pub TellsRoom : World → Request → Grants → Reply → Type 0
-TellsRoom w request grants (Instance memories tables) = HasRoom w request grants memories
+TellsRoom w request grants (Instance memories tables) = HasRoom w grants memories
 TellsRoom w request grants (Refused (Alloc e)) = IsForRoom w request grants e
 TellsRoom w request grants _ = Unit {0}
 

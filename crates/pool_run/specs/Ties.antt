@@ -7,6 +7,8 @@ use Rattle.pool_alloc.specs.Reserved.{Reserved}
 use Rattle.pool_alloc.specs.Searches.{IsSearched}
 use Rattle.pool_alloc.specs.Stages.{Progress, untested, uncounted, admitted, Stage, no_call, keys, asks, returning, refusing, stage_of}
 use Rattle.pool_alloc.specs.Steps.{memories_wanted, images_wanted}
+use Rattle.pool_alloc.specs.Wants.{Want, wants_from}
+use Rattle.pool_slots.specs.declared.slot_name.SlotName.{SlotName}
 use Rattle.pool_alloc.specs.Places.{Thing, right_to, region_of, away_count, kept_count, frame_count, phase_instances, frame_memories}
 use Rattle.pool_alloc.specs.Stepping.{grant_count, grant_instances, grant_memories}
 use Rattle.pool_alloc.specs.Calls.{IsGrant}
@@ -16,7 +18,7 @@ use Rattle.pool_alloc.specs.declared.pool_core.PoolCore.{PoolCore}
 use Rattle.pool_alloc.specs.declared.frame.Frame.{Frame}
 use Rattle.pool_alloc.specs.Asked.{ModuleAsked}
 use Rattle.pool_alloc.specs.declared.frame.Grant.{Grant}
-use Rattle.pool_run.specs.Private.{Grants, Want, wants_from, Request, request_of, grant_at, own_refusal, IsCause, StepsBy, with_grants}
+use Rattle.pool_run.specs.Private.{Grants, Request, request_of, wants_of, grant_at, own_refusal, IsCause, StepsBy, with_grants}
 use Rattle.pool_run.specs.Rooms.{World, PooledStep, IsForRoom, instance_count}
 use Rattle.pool_run.specs.Turns.{grants_of}
 use Rattle.pool_run.specs.Acts.{requests, drops, act_at}
@@ -24,10 +26,6 @@ use Rattle.pool_run.specs.declared.command.Command.{Command}
 use Rattle.pool_run.specs.declared.reply.Reply.{Reply}
 use Rattle.pool_run.specs.declared.reply.Refusal.TheVariants.{Alloc}
 use Rattle.pool_run.specs.declared.running_party.RunningParty.{RunningParty}
-
--- what is asked for
-abbrev pub wants_asked : Option ModuleAsked → List Want
-wants_asked asked = wants_from (memories_wanted asked) (images_wanted asked)
 
 -- thing k that is asked for has no refusal of its own
 abbrev pub HasNoRefusal : GrowthRule → List Want → ℕ → Type 0
@@ -38,7 +36,7 @@ HasNoRefusal rule wants k = IfSome (slice_get wants k) (λ want. own_refusal rul
 pub record IsAdmitted (w : World) (request : Request) (told : Grants) (n : ℕ) : Type 0 where
   pub supported : request.broken ≡ None
   pub counted : instance_count told < w.terms.settings.max_core_instances
-  pub allowed : (k : ℕ) → k < n → HasNoRefusal w.terms.rule request.wants k
+  pub allowed : (k : ℕ) → k < n → HasNoRefusal w.terms.rule (wants_of request) k
 
 abbrev pub IsSoFar : World → Request → Grants → Progress → Type 0
 IsSoFar w request told untested = Unit {0}
@@ -49,11 +47,15 @@ IsSoFar w request told (admitted n) = IsAdmitted w request told n
 abbrev pub HasCause : World → Request → Grants → AllocError → Type 0
 HasCause w request told e = IsCause w.terms request (Alloc e) × IsForRoom w request told e
 
+-- a call asks for what the request is for
+pub record IsFor (request : Request) (asked : Option ModuleAsked) : Type 0 where
+  pub memories : wants_from (memories_wanted asked) (images_wanted asked) ≡ request.memories
+
 -- the command under way requests an instance, and what is asked for is what it is for
 pub record IsRequest (w : World) (commands : List Command) (done : ℕ) (asked : Option ModuleAsked) (told : Grants) (progress : Progress) : Type 0 where
   pub number : ℕ
   pub act : act_at commands done ≡ Some (requests number)
-  pub asked_for : wants_asked asked ≡ (request_of w.terms number).wants
+  pub asked_for : IsFor (request_of w.terms number) asked
   pub so_far : IsSoFar w (request_of w.terms number) told progress
 
 -- it requests one, and is to be refused
@@ -123,7 +125,7 @@ module _ {P : Type 0} where
   -- have no region without its slot, and what the party has counted is counted.
   pub record FitsParty (c : PoolCore P) (p : RunningParty P) : Type 0 where
     pub once : (t : Thing) → kept_count t c + (held_by_party p).places t ≤ away_count t c
-    pub others : (i : ℕ) → away_count (region_of i) c + (kept_count (right_to i) c + (held_by_party p).places (right_to i)) ≤ away_count (right_to i) c + (kept_count (region_of i) c + (held_by_party p).places (region_of i))
+    pub others : (name : SlotName) → away_count (region_of name) c + (kept_count (right_to name) c + (held_by_party p).places (right_to name)) ≤ away_count (right_to name) c + (kept_count (region_of name) c + (held_by_party p).places (region_of name))
     pub instances : (held_by_party p).instances ≤ c.counters.core_instances
     pub memories : (held_by_party p).memories ≤ c.counters.memories
 

@@ -102,6 +102,13 @@ module _ {P : Type 0} where
   abbrev pub ended_with : Reply → PoolCore P → RunningParty P → Turned P
   ended_with reply c p = record { core = c; party = record p { done = p.done + 1 }; reply = Some reply }
 
+  -- its first step was its last
+  abbrev pub one_step : Frame P → Frame P
+  one_step f = record f { step_count = 1 }
+
+  abbrev pub ended_at_once : Reply → PoolCore P → RunningParty P → Turned P
+  ended_at_once reply c p = ended_with reply c (record p { frame = one_step p.frame })
+
   -- the reply to a request that was granted
   abbrev pub granted_reply : Grant P → Reply
   granted_reply (instance lease) = Instance (map (λ l. l.index) lease.memories.items) []
@@ -170,7 +177,7 @@ module _ {P : Type 0} where
   -- what a turn leaves that opens so
   abbrev pub Leaves : Opening P → PoolCore P → RunningParty P → Turned P → Type 0
   Leaves rests c p t = t ≡ record { core = c; party = p; reply = None }
-  Leaves (replies reply live) c p t = t ≡ ended_with reply c (record p { live = live })
+  Leaves (replies reply live) c p t = t ≡ ended_at_once reply c (record p { live = live })
   Leaves (makes_step frame live) c p t = Steps c (record p { frame = frame; live = live }) t
 
   abbrev pub TurnsFrom : (Opening P → Type 0) → PoolCore P → RunningParty P → Turned P → Type 0

@@ -11,7 +11,7 @@ use Rattle.pool_alloc.specs.declared.pool_core.Settings.{Settings}
 use Rattle.pool_alloc.specs.Asked.{ModuleAsked}
 use Rattle.pool_run.specs.Private.{Terms, request_of}
 use Rattle.pool_run.specs.Rooms.{World}
-use Rattle.pool_run.specs.Ties.{wants_asked}
+use Rattle.pool_run.specs.Ties.{IsFor}
 use Rattle.pool_run.specs.Acts.{Act, requests, act_of}
 use Rattle.pool_run.specs.declared.command.Command.{Command}
 
@@ -38,7 +38,7 @@ AreFit s modules = (number : ℕ) → IfSome (slice_get modules number) (IsFit s
 
 -- the call is one for the module of this number
 pub record IsCallFor (t : Terms) (s : Settings) (number : ℕ) (m : ModuleAsked) : Type 0 where
-  pub asked : wants_asked (Some m) ≡ (request_of t number).wants
+  pub asked : IsFor (request_of t number) (Some m)
   pub fit : IsFit s m
 
 -- each call is one for the module of its number

@@ -1,12 +1,13 @@
-ghost use Rattle.std.specs.Prelude.{◌≡◌, ◌+◌, ◌^◌, ◌<◌, ◌≤◌, [], length, map, slice_get, slice_index_or, IfOk, None, Some};
+ghost use Rattle.std.specs.Prelude.{◌≡◌, ℕ, ◌+◌, ◌^◌, ◌<◌, ◌≤◌, [], length, map, slice_get, slice_index_or, IfOk, None, Some};
 ghost use Rattle.pool_pages.specs.MakerTold.{MakerTold};
 ghost use Rattle.pool_alloc.specs.Calls.{IsIdle, IfGranted, begun_call};
+ghost use Rattle.pool_alloc.specs.Reserved.{Reserved};
 ghost use Rattle.pool_alloc.specs.Steps.{memories_wanted};
 ghost use Rattle.pool_alloc.specs.Stepping.{CanStep, CanCount, is_idle};
 ghost use Rattle.pool_run.specs.AtOnce.{given_act};
 ghost use Rattle.pool_run.specs.PartyRules.{rule_of};
 ghost use Rattle.pool_run.specs.Ties.{CanTurn, IsReserved};
-ghost use Rattle.pool_run.specs.Turns.{leases_of, granted_reply, answered, slots_after, StepsUnder, Steps, makes_step, drop_opening, OpensRequest, OpensAct, OpensNext, TurnsFrom, Turns};
+ghost use Rattle.pool_run.specs.Turns.{leases_of, granted_reply, answered, ended_at_once, slots_after, StepsUnder, Steps, makes_step, drop_opening, OpensRequest, OpensAct, OpensNext, TurnsFrom, Turns};
 ghost use Rattle.pool_run.specs.Worlds.{IsFit, AreFit, NamesModule, NameModules};
 
 use crate::act::{Act, act_of};
@@ -246,11 +247,21 @@ fn begin<P: Pages>(
         Act::Request { module } => ask(alloc, core, &modules[*module], party, slots),
         Act::OnMemory { of, memory, op } => {
             let reply = act_on(alloc, &mut party.live, *of, *memory, op, party.limits);
-            party.done += 1;
-            Some(reply)
+            end_at_once(party, reply)
         }
         Act::Drop { of } => give_back(alloc, core, party, slots, *of),
     }
+}
+
+// A command ends with its first step.
+fn end_at_once<P: Pages>(party: &mut RunningParty<P>, reply: Reply) -> Option<Reply>
+    requires small { party.old.done + 1 < 2 ^ 64 }
+    ensures turn { (c : PoolCore P) → record { core = c; party = party.new; reply = result } ≡ ended_at_once reply c party.old }
+    ensures reserved { (slots : Reserved ℕ) → IsReserved party.old.frame slots → IsReserved party.new.frame slots }
+{
+    party.frame.step_count = 1;
+    party.done += 1;
+    Some(reply)
 }
 
 // Asks for an instance of a module.
@@ -273,10 +284,7 @@ fn ask<P: Pages>(
     ensures reserved { IsReserved party.new.frame slots.new }
 {
     match prepare(alloc, kept) {
-        Err(_) => {
-            party.done += 1;
-            Some(Reply::Refused(Refusal::Alloc(Cause::Memory)))
-        }
+        Err(_) => end_at_once(party, Reply::Refused(Refusal::Alloc(Cause::Memory))),
         Ok(prepared) => {
             *slots = prepared.1;
             party.frame.begin(Call::Module(prepared.0));
@@ -329,10 +337,7 @@ fn give_back<P: Pages>(
     ensures reserved { IsReserved party.new.frame slots.new }
 {
     match party.live.take(of) {
-        None => {
-            party.done += 1;
-            Some(Reply::Refused(Refusal::NoSuchGrant))
-        }
+        None => end_at_once(party, Reply::Refused(Refusal::NoSuchGrant)),
         Some(grant) => {
             party.frame.begin(Call::GiveBack(grant));
             step_call(alloc, core, party, slots)

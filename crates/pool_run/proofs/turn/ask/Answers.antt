@@ -12,7 +12,7 @@ use Rattle.pool_run.proofs.TurnsMade.{ok_there}
 use Rattle.pool_run.proofs.turn.ask.Goals as goal
 
 pub returns-in-Err-clause-turn : goal.returns-in-Err-clause-turn
-returns-in-Err-clause-turn g c = (replies (Refused (Alloc Memory)) c.args.party.now.live, inl refl, refl)
+returns-in-Err-clause-turn g c = (replies (Refused (Alloc Memory)) c.args.party.now.live, inl refl, c.end_at_once.ensures.turn c.args.core.now)
 
 pub returns-in-Ok-clause-turn : goal.returns-in-Ok-clause-turn
 returns-in-Ok-clause-turn g c =
@@ -24,3 +24,6 @@ returns-in-Ok-clause-turn g c =
     let t : Turned P = record { core = c.step_call.new.core; party = c.step_call.new.party; reply = c.step_call.result } in
     let S : Frame P → Type 0 = λ f. Steps c.args.core.now (record p { frame = f }) t in
     (makes_step (begun_call (call.Module kept) p.frame) p.live, inr refl, subst S (c.begin.ensures.value ∙ ap Begun share) c.step_call.ensures.steps)
+
+pub returns-in-Err-clause-reserved : goal.returns-in-Err-clause-reserved
+returns-in-Err-clause-reserved g c = c.end_at_once.ensures.reserved c.args.slots.now c.requires.1.1.1.1.1.1.1

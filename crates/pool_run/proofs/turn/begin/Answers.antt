@@ -1,7 +1,7 @@
 use Rattle.std.proofs.Common.{refl, sym, subst}
 use Rattle.pool_alloc.specs.declared.pool_core.PoolCore.{PoolCore}
 use Rattle.pool_run.specs.AtOnce.{given_act}
-use Rattle.pool_run.specs.Turns.{replies, OpensAct, TurnsFrom, ended_with}
+use Rattle.pool_run.specs.Turns.{Turned, replies, OpensAct, TurnsFrom}
 use Rattle.pool_run.specs.declared.act.Act.{Act}
 use Rattle.pool_run.specs.declared.running_party.RunningParty.{RunningParty}
 use Rattle.pool_run.proofs.turn.begin.Goals as goal
@@ -11,5 +11,9 @@ returns-in-OnMemory-clause-turn g c =
     let P : Type 0 = g.row.P.Denot in
     let core : PoolCore P = c.args.core.now in
     let p : RunningParty P = c.args.party.now in
-    let T : Act → Type 0 = λ act. TurnsFrom (OpensAct c.args.modules.now (given_act act) p) core p (ended_with c.act_on-reply.result core (record p { live = c.act_on-reply.new.live })) in
-    subst T (sym c.in-OnMemory.is) (replies c.act_on-reply.result c.act_on-reply.new.live, (c.act_on-reply.result, c.act_on-reply.new.live, c.act_on-reply.ensures, refl), refl)
+    let t : Turned P = record { core = core; party = c.end_at_once.new.party; reply = c.end_at_once.result } in
+    let T : Act → Type 0 = λ act. TurnsFrom (OpensAct c.args.modules.now (given_act act) p) core p t in
+    subst T (sym c.in-OnMemory.is) (replies c.act_on-reply.result c.act_on-reply.new.live, (c.act_on-reply.result, c.act_on-reply.new.live, c.act_on-reply.ensures, refl), c.end_at_once.ensures.turn core)
+
+pub returns-in-OnMemory-clause-reserved : goal.returns-in-OnMemory-clause-reserved
+returns-in-OnMemory-clause-reserved g c = c.end_at_once.ensures.reserved c.args.slots.now c.requires.1.1.1.1.1.1.1.1
