@@ -1,13 +1,8 @@
-use pool_hall::SlotKind;
-use pool_slots::{OfKinds, Plan, SlotName, StripedPlanSettings, make_striped_plan};
-use std::test::Fail;
+ghost use Rattle.std.specs.Prelude.{◌≡◌};
 
-fn memory(slot: u32) -> SlotName {
-    SlotName {
-        kind: SlotKind::Memory,
-        slot,
-    }
-}
+use pool_hall::SlotKind;
+use pool_slots::{OfKinds, SlotName, StripedPlanSettings, make_striped_plan};
+use std::test::Fail;
 
 // 130 memories in fifteen shards of nine but the last, which has four; a shard of each other kind; four queues. So there
 // are 18 shards, 155 cells, four queues and the list of heaps.
@@ -25,7 +20,10 @@ fn a_plan_of_all_kinds(rt: HostRuntime) -> Result<(), Fail> {
         queues: 4,
     };
     let plan = make_striped_plan(rt.alloc(), &settings)?;
-    let last = memory(129);
+    let last = SlotName {
+        kind: SlotKind::Memory,
+        slot: 129,
+    };
     let home = plan.home_of(last);
     assert_eq!(rt; (home.place, home.local.0), (14, 3));
     let table = SlotName {
@@ -39,7 +37,10 @@ fn a_plan_of_all_kinds(rt: HostRuntime) -> Result<(), Fail> {
     Ok(())
 }
 
-fn memories_in_stripes(memory: u32, num_stripes: u32) -> StripedPlanSettings {
+fn memories_in_stripes(memory: u32, num_stripes: u32) -> StripedPlanSettings
+    ensures memories { result.totals.memory ≡ memory }
+    ensures stripes { result.num_stripes ≡ num_stripes }
+{
     StripedPlanSettings {
         totals: OfKinds {
             memory,
@@ -57,11 +58,13 @@ fn memories_in_stripes(memory: u32, num_stripes: u32) -> StripedPlanSettings {
 #[test]
 fn slots_are_dealt_out_to_the_stripes(rt: HostRuntime) -> Result<(), Fail> {
     let plan = make_striped_plan(rt.alloc(), &memories_in_stripes(10, 3))?;
-    let homes = [0, 4, 9].map(|slot| plan.home_of(memory(slot)));
-    let homes = homes.map(|home| (home.place, home.local.0));
-    assert_eq!(rt; homes, [(0, 0), (1, 1), (0, 3)]);
+    let kind = SlotKind::Memory;
+    let home = plan.home_of(SlotName { kind, slot: 4 });
+    assert_eq!(rt; (home.place, home.local.0), (1, 1));
+    let home = plan.home_of(SlotName { kind, slot: 9 });
+    assert_eq!(rt; (home.place, home.local.0), (0, 3));
     assert_eq!(rt; plan.memories.as_slice().len(), 3);
-    assert_eq!(rt; (plan.cell_place(memory(4)), plan.first_queue), (10, 16));
+    assert_eq!(rt; (plan.cells.memory, plan.first_queue), (6, 16));
     Ok(())
 }
 
