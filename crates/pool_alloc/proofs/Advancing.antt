@@ -6,14 +6,14 @@ use Rattle.pool_slots.specs.SlotQueues.{empty_queue}
 use Rattle.pool_limits.specs.Exchanges.{Exchange, Exchanged}
 use Rattle.pool_limits.specs.LimiterTold.{LimiterTold}
 use Rattle.pool_alloc.specs.Answers.{MayBeTold, IsPlanned, AsksOf, LimiterHears}
-use Rattle.pool_alloc.specs.Steps.{StepGiven, memories_wanted}
+use Rattle.pool_alloc.specs.Steps.{tables_wanted, StepGiven, memories_wanted}
 use Rattle.pool_alloc.specs.Rows.{row_of}
 use Rattle.pool_alloc.specs.Turns.{After, stepped}
 use Rattle.pool_alloc.specs.Stepping.{Takes, StepsTo, StepsAsking}
 use Rattle.pool_alloc.specs.declared.pool_core.PoolCore.{PoolCore}
 use Rattle.pool_alloc.specs.declared.frame.Frame.{Frame}
 use Rattle.pool_alloc.specs.declared.frame.Phase.{Phase}
-use Rattle.pool_alloc.specs.declared.frame.Phase.TheVariants.{Idle, MakeMemory}
+use Rattle.pool_alloc.specs.declared.frame.Phase.TheVariants.{Idle, MakeMemory, MakeTable}
 
 -- what a step is told that is told nothing
 abbrev pub nothing_told : StepGiven
@@ -45,6 +45,7 @@ module _ {P : Type 0} where
   -- nothing need pass where there is no limiter
   passes_at : (g : StepGiven) (next : Phase P) (f : Frame P) → LimiterHears (λ passed. Unit {0}) g next f
   passes_at g (MakeMemory slot held) f = told_of_none (slice_get (memories_wanted f.asked) (length f.objects.memories.items))
+  passes_at g (MakeTable at region) f = told_of_none (slice_get (tables_wanted f.asked) (length f.objects.tables.items))
   passes_at g next f = tt
 
   pub without_limiter : {old new : LimiterTold} (c : PoolCore P) (f : Frame P) (a : After P) → StepsTo old new c f a → StepsAsking (λ passed. Unit {0}) old new c f a

@@ -1,13 +1,14 @@
 -- The rows of a request until it has a slot.
+use Rattle.pool_hall.specs.declared.unit_name.SlotKind.TheVariants.{Memory as memory_kind}
 use Rattle.pool_slots.specs.declared.plan.Allocator.{Allocator}
 use Rattle.pool_slots.specs.declared.slot_name.SlotName.{SlotName}
 use Rattle.pool_hall.specs.declared.unit_name.SlotKind.{SlotKind}
 use Rattle.pool_hall.specs.Unit.{pick_unit}
-use Rattle.pool_alloc.proofs.PlanPlaces.{IsShardPlace, IsQueuePlace, apart_places, tried_role, tried_is_shard, tried_is_queue, stripe_most}
+use Rattle.pool_alloc.proofs.PlanPlaces.{IsShardPlace, IsQueuePlace, apart_places, tried_role, tried_is_shard, tried_is_queue, allocator_most, allocator_holds}
 use Rattle.std.proofs.Common.{◌≡◌, ℕ, ◌+◌, ◌<◌, ◌≤◌, Bool, true, false, List, [], length, refl, sym, ap, subst, inl, arith, Option, Some, None}
 use Rattle.std.specs.Prelude.{◌==◌, ◌%◌, nat_lt, IfSome}
 use Rattle.std.proofs.lemmas.Bool.{ltb-true, ltb-false}
-use Rattle.std.proofs.lemmas.List.Elements.{All-nil}
+use Rattle.std.proofs.lemmas.List.Elements.{All-nil, All-same}
 use Rattle.std.proofs.Math.Nat.{mod-lt}
 use Rattle.pool_pages.specs.MakerTold.{MakerTold}
 use Rattle.pool_limits.specs.LimiterTold.{LimiterTold}
@@ -26,15 +27,17 @@ use Rattle.pool_slots.specs.declared.errors.AllocError.TheVariants as refusal
 use Rattle.pool_slots.proofs.SlotRuns.{no_slots}
 use Rattle.pool_alloc.specs.Bounds.{PoolSizes, give_back_bound, sizes_of, flush_left, objects_left}
 use Rattle.pool_alloc.specs.Leases.{Lease}
-use Rattle.pool_alloc.specs.Places.{right_to, queued_count, leased_count, freed_count, Thing, slot_count}
-use Rattle.pool_alloc.specs.Refusals.{memories_refused}
+use Rattle.pool_alloc.specs.PoolTables.{IsTableLease}
+use Rattle.pool_alloc.specs.TableLeases.{LeasedTable}
+use Rattle.pool_alloc.specs.Places.{right_to, queued_count, leased_count, tables_count, freed_count, Thing, slot_count}
+use Rattle.pool_alloc.specs.Refusals.{module_refused}
 use Rattle.pool_alloc.specs.Rows.{key_row, refused_at_once, reserved, validated, validate_row, counted, count_instance_row, picked, pick_on, in_shard, take_queue_on, in_queue}
 use Rattle.pool_alloc.specs.Searches.{AreFull, AreEmpty, IsSearchedBy}
 use Rattle.pool_alloc.specs.Objects.{objects_in}
 use Rattle.pool_alloc.specs.Sound.{IsCore, IsSlotName, IsShared, IsLeaseOf, IsToGrant, AreBegun}
 use Rattle.pool_alloc.specs.Stages.{uncounted, asks, stage_by, IsUntested, Goes}
-use Rattle.pool_alloc.specs.Steps.{memories_wanted, images_wanted, wanted, shard_at, queue_at, with_shard, with_queue, counting_instances, shard_tried, queue_tried, memory_slots, allocator_for}
-use Rattle.pool_alloc.specs.Turns.{goes, next, flush, Row, failing, no_slot_left, memory_search}
+use Rattle.pool_alloc.specs.Steps.{memories_wanted, images_wanted, tables_wanted, kind_next, wanted, shard_at, queue_at, with_shard, with_queue, counting_instances, shard_tried, queue_tried, allocator_for}
+use Rattle.pool_alloc.specs.Turns.{goes, next, flush, Row, failing, no_slot_left, slot_search}
 use Rattle.pool_alloc.proofs.CoreChanges.{core_with_shard, core_with_queue, core_with_counters}
 use Rattle.pool_alloc.proofs.FlushSteps.{few_in_queue, flush_few}
 use Rattle.pool_alloc.proofs.FullShards.{nothing_left}
@@ -59,7 +62,7 @@ picked_slot t a s (Some p) = slot_count t (picked_name a s p.0.0)
 picked_slot t a s None = 0
 
 abbrev picked_hand : Allocator → ShardState → Option (SlotId × ℕ) → Hand
-picked_hand a shard o = record { things = λ t. picked_slot t a shard o; instances = 1; memories = 0 }
+picked_hand a shard o = record { things = λ t. picked_slot t a shard o; instances = 1; memories = 0; tables = 0 }
 
 picked_as : (t : Thing) (a : Allocator) (s : ShardState) (o : Option (SlotId × ℕ)) → s.kind ≡ a.kind → picked_count t s o ≡ picked_slot t a s o
 picked_as t a s None kind = refl
@@ -74,55 +77,58 @@ module _ {P : Type 0} (maker : MakerTold) (old new : LimiterTold) where
   key_ready c f can = record {
     kept = record {
       core = core_with_counters maker (record c.counters { key = _ }) c can.core;
-      held = record { stripe = mod-lt c.counters.key can.core.plan.stripes; queue = can.frame.queue; freed_room = can.frame.freed_room; freed_each = can.frame.freed_each; objects = can.frame.objects };
+      held = record { stripe = mod-lt c.counters.key can.core.plan.stripes; queue = can.frame.queue; freed_room = can.frame.freed_room; freed_each = can.frame.freed_each; freed_order = can.frame.freed_order; objects = can.frame.objects };
       asked = refl;
       settings = refl;
       plan = refl;
       instances_by_one = omega arith;
       memories_by_one = omega arith;
+      tables_by_one = omega arith;
     };
     shape = (can.frame.shape, tt);
-    even = record { places = λ t. omega arith; instances = omega arith; memories = omega arith };
+    even = record { places = λ t. omega arith; instances = omega arith; memories = omega arith; tables = omega arith };
     fewer = omega arith;
     way = tt;
     searched = λ s. tt;
   }
 
   -- A request is refused before anything is granted.
-  refused_ready : (e : AllocError) (c : PoolCore P) (f : Frame P) → Can maker Validate c f → IsUntested (memories_refused c.settings (memories_wanted f.asked)) e → Shows Validate c f (refused_at_once e c (in_phase Idle f))
+  refused_ready : (e : AllocError) (c : PoolCore P) (f : Frame P) → Can maker Validate c f → IsUntested (module_refused c.settings c.plan.totals.table (memories_wanted f.asked) (tables_wanted f.asked)) e → Shows Validate c f (refused_at_once e c (in_phase Idle f))
   refused_ready e c f can is = record {
     kept = kept_part maker old new c (in_phase Validate f) c (failing e (in_phase Idle f)) can.core (held_of maker c.settings c.plan (in_phase Validate f) can.frame) refl refl refl refl;
     shape = (can.frame.shape.0, tt);
-    even = record { places = λ t. omega arith; instances = omega arith; memories = omega arith };
+    even = record { places = λ t. omega arith; instances = omega arith; memories = omega arith; tables = omega arith };
     fewer = omega arith;
     way = is;
     searched = λ s. tt;
   }
 
-  reserved_ready : (wants : Bool) (c : PoolCore P) (f : Frame P) → Can maker Validate c f → memories_refused c.settings (memories_wanted f.asked) ≡ None → Shows Validate c f (reserved wants c (in_phase Idle f))
+  reserved_ready : (wants : Bool) (c : PoolCore P) (f : Frame P) → Can maker Validate c f → module_refused c.settings c.plan.totals.table (memories_wanted f.asked) (tables_wanted f.asked) ≡ None → Shows Validate c f (reserved wants c (in_phase Idle f))
   reserved_ready true c f can is = refused_ready refusal.Memory c f can (let U : Option Unsupported → Type 0 = λ o. IsUntested o refusal.Memory in subst U (sym is) refl)
   reserved_ready false c f can is =
       let rest = can.frame.shape.0 in
       let asking = can.frame.shape.1 in
       let none : f.objects.memories.items ≡ [] = rest.no_memories in
-      let has : Frame P = record f { phase = Idle; objects = record { memories = record { items = []; room = length (memories_wanted f.asked) } } } in
+      let none_more : f.objects.tables.items ≡ [] = rest.no_tables in
+      let has : Frame P = record f { phase = Idle; objects = record { memories = record { items = []; room = length (memories_wanted f.asked) }; tables = record { items = []; room = length (tables_wanted f.asked) } } } in
+      let both = supported c.settings c.plan.totals.table (memories_wanted f.asked) (tables_wanted f.asked) (images_wanted f.asked) can.core.settings.memories can.frame.shape.2 is in
       record {
         kept = kept_part maker old new c (in_phase Validate f) c has can.core
-            (record { stripe = can.frame.stripe; queue = can.frame.queue; freed_room = can.frame.freed_room; freed_each = can.frame.freed_each; objects = All-nil (IsLeaseOf maker c.settings c.plan) })
+            (record { stripe = can.frame.stripe; queue = can.frame.queue; freed_room = can.frame.freed_room; freed_each = can.frame.freed_each; freed_order = can.frame.freed_order; objects = (All-nil (IsLeaseOf maker c.settings c.plan), All-nil (IsTableLease maker c.settings c.plan)) })
             refl refl refl refl;
-        shape = (refl, (record { settled = rest.settled; no_memories = refl }, asking, supported c.settings (memories_wanted f.asked) (images_wanted f.asked) can.core.settings.memories can.frame.shape.2 is, refl));
-        even = record { places = λ t. omega (arith, ap (leased_count t) none); instances = omega arith; memories = omega (arith, ap (length {A = Lease}) none) };
+        shape = (refl, (record { settled = rest.settled; no_memories = refl; no_tables = refl }, asking, both.0, refl, refl, both.1));
+        even = record { places = λ t. omega (arith, ap (leased_count t) none, ap (tables_count t) none_more); instances = omega arith; memories = omega (arith, ap (length {A = Lease}) none); tables = omega (arith, ap (length {A = LeasedTable}) none_more) };
         fewer = omega arith;
         way = is;
         searched = λ s. tt;
       }
 
-  validated_ready : (o : Option Unsupported) (wants : Bool) (c : PoolCore P) (f : Frame P) → Can maker Validate c f → memories_refused c.settings (memories_wanted f.asked) ≡ o → Shows Validate c f (validated o wants c (in_phase Idle f))
+  validated_ready : (o : Option Unsupported) (wants : Bool) (c : PoolCore P) (f : Frame P) → Can maker Validate c f → module_refused c.settings c.plan.totals.table (memories_wanted f.asked) (tables_wanted f.asked) ≡ o → Shows Validate c f (validated o wants c (in_phase Idle f))
   validated_ready (Some rule) wants c f can is = refused_ready (refusal.Unsupported rule) c f can (let U : Option Unsupported → Type 0 = λ o. IsUntested o (refusal.Unsupported rule) in subst U (sym is) refl)
   validated_ready None wants c f can is = reserved_ready wants c f can is
 
   pub validate_ready : (wants : Bool) (c : PoolCore P) (f : Frame P) → Can maker Validate c f → Shows Validate c f (validate_row wants c (in_phase Idle f))
-  validate_ready wants c f can = validated_ready (memories_refused c.settings (memories_wanted f.asked)) wants c f can refl
+  validate_ready wants c f can = validated_ready (module_refused c.settings c.plan.totals.table (memories_wanted f.asked) (tables_wanted f.asked)) wants c f can refl
 
   -- The instance is counted.
   counted_ready : (b : Bool) (c : PoolCore P) (f : Frame P) → Can maker CountInstance c f → nat_lt c.counters.core_instances c.settings.max_core_instances ≡ b → Shows CountInstance c f (counted b c (in_phase Idle f))
@@ -130,34 +136,40 @@ module _ {P : Type 0} (maker : MakerTold) (old new : LimiterTold) where
       let rest = can.frame.shape.0 in
       let asking = can.frame.shape.1 in
       let none : f.objects.memories.items ≡ [] = rest.no_memories in
+      let none_more : f.objects.tables.items ≡ [] = rest.no_tables in
+      let nothing : objects_in f.objects ≡ 0 = omega (arith, ap (length {A = Lease}) none, ap (length {A = LeasedTable}) none_more) in
       let now : PoolCore P = counting_instances (c.counters.core_instances + 1) c in
-      let B : List Lease → Type 0 = λ ls. AreBegun {P = P} c.settings f.asked (record f.objects { memories = record f.objects.memories { items = ls } }) in
+      let B : List Lease → List LeasedTable → Type 0 = λ ls ts. AreBegun {P = P} c.settings f.asked (record { memories = record f.objects.memories { items = ls }; tables = record f.objects.tables { items = ts } }) in
       let to_grant : IsToGrant c.settings c.plan f.asked f.queues f.objects = record {
         supported = can.frame.shape.2;
+        tables = can.frame.shape.5;
         images = asking.images;
         room = can.frame.shape.3;
+        table_room = can.frame.shape.4;
         few = omega (arith, ap (length {A = Lease}) none);
-        begun = subst B (sym none) (λ k. tt);
+        few_tables = omega (arith, ap (length {A = LeasedTable}) none_more);
+        order = λ less. none_more;
+        begun = subst (λ ts. B f.objects.memories.items ts) (sym none_more) (subst (λ ls. B ls []) (sym none) (λ k. tt, λ k. tt));
         taken = omega (arith, asking.none_taken);
       } in
       let S : Ending → Type 0 = λ x. IsSearchedBy x (AreEmpty f.queues now (in_phase Idle f)) in
       let W : Ending → Type 0 = λ x. Goes maker old new c (in_phase CountInstance f) (asks uncounted) (stage_by x (objects_in f.objects)) None in
       record {
-        kept = record { core = core_with_counters maker (record c.counters { core_instances = c.counters.core_instances + 1 }) c can.core; held = held_of maker c.settings c.plan (in_phase CountInstance f) can.frame; asked = refl; settings = refl; plan = refl; instances_by_one = omega arith; memories_by_one = omega arith };
+        kept = record { core = core_with_counters maker (record c.counters { core_instances = c.counters.core_instances + 1 }) c can.core; held = held_of maker c.settings c.plan (in_phase CountInstance f) can.frame; asked = refl; settings = refl; plan = refl; instances_by_one = omega arith; memories_by_one = omega arith; tables_by_one = omega arith };
         shape = (rest.settled, aims_grant c.settings c.plan f.ending f.asked f.queues f.objects asking.ending to_grant);
-        even = record { places = λ t. omega arith; instances = omega arith; memories = omega arith };
-        fewer = first_object (sizes_of c.plan) f.ending f.queues f.asked f.objects asking.ending asking.none_taken (ap (length {A = Lease}) none);
-        way = subst W (sym asking.ending) (ap (length {A = Lease}) none, ltb-true _ _ is);
+        even = record { places = λ t. omega arith; instances = omega arith; memories = omega arith; tables = omega arith };
+        fewer = first_object (sizes_of c.plan) f.ending f.queues f.asked f.objects asking.ending asking.none_taken nothing;
+        way = subst W (sym asking.ending) (nothing, ltb-true _ _ is);
         searched = λ s. subst S (sym asking.ending) (λ j below. absurd (omega (arith, below, asking.none_taken)));
       }
   counted_ready false c f can is =
       let rest = can.frame.shape.0 in
-      let none : f.objects.memories.items ≡ [] = rest.no_memories in
+      let nothing : objects_in f.objects ≡ 0 = omega (arith, ap (length {A = Lease}) rest.no_memories, ap (length {A = LeasedTable}) rest.no_tables) in
       record {
-        kept = record { core = core_with_counters maker (record c.counters { core_instances = c.counters.core_instances + 1 }) c can.core; held = held_of maker c.settings c.plan (in_phase CountInstance f) can.frame; asked = refl; settings = refl; plan = refl; instances_by_one = omega arith; memories_by_one = omega arith };
+        kept = record { core = core_with_counters maker (record c.counters { core_instances = c.counters.core_instances + 1 }) c can.core; held = held_of maker c.settings c.plan (in_phase CountInstance f) can.frame; asked = refl; settings = refl; plan = refl; instances_by_one = omega arith; memories_by_one = omega arith; tables_by_one = omega arith };
         shape = (rest.settled, tt);
-        even = record { places = λ t. omega arith; instances = omega arith; memories = omega arith };
-        fewer = omega (arith, same_times (objects_in f.objects) 0 (give_back_bound (sizes_of c.plan)) (ap (length {A = Lease}) none));
+        even = record { places = λ t. omega arith; instances = omega arith; memories = omega arith; tables = omega arith };
+        fewer = omega (arith, same_times (objects_in f.objects) 0 (give_back_bound (sizes_of c.plan)) nothing);
         way = (refl, ltb-false _ _ is);
         searched = λ s. tt;
       }
@@ -177,9 +189,9 @@ module _ {P : Type 0} (maker : MakerTold) (old new : LimiterTold) where
       Ready maker old new c e d (in_phase Idle f) (picked c.plan o shard tried (in_phase Idle f)))
   picked_ready tried (Some p) shard next_shard c f can core inside even full = record {
     kept = kept_part maker old new c (in_phase (Pick tried) f) _ (in_phase Idle f) core (held_of maker c.settings c.plan (in_phase (Pick tried) f) can.frame) refl refl refl refl;
-    shape = (refl, (can.frame.shape.0, can.frame.shape.1, inside));
+    shape = (refl, (can.frame.shape.0, can.frame.shape.1, inside, (allocator_holds c.plan (length c.parts) f can.core.plan can.frame.stripe).kind_is));
     even = even;
-    fewer = omega (arith, can.frame.shape.2, stripe_most c.plan f.stripe can.frame.stripe);
+    fewer = omega (arith, can.frame.shape.2, allocator_most c.plan (length c.parts) (kind_next f) f.stripe can.core.plan can.frame.stripe);
     way = same_way maker old new c (in_phase (Pick tried) f) f.ending (objects_in f.objects);
     searched = λ s. tt;
   }
@@ -192,12 +204,12 @@ module _ {P : Type 0} (maker : MakerTold) (old new : LimiterTold) where
       let empty = still_empty f.queues (shard_tried tried c.plan f) (part.Shard next_shard) c f can.core.plan (λ q queue e. apart_places c.plan (shard_tried tried c.plan f) q tried_place queue (sym e)) in
       let kept = kept_part maker old new c e d (in_phase Idle f) core (held_of maker c.settings c.plan e can.frame) refl refl refl refl in
       let stays = same_way maker old new c e f.ending (objects_in f.objects) in
-      either_ready maker old new c e d (in_phase Idle f) (nat_lt (tried + 1) (allocator_for c.plan f).shards) (goes (Pick (tried + 1))) (memory_search c.plan f)
+      either_ready maker old new c e d (in_phase Idle f) (nat_lt (tried + 1) (allocator_for c.plan f).shards) (goes (Pick (tried + 1))) (slot_search c.plan f)
       (λ more. record {
         kept = kept;
         shape = (refl, (settled, allocating, ltb-true _ _ more));
         even = even;
-        fewer = omega (arith, can.frame.shape.2, stripe_most c.plan f.stripe can.frame.stripe);
+        fewer = omega (arith, can.frame.shape.2, allocator_most c.plan (length c.parts) (kind_next f) f.stripe can.core.plan can.frame.stripe);
         way = stays;
         searched = λ s. (empty s.0, (full refl s.1).1);
       })
@@ -207,7 +219,7 @@ module _ {P : Type 0} (maker : MakerTold) (old new : LimiterTold) where
         kept = kept;
         shape = (refl, settled, allocating);
         even = even;
-        fewer = omega (arith, can.frame.shape.2, stripe_most c.plan f.stripe can.frame.stripe);
+        fewer = omega (arith, can.frame.shape.2, allocator_most c.plan (length c.parts) (kind_next f) f.stripe can.core.plan can.frame.stripe);
         way = (
           stays,
           λ gone. fails_way maker old new c e f.ending (objects_in f.objects) (no_slot_left c.plan f) allocating.ending (inl (record {
@@ -232,7 +244,7 @@ module _ {P : Type 0} (maker : MakerTold) (old new : LimiterTold) where
       picked_ready tried (pick_answer (wanted f) shard) shard (after_pick (wanted f) shard) c f can
       (core_with_shard maker j (after_pick (wanted f) shard) c can.core below (picked_sound (wanted f) shard sound) (picked_same (wanted f) shard))
       (told_weaker (λ p. p.0.0 < shard.capacity) (λ p. IsSlotName c.plan (picked_name a shard p.0.0)) (pick_answer (wanted f) shard) (λ p within. subst (λ (k : SlotKind). IsSlotName c.plan (record { kind = k; slot = slot_number shard p.0.0 })) kind (slot_of_shard maker j p.0.0 c can.core below within).named) (picked_inside (wanted f) shard sound))
-      (record { places = λ t. omega (arith, kept_shard t j (after_pick (wanted f) shard) c (shard_part maker j c can.core below), away_shard t j (after_pick (wanted f) shard) c (shard_part maker j c can.core below), pick_counts t (wanted f) shard sound, picked_as t a shard (pick_answer (wanted f) shard) kind); instances = omega arith; memories = omega arith })
+      (record { places = λ t. omega (arith, kept_shard t j (after_pick (wanted f) shard) c (shard_part maker j c can.core below), away_shard t j (after_pick (wanted f) shard) c (shard_part maker j c can.core below), pick_counts t (wanted f) shard sound, picked_as t a shard (pick_answer (wanted f) shard) kind); instances = omega arith; memories = omega arith; tables = omega arith })
       (λ none full. let more = tried_full maker tried c f can.core can.frame.stripe none full in (more, still_full maker (tried + 1) tried c f can.core can.frame.stripe none more))
 
   -- A queue is taken.
@@ -248,7 +260,18 @@ module _ {P : Type 0} (maker : MakerTold) (old new : LimiterTold) where
       let settled = can.frame.shape.0 in
       let was = can.frame.shape.1.to_grant in
       let z : PoolSizes = sizes_of c.plan in
-      let to_grant : IsToGrant c.settings c.plan f.asked (f.queues + 1) f.objects = record { supported = was.supported; images = was.images; room = was.room; few = was.few; begun = was.begun; taken = omega (arith, can.frame.shape.2) } in
+      let to_grant : IsToGrant c.settings c.plan f.asked (f.queues + 1) f.objects = record {
+        supported = was.supported;
+        tables = was.tables;
+        images = was.images;
+        room = was.room;
+        table_room = was.table_room;
+        few = was.few;
+        few_tables = was.few_tables;
+        order = was.order;
+        begun = was.begun;
+        taken = omega (arith, can.frame.shape.2);
+      } in
       let kept : Kept maker old new c e d has = kept_part maker old new c e d has
       (core_with_queue maker i (after_take q) c can.core below (taken_shared maker c.settings q can.core.settings shared.range_room shared.slot_room))
       (record {
@@ -256,13 +279,14 @@ module _ {P : Type 0} (maker : MakerTold) (old new : LimiterTold) where
         queue = taken_local maker c.settings f.local q can.frame.queue (local_of_shared maker c.settings q shared);
         freed_room = (can.frame.freed_room.0, omega (arith, shared.slots, shared.short, ap (length {A = FreedSlot}) settled.none_freed));
         freed_each = can.frame.freed_each;
+        freed_order = inl (let M : FreedSlot → Type 0 = λ x. x.name.kind ≡ memory_kind in All-same M f.freed.items [] settled.none_freed (All-nil M));
         objects = can.frame.objects;
       })
       refl refl refl refl in
-      let even : Even maker old new c e (hand {P = P} next) d has = record { places = λ t. omega (arith, kept_queue t i (after_take q) c (queue_part maker i c can.core below), away_queue t i (after_take q) c (queue_part maker i c can.core below), ap (queued_count t) settled.no_slots); instances = omega arith; memories = omega arith } in
-      let few = flush_few z (memory_slots c.plan) has.local f.freed shared.grouped (few_in_queue maker i c e can below) in
+      let even : Even maker old new c e (hand {P = P} next) d has = record { places = λ t. omega (arith, kept_queue t i (after_take q) c (queue_part maker i c can.core below), away_queue t i (after_take q) c (queue_part maker i c can.core below), ap (queued_count t) settled.no_slots); instances = omega arith; memories = omega arith; tables = omega arith } in
+      let few = flush_few z (c.plan.totals.memory + c.plan.totals.table) has.local f.freed shared.grouped (few_in_queue maker i c e can below) in
       let stays = same_way maker old new c e f.ending (objects_in f.objects) in
-      either_ready maker old new c e d has (length q.slots == 0) (memory_search c.plan has) flush
+      either_ready maker old new c e d has (length q.slots == 0) (slot_search c.plan has) flush
       (λ none.
       let empty = empty_length q.slots none in
       record {

@@ -1,13 +1,15 @@
 -- A party's frame as it is made, and as a call begins in it.
 use Rattle.pool_slots.specs.declared.plan.Plan.{Plan}
-use Rattle.std.proofs.Common.{◌≡◌, ℕ, ◌+◌, ◌≤◌, false, List, [], ◌∷◌, length, All, refl, subst, ap, arith}
+use Rattle.std.proofs.Common.{◌≡◌, ℕ, ◌+◌, ◌≤◌, false, List, [], ◌∷◌, length, refl, subst, ap, arith, inl}
 use Rattle.std.proofs.lemmas.List.Elements.{All-nil, All-head, All-tail}
 use Rattle.pool_pages.specs.MakerTold.{MakerTold}
 use Rattle.pool_alloc.specs.Bounds.{PoolSizes, return_bound, give_back_bound, bound_of, sizes_of, steps_at, steps_left}
 use Rattle.pool_alloc.specs.Leases.{Lease}
-use Rattle.pool_alloc.specs.Places.{Thing, leased_count, phase_count, frame_count, phase_instances, phase_memories, frame_memories}
+use Rattle.pool_alloc.specs.PoolTables.{IsTableLease}
+use Rattle.pool_alloc.specs.TableLeases.{LeasedTable}
+use Rattle.pool_alloc.specs.Places.{Thing, leased_count, tables_count, queued_count, freed_count, phase_count, frame_count, phase_instances, phase_memories, frame_memories, phase_tables, frame_tables}
 use Rattle.pool_alloc.specs.Sound.{NothingWaits, IsCore, IsFrame, IsLeaseOf, IsQueuedOf, IsAtRest, IsShapedAt}
-use Rattle.pool_alloc.specs.Stepping.{IsSameSize, grant_count, grant_instances, grant_memories}
+use Rattle.pool_alloc.specs.Stepping.{IsSameSize, grant_count, grant_instances, grant_memories, grant_tables}
 use Rattle.pool_alloc.specs.Calls.{frame_made, IsIdle, MayBegin, begun_call}
 use Rattle.pool_alloc.specs.Turns.{is_granting, returned_next}
 use Rattle.pool_alloc.specs.declared.pool_core.PoolCore.{PoolCore}
@@ -21,7 +23,7 @@ use Rattle.pool_alloc.specs.declared.frame.Grant.TheVariants.{Instance}
 use Rattle.pool_alloc.specs.declared.frame.Call.{Call}
 use Rattle.pool_alloc.specs.declared.frame.Call.TheVariants as call
 use Rattle.pool_alloc.proofs.Hands.{Held, held_of, frame_of, one_more}
-use Rattle.pool_alloc.proofs.QueueCounts.{leased_first}
+use Rattle.pool_alloc.proofs.QueueCounts.{leased_first, tables_first}
 
 -- The frame as made has nothing.
 pub made_count : (P : Type 0) (t : Thing) (home : ℕ) (s : Settings) → frame_count {P = P} t (frame_made home s) ≡ 0
@@ -32,6 +34,9 @@ made_instances P home s = refl
 
 pub made_memories : (P : Type 0) (home : ℕ) (s : Settings) → frame_memories {P = P} (frame_made home s) ≡ 0
 made_memories P home s = refl
+
+pub made_tables : (P : Type 0) (home : ℕ) (s : Settings) → frame_tables {P = P} (frame_made home s) ≡ 0
+made_tables P home s = refl
 
 module _ {P : Type 0} where
   -- The frame as made is sound over a pool whose parts are.
@@ -49,11 +54,12 @@ module _ {P : Type 0} where
         };
         freed_room = (refl, omega arith);
         freed_each = All-nil _;
-        objects = All-nil (IsLeaseOf maker c.settings c.plan);
-        shape = record { settled = record { no_ranges = refl; no_slots = refl; none_freed = refl }; no_memories = refl };
+        freed_order = inl (All-nil _);
+        objects = (All-nil (IsLeaseOf maker c.settings c.plan), All-nil (IsTableLease maker c.settings c.plan));
+        shape = record { settled = record { no_ranges = refl; no_slots = refl; none_freed = refl }; no_memories = refl; no_tables = refl };
       }
 
-  -- how often a call brings a thing along, and how many instances and memories that are counted
+  -- how often a call brings a thing along, and how many instances, memories and tables that are counted
   abbrev pub call_has : (Grant P → ℕ) → Call P → ℕ
   call_has of call.Key = 0
   call_has of (call.Module m) = 0
@@ -68,30 +74,25 @@ module _ {P : Type 0} where
   idle_of maker s plan (call.Module m) f may = may.0
   idle_of maker s plan (call.GiveBack grant) f may = may.0
 
-  begun_back : (maker : MakerTold) (leases : List Lease) (s : Settings) (plan : Plan) (f : Frame P) → Held maker s plan f → NothingWaits f.local f.freed → is_granting f.ending ≡ false → All (IsLeaseOf maker s plan) leases → IsFrame maker s plan (record (returned_next leases (record f { objects = record f.objects { memories = record f.objects.memories { items = leases } } })).frame { step_count = 0 })
-  begun_back maker [] s plan f held rest is of =
-      record {
-        stripe = held.stripe;
-        queue = held.queue;
-        freed_room = held.freed_room;
-        freed_each = held.freed_each;
-        objects = of;
-        shape = (record { settled = rest; no_memories = refl }, is);
-      }
-  begun_back maker (lease ∷ leases) s plan f held rest is of =
-      record {
-        stripe = held.stripe;
-        queue = held.queue;
-        freed_room = held.freed_room;
-        freed_each = held.freed_each;
-        objects = All-tail (IsLeaseOf maker s plan) lease leases of;
-        shape = (rest, is, All-head (IsLeaseOf maker s plan) lease leases of);
-      }
+  -- a frame that gives these back
+  abbrev giving : List Lease → List LeasedTable → Frame P → Frame P
+  giving leases tables f = record f { objects = record { memories = record f.objects.memories { items = leases }; tables = record f.objects.tables { items = tables } } }
+
+  begun_back : (maker : MakerTold) (leases : List Lease) (tables : List LeasedTable) (s : Settings) (plan : Plan) (f : Frame P) → Held maker s plan (giving leases tables f) → NothingWaits f.local f.freed → is_granting f.ending ≡ false → IsFrame maker s plan (record (returned_next leases tables (giving leases tables f)).frame { step_count = 0 })
+  begun_back maker [] [] s plan f held rest is = frame_of maker s plan (record (returned_next [] [] (giving [] [] f)).frame { step_count = 0 }) held (record { settled = rest; no_memories = refl; no_tables = refl }, is)
+  begun_back maker (lease ∷ leases) tables s plan f held rest is =
+      frame_of maker s plan (record (returned_next (lease ∷ leases) tables (giving (lease ∷ leases) tables f)).frame { step_count = 0 })
+      (record { stripe = held.stripe; queue = held.queue; freed_room = held.freed_room; freed_each = held.freed_each; freed_order = held.freed_order; objects = (All-tail (IsLeaseOf maker s plan) lease leases held.objects.0, held.objects.1) })
+      (rest, is, All-head (IsLeaseOf maker s plan) lease leases held.objects.0)
+  begun_back maker [] (lease ∷ tables) s plan f held rest is =
+      frame_of maker s plan (record (returned_next [] (lease ∷ tables) (giving [] (lease ∷ tables) f)).frame { step_count = 0 })
+      (record { stripe = held.stripe; queue = held.queue; freed_room = held.freed_room; freed_each = held.freed_each; freed_order = held.freed_order; objects = (held.objects.0, All-tail (IsTableLease maker s plan) lease tables held.objects.1) })
+      (rest, is, All-head (IsTableLease maker s plan) lease tables held.objects.1)
 
   begun_at : (maker : MakerTold) (asks : Call P) (s : Settings) (plan : Plan) (f : Frame P) → Held maker s plan f → IsAtRest f → MayBegin maker s plan asks f → IsFrame maker s plan (begun_call asks f)
   begun_at maker call.Key s plan f held rest may = frame_of maker s plan (record f { phase = Key; step_count = 0 }) held rest
   begun_at maker (call.Module m) s plan f held rest may = frame_of maker s plan (begun_call (call.Module m) f) held (rest, record { ending = refl; none_taken = refl; asked_for = refl; images = may.2 }, may.1)
-  begun_at maker (call.GiveBack (Instance lease)) s plan f held rest may = begun_back maker lease.memories.items s plan (record f { objects = lease; ending = returned }) (record { stripe = held.stripe; queue = held.queue; freed_room = held.freed_room; freed_each = held.freed_each; objects = may.1 }) rest.settled refl may.1
+  begun_at maker (call.GiveBack (Instance lease)) s plan f held rest may = begun_back maker lease.memories.items lease.tables.items s plan (record f { objects = lease; ending = returned }) (record { stripe = held.stripe; queue = held.queue; freed_room = held.freed_room; freed_each = held.freed_each; freed_order = held.freed_order; objects = may.1 }) rest.settled refl
 
   -- the frame is sound once a call began that may
   pub begun_frame : (maker : MakerTold) (asks : Call P) (s : Settings) (plan : Plan) (f : Frame P) → IsFrame maker s plan f → MayBegin maker s plan asks f → IsFrame maker s plan (begun_call asks f)
@@ -101,17 +102,19 @@ module _ {P : Type 0} where
   idle_nothing : (t : Thing) (p : Phase P) → p ≡ Idle → phase_count t p ≡ 0
   idle_nothing t p idle = rw idle refl
 
-  count_returned : (t : Thing) (leases : List Lease) (f : Frame P) → phase_count t f.phase ≡ 0 → frame_count t (returned_next leases (record f { objects = record f.objects { memories = record f.objects.memories { items = leases } } })).frame + leased_count t f.objects.memories.items ≡ frame_count t f + leased_count t leases
-  count_returned t [] f before = omega arith
-  count_returned t (lease ∷ leases) f before = omega (arith, leased_first t lease leases)
+  count_returned : (t : Thing) (leases : List Lease) (tables : List LeasedTable) (f : Frame P) → phase_count t f.phase ≡ 0 → frame_count t (returned_next leases tables (giving leases tables f)).frame ≡ leased_count t leases + tables_count t tables + queued_count t f.local.slots + freed_count t f.freed.items
+  count_returned t [] [] f before = omega arith
+  count_returned t (lease ∷ leases) tables f before = omega (arith, leased_first t lease leases)
+  count_returned t [] (lease ∷ tables) f before = omega (arith, tables_first t lease tables)
 
   count_at : (t : Thing) (asks : Call P) (f : Frame P) → IsIdle f → IsAtRest f → frame_count t (begun_call asks f) ≡ frame_count t f + call_has (grant_count t) asks
   count_at t call.Key f idle rest = let before : phase_count t f.phase ≡ 0 = idle_nothing t f.phase idle in omega arith
   count_at t (call.Module m) f idle rest = let before : phase_count t f.phase ≡ 0 = idle_nothing t f.phase idle in omega arith
   count_at t (call.GiveBack (Instance lease)) f idle rest =
       let none : leased_count t f.objects.memories.items ≡ 0 = rw rest.no_memories refl in
+      let none_more : tables_count t f.objects.tables.items ≡ 0 = rw rest.no_tables refl in
       let back : Frame P = record f { objects = lease; ending = returned } in
-      omega (arith, none, count_returned t lease.memories.items back (idle_nothing t f.phase idle))
+      omega (arith, none, none_more, idle_nothing t f.phase idle, count_returned t lease.memories.items lease.tables.items back (idle_nothing t f.phase idle))
 
   pub begun_count : (maker : MakerTold) (t : Thing) (asks : Call P) (s : Settings) (plan : Plan) (f : Frame P) → IsFrame maker s plan f → MayBegin maker s plan asks f → frame_count t (begun_call asks f) ≡ frame_count t f + call_has (grant_count t) asks
   begun_count maker t asks s plan f frame may = let idle : IsIdle f = idle_of maker s plan asks f may in count_at t asks f idle (at_rest maker s plan f frame idle)
@@ -119,33 +122,39 @@ module _ {P : Type 0} where
   idle_instances : (p : Phase P) → p ≡ Idle → phase_instances p ≡ 0
   idle_instances p idle = rw idle refl
 
-  one_returned : (leases : List Lease) (f : Frame P) → phase_instances (returned_next leases f).frame.phase ≡ 1
-  one_returned [] f = refl
-  one_returned (lease ∷ leases) f = refl
+  one_returned : (leases : List Lease) (tables : List LeasedTable) (f : Frame P) → phase_instances (returned_next leases tables f).frame.phase ≡ 1
+  one_returned [] [] f = refl
+  one_returned (lease ∷ leases) tables f = refl
+  one_returned [] (lease ∷ tables) f = refl
 
   pub begun_instances : (maker : MakerTold) (asks : Call P) (s : Settings) (plan : Plan) (f : Frame P) → MayBegin maker s plan asks f → phase_instances (begun_call asks f).phase ≡ phase_instances f.phase + call_has grant_instances asks
   begun_instances maker call.Key s plan f may = let before : phase_instances f.phase ≡ 0 = idle_instances f.phase may in omega arith
   begun_instances maker (call.Module m) s plan f may = let before : phase_instances f.phase ≡ 0 = idle_instances f.phase may.0 in omega arith
   begun_instances maker (call.GiveBack (Instance lease)) s plan f may =
       let before : phase_instances f.phase ≡ 0 = idle_instances f.phase may.0 in
-      omega (arith, one_returned lease.memories.items (record f { objects = lease; ending = returned }))
+      omega (arith, one_returned lease.memories.items lease.tables.items (record f { objects = lease; ending = returned }))
 
-  memories_returned : (leases : List Lease) (f : Frame P) → frame_memories (returned_next leases (record f { objects = record f.objects { memories = record f.objects.memories { items = leases } } })).frame ≡ length leases
-  memories_returned [] f = refl
-  memories_returned (lease ∷ leases) f = omega arith
+  objects_returned : (leases : List Lease) (tables : List LeasedTable) (f : Frame P) → (frame_memories (returned_next leases tables (giving leases tables f)).frame ≡ length leases) × (frame_tables (returned_next leases tables (giving leases tables f)).frame ≡ length tables)
+  objects_returned [] [] f = (refl, refl)
+  objects_returned (lease ∷ leases) tables f = (omega arith, omega arith)
+  objects_returned [] (lease ∷ tables) f = (omega arith, omega arith)
 
-  idle_memories : (p : Phase P) → p ≡ Idle → phase_memories p ≡ 0
-  idle_memories p idle = rw idle refl
+  idle_objects : (p : Phase P) → p ≡ Idle → (phase_memories p ≡ 0) × (phase_tables p ≡ 0)
+  idle_objects p idle = rw idle (refl, refl)
 
-  memories_at : (asks : Call P) (f : Frame P) → IsIdle f → IsAtRest f → frame_memories (begun_call asks f) ≡ frame_memories f + call_has grant_memories asks
-  memories_at call.Key f idle rest = let before : phase_memories f.phase ≡ 0 = idle_memories f.phase idle in omega arith
-  memories_at (call.Module m) f idle rest = let before : phase_memories f.phase ≡ 0 = idle_memories f.phase idle in omega arith
-  memories_at (call.GiveBack (Instance lease)) f idle rest =
-      let before : phase_memories f.phase ≡ 0 = idle_memories f.phase idle in
-      omega (arith, ap length rest.no_memories, memories_returned lease.memories.items (record f { objects = lease; ending = returned }))
+  objects_at : (asks : Call P) (f : Frame P) → IsIdle f → IsAtRest f → (frame_memories (begun_call asks f) ≡ frame_memories f + call_has grant_memories asks) × (frame_tables (begun_call asks f) ≡ frame_tables f + call_has grant_tables asks)
+  objects_at call.Key f idle rest = let before = idle_objects f.phase idle in (omega (arith, before.0), omega (arith, before.1))
+  objects_at (call.Module m) f idle rest = let before = idle_objects f.phase idle in (omega (arith, before.0), omega (arith, before.1))
+  objects_at (call.GiveBack (Instance lease)) f idle rest =
+      let before = idle_objects f.phase idle in
+      let back = objects_returned lease.memories.items lease.tables.items (record f { objects = lease; ending = returned }) in
+      (omega (arith, before.0, back.0, ap (length {A = Lease}) rest.no_memories), omega (arith, before.1, back.1, ap (length {A = LeasedTable}) rest.no_tables))
 
   pub begun_memories : (maker : MakerTold) (asks : Call P) (s : Settings) (plan : Plan) (f : Frame P) → IsFrame maker s plan f → MayBegin maker s plan asks f → frame_memories (begun_call asks f) ≡ frame_memories f + call_has grant_memories asks
-  begun_memories maker asks s plan f frame may = let idle : IsIdle f = idle_of maker s plan asks f may in memories_at asks f idle (at_rest maker s plan f frame idle)
+  begun_memories maker asks s plan f frame may = let idle : IsIdle f = idle_of maker s plan asks f may in (objects_at asks f idle (at_rest maker s plan f frame idle)).0
+
+  pub begun_tables : (maker : MakerTold) (asks : Call P) (s : Settings) (plan : Plan) (f : Frame P) → IsFrame maker s plan f → MayBegin maker s plan asks f → frame_tables (begun_call asks f) ≡ frame_tables f + call_has grant_tables asks
+  begun_tables maker asks s plan f frame may = let idle : IsIdle f = idle_of maker s plan asks f may in (objects_at asks f idle (at_rest maker s plan f frame idle)).1
 
   -- How many steps are left is the same on every pool of the same sizes, so no step of another changes it.
   pub steps_left_same : (c d : PoolCore P) (f : Frame P) → IsSameSize c d → steps_left d f ≡ steps_left c f
@@ -156,11 +165,12 @@ module _ {P : Type 0} where
   idle_left c f idle = ap (λ (p : Phase P). steps_at (sizes_of c.plan) p f) idle
 
   -- and a call begins with no more than its bound.
-  returned_bounded : (z : PoolSizes) (leases : List Lease) (f : Frame P) → steps_at z (returned_next leases (record f { objects = record f.objects { memories = record f.objects.memories { items = leases } } })).frame.phase (record (returned_next leases (record f { objects = record f.objects { memories = record f.objects.memories { items = leases } } })).frame { step_count = 0 }) ≤ return_bound z (length leases)
-  returned_bounded z [] f = omega arith
-  returned_bounded z (lease ∷ leases) f = omega (arith, one_more (length (lease ∷ leases)) (length leases) (give_back_bound z) (omega arith))
+  returned_bounded : (z : PoolSizes) (leases : List Lease) (tables : List LeasedTable) (f : Frame P) → steps_at z (returned_next leases tables (giving leases tables f)).frame.phase (record (returned_next leases tables (giving leases tables f)).frame { step_count = 0 }) ≤ return_bound z (length leases + length tables)
+  returned_bounded z [] [] f = omega arith
+  returned_bounded z (lease ∷ leases) tables f = omega (arith, one_more (length (lease ∷ leases) + length tables) (length leases + length tables) (give_back_bound z) (omega arith))
+  returned_bounded z [] (lease ∷ tables) f = omega (arith, one_more (0 + length (lease ∷ tables)) (0 + length tables) (give_back_bound z) (omega arith))
 
   pub begun_bounded : (c : PoolCore P) (asks : Call P) (f : Frame P) → steps_left c (begun_call asks f) ≤ bound_of c asks
   begun_bounded c call.Key f = omega arith
   begun_bounded c (call.Module m) f = omega arith
-  begun_bounded c (call.GiveBack (Instance lease)) f = returned_bounded (sizes_of c.plan) lease.memories.items (record f { objects = lease; ending = returned })
+  begun_bounded c (call.GiveBack (Instance lease)) f = returned_bounded (sizes_of c.plan) lease.memories.items lease.tables.items (record f { objects = lease; ending = returned })

@@ -1,5 +1,5 @@
 -- Sums over the numbers below one, and that a list which has each of them once at most is no longer than that number.
-use Rattle.std.proofs.Common.{◌≡◌, ℕ, zero, suc, ◌+◌, ◌<◌, ◌≤◌, List, [], ◌∷◌, length, refl, ap, subst, inl, inr, arith, sym, ◌∙◌}
+use Rattle.std.proofs.Common.{◌≡◌, ℕ, zero, suc, ◌+◌, ◌<◌, ◌≤◌, List, [], ◌∷◌, length, refl, subst, inl, inr, arith}
 use Rattle.std.proofs.lemmas.Bool.{cases_lt}
 use Rattle.pool_slots.specs.SlotNames.{of_kind}
 use Rattle.pool_slots.specs.SlotQueues.{Queued}
@@ -7,9 +7,11 @@ use Rattle.pool_slots.specs.declared.plan.Plan.{Plan}
 use Rattle.pool_slots.specs.declared.slot_name.SlotName.{SlotName}
 use Rattle.pool_alloc.specs.Leases.{memory_slot}
 use Rattle.pool_alloc.specs.Places.{right_to, both_count, queued_count}
-use Rattle.pool_alloc.specs.Sound.{IsSlotName}
-use Rattle.pool_alloc.specs.Steps.{memory_slots}
-use Rattle.pool_alloc.proofs.PlanPlaces.{memory_name}
+use Rattle.pool_hall.specs.declared.unit_name.SlotKind.{SlotKind}
+use Rattle.pool_hall.specs.declared.unit_name.SlotKind.TheVariants.{Memory as memory_kind, Table as table_kind}
+use Rattle.pool_slots.specs.declared.slot_name.RegionNumbers.{RegionNumbers}
+use Rattle.pool_alloc.specs.TableLeases.{table_slot}
+use Rattle.pool_alloc.specs.Sound.{IsPooled, IsSlotName}
 use Rattle.pool_alloc.proofs.SlotCounts.{slot_once, region_rights}
 
 -- the sum of f over the numbers below n
@@ -33,22 +35,38 @@ below_one f i (suc n) inside one =
       | inr past ↦ let last : f n ≡ 1 = subst (λ (k : ℕ). f k ≡ 1) {x = i} {y = n} (omega (arith, inside, past)) one in omega arith
     ]
 
--- each slot of a queue is counted at its number
-queued_below : (plan : Plan) (ms : List Queued) → ((name : SlotName) → 0 < queued_count (right_to name) ms → IsSlotName plan name) → length ms ≤ below (λ k. queued_count (right_to (memory_slot k)) ms) (memory_slots plan)
+-- what is counted of memories' slots, and of tables', at their numbers
+abbrev counted : Plan → (SlotName → ℕ) → ℕ
+counted plan of = below (λ k. of (memory_slot k)) plan.totals.memory + below (λ k. of (table_slot k)) plan.totals.table
+
+-- a slot of the pool is counted once
+name_counted : (plan : Plan) (kind : SlotKind) (i : ℕ) (numbers : RegionNumbers) → IsPooled kind → i < of_kind kind plan.totals → 1 ≤ counted plan (λ name. both_count (right_to name) (record { kind = kind; slot = i }) numbers)
+name_counted plan memory_kind i numbers pooled inside =
+    omega (arith, below_one (λ k. both_count (right_to (memory_slot k)) (memory_slot i) numbers) i plan.totals.memory inside (omega (arith, slot_once (memory_slot i), region_rights (memory_slot i) (memory_slot i) numbers)))
+name_counted plan table_kind i numbers pooled inside =
+    omega (arith, below_one (λ k. both_count (right_to (table_slot k)) (table_slot i) numbers) i plan.totals.table inside (omega (arith, slot_once (table_slot i), region_rights (table_slot i) (table_slot i) numbers)))
+name_counted plan kind i numbers pooled inside = absurd pooled
+
+queued_below : (plan : Plan) (ms : List Queued) → ((name : SlotName) → 0 < queued_count (right_to name) ms → IsSlotName plan name) → length ms ≤ counted plan (λ name. queued_count (right_to name) ms)
 queued_below plan [] named = omega arith
 queued_below plan (m ∷ ms) named =
     let its : IsSlotName plan m.name = named m.name (omega (arith, slot_once m.name)) in
-    let is : m.name ≡ memory_slot m.name.slot = memory_name m.name its.pooled in
-    let inside : m.name.slot < memory_slots plan = subst (λ (n : SlotName). n.slot < of_kind n.kind plan.totals) is its.inside in
-    let first : ℕ → ℕ = λ k. both_count (right_to (memory_slot k)) m.name m.numbers in
-    let one : first m.name.slot ≡ 1 = ap (λ (n : SlotName). both_count (right_to n) m.name m.numbers) (sym is) ∙ omega (arith, slot_once m.name, region_rights m.name m.name m.numbers) in
+    let one : SlotName → ℕ = λ name. both_count (right_to name) m.name m.numbers in
+    let more : SlotName → ℕ = λ name. queued_count (right_to name) ms in
     omega (
       arith,
-      below_sum first (λ k. queued_count (right_to (memory_slot k)) ms) (λ k. queued_count (right_to (memory_slot k)) (m ∷ ms)) (λ k. omega arith) (memory_slots plan),
-      below_one first m.name.slot (memory_slots plan) inside one,
+      below_sum (λ k. one (memory_slot k)) (λ k. more (memory_slot k)) (λ k. queued_count (right_to (memory_slot k)) (m ∷ ms)) (λ k. omega arith) plan.totals.memory,
+      below_sum (λ k. one (table_slot k)) (λ k. more (table_slot k)) (λ k. queued_count (right_to (table_slot k)) (m ∷ ms)) (λ k. omega arith) plan.totals.table,
+      name_counted plan m.name.kind m.name.slot m.numbers its.pooled its.inside,
       queued_below plan ms (λ name some. named name (omega (arith, some))),
     )
 
 -- A queue that has each slot of the pool once at most, and no other, has no more slots than the pool.
-pub few_queued : (plan : Plan) (ms : List Queued) → ((name : SlotName) → queued_count (right_to name) ms ≤ 1) → ((name : SlotName) → 0 < queued_count (right_to name) ms → IsSlotName plan name) → length ms ≤ memory_slots plan
-few_queued plan ms once named = omega (arith, queued_below plan ms named, below_most (λ k. queued_count (right_to (memory_slot k)) ms) (λ k. once (memory_slot k)) (memory_slots plan))
+pub few_queued : (plan : Plan) (ms : List Queued) → ((name : SlotName) → queued_count (right_to name) ms ≤ 1) → ((name : SlotName) → 0 < queued_count (right_to name) ms → IsSlotName plan name) → length ms ≤ plan.totals.memory + plan.totals.table
+few_queued plan ms once named =
+    omega (
+      arith,
+      queued_below plan ms named,
+      below_most (λ k. queued_count (right_to (memory_slot k)) ms) (λ k. once (memory_slot k)) plan.totals.memory,
+      below_most (λ k. queued_count (right_to (table_slot k)) ms) (λ k. once (table_slot k)) plan.totals.table,
+    )

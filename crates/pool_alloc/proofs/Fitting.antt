@@ -10,14 +10,14 @@ use Rattle.pool_alloc.specs.declared.frame.Frame.{Frame}
 use Rattle.pool_alloc.specs.declared.frame.Grant.TheVariants.{Instance}
 use Rattle.pool_alloc.specs.declared.frame.Outcome.{Outcome}
 use Rattle.pool_alloc.specs.declared.frame.Outcome.TheVariants as answer
-use Rattle.pool_alloc.proofs.QueueCounts.{leased_regions}
+use Rattle.pool_alloc.proofs.QueueCounts.{leased_regions, tables_regions}
 
 module _ {P : Type 0} where
   -- A grant has the region of each slot.
   pub granted_regions : (k : SlotName) (o : Option (Outcome P)) → count_granted (grant_count (region_of k)) o ≡ count_granted (grant_count (right_to k)) o
   granted_regions k None = refl
   granted_regions k (Some answer.Key) = refl
-  granted_regions k (Some (answer.Granted (Instance lease))) = leased_regions k lease.memories.items
+  granted_regions k (Some (answer.Granted (Instance lease))) = omega (arith, leased_regions k lease.memories.items, tables_regions k lease.tables.items)
   granted_regions k (Some answer.Returned) = refl
   granted_regions k (Some (answer.Refused e)) = refl
 
@@ -28,4 +28,5 @@ module _ {P : Type 0} where
     others = λ k. omega (arith, fits.others k, b.places (right_to k), b.places (region_of k), granted_regions k a.outcome);
     instances = omega (arith, fits.instances, b.instances);
     memories = omega (arith, fits.memories, b.memories);
+    tables = omega (arith, fits.tables, b.tables);
   }

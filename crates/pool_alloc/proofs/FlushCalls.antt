@@ -1,14 +1,21 @@
 -- A part of a flush that the code makes, as the row of a flush.
-use Rattle.std.proofs.Common.{◌≡◌, ℕ, ◌<◌, ◌≤◌, true, false, length, refl, sym, subst, arith}
-use Rattle.std.specs.Prelude.{◌==◌}
+use Rattle.std.proofs.Common.{◌≡◌, ℕ, ◌<◌, ◌≤◌, Bool, true, false, List, length, refl, sym, ap, ◌∙◌, subst, arith, Option, None}
+use Rattle.std.specs.Prelude.{◌==◌, is_some, if◌then◌else◌}
+use Rattle.std.specs.List.{list_any}
 use Rattle.std.proofs.lemmas.Bool.{eq-eqb, ne_eqb}
-use Rattle.pool_slots.specs.SlotQueues.{Queue}
+use Rattle.pool_hall.specs.declared.unit_name.SlotKind.{SlotKind}
+use Rattle.pool_hall.specs.declared.unit_name.SlotKind.TheVariants.{Memory as memory_kind, Table as table_kind}
+use Rattle.pool_slots.specs.SlotQueues.{Queue, Queued, is_to_zero, first_of_kind, others_of_kind, first_zeroed}
 use Rattle.pool_alloc.specs.Answers.{FlushTold, FlushPlanned}
-use Rattle.pool_alloc.specs.Rows.{FlushStep, run, put, free, flush_step, flush_row}
+use Rattle.pool_alloc.specs.CanStep.{CanFlush}
+use Rattle.pool_alloc.specs.Rows.{FlushStep, run, zero, put, free, SettlesTo, some_queued, some_freed, put_step, tables_step, freed_step, settled_step, flush_step, flush_row}
 use Rattle.pool_alloc.specs.Steps.{StepGiven}
 use Rattle.pool_alloc.specs.Turns.{After, stepped}
 use Rattle.pool_alloc.specs.declared.pool_core.PoolCore.{PoolCore}
 use Rattle.pool_alloc.specs.declared.frame.Frame.{Frame}
+use Rattle.pool_alloc.specs.declared.frame.FreedSlot.{FreedSlot}
+use Rattle.pool_alloc.proofs.Advancing.{nothing_told}
+use Rattle.pool_alloc.proofs.KindCounts.{none_others, none_zeroed}
 
 some_ranges : (n : ℕ) → 0 < n → (n == 0) ≡ false
 some_ranges n some = ne_eqb n 0 (λ e. omega (arith, some, e))
@@ -16,18 +23,59 @@ some_ranges n some = ne_eqb n 0 (λ e. omega (arith, some, e))
 no_ranges : (n : ℕ) → n ≤ 0 → (n == 0) ≡ true
 no_ranges n none = eq-eqb n 0 (omega (arith, none))
 
-pub flush_runs : (local : Queue) → 0 < length local.ranges → flush_step local ≡ run
-flush_runs local some = rw (some_ranges (length local.ranges) some) refl
+-- which part it is
+pub flush_runs : (local : Queue) (freed : List FreedSlot) → 0 < length local.ranges → flush_step local freed ≡ run
+flush_runs local freed some = rw (some_ranges (length local.ranges) some) refl
 
-pub flush_puts : (local : Queue) → length local.ranges ≤ 0 → (length local.slots == 0) ≡ false → flush_step local ≡ put
-flush_puts local none some = rw (no_ranges (length local.ranges) none, some) refl
+pub flush_settles : (local : Queue) (freed : List FreedSlot) → length local.ranges ≤ 0 → flush_step local freed ≡ settled_step local.slots freed
+flush_settles local freed none = rw (no_ranges (length local.ranges) none) refl
 
-pub flush_frees : (local : Queue) → length local.ranges ≤ 0 → (length local.slots == 0) ≡ true → flush_step local ≡ free
-flush_frees local none no_slots = rw (no_ranges (length local.ranges) none, no_slots) refl
+pub settled_frees : (slots : List Queued) (freed : List FreedSlot) → first_of_kind memory_kind slots ≡ None → settled_step slots freed ≡ freed_step slots freed
+settled_frees slots freed is = let none : some_queued memory_kind slots ≡ false = ap (λ (o : Option Queued). is_some o) is in rw none refl
+
+pub tables_puts : (slots : List Queued) → list_any (is_to_zero table_kind) slots ≡ false → tables_step slots ≡ put_step slots
+tables_puts slots none = rw none refl
+
+pub puts_none : (slots : List Queued) → first_of_kind table_kind slots ≡ None → put_step slots ≡ free
+puts_none slots is = let none : some_queued table_kind slots ≡ false = ap (λ (o : Option Queued). is_some o) is in rw none refl
+
+-- The queue stays where there is no slot of a kind, or none to be zeroed.
+pub popped_none : (kind : SlotKind) (q l : Queue) → l ≡ record q { slots = others_of_kind kind q.slots } → first_of_kind kind q.slots ≡ None → l ≡ q
+popped_none kind q l is none = is ∙ ap (λ (ms : List Queued). record q { slots = ms }) (none_others kind q.slots none)
+
+pub zeroed_none : (kind : SlotKind) (q l : Queue) → l ≡ record q { slots = first_zeroed kind q.slots } → list_any (is_to_zero kind) q.slots ≡ false → l ≡ q
+zeroed_none kind q l is none = is ∙ ap (λ (ms : List Queued). record q { slots = ms }) (none_zeroed kind q.slots none)
+
+told_by : (a b c d : Bool) (g : StepGiven) (local : Queue)
+    → FlushTold (if a then put memory_kind else (if b then free else (if c then zero table_kind else (if d then put table_kind else free)))) g local
+    × FlushPlanned (if a then put memory_kind else (if b then free else (if c then zero table_kind else (if d then put table_kind else free)))) g local
+told_by true b c d g local = (tt, tt)
+told_by false true c d g local = (tt, tt)
+told_by false false true d g local = (tt, tt)
+told_by false false false true g local = (tt, tt)
+told_by false false false false g local = (tt, tt)
 
 module _ {P : Type 0} where
   abbrev pub FlushesTo : FlushStep → PoolCore P → Frame P → After P → Type 0
   FlushesTo step c f a = (g : StepGiven) × FlushTold step g f.local × FlushPlanned step g f.local × (a ≡ stepped (flush_row step g.queue c f))
 
-  pub flushes_to : (step : FlushStep) (c : PoolCore P) (f : Frame P) (a : After P) → flush_step f.local ≡ step → FlushesTo step c f a → FlushesTo (flush_step f.local) c f a
+  pub flushes_to : (step : FlushStep) (c : PoolCore P) (f : Frame P) (a : After P) → flush_step f.local f.freed.items ≡ step → FlushesTo step c f a → FlushesTo (flush_step f.local f.freed.items) c f a
   flushes_to step c f a is so = let F : FlushStep → Type 0 = λ x. FlushesTo x c f a in subst F (sym is) so
+
+  pub settles_to : (c : PoolCore P) (f : Frame P) (a : After P) → length f.local.ranges ≤ 0 → SettlesTo (settled_step f.local.slots f.freed.items) c f a → FlushesTo (flush_step f.local f.freed.items) c f a
+  settles_to c f a none so =
+      let told = told_by (some_queued memory_kind f.local.slots) (some_freed memory_kind f.freed.items) (list_any (is_to_zero table_kind) f.local.slots) (some_queued table_kind f.local.slots) nothing_told f.local in
+      flushes_to (settled_step f.local.slots f.freed.items) c f a (flush_settles f.local f.freed.items none) (nothing_told, told.0, told.1, so nothing_told.queue)
+
+  -- What the code does with a queue that stayed as it was is that part of a flush which is next then.
+  pub can_flush_as : (step other : List Queued → FlushStep) (c : PoolCore P) (f : Frame P) (l : Queue) → l ≡ f.local → step f.local.slots ≡ other f.local.slots → CanFlush (step f.local.slots) c f → CanFlush (other l.slots) c (record f { local = l })
+  can_flush_as step other c f l same is can =
+      let F : FlushStep → Type 0 = λ x. CanFlush x c f in
+      let Q : Queue → Type 0 = λ q. CanFlush (other q.slots) c (record f { local = q }) in
+      subst Q (sym same) (subst F is can)
+
+  pub settles_as : (step other : List Queued → FlushStep) (c : PoolCore P) (f : Frame P) (l : Queue) (a : After P) → l ≡ f.local → step f.local.slots ≡ other f.local.slots → SettlesTo (other l.slots) c (record f { local = l }) a → SettlesTo (step f.local.slots) c f a
+  settles_as step other c f l a same is so =
+      let F : FlushStep → Type 0 = λ x. SettlesTo x c f a in
+      let Q : Queue → Type 0 = λ q. SettlesTo (other q.slots) c (record f { local = q }) a in
+      subst F (sym is) (subst Q same so)

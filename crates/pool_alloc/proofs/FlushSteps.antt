@@ -6,26 +6,26 @@ use Rattle.pool_alloc.proofs.Held.{right_is_out}
 use Rattle.pool_alloc.proofs.FreedSlots.{first_of}
 use Rattle.pool_alloc.proofs.PlanPlaces.{has_home, IsQueuePlace}
 use Rattle.pool_slots.proofs.PlanSizes.{shard_below}
-use Rattle.std.specs.List.{AllByRecursion}
+use Rattle.std.specs.List.{AllByRecursion, AllZip, list_any}
 use Rattle.pool_alloc.specs.Sound.{IsStripe, IsPoolPlan, IsPooled, IsSlotName, IsCore, IsFreedOf}
 use Rattle.pool_slots.specs.declared.plan.Home.{Home}
 use Rattle.pool_slots.specs.declared.plan.Allocator.{Allocator}
 use Rattle.pool_slots.specs.Plans.{allocators_of, have_number, has_number, home_among, home_in, home_of}
-use Rattle.std.proofs.Common.{◌≡◌, ◌≢◌, ℕ, zero, suc, ◌+◌, ◌*◌, ◌<◌, ◌≤◌, Bool, true, false, List, [], ◌∷◌, ◌++◌, length, refl, sym, ap, ◌∙◌, subst, inl, inr, arith, ◌⊎◌}
-use Rattle.std.specs.Prelude.{◌==◌, nat_lt, filter, min, sum_by, if◌then◌else◌, All}
-use Rattle.std.proofs.lemmas.Bool.{eq-eqb, ne_eqb, eqb-true, lt-ltb, cases_eq, cases_lt, cases_Bool}
-use Rattle.std.proofs.lemmas.List.Elements.{length_all_zip, All-weaker}
+use Rattle.std.proofs.Common.{◌≡◌, ◌≢◌, ℕ, zero, suc, ◌+◌, ◌*◌, ◌<◌, ◌≤◌, Bool, true, false, List, [], ◌∷◌, ◌++◌, length, refl, sym, ap, ◌∙◌, subst, inl, inr, arith, ◌⊎◌, Option, None, Some, map, true≢false}
+use Rattle.std.specs.Prelude.{◌==◌, nat_lt, filter, min, sum_by, if◌then◌else◌, All, is_some}
+use Rattle.std.proofs.lemmas.Bool.{eq-eqb, ne_eqb, eqb-true, lt-ltb, cases_eq, cases_lt, cases_Bool, and_parts}
+use Rattle.std.proofs.lemmas.List.Elements.{length_all_zip, All-weaker, All-head, All-tail}
 use Rattle.std.proofs.lemmas.List.Sums.{sum_by-cons, sum_by_push}
 use Rattle.pool_pages.specs.MakerTold.{MakerTold}
 use Rattle.pool_index.specs.Shard.{one_if}
-use Rattle.pool_slots.specs.SlotQueues.{Queue, Queued, after_append, after_run, first_slot, IsLeftBy}
+use Rattle.pool_slots.specs.SlotQueues.{Queue, Queued, after_append, after_run, first_slot, IsLeftBy, first_of_kind, first_zeroed, is_to_zero, others_of_kind, same_kind, zeroed_by, change_at, is_of, front, same_slot, zeroed}
 use Rattle.pool_slots.specs.declared.queued_range.QueuedRange.{QueuedRange}
 use Rattle.pool_alloc.specs.Answers.{Decommits}
-use Rattle.pool_alloc.specs.Bounds.{PoolSizes, sizes_of, all_shards, is_home, waiting_for, shards_waiting, all_waiting, flush_left, flushed_allocators}
+use Rattle.pool_alloc.specs.Bounds.{PoolSizes, sizes_of, all_shards, is_home, waiting_for, shards_waiting, all_waiting, flush_left, flushed_allocators, may_zero, zeroings}
 use Rattle.pool_alloc.specs.Places.{right_to, away_count, queued_count}
 use Rattle.pool_alloc.specs.RangeRuns.{runs, IsGrouped}
-use Rattle.pool_alloc.specs.Reserved.{Reserved}
-use Rattle.pool_alloc.specs.Steps.{queue_at, freed_of, freed_elsewhere, first_shard, memory_slots}
+use Rattle.pool_alloc.specs.Reserved.{Reserved, with_item}
+use Rattle.pool_alloc.specs.Steps.{queue_at, freed_of, freed_elsewhere, first_shard}
 use Rattle.pool_alloc.specs.Stepping.{CanStep}
 use Rattle.pool_alloc.specs.declared.pool_core.PoolCore.{PoolCore}
 use Rattle.pool_slots.specs.declared.plan.Plan.{Plan}
@@ -36,6 +36,11 @@ use Rattle.pool_alloc.proofs.KeptCounts.{queue_kept, out_once}
 use Rattle.pool_alloc.proofs.QueueCounts.{queued_joined, run_names, faulted_names}
 use Rattle.pool_alloc.proofs.Runs.{runs_fewer}
 use Rattle.pool_alloc.proofs.SlotIdentity.{length_after_run}
+use Rattle.std.specs.Prelude.{◌&&◌, ◌||◌, not}
+use Rattle.std.specs.List.{AllZip}
+use Rattle.pool_hall.specs.declared.unit_name.SlotKind.TheVariants.{Table as table_kind}
+use Rattle.pool_alloc.proofs.KindCounts.{others_long, sum_first, zeroed_long, zeroed_names}
+use Rattle.pool_images.specs.Slots.{decommitted_all}
 
 -- the slots that are left once those of the first shard are freed
 kept_one : (p : FreedSlot → Bool) (x : FreedSlot) (xs : List FreedSlot) → p x ≡ true → 1 ≤ length (filter p (x ∷ xs))
@@ -153,9 +158,22 @@ home_among_them (a ∷ more) slot each some =
     (λ has. (omega arith, omega (arith, shard_below a slot each.0.placed has)))
     (λ other. home_among_them more slot each.1 (no_more b (have_number more slot) other some)))
 
+among_some : (some more : List Allocator) (p : ℕ) → IsAmong some p → IsAmong (some ++ more) p
+among_some [] more p among = absurd among
+among_some (a ∷ some) more p among =
+    elim among [
+      | inl here ↦ inl here
+      | inr later ↦ inr (among_some some more p later)
+    ]
+
+among_more : (some more : List Allocator) (p : ℕ) → IsAmong more p → IsAmong (some ++ more) p
+among_more [] more p among = among
+among_more (a ∷ some) more p among = inr (among_more some more p among)
+
 -- so that of each slot of the pool is one of those that a flush frees
 flushed_at : (plan : Plan) (places : ℕ) (kind : SlotKind) (slot : ℕ) → IsPoolPlan plan places → IsPooled kind → 0 < have_number (allocators_of plan kind) slot → IsAmong (flushed_allocators plan) (home_among (allocators_of plan kind) slot).place
-flushed_at plan places memory_kind slot is pooled has = home_among_them plan.memories slot is.shards has
+flushed_at plan places memory_kind slot is pooled has = among_some plan.memories plan.tables _ (home_among_them plan.memories slot is.shards has)
+flushed_at plan places table_kind slot is pooled has = among_more plan.memories plan.tables _ (home_among_them plan.tables slot is.table_shards has)
 flushed_at plan places kind slot is pooled has = absurd pooled
 
 flushed_home : (plan : Plan) (places : ℕ) (name : SlotName) → IsPoolPlan plan places → IsSlotName plan name → IsAmong (flushed_allocators plan) (home_of plan name).place
@@ -222,13 +240,42 @@ elsewhere_same plan i j (x ∷ xs) other =
           omega (arith, ap (count_of plan i) left, count_first plan i x xs, count_first plan i x (freed_elsewhere plan j xs), elsewhere_same plan i j xs other)
     ]
 
+zeroings_few : (b : Bool) (ms : List Queued) → sum_by (may_zero b) ms ≤ length ms
+zeroings_few b [] = omega arith
+zeroings_few b (m ∷ ms) = omega (arith, one_at_most (is_some m.by_hand && (b || not m.known)), sum_by-cons (may_zero b) m ms, zeroings_few b ms)
+
 -- what a flush does is no more than three steps a slot and one a shard
 pub flush_few : (z : PoolSizes) (slots : ℕ) (local : Queue) (freed : Reserved FreedSlot) → IsGrouped local → length local.slots ≤ slots → flush_left z local freed ≤ 3 * slots + all_shards (flushed_allocators z.plan)
-flush_few z slots local freed grouped few = omega (arith, grouped, few, all_few z (flushed_allocators z.plan) local.slots freed.items)
+flush_few z slots local freed grouped few = omega (arith, grouped, few, zeroings_few (nat_lt 0 (length local.ranges)) local.slots, all_few z (flushed_allocators z.plan) local.slots freed.items)
 
 runs_some : (rs : List QueuedRange) → 0 < length rs → 1 ≤ runs rs
 runs_some [] some = absurd (omega arith)
 runs_some (r ∷ rs) some = omega arith
+
+-- how many slots may have to be zeroed by hand is no more once ranges are gone, as long as it stays how a slot is zeroed
+zero_most : (x y : Bool) → one_if (x && y) ≤ one_if (x && true)
+zero_most true y = one_at_most y
+zero_most false y = omega arith
+
+zero_less : (b : Bool) (m n : Queued) → n.by_hand ≡ m.by_hand → may_zero b n ≤ may_zero true m
+zero_less b m n same = omega (arith, zero_most (is_some n.by_hand) (b || not n.known), ap (λ (o : Option ℕ). one_if (is_some o && true)) same)
+
+zeroed_zip : (b : Bool) (R : Queued → Queued → Type 0) → ((m n : Queued) → R m n → n.by_hand ≡ m.by_hand) → (ms ns : List Queued) → AllZip R ms ns → sum_by (may_zero b) ns ≤ sum_by (may_zero true) ms
+zeroed_zip b R same [] [] z = omega arith
+zeroed_zip b R same [] (n ∷ ns) z = absurd z
+zeroed_zip b R same (m ∷ ms) [] z = absurd z
+zeroed_zip b R same (m ∷ ms) (n ∷ ns) z = omega (arith, zero_less b m n (same m n z.0), sum_by-cons (may_zero b) n ns, sum_by-cons (may_zero true) m ms, zeroed_zip b R same ms ns z.1)
+
+zeroed_map : (b : Bool) (f : Queued → Queued) → ((m : Queued) → (f m).by_hand ≡ m.by_hand) → (ms : List Queued) → sum_by (may_zero b) (map f ms) ≤ sum_by (may_zero true) ms
+zeroed_map b f same [] = omega arith
+zeroed_map b f same (m ∷ ms) = omega (arith, zero_less b m (f m) (same m), sum_by-cons (may_zero b) (f m) (map f ms), sum_by-cons (may_zero true) m ms, zeroed_map b f same ms)
+
+hand_changed : (b : Bool) (m n : Queued) → n.by_hand ≡ m.by_hand → (if b then n else m).by_hand ≡ m.by_hand
+hand_changed true m n same = same
+hand_changed false m n same = refl
+
+with_ranges_left : (q : Queue) → 0 < length q.ranges → zeroings q ≡ sum_by (may_zero true) q.slots
+with_ranges_left q some = ap (λ (b : Bool). sum_by (may_zero b) q.slots) (lt-ltb 0 (length q.ranges) some)
 
 -- a run less is left after it was decommitted, or after a decommit failed
 pub decommit_fewer : (z : PoolSizes) (fault : Bool) (old new : Queue) (freed : Reserved FreedSlot) → Decommits fault old new → 0 < length old.ranges → flush_left z new freed + 1 ≤ flush_left z old freed
@@ -238,6 +285,8 @@ decommit_fewer z true old new freed faulted some =
       runs_some old.ranges some,
       ap runs faulted.ranges,
       length_all_zip (IsLeftBy (first_slot old.ranges)) old.slots new.slots faulted.slots,
+      with_ranges_left old some,
+      zeroed_zip (nat_lt 0 (length new.ranges)) (IsLeftBy (first_slot old.ranges)) (λ m n left. ap (λ (x : Queued). x.by_hand) left.same) old.slots new.slots faulted.slots,
       all_same z (flushed_allocators z.plan) old.slots new.slots freed.items freed.items (λ j. omega (arith, faulted_names (λ name n. is_home z j name) old new faulted)),
     )
 decommit_fewer z false old new freed run some =
@@ -247,22 +296,75 @@ decommit_fewer z false old new freed run some =
       arith,
       runs_fewer old.ranges some,
       length_after_run old,
+      with_ranges_left old some,
+      zeroed_map (nat_lt 0 (length (after_run old).ranges)) (change_at (first_slot old.ranges) (decommitted_all (map (λ r. r.range) (front (is_of (first_slot old.ranges)) old.ranges)))) (λ m. hand_changed (same_slot (first_slot old.ranges) m.name) m (record m { slot = decommitted_all (map (λ r. r.range) (front (is_of (first_slot old.ranges)) old.ranges)) m.slot }) refl) old.slots,
       all_same z (flushed_allocators z.plan) old.slots (after_run old).slots freed.items freed.items (λ j. omega (arith, run_names (λ name n. is_home z j name) old)),
     ))
 
+-- a slot less is to be zeroed once one was
+none_zeroed : (x : Bool) → one_if (x && false) ≡ 0
+none_zeroed true = refl
+none_zeroed false = refl
+
+zeroed_now : (m : Queued) (o : Option ℕ) → m.by_hand ≡ o → may_zero false (zeroed_by o m) ≡ 0
+zeroed_now m None is = ap (λ (x : Option ℕ). one_if (is_some x && not m.known)) is
+zeroed_now m (Some n) is = none_zeroed (is_some m.by_hand)
+
+or_second : (x y : Bool) → x ≡ false → (x || y) ≡ true → y ≡ true
+or_second x y first both = ap (λ (b : Bool). b || y) (sym first) ∙ both
+
+zeroed_fewer : (kind : SlotKind) (ms : List Queued) → list_any (is_to_zero kind) ms ≡ true → sum_by (may_zero false) (first_zeroed kind ms) + 1 ≤ sum_by (may_zero false) ms
+zeroed_fewer kind [] some = absurd (true≢false (sym some))
+zeroed_fewer kind (m ∷ ms) some =
+    elim (cases_Bool (is_to_zero kind m)) [
+      | inl is ↦
+          let one : may_zero false m ≡ 1 = ap one_if (and_parts (same_kind kind m.name.kind) (is_some m.by_hand && not m.known) is).1 in
+          let first : first_zeroed kind (m ∷ ms) ≡ zeroed m ∷ ms = rw is refl in
+          omega (arith, one, ap (sum_by (may_zero false)) first, zeroed_now m m.by_hand refl, sum_by-cons (may_zero false) (zeroed m) ms, sum_by-cons (may_zero false) m ms)
+      | inr other ↦
+          let later : list_any (is_to_zero kind) ms ≡ true = or_second (is_to_zero kind m) (list_any (is_to_zero kind) ms) other some in
+          let first : first_zeroed kind (m ∷ ms) ≡ m ∷ first_zeroed kind ms = rw other refl in
+          omega (arith, ap (sum_by (may_zero false)) first, sum_by-cons (may_zero false) m (first_zeroed kind ms), sum_by-cons (may_zero false) m ms, zeroed_fewer kind ms later)
+    ]
+
+pub zero_fewer : (z : PoolSizes) (kind : SlotKind) (local : Queue) (freed : Reserved FreedSlot) → local.ranges ≡ [] → list_any (is_to_zero kind) local.slots ≡ true → flush_left z (record local { slots = first_zeroed kind local.slots }) freed + 1 ≤ flush_left z local freed
+zero_fewer z kind local freed none some =
+    let b : nat_lt 0 (length local.ranges) ≡ false = rw none refl in
+    let now : List Queued = first_zeroed kind local.slots in
+    omega (
+      arith,
+      ap (λ (c : Bool). sum_by (may_zero c) local.slots) b,
+      ap (λ (c : Bool). sum_by (may_zero c) now) b,
+      zeroed_fewer kind local.slots some,
+      zeroed_long kind local.slots,
+      all_same z (flushed_allocators z.plan) local.slots now freed.items freed.items (λ j. omega (arith, zeroed_names (λ name n. is_home z j name) kind local.slots)),
+    )
+
 -- a region less is to be put back once one was, and its slot still waits
-pub put_fewer : (z : PoolSizes) (m : Queued) (rest ms : List Queued) (xs : List FreedSlot) → ms ≡ m ∷ rest → all_waiting z (flushed_allocators z.plan) rest (xs ++ record { name = m.name; bytes = m.bytes } ∷ []) ≡ all_waiting z (flushed_allocators z.plan) ms xs
-put_fewer z m rest ms xs is =
+pub put_fewer : (z : PoolSizes) (kind : SlotKind) (m : Queued) (local : Queue) (freed : Reserved FreedSlot) → first_of_kind kind local.slots ≡ Some m → flush_left z (record local { slots = others_of_kind kind local.slots }) (with_item (record { name = m.name; bytes = m.bytes }) freed) + 1 ≤ flush_left z local freed
+put_fewer z kind m local freed is =
     let x : FreedSlot = record { name = m.name; bytes = m.bytes } in
-    all_same z (flushed_allocators z.plan) ms rest xs (xs ++ x ∷ [])
-    (λ j.
-    let of : SlotName → ℕ = is_home z j in
-    omega (arith, ap (sum_by (λ (q : Queued). of q.name)) is, sum_by-cons (λ (q : Queued). of q.name) m rest, sum_by_push (λ (y : FreedSlot). of y.name) xs x))
+    let ms : List Queued = local.slots in
+    let b : Bool = nat_lt 0 (length local.ranges) in
+    omega (
+      arith,
+      sum_first (may_zero b) kind m ms is,
+      others_long kind m ms is,
+      all_same z (flushed_allocators z.plan) ms (others_of_kind kind ms) freed.items (freed.items ++ x ∷ [])
+          (λ j. omega (arith, sum_first (λ (q : Queued). is_home z j q.name) kind m ms is, sum_by_push (λ (y : FreedSlot). is_home z j y.name) freed.items x)),
+    )
+
+-- none of the queued slots waits for a shard where none is at home
+none_home : (z : PoolSizes) (p : ℕ) (ms : List Queued) → All (λ m. (home_of z.plan m.name).place ≢ p) ms → sum_by (λ m. is_home z p m.name) ms ≡ 0
+none_home z p [] each = refl
+none_home z p (m ∷ ms) each =
+    let H : Queued → Type 0 = λ x. (home_of z.plan x.name).place ≢ p in
+    omega (arith, ap one_if (ne_eqb (home_of z.plan m.name).place p (All-head H m ms each)), sum_by-cons (λ (x : Queued). is_home z p x.name) m ms, none_home z p ms (All-tail H m ms each))
 
 -- a shard less waits once its slots are freed
-pub free_fewer : (plan : Plan) (places : ℕ) (ms : List Queued) (xs : List FreedSlot) → IsPoolPlan plan places → All (IsFreedOf plan) xs → ms ≡ [] → 0 < length xs
+pub free_fewer : (plan : Plan) (places : ℕ) (ms : List Queued) (xs : List FreedSlot) → IsPoolPlan plan places → All (IsFreedOf plan) xs → All (λ m. (home_of plan m.name).place ≢ first_shard plan xs) ms → 0 < length xs
     → all_waiting (sizes_of plan) (flushed_allocators plan) ms (freed_elsewhere plan (first_shard plan xs) xs) + 1 ≤ all_waiting (sizes_of plan) (flushed_allocators plan) ms xs
-free_fewer plan places ms xs is each none some =
+free_fewer plan places ms xs is each apart some =
     let p : ℕ = first_shard plan xs in
     let z : PoolSizes = sizes_of plan in
     let A : ℕ → Type 0 = IsAmong (flushed_allocators plan) in
@@ -270,22 +372,22 @@ free_fewer plan places ms xs is each none some =
     all_less z p (flushed_allocators plan) ms ms xs (freed_elsewhere plan p xs) among
     (record {
       some = omega (arith, passing (λ x. (home_of plan x.name).place == p) xs, first_has_some plan xs some);
-      none = omega (arith, ap (sum_by (λ (m : Queued). is_home z p m.name)) none, elsewhere_none plan p xs);
+      none = omega (arith, none_home z p ms apart, elsewhere_none plan p xs);
       others = λ q other. omega (arith, elsewhere_same plan q p xs other);
     })
 
 module _ {P : Type 0} where
-  few_of : (maker : MakerTold) (c : PoolCore P) (ms : List Queued) → IsCore maker c → ((name : SlotName) → queued_count (right_to name) ms ≤ away_count (right_to name) c) → length ms ≤ memory_slots c.plan
+  few_of : (maker : MakerTold) (c : PoolCore P) (ms : List Queued) → IsCore maker c → ((name : SlotName) → queued_count (right_to name) ms ≤ away_count (right_to name) c) → length ms ≤ (sizes_of c.plan).slots
   few_of maker c ms core out =
       few_queued c.plan ms
       (λ name. omega (arith, out name, (out_once maker name c core).0))
       (λ name some. (right_is_out maker name c core (omega (arith, some, out name))).named)
 
-  pub few_in_queue : (maker : MakerTold) (i : ℕ) (c : PoolCore P) (f : Frame P) → CanStep maker c f → IsQueuePlace c.plan i → length (queue_at i c).slots ≤ memory_slots c.plan
+  pub few_in_queue : (maker : MakerTold) (i : ℕ) (c : PoolCore P) (f : Frame P) → CanStep maker c f → IsQueuePlace c.plan i → length (queue_at i c).slots ≤ (sizes_of c.plan).slots
   few_in_queue maker i c f can place =
       few_of maker c (queue_at i c).slots can.core (λ name. omega (arith, can.fits.once (right_to name), queue_kept maker (right_to name) i c can.core place))
 
-  pub few_in_both : (maker : MakerTold) (i : ℕ) (c : PoolCore P) (f : Frame P) → CanStep maker c f → IsQueuePlace c.plan i → length (after_append (queue_at i c) f.local).slots ≤ memory_slots c.plan
+  pub few_in_both : (maker : MakerTold) (i : ℕ) (c : PoolCore P) (f : Frame P) → CanStep maker c f → IsQueuePlace c.plan i → length (after_append (queue_at i c) f.local).slots ≤ (sizes_of c.plan).slots
   few_in_both maker i c f can place =
       few_of maker c (after_append (queue_at i c) f.local).slots can.core
       (λ name. omega (arith, queued_joined (right_to name) (queue_at i c).slots f.local.slots, can.fits.once (right_to name), queue_kept maker (right_to name) i c can.core place))

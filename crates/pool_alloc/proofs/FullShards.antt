@@ -4,10 +4,9 @@ use Rattle.pool_hall.proofs.Totals.{inside, total_zero}
 use Rattle.pool_slots.proofs.ListUnits.{read_at, kept_parts}
 use Rattle.pool_slots.specs.PartUnits.{part_kept}
 use Rattle.pool_hall.specs.Sum.{total}
-use Rattle.pool_hall.specs.declared.unit_name.SlotKind.TheVariants.{Memory as memory_kind}
 use Rattle.pool_slots.proofs.Planning.{numbered}
 use Rattle.pool_alloc.proofs.PoolParts.{sound_shard, place_of}
-use Rattle.pool_alloc.proofs.PlanPlaces.{slot_at, stripe_holds, queue_of_role, queue_tried_at, queues_all, stripe_role, IsQueuePlace, IsSlotAt, home_place}
+use Rattle.pool_alloc.proofs.PlanPlaces.{slot_at, allocator_holds, queue_of_role, queue_tried_at, queues_all, allocator_role, IsQueuePlace, IsSlotAt, home_place}
 use Rattle.pool_slots.specs.declared.plan.Plan.{Plan}
 use Rattle.pool_slots.specs.declared.plan.Allocator.{Allocator}
 use Rattle.pool_slots.specs.Plans.{Role, queue_role, role_at, has_number, home_of}
@@ -24,9 +23,9 @@ use Rattle.pool_index.specs.Shard.{ShardState, warm_at, next_cold, IsShard, choi
 use Rattle.pool_index.specs.declared.ids.MemoryInModule.{MemoryInModule}
 use Rattle.pool_index.specs.declared.warm_slot.WarmSlot.{WarmSlot}
 use Rattle.pool_alloc.specs.Places.{Thing, right_to, queued_count, kept_count, away_count}
-use Rattle.pool_alloc.specs.Leases.{memory_slot}
+use Rattle.pool_slots.specs.SlotNames.{of_kind}
 use Rattle.pool_slots.specs.declared.slot_name.SlotName.{SlotName}
-use Rattle.pool_alloc.specs.Steps.{shard_at, queue_at, queue_in, memory_slots, queues_searched, stripe_allocator, allocator_for}
+use Rattle.pool_alloc.specs.Steps.{shard_at, queue_at, queue_in, queues_searched, allocator_for, kind_next, slot_next}
 use Rattle.pool_alloc.specs.declared.pool_core.PoolCore.{PoolCore}
 use Rattle.pool_alloc.specs.declared.frame.Frame.{Frame}
 use Rattle.pool_alloc.specs.Searches.{HasNoSlot, AreFull, AreEmpty}
@@ -105,14 +104,14 @@ around home i n inside =
           (i - r, omega (arith, inside), ap (λ (m : ℕ). m % n) there ∙ mod-mul-add (home / n) n i inside)
     ]
 
--- A slot of the stripe's allocator is at home in one of its shards.
-pub stripe_home : (plan : Plan) (places stripe k : ℕ) → IsPoolPlan plan places → stripe < length plan.memories → has_number (stripe_allocator plan stripe) k ≡ true → (i : ℕ) × (i < (stripe_allocator plan stripe).shards) × IsSlotAt plan ((stripe_allocator plan stripe).first_place + i) (memory_slot k)
-stripe_home plan places stripe k is below has =
-    let a : Allocator = stripe_allocator plan stripe in
-    let of' = stripe_holds plan places stripe is below in
-    let it = numbered a k memory_kind (memory_slots plan) of' has in
+-- A slot of the allocator of what is allocated is at home in one of its shards.
+pub allocator_home : {P : Type 0} (plan : Plan) (places k : ℕ) (f : Frame P) → IsPoolPlan plan places → f.stripe < length plan.memories → has_number (allocator_for plan f) k ≡ true → (i : ℕ) × (i < (allocator_for plan f).shards) × IsSlotAt plan ((allocator_for plan f).first_place + i) (slot_next k f)
+allocator_home plan places k f is stripe has =
+    let a : Allocator = allocator_for plan f in
+    let of' = allocator_holds plan places f is stripe in
+    let it = numbered a k (kind_next f) (of_kind (kind_next f) plan.totals) of' has in
     let i : ℕ = (k - a.first) / a.step / a.slots_per_shard in
-    (i, it.shard, slot_at plan places (a.first_place + i) a i ((k - a.first) / a.step % a.slots_per_shard) (memory_slot k) is (stripe_role plan places stripe i is below it.shard) it.inside (sym of'.kind_is) (sym it.number))
+    (i, it.shard, slot_at plan places (a.first_place + i) a i ((k - a.first) / a.step % a.slots_per_shard) (slot_next k f) is (allocator_role plan places (kind_next f) f.stripe i is stripe it.shard) it.inside (sym of'.kind_is) (sym it.number))
 
 module _ {P : Type 0} where
   -- A part keeps nothing where it is no queue, or an empty one.
@@ -132,13 +131,13 @@ module _ {P : Type 0} where
       let is : part_at p c.parts ≡ x = read_at c.parts p _ x at in
       subst (λ (y : PoolPart P). total t (part_kept y) ≡ 0) is (part_none maker c.settings t (role_at c.plan p) (part_at p c.parts) (core.parts p (inside c.parts p x at)) (λ role. empty p role)))
 
-  -- Where all shards of the stripe were tried, and all queues taken, each slot of the stripe is given out, and in no queue.
-  pub nothing_left : (maker : MakerTold) (c : PoolCore P) (f : Frame P) → IsCore maker c → f.stripe < length c.plan.memories → AreEmpty (queues_searched c.plan) c f → AreFull (allocator_for c.plan f).shards c f → (k : ℕ) → has_number (allocator_for c.plan f) k ≡ true → (kept_count (right_to (memory_slot k)) c ≡ 0) × (away_count (right_to (memory_slot k)) c ≡ 1)
+  -- Where all shards of the allocator were tried, and all queues taken, each of its slots is given out, and in no queue.
+  pub nothing_left : (maker : MakerTold) (c : PoolCore P) (f : Frame P) → IsCore maker c → f.stripe < length c.plan.memories → AreEmpty (queues_searched c.plan) c f → AreFull (allocator_for c.plan f).shards c f → (k : ℕ) → has_number (allocator_for c.plan f) k ≡ true → (kept_count (right_to (slot_next k f)) c ≡ 0) × (away_count (right_to (slot_next k f)) c ≡ 1)
   nothing_left maker c f core stripe empty full k has =
       let a : Allocator = allocator_for c.plan f in
-      let home = stripe_home c.plan (length c.parts) f.stripe k core.plan stripe has in
+      let home = allocator_home c.plan (length c.parts) k f core.plan stripe has in
       let tried = around f.home home.0 a.shards home.1 in
-      let name : SlotName = memory_slot k in
+      let name : SlotName = slot_next k f in
       let p : ℕ = (home_of c.plan name).place in
       let at_home : HasNoSlot (shard_at p c) = subst (λ (q : ℕ). HasNoSlot (shard_at q c)) (ap (λ (i : ℕ). a.first_place + i) tried.2 ∙ home.2.home) (full tried.0 tried.1) in
       let place = home_place c.plan (length c.parts) name core.plan home.2.named in

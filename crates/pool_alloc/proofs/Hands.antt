@@ -1,5 +1,5 @@
 -- All that is shown of a row, before its turn; and that the turn leaves it.
-use Rattle.pool_alloc.proofs.PlanPlaces.{stripe_is}
+use Rattle.pool_alloc.proofs.PlanPlaces.{allocator_is}
 use Rattle.pool_slots.specs.declared.plan.Plan.{Plan}
 use Rattle.std.proofs.Common.{◌≡◌, ℕ, ◌+◌, ◌*◌, ◌<◌, ◌≤◌, Bool, true, false, List, [], ◌∷◌, length, All, refl, sym, ap, subst, ◌∙◌, arith, Option, Some, None}
 use Rattle.std.specs.Prelude.{◌==◌, nat_lt, if◌then◌else◌, is_some}
@@ -10,20 +10,23 @@ use Rattle.pool_pages.specs.MakerTold.{MakerTold}
 use Rattle.pool_limits.specs.LimiterTold.{LimiterTold}
 use Rattle.pool_slots.specs.SlotQueues.{Queue}
 use Rattle.pool_slots.proofs.SlotRuns.{no_slots}
-use Rattle.pool_alloc.proofs.QueueCounts.{leased_first}
+use Rattle.pool_alloc.proofs.QueueCounts.{leased_first, tables_first}
 use Rattle.pool_alloc.specs.Bounds.{PoolSizes, give_back_bound, sizes_of, flush_left, returns_left, queues_left, next_left, steps_at, steps_left}
 use Rattle.pool_alloc.specs.Calls.{IsGrantOf, IfGranted}
 use Rattle.pool_alloc.specs.Leases.{Lease}
-use Rattle.pool_alloc.specs.Places.{Thing, leased_count, instance_count, queued_count, freed_count, kept_count, phase_count, frame_count, phase_instances, phase_memories, frame_memories, away_count}
-use Rattle.pool_alloc.specs.Objects.{objects_in, objects_wanted, no_objects}
+use Rattle.pool_alloc.specs.PoolTables.{IsTableLease}
+use Rattle.pool_alloc.specs.TableLeases.{LeasedTable}
+use Rattle.pool_alloc.specs.Places.{Thing, leased_count, tables_count, instance_count, taken_count, memory_in, table_in, phase_tables, frame_tables, queued_count, freed_count, kept_count, phase_count, frame_count, phase_instances, phase_memories, frame_memories, away_count}
+use Rattle.pool_alloc.specs.Objects.{objects_in, objects_wanted, no_objects, slot_of_object}
 use Rattle.pool_alloc.specs.Reserved.{Reserved}
-use Rattle.pool_alloc.specs.declared.frame.Object.TheVariants.{Memory}
+use Rattle.pool_alloc.specs.declared.frame.Object.{Object}
+use Rattle.pool_alloc.specs.declared.frame.Object.TheVariants.{Memory, Table}
 use Rattle.pool_alloc.specs.declared.lease.InstanceLease.{InstanceLease}
 use Rattle.pool_alloc.specs.Searches.{AreFull, AreEmpty, IsSearchedBy, IsSearchedAt, IsSearched}
-use Rattle.pool_alloc.specs.Sound.{AreSupported, IsLocal, IsLeaseOf, AreLeasesOf, IsCore, IsFrame, IsToGrant, Aims, HasNoneWaiting, IsAtRest, IsAiming, IsAllocating, IsReturning, IsShapedAt, AreBegun, IsFreedOf}
+use Rattle.pool_alloc.specs.Sound.{AreSupported, AreTablesSupported, IsLocal, IsLeaseOf, IsObjectOf, AreLeasesOf, FreesInOrder, IsCore, IsFrame, IsToGrant, Aims, HasNoneWaiting, IsAtRest, IsAiming, IsAllocating, IsReturning, IsShapedAt, AreBegun, IsFreedOf}
 use Rattle.pool_alloc.specs.Stages.{admitted, Stage, no_call, keys, asks, returning, refusing, stage_by, stage_at, stage_of, Follows, Goes}
-use Rattle.pool_alloc.specs.Steps.{memories_wanted, images_wanted, allocator_for, queues_searched}
-use Rattle.pool_alloc.specs.Stepping.{count_granted, grant_count, grant_instances, grant_memories, is_idle}
+use Rattle.pool_alloc.specs.Steps.{memories_wanted, images_wanted, tables_wanted, kind_next, allocator_for, queues_searched}
+use Rattle.pool_alloc.specs.Stepping.{count_granted, grant_count, grant_instances, grant_memories, grant_tables, is_idle}
 use Rattle.pool_alloc.specs.Turns.{Turn, goes, ends, next, flush, search, Row, Left, After, is_granting, failing, returned_next, next_by, is_flushed, after, finished, stepped, gone_to, stays}
 use Rattle.pool_alloc.specs.declared.pool_core.PoolCore.{PoolCore}
 use Rattle.pool_alloc.specs.declared.pool_core.Settings.{Settings}
@@ -56,13 +59,15 @@ pub record IsHeld {P : Type 0} (maker : MakerTold) (s : Settings) (plan : Plan) 
   pub queue : IsLocal maker s local
   pub freed_room : (freed.room ≡ 2 * s.batch) × (length freed.items + length local.slots ≤ 2 * s.batch)
   pub freed_each : All (IsFreedOf plan) freed.items
+  pub freed_order : FreesInOrder local.slots freed.items
   pub objects : AreLeasesOf maker s plan lease
 
--- what a step has in hand: things, and how many instances and memories are counted
+-- what a step has in hand: things, and how many instances, memories and tables are counted
 pub record Hand : Type 0 where
   pub things : Thing → ℕ
   pub instances : ℕ
   pub memories : ℕ
+  pub tables : ℕ
 
 -- A call that gives back is at one stage, however much it has.
 pub stage_still : (e : Ending) (m n : ℕ) → is_granting e ≡ false → stage_by e m ≡ stage_by e n
@@ -79,10 +84,10 @@ module _ {P : Type 0} where
   Held maker s plan f = IsHeld maker s plan f.stripe f.local f.freed f.objects
 
   pub held_of : (maker : MakerTold) (s : Settings) (plan : Plan) (f : Frame P) → IsFrame maker s plan f → Held maker s plan f
-  held_of maker s plan f frame = record { stripe = frame.stripe; queue = frame.queue; freed_room = frame.freed_room; freed_each = frame.freed_each; objects = frame.objects }
+  held_of maker s plan f frame = record { stripe = frame.stripe; queue = frame.queue; freed_room = frame.freed_room; freed_each = frame.freed_each; freed_order = frame.freed_order; objects = frame.objects }
 
   pub frame_of : (maker : MakerTold) (s : Settings) (plan : Plan) (f : Frame P) → Held maker s plan f → IsShapedAt maker s plan f.phase f → IsFrame maker s plan f
-  frame_of maker s plan f held shape = record { stripe = held.stripe; queue = held.queue; freed_room = held.freed_room; freed_each = held.freed_each; objects = held.objects; shape = shape }
+  frame_of maker s plan f held shape = record { stripe = held.stripe; queue = held.queue; freed_room = held.freed_room; freed_each = held.freed_each; freed_order = held.freed_order; objects = held.objects; shape = shape }
 
   -- what a frame has but for its next step
   abbrev pub listed_count : Thing → Frame P → ℕ
@@ -90,9 +95,9 @@ module _ {P : Type 0} where
 
   -- what a turn has in hand
   abbrev pub hand : Turn P → Hand
-  hand (goes p) = record { things = λ t. phase_count t p; instances = phase_instances p; memories = phase_memories p }
-  hand (ends o) = record { things = λ t. count_granted (grant_count t) (Some o); instances = count_granted grant_instances (Some o); memories = count_granted grant_memories (Some o) }
-  hand _ = record { things = λ t. 0; instances = 1; memories = 0 }
+  hand (goes p) = record { things = λ t. phase_count t p; instances = phase_instances p; memories = phase_memories p; tables = phase_tables p }
+  hand (ends o) = record { things = λ t. count_granted (grant_count t) (Some o); instances = count_granted grant_instances (Some o); memories = count_granted grant_memories (Some o); tables = count_granted grant_tables (Some o) }
+  hand _ = record { things = λ t. 0; instances = 1; memories = 0; tables = 0 }
 
   -- the steps that a turn leaves
   abbrev pub turn_steps : PoolSizes → Turn P → Frame P → ℕ
@@ -122,6 +127,7 @@ module _ {P : Type 0} (maker : MakerTold) (old new : LimiterTold) (d : PoolCore 
     pub places : (t : Thing) → kept_count t c + (listed_count t f + h.things t) + away_count t d ≡ kept_count t d + frame_count t e + away_count t c
     pub instances : c.counters.core_instances + phase_instances e.phase ≡ d.counters.core_instances + h.instances
     pub memories : c.counters.memories + frame_memories e ≡ d.counters.memories + (length f.objects.memories.items + h.memories)
+    pub tables : c.counters.tables + frame_tables e ≡ d.counters.tables + (length f.objects.tables.items + h.tables)
 
   -- what is there, whatever comes next
   pub record Kept (c : PoolCore P) (f : Frame P) : Type 0 where
@@ -132,6 +138,7 @@ module _ {P : Type 0} (maker : MakerTold) (old new : LimiterTold) (d : PoolCore 
     pub plan : c.plan ≡ d.plan
     pub instances_by_one : c.counters.core_instances ≤ d.counters.core_instances + 1
     pub memories_by_one : c.counters.memories ≤ d.counters.memories + 1
+    pub tables_by_one : c.counters.tables ≤ d.counters.tables + 1
 
   -- what a turn wants of the frame
   abbrev pub TurnShape : PoolCore P → Frame P → Turn P → Type 0
@@ -171,11 +178,13 @@ module _ {P : Type 0} (maker : MakerTold) (old new : LimiterTold) (d : PoolCore 
     pub places : (t : Thing) → kept_count t a.core + (frame_count t a.frame + count_granted (grant_count t) a.outcome) + away_count t d ≡ kept_count t d + frame_count t e + away_count t a.core
     pub instances : a.core.counters.core_instances + phase_instances e.phase ≡ d.counters.core_instances + (phase_instances a.frame.phase + count_granted grant_instances a.outcome)
     pub memories : a.core.counters.memories + frame_memories e ≡ d.counters.memories + (frame_memories a.frame + count_granted grant_memories a.outcome)
+    pub tables : a.core.counters.tables + frame_tables e ≡ d.counters.tables + (frame_tables a.frame + count_granted grant_tables a.outcome)
     pub settings : a.core.settings ≡ d.settings
     pub plan : a.core.plan ≡ d.plan
     pub answer : is_some a.outcome ≡ is_idle a.frame.phase
     pub instances_by_one : a.core.counters.core_instances ≤ d.counters.core_instances + 1
     pub memories_by_one : a.core.counters.memories ≤ d.counters.memories + 1
+    pub tables_by_one : a.core.counters.tables ≤ d.counters.tables + 1
     pub asked : is_idle a.frame.phase ≡ false → a.frame.asked ≡ e.asked
     pub fewer : steps_at (sizes_of d.plan) a.frame.phase a.frame + 1 ≤ steps_left d e
     pub way : GoesNow (stage_of a.frame) a.outcome
@@ -198,11 +207,13 @@ module _ {P : Type 0} (maker : MakerTold) (old new : LimiterTold) (d : PoolCore 
         places = λ t. omega (arith, r.even.places t);
         instances = omega (arith, r.even.instances);
         memories = omega (arith, r.even.memories);
+        tables = omega (arith, r.even.tables);
         settings = r.kept.settings;
         plan = r.kept.plan;
         answer = sym r.shape.0;
         instances_by_one = r.kept.instances_by_one;
         memories_by_one = r.kept.memories_by_one;
+        tables_by_one = r.kept.tables_by_one;
         asked = λ on. r.kept.asked;
         fewer = r.fewer;
         way = r.way;
@@ -218,11 +229,13 @@ module _ {P : Type 0} (maker : MakerTold) (old new : LimiterTold) (d : PoolCore 
         places = λ t. omega (arith, r.even.places t);
         instances = omega (arith, r.even.instances);
         memories = omega (arith, r.even.memories);
+        tables = omega (arith, r.even.tables);
         settings = r.kept.settings;
         plan = r.kept.plan;
         answer = refl;
         instances_by_one = r.kept.instances_by_one;
         memories_by_one = r.kept.memories_by_one;
+        tables_by_one = r.kept.tables_by_one;
         asked = λ on. absurd cc;
         fewer = r.fewer;
         way = r.way;
@@ -230,63 +243,88 @@ module _ {P : Type 0} (maker : MakerTold) (old new : LimiterTold) (d : PoolCore 
       }
 
   -- what was granted so far is given back, or is still to be
-  back_ok : (c : PoolCore P) (f : Frame P) (leases : List Lease) → f.objects.memories.items ≡ leases → Kept c f → HasNoneWaiting f → IsReturning f → Even (hand {P = P} next) c f → returns_left (sizes_of d.plan) f.objects + 1 ≤ steps_left d e → GoesNow (stage_by f.ending (objects_in f.objects)) None → RowOk (finished c (returned_next leases f))
-  back_ok c f [] is kept settled back even fewer way =
-      goes_ok c f UncountInstance (record { kept = kept; shape = (refl, (record { settled = settled; no_memories = is }, back)); even = even; fewer = omega (arith, fewer); way = way; searched = λ s. tt })
-  back_ok c f (lease ∷ rest) is kept settled back even fewer way =
-      let L : Lease → Type 0 = IsLeaseOf maker c.settings c.plan in
-      let all : All L (lease ∷ rest) = All-same L (lease ∷ rest) f.objects.memories.items (sym is) kept.held.objects in
-      let has : Frame P = record f { objects = record f.objects { memories = record f.objects.memories { items = rest } } } in
-      let long : objects_in f.objects ≡ length rest + 1 = ap (length {A = Lease}) is ∙ omega arith in
+  abbrev GoesBack : PoolCore P → Frame P → Type 0
+  GoesBack c f = Kept c f × HasNoneWaiting f × IsReturning f × Even (hand {P = P} next) c f × (returns_left (sizes_of d.plan) f.objects + 1 ≤ steps_left d e) × GoesNow (stage_by f.ending (objects_in f.objects)) None
+
+  -- with one object less
+  less_ok : (c : PoolCore P) (f : Frame P) (objects : InstanceLease P) (object : Object P) → GoesBack c f → objects_in f.objects ≡ objects_in objects + 1 → AreLeasesOf maker c.settings c.plan objects → IsObjectOf maker c.settings c.plan object
+      → ((t : Thing) → instance_count t f.objects ≡ instance_count t objects + taken_count t (slot_of_object object)) → length f.objects.memories.items ≡ length objects.memories.items + memory_in object → length f.objects.tables.items ≡ length objects.tables.items + table_in object
+      → RowOk (finished c (after (record f { objects = objects }) (goes (UncountObject object))))
+  less_ok c f objects object back long leases is counts memories tables =
+      let kept : Kept c f = back.0 in
+      let returning : IsReturning f = back.2 in
+      let even : Even (hand {P = P} next) c f = back.3 in
       let W : Stage → Type 0 = λ stage. GoesNow stage None in
-      goes_ok c has (UncountObject (Memory lease))
+      goes_ok c (record f { objects = objects }) (UncountObject object)
       (record {
         kept = record {
           core = kept.core;
-          held = record { stripe = kept.held.stripe; queue = kept.held.queue; freed_room = kept.held.freed_room; freed_each = kept.held.freed_each; objects = All-tail L lease rest all };
+          held = record { stripe = kept.held.stripe; queue = kept.held.queue; freed_room = kept.held.freed_room; freed_each = kept.held.freed_each; freed_order = kept.held.freed_order; objects = leases };
           asked = kept.asked;
           settings = kept.settings;
           plan = kept.plan;
           instances_by_one = kept.instances_by_one;
           memories_by_one = kept.memories_by_one;
+          tables_by_one = kept.tables_by_one;
         };
-        shape = (refl, (settled, back, All-head L lease rest all));
-        even = record { places = λ t. omega (arith, even.places t, leased_first t lease rest, ap (leased_count t) is); instances = even.instances; memories = omega (arith, even.memories, long) };
-        fewer = omega (arith, fewer, one_more (objects_in f.objects) (length rest) (give_back_bound (sizes_of d.plan)) long);
-        way = subst W (stage_still f.ending (objects_in f.objects) (length rest) back) way;
+        shape = (refl, (back.1, returning, is));
+        even = record { places = λ t. omega (arith, even.places t, counts t); instances = even.instances; memories = omega (arith, even.memories, memories); tables = omega (arith, even.tables, tables) };
+        fewer = omega (arith, back.4, one_more (objects_in f.objects) (objects_in objects) (give_back_bound (sizes_of d.plan)) long);
+        way = subst W (stage_still f.ending (objects_in f.objects) (objects_in objects) returning) back.5;
         searched = λ s. tt;
       })
 
+  back_ok : (c : PoolCore P) (f : Frame P) (memories : List Lease) (tables : List LeasedTable) → f.objects.memories.items ≡ memories → f.objects.tables.items ≡ tables → GoesBack c f → RowOk (finished c (returned_next memories tables f))
+  back_ok c f [] [] none none_more back =
+      goes_ok c f UncountInstance (record { kept = back.0; shape = (refl, (record { settled = back.1; no_memories = none; no_tables = none_more }, back.2)); even = back.3; fewer = omega (arith, back.4); way = back.5; searched = λ s. tt })
+  back_ok c f (lease ∷ rest) tables is is_more back =
+      let L : Lease → Type 0 = IsLeaseOf maker c.settings c.plan in
+      let kept : Kept c f = back.0 in
+      let all : All L (lease ∷ rest) = All-same L (lease ∷ rest) f.objects.memories.items (sym is) kept.held.objects.0 in
+      let long : length f.objects.memories.items ≡ length rest + 1 = ap (length {A = Lease}) is ∙ omega arith in
+      less_ok c f (record f.objects { memories = record f.objects.memories { items = rest } }) (Memory lease) back (omega (arith, long)) (All-tail L lease rest all, kept.held.objects.1) (All-head L lease rest all)
+      (λ t. omega (arith, leased_first t lease rest, ap (leased_count t) is)) long (omega arith)
+  back_ok c f [] (lease ∷ rest) none is back =
+      let L : LeasedTable → Type 0 = IsTableLease maker c.settings c.plan in
+      let kept : Kept c f = back.0 in
+      let all : All L (lease ∷ rest) = All-same L (lease ∷ rest) f.objects.tables.items (sym is) kept.held.objects.1 in
+      let long : length f.objects.tables.items ≡ length rest + 1 = ap (length {A = LeasedTable}) is ∙ omega arith in
+      less_ok c f (record f.objects { tables = record f.objects.tables { items = rest } }) (Table lease) back (omega (arith, long)) (kept.held.objects.0, All-tail L lease rest all) (All-head L lease rest all)
+      (λ t. omega (arith, tables_first t lease rest, ap (tables_count t) is)) (omega arith) long
+
   -- a request for which all is granted goes on to its answer
-  granted_way : (stage : Stage) (n : ℕ) (grant : Grant P) → Goes maker old new d e stage (asks (admitted n)) None → n ≡ objects_wanted e.asked → AreSupported d.settings (memories_wanted e.asked) (images_wanted e.asked) → Goes maker old new d e stage no_call (Some (answer.Granted grant))
-  granted_way no_call n grant way is supported = absurd way
-  granted_way keys n grant way is supported = absurd way
-  granted_way (asks p) n grant way is supported = let F : ℕ → Type 0 = λ m. Follows old new d e p (admitted m) in (subst F is way, supported)
-  granted_way returning n grant way is supported = absurd way
-  granted_way (refusing x) n grant way is supported = absurd way
+  granted_way : (stage : Stage) (n : ℕ) (grant : Grant P) → Goes maker old new d e stage (asks (admitted n)) None → n ≡ objects_wanted e.asked → AreSupported d.settings (memories_wanted e.asked) (images_wanted e.asked) → AreTablesSupported d.settings d.plan.totals.table (tables_wanted e.asked) → Goes maker old new d e stage no_call (Some (answer.Granted grant))
+  granted_way no_call n grant way is supported tables = absurd way
+  granted_way keys n grant way is supported tables = absurd way
+  granted_way (asks p) n grant way is supported tables = let F : ℕ → Type 0 = λ m. Follows old new d e p (admitted m) in (subst F is way, supported, tables)
+  granted_way returning n grant way is supported tables = absurd way
+  granted_way (refusing x) n grant way is supported tables = absurd way
 
   -- the instance is whole: the call ends with it
   whole_ready : (c : PoolCore P) (f : Frame P) → Kept c f → HasNoneWaiting f → IsToGrant c.settings c.plan f.asked f.queues f.objects → Even (hand {P = P} next) c f → 1 ≤ steps_left d e → GoesNow (asks (admitted (objects_in f.objects))) None → objects_wanted f.asked ≤ objects_in f.objects → Ready c (record f { objects = no_objects }) (ends (answer.Granted (Instance f.objects)))
   whole_ready c f kept settled to_grant even fewer way all =
-      let W : Option ModuleAsked → Type 0 = λ a. length f.objects.memories.items ≡ length (memories_wanted a) in
+      let W : Option ModuleAsked → Type 0 = λ a. (length f.objects.memories.items ≡ length (memories_wanted a)) × (length f.objects.tables.items ≡ length (tables_wanted a)) in
       let B : Option ModuleAsked → Type 0 = λ a. AreBegun c.settings a f.objects in
       let A : Settings → Option ModuleAsked → Type 0 = λ s a. AreSupported s (memories_wanted a) (images_wanted a) in
       let supported : A d.settings e.asked = subst (A d.settings) kept.asked (subst (λ (s : Settings). A s f.asked) kept.settings to_grant.supported) in
-      let long : W e.asked = subst W kept.asked (omega (arith, all, to_grant.few)) in
+      let T : Settings → Plan → Option ModuleAsked → Type 0 = λ s p a. AreTablesSupported s p.totals.table (tables_wanted a) in
+      let tables : T d.settings d.plan e.asked = subst (T d.settings d.plan) kept.asked (subst (λ (p : Plan). T d.settings p f.asked) kept.plan (subst (λ (s : Settings). T s c.plan f.asked) kept.settings to_grant.tables)) in
+      let long : W e.asked = subst W kept.asked (omega (arith, all, to_grant.few, to_grant.few_tables), omega (arith, all, to_grant.few, to_grant.few_tables)) in
       record {
         kept = record {
           core = kept.core;
-          held = record { stripe = kept.held.stripe; queue = kept.held.queue; freed_room = kept.held.freed_room; freed_each = kept.held.freed_each; objects = All-nil (IsLeaseOf maker c.settings c.plan) };
+          held = record { stripe = kept.held.stripe; queue = kept.held.queue; freed_room = kept.held.freed_room; freed_each = kept.held.freed_each; freed_order = kept.held.freed_order; objects = (All-nil (IsLeaseOf maker c.settings c.plan), All-nil (IsTableLease maker c.settings c.plan)) };
           asked = kept.asked;
           settings = kept.settings;
           plan = kept.plan;
           instances_by_one = kept.instances_by_one;
           memories_by_one = kept.memories_by_one;
+          tables_by_one = kept.tables_by_one;
         };
-        shape = (record { settled = settled; no_memories = refl }, (kept.held.objects, long, subst B kept.asked to_grant.begun));
-        even = record { places = λ t. omega (arith, even.places t); instances = even.instances; memories = omega (arith, even.memories) };
+        shape = (record { settled = settled; no_memories = refl; no_tables = refl }, (kept.held.objects, long.0, subst B kept.asked to_grant.begun, long.1));
+        even = record { places = λ t. omega (arith, even.places t); instances = even.instances; memories = omega (arith, even.memories); tables = omega (arith, even.tables) };
         fewer = omega (arith, fewer);
-        way = granted_way (stage_of e) (objects_in f.objects) (Instance f.objects) way long supported;
+        way = granted_way (stage_of e) (objects_in f.objects) (Instance f.objects) way (omega (arith, long.0, long.1)) supported tables;
         searched = λ s. tt;
       }
 
@@ -304,7 +342,7 @@ module _ {P : Type 0} (maker : MakerTold) (old new : LimiterTold) (d : PoolCore 
       let left_of_picks = rw more at left in
       goes_ok c f (Pick 0) (record {
         kept = r.kept;
-        shape = (refl, (r.shape.0, record { ending = is; to_grant = aim; more = ltb-true _ _ more }, (stripe_is c.plan (length c.parts) f.stripe r.kept.core.plan r.kept.held.stripe).some));
+        shape = (refl, (r.shape.0, record { ending = is; to_grant = aim; more = ltb-true _ _ more }, (allocator_is c.plan (length c.parts) (kind_next f) f.stripe r.kept.core.plan r.kept.held.stripe).some));
         even = r.even;
         fewer = left_of_picks;
         way = r.way;
@@ -313,10 +351,10 @@ module _ {P : Type 0} (maker : MakerTold) (old new : LimiterTold) (d : PoolCore 
       (λ last. ends_ok c (record f { objects = no_objects }) (answer.Granted (Instance f.objects)) (whole_ready c f r.kept r.shape.0 aim r.even (omega (arith, left)) (subst W is r.way) (ltb-false _ _ last)))
   next_ok c f returned is r =
       let N : Ending → Type 0 = λ x. next_left (sizes_of d.plan) x f.queues f.asked f.objects + 1 ≤ steps_left d e in
-      back_ok c f f.objects.memories.items refl r.kept r.shape.0 (ap is_granting is) r.even (subst N is r.fewer) r.way
+      back_ok c f f.objects.memories.items f.objects.tables.items refl refl (r.kept, r.shape.0, ap is_granting is, r.even, subst N is r.fewer, r.way)
   next_ok c f (refused x) is r =
       let N : Ending → Type 0 = λ x. next_left (sizes_of d.plan) x f.queues f.asked f.objects + 1 ≤ steps_left d e in
-      back_ok c f f.objects.memories.items refl r.kept r.shape.0 (ap is_granting is) r.even (subst N is r.fewer) r.way
+      back_ok c f f.objects.memories.items f.objects.tables.items refl refl (r.kept, r.shape.0, ap is_granting is, r.even, subst N is r.fewer, r.way)
 
   flushed : (c : PoolCore P) (f : Frame P) → Kept c f → is_flushed f ≡ true → HasNoneWaiting f
   flushed c f kept done =
@@ -337,11 +375,14 @@ module _ {P : Type 0} (maker : MakerTold) (old new : LimiterTold) (d : PoolCore 
   after_ok c f (search queues x) r =
       either_ok c (nat_lt f.queues queues) _ _
       (λ more. goes_ok c f TakeQueue (record { kept = r.kept; shape = (refl, (r.shape.1, r.shape.2, omega (arith, ltb-true _ _ more, r.shape.0))); even = r.even; fewer = r.fewer; way = r.way.0; searched = r.searched }))
-      (λ last. back_ok c (failing x f) f.objects.memories.items refl
-      (record { core = r.kept.core; held = r.kept.held; asked = r.kept.asked; settings = r.kept.settings; plan = r.kept.plan; instances_by_one = r.kept.instances_by_one; memories_by_one = r.kept.memories_by_one })
-      r.shape.1 refl
-      (record { places = r.even.places; instances = r.even.instances; memories = r.even.memories })
-      (omega (arith, r.fewer)) (r.way.1 (ltb-false _ _ last)))
+      (λ last. back_ok c (failing x f) f.objects.memories.items f.objects.tables.items refl refl (
+        record { core = r.kept.core; held = r.kept.held; asked = r.kept.asked; settings = r.kept.settings; plan = r.kept.plan; instances_by_one = r.kept.instances_by_one; memories_by_one = r.kept.memories_by_one; tables_by_one = r.kept.tables_by_one },
+        r.shape.1,
+        refl,
+        record { places = r.even.places; instances = r.even.instances; memories = r.even.memories; tables = r.even.tables },
+        omega (arith, r.fewer),
+        r.way.1 (ltb-false _ _ last),
+      ))
 
   pub row_ok : (r : Row (PoolCore P) P) → IsReadyRow r → RowOk (stepped r)
   row_ok r ready = after_ok r.part r.frame r.turn ready

@@ -32,11 +32,11 @@ use Rattle.pool_alloc.specs.Sound.{IsPooled, IsSlotName, IsPartFor, IsCore, Fits
 use Rattle.pool_alloc.specs.declared.pool_core.PoolCore.{PoolCore}
 use Rattle.pool_alloc.specs.declared.frame.Frame.{Frame}
 use Rattle.pool_alloc.specs.declared.frame.Phase.{Phase}
-use Rattle.pool_alloc.specs.declared.frame.Phase.TheVariants.{TakeRegion, Empty, Instantiate, MakeMemory, CountObject, PutBack, FreeOne, UncountObject, Reset}
+use Rattle.pool_alloc.specs.declared.frame.Phase.TheVariants.{TakeRegion, Empty, Instantiate, MakeMemory, MakeTable, CountObject, PutBack, FreeOne, UncountObject, Reset}
 use Rattle.pool_alloc.proofs.KeptCounts.{out_once, cell_away_in, away_is_taken}
 use Rattle.pool_alloc.proofs.PlanPlaces.{IsShardPlace, cell_below}
 use Rattle.pool_alloc.proofs.PoolParts.{HasPlace, place_of, name_in, sound_shard, sound_cell, slot_of_shard}
-use Rattle.pool_alloc.proofs.QueueCounts.{queued_regions, leased_regions, freed_regions}
+use Rattle.pool_alloc.proofs.QueueCounts.{queued_regions, leased_regions, tables_regions, freed_regions}
 use Rattle.pool_alloc.proofs.SlotCounts.{IsUsedAs, used_as, region_rights, region_once, slot_regions, both_regions, one_true, no_units}
 
 -- a number is that of one slot
@@ -92,6 +92,7 @@ module _ {P : Type 0} where
   out_by maker name p c core (shard_role a j) (part.Shard s) role is for some =
       out_of_shard maker p name c core (record { allocator = a; index = j; role = role }) (subst (λ (y : PoolPart P). 0 < total (right_to name) (shard_units (shard_in y))) (sym is) some)
   out_by maker name p c core (cell_role own) (part.Memory cell) role is for some = absurd (omega (arith, some, out_rights name cell.name cell.out cell.holds))
+  out_by maker name p c core (cell_role own) (part.Table cell) role is for some = absurd (omega (arith, some, out_rights name cell.name cell.out cell.holds))
   out_by maker name p c core queue_role (part.Queue q) role is for some = absurd (omega (arith, some))
   out_by maker name p c core r x role is for some = absurd for
 
@@ -123,13 +124,17 @@ module _ {P : Type 0} where
         out = ap (λ (x : CellState). x.out) there ∙ (λ i. record { faults = sym (ap (λ (x : UnitName). x.first) it.1) i; erases = sym (ap (λ (x : UnitName). x.second) it.1) i });
       }
 
-  gone_by : (maker : MakerTold) (name : SlotName) (n : RegionNumbers) (p : ℕ) (c : PoolCore P) → IsCore maker c → (r : Role) (x : PoolPart P) → role_at c.plan p ≡ r → part_at p c.parts ≡ x → IsPartFor maker c.settings r x → 0 < total (unit_weight name n) (part_away x) → HasGone c name n
-  gone_by maker name n p c core (shard_role a j) (part.Shard s) role is for some = absurd (omega (arith, some, no_units name n s.kind s.step s.first s.used))
-  gone_by maker name n p c core (cell_role own) (part.Memory cell) role is for some =
+  gone_in : (maker : MakerTold) (name : SlotName) (n : RegionNumbers) (p : ℕ) (own : SlotName) (cell : CellState) (c : PoolCore P) → role_at c.plan p ≡ cell_role own → cell_of_part (part_at p c.parts) ≡ cell → cell.name ≡ own → IsPooled own.kind → 0 < total (unit_weight name n) (cell_away cell) → HasGone c name n
+  gone_in maker name n p own cell c role is named pooled some =
       let it = out_unit (unit_region name n) cell.name cell.out cell.holds some in
       let its : name ≡ cell.name = ap (λ (u : UnitName). record { kind = u.kind; slot = u.slot }) it.1 in
-      let is_own : own ≡ name = sym (its ∙ for.1.named) in
-      gone_of_cell maker name n p cell c (role ∙ ap cell_role is_own) (ap cell_of_part is) (subst IsPooled (sym for.0 ∙ ap (λ (m : SlotName). m.kind) is_own) tt) (it.0, it.1 ∙ ap (λ (m : SlotName). unit_region m cell.out) (sym its))
+      let is_own : own ≡ name = sym (its ∙ named) in
+      gone_of_cell maker name n p cell c (role ∙ ap cell_role is_own) is (subst (λ (m : SlotName). IsPooled m.kind) is_own pooled) (it.0, it.1 ∙ ap (λ (m : SlotName). unit_region m cell.out) (sym its))
+
+  gone_by : (maker : MakerTold) (name : SlotName) (n : RegionNumbers) (p : ℕ) (c : PoolCore P) → IsCore maker c → (r : Role) (x : PoolPart P) → role_at c.plan p ≡ r → part_at p c.parts ≡ x → IsPartFor maker c.settings r x → 0 < total (unit_weight name n) (part_away x) → HasGone c name n
+  gone_by maker name n p c core (shard_role a j) (part.Shard s) role is for some = absurd (omega (arith, some, no_units name n s.kind s.step s.first s.used))
+  gone_by maker name n p c core (cell_role own) (part.Memory cell) role is for some = gone_in maker name n p own cell c role (ap cell_of_part is) for.1.named (subst IsPooled (sym for.0) tt) some
+  gone_by maker name n p c core (cell_role own) (part.Table cell) role is for some = gone_in maker name n p own cell c role (ap cell_of_part is) for.1.named (subst IsPooled (sym for.0) tt) some
   gone_by maker name n p c core queue_role (part.Queue q) role is for some = absurd (omega (arith, some))
   gone_by maker name n p c core r x role is for some = absurd for
 
@@ -145,6 +150,7 @@ module _ {P : Type 0} where
   phase_regions name (Empty at held) = object_regions name at
   phase_regions name (Instantiate at held) = object_regions name at
   phase_regions name (MakeMemory at held) = object_regions name at
+  phase_regions name (MakeTable at region) = object_regions name at
   phase_regions name (CountObject object) = object_regions name (slot_of_object object)
   phase_regions name (PutBack at held) = object_regions name at
   phase_regions name (FreeOne other) = omega (arith, slot_regions name other)
@@ -154,7 +160,7 @@ module _ {P : Type 0} where
 
   pub frame_regions : (name : SlotName) (f : Frame P) → frame_count (region_of name) f ≤ frame_count (right_to name) f
   frame_regions name f =
-      omega (arith, leased_regions name f.objects.memories.items, queued_regions name f.local.slots, freed_regions name f.freed.items, phase_regions name f.phase)
+      omega (arith, leased_regions name f.objects.memories.items, tables_regions name f.objects.tables.items, queued_regions name f.local.slots, freed_regions name f.freed.items, phase_regions name f.phase)
 
   part_regions : (name : SlotName) (x : PoolPart P) → total (region_of name) (part_kept x) ≡ total (right_to name) (part_kept x)
   part_regions name (part.Queue q) = queued_regions name q.slots

@@ -1,10 +1,10 @@
 -- Local and shared queues stay what they are as ranges and slots come and go.
-use Rattle.std.proofs.Common.{◌≡◌, ℕ, ◌+◌, ◌^◌, ◌*◌, ◌<◌, ◌≤◌, Bool, true, false, List, [], ◌∷◌, ◌++◌, length, refl, sym, ap, ◌∙◌, subst, arith, All, None}
-use Rattle.std.specs.Prelude.{map}
+use Rattle.std.proofs.Common.{◌≡◌, ℕ, ◌+◌, ◌^◌, ◌*◌, ◌<◌, ◌≤◌, Bool, true, false, List, [], ◌∷◌, ◌++◌, length, refl, sym, ap, ◌∙◌, subst, arith, All, None, Option, Some}
+use Rattle.std.specs.Prelude.{map, IfSome}
 use Rattle.std.specs.List.{AllByRecursion}
 use Rattle.std.proofs.lemmas.List.{length-append, length-map}
-use Rattle.std.proofs.lemmas.Bool.{or_left}
-use Rattle.std.proofs.lemmas.List.Elements.{All-nil, All-cons, All-append, All-rest, length_all_zip}
+use Rattle.std.proofs.lemmas.Bool.{or_left, cases_Bool}
+use Rattle.std.proofs.lemmas.List.Elements.{All-nil, All-cons, All-append, length_all_zip, All-head, All-tail}
 use Rattle.pool_pages.specs.MakerTold.{MakerTold}
 use Rattle.pool_pages.specs.declared.pages.DecommitBehavior.{DecommitBehavior}
 use Rattle.pool_pages.specs.declared.pages.DecommitBehavior.TheVariants.{Zero, RestoreOriginalMapping}
@@ -15,18 +15,27 @@ use Rattle.pool_alloc.specs.Leases.{memory_slot}
 use Rattle.pool_slots.specs.declared.queued_range.QueueKind.TheVariants.{Memory}
 use Rattle.pool_slots.specs.declared.slot_name.SlotName.{SlotName}
 use Rattle.pool_slots.specs.declared.queued_range.QueuedRange.{QueuedRange}
-use Rattle.pool_slots.specs.SlotQueues.{Queue, Queued, empty_queue, AreDistinct, AreApart, LeavesClean, IsReset, IsLeftBy, holds, owner, with_slot, after_take, taken_into, drained, after_append, first_slot, after_run}
+use Rattle.pool_slots.specs.SlotQueues.{Queue, Queued, empty_queue, AreDistinct, AreApart, LeavesClean, IsReset, IsLeftBy, holds, owner, with_slot, after_take, taken_into, drained, after_append, first_slot, after_run, CanBeZeroed, first_zeroed, is_to_zero, others_of_kind, same_kind, zeroed, zeroed_by, zeroed_slot}
 use Rattle.pool_alloc.specs.Answers.{Decommits, Resets}
 use Rattle.pool_alloc.specs.Sound.{IsSettings, IsShared, IsLocal, IsQueuedOf}
 use Rattle.pool_alloc.specs.RangeRuns.{runs}
 use Rattle.pool_alloc.proofs.Runs.{one_run, no_runs, grouped_joined, grouped_decommitted}
 use Rattle.pool_alloc.specs.declared.frame.TakenSlot.{TakenSlot}
 use Rattle.pool_alloc.specs.declared.pool_core.Settings.{Settings}
-use Rattle.pool_alloc.proofs.SlotIdentity.{queued_after_run, length_after_run, queued_faulted}
+use Rattle.pool_alloc.proofs.SlotIdentity.{IsOneSlot, queued_of_one, queued_after_run, length_after_run, queued_faulted}
 use Rattle.pool_slots.proofs.SlotChanges.{leaves_clean, queue_joined, owned_joined}
 use Rattle.pool_slots.proofs.SlotNames.{slot_self}
 use Rattle.pool_slots.proofs.SlotRuns.{faulted_owned}
-use Rattle.pool_alloc.proofs.QueueRuns.{run_queue, run_owners, rest_queue}
+use Rattle.pool_alloc.proofs.QueueRuns.{run_queue, run_owners}
+use Rattle.pool_hall.specs.declared.unit_name.SlotKind.{SlotKind}
+use Rattle.pool_slots.specs.declared.queued_range.QueueKind.{QueueKind}
+use Rattle.pool_hall.specs.declared.unit_name.SlotKind.{SlotKind}
+use Rattle.pool_slots.specs.declared.queued_range.QueueKind.{QueueKind}
+use Rattle.pool_slots.specs.SlotNames.{slot_kind}
+use Rattle.pool_slots.proofs.SlotPops.{can_zero, queue_popped, queue_zeroed}
+use Rattle.std.proofs.Common.{inl, inr}
+use Rattle.pool_images.proofs.Identity.{told_same}
+use Rattle.pool_images.specs.Slots.{identity}
 
 -- a queue once it gave its ranges and slots away, by a take or without
 pub drained_shared : (maker : MakerTold) (s : Settings) (q : Queue) → IsSettings s → q.range_room ≡ 2 * s.batch → q.slot_room ≡ 2 * s.batch → IsShared maker s (drained q)
@@ -134,43 +143,84 @@ decommitted_local maker s false old new run local =
     } in
     subst (λ (n : Queue). IsStillLocal maker s old n) (sym run) after
 
--- the local queue without its first slot, where it has no range
-pub rest_local : (maker : MakerTold) (s : Settings) (m : Queued) (rest : List Queued) (q : Queue) → q.ranges ≡ [] → q.slots ≡ m ∷ rest → IsLocal maker s q → IsLocal maker s (record q { slots = rest })
-rest_local maker s m rest q none is local =
-    let H : QueuedRange → Type 0 = λ r. holds (owner r) (record q { slots = rest }).slots ≡ true in
+-- the others of a kind are as all were
+all_others : (Q : Queued → Type 0) (kind : SlotKind) (ms : List Queued) → All Q ms → All Q (others_of_kind kind ms)
+all_others Q kind [] each = each
+all_others Q kind (m ∷ ms) each =
+    elim (cases_Bool (same_kind kind m.name.kind)) [
+      | inl is ↦ rw is (All-tail Q m ms each)
+      | inr other ↦ rw other (All-cons Q m (others_of_kind kind ms) (All-head Q m ms each) (all_others Q kind ms (All-tail Q m ms each)))
+    ]
+
+-- The local queue where it has no range: without the first slot of a kind,
+pub rest_local : (maker : MakerTold) (s : Settings) (kind : SlotKind) (q : Queue) → q.ranges ≡ [] → IsLocal maker s q → IsLocal maker s (record q { slots = others_of_kind kind q.slots })
+rest_local maker s kind q none local =
+    let H : QueuedRange → Type 0 = λ r. holds (owner r) (others_of_kind kind q.slots) ≡ true in
     record {
       owners = subst (λ (rs : List QueuedRange). AllByRecursion H rs) (sym none) tt;
       range_room = local.range_room;
       slot_room = local.slot_room;
-      regions = All-rest (IsQueuedOf maker s) m rest q.slots is local.regions;
-      queue = rest_queue m rest q is local.queue;
-      grouped = no_runs q.ranges (length rest) none;
+      regions = all_others (IsQueuedOf maker s) kind q.slots local.regions;
+      queue = queue_popped kind q local.queue;
+      grouped = no_runs q.ranges (length (others_of_kind kind q.slots)) none;
     }
 
--- The empty local queue with ranges of one memory's slot and then that slot, which leaves clean once they are decommitted.
-abbrev ranges_listed : ℕ → List ByteRange → List QueuedRange
-ranges_listed slot ranges = map (λ r. record { kind = Memory; slot = record { 0 = slot }; range = r }) ranges
+-- and with one zeroed by hand.
+one_zeroed : (n : ℕ) (s : Slot) → IsOneSlot s (zeroed_slot n s)
+one_zeroed n s = ap (λ (b : Bool). record (identity s) { tells = b }) (told_same _ s.region.contents)
 
-owned_ranges : (slot : ℕ) (ranges : List ByteRange) (ms : List Queued) → holds (memory_slot slot) ms ≡ true → AllByRecursion {X = QueuedRange} (λ r. holds (owner r) ms ≡ true) (ranges_listed slot ranges)
-owned_ranges slot [] ms held = tt
-owned_ranges slot (r ∷ rs) ms held = (held, owned_ranges slot rs ms held)
+zeroed_if : (maker : MakerTold) (s : Settings) (m : Queued) (o : Option ℕ) → m.by_hand ≡ o → IfSome o (λ n. CanBeZeroed n m.slot) → IsQueuedOf maker s m → IsQueuedOf maker s (zeroed_by o m)
+zeroed_if maker s m None is can of = of
+zeroed_if maker s m (Some n) is can of = record { slot = queued_of_one maker s m.name.kind m.name.slot m.slot (zeroed_slot n m.slot) (one_zeroed n m.slot) of.slot; by_hand = of.by_hand }
 
-alone : (i : ℕ) (m : Queued) → m.name ≡ memory_slot i → holds (memory_slot i) (m ∷ []) ≡ true
-alone i m is =
+all_zeroed : (maker : MakerTold) (s : Settings) (kind : SlotKind) (ms : List Queued) → AllByRecursion (λ m. IfSome m.by_hand (λ n. CanBeZeroed n m.slot)) ms → All (IsQueuedOf maker s) ms → All (IsQueuedOf maker s) (first_zeroed kind ms)
+all_zeroed maker s kind [] can each = each
+all_zeroed maker s kind (m ∷ ms) can each =
+    let Q : Queued → Type 0 = IsQueuedOf maker s in
+    elim (cases_Bool (is_to_zero kind m)) [
+      | inl is ↦ rw is (All-cons Q (zeroed m) ms (zeroed_if maker s m m.by_hand refl can.0 (All-head Q m ms each)) (All-tail Q m ms each))
+      | inr other ↦ rw other (All-cons Q m (first_zeroed kind ms) (All-head Q m ms each) (all_zeroed maker s kind ms can.1 (All-tail Q m ms each)))
+    ]
+
+pub zeroed_local : (maker : MakerTold) (s : Settings) (kind : SlotKind) (q : Queue) → q.ranges ≡ [] → IsLocal maker s q → IsLocal maker s (record q { slots = first_zeroed kind q.slots })
+zeroed_local maker s kind q none local =
+    let H : QueuedRange → Type 0 = λ r. holds (owner r) (first_zeroed kind q.slots) ≡ true in
+    record {
+      owners = subst (λ (rs : List QueuedRange). AllByRecursion H rs) (sym none) tt;
+      range_room = local.range_room;
+      slot_room = local.slot_room;
+      regions = all_zeroed maker s kind q.slots (can_zero q local.queue) local.regions;
+      queue = queue_zeroed kind q local.queue none;
+      grouped = no_runs q.ranges (length (first_zeroed kind q.slots)) none;
+    }
+
+-- The empty local queue with ranges of one slot and then that slot, which leaves clean once they are decommitted.
+abbrev ranges_listed : QueueKind → ℕ → List ByteRange → List QueuedRange
+ranges_listed kind slot ranges = map (λ r. record { kind = kind; slot = record { 0 = slot }; range = r }) ranges
+
+abbrev name_queued : QueueKind → ℕ → SlotName
+name_queued kind slot = record { kind = slot_kind kind; slot = slot }
+
+owned_ranges : (kind : QueueKind) (slot : ℕ) (ranges : List ByteRange) (ms : List Queued) → holds (name_queued kind slot) ms ≡ true → AllByRecursion {X = QueuedRange} (λ r. holds (owner r) ms ≡ true) (ranges_listed kind slot ranges)
+owned_ranges kind slot [] ms held = tt
+owned_ranges kind slot (r ∷ rs) ms held = (held, owned_ranges kind slot rs ms held)
+
+alone : (name : SlotName) (m : Queued) → m.name ≡ name → holds name (m ∷ []) ≡ true
+alone name m is =
     let H : SlotName → Type 0 = λ n. holds n (m ∷ []) ≡ true in
     subst H is (or_left _ _ (slot_self m.name))
 
-one_slot_local : (maker : MakerTold) (s : Settings) (ranges : List ByteRange) (i : ℕ) (m : Queued) (q : Queue) → m.name ≡ memory_slot i → q.range_room ≡ 2 * s.batch → q.slot_room ≡ 2 * s.batch → 1 ≤ s.batch → length ranges ≤ 2 * s.batch → IsQueuedOf maker s m → q.ranges ≡ ranges_listed i ranges → q.slots ≡ m ∷ [] → LeavesClean q.ranges m → IsLocal maker s q
-one_slot_local maker s ranges i m q named range_room slot_room some few of is holds_it leaves =
+one_slot_local : (maker : MakerTold) (s : Settings) (kind : QueueKind) (ranges : List ByteRange) (i : ℕ) (m : Queued) (q : Queue) → m.name ≡ name_queued kind i → q.range_room ≡ 2 * s.batch → q.slot_room ≡ 2 * s.batch → 1 ≤ s.batch → length ranges ≤ 2 * s.batch → IsQueuedOf maker s m → q.ranges ≡ ranges_listed kind i ranges → q.slots ≡ m ∷ [] → LeavesClean q.ranges m → IsLocal maker s q
+one_slot_local maker s kind ranges i m q named range_room slot_room some few of is holds_it leaves =
     let H : QueuedRange → Type 0 = λ r. holds (owner r) q.slots ≡ true in
-    let held : holds (memory_slot i) q.slots ≡ true = rw holds_it (alone i m named) in
+    let held : holds (name_queued kind i) q.slots ≡ true = rw holds_it (alone (name_queued kind i) m named) in
     let long : length q.ranges ≡ length ranges = ap length is ∙ length-map ranges _ in
     let one : length q.slots ≡ 1 = ap length holds_it in
     let A : List Queued → Type 0 = λ ms. All (IsQueuedOf maker s) ms in
     let D : List Queued → Type 0 = λ ms. AreDistinct ms in
     let E : List Queued → Type 0 = λ ms. AllByRecursion (LeavesClean q.ranges) ms in
     record {
-      owners = subst (λ (rs : List QueuedRange). AllByRecursion H rs) (sym is) (owned_ranges i ranges q.slots held);
+      owners = subst (λ (rs : List QueuedRange). AllByRecursion H rs) (sym is) (owned_ranges kind i ranges q.slots held);
       range_room = range_room;
       slot_room = slot_room;
       regions = subst A (sym holds_it) (All-cons (IsQueuedOf maker s) m [] of (All-nil (IsQueuedOf maker s)));
@@ -180,24 +230,24 @@ one_slot_local maker s ranges i m q named range_room slot_room some few of is ho
         distinct = subst D (sym holds_it) (refl, tt);
         each = subst E (sym holds_it) (leaves, tt);
       };
-      grouped = omega (arith, ap runs is, one_run Memory i ranges, one);
+      grouped = omega (arith, ap runs is, one_run kind i ranges, one);
     }
 
--- the local queue once a memory was reset into it: it has that slot alone
+-- the local queue once an object was reset into it: it has that slot alone
 pub record IsResetLocal (maker : MakerTold) (s : Settings) (q : Queue) : Type 0 where
   pub queue : IsLocal maker s q
   pub one : length q.slots ≡ 1
 
 -- The local queue after a reset of a slot that it is told of: the ranges are few, and all of that slot.
-pub reset_local : (maker : MakerTold) (s : Settings) (ranges : List ByteRange) (i : ℕ) (m : Queued) (q : Queue) → m.name ≡ memory_slot i → IsSettings s → IsLocal maker s q → q.ranges ≡ [] → q.slots ≡ [] → length ranges ≤ 2 * s.batch → IsQueuedOf maker s m → LeavesClean (ranges_listed i ranges) m → IsResetLocal maker s (with_slot m (record q { ranges = q.ranges ++ ranges_listed i ranges }))
-reset_local maker s ranges i m q named settings local none no_slots few of leaves =
-    let listed : List QueuedRange = ranges_listed i ranges in
+pub reset_local : (maker : MakerTold) (s : Settings) (kind : QueueKind) (ranges : List ByteRange) (i : ℕ) (m : Queued) (q : Queue) → m.name ≡ name_queued kind i → IsSettings s → IsLocal maker s q → q.ranges ≡ [] → q.slots ≡ [] → length ranges ≤ 2 * s.batch → IsQueuedOf maker s m → LeavesClean (ranges_listed kind i ranges) m → IsResetLocal maker s (with_slot m (record q { ranges = q.ranges ++ ranges_listed kind i ranges }))
+reset_local maker s kind ranges i m q named settings local none no_slots few of leaves =
+    let listed : List QueuedRange = ranges_listed kind i ranges in
     let q' : Queue = with_slot m (record q { ranges = q.ranges ++ listed }) in
     let first : q.ranges ++ listed ≡ listed = ap (λ (rs : List QueuedRange). rs ++ listed) none in
     let only : q.slots ++ m ∷ [] ≡ m ∷ [] = ap (λ (ms : List Queued). ms ++ m ∷ []) no_slots in
     let L : List QueuedRange → Type 0 = λ rs. LeavesClean rs m in
     record {
-      queue = one_slot_local maker s ranges i m q' named local.range_room local.slot_room settings.batch.0 few of first only (subst L (sym first) leaves);
+      queue = one_slot_local maker s kind ranges i m q' named local.range_room local.slot_room settings.batch.0 few of first only (subst L (sym first) leaves);
       one = ap length only;
     }
 
@@ -213,7 +263,7 @@ memory_reset keep accessible bytes b at slot ranges small kept fits parts clean 
 pub reset_told : (keep bytes : ℕ) (at : TakenSlot) (slot new : Slot) (ranges : List ByteRange) → keep ≤ 2 ^ 32 → new ≡ reset_slot slot.region.behaviour keep slot → bytes ≡ kept_bytes slot.region.behaviour keep slot.accessible.bytes → ranges ≡ left_ranges slot.region.behaviour keep slot.accessible.bytes → IsSlot new → All (IsPart new.region.page (size_of new)) ranges → IsClean (decommitted_all ranges new) → Resets false keep at slot new
 reset_told keep bytes at slot new ranges small is kept left fits parts clean =
     let b : DecommitBehavior = slot.region.behaviour in
-    let L : List ByteRange → Slot → ℕ → Type 0 = λ rs s n. LeavesClean (ranges_listed at.name.slot rs) (memory_queued n at s) in
+    let L : List ByteRange → Slot → ℕ → Type 0 = λ rs s n. LeavesClean (ranges_listed Memory at.name.slot rs) (memory_queued n at s) in
     let leaves : L ranges new bytes = leaves_clean Memory (memory_queued bytes at new) ranges (empty_queue 0 0) refl tt refl (memory_reset keep slot.accessible.bytes bytes b at new ranges small kept fits parts clean) in
     (is, subst (λ (n : ℕ). L (left_ranges b keep slot.accessible.bytes) (reset_slot b keep slot) n) kept (subst (λ (s : Slot). L (left_ranges b keep slot.accessible.bytes) s bytes) is (subst (λ (rs : List ByteRange). L rs new bytes) left leaves)))
 

@@ -1,4 +1,4 @@
--- The step that makes a memory, as the code makes it.
+-- The steps that make a memory and a table, as the code makes them.
 use Rattle.std.proofs.Common.{◌≡◌, ℕ, nat_le, Bool, true, false, refl, ap, ◌∙◌, Option, Some, None, Result, Ok, Err}
 use Rattle.std.specs.Prelude.{IfSome, if◌then◌else◌}
 use Rattle.pool_pages.specs.declared.module_types.MemoryDecl.{MemoryDecl}
@@ -11,7 +11,12 @@ use Rattle.pool_memory.specs.Making.{limits_answer, made_memory, made_within, st
 use Rattle.pool_memory.specs.declared.memory.Memory.{Memory}
 use Rattle.pool_memory.specs.declared.memory_error.MemoryError.{MemoryError}
 use Rattle.pool_alloc.specs.Own.{made_of, made_of_limits, made_for}
-use Rattle.pool_alloc.specs.Rows.{was_made, made_by}
+use Rattle.pool_pages.specs.Told.{Told}
+use Rattle.pool_pages.specs.declared.table_type.TableType.{TableType}
+use Rattle.pool_slots.specs.declared.errors.AllocError.{AllocError}
+use Rattle.pool_alloc.specs.Rows.{was_made, made_by, was_made_table, table_made_by}
+use Rattle.pool_alloc.specs.TableLeases.{LeasedTable}
+use Rattle.pool_alloc.specs.TableSteps.{handed_back, made_table}
 use Rattle.pool_alloc.specs.declared.pool_core.PoolCore.{PoolCore}
 use Rattle.pool_alloc.specs.declared.frame.Frame.{Frame}
 use Rattle.pool_alloc.specs.declared.frame.TakenSlot.{TakenSlot}
@@ -32,3 +37,14 @@ module _ {P : Type 0} (M L : Type 0) (at : TakenSlot) (held : Slot) (c : PoolCor
       → IfSome o (λ decl. made_by at r c f ≡ was_made at held (made_for room answer held o) c f)
   made_in_code answer room None r told = told
   made_in_code answer room (Some decl) r told = ap (λ (x : Result (Memory M L) (Slot × MemoryError)). made_by at x c f) told ∙ made_limits_in (limits_answer answer decl.ty) decl.ty room
+
+module _ {P : Type 0} (at : TakenSlot) (region : Told) (c : PoolCore P) (f : Frame P) where
+  handed_in : (r : Result LeasedTable AllocError) → table_made_by at (handed_back region r) c f ≡ was_made_table at region r c f
+  handed_in (Ok l) = refl
+  handed_in (Err e) = refl
+
+  pub table_in_code : (answer : Result Bool LimiterError) (o : Option TableType) (r : Result LeasedTable (Told × AllocError))
+      → IfSome o (λ ty. r ≡ handed_back region (made_table c.settings answer at region (Some ty)))
+      → IfSome o (λ ty. table_made_by at r c f ≡ was_made_table at region (made_table c.settings answer at region o) c f)
+  table_in_code answer None r told = told
+  table_in_code answer (Some ty) r told = ap (λ (x : Result LeasedTable (Told × AllocError)). table_made_by at x c f) told ∙ handed_in (made_table c.settings answer at region (Some ty))

@@ -1,5 +1,5 @@
 -- Each row changes one part of the pool, or none.
-use Rattle.std.proofs.Common.{ℕ, ◌+◌, Bool, true, false, List, [], ◌∷◌, length, refl, sym, subst, inl, inr, Option, Some, None, Result, Ok, Err}
+use Rattle.std.proofs.Common.{ℕ, ◌+◌, Bool, true, false, List, length, refl, sym, subst, inl, inr, Option, Some, None, Result, Ok, Err}
 use Rattle.pool_pages.specs.declared.unsupported.Unsupported.{Unsupported}
 use Rattle.pool_images.specs.Slots.{Slot}
 use Rattle.pool_index.specs.Shard.{ShardState}
@@ -7,20 +7,22 @@ use Rattle.pool_limits.specs.LimiterTold.{LimiterTold}
 use Rattle.pool_memory.specs.Memories.{MemoryState}
 use Rattle.pool_slots.specs.RegionCells.{CellState}
 use Rattle.std.specs.Prelude.{nat_le}
-use Rattle.pool_slots.specs.SlotQueues.{Queue, Queued, after_append, drained}
+use Rattle.pool_slots.specs.SlotQueues.{Queue, Queued, after_append, drained, first_of_kind, others_of_kind}
 use Rattle.pool_slots.specs.declared.errors.AllocError.{AllocError}
 use Rattle.pool_alloc.specs.Leases.{Lease}
-use Rattle.pool_alloc.specs.Rows.{FlushStep, run, put, free, flush_step, merged, in_queue, reserved, validated, counted, paged, was_made, was_reset, put_region_row, flush_row, row_of}
+use Rattle.pool_pages.specs.Told.{Told}
+use Rattle.pool_alloc.specs.TableLeases.{LeasedTable}
+use Rattle.pool_alloc.specs.Rows.{FlushStep, run, zero, put, free, flush_step, merged, in_queue, reserved, validated, counted, paged, was_made, was_made_table, was_reset, put_first, flush_row, row_of}
 use Rattle.pool_alloc.specs.Steps.{StepGiven, queue_at, queue_tried, with_shard, with_cell, with_queue}
 use Rattle.pool_alloc.specs.Stepping.{StepsTo, ChangesOnePart}
 use Rattle.pool_alloc.specs.Turns.{After}
 use Rattle.pool_alloc.specs.declared.pool_core.PoolCore.{PoolCore}
 use Rattle.pool_alloc.specs.declared.frame.Frame.{Frame}
 use Rattle.pool_alloc.specs.declared.frame.Phase.{Phase}
-use Rattle.pool_alloc.specs.declared.frame.Object.TheVariants.{Memory}
+use Rattle.pool_alloc.specs.declared.frame.Object.TheVariants.{Memory, Table}
 use Rattle.pool_alloc.specs.declared.frame.TakenSlot.{TakenSlot}
 use Rattle.pool_slots.specs.declared.slot_name.SlotName.{SlotName}
-use Rattle.pool_alloc.specs.declared.frame.Phase.TheVariants.{Idle, Key, Validate, CountInstance, Pick, TakeQueue, TakeRegion, Empty, Instantiate, MakeMemory, CountObject, PutBack, FreeOne, UncountObject, Reset, Merge, Flush, UncountInstance}
+use Rattle.pool_alloc.specs.declared.frame.Phase.TheVariants.{Idle, Key, Validate, CountInstance, Pick, TakeQueue, TakeRegion, Empty, Instantiate, MakeMemory, MakeTable, CountObject, PutBack, FreeOne, UncountObject, Reset, Merge, Flush, UncountInstance}
 
 module _ {P : Type 0} where
   one_shard : (j : ℕ) (shard : ShardState) (c : PoolCore P) → ChangesOnePart c (with_shard j shard c)
@@ -52,6 +54,10 @@ module _ {P : Type 0} where
   one_made slot held (Ok memory) c f = inl refl
   one_made slot held (Err e) c f = inl refl
 
+  one_made_table : (slot : TakenSlot) (region : Told) (r : Result LeasedTable AllocError) (c : PoolCore P) (f : Frame P) → ChangesOnePart c (was_made_table slot region r c f).part
+  one_made_table slot region (Ok lease) c f = inl refl
+  one_made_table slot region (Err e) c f = inl refl
+
   one_reset : (fault : Bool) (held : Slot) (lease : Lease) (c : PoolCore P) (f : Frame P) → ChangesOnePart c (was_reset fault held lease c f).part
   one_reset true held lease c f = inl refl
   one_reset false held lease c f = inl refl
@@ -60,13 +66,14 @@ module _ {P : Type 0} where
   one_merged true i queue c f = one_queue i _ c
   one_merged false i queue c f = one_queue i _ c
 
-  one_put : (ms : List Queued) (c : PoolCore P) (f : Frame P) → ChangesOnePart c (put_region_row ms c f).part
-  one_put [] c f = inl refl
-  one_put (m ∷ rest) c f = one_cell m.name _ c
+  one_put : (o : Option Queued) (rest : List Queued) (c : PoolCore P) (f : Frame P) → ChangesOnePart c (put_first o rest c f).part
+  one_put None rest c f = inl refl
+  one_put (Some m) rest c f = one_cell m.name _ c
 
   one_flushed : (step : FlushStep) (queue : Queue) (c : PoolCore P) (f : Frame P) → ChangesOnePart c (flush_row step queue c f).part
   one_flushed run queue c f = inl refl
-  one_flushed put queue c f = one_put f.local.slots c f
+  one_flushed (zero kind) queue c f = inl refl
+  one_flushed (put kind) queue c f = one_put (first_of_kind kind f.local.slots) (others_of_kind kind f.local.slots) c f
   one_flushed free queue c f = one_shard _ _ c
 
   one_part : (g : StepGiven) (p : Phase P) (c : PoolCore P) (f : Frame P) → ChangesOnePart c (row_of g p c f).part
@@ -80,16 +87,20 @@ module _ {P : Type 0} where
   one_part g (Empty slot held) c f = one_paged g.fault slot g.slot _ c f
   one_part g (Instantiate slot held) c f = one_paged g.fault slot g.slot _ c f
   one_part g (MakeMemory slot held) c f = one_made slot held _ c f
-  one_part g (CountObject (Memory lease)) c f = inr (inr (inr (inr (_, inr (inr refl)))))
+  one_part g (MakeTable slot region) c f = one_made_table slot region _ c f
+  one_part g (CountObject (Memory lease)) c f = inr (inr (inr (inr (_, inr (inr (inl refl))))))
+  one_part g (CountObject (Table lease)) c f = inr (inr (inr (inr (_, inr (inr (inr refl))))))
   one_part g (PutBack at held) c f = one_cell at.name _ c
   one_part g (FreeOne name) c f = one_shard _ _ c
-  one_part g (UncountObject (Memory lease)) c f = inr (inr (inr (inr (_, inr (inr refl)))))
+  one_part g (UncountObject (Memory lease)) c f = inr (inr (inr (inr (_, inr (inr (inl refl))))))
+  one_part g (UncountObject (Table lease)) c f = inr (inr (inr (inr (_, inr (inr (inr refl))))))
   one_part g (Reset (Memory lease)) c f = one_reset g.fault g.slot lease c f
+  one_part g (Reset (Table lease)) c f = inl refl
   one_part g Merge c f =
       let i : ℕ = queue_tried 0 c.plan f in
       let whole : Queue = after_append (queue_at i c) f.local in
       one_merged (nat_le c.settings.batch (length whole.ranges)) i whole c (record f { local = drained f.local })
-  one_part g Flush c f = one_flushed (flush_step f.local) g.queue c f
+  one_part g Flush c f = one_flushed (flush_step f.local f.freed.items) g.queue c f
   one_part g UncountInstance c f = inr (inr (inr (inr (_, inr (inl refl)))))
 
   -- A step changes one part of the pool, or none.

@@ -1,22 +1,21 @@
 -- What the places of a right plan are for, and where slots are at home.
 use Rattle.pool_slots.specs.declared.slot_name.SlotName.{SlotName}
 use Rattle.pool_alloc.specs.Bounds.{most_shards, sizes_of}
-use Rattle.std.proofs.Common.{◌≡◌, ℕ, ◌+◌, ◌*◌, ◌-◌, ◌<◌, ◌≤◌, List, [], ◌∷◌, length, refl, sym, ap, subst, ◌∙◌, arith, get_or, inl, inr, true, false, min, Bool, map, ◌⊎◌}
+use Rattle.std.proofs.Common.{◌≡◌, ℕ, ◌+◌, ◌*◌, ◌-◌, ◌<◌, ◌≤◌, List, [], ◌∷◌, length, refl, sym, ap, subst, ◌∙◌, arith, get_or, inl, inr, true, false, min, Bool, map, ◌⊎◌, ◌++◌}
 use Rattle.std.specs.Prelude.{if◌then◌else◌, ◌%◌, nat_le, nat_lt, zero, suc}
 use Rattle.std.specs.List.{AllByRecursion}
 use Rattle.std.proofs.lemmas.Bool.{cases_Bool, and_parts, ltb-true, leb-true}
 use Rattle.std.proofs.Math.Nat.{mod-lt}
 use Rattle.pool_hall.specs.declared.unit_name.SlotKind.{SlotKind}
-use Rattle.pool_hall.specs.declared.unit_name.SlotKind.TheVariants.{Memory as memory_kind, Table as table_kind, Stack as stack_kind}
+use Rattle.pool_hall.specs.declared.unit_name.SlotKind.TheVariants.{Memory as memory_kind, Table as table_kind, Stack as stack_kind, Heap as heap_kind}
 use Rattle.pool_slots.specs.SlotNames.{of_kind}
 use Rattle.pool_slots.specs.Plans.{Role, shard_role, cell_role, queue_role, heaps_role, no_role, Block, blocks, is_within, role_among, role_at, slots_at, number_in, have_number, IsAllocator, IsAtHome, home_of, cell_place, allocators_of, shards_block, cells_block, allocators}
 use Rattle.pool_slots.specs.declared.plan.Allocator.{Allocator}
 use Rattle.pool_slots.specs.declared.plan.Plan.{Plan}
 use Rattle.pool_slots.proofs.Planning.{roles, HasShards, shards_of, slots_are_at_home}
 use Rattle.pool_slots.proofs.AwayOnce.{shard_of_kind, home_there}
-use Rattle.pool_alloc.specs.Leases.{memory_slot}
 use Rattle.pool_alloc.specs.Sound.{IsStripe, IsPoolPlan, IsPooled, IsSlotName}
-use Rattle.pool_alloc.specs.Steps.{memory_slots, no_allocator, stripe_allocator, allocator_for, shard_tried, queue_tried, queues_searched}
+use Rattle.pool_alloc.specs.Steps.{memories_wanted, memory_slots, no_allocator, stripe_allocator, allocator_of, allocator_for, kind_next, shard_tried, queue_tried, queues_searched}
 use Rattle.pool_alloc.specs.declared.frame.Frame.{Frame}
 
 -- what is so of each element is so of that at a place
@@ -65,20 +64,13 @@ queue_inside plan places p is role = role_inside (blocks plan) places p queue_ro
 pub apart_places : (plan : Plan) (p q : ℕ) → IsShardPlace plan p → IsQueuePlace plan q → p ≡ q → ⊥
 apart_places plan p q place role e = let no : ◌≡◌ {A = ℕ} 1 3 = sym (ap role_number place.role) ∙ ap (λ (n : ℕ). role_number (role_at plan n)) e ∙ ap role_number role in omega arith
 
--- a slot of the pool is one of a memory
-pub pooled_memory : (kind : SlotKind) → IsPooled kind → kind ≡ memory_kind
-pooled_memory memory_kind pooled = refl
-pooled_memory kind pooled = absurd pooled
-
-pub memory_name : (name : SlotName) → IsPooled name.kind → name ≡ memory_slot name.slot
-memory_name name pooled = (λ i. record { kind = pooled_memory name.kind pooled i; slot = name.slot })
-
 -- the cell of a slot of the pool has its place
 abbrev IsCellPlace : Plan → ℕ → SlotKind → ℕ → Type 0
 IsCellPlace plan places kind slot = (role_at plan (of_kind kind plan.cells + slot) ≡ cell_role (record { kind = kind; slot = slot })) × (of_kind kind plan.cells + slot < places)
 
 cell_place_of : (plan : Plan) (places : ℕ) (kind : SlotKind) (slot : ℕ) → IsPoolPlan plan places → IsPooled kind → slot < of_kind kind plan.totals → IsCellPlace plan places kind slot
 cell_place_of plan places memory_kind slot is pooled below = ((roles (blocks plan) is.planned.separate).0 slot below, omega (arith, is.planned.inside.0, below))
+cell_place_of plan places table_kind slot is pooled below = ((roles (blocks plan) is.planned.separate).1.0 slot below, omega (arith, is.planned.inside.1.0, below))
 cell_place_of plan places kind slot is pooled below = absurd pooled
 
 pub cell_role_at : (plan : Plan) (places : ℕ) (name : SlotName) → IsPoolPlan plan places → IsSlotName plan name → role_at plan (cell_place plan name) ≡ cell_role name
@@ -108,8 +100,55 @@ most_at [] i d below = absurd (omega arith)
 most_at (a ∷ more) zero d below = omega arith
 most_at (a ∷ more) (suc i) d below = omega (arith, most_at more i d (omega (arith, below)))
 
-pub stripe_most : (plan : Plan) (stripe : ℕ) → stripe < length plan.memories → (stripe_allocator plan stripe).shards ≤ (sizes_of plan).shards
-stripe_most plan stripe below = most_at plan.memories stripe no_allocator below
+most_more : (some more : List Allocator) → (most_shards some ≤ most_shards (some ++ more)) × (most_shards more ≤ most_shards (some ++ more))
+most_more [] more = (omega arith, omega arith)
+most_more (a ∷ some) more = let rest = most_more some more in (omega (arith, rest.0), omega (arith, rest.1))
+
+-- The allocator of what is allocated is one of the plan's.
+pub allocator_is : (plan : Plan) (places : ℕ) (kind : SlotKind) (stripe : ℕ) → IsPoolPlan plan places → stripe < length plan.memories → IsStripe (allocator_of plan kind stripe)
+allocator_is plan places table_kind stripe is below = each_at IsStripe plan.tables 0 no_allocator is.tables is.table_shards
+allocator_is plan places memory_kind stripe is below = stripe_is plan places stripe is below
+allocator_is plan places stack_kind stripe is below = stripe_is plan places stripe is below
+allocator_is plan places heap_kind stripe is below = stripe_is plan places stripe is below
+
+-- it holds slots of the kind, or of memories
+abbrev kind_held : SlotKind → SlotKind
+kind_held table_kind = table_kind
+kind_held kind = memory_kind
+
+pub allocator_role : (plan : Plan) (places : ℕ) (kind : SlotKind) (stripe i : ℕ) → IsPoolPlan plan places → stripe < length plan.memories → i < (allocator_of plan kind stripe).shards → role_at plan ((allocator_of plan kind stripe).first_place + i) ≡ shard_role (allocator_of plan kind stripe) i
+allocator_role plan places table_kind stripe i is below inside = each_at (HasShards plan) plan.tables 0 no_allocator is.tables (shards_of plan table_kind is.planned.separate) i inside
+allocator_role plan places memory_kind stripe i is below inside = stripe_role plan places stripe i is below inside
+allocator_role plan places stack_kind stripe i is below inside = stripe_role plan places stripe i is below inside
+allocator_role plan places heap_kind stripe i is below inside = stripe_role plan places stripe i is below inside
+
+pub allocator_most : (plan : Plan) (places : ℕ) (kind : SlotKind) (stripe : ℕ) → IsPoolPlan plan places → stripe < length plan.memories → (allocator_of plan kind stripe).shards ≤ (sizes_of plan).shards
+allocator_most plan places table_kind stripe is below = omega (arith, most_at plan.tables 0 no_allocator is.tables, (most_more plan.memories plan.tables).1)
+allocator_most plan places memory_kind stripe is below = omega (arith, most_at plan.memories stripe no_allocator below, (most_more plan.memories plan.tables).0)
+allocator_most plan places stack_kind stripe is below = omega (arith, most_at plan.memories stripe no_allocator below, (most_more plan.memories plan.tables).0)
+allocator_most plan places heap_kind stripe is below = omega (arith, most_at plan.memories stripe no_allocator below, (most_more plan.memories plan.tables).0)
+
+-- what is allocated is a memory or a table, and the allocator holds slots of that kind
+pub next_is : {P : Type 0} (f : Frame P) → (kind_next f ≡ memory_kind) ⊎ (kind_next f ≡ table_kind)
+next_is f =
+    elim (cases_Bool (nat_lt (length f.objects.memories.items) (length (memories_wanted f.asked)))) [
+      | inl memory ↦ inl (rw memory refl)
+      | inr table ↦ inr (rw table refl)
+    ]
+
+allocator_held : (plan : Plan) (places : ℕ) (kind : SlotKind) (stripe : ℕ) → IsPoolPlan plan places → stripe < length plan.memories → IsAllocator (kind_held kind) (of_kind (kind_held kind) plan.totals) (allocator_of plan kind stripe)
+allocator_held plan places table_kind stripe is below = each_at (IsAllocator table_kind plan.totals.table) plan.tables 0 no_allocator is.tables (is.planned.slots table_kind).each
+allocator_held plan places memory_kind stripe is below = stripe_holds plan places stripe is below
+allocator_held plan places stack_kind stripe is below = stripe_holds plan places stripe is below
+allocator_held plan places heap_kind stripe is below = stripe_holds plan places stripe is below
+
+pub allocator_holds : {P : Type 0} (plan : Plan) (places : ℕ) (f : Frame P) → IsPoolPlan plan places → f.stripe < length plan.memories → IsAllocator (kind_next f) (of_kind (kind_next f) plan.totals) (allocator_for plan f)
+allocator_holds plan places f is stripe =
+    let H : SlotKind → Type 0 = λ k. IsAllocator k (of_kind k plan.totals) (allocator_of plan k f.stripe) in
+    elim (next_is f) [
+      | inl memory ↦ subst H (sym memory) (allocator_held plan places memory_kind f.stripe is stripe)
+      | inr table ↦ subst H (sym table) (allocator_held plan places table_kind f.stripe is stripe)
+    ]
 
 -- The home of a slot.
 pub at_home : (plan : Plan) (places : ℕ) (name : SlotName) → IsPoolPlan plan places → IsSlotName plan name → IsAtHome plan name (home_of plan name)
@@ -228,7 +267,7 @@ module _ {P : Type 0} where
   -- The shard that is tried, and the queue, has its place.
   pub tried_role : (tried : ℕ) (plan : Plan) (places : ℕ) (f : Frame P) → IsPoolPlan plan places → f.stripe < length plan.memories → role_at plan (shard_tried tried plan f) ≡ shard_role (allocator_for plan f) ((f.home + tried) % (allocator_for plan f).shards)
   tried_role tried plan places f is stripe =
-      stripe_role plan places f.stripe ((f.home + tried) % (allocator_for plan f).shards) is stripe (mod-lt (f.home + tried) (stripe_is plan places f.stripe is stripe).some)
+      allocator_role plan places (kind_next f) f.stripe ((f.home + tried) % (allocator_for plan f).shards) is stripe (mod-lt (f.home + tried) (allocator_is plan places (kind_next f) f.stripe is stripe).some)
 
   pub tried_is_shard : (tried : ℕ) (plan : Plan) (places : ℕ) (f : Frame P) → IsPoolPlan plan places → f.stripe < length plan.memories → IsShardPlace plan (shard_tried tried plan f)
   tried_is_shard tried plan places f is stripe = record { allocator = allocator_for plan f; index = (f.home + tried) % (allocator_for plan f).shards; role = tried_role tried plan places f is stripe }

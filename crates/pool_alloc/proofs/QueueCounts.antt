@@ -9,7 +9,8 @@ use Rattle.std.proofs.lemmas.List.Sums.{sum_by-cons, sum_by_push}
 use Rattle.std.proofs.lemmas.List.Filters.{sum_by-filter_both}
 use Rattle.pool_slots.specs.SlotQueues.{Queue, Queued, holds, AreApart, after_run, IsLeftBy, IsFaulted, first_slot}
 use Rattle.pool_alloc.specs.Leases.{Lease, memory_slot}
-use Rattle.pool_alloc.specs.Places.{Thing, right_to, region_of, slot_count, both_count, queued_count, leased_count, freed_count}
+use Rattle.pool_alloc.specs.Places.{Thing, right_to, region_of, slot_count, both_count, queued_count, leased_count, tables_count, freed_count}
+use Rattle.pool_alloc.specs.TableLeases.{LeasedTable, table_slot}
 use Rattle.pool_alloc.specs.declared.frame.FreedSlot.{FreedSlot}
 use Rattle.pool_slots.proofs.SlotNames.{slot_not, slot_cases}
 use Rattle.pool_slots.specs.declared.slot_name.SlotName.{SlotName}
@@ -28,6 +29,9 @@ sum_by_none f none (x ∷ xs) = omega (arith, sum_by-cons f x xs, none x, sum_by
 abbrev pub leased_one : Thing → Lease → ℕ
 leased_one t l = both_count t (memory_slot l.index) l.numbers
 
+abbrev pub table_one : Thing → LeasedTable → ℕ
+table_one t l = both_count t (table_slot l.index) l.numbers
+
 -- a slot in a queue, and that of a lease, has its region
 pub queued_regions : (name : SlotName) (ms : List Queued) → queued_count (region_of name) ms ≡ queued_count (right_to name) ms
 queued_regions name [] = refl
@@ -35,6 +39,9 @@ queued_regions name (m ∷ ms) = omega (arith, both_regions name m.name m.number
 
 pub leased_regions : (name : SlotName) (ls : List Lease) → leased_count (region_of name) ls ≡ leased_count (right_to name) ls
 leased_regions name ls = sum_by_agree (leased_one (region_of name)) (leased_one (right_to name)) (λ l. both_regions name (memory_slot l.index) l.numbers) ls
+
+pub tables_regions : (name : SlotName) (ls : List LeasedTable) → tables_count (region_of name) ls ≡ tables_count (right_to name) ls
+tables_regions name ls = sum_by_agree (table_one (region_of name)) (table_one (right_to name)) (λ l. both_regions name (table_slot l.index) l.numbers) ls
 
 -- a freed slot hasn't
 pub freed_regions : (name : SlotName) (xs : List FreedSlot) → freed_count (region_of name) xs ≡ 0
@@ -47,6 +54,9 @@ queued_first t m ms = omega arith
 pub leased_first : (t : Thing) (l : Lease) (ls : List Lease) → leased_count t (l ∷ ls) ≡ leased_one t l + leased_count t ls
 leased_first t l ls = sum_by-cons (leased_one t) l ls
 
+pub tables_first : (t : Thing) (l : LeasedTable) (ls : List LeasedTable) → tables_count t (l ∷ ls) ≡ table_one t l + tables_count t ls
+tables_first t l ls = sum_by-cons (table_one t) l ls
+
 pub freed_first : (t : Thing) (x : FreedSlot) (xs : List FreedSlot) → freed_count t (x ∷ xs) ≡ slot_count t x.name + freed_count t xs
 freed_first t x xs = sum_by-cons (λ (y : FreedSlot). slot_count t y.name) x xs
 
@@ -56,6 +66,9 @@ queued_last t ms m = omega (arith, units_append t ms (m ∷ []))
 
 pub leased_last : (t : Thing) (ls : List Lease) (l : Lease) → leased_count t (ls ++ l ∷ []) ≡ leased_count t ls + leased_one t l
 leased_last t ls l = sum_by_push (leased_one t) ls l
+
+pub tables_last : (t : Thing) (ls : List LeasedTable) (l : LeasedTable) → tables_count t (ls ++ l ∷ []) ≡ tables_count t ls + table_one t l
+tables_last t ls l = sum_by_push (table_one t) ls l
 
 pub freed_last : (t : Thing) (xs : List FreedSlot) (x : FreedSlot) → freed_count t (xs ++ x ∷ []) ≡ freed_count t xs + slot_count t x.name
 freed_last t xs x = sum_by_push (λ (y : FreedSlot). slot_count t y.name) xs x
@@ -91,7 +104,7 @@ pub faulted_names : (of : SlotName → RegionNumbers → ℕ) (old new : Queue) 
 faulted_names of old new faulted = same_zip (λ m. of m.name m.numbers) (IsLeftBy (first_slot old.ranges)) (λ a b left. ap (λ (m : Queued). of m.name m.numbers) left.same) old.slots new.slots faulted.slots
 
 -- and what these weigh
-queued_sum : (t : Thing) (ms : List Queued) → queued_count t ms ≡ sum_by (λ m. both_count t m.name m.numbers) ms
+pub queued_sum : (t : Thing) (ms : List Queued) → queued_count t ms ≡ sum_by (λ m. both_count t m.name m.numbers) ms
 queued_sum t [] = refl
 queued_sum t (m ∷ ms) = omega (arith, queued_sum t ms, sum_by-cons (λ (x : Queued). both_count t x.name x.numbers) m ms)
 

@@ -1,16 +1,15 @@
--- The first memory of which a rule is broken is found from left to right.
+-- The first memory or table of which a rule is broken is found from left to right.
 use Rattle.std.proofs.Common.{◌≡◌, ℕ, ◌+◌, ◌<◌, ◌≤◌, List, length, drop, get_or, ap, ◌∙◌, sym, Option, Some, None}
 use Rattle.std.proofs.lemmas.List.{at_drop_more, at_drop_all}
-use Rattle.pool_pages.specs.declared.module_types.MemoryDecl.{MemoryDecl}
 use Rattle.pool_pages.specs.declared.unsupported.Unsupported.{Unsupported}
 use Rattle.std.specs.Option.{option_or}
 use Rattle.pool_alloc.specs.Refusals.{first_refused}
 
-module _ (rule : MemoryDecl → Option Unsupported) (decls : List MemoryDecl) where
-  pub refused_later : (k : ℕ) (d : MemoryDecl) → k < length decls → rule (get_or decls k d) ≡ None → first_refused rule (drop (k + 1) decls) ≡ first_refused rule (drop k decls)
+module _ {X : Type 0} (rule : X → Option Unsupported) (decls : List X) where
+  pub refused_later : (k : ℕ) (d : X) → k < length decls → rule (get_or decls k d) ≡ None → first_refused rule (drop (k + 1) decls) ≡ first_refused rule (drop k decls)
   refused_later k d below none = sym (at_drop_more (first_refused rule) decls k d below ∙ ap (λ o. option_or o (first_refused rule (drop (k + 1) decls))) none)
 
-  pub refused_here : (k : ℕ) (d : MemoryDecl) (u : Unsupported) → k < length decls → rule (get_or decls k d) ≡ Some u → first_refused rule (drop k decls) ≡ Some u
+  pub refused_here : (k : ℕ) (d : X) (u : Unsupported) → k < length decls → rule (get_or decls k d) ≡ Some u → first_refused rule (drop k decls) ≡ Some u
   refused_here k d u below some = at_drop_more (first_refused rule) decls k d below ∙ ap (λ o. option_or o (first_refused rule (drop (k + 1) decls))) some
 
   pub refused_nowhere : (k : ℕ) → length decls ≤ k → first_refused rule (drop k decls) ≡ None

@@ -1,7 +1,15 @@
 -- The rows of a request that has a slot.
+use Rattle.pool_pages.specs.declared.table_type.TableType.{TableType}
+use Rattle.std.proofs.lemmas.Bool.{cases_Bool, ltb-true, ltb-false}
+use Rattle.pool_hall.specs.Unit.{kind_number}
+use Rattle.pool_alloc.specs.declared.pool_core.Counters.{Counters}
+use Rattle.pool_alloc.proofs.TableRegions.{IsMadeTable, begun_table, table_made_is}
+use Rattle.pool_alloc.specs.TableSteps.{AsksForTable, table_made}
+use Rattle.pool_alloc.specs.TableLeases.{LeasedTable, table_slot, table_taken}
+use Rattle.pool_alloc.specs.PoolTables.{IsTableLease, IsBegunTable}
 use Rattle.pool_slots.specs.declared.plan.Plan.{Plan}
-use Rattle.pool_alloc.proofs.PlanPlaces.{IsShardPlace, home_place, pooled_memory}
-use Rattle.std.proofs.Common.{◌≡◌, ℕ, ◌+◌, ◌<◌, ◌≤◌, Bool, true, false, List, [], ◌∷◌, ◌++◌, length, refl, sym, ap, subst, inl, inr, arith, Option, Some, None, Result, Ok, Err}
+use Rattle.pool_alloc.proofs.PlanPlaces.{IsShardPlace, home_place, next_is}
+use Rattle.std.proofs.Common.{◌≡◌, ℕ, ◌+◌, ◌<◌, ◌≤◌, Bool, true, false, List, [], ◌∷◌, ◌++◌, length, refl, sym, ap, subst, inl, inr, arith, Option, Some, None, Result, Ok, Err, ◌∙◌}
 use Rattle.std.specs.Prelude.{◌^◌, nat_le, nat_lt, if◌then◌else◌, IfSome, IsSome, IfOk, slice_get, slice_index_or}
 use Rattle.std.proofs.lemmas.List.{length_push}
 use Rattle.std.proofs.lemmas.List.Elements.{All-push}
@@ -26,7 +34,7 @@ use Rattle.pool_slots.specs.declared.errors.AllocError.TheVariants as refusal
 use Rattle.pool_memory.proofs.Makings.{least_most}
 use Rattle.pool_alloc.specs.Reserved.{with_item}
 use Rattle.pool_alloc.specs.Answers.{Empties, InstantiatesAs, InstantiatesFor}
-use Rattle.pool_alloc.specs.Modules.{IfAllocated}
+use Rattle.pool_alloc.specs.Modules.{IfAllocated, IfTable}
 use Rattle.pool_pages.specs.MakerTold.{MakerTold}
 use Rattle.pool_limits.specs.LimiterTold.{LimiterTold}
 use Rattle.pool_alloc.specs.declared.pool_core.PoolCore.{PoolCore}
@@ -35,26 +43,26 @@ use Rattle.pool_alloc.specs.declared.frame.Ending.{Ending}
 use Rattle.pool_alloc.specs.declared.frame.Frame.{Frame}
 use Rattle.pool_alloc.specs.declared.frame.Phase.{Phase}
 use Rattle.pool_alloc.specs.declared.frame.TakenSlot.{TakenSlot}
-use Rattle.pool_alloc.specs.declared.frame.Phase.TheVariants.{Idle, TakeRegion, Empty, Instantiate, MakeMemory, CountObject, PutBack, FreeOne}
+use Rattle.pool_alloc.specs.declared.frame.Phase.TheVariants.{Idle, TakeRegion, Empty, Instantiate, MakeMemory, MakeTable, CountObject, PutBack, FreeOne}
 use Rattle.pool_alloc.specs.Answers.{AsksForMemory}
 use Rattle.pool_alloc.specs.Bounds.{sizes_of, objects_left, steps_at, steps_left}
 use Rattle.pool_images.specs.Slots.{IsClean, IsLeft}
 use Rattle.std.specs.Prelude.{is_some}
 use Rattle.pool_alloc.specs.Leases.{IsUsable, memory_slot}
 use Rattle.pool_alloc.specs.Own.{made_of, made_of_limits, made_for, memory_made, image_made}
-use Rattle.pool_alloc.specs.Places.{Thing, right_to, both_count, phase_count, phase_instances, phase_memories, region_count, taken_count}
-use Rattle.pool_alloc.specs.Rows.{in_cell, in_shard, region_next, take_region_on, paged, empty_row, instantiate_row, was_made, make_memory_row, count_object_row, put_back_on, free_one_on}
+use Rattle.pool_alloc.specs.Places.{Thing, right_to, both_count, phase_count, phase_instances, phase_memories, region_count, taken_count, phase_tables}
+use Rattle.pool_alloc.specs.Rows.{in_cell, in_shard, region_next, take_region_on, paged, empty_row, instantiate_row, was_made, make_memory_row, count_object_row, put_back_on, free_one_on, unmapped_next, was_made_table, make_table_row}
 use Rattle.pool_alloc.specs.Searches.{AreEmpty, IsSearchedBy, IsSearchedAt, IsSearched}
-use Rattle.pool_alloc.specs.Sound.{IsCore, IsLeaseOf, IsToGrant, IsAllocating, HasNoneWaiting, IsShapedAt, IsSupported, HasSlot, HasBegun, IsMadeOf, IsNew, IsPoolSlot, MayHold, HasRegion, IsPooled, IsSlotName}
-use Rattle.pool_alloc.specs.Stages.{Stage, refusing, stage_by, stage_at, Goes}
+use Rattle.pool_alloc.specs.Sound.{IsCore, IsLeaseOf, IsToGrant, IsAllocating, HasNoneWaiting, IsShapedAt, IsSupported, HasSlot, HasBegun, IsMadeOf, IsNew, IsPoolSlot, MayHold, HasRegion, IsPooled, IsSlotName, IsTableSupported, HasTable, IsMemoryNext, IsTableNext, AreLeasesOf}
+use Rattle.pool_alloc.specs.Stages.{Stage, refusing, stage_by, stage_at, Goes, stage_of}
 use Rattle.pool_alloc.specs.Stepping.{is_idle}
-use Rattle.pool_alloc.specs.Steps.{memories_wanted, images_wanted, image_wanted, shard_at, with_shard, with_cell, counting_memories, memory_slots, cell_named}
-use Rattle.pool_alloc.specs.Turns.{Row, gone_to}
+use Rattle.pool_alloc.specs.Steps.{memories_wanted, images_wanted, image_wanted, shard_at, with_shard, with_cell, memory_slots, cell_named, tables_wanted, kind_next}
+use Rattle.pool_alloc.specs.Turns.{Row, gone_to, next}
 use Rattle.pool_alloc.proofs.CoreChanges.{core_with_shard, core_with_cell, core_with_counters}
-use Rattle.pool_alloc.proofs.Hands.{in_phase, held_of, Even, Kept, Ready, IsReadyRow}
+use Rattle.pool_alloc.proofs.Hands.{in_phase, held_of, Even, Kept, Ready, IsReadyRow, hand}
 use Rattle.pool_alloc.proofs.PoolParts.{place_of}
 use Rattle.pool_alloc.proofs.KeptCounts.{kept_shard, away_shard, region_leaves, region_returns}
-use Rattle.pool_alloc.proofs.QueueCounts.{leased_last}
+use Rattle.pool_alloc.proofs.QueueCounts.{leased_last, tables_last}
 use Rattle.pool_alloc.proofs.Frees.{freed_one}
 use Rattle.pool_alloc.proofs.SlotIdentity.{IsOneSlot, one_wiped, slot_of_one, slot_made, clean_made, fresh_made}
 use Rattle.pool_alloc.proofs.ShardFrees.{IsShardOf, freed_shard}
@@ -69,8 +77,8 @@ use Rattle.pool_alloc.specs.declared.frame.Object.{Object}
 use Rattle.pool_slots.specs.declared.cells.ImageSlot.{ImageSlot}
 use Rattle.pool_slots.specs.Plans.{home_of}
 use Rattle.pool_slots.specs.CellOf.{cell_of}
-use Rattle.pool_hall.specs.declared.unit_name.SlotKind.TheVariants.{Memory as memory_kind}
-use Rattle.pool_alloc.specs.declared.frame.Object.TheVariants.{Memory}
+use Rattle.pool_hall.specs.declared.unit_name.SlotKind.TheVariants.{Memory as memory_kind, Table as table_kind}
+use Rattle.pool_alloc.specs.declared.frame.Object.TheVariants.{Memory, Table}
 use Rattle.pool_slots.specs.CellOf.{cell_of}
 use Rattle.pool_alloc.specs.declared.lease.InstanceLease.{InstanceLease}
 use Rattle.pool_slots.specs.SlotNames.{of_kind}
@@ -163,22 +171,41 @@ some_used (Some x) e = refl
 -- An empty cell is one of its slot.
 pub emptied_holds : (maker : MakerTold) (s : Settings) (kind : SlotKind) (i : ℕ) → IsPooled kind → MayHold maker s kind i taken
 emptied_holds maker s memory_kind i pooled = tt
+emptied_holds maker s table_kind i pooled = tt
 emptied_holds maker s kind i pooled = absurd pooled
 
 module _ {P : Type 0} where
-  -- A region that was never used can be made an image slot of.
-  fresh_cell : (maker : MakerTold) (kind : SlotKind) (i : ℕ) (cell : Cell) (c : PoolCore P) → IsCore maker c → IsPooled kind → MayHold maker c.settings kind i cell → (region : Told) → cell ≡ unmapped region → IsFresh (count c.settings.page 0) (count c.settings.page 0) c.settings.max_memory_size None region
-  fresh_cell maker memory_kind i cell c core pooled holds region is =
-      let C : Cell → Type 0 = MayHold maker c.settings memory_kind i in
-      fresh_made maker c.settings.behaviour c.settings.page c.settings.max_memory_size i region core.page core.settings.bounded (subst C is holds)
-  fresh_cell maker kind i cell c core pooled holds region is = absurd pooled
+  -- what is allocated is a memory, or a table
+  pub memory_next : (f : Frame P) → kind_next f ≡ memory_kind → IsMemoryNext f
+  memory_next f is =
+      elim (cases_Bool (nat_lt (length f.objects.memories.items) (length (memories_wanted f.asked)))) [
+        | inl more ↦ ltb-true _ _ more
+        | inr none ↦
+            let table : kind_next f ≡ table_kind = rw none refl in
+            let no : ◌≡◌ {A = ℕ} 1 0 = ap kind_number (sym table ∙ is) in
+            absurd (omega arith)
+      ]
 
-  pub region_is_fresh : (maker : MakerTold) (name : SlotName) (c : PoolCore P) → IsCore maker c → IsSlotName c.plan name → (region : Told) → (cell_named name c).holds ≡ unmapped region → IsFresh (count c.settings.page 0) (count c.settings.page 0) c.settings.max_memory_size None region
-  region_is_fresh maker name c core named region is = fresh_cell maker name.kind name.slot (cell_named name c).holds c core named.pooled (sound_cell maker name c core named).holds region is
+  pub table_next : (f : Frame P) → kind_next f ≡ table_kind → IsTableNext f
+  table_next f is =
+      elim (cases_Bool (nat_lt (length f.objects.memories.items) (length (memories_wanted f.asked)))) [
+        | inl more ↦
+            let memory : kind_next f ≡ memory_kind = rw more refl in
+            let no : ◌≡◌ {A = ℕ} 0 1 = ap kind_number (sym memory ∙ is) in
+            absurd (omega arith)
+        | inr none ↦ ltb-false _ _ none
+      ]
 
-  one_told : (s : Settings) (plan : Plan) (fault : Bool) (new had : Slot) (f : Frame P) → IsAllocating s plan f → IfAllocated f (λ decl. InstantiatesFor s decl fault (image_wanted f) had new) → IsOneSlot had new
-  one_told s plan fault new had f allocating told =
-      told_there (IsOneSlot had new) (memories_wanted f.asked) (length f.objects.memories.items) allocating.more
+  -- A region of a memory that was never used can be made an image slot of.
+  pub region_is_fresh : (maker : MakerTold) (name : SlotName) (c : PoolCore P) → IsCore maker c → IsSlotName c.plan name → (region : Told) → name.kind ≡ memory_kind → (cell_named name c).holds ≡ unmapped region → IsFresh (count c.settings.page 0) (count c.settings.page 0) c.settings.max_memory_size None region
+  region_is_fresh maker name c core named region kind is =
+      let C : SlotKind → Cell → Type 0 = λ k held. MayHold maker c.settings k name.slot held in
+      let holds : C memory_kind (unmapped region) = subst (C memory_kind) is (subst (λ (k : SlotKind). C k (cell_named name c).holds) kind (sound_cell maker name c core named).holds) in
+      fresh_made maker c.settings.behaviour c.settings.page c.settings.max_memory_size name.slot region core.page core.settings.bounded holds
+
+  one_told : (s : Settings) (fault : Bool) (new had : Slot) (f : Frame P) → IsMemoryNext f → IfAllocated f (λ decl. InstantiatesFor s decl fault (image_wanted f) had new) → IsOneSlot had new
+  one_told s fault new had f more told =
+      told_there (IsOneSlot had new) (memories_wanted f.asked) (length f.objects.memories.items) more
       (told_weaker (λ decl. InstantiatesFor s decl fault (image_wanted f) had new) (λ decl. IsOneSlot had new) (slice_get (memories_wanted f.asked) (length f.objects.memories.items))
       (λ decl tells. one_instantiated fault (minimum_byte_size decl.ty) (hides decl.ty s.tunables had.region.page) (image_wanted f) had new tells) told)
 
@@ -189,10 +216,10 @@ module _ {P : Type 0} where
       (λ decl has made. record { slot = has; made = made })
       (subst B (sym in_slot.slot) begun) in_slot.made
 
-  memory_of : (s : Settings) (plan : Plan) (f : Frame P) (memory : MemoryState) → IsAllocating s plan f → IfAllocated f (IsNew s.max_memory_size (image_wanted f) memory) → IsUsable memory
-  memory_of s plan f memory allocating new =
-      let k : ℕ = objects_in f.objects in
-      told_there (IsUsable memory) (memories_wanted f.asked) k allocating.more
+  memory_of : (s : Settings) (plan : Plan) (f : Frame P) (memory : MemoryState) → IsAllocating s plan f → IsMemoryNext f → IfAllocated f (IsNew s.max_memory_size (image_wanted f) memory) → IsUsable memory
+  memory_of s plan f memory allocating more new =
+      let k : ℕ = length f.objects.memories.items in
+      told_there (IsUsable memory) (memories_wanted f.asked) k more
       (told_both (λ decl. IsSupported s decl (slice_index_or (images_wanted f.asked) k None)) (IsNew s.max_memory_size (image_wanted f) memory) (λ decl. IsUsable memory) (slice_get (memories_wanted f.asked) k)
       (λ decl fits is. record {
         within = rw (is.made.size, is.made.capacity) (capacity_least s.max_memory_size (minimum_byte_size decl.ty) (maximum_asked decl.ty) (least_most decl.ty fits.limits) fits.minimum);
@@ -215,35 +242,38 @@ module _ {P : Type 0} (maker : MakerTold) (old new : LimiterTold) where
       let was = sound_cell maker name c can.core named in
       kept_part maker old new c (in_phase (TakeRegion name) f) (emptied name c) (in_phase Idle f) (core_with_cell maker name (cell_emptied (cell_named name c)) c can.core named (record { named = was.named; holds = emptied_holds maker c.settings name.kind name.slot named.pooled })) (held_of maker c.settings c.plan (in_phase (TakeRegion name) f) can.frame) refl refl refl refl
 
-  taken_even : (at : TakenSlot) (c : PoolCore P) (f : Frame P) → Can maker (TakeRegion at.name) c f → at.numbers ≡ cell_numbers (cell_named at.name c) → Even maker old new c (in_phase (TakeRegion at.name) f) (record { things = λ t. taken_count t at; instances = 1; memories = 0 }) (emptied at.name c) (in_phase Idle f)
-  taken_even at c f can its = record { places = λ t. let leaves = region_leaves maker t at.name c can.core can.frame.shape.2 (picked_is_home maker at.name c f can.core can.fits) in omega (arith, leaves.0, leaves.1, ap (region_count t at.name) its); instances = omega arith; memories = omega arith }
+  taken_even : (at : TakenSlot) (c : PoolCore P) (f : Frame P) → Can maker (TakeRegion at.name) c f → at.numbers ≡ cell_numbers (cell_named at.name c) → Even maker old new c (in_phase (TakeRegion at.name) f) (record { things = λ t. taken_count t at; instances = 1; memories = 0; tables = 0 }) (emptied at.name c) (in_phase Idle f)
+  taken_even at c f can its = record { places = λ t. let leaves = region_leaves maker t at.name c can.core can.frame.shape.2 (picked_is_home maker at.name c f can.core can.fits) in omega (arith, leaves.0, leaves.1, ap (region_count t at.name) its); instances = omega arith; memories = omega arith; tables = omega arith }
 
-  -- It is that of a memory.
-  record HasLeft (at : TakenSlot) (c : PoolCore P) (f : Frame P) : Type 0 where
+  -- It is that of a slot of this kind.
+  record HasLeft (kind : SlotKind) (at : TakenSlot) (c : PoolCore P) (f : Frame P) : Type 0 where
     can : Can maker (TakeRegion at.name) c f
     numbers : at.numbers ≡ cell_numbers (cell_named at.name c)
-    kind : at.name.kind ≡ memory_kind
+    kind_is : at.name.kind ≡ kind
+    next : kind_next f ≡ kind
 
-  has_left : (at : TakenSlot) (held : Slot) (c : PoolCore P) (f : Frame P) → HasLeft at c f → IsPoolSlot maker c.settings.behaviour c.settings.max_memory_size at.name.slot held → HasSlot maker c.settings c.plan at.name held
-  has_left at held c f left of = record { kind = left.kind; inside = memory_inside c.plan at.name left.kind left.can.frame.shape.2; region = of }
+  has_left : (at : TakenSlot) (held : Slot) (c : PoolCore P) (f : Frame P) → HasLeft memory_kind at c f → IsPoolSlot maker c.settings.behaviour c.settings.max_memory_size at.name.slot held → HasSlot maker c.settings c.plan at.name held
+  has_left at held c f left of = record { kind = left.kind_is; inside = memory_inside c.plan at.name left.kind_is left.can.frame.shape.2; region = of }
 
-  holds_ready : (at : TakenSlot) (held : Cell) (c : PoolCore P) (f : Frame P) → HasLeft at c f → MayHold maker c.settings memory_kind at.name.slot held → is_taken held ≡ false → Ready maker old new c (in_phase (TakeRegion at.name) f) (emptied at.name c) (in_phase Idle f) (region_next c.settings at held)
+  holds_ready : (at : TakenSlot) (held : Cell) (c : PoolCore P) (f : Frame P) → HasLeft memory_kind at c f → MayHold maker c.settings memory_kind at.name.slot held → is_taken held ≡ false → Ready maker old new c (in_phase (TakeRegion at.name) f) (emptied at.name c) (in_phase Idle f) (region_next c.settings at held)
   holds_ready at (unmapped region) c f left holds there =
       let can = left.can in
       let s : Settings = c.settings in
-      record {
+      let T : SlotKind → Type 0 = λ k. Ready maker old new c (in_phase (TakeRegion at.name) f) (emptied at.name c) (in_phase Idle f) (unmapped_next s k at region) in
+      let made : T memory_kind = record {
         kept = taken_kept at.name c f can;
-        shape = (refl, (can.frame.shape.0, can.frame.shape.1, has_left at (image_made s.page s.max_memory_size region) c f left (slot_made maker s.behaviour s.page s.max_memory_size at.name.slot region can.core.page holds), clean_made maker s.behaviour s.page s.max_memory_size at.name.slot region can.core.page holds));
+        shape = (refl, (can.frame.shape.0, can.frame.shape.1, has_left at (image_made s.page s.max_memory_size region) c f left (slot_made maker s.behaviour s.page s.max_memory_size at.name.slot region can.core.page holds), clean_made maker s.behaviour s.page s.max_memory_size at.name.slot region can.core.page holds, memory_next f left.next));
         even = taken_even at c f can left.numbers;
         fewer = omega arith;
         way = same_way maker old new c (in_phase (TakeRegion at.name) f) f.ending (objects_in f.objects);
         searched = λ s. tt;
-      }
+      } in
+      subst T (sym left.kind_is) made
   holds_ready at (unknown had) c f left holds there =
       let can = left.can in
       record {
         kept = taken_kept at.name c f can;
-        shape = (refl, (can.frame.shape.0, can.frame.shape.1, has_left at had c f left holds));
+        shape = (refl, (can.frame.shape.0, can.frame.shape.1, has_left at had c f left holds, memory_next f left.next));
         even = taken_even at c f can left.numbers;
         fewer = omega arith;
         way = same_way maker old new c (in_phase (TakeRegion at.name) f) f.ending (objects_in f.objects);
@@ -253,7 +283,7 @@ module _ {P : Type 0} (maker : MakerTold) (old new : LimiterTold) where
       let can = left.can in
       record {
         kept = taken_kept at.name c f can;
-        shape = (refl, (can.frame.shape.0, can.frame.shape.1, has_left at had c f left holds.0, holds.1));
+        shape = (refl, (can.frame.shape.0, can.frame.shape.1, has_left at had c f left holds.0, holds.1, memory_next f left.next));
         even = taken_even at c f can left.numbers;
         fewer = omega arith;
         way = same_way maker old new c (in_phase (TakeRegion at.name) f) f.ending (objects_in f.objects);
@@ -261,41 +291,65 @@ module _ {P : Type 0} (maker : MakerTold) (old new : LimiterTold) where
       }
   holds_ready at taken c f left holds there = absurd cc
 
+  table_holds_ready : (at : TakenSlot) (held : Cell) (c : PoolCore P) (f : Frame P) → HasLeft table_kind at c f → MayHold maker c.settings table_kind at.name.slot held → is_taken held ≡ false → Ready maker old new c (in_phase (TakeRegion at.name) f) (emptied at.name c) (in_phase Idle f) (region_next c.settings at held)
+  table_holds_ready at (unmapped region) c f left holds there =
+      let can = left.can in
+      let T : SlotKind → Type 0 = λ k. Ready maker old new c (in_phase (TakeRegion at.name) f) (emptied at.name c) (in_phase Idle f) (unmapped_next c.settings k at region) in
+      let inside : at.name.slot < c.plan.totals.table = subst (λ (k : SlotKind). at.name.slot < of_kind k c.plan.totals) left.kind_is can.frame.shape.2.inside in
+      let made : T table_kind = record {
+        kept = taken_kept at.name c f can;
+        shape = (refl, (can.frame.shape.0, can.frame.shape.1, record { kind = left.kind_is; inside = inside; region = holds }, table_next f left.next));
+        even = taken_even at c f can left.numbers;
+        fewer = omega arith;
+        way = same_way maker old new c (in_phase (TakeRegion at.name) f) f.ending (objects_in f.objects);
+        searched = λ s. tt;
+      } in
+      subst T (sym left.kind_is) made
+  table_holds_ready at (unknown had) c f left holds there = absurd holds
+  table_holds_ready at (previously_used had) c f left holds there = absurd holds
+  table_holds_ready at taken c f left holds there = absurd cc
+
   pub take_region_ready : (name : SlotName) (c : PoolCore P) (f : Frame P) → Can maker (TakeRegion name) c f → Shows (TakeRegion name) c f (in_cell name c (take_region_on c.settings name (cell_named name c) (in_phase Idle f)))
   take_region_ready name c f can =
       let cell : CellState = cell_named name c in
-      let named : IsSlotName c.plan name = can.frame.shape.2 in
-      let kind : name.kind ≡ memory_kind = pooled_memory name.kind named.pooled in
-      let holds : MayHold maker c.settings memory_kind name.slot cell.holds = subst (λ (k : SlotKind). MayHold maker c.settings k name.slot cell.holds) kind (sound_cell maker name c can.core named).holds in
-      holds_ready (record { name = name; numbers = cell_numbers cell }) cell.holds c f (record { can = can; numbers = refl; kind = kind }) holds (picked_is_home maker name c f can.core can.fits)
+      let at : TakenSlot = record { name = name; numbers = cell_numbers cell } in
+      let there = picked_is_home maker name c f can.core can.fits in
+      let M : SlotKind → Type 0 = λ k. MayHold maker c.settings k name.slot cell.holds in
+      let holds : M name.kind = (sound_cell maker name c can.core can.frame.shape.2).holds in
+      elim (next_is f) [
+        | inl memory ↦ let kind : name.kind ≡ memory_kind = can.frame.shape.3 ∙ memory in holds_ready at cell.holds c f (record { can = can; numbers = refl; kind_is = kind; next = memory }) (subst M kind holds) there
+        | inr table ↦ let kind : name.kind ≡ table_kind = can.frame.shape.3 ∙ table in table_holds_ready at cell.holds c f (record { can = can; numbers = refl; kind_is = kind; next = table }) (subst M kind holds) there
+      ]
 
   -- A page call of the slot in hand failed, or the call goes on with it.
   paged_ready : (p phase : Phase P) (fault : Bool) (at : TakenSlot) (had held : Slot) (c : PoolCore P) (f : Frame P) →
       Can maker p c f →
       HasNoneWaiting f →
       IsAllocating c.settings c.plan (in_phase p f) →
+      IsMemoryNext f →
       HasSlot maker c.settings c.plan at.name had →
       IsOneSlot had held →
       ((t : Thing) → phase_count t p ≡ taken_count t at) →
       ((t : Thing) → phase_count t phase ≡ taken_count t at) →
       (phase_instances p ≡ 1) × (phase_instances phase ≡ 1) →
-      (phase_memories p ≡ 0) × (phase_memories phase ≡ 0) →
+      (phase_memories p ≡ 0) × (phase_memories phase ≡ 0) × (phase_tables p ≡ 0) × (phase_tables phase ≡ 0) →
       (stage_at p f.ending (objects_in f.objects) ≡ stage_by f.ending (objects_in f.objects)) × (stage_at phase f.ending (objects_in f.objects) ≡ stage_by f.ending (objects_in f.objects)) →
       (fault ≡ true → IsLeft had held) →
       (fault ≡ false → (is_idle phase ≡ false) × IsShapedAt maker c.settings c.plan phase (gone_to phase f)) →
       (steps_at (sizes_of c.plan) phase (gone_to phase f) + 1 ≤ steps_left c (in_phase p f)) × (3 + objects_left (sizes_of c.plan) f.asked f.objects ≤ steps_left c (in_phase p f)) →
       (IsSearched c (in_phase p f) → IsSearchedAt phase c (gone_to phase f)) →
       IsReadyRow maker old new c (in_phase p f) (paged fault at held phase c (in_phase Idle f))
-  paged_ready p phase true at had held c f can settled allocating has one here there counted none stages left shape steps searched = record {
+  paged_ready p phase true at had held c f can settled allocating more has one here there counted none stages left shape steps searched = record {
     kept = kept_part maker old new c (in_phase p f) c _ can.core (held_of maker c.settings c.plan (in_phase p f) can.frame) refl refl refl refl;
     shape = (refl, (settled, refl, goes_back maker c.settings c.plan at.name (forgotten held) (has_of_one maker c.settings c.plan at.name had (forgotten held) one has)));
-    even = record { places = λ t. omega (arith, here t); instances = omega (arith, counted.0); memories = omega (arith, none.0) };
+    even = record { places = λ t. omega (arith, here t); instances = omega (arith, counted.0); memories = omega (arith, none.0); tables = omega (arith, none.2) };
     fewer = omega (arith, steps.1);
     way = subst (λ (x : Stage). Goes maker old new c (in_phase p f) x (refusing refusal.PageFault) None) (sym stages.0)
         (fails_way maker old new c (in_phase p f) f.ending (objects_in f.objects) refusal.PageFault allocating.ending (inr (inl (record {
           is = refl;
           number = refl;
           allocating = allocating;
+          next = more;
           name = at.name;
           old = had;
           new = held;
@@ -305,10 +359,10 @@ module _ {P : Type 0} (maker : MakerTold) (old new : LimiterTold) where
         }))));
     searched = λ s. tt;
   }
-  paged_ready p phase false at had held c f can settled allocating has one here there counted none stages left shape steps searched = record {
+  paged_ready p phase false at had held c f can settled allocating more has one here there counted none stages left shape steps searched = record {
     kept = kept_part maker old new c (in_phase p f) c _ can.core (held_of maker c.settings c.plan (in_phase p f) can.frame) refl refl refl refl;
     shape = shape refl;
-    even = record { places = λ t. omega (arith, here t, there t); instances = omega (arith, counted.0, counted.1); memories = omega (arith, none.0, none.1) };
+    even = record { places = λ t. omega (arith, here t, there t); instances = omega (arith, counted.0, counted.1); memories = omega (arith, none.0, none.1); tables = omega (arith, none.2, none.3) };
     fewer = steps.0;
     way = subst (λ (x : Stage). Goes maker old new c (in_phase p f) x (stage_at phase f.ending (objects_in f.objects)) None) (sym stages.0)
         (subst (λ (x : Stage). Goes maker old new c (in_phase p f) (stage_by f.ending (objects_in f.objects)) x None) (sym stages.1) (same_way maker old new c (in_phase p f) f.ending (objects_in f.objects)));
@@ -319,25 +373,25 @@ module _ {P : Type 0} (maker : MakerTold) (old new : LimiterTold) where
   pub empty_ready : (fault : Bool) (held : Slot) (at : TakenSlot) (had : Slot) (c : PoolCore P) (f : Frame P) → Can maker (Empty at had) c f → Empties fault had held → Shows (Empty at had) c f (empty_row fault held at c (in_phase Idle f))
   empty_ready fault held at had c f can told =
       let one = one_emptied fault had held told in
-      paged_ready (Empty at had) (Instantiate at held) fault at had held c f can can.frame.shape.0 can.frame.shape.1 can.frame.shape.2 one
-      (λ t. refl) (λ t. refl) (refl, refl) (refl, refl) (refl, refl)
+      paged_ready (Empty at had) (Instantiate at held) fault at had held c f can can.frame.shape.0 can.frame.shape.1 can.frame.shape.3 can.frame.shape.2 one
+      (λ t. refl) (λ t. refl) (refl, refl) (refl, refl, refl, refl) (refl, refl)
       (left_emptied fault had held told)
-      (λ done. (refl, (can.frame.shape.0, can.frame.shape.1, has_of_one maker c.settings c.plan at.name had held one can.frame.shape.2, clean_emptied fault had held told done)))
+      (λ done. (refl, (can.frame.shape.0, can.frame.shape.1, has_of_one maker c.settings c.plan at.name had held one can.frame.shape.2, clean_emptied fault had held told done, can.frame.shape.3)))
       (omega arith, omega arith) (λ s. tt)
 
   -- The slot is instantiated.
-  left_told : (s : Settings) (plan : Plan) (p : Phase P) (fault : Bool) (had held : Slot) (f : Frame P) → IsAllocating s plan (in_phase p f) → IfAllocated f (λ decl. InstantiatesFor s decl fault (image_wanted f) had held) → fault ≡ true → IsLeft had held
-  left_told s plan p fault had held f allocating told is =
-      told_there (IsLeft had held) (memories_wanted f.asked) (length f.objects.memories.items) allocating.more
+  left_told : (s : Settings) (fault : Bool) (had held : Slot) (f : Frame P) → IsMemoryNext f → IfAllocated f (λ decl. InstantiatesFor s decl fault (image_wanted f) had held) → fault ≡ true → IsLeft had held
+  left_told s fault had held f more told is =
+      told_there (IsLeft had held) (memories_wanted f.asked) (length f.objects.memories.items) more
       (told_weaker (λ decl. InstantiatesFor s decl fault (image_wanted f) had held) (λ decl. IsLeft had held) (slice_get (memories_wanted f.asked) (length f.objects.memories.items))
       (λ decl tells. left_instantiated s decl fault (image_wanted f) had held tells is) told)
 
   pub instantiate_ready : (fault : Bool) (held : Slot) (at : TakenSlot) (had : Slot) (c : PoolCore P) (f : Frame P) → Can maker (Instantiate at had) c f → IfAllocated f (λ decl. InstantiatesFor c.settings decl fault (image_wanted f) had held) → Shows (Instantiate at had) c f (instantiate_row fault held at c (in_phase Idle f))
   instantiate_ready fault held at had c f can told =
-      let one = one_told c.settings c.plan fault held had (in_phase (Instantiate at had) f) can.frame.shape.1 told in
-      paged_ready (Instantiate at had) (MakeMemory at held) fault at had held c f can can.frame.shape.0 can.frame.shape.1 can.frame.shape.2 one
-      (λ t. refl) (λ t. refl) (refl, refl) (refl, refl) (refl, refl)
-      (left_told c.settings c.plan (Instantiate at had) fault had held f can.frame.shape.1 told)
+      let one = one_told c.settings fault held had (in_phase (Instantiate at had) f) can.frame.shape.4 told in
+      paged_ready (Instantiate at had) (MakeMemory at held) fault at had held c f can can.frame.shape.0 can.frame.shape.1 can.frame.shape.4 can.frame.shape.2 one
+      (λ t. refl) (λ t. refl) (refl, refl) (refl, refl, refl, refl) (refl, refl)
+      (left_told c.settings fault had held f can.frame.shape.4 told)
       (λ done. (
         refl,
         (
@@ -346,6 +400,7 @@ module _ {P : Type 0} (maker : MakerTold) (old new : LimiterTold) where
           has_of_one maker c.settings c.plan at.name had held one can.frame.shape.2,
           told_weaker (λ decl. InstantiatesFor c.settings decl fault (image_wanted f) had held) (λ decl. HasBegun (image_wanted f) held decl) (slice_get (memories_wanted f.asked) (length f.objects.memories.items))
               (λ decl tells. begun_as c.settings decl fault (image_wanted f) had held done tells) told,
+          can.frame.shape.4,
         ),
       ))
       (omega arith, omega arith) (λ s. tt)
@@ -359,10 +414,10 @@ module _ {P : Type 0} (maker : MakerTold) (old new : LimiterTold) where
       let has : H (slot_of memory) = subst H (sym in_slot.slot) can.frame.shape.2 in
       record {
         kept = kept_part maker old new c e c _ can.core (held_of maker c.settings c.plan e can.frame) refl refl refl refl;
-        shape = (refl, (can.frame.shape.0, can.frame.shape.1, record { inside = has.inside; slot = has.region; memory = memory_of c.settings c.plan e memory can.frame.shape.1 begins }, begins));
-        even = record { places = λ t. omega (arith, ap (λ (n : SlotName). both_count t n at.numbers) (name_of at.name has.kind)); instances = omega arith; memories = omega arith };
+        shape = (refl, (can.frame.shape.0, can.frame.shape.1, record { inside = has.inside; slot = has.region; memory = memory_of c.settings c.plan e memory can.frame.shape.1 can.frame.shape.4 begins }, begins, can.frame.shape.4));
+        even = record { places = λ t. omega (arith, ap (λ (n : SlotName). both_count t n at.numbers) (name_of at.name has.kind)); instances = omega arith; memories = omega arith; tables = omega arith };
         fewer = omega arith;
-        way = made_way maker old new c e f.ending (objects_in f.objects) can.frame.shape.1.ending (inr (refl, memory, record { number = refl; allocating = can.frame.shape.1; given = given; held = had; asked = asked; is = is }));
+        way = made_way maker old new c e f.ending (objects_in f.objects) can.frame.shape.1.ending (inr (refl, inl (memory, record { number = refl; allocating = can.frame.shape.1; next = can.frame.shape.4; given = given; held = had; asked = asked; is = is })));
         searched = λ s. tt;
       }
   made_ready at had given (Err x) c f can asked is in_slot =
@@ -370,9 +425,9 @@ module _ {P : Type 0} (maker : MakerTold) (old new : LimiterTold) where
       record {
         kept = kept_part maker old new c e c _ can.core (held_of maker c.settings c.plan e can.frame) refl refl refl refl;
         shape = (refl, (can.frame.shape.0, refl, goes_back maker c.settings c.plan at.name (forgotten had) (has_of_one maker c.settings c.plan at.name had (forgotten had) refl can.frame.shape.2)));
-        even = record { places = λ t. omega arith; instances = omega arith; memories = omega arith };
+        even = record { places = λ t. omega arith; instances = omega arith; memories = omega arith; tables = omega arith };
         fewer = omega arith;
-        way = fails_way maker old new c e f.ending (objects_in f.objects) x can.frame.shape.1.ending (inr (inr (record { number = refl; allocating = can.frame.shape.1; given = given; held = had; asked = asked; is = is })));
+        way = fails_way maker old new c e f.ending (objects_in f.objects) x can.frame.shape.1.ending (inr (inr (inl (record { number = refl; allocating = can.frame.shape.1; next = can.frame.shape.4; given = given; held = had; asked = asked; is = is }))));
         searched = λ s. tt;
       }
 
@@ -381,42 +436,133 @@ module _ {P : Type 0} (maker : MakerTold) (old new : LimiterTold) where
       made_ready at had given (memory_made c.settings (memories_wanted f.asked) (length f.objects.memories.items) given had) c f can asked refl
       (made_in c.settings (memories_wanted f.asked) (length f.objects.memories.items) given had)
 
-  -- The memory is granted.
-  pub count_object_ready : (object : Object P) (c : PoolCore P) (f : Frame P) → Can maker (CountObject object) c f → Shows (CountObject object) c f (count_object_row object c (in_phase Idle f))
-  count_object_ready (Memory lease) c f can =
-      let e : Frame P = in_phase (CountObject (Memory lease)) f in
+  -- The table is made.
+  table_goes_back : (at : TakenSlot) (region : Told) (c : PoolCore P) → HasTable maker c.settings c.plan at.name region → HasRegion maker c.settings c.plan at.name (unmapped region)
+  table_goes_back at region c has =
+      record {
+        named = record { pooled = subst IsPooled (sym has.kind) tt; inside = subst (λ (k : SlotKind). at.name.slot < of_kind k c.plan.totals) (sym has.kind) has.inside };
+        holds = (let M : SlotKind → Type 0 = λ k. MayHold maker c.settings k at.name.slot (unmapped region) in subst M (sym has.kind) has.region);
+        there = refl;
+      }
+
+  made_table_ready : (at : TakenSlot) (region : Told) (given : Result Bool LimiterError) (r : Result LeasedTable AllocError) (c : PoolCore P) (f : Frame P) → Can maker (MakeTable at region) c f → IfTable f (AsksForTable given old new) → table_made c.settings (tables_wanted f.asked) (length f.objects.tables.items) given at region ≡ r → IfOk r (λ l. IfTable f (IsMadeTable c.settings at region l)) → Shows (MakeTable at region) c f (was_made_table at region r c (in_phase Idle f))
+  made_table_ready at region given (Ok lease) c f can asked is made =
+      let e : Frame P = in_phase (MakeTable at region) f in
+      let k : ℕ = length f.objects.tables.items in
+      let has = can.frame.shape.2 in
       let allocating = can.frame.shape.1 in
-      let was = allocating.to_grant in
-      let now : PoolCore P = counting_memories (c.counters.memories + 1) c in
-      let objects : InstanceLease P = record f.objects { memories = with_item lease f.objects.memories } in
+      let more : k < length (tables_wanted f.asked) = omega (arith, allocating.more, can.frame.shape.3, allocating.to_grant.few) in
+      let B : TableType → Type 0 = λ ty. (IsTableLease maker c.settings c.plan lease × IsBegunTable c.settings lease ty) × IsMadeTable c.settings at region lease ty in
+      let begun : IfTable f B = told_both (IsTableSupported c.settings) (IsMadeTable c.settings at region lease) B (slice_get (tables_wanted f.asked) k)
+      (λ ty supports of. (begun_table maker c.settings c.plan at region lease ty can.core.page can.core.settings has.inside has.region supports of, of)) (allocating.to_grant.tables.each k) made in
+      let leased : IsTableLease maker c.settings c.plan lease = told_there (IsTableLease maker c.settings c.plan lease) (tables_wanted f.asked) k more (told_weaker B (λ ty. IsTableLease maker c.settings c.plan lease) (slice_get (tables_wanted f.asked) k) (λ ty b. b.0.0) begun) in
+      let slot : table_taken lease ≡ record { name = table_slot at.name.slot; numbers = at.numbers } = told_there _ (tables_wanted f.asked) k more (told_weaker B (λ ty. table_taken lease ≡ record { name = table_slot at.name.slot; numbers = at.numbers }) (slice_get (tables_wanted f.asked) k) (λ ty b. ap table_taken b.1.is) begun) in
+      let named : record { name = table_slot at.name.slot; numbers = at.numbers } ≡ at = (λ i. record { name = record { kind = sym has.kind i; slot = at.name.slot }; numbers = at.numbers }) in
+      record {
+        kept = kept_part maker old new c e c _ can.core (held_of maker c.settings c.plan e can.frame) refl refl refl refl;
+        shape = (refl, (can.frame.shape.0, allocating, leased, told_weaker B (IsBegunTable c.settings lease) (slice_get (tables_wanted f.asked) k) (λ ty b. b.0.1) begun, can.frame.shape.3));
+        even = record { places = λ t. omega (arith, ap (taken_count t) (slot ∙ named)); instances = omega arith; memories = omega arith; tables = omega arith };
+        fewer = omega arith;
+        way = made_way maker old new c e f.ending (objects_in f.objects) allocating.ending (inr (refl, inr (lease, record { number = refl; allocating = allocating; next = can.frame.shape.3; given = given; at = at; region = region; asked = asked; is = is })));
+        searched = λ s. tt;
+      }
+  made_table_ready at region given (Err x) c f can asked is made =
+      let e : Frame P = in_phase (MakeTable at region) f in
+      record {
+        kept = kept_part maker old new c e c _ can.core (held_of maker c.settings c.plan e can.frame) refl refl refl refl;
+        shape = (refl, (can.frame.shape.0, refl, table_goes_back at region c can.frame.shape.2));
+        even = record { places = λ t. omega arith; instances = omega arith; memories = omega arith; tables = omega arith };
+        fewer = omega arith;
+        way = fails_way maker old new c e f.ending (objects_in f.objects) x can.frame.shape.1.ending (inr (inr (inr (record { number = refl; allocating = can.frame.shape.1; next = can.frame.shape.3; given = given; at = at; region = region; asked = asked; is = is }))));
+        searched = λ s. tt;
+      }
+
+  pub make_table_ready : (given : Result Bool LimiterError) (at : TakenSlot) (region : Told) (c : PoolCore P) (f : Frame P) → Can maker (MakeTable at region) c f → IfTable f (AsksForTable given old new) → Shows (MakeTable at region) c f (make_table_row given at region c (in_phase Idle f))
+  make_table_ready given at region c f can asked =
+      made_table_ready at region given (table_made c.settings (tables_wanted f.asked) (length f.objects.tables.items) given at region) c f can asked refl
+      (table_made_is c.settings (tables_wanted f.asked) (length f.objects.tables.items) given at region)
+
+  -- One object more is counted, and granted.
+  counted_object_ready : (object : Object P) (counters : Counters) (objects : InstanceLease P) (c : PoolCore P) (f : Frame P) →
+      (let d : PoolCore P = record c { counters = counters } in
+      let e : Frame P = in_phase (CountObject object) f in
       let has : Frame P = record f { phase = Idle; objects = objects; queues = 0 } in
-      let long : length (f.objects.memories.items ++ lease ∷ []) ≡ length f.objects.memories.items + 1 = length_push f.objects.memories.items lease in
-      let to_grant : IsToGrant c.settings c.plan f.asked 0 objects = record {
-        supported = was.supported;
-        images = was.images;
-        room = was.room;
-        few = omega (arith, allocating.more, long);
-        begun = push_at (λ k l. IfSome (slice_get (memories_wanted f.asked) k) (IsNew c.settings.max_memory_size (slice_index_or (images_wanted f.asked) k None) l.memory)) f.objects.memories.items lease was.begun can.frame.shape.3;
-        taken = omega arith;
-      } in
-      let S : Ending → Type 0 = λ x. IsSearchedBy x (AreEmpty 0 now has) in
-      let W : ℕ → Type 0 = λ n. Goes maker old new c e (stage_by f.ending (objects_in f.objects + 1)) (stage_by f.ending n) None in
+      Can maker (CountObject object) c f →
+      HasNoneWaiting f →
+      IsAllocating c.settings c.plan f →
+      AreLeasesOf maker c.settings c.plan objects →
+      IsToGrant c.settings c.plan f.asked 0 objects →
+      objects_in objects ≡ objects_in f.objects + 1 →
+      Even maker old new c e (hand {P = P} next) d has →
+      1 + objects_left (sizes_of c.plan) f.asked f.objects ≤ steps_left c e →
+      (counters.core_instances ≤ c.counters.core_instances + 1) × (counters.memories ≤ c.counters.memories + 1) × (counters.tables ≤ c.counters.tables + 1) →
+      stage_of e ≡ stage_by f.ending (objects_in f.objects + 1) →
+      Ready maker old new c e d has next)
+  counted_object_ready object counters objects c f can settled allocating leases to_grant long even steps by_one stage =
+      let e : Frame P = in_phase (CountObject object) f in
+      let has : Frame P = record f { phase = Idle; objects = objects; queues = 0 } in
+      let S : Ending → Type 0 = λ x. IsSearchedBy x (AreEmpty 0 (record c { counters = counters }) has) in
+      let W : Stage → ℕ → Type 0 = λ x n. Goes maker old new c e x (stage_by f.ending n) None in
       record {
         kept = record {
-          core = core_with_counters maker (record c.counters { memories = c.counters.memories + 1 }) c can.core;
-          held = record { stripe = can.frame.stripe; queue = can.frame.queue; freed_room = can.frame.freed_room; freed_each = can.frame.freed_each; objects = All-push (IsLeaseOf maker c.settings c.plan) f.objects.memories.items lease can.frame.objects can.frame.shape.2 };
+          core = core_with_counters maker counters c can.core;
+          held = record { stripe = can.frame.stripe; queue = can.frame.queue; freed_room = can.frame.freed_room; freed_each = can.frame.freed_each; freed_order = can.frame.freed_order; objects = leases };
           asked = refl;
           settings = refl;
           plan = refl;
-          instances_by_one = omega arith;
-          memories_by_one = omega arith;
+          instances_by_one = by_one.0;
+          memories_by_one = by_one.1;
+          tables_by_one = by_one.2;
         };
-        shape = (can.frame.shape.0, aims_grant c.settings c.plan f.ending f.asked 0 objects allocating.ending to_grant);
-        even = record { places = λ t. omega (arith, leased_last t f.objects.memories.items lease); instances = omega arith; memories = omega (arith, long) };
-        fewer = omega (arith, next_object (sizes_of c.plan) f.ending f.asked f.objects objects allocating.ending long);
-        way = subst W (sym long) (same_way maker old new c e f.ending (objects_in f.objects + 1));
+        shape = (settled, aims_grant c.settings c.plan f.ending f.asked 0 objects allocating.ending to_grant);
+        even = even;
+        fewer = omega (arith, steps, next_object (sizes_of c.plan) f.ending f.asked f.objects objects allocating.ending long);
+        way = subst (λ (x : Stage). W x (objects_in objects)) (sym stage) (subst (W (stage_by f.ending (objects_in f.objects + 1))) (sym long) (same_way maker old new c e f.ending (objects_in f.objects + 1)));
         searched = λ s. subst S (sym allocating.ending) (λ j below. absurd (omega (arith, below)));
       }
+
+  -- The object is granted.
+  pub count_object_ready : (object : Object P) (c : PoolCore P) (f : Frame P) → Can maker (CountObject object) c f → Shows (CountObject object) c f (count_object_row object c (in_phase Idle f))
+  count_object_ready (Memory lease) c f can =
+      let allocating = can.frame.shape.1 in
+      let was = allocating.to_grant in
+      let objects : InstanceLease P = record f.objects { memories = with_item lease f.objects.memories } in
+      let long : length (f.objects.memories.items ++ lease ∷ []) ≡ length f.objects.memories.items + 1 = length_push f.objects.memories.items lease in
+      counted_object_ready (Memory lease) (record c.counters { memories = c.counters.memories + 1 }) objects c f can can.frame.shape.0 allocating
+      (All-push (IsLeaseOf maker c.settings c.plan) f.objects.memories.items lease can.frame.objects.0 can.frame.shape.2, can.frame.objects.1)
+      (record {
+        supported = was.supported;
+        tables = was.tables;
+        images = was.images;
+        room = was.room;
+        table_room = was.table_room;
+        few = omega (arith, can.frame.shape.4, long);
+        few_tables = was.few_tables;
+        order = λ less. was.order can.frame.shape.4;
+        begun = (push_at (λ k l. IfSome (slice_get (memories_wanted f.asked) k) (IsNew c.settings.max_memory_size (slice_index_or (images_wanted f.asked) k None) l.memory)) f.objects.memories.items lease was.begun.0 can.frame.shape.3, was.begun.1);
+        taken = omega arith;
+      })
+      (omega (arith, long)) (record { places = λ t. omega (arith, leased_last t f.objects.memories.items lease); instances = omega arith; memories = omega (arith, long); tables = omega arith }) (omega arith) (omega arith, omega arith, omega arith) refl
+  count_object_ready (Table lease) c f can =
+      let allocating = can.frame.shape.1 in
+      let was = allocating.to_grant in
+      let objects : InstanceLease P = record f.objects { tables = with_item lease f.objects.tables } in
+      let long : length (f.objects.tables.items ++ lease ∷ []) ≡ length f.objects.tables.items + 1 = length_push f.objects.tables.items lease in
+      counted_object_ready (Table lease) (record c.counters { tables = c.counters.tables + 1 }) objects c f can can.frame.shape.0 allocating
+      (can.frame.objects.0, All-push (IsTableLease maker c.settings c.plan) f.objects.tables.items lease can.frame.objects.1 can.frame.shape.2)
+      (record {
+        supported = was.supported;
+        tables = was.tables;
+        images = was.images;
+        room = was.room;
+        table_room = was.table_room;
+        few = was.few;
+        few_tables = omega (arith, allocating.more, can.frame.shape.4, was.few, long);
+        order = λ less. absurd (omega (arith, less, can.frame.shape.4));
+        begun = (was.begun.0, push_at (λ k l. IfSome (slice_get (tables_wanted f.asked) k) (IsBegunTable c.settings l)) f.objects.tables.items lease was.begun.1 can.frame.shape.3);
+        taken = omega arith;
+      })
+      (omega (arith, long)) (record { places = λ t. omega (arith, tables_last t f.objects.tables.items lease); instances = omega arith; memories = omega arith; tables = omega (arith, long) }) (omega arith) (omega arith, omega arith, omega arith) refl
 
   -- The region of a slot is put back,
   pub put_back_ready : (at : TakenSlot) (held : ImageSlot P) (c : PoolCore P) (f : Frame P) → Can maker (PutBack at held) c f → Shows (PutBack at held) c f (in_cell at.name c (put_back_on at.name (cell_of held) (cell_named at.name c) (in_phase Idle f)))
@@ -428,7 +574,7 @@ module _ {P : Type 0} (maker : MakerTold) (old new : LimiterTold) where
       record {
         kept = kept_part maker old new c e (with_cell at.name cell c) (in_phase Idle f) (core_with_cell maker at.name cell c can.core region.named (record { named = (sound_cell maker at.name c can.core region.named).named; holds = region.holds })) (held_of maker c.settings c.plan e can.frame) refl refl refl refl;
         shape = (refl, (can.frame.shape.0, can.frame.shape.1, region.named));
-        even = record { places = λ t. let back = region_returns maker t at.name (cell_of held) c can.core region.named gone.away region.there in omega (arith, back.0, back.1, ap (region_count t at.name) gone.out); instances = omega arith; memories = omega arith };
+        even = record { places = λ t. let back = region_returns maker t at.name (cell_of held) c can.core region.named gone.away region.there in omega (arith, back.0, back.1, ap (region_count t at.name) gone.out); instances = omega arith; memories = omega arith; tables = omega arith };
         fewer = omega arith;
         way = same_way maker old new c e f.ending (objects_in f.objects);
         searched = λ s. tt;
@@ -449,7 +595,7 @@ module _ {P : Type 0} (maker : MakerTold) (old new : LimiterTold) where
       record {
         kept = kept_part maker old new c e (with_shard j freed c) (in_phase Idle f) (core_with_shard maker j freed c can.core there next_shard.sound next_shard.same) (held_of maker c.settings c.plan e can.frame) refl refl refl refl;
         shape = (can.frame.shape.0, aims_back c.settings c.plan f.ending f.asked f.queues f.objects can.frame.shape.1);
-        even = record { places = λ t. omega (arith, kept_shard t j freed c (shard_part maker j c can.core there), away_shard t j freed c (shard_part maker j c can.core there), freed_one t c.plan shard name 0 place used); instances = omega arith; memories = omega arith };
+        even = record { places = λ t. omega (arith, kept_shard t j freed c (shard_part maker j c can.core there), away_shard t j freed c (shard_part maker j c can.core there), freed_one t c.plan shard name 0 place used); instances = omega arith; memories = omega arith; tables = omega arith };
         fewer = omega (arith, next_returns (sizes_of c.plan) f.ending f.queues f.asked f.objects can.frame.shape.1);
         way = same_way maker old new c e f.ending (objects_in f.objects);
         searched = λ s. searched_back f.ending _ can.frame.shape.1;

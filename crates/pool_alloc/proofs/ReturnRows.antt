@@ -1,11 +1,11 @@
 -- The rows of a give-back, and of a flush.
 use Rattle.pool_alloc.proofs.PlanPlaces.{IsShardPlace, IsQueuePlace, apart_places, queue_no_cell, tried_is_queue}
 use Rattle.pool_slots.specs.declared.plan.Plan.{Plan}
-use Rattle.std.proofs.Common.{◌≡◌, ℕ, ◌+◌, ◌-◌, ◌^◌, ◌<◌, ◌≤◌, Bool, true, false, List, [], ◌∷◌, ◌++◌, length, refl, sym, ap, subst, ◌∙◌, arith, All}
-use Rattle.std.specs.Prelude.{◌==◌, ◌||◌, ◌&&◌, not, nat_le, nat_lt, filter, if◌then◌else◌}
+use Rattle.std.proofs.Common.{◌≡◌, ℕ, ◌+◌, ◌-◌, ◌^◌, ◌<◌, ◌≤◌, Bool, true, false, List, [], ◌∷◌, ◌++◌, length, refl, sym, ap, subst, ◌∙◌, arith, All, inl, Option, None, Some}
+use Rattle.std.specs.Prelude.{◌==◌, ◌||◌, ◌&&◌, not, nat_le, nat_lt, filter, if◌then◌else◌, IfSome}
 use Rattle.std.proofs.lemmas.Bool.{leb-false, or_parts}
 use Rattle.std.proofs.lemmas.List.{length_push, length-append}
-use Rattle.std.proofs.lemmas.List.Elements.{All-head, All-same, All-push, All-filter, All-weaker}
+use Rattle.std.proofs.lemmas.List.Elements.{All-head, All-same, All-push, All-filter, All-weaker, All-nil, All-tail}
 use Rattle.std.proofs.lemmas.List.Filters.{length-filter_both}
 use Rattle.pool_pages.specs.MakerTold.{MakerTold}
 use Rattle.pool_limits.specs.LimiterTold.{LimiterTold}
@@ -13,58 +13,62 @@ use Rattle.pool_alloc.specs.declared.pool_core.PoolCore.{PoolCore}
 use Rattle.pool_alloc.specs.declared.frame.Frame.{Frame}
 use Rattle.pool_alloc.specs.declared.frame.FreedSlot.{FreedSlot}
 use Rattle.pool_alloc.specs.declared.frame.Phase.{Phase}
-use Rattle.pool_alloc.specs.declared.frame.TakenSlot.{TakenSlot}
 use Rattle.pool_alloc.specs.declared.frame.Phase.TheVariants.{Idle, UncountObject, Reset, Merge, Flush, UncountInstance}
 use Rattle.pool_pages.specs.declared.pages.DecommitBehavior.{DecommitBehavior}
 use Rattle.pool_pages.specs.declared.pages.DecommitBehavior.TheVariants.{Zero, RestoreOriginalMapping}
-use Rattle.pool_images.specs.Slots.{Slot, IsClean, forgotten, left_ranges, reset_slot}
+use Rattle.pool_images.specs.Slots.{Slot, forgotten, left_ranges, reset_slot}
 use Rattle.pool_images.specs.declared.ranges.ByteRange.{ByteRange}
 use Rattle.pool_index.specs.Shard.{ShardState}
 use Rattle.pool_memory.specs.Memories.{slot_of as image_slot_of}
-use Rattle.pool_slots.specs.Cells.{unknown, previously_used, is_taken}
 use Rattle.pool_slots.specs.RegionCells.{CellState, cell_filled}
-use Rattle.pool_slots.specs.SlotQueues.{Queue, Queued, LeavesClean, taken_into, drained, after_append}
+use Rattle.pool_slots.specs.SlotQueues.{Queue, Queued, taken_into, drained, after_append, IsSettled, first_of_kind, first_zeroed, is_to_zero, others_of_kind, plain_slot}
 use Rattle.pool_alloc.specs.Answers.{Decommits, Resets, FlushTold, ResetTold}
 use Rattle.pool_alloc.specs.Bounds.{sizes_of}
 use Rattle.pool_alloc.specs.Freeing.{AreUsedInTurn}
 use Rattle.pool_alloc.specs.Leases.{Lease, memory_slot, slot_taken}
 use Rattle.pool_alloc.specs.Own.{slot_ended, reset_into}
-use Rattle.pool_alloc.specs.Places.{Thing, both_count, queued_count, region_count}
+use Rattle.pool_alloc.specs.Places.{Thing, queued_count, region_count, right_to, taken_count}
 use Rattle.pool_alloc.specs.Reserved.{with_item}
-use Rattle.pool_alloc.specs.Rows.{FlushStep, run, put, free, flush_step, merged, merge_on, in_queue, uncount_object_row, was_reset, reset_row, uncount_instance_row, decommit_row, put_region_row, free_row, flush_row}
+use Rattle.pool_alloc.specs.Rows.{FlushStep, run, zero, put, free, flush_step, merged, merge_on, in_queue, uncount_object_row, was_reset, reset_turn, reset_row, uncount_instance_row, decommit_row, zero_row, put_first, free_row, flush_row}
 use Rattle.pool_hall.specs.declared.unit_name.SlotKind.{SlotKind}
 use Rattle.pool_hall.specs.declared.unit_name.SlotKind.TheVariants.{Memory as memory_kind}
+use Rattle.pool_slots.specs.declared.queued_range.QueueKind.TheVariants as queued
 use Rattle.pool_slots.specs.Plans.{home_of, cell_place}
 use Rattle.pool_alloc.specs.declared.frame.Object.{Object}
-use Rattle.pool_alloc.specs.declared.frame.Object.TheVariants.{Memory}
-use Rattle.pool_alloc.specs.declared.pool_core.Settings.{Settings}
-use Rattle.pool_alloc.specs.Objects.{objects_in}
-use Rattle.pool_alloc.specs.Sound.{MayHold, MayQueue, IsPoolSlot, IsCore, IsShared, IsLocal, IsQueuedOf, IsFreedOf}
-use Rattle.pool_alloc.specs.Steps.{StepGiven, shard_at, cell_named, queue_at, freed_of, freed_elsewhere, first_shard, after_frees, cell_returned, queue_tried, with_shard, with_cell, with_queue, memory_slots}
+use Rattle.pool_alloc.specs.declared.frame.Object.TheVariants.{Memory, Table}
+use Rattle.pool_alloc.specs.Objects.{objects_in, slot_of_object}
+use Rattle.pool_alloc.specs.Sound.{IsPoolSlot, IsCore, IsShared, IsLocal, IsQueuedOf, IsFreedOf, IsSlotName}
+use Rattle.pool_alloc.specs.Steps.{StepGiven, shard_at, cell_named, queue_at, freed_of, freed_elsewhere, first_shard, after_frees, cell_returned, queue_tried, with_shard, with_cell, with_queue}
 use Rattle.pool_alloc.specs.Turns.{goes, next, flush, Row, is_flushed}
 use Rattle.pool_alloc.proofs.CoreChanges.{core_with_shard, core_with_cell, core_with_queue, core_with_counters}
-use Rattle.pool_alloc.proofs.FlushSteps.{few_in_both, flush_few, decommit_fewer, put_fewer, free_fewer}
+use Rattle.pool_alloc.proofs.FlushSteps.{few_in_both, flush_few, decommit_fewer, put_fewer, free_fewer, zero_fewer}
 use Rattle.pool_alloc.proofs.FreedSlots.{freed_counts}
-use Rattle.pool_alloc.proofs.Hands.{empty_length, some_length, in_phase, hand, held_of, Even, Kept, IsReadyRow, either_ready}
+use Rattle.pool_alloc.proofs.Hands.{some_length, in_phase, hand, held_of, Even, Kept, IsReadyRow, either_ready}
 use Rattle.pool_alloc.proofs.KeptCounts.{kept_shard, kept_queue, away_shard, away_queue, region_returns}
-use Rattle.pool_alloc.proofs.LocalQueues.{IsStillLocal, reset_local, drained_shared, taken_local, drained_local, joined_local, joined_shared, decommitted_local, rest_local}
-use Rattle.pool_alloc.proofs.QueueCounts.{queued_first, queued_last, queued_joined, freed_last, freed_parted, run_counts, faulted_counts}
-use Rattle.pool_alloc.proofs.QueueRuns.{first_leaves}
+use Rattle.pool_alloc.proofs.LocalQueues.{IsStillLocal, reset_local, drained_shared, taken_local, drained_local, joined_local, joined_shared, decommitted_local, rest_local, IsResetLocal, zeroed_local}
+use Rattle.pool_alloc.proofs.QueueCounts.{queued_last, queued_joined, freed_last, freed_parted, run_counts, faulted_counts}
 use Rattle.pool_alloc.proofs.RegionRows.{goes_back}
 use Rattle.pool_alloc.proofs.ShardFrees.{IsShardOf, frees_shard}
 use Rattle.pool_alloc.proofs.SlotIdentity.{one_reset, slot_of_one}
 use Rattle.pool_alloc.proofs.Stages.{local_is_apart, first_can_be_put, first_can_be_freed}
-use Rattle.pool_alloc.specs.Stepping.{grant_count, grant_instances, grant_memories}
+use Rattle.pool_alloc.specs.Stepping.{grant_count, grant_instances, grant_memories, grant_tables}
 use Rattle.pool_alloc.proofs.Ways.{Can, searched_back, none_granted, none_counted, aims_back, next_returns, kept_part, same_way, ends_way, searched_still}
 use Rattle.pool_alloc.proofs.PoolParts.{sound_shard, sound_cell, sound_queue, shard_part, queue_part}
 use Rattle.pool_alloc.proofs.Searching.{still_empty}
 use Rattle.pool_alloc.specs.Searches.{AreEmpty}
 use Rattle.pool_slots.specs.declared.part.PoolPart.TheVariants as part
-
-returned_if : (maker : MakerTold) (s : Settings) (kind : SlotKind) (i : ℕ) (known : Bool) (held : Slot) → MayQueue maker s kind i held → (known ≡ true → IsClean held) → MayHold maker s kind i (if known then previously_used held else unknown held)
-returned_if maker s memory_kind i true held of clean = (of, clean refl)
-returned_if maker s memory_kind i false held of clean = of
-returned_if maker s kind i known held of clean = absurd of
+use Rattle.std.specs.List.{AllByRecursion, list_any}
+use Rattle.pool_alloc.proofs.FlushFinds.{finds, Finds, FindsFreed, FindsPut, FreesFirst, IsBack, frees_first, is_back, names_of, order_decommitted, order_freed, order_put, order_zeroed, puts_some}
+use Rattle.pool_alloc.specs.TableSteps.{IsInRegion, bytes_used, reset_in, table_queued, table_reset}
+use Rattle.pool_alloc.specs.PoolTables.{IsPoolTable, IsTableLease}
+use Rattle.pool_alloc.specs.TableLeases.{LeasedTable}
+use Rattle.pool_slots.specs.declared.slot_name.SlotName.{SlotName}
+use Rattle.pool_pages.specs.Told.{Told}
+use Rattle.pool_slots.specs.PlainSlots.{above_bottom}
+use Rattle.pool_alloc.proofs.KindCounts.{counts_first, first_has, first_kind, others_long, zeroed_counts, zeroed_long}
+use Rattle.pool_alloc.proofs.TableReturns.{few_above, returned_has, returned_may, table_leaves, table_still}
+use Rattle.pool_slots.proofs.SlotPops.{first_settled}
+use Rattle.pool_alloc.proofs.Held.{right_is_out}
 
 -- a reset leaves one range at most
 one_if_more : (b : Bool) (r : ByteRange) → length (if b then r ∷ [] else []) ≤ 1
@@ -75,37 +79,24 @@ one_range : (b : DecommitBehavior) (keep accessible : ℕ) → length (left_rang
 one_range RestoreOriginalMapping keep accessible = one_if_more (nat_lt keep accessible) (record { start = keep; len = accessible - keep })
 one_range Zero keep accessible = omega arith
 
-fewer : (p : FreedSlot → Bool) (xs : List FreedSlot) → length (filter (λ x. not (p x)) xs) ≤ length xs
-fewer p xs = omega (arith, length-filter_both p (λ (x : FreedSlot). not (p x)) (λ x. refl) xs)
+fewer_left : (p : FreedSlot → Bool) (xs : List FreedSlot) → length (filter (λ x. not (p x)) xs) ≤ length xs
+fewer_left p xs = omega (arith, length-filter_both p (λ (x : FreedSlot). not (p x)) (λ x. refl) xs)
 
--- a reset puts the slot of its memory into the queue
-reset_counts : (t : Thing) (keep : ℕ) (at : TakenSlot) (slot : Slot) (q : Queue) → queued_count t (reset_into keep at slot q).slots ≡ queued_count t q.slots + both_count t (memory_slot at.name.slot) at.numbers
-reset_counts t keep at slot q = queued_last t q.slots _
+-- nothing waits to be freed
+none_waits : (xs : List FreedSlot) → xs ≡ [] → All (λ x. x.name.kind ≡ memory_kind) xs
+none_waits xs none = let M : FreedSlot → Type 0 = λ x. x.name.kind ≡ memory_kind in All-same M xs [] none (All-nil M)
 
--- a cell to which a region is returned has it
-returned_has : (b : Bool) (slot : Slot) → is_taken (if b then previously_used slot else unknown slot) ≡ false
-returned_has true slot = refl
-returned_has false slot = refl
+-- what is so of all is so of the first of a kind
+each_of : (Q : Queued → Type 0) (ms : List Queued) → All Q ms → AllByRecursion Q ms
+each_of Q [] each = tt
+each_of Q (m ∷ ms) each = (All-head Q m ms each, each_of Q ms (All-tail Q m ms each))
+
+first_of_all : (Q : Queued → Type 0) (kind : SlotKind) (m : Queued) (ms : List Queued) → first_of_kind kind ms ≡ Some m → All Q ms → Q m
+first_of_all Q kind m ms is each = first_has Q kind m ms is (each_of Q ms each)
 
 decommit_counts : (t : Thing) (fault : Bool) (old new : Queue) → Decommits fault old new → queued_count t new.slots ≡ queued_count t old.slots
 decommit_counts t true old new told = faulted_counts t old new told
 decommit_counts t false old new told = ap (λ (q : Queue). queued_count t q.slots) told ∙ run_counts t old
-
--- what the next part of a flush finds
-pub record Finds (local : Queue) (step : FlushStep) : Type 0 where
-  pub ranges : step ≡ run → 0 < length local.ranges
-  pub put_none : step ≡ put → local.ranges ≡ []
-  pub put_some : step ≡ put → 0 < length local.slots
-  pub free_ranges : step ≡ free → local.ranges ≡ []
-  pub free_slots : step ≡ free → local.slots ≡ []
-
-finds_by : (local : Queue) (a b : Bool) → (a ≡ true → local.ranges ≡ []) → (a ≡ false → 0 < length local.ranges) → (b ≡ true → local.slots ≡ []) → (b ≡ false → 0 < length local.slots) → Finds local (if a then (if b then free else put) else run)
-finds_by local true true none some empty more = record { ranges = λ e. absurd cc; put_none = λ e. absurd cc; put_some = λ e. absurd cc; free_ranges = λ e. none refl; free_slots = λ e. empty refl }
-finds_by local true false none some empty more = record { ranges = λ e. absurd cc; put_none = λ e. none refl; put_some = λ e. more refl; free_ranges = λ e. absurd cc; free_slots = λ e. absurd cc }
-finds_by local false b none some empty more = record { ranges = λ e. some refl; put_none = λ e. absurd cc; put_some = λ e. absurd cc; free_ranges = λ e. absurd cc; free_slots = λ e. absurd cc }
-
-pub finds : (local : Queue) → Finds local (flush_step local)
-finds local = finds_by local (length local.ranges == 0) (length local.slots == 0) (λ e. empty_length local.ranges e) (λ e. some_length local.ranges e) (λ e. empty_length local.slots e) (λ e. some_length local.slots e)
 
 bytes_of : (plan : Plan) (xs : List FreedSlot) → All (IsFreedOf plan) xs → All (λ x. x.bytes ≤ 2 ^ 32) xs
 bytes_of plan xs each = All-weaker (IsFreedOf plan) (λ x. x.bytes ≤ 2 ^ 32) (λ x of. of.bytes) xs each
@@ -117,11 +108,17 @@ module _ {P : Type 0} where
       core_with_shard maker j (after_frees c.plan slots (shard_at j c)) c core below new.sound new.same
 
   -- something is left of a flush that has no slots queued: freed ones
-  pub some_freed : (f : Frame P) → is_flushed f ≡ false → f.local.slots ≡ [] → 0 < length f.freed.items
-  some_freed f more none =
+  left_freed : (f : Frame P) → is_flushed f ≡ false → f.local.slots ≡ [] → 0 < length f.freed.items
+  left_freed f more none =
       let M : List Queued → Type 0 = λ ms. ((length ms == 0) && (length f.freed.items == 0)) ≡ false in
       let left : (length f.freed.items == 0) ≡ false = subst M none more in
       some_length f.freed.items left
+
+  -- Where slots are freed, there are some, and no others that are at home there.
+  pub first_freed : (maker : MakerTold) (c : PoolCore P) (f : Frame P) → Can maker Flush c f → FindsFreed f.local.slots f.freed.items → FreesFirst c.plan f.local.slots f.freed.items
+  first_freed maker c f can found =
+      let named : (name : SlotName) → 0 < queued_count (right_to name) f.local.slots → IsSlotName c.plan name = λ name some. (right_is_out maker name c can.core (omega (arith, some, can.fits.once (right_to name)))).named in
+      frees_first c.plan (length c.parts) f.local.slots f.freed.items can.core.plan can.frame.freed_each (names_of c.plan f.local.slots named) can.frame.freed_order found (left_freed f can.frame.shape.1)
 
 module _ {P : Type 0} (maker : MakerTold) (old new : LimiterTold) where
   abbrev Shows : Phase P → PoolCore P → Frame P → Row (PoolCore P) P → Type 0
@@ -132,44 +129,45 @@ module _ {P : Type 0} (maker : MakerTold) (old new : LimiterTold) where
   uncount_object_ready (Memory lease) c f can =
       let e : Frame P = in_phase (UncountObject (Memory lease)) f in
       record {
-        kept = record { core = core_with_counters maker (record c.counters { memories = c.counters.memories - 1 }) c can.core; held = held_of maker c.settings c.plan e can.frame; asked = refl; settings = refl; plan = refl; instances_by_one = omega arith; memories_by_one = omega arith };
+        kept = record { core = core_with_counters maker (record c.counters { memories = c.counters.memories - 1 }) c can.core; held = held_of maker c.settings c.plan e can.frame; asked = refl; settings = refl; plan = refl; instances_by_one = omega arith; memories_by_one = omega arith; tables_by_one = omega arith };
         shape = (refl, can.frame.shape);
-        even = record { places = λ t. omega arith; instances = omega arith; memories = omega (arith, can.fits.memories) };
+        even = record { places = λ t. omega arith; instances = omega arith; memories = omega (arith, can.fits.memories); tables = omega arith };
+        fewer = omega arith;
+        way = same_way maker old new c e f.ending (objects_in f.objects);
+        searched = λ s. tt;
+      }
+  uncount_object_ready (Table lease) c f can =
+      let e : Frame P = in_phase (UncountObject (Table lease)) f in
+      record {
+        kept = record { core = core_with_counters maker (record c.counters { tables = c.counters.tables - 1 }) c can.core; held = held_of maker c.settings c.plan e can.frame; asked = refl; settings = refl; plan = refl; instances_by_one = omega arith; memories_by_one = omega arith; tables_by_one = omega arith };
+        shape = (refl, can.frame.shape);
+        even = record { places = λ t. omega arith; instances = omega arith; memories = omega arith; tables = omega (arith, can.fits.tables) };
         fewer = omega arith;
         way = same_way maker old new c e f.ending (objects_in f.objects);
         searched = λ s. tt;
       }
 
-  -- The memory is reset, or a page call of that failed.
-  memory_reset_ready : (fault : Bool) (held : Slot) (lease : Lease) (c : PoolCore P) (f : Frame P) → Can maker (Reset (Memory lease)) c f → Resets fault c.settings.keep_resident.bytes (slot_taken lease) (image_slot_of lease.memory) held → Shows (Reset (Memory lease)) c f (was_reset fault held lease c (in_phase Idle f))
-  memory_reset_ready true held lease c f can told =
-      let e : Frame P = in_phase (Reset (Memory lease)) f in
-      let of = can.frame.shape.2 in
-      record {
-        kept = kept_part maker old new c e c (in_phase Idle f) can.core (held_of maker c.settings c.plan e can.frame) refl refl refl refl;
-        shape = (refl, (can.frame.shape.0, can.frame.shape.1, goes_back maker c.settings c.plan (memory_slot lease.index) (forgotten held) (record { kind = refl; inside = of.inside; region = slot_of_one maker c.settings.behaviour c.settings.max_memory_size lease.index (image_slot_of lease.memory) (forgotten held) told.1.same of.slot })));
-        even = record { places = λ t. omega arith; instances = omega arith; memories = omega arith };
-        fewer = omega arith;
-        way = same_way maker old new c e f.ending (objects_in f.objects);
-        searched = λ s. tt;
-      }
-  memory_reset_ready false held lease c f can told =
-      let e : Frame P = in_phase (Reset (Memory lease)) f in
+  -- An object is reset into the local queue, which has it alone then.
+  reset_on_ready : (object : Object P) (q : Queue) (c : PoolCore P) (f : Frame P) → Can maker (Reset object) c f → IsResetLocal maker c.settings q → ((t : Thing) → queued_count t q.slots ≡ queued_count t f.local.slots + taken_count t (slot_of_object object)) → 0 < c.plan.totals.memory + c.plan.totals.table
+      → Shows (Reset object) c f (record { part = c; frame = record f { phase = Idle; local = q }; turn = reset_turn c.settings.batch q })
+  reset_on_ready object q c f can is counts slots =
+      let e : Frame P = in_phase (Reset object) f in
       let settled = can.frame.shape.0 in
       let back = can.frame.shape.1 in
-      let of = can.frame.shape.2 in
-      let keep : ℕ = c.settings.keep_resident.bytes in
-      let slot : Slot = image_slot_of lease.memory in
-      let still : IsPoolSlot maker c.settings.behaviour c.settings.max_memory_size lease.index (reset_slot slot.region.behaviour keep slot) = slot_of_one maker c.settings.behaviour c.settings.max_memory_size lease.index slot (reset_slot slot.region.behaviour keep slot) (one_reset slot.region.behaviour keep slot) of.slot in
-      let ranges : List ByteRange = left_ranges slot.region.behaviour keep slot.accessible.bytes in
-      let is = reset_local maker c.settings ranges lease.index (slot_ended keep (slot_taken lease) slot) f.local refl can.core.settings can.frame.queue settled.no_ranges settled.no_slots (omega (arith, one_range slot.region.behaviour keep slot.accessible.bytes, can.core.settings.batch.0)) still told.1 in
-      let q : Queue = reset_into keep (slot_taken lease) slot f.local in
       let has : Frame P = record f { phase = Idle; local = q } in
+      let M : FreedSlot → Type 0 = λ x. x.name.kind ≡ memory_kind in
       let kept : Kept maker old new c e c has = kept_part maker old new c e c has can.core
-      (record { stripe = can.frame.stripe; queue = is.queue; freed_room = (can.frame.freed_room.0, omega (arith, is.one, can.core.settings.batch.0, ap (length {A = FreedSlot}) settled.none_freed)); freed_each = can.frame.freed_each; objects = can.frame.objects })
+      (record {
+        stripe = can.frame.stripe;
+        queue = is.queue;
+        freed_room = (can.frame.freed_room.0, omega (arith, is.one, can.core.settings.batch.0, ap (length {A = FreedSlot}) settled.none_freed));
+        freed_each = can.frame.freed_each;
+        freed_order = inl (All-same M f.freed.items [] settled.none_freed (All-nil M));
+        objects = can.frame.objects;
+      })
       refl refl refl refl in
-      let even : Even maker old new c e (hand {P = P} next) c has = record { places = λ t. omega (arith, reset_counts t keep (slot_taken lease) slot f.local); instances = omega arith; memories = omega arith } in
-      let few = flush_few (sizes_of c.plan) (memory_slots c.plan) q f.freed is.queue.grouped (omega (arith, is.one, of.inside)) in
+      let even : Even maker old new c e (hand {P = P} next) c has = record { places = λ t. omega (arith, counts t); instances = omega arith; memories = omega arith; tables = omega arith } in
+      let few = flush_few (sizes_of c.plan) (c.plan.totals.memory + c.plan.totals.table) q f.freed is.queue.grouped (omega (arith, is.one, slots)) in
       let stays = same_way maker old new c e f.ending (objects_in f.objects) in
       either_ready maker old new c e c has ((length q.ranges == 0) || nat_le c.settings.batch (length q.ranges)) flush (goes Merge)
       (λ full. record {
@@ -191,8 +189,49 @@ module _ {P : Type 0} (maker : MakerTold) (old new : LimiterTold) where
         searched = λ s. tt;
       })
 
+  -- The memory is reset, or a page call of that failed.
+  memory_reset_ready : (fault : Bool) (held : Slot) (lease : Lease) (c : PoolCore P) (f : Frame P) → Can maker (Reset (Memory lease)) c f → Resets fault c.settings.keep_resident.bytes (slot_taken lease) (image_slot_of lease.memory) held → Shows (Reset (Memory lease)) c f (was_reset fault held lease c (in_phase Idle f))
+  memory_reset_ready true held lease c f can told =
+      let e : Frame P = in_phase (Reset (Memory lease)) f in
+      let of = can.frame.shape.2 in
+      record {
+        kept = kept_part maker old new c e c (in_phase Idle f) can.core (held_of maker c.settings c.plan e can.frame) refl refl refl refl;
+        shape = (refl, (can.frame.shape.0, can.frame.shape.1, goes_back maker c.settings c.plan (memory_slot lease.index) (forgotten held) (record { kind = refl; inside = of.inside; region = slot_of_one maker c.settings.behaviour c.settings.max_memory_size lease.index (image_slot_of lease.memory) (forgotten held) told.1.same of.slot })));
+        even = record { places = λ t. omega arith; instances = omega arith; memories = omega arith; tables = omega arith };
+        fewer = omega arith;
+        way = same_way maker old new c e f.ending (objects_in f.objects);
+        searched = λ s. tt;
+      }
+  memory_reset_ready false held lease c f can told =
+      let settled = can.frame.shape.0 in
+      let of = can.frame.shape.2 in
+      let keep : ℕ = c.settings.keep_resident.bytes in
+      let slot : Slot = image_slot_of lease.memory in
+      let m : Queued = slot_ended keep (slot_taken lease) slot in
+      let still : IsPoolSlot maker c.settings.behaviour c.settings.max_memory_size lease.index (reset_slot slot.region.behaviour keep slot) = slot_of_one maker c.settings.behaviour c.settings.max_memory_size lease.index slot (reset_slot slot.region.behaviour keep slot) (one_reset slot.region.behaviour keep slot) of.slot in
+      let ranges : List ByteRange = left_ranges slot.region.behaviour keep slot.accessible.bytes in
+      let is = reset_local maker c.settings queued.Memory ranges lease.index m f.local refl can.core.settings can.frame.queue settled.no_ranges settled.no_slots (omega (arith, one_range slot.region.behaviour keep slot.accessible.bytes, can.core.settings.batch.0)) (record { slot = still; by_hand = tt }) told.1 in
+      reset_on_ready (Memory lease) (reset_into keep (slot_taken lease) slot f.local) c f can is (λ t. queued_last t f.local.slots m) (omega (arith, of.inside))
+
+  -- The table is.
+  table_reset_ready : (region : Told) (lease : LeasedTable) (c : PoolCore P) (f : Frame P) → Can maker (Reset (Table lease)) c f → IsPoolTable maker c.settings lease.index (plain_slot 0 region) → IsInRegion c.settings.page lease region
+      → Shows (Reset (Table lease)) c f (record { part = c; frame = record f { phase = Idle; local = table_reset c.settings.page c.settings.table_keep_resident.bytes lease region f.local }; turn = reset_turn c.settings.batch (table_reset c.settings.page c.settings.table_keep_resident.bytes lease region f.local) })
+  table_reset_ready region lease c f can of lies =
+      let settled = can.frame.shape.0 in
+      let page : ℕ = c.settings.page in
+      let keep : ℕ = c.settings.table_keep_resident.bytes in
+      let m : Queued = table_queued page keep lease region in
+      let ranges : List ByteRange = above_bottom keep (bytes_used page lease) in
+      let leaves = table_leaves page keep lease region lies can.core.settings.table_kept in
+      let is = reset_local maker c.settings queued.Table ranges lease.index m f.local refl can.core.settings can.frame.queue settled.no_ranges settled.no_slots (omega (arith, few_above keep (bytes_used page lease), can.core.settings.batch.0)) (record { slot = table_still maker c.settings page keep lease region of; by_hand = refl }) leaves in
+      reset_on_ready (Table lease) (table_reset page keep lease region f.local) c f can is (λ t. queued_last t f.local.slots m) (omega (arith, can.frame.shape.2.inside))
+
   pub reset_ready : (g : StepGiven) (object : Object P) (c : PoolCore P) (f : Frame P) → Can maker (Reset object) c f → ResetTold c.settings g object → Shows (Reset object) c f (reset_row g object c (in_phase Idle f))
   reset_ready g (Memory lease) c f can told = memory_reset_ready g.fault g.slot lease c f can told
+  reset_ready g (Table lease) c f can told =
+      let held : IsTableLease maker c.settings c.plan lease = can.frame.shape.2 in
+      let S : Option Told → Type 0 = λ o. Shows (Reset (Table lease)) c f (record { part = c; frame = record f { phase = Idle; local = reset_in c.settings.page c.settings.table_keep_resident.bytes lease o f.local }; turn = reset_turn c.settings.batch (reset_in c.settings.page c.settings.table_keep_resident.bytes lease o f.local) }) in
+      subst S (sym held.lies.is) (table_reset_ready held.region lease c f can held.slot held.lies)
 
   -- The local queue is appended.
   merged_ready : (b : Bool) (c : PoolCore P) (f : Frame P) → Can maker Merge c f → nat_le c.settings.batch (length (after_append (queue_at (queue_tried 0 c.plan f) c) f.local).ranges) ≡ b → Shows Merge c f (in_queue (queue_tried 0 c.plan f) c (merged b (after_append (queue_at (queue_tried 0 c.plan f) c) f.local) (record f { phase = Idle; local = drained f.local })))
@@ -215,12 +254,13 @@ module _ {P : Type 0} (maker : MakerTold) (old new : LimiterTold) where
               queue = taken_local maker c.settings (drained f.local) whole (drained_local maker c.settings f.local can.frame.queue.range_room can.frame.queue.slot_room) both;
               freed_room = (can.frame.freed_room.0, omega (arith, shared.short, shared.slots, slots, shape.2, ap (length {A = FreedSlot}) shape.1));
               freed_each = can.frame.freed_each;
+              freed_order = inl (none_waits f.freed.items shape.1);
               objects = can.frame.objects;
             })
             refl refl refl refl;
         shape = aims_back c.settings c.plan f.ending f.asked f.queues f.objects shape.0;
-        even = record { places = λ t. omega (arith, kept_queue t i (drained whole) c (queue_part maker i c can.core below), away_queue t i (drained whole) c (queue_part maker i c can.core below), queued_joined t q.slots f.local.slots); instances = omega arith; memories = omega arith };
-        fewer = omega (arith, flush_few (sizes_of c.plan) (memory_slots c.plan) (taken_into (drained f.local) whole) f.freed both.grouped (few_in_both maker i c e can below), next_returns (sizes_of c.plan) f.ending f.queues f.asked f.objects shape.0);
+        even = record { places = λ t. omega (arith, kept_queue t i (drained whole) c (queue_part maker i c can.core below), away_queue t i (drained whole) c (queue_part maker i c can.core below), queued_joined t q.slots f.local.slots); instances = omega arith; memories = omega arith; tables = omega arith };
+        fewer = omega (arith, flush_few (sizes_of c.plan) (c.plan.totals.memory + c.plan.totals.table) (taken_into (drained f.local) whole) f.freed both.grouped (few_in_both maker i c e can below), next_returns (sizes_of c.plan) f.ending f.queues f.asked f.objects shape.0);
         way = same_way maker old new c e f.ending (objects_in f.objects);
         searched = λ s. searched_back f.ending _ shape.0;
       }
@@ -242,11 +282,12 @@ module _ {P : Type 0} (maker : MakerTold) (old new : LimiterTold) where
               queue = drained_local maker c.settings f.local can.frame.queue.range_room can.frame.queue.slot_room;
               freed_room = (can.frame.freed_room.0, omega (arith, can.frame.freed_room.1));
               freed_each = can.frame.freed_each;
+              freed_order = inl (none_waits f.freed.items shape.1);
               objects = can.frame.objects;
             })
             refl refl refl refl;
         shape = (record { no_ranges = refl; no_slots = refl; none_freed = shape.1 }, aims_back c.settings c.plan f.ending f.asked f.queues f.objects shape.0);
-        even = record { places = λ t. omega (arith, kept_queue t i whole c (queue_part maker i c can.core below), away_queue t i whole c (queue_part maker i c can.core below), queued_joined t q.slots f.local.slots); instances = omega arith; memories = omega arith };
+        even = record { places = λ t. omega (arith, kept_queue t i whole c (queue_part maker i c can.core below), away_queue t i whole c (queue_part maker i c can.core below), queued_joined t q.slots f.local.slots); instances = omega arith; memories = omega arith; tables = omega arith };
         fewer = omega (arith, next_returns (sizes_of c.plan) f.ending f.queues f.asked f.objects shape.0);
         way = same_way maker old new c e f.ending (objects_in f.objects);
         searched = λ s. searched_back f.ending _ shape.0;
@@ -260,9 +301,9 @@ module _ {P : Type 0} (maker : MakerTold) (old new : LimiterTold) where
   uncount_instance_ready c f can =
       let e : Frame P = in_phase UncountInstance f in
       record {
-        kept = record { core = core_with_counters maker (record c.counters { core_instances = c.counters.core_instances - 1 }) c can.core; held = held_of maker c.settings c.plan e can.frame; asked = refl; settings = refl; plan = refl; instances_by_one = omega arith; memories_by_one = omega arith };
+        kept = record { core = core_with_counters maker (record c.counters { core_instances = c.counters.core_instances - 1 }) c can.core; held = held_of maker c.settings c.plan e can.frame; asked = refl; settings = refl; plan = refl; instances_by_one = omega arith; memories_by_one = omega arith; tables_by_one = omega arith };
         shape = (can.frame.shape.0, none_granted _ f.ending);
-        even = record { places = λ t. omega (arith, none_counted {P = P} (grant_count t) f.ending); instances = omega (arith, can.fits.instances, none_counted {P = P} grant_instances f.ending); memories = omega (arith, none_counted {P = P} grant_memories f.ending) };
+        even = record { places = λ t. omega (arith, none_counted {P = P} (grant_count t) f.ending); instances = omega (arith, can.fits.instances, none_counted {P = P} grant_instances f.ending); memories = omega (arith, none_counted {P = P} grant_memories f.ending); tables = omega (arith, none_counted {P = P} grant_tables f.ending) };
         fewer = omega arith;
         way = ends_way maker old new c e f.ending (objects_in f.objects) can.frame.shape.1;
         searched = λ s. tt;
@@ -276,59 +317,88 @@ module _ {P : Type 0} (maker : MakerTold) (old new : LimiterTold) where
       let has : Frame P = record f { phase = Idle; local = queue } in
       record {
         kept = kept_part maker old new c e c has can.core
-            (record { stripe = can.frame.stripe; queue = still.queue; freed_room = (can.frame.freed_room.0, rw still.long can.frame.freed_room.1); freed_each = can.frame.freed_each; objects = can.frame.objects })
+            (record { stripe = can.frame.stripe; queue = still.queue; freed_room = (can.frame.freed_room.0, rw still.long can.frame.freed_room.1); freed_each = can.frame.freed_each; freed_order = order_decommitted fault f.local queue f.freed.items told can.frame.freed_order; objects = can.frame.objects })
             refl refl refl refl;
         shape = can.frame.shape.0;
-        even = record { places = λ t. omega (arith, decommit_counts t fault f.local queue told); instances = omega arith; memories = omega arith };
+        even = record { places = λ t. omega (arith, decommit_counts t fault f.local queue told); instances = omega arith; memories = omega arith; tables = omega arith };
         fewer = omega (arith, decommit_fewer (sizes_of c.plan) fault f.local queue f.freed told some);
         way = same_way maker old new c e f.ending (objects_in f.objects);
         searched = λ s. s;
       }
 
-  -- A region is put back.
-  put_ready : (slots : List Queued) (c : PoolCore P) (f : Frame P) → Can maker Flush c f → f.local.ranges ≡ [] → f.local.slots ≡ slots → 0 < length slots → Shows Flush c f (put_region_row slots c (in_phase Idle f))
-  put_ready [] c f can none is some = absurd (omega arith)
-  put_ready (m ∷ rest) c f can none is some =
+  -- A slot is zeroed by hand.
+  zero_ready : (kind : SlotKind) (c : PoolCore P) (f : Frame P) → Can maker Flush c f → f.local.ranges ≡ [] → list_any (is_to_zero kind) f.local.slots ≡ true → Shows Flush c f (zero_row kind c (in_phase Idle f))
+  zero_ready kind c f can none some =
       let e : Frame P = in_phase Flush f in
-      let Q : Queued → Type 0 = IsQueuedOf maker c.settings in
-      let of = All-head Q m rest (All-same Q (m ∷ rest) f.local.slots (sym is) can.frame.queue.regions) in
-      let leaves : LeavesClean [] m = first_leaves m rest f.local none is can.frame.queue.queue in
-      let x : FreedSlot = record { name = m.name; bytes = m.bytes } in
-      let cell : CellState = cell_filled (cell_returned m) (cell_named m.name c) in
-      let d : PoolCore P = with_cell m.name cell c in
-      let has : Frame P = record f { phase = Idle; local = record f.local { slots = rest }; freed = with_item x f.freed } in
-      let long : length f.local.slots ≡ length (m ∷ rest) = ap (length {A = Queued}) is in
-      let more : length (f.freed.items ++ x ∷ []) ≡ length f.freed.items + 1 = length_push f.freed.items x in
-      let can_put = first_can_be_put maker c f m rest can.core can.fits is in
+      let slots : List Queued = first_zeroed kind f.local.slots in
+      let long : length slots ≡ length f.local.slots = zeroed_long kind f.local.slots in
+      let has : Frame P = record f { phase = Idle; local = record f.local { slots = slots } } in
       record {
-        kept = kept_part maker old new c e d has
-            (core_with_cell maker m.name cell c can.core can_put.named (record { named = (sound_cell maker m.name c can.core can_put.named).named; holds = returned_if maker c.settings m.name.kind m.name.slot m.known m.slot of leaves.clean }))
+        kept = kept_part maker old new c e c has can.core
             (record {
               stripe = can.frame.stripe;
-              queue = rest_local maker c.settings m rest f.local none is can.frame.queue;
-              freed_room = (can.frame.freed_room.0, omega (arith, can.frame.freed_room.1, more, long));
-              freed_each = All-push (IsFreedOf c.plan) f.freed.items x can.frame.freed_each (record { named = can_put.named; bytes = leaves.bytes });
+              queue = zeroed_local maker c.settings kind f.local none can.frame.queue;
+              freed_room = (can.frame.freed_room.0, omega (arith, can.frame.freed_room.1, long));
+              freed_each = can.frame.freed_each;
+              freed_order = order_zeroed kind f.local.slots f.freed.items can.frame.freed_order;
               objects = can.frame.objects;
             })
             refl refl refl refl;
         shape = can.frame.shape.0;
-        even = record { places = λ t. omega (arith, ap (queued_count t) is, queued_first t m rest, (region_returns maker t m.name (cell_returned m) c can.core can_put.named can_put.away (returned_has m.known m.slot)).0, (region_returns maker t m.name (cell_returned m) c can.core can_put.named can_put.away (returned_has m.known m.slot)).1, ap (region_count t m.name) can_put.out, freed_last t f.freed.items x); instances = omega arith; memories = omega arith };
-        fewer = omega (arith, more, long, put_fewer (sizes_of c.plan) m rest f.local.slots f.freed.items is);
+        even = record { places = λ t. omega (arith, zeroed_counts t kind f.local.slots); instances = omega arith; memories = omega arith; tables = omega arith };
+        fewer = omega (arith, zero_fewer (sizes_of c.plan) kind f.local f.freed none some);
+        way = same_way maker old new c e f.ending (objects_in f.objects);
+        searched = λ s. s;
+      }
+
+  -- A region is put back.
+  put_ready : (kind : SlotKind) (m : Queued) (c : PoolCore P) (f : Frame P) → Can maker Flush c f → f.local.ranges ≡ [] → FindsPut kind f.local.slots f.freed.items → first_of_kind kind f.local.slots ≡ Some m → Shows Flush c f (put_first (Some m) (others_of_kind kind f.local.slots) c (in_phase Idle f))
+  put_ready kind m c f can none found is =
+      let e : Frame P = in_phase Flush f in
+      let of = first_of_all (IsQueuedOf maker c.settings) kind m f.local.slots is can.frame.queue.regions in
+      let settled : IsSettled m = subst (λ (o : Option Queued). IfSome o IsSettled) is (first_settled kind f.local can.frame.queue.queue none) in
+      let x : FreedSlot = record { name = m.name; bytes = m.bytes } in
+      let cell : CellState = cell_filled (cell_returned m) (cell_named m.name c) in
+      let d : PoolCore P = with_cell m.name cell c in
+      let has : Frame P = record f { phase = Idle; local = record f.local { slots = others_of_kind kind f.local.slots }; freed = with_item x f.freed } in
+      let long : length f.local.slots ≡ length (others_of_kind kind f.local.slots) + 1 = others_long kind m f.local.slots is in
+      let more : length (f.freed.items ++ x ∷ []) ≡ length f.freed.items + 1 = length_push f.freed.items x in
+      let can_put = first_can_be_put maker c f kind m can.core can.fits is in
+      let back : IsBack m.name.kind m = is_back kind m f.local f.freed.items can.frame.queue.queue found is of.by_hand in
+      record {
+        kept = kept_part maker old new c e d has
+            (core_with_cell maker m.name cell c can.core can_put.named (record { named = (sound_cell maker m.name c can.core can_put.named).named; holds = returned_may maker c.settings m.name.kind m.name.slot m can.core.page can.core.settings of.slot settled.clean back }))
+            (record {
+              stripe = can.frame.stripe;
+              queue = rest_local maker c.settings kind f.local none can.frame.queue;
+              freed_room = (can.frame.freed_room.0, omega (arith, can.frame.freed_room.1, more, long));
+              freed_each = All-push (IsFreedOf c.plan) f.freed.items x can.frame.freed_each (record { named = can_put.named; bytes = settled.bytes });
+              freed_order = order_put kind f.local.slots f.freed.items x found (sym (first_kind kind m f.local.slots is)) can.frame.freed_order;
+              objects = can.frame.objects;
+            })
+            refl refl refl refl;
+        shape = can.frame.shape.0;
+        even = record { places = λ t. omega (arith, counts_first t kind m f.local.slots is, (region_returns maker t m.name (cell_returned m) c can.core can_put.named can_put.away (returned_has m.name.kind m)).0, (region_returns maker t m.name (cell_returned m) c can.core can_put.named can_put.away (returned_has m.name.kind m)).1, ap (region_count t m.name) can_put.out, freed_last t f.freed.items x); instances = omega arith; memories = omega arith; tables = omega arith };
+        fewer = omega (arith, put_fewer (sizes_of c.plan) kind m f.local f.freed is);
         way = same_way maker old new c e f.ending (objects_in f.objects);
         searched = searched_still f.ending (AreEmpty f.queues c f) (AreEmpty f.queues d f) (still_empty f.queues (cell_place c.plan m.name) _ c f can.core.plan (λ q queue. queue_no_cell c.plan (length c.parts) q m.name can.core.plan can_put.named queue));
       }
 
+  put_first_ready : (kind : SlotKind) (o : Option Queued) (c : PoolCore P) (f : Frame P) → Can maker Flush c f → f.local.ranges ≡ [] → FindsPut kind f.local.slots f.freed.items → first_of_kind kind f.local.slots ≡ o → Shows Flush c f (put_first o (others_of_kind kind f.local.slots) c (in_phase Idle f))
+  put_first_ready kind None c f can none found is = absurd (puts_some kind f.local.slots f.freed.items found is)
+  put_first_ready kind (Some m) c f can none found is = put_ready kind m c f can none found is
+
   -- The slots of one shard are freed.
-  free_ready : (c : PoolCore P) (f : Frame P) → Can maker Flush c f → f.local.ranges ≡ [] → f.local.slots ≡ [] → Shows Flush c f (free_row c (in_phase Idle f))
-  free_ready c f can none no_slots =
+  free_ready : (c : PoolCore P) (f : Frame P) → Can maker Flush c f → FindsFreed f.local.slots f.freed.items → Shows Flush c f (free_row c (in_phase Idle f))
+  free_ready c f can found =
       let e : Frame P = in_phase Flush f in
-      let some : 0 < length f.freed.items = some_freed f can.frame.shape.1 no_slots in
-      let first = first_can_be_freed maker c f can some in
+      let frees : FreesFirst c.plan f.local.slots f.freed.items = first_freed maker c f can found in
+      let first = first_can_be_freed maker c f can frees.some in
       let j : ℕ = first_shard c.plan f.freed.items in
       let shard : ShardState = after_frees c.plan (freed_of c.plan j f.freed.items) (shard_at j c) in
       let d : PoolCore P = with_shard j shard c in
       let has : Frame P = record f { phase = Idle; freed = record f.freed { items = freed_elsewhere c.plan j f.freed.items } } in
-      let less : length (freed_elsewhere c.plan j f.freed.items) ≤ length f.freed.items = fewer (λ x. (home_of c.plan x.name).place == j) f.freed.items in
+      let less : length (freed_elsewhere c.plan j f.freed.items) ≤ length f.freed.items = fewer_left (λ x. (home_of c.plan x.name).place == j) f.freed.items in
       record {
         kept = kept_part maker old new c e d has
             (core_after_frees maker j (freed_of c.plan j f.freed.items) c can.core first.shard first.used (All-filter (λ x. (home_of c.plan x.name).place == j) (λ x. x.bytes ≤ 2 ^ 32) f.freed.items (bytes_of c.plan f.freed.items can.frame.freed_each)))
@@ -337,20 +407,22 @@ module _ {P : Type 0} (maker : MakerTold) (old new : LimiterTold) where
               queue = can.frame.queue;
               freed_room = (can.frame.freed_room.0, omega (arith, can.frame.freed_room.1, less));
               freed_each = All-filter (λ x. not ((home_of c.plan x.name).place == j)) (IsFreedOf c.plan) f.freed.items can.frame.freed_each;
+              freed_order = order_freed f.local.slots f.freed.items (freed_elsewhere c.plan j f.freed.items) (λ Q each. All-filter (λ x. not ((home_of c.plan x.name).place == j)) Q f.freed.items each) can.frame.freed_order;
               objects = can.frame.objects;
             })
             refl refl refl refl;
         shape = can.frame.shape.0;
-        even = record { places = λ t. omega (arith, kept_shard t j shard c (shard_part maker j c can.core first.shard), away_shard t j shard c (shard_part maker j c can.core first.shard), freed_counts t maker j c e can.core can.fits can.frame.freed_each first.shard, freed_parted t (λ x. (home_of c.plan x.name).place == j) f.freed.items); instances = omega arith; memories = omega arith };
-        fewer = omega (arith, free_fewer c.plan (length c.parts) f.local.slots f.freed.items can.core.plan can.frame.freed_each no_slots some);
+        even = record { places = λ t. omega (arith, kept_shard t j shard c (shard_part maker j c can.core first.shard), away_shard t j shard c (shard_part maker j c can.core first.shard), freed_counts t maker j c e can.core can.fits can.frame.freed_each first.shard, freed_parted t (λ x. (home_of c.plan x.name).place == j) f.freed.items); instances = omega arith; memories = omega arith; tables = omega arith };
+        fewer = omega (arith, free_fewer c.plan (length c.parts) f.local.slots f.freed.items can.core.plan can.frame.freed_each frees.apart frees.some);
         way = same_way maker old new c e f.ending (objects_in f.objects);
         searched = searched_still f.ending (AreEmpty f.queues c f) (AreEmpty f.queues d f) (still_empty f.queues j (part.Shard shard) c f can.core.plan (λ q queue e. apart_places c.plan j q first.shard queue (sym e)));
       }
 
-  flush_ready_by : (step : FlushStep) (g : StepGiven) (c : PoolCore P) (f : Frame P) → Can maker Flush c f → Finds f.local step → FlushTold step g f.local → Shows Flush c f (flush_row step g.queue c (in_phase Idle f))
-  flush_ready_by run g c f can found told = decommit_ready g.fault g.queue c f can told (found.ranges refl)
-  flush_ready_by put g c f can found told = put_ready f.local.slots c f can (found.put_none refl) refl (found.put_some refl)
-  flush_ready_by free g c f can found told = free_ready c f can (found.free_ranges refl) (found.free_slots refl)
+  flush_ready_by : (step : FlushStep) (g : StepGiven) (c : PoolCore P) (f : Frame P) → Can maker Flush c f → Finds step f.local f.freed.items → FlushTold step g f.local → Shows Flush c f (flush_row step g.queue c (in_phase Idle f))
+  flush_ready_by run g c f can found told = decommit_ready g.fault g.queue c f can told found
+  flush_ready_by (zero kind) g c f can found told = zero_ready kind c f can found.0 found.1
+  flush_ready_by (put kind) g c f can found told = put_first_ready kind (first_of_kind kind f.local.slots) c f can found.0 found.1 refl
+  flush_ready_by free g c f can found told = free_ready c f can found.1
 
-  pub flush_ready : (g : StepGiven) (c : PoolCore P) (f : Frame P) → Can maker Flush c f → FlushTold (flush_step f.local) g f.local → Shows Flush c f (flush_row (flush_step f.local) g.queue c (in_phase Idle f))
-  flush_ready g c f can told = flush_ready_by (flush_step f.local) g c f can (finds f.local) told
+  pub flush_ready : (g : StepGiven) (c : PoolCore P) (f : Frame P) → Can maker Flush c f → FlushTold (flush_step f.local f.freed.items) g f.local → Shows Flush c f (flush_row (flush_step f.local f.freed.items) g.queue c (in_phase Idle f))
+  flush_ready g c f can told = flush_ready_by (flush_step f.local f.freed.items) g c f can (finds f.local f.freed.items) told

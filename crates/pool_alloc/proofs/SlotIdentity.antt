@@ -116,12 +116,14 @@ fresh_made maker behaviour page static_size i region paged bounded is =
     subst (λ (n : ℕ). P n region) (sym paged) (subst (P maker.page) (sym is) made)
 
 -- Queued slots stay those of their regions as ranges of one are decommitted.
-queued_of_one : (maker : MakerTold) (s : Settings) (kind : SlotKind) (i : ℕ) (old new : Slot) → IsOneSlot old new → MayQueue maker s kind i old → MayQueue maker s kind i new
-queued_of_one maker s Memory i old new one of = slot_of_one maker s.behaviour s.max_memory_size i old new one of
-queued_of_one maker s kind i old new one of = absurd of
+pub queued_of_one : (maker : MakerTold) (s : Settings) (kind : SlotKind) (i : ℕ) (old new : Slot) → IsOneSlot old new → MayQueue maker s kind i old → MayQueue maker s kind i new
+queued_of_one maker s Memory i old new one of = record { same = one ∙ of.same }
+queued_of_one maker s Table i old new one of = record { same = one ∙ of.same }
+queued_of_one maker s Stack i old new one of = absurd of
+queued_of_one maker s Heap i old new one of = absurd of
 
 changed_if : (maker : MakerTold) (s : Settings) (change : Slot → Slot) (m : Queued) (b : Bool) → ((x : Slot) → IsOneSlot x (change x)) → IsQueuedOf maker s m → IsQueuedOf maker s (if b then record m { slot = change m.slot } else m)
-changed_if maker s change m true one of = queued_of_one maker s m.name.kind m.name.slot m.slot (change m.slot) (one m.slot) of
+changed_if maker s change m true one of = record { slot = queued_of_one maker s m.name.kind m.name.slot m.slot (change m.slot) (one m.slot) of.slot; by_hand = of.by_hand }
 changed_if maker s change m false one of = of
 
 queued_changed : (maker : MakerTold) (s : Settings) (slot : SlotName) (ranges : List ByteRange) (ms : List Queued) → All (IsQueuedOf maker s) ms → All (IsQueuedOf maker s) (map (change_at slot (decommitted_all ranges)) ms)
@@ -151,8 +153,8 @@ left_if false old new same = ap (λ (s : Slot). identity s) same
 
 queued_left : (maker : MakerTold) (s : Settings) (faulted : SlotName) (old new : Queued) → IsLeftBy faulted old new → IsQueuedOf maker s old → IsQueuedOf maker s new
 queued_left maker s faulted old new left of =
-    let one : IsOneSlot old.slot new.slot = left_if _ (forgotten_slot old.name.kind old.slot) new.slot left.slot ∙ one_unknown old.name.kind old.slot in
-    subst (λ (n : SlotName). MayQueue maker s n.kind n.slot new.slot) (sym (ap (λ (m : Queued). m.name) left.same)) (queued_of_one maker s old.name.kind old.name.slot old.slot new.slot one of)
+    let one : IsOneSlot old.slot (forgotten_slot old.name.kind new.slot) = one_unknown old.name.kind new.slot ∙ left_if _ (forgotten_slot old.name.kind old.slot) new.slot left.slot ∙ one_unknown old.name.kind old.slot in
+    subst (IsQueuedOf maker s) (sym left.same) (record { slot = queued_of_one maker s old.name.kind old.name.slot old.slot _ one of.slot; by_hand = of.by_hand })
 
 pub queued_faulted : (maker : MakerTold) (s : Settings) (faulted : SlotName) (olds news : List Queued) → AllZip (IsLeftBy faulted) olds news → All (IsQueuedOf maker s) olds → All (IsQueuedOf maker s) news
 queued_faulted maker s faulted [] [] left of = of

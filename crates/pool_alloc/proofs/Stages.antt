@@ -1,12 +1,14 @@
 -- What a frame that can make its next step may rely on, phase by phase.
 use Rattle.pool_alloc.proofs.PlanPlaces.{IsShardPlace, IsQueuePlace, tried_is_queue}
-use Rattle.std.proofs.Common.{◌≡◌, ℕ, ◌+◌, ◌<◌, ◌≤◌, true, false, List, [], ◌∷◌, length, sym, ap, ◌∙◌, arith}
+use Rattle.std.proofs.Common.{◌≡◌, ℕ, ◌+◌, ◌<◌, ◌≤◌, true, false, List, [], length, sym, ◌∙◌, arith, Some}
 use Rattle.pool_pages.specs.MakerTold.{MakerTold}
 use Rattle.pool_index.specs.Shard.{is_used}
 use Rattle.pool_slots.specs.Cells.{is_taken}
-use Rattle.pool_slots.specs.SlotQueues.{Queue, Queued, AreApart, IsSpareOf}
+use Rattle.pool_slots.specs.SlotQueues.{Queue, Queued, AreApart, IsSpareOf, first_of_kind}
+use Rattle.pool_hall.specs.declared.unit_name.SlotKind.{SlotKind}
+use Rattle.pool_alloc.proofs.KindCounts.{counts_first}
 use Rattle.pool_alloc.specs.Freeing.{AreUsedInTurn}
-use Rattle.pool_alloc.specs.Places.{Thing, right_to, queued_count, frame_count}
+use Rattle.pool_alloc.specs.Places.{Thing, right_to, frame_count}
 use Rattle.pool_alloc.specs.Sound.{IsCore, IsFrame, FitsCore}
 use Rattle.pool_alloc.specs.Steps.{shard_at, queue_at, freed_of, first_shard, queue_tried, cell_named}
 use Rattle.pool_alloc.specs.Stepping.{CanStep}
@@ -75,10 +77,10 @@ module _ {P : Type 0} where
       }
 
   -- The slot whose region is put back is one of the pool, and its cell is empty and has the numbers of the region.
-  pub first_can_be_put : (maker : MakerTold) (c : PoolCore P) (f : Frame P) (m : Queued) (rest : List Queued) → IsCore maker c → FitsCore c (in_phase Flush f) → f.local.slots ≡ m ∷ rest → HasGone c m.name m.numbers
-  first_can_be_put maker c f m rest core fits is =
+  pub first_can_be_put : (maker : MakerTold) (c : PoolCore P) (f : Frame P) (kind : SlotKind) (m : Queued) → IsCore maker c → FitsCore c (in_phase Flush f) → first_of_kind kind f.local.slots ≡ Some m → HasGone c m.name m.numbers
+  first_can_be_put maker c f kind m core fits is =
       let t : Thing = unit_weight m.name m.numbers in
-      region_is_away maker m.name m.numbers c (in_phase Flush f) core fits (omega (arith, ap (queued_count t) is, unit_once m.name m.numbers))
+      region_is_away maker m.name m.numbers c (in_phase Flush f) core fits (omega (arith, counts_first t kind m f.local.slots is, unit_once m.name m.numbers))
 
   -- The shard of those that are freed next is one of the pool, and each of them is used there when its turn comes.
   pub record CanFree (c : PoolCore P) (slots : List FreedSlot) (j : ℕ) : Type 0 where

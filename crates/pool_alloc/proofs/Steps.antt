@@ -1,16 +1,23 @@
 -- What the code of a step needs follows of what holds between steps, and what a step leaves is as its row shows.
+use Rattle.pool_slots.specs.SlotQueues.{Queued}
+use Rattle.pool_slots.specs.declared.queued_range.QueuedRange.{QueuedRange}
+use Rattle.pool_pages.specs.Told.{Told}
+use Rattle.pool_alloc.proofs.TableRegions.{bytes_within, type_enough, table_room, its_len}
+use Rattle.pool_alloc.specs.TableSteps.{table_bytes}
+use Rattle.pool_alloc.specs.PoolTables.{IsTableLease}
+use Rattle.pool_alloc.specs.Modules.{IfTable}
 use Rattle.pool_slots.proofs.Lists.{each_weaker}
 use Rattle.pool_alloc.specs.Freeing.{HasHome, CanBeFreed}
 use Rattle.std.specs.List.{AllByRecursion}
 use Rattle.pool_hall.specs.declared.unit_name.SlotKind.{SlotKind}
-use Rattle.pool_hall.specs.declared.unit_name.SlotKind.TheVariants.{Memory as memory_kind}
+use Rattle.pool_hall.specs.declared.unit_name.SlotKind.TheVariants.{Memory as memory_kind, Table as table_kind}
 use Rattle.pool_slots.specs.CellOf.{cell_of}
 use Rattle.pool_slots.specs.Cells.{Cell, unmapped, unknown, previously_used, taken, IsCleanOnceUsed}
 use Rattle.pool_slots.specs.Plans.{IsPlacedAllocator, allocators_of, home_of}
 use Rattle.pool_slots.specs.declared.slot_name.SlotName.{SlotName}
-use Rattle.pool_alloc.specs.declared.frame.Object.TheVariants.{Memory}
+use Rattle.pool_alloc.specs.declared.frame.Object.TheVariants.{Memory, Table}
 use Rattle.pool_slots.specs.declared.plan.Plan.{Plan}
-use Rattle.pool_alloc.proofs.PlanPlaces.{tried_is_shard, tried_is_queue, cell_inside, pooled_memory, has_home, home_place, stripe_is, IsQueuePlace, queues_all}
+use Rattle.pool_alloc.proofs.PlanPlaces.{tried_is_shard, tried_is_queue, cell_inside, has_home, home_place, IsQueuePlace, queues_all, allocator_is}
 use Rattle.std.proofs.Common.{◌≡◌, ℕ, ◌+◌, ◌<◌, ◌≤◌, true, false, length, get_or, refl, sym, ap, subst, ◌∙◌, arith, Option, Some, None, true≢false}
 use Rattle.std.specs.Prelude.{IfSome, IsSome, is_some, slice_get}
 use Rattle.pool_pages.specs.MakerTold.{MakerTold}
@@ -22,13 +29,13 @@ use Rattle.pool_memory.specs.Memories.{slot_of as image_slot_of}
 use Rattle.pool_alloc.specs.Answers.{MayBeTold, AsksOf}
 use Rattle.pool_alloc.specs.Bounds.{sizes_of, steps_at, steps_left}
 use Rattle.pool_alloc.specs.Calls.{IsGrantOf, IfGranted}
-use Rattle.pool_alloc.specs.CanStep.{CanStepAt, CanFlush, HasNext, CanBegin, CanMake, CanPlace, CanTryQueue}
-use Rattle.pool_alloc.specs.Rows.{FlushStep, run, put, free, flush_step, row_of}
+use Rattle.pool_alloc.specs.CanStep.{CanStepAt, CanFlush, HasNext, CanBegin, CanMake, CanPlace, CanTryQueue, HasTableNext, CanMakeTable}
+use Rattle.pool_alloc.specs.Rows.{FlushStep, run, zero, put, free, flush_step, row_of}
 use Rattle.pool_alloc.specs.Searches.{IsSearched}
 use Rattle.std.proofs.lemmas.List.Elements.{All-weaker}
-use Rattle.pool_alloc.specs.Sound.{IsPoolSlot, IsPoolPlan, IsPooled, IsSlotName, MayHold, IsCore, IsFrame, IsSettings, IsAllocating, IsSupported, HasSlot, HasBegun, IsStripe, IsFreedOf}
+use Rattle.pool_alloc.specs.Sound.{IsPoolSlot, IsPoolPlan, IsPooled, IsSlotName, MayHold, IsCore, IsFrame, IsSettings, IsAllocating, IsSupported, HasSlot, HasBegun, IsStripe, IsFreedOf, IsTableSupported, HasTable, IsMemoryNext, IsTableNext}
 use Rattle.pool_alloc.specs.Stages.{GoesOn}
-use Rattle.pool_alloc.specs.Steps.{StepGiven, memories_wanted, images_wanted, image_wanted, queue_tried, first_shard, shard_tried}
+use Rattle.pool_alloc.specs.Steps.{StepGiven, memories_wanted, images_wanted, image_wanted, queue_tried, first_shard, shard_tried, tables_wanted, kind_next}
 use Rattle.pool_alloc.specs.Stepping.{CanStep, CanCount, StepsTo, Conserves, EndsWith, IsSameSize, is_idle}
 use Rattle.pool_alloc.specs.Turns.{After, stepped}
 use Rattle.pool_alloc.specs.declared.pool_core.PoolCore.{PoolCore}
@@ -36,12 +43,13 @@ use Rattle.pool_alloc.specs.declared.pool_core.Settings.{Settings}
 use Rattle.pool_alloc.specs.declared.frame.Frame.{Frame}
 use Rattle.pool_alloc.specs.Asked.{ModuleAsked}
 use Rattle.pool_alloc.specs.declared.frame.Phase.{Phase}
-use Rattle.pool_alloc.specs.declared.frame.Phase.TheVariants.{Idle, Key, Validate, CountInstance, Pick, TakeQueue, TakeRegion, Empty, Instantiate, MakeMemory, CountObject, PutBack, FreeOne, UncountObject, Reset, Merge, Flush, UncountInstance}
+use Rattle.pool_alloc.specs.declared.frame.Phase.TheVariants.{Idle, Key, Validate, CountInstance, Pick, TakeQueue, TakeRegion, Empty, Instantiate, MakeMemory, MakeTable, CountObject, PutBack, FreeOne, UncountObject, Reset, Merge, Flush, UncountInstance}
 use Rattle.pool_alloc.proofs.AskingRows.{key_ready, validate_ready, count_instance_ready, pick_ready, take_queue_ready}
 use Rattle.pool_alloc.proofs.Fitting.{fits_after}
 use Rattle.pool_alloc.proofs.Hands.{in_phase, RowOk, row_ok}
-use Rattle.pool_alloc.proofs.RegionRows.{region_is_fresh, take_region_ready, empty_ready, instantiate_ready, make_memory_ready, count_object_ready, put_back_ready, free_one_ready}
-use Rattle.pool_alloc.proofs.ReturnRows.{Finds, finds, some_freed, uncount_object_ready, reset_ready, merge_ready, uncount_instance_ready, flush_ready}
+use Rattle.pool_alloc.proofs.RegionRows.{region_is_fresh, take_region_ready, empty_ready, instantiate_ready, make_memory_ready, count_object_ready, put_back_ready, free_one_ready, make_table_ready}
+use Rattle.pool_alloc.proofs.FlushFinds.{Finds, finds, put_some}
+use Rattle.pool_alloc.proofs.ReturnRows.{first_freed, uncount_object_ready, reset_ready, merge_ready, uncount_instance_ready, flush_ready}
 use Rattle.pool_alloc.proofs.Rounding.{rounded_whole}
 use Rattle.pool_alloc.proofs.Stages.{local_is_spare, picked_is_home, back_is_used, local_is_apart, home_has_room, first_can_be_put, first_can_be_freed}
 use Rattle.pool_alloc.proofs.Telling.{told_both, told_weaker}
@@ -54,6 +62,10 @@ some_of (Some x) e = refl
 some_asked : (o : Option ModuleAsked) (n : ℕ) → n < length (memories_wanted o) → IsSome o
 some_asked None n below = absurd (omega arith)
 some_asked (Some m) n below = refl
+
+some_table : (o : Option ModuleAsked) (n : ℕ) → n < length (tables_wanted o) → IsSome o
+some_table None n below = absurd (omega arith)
+some_table (Some m) n below = refl
 
 fits_region : (page other initial : ℕ) (o : Option Image) → other ≡ page → IfSome o (FitsInto page initial) → IfSome o (FitsInto other initial)
 fits_region page other initial o e fits =
@@ -75,22 +87,43 @@ clean_in maker s i (unknown slot) holds = tt
 clean_in maker s i (previously_used slot) holds = holds.1
 clean_in maker s i taken holds = tt
 
+clean_in_table : (maker : MakerTold) (s : Settings) (i : ℕ) (held : Cell) → MayHold maker s table_kind i held → IsCleanOnceUsed held
+clean_in_table maker s i (unmapped region) holds = tt
+clean_in_table maker s i (unknown slot) holds = tt
+clean_in_table maker s i (previously_used slot) holds = absurd holds
+clean_in_table maker s i taken holds = tt
+
 clean_held : (maker : MakerTold) (s : Settings) (kind : SlotKind) (i : ℕ) (held : Cell) → IsPooled kind → MayHold maker s kind i held → IsCleanOnceUsed held
 clean_held maker s memory_kind i held pooled holds = clean_in maker s i held holds
+clean_held maker s table_kind i held pooled holds = clean_in_table maker s i held holds
 clean_held maker s kind i held pooled holds = absurd pooled
 
 placed_of : (plan : Plan) (places : ℕ) (kind : SlotKind) → IsPoolPlan plan places → IsPooled kind → AllByRecursion IsPlacedAllocator (allocators_of plan kind)
 placed_of plan places memory_kind is pooled = each_weaker IsStripe IsPlacedAllocator plan.memories (λ a stripe. stripe.placed) is.shards
+placed_of plan places table_kind is pooled = each_weaker IsStripe IsPlacedAllocator plan.tables (λ a shards. shards.placed) is.table_shards
 placed_of plan places kind is pooled = absurd pooled
 
 module _ {P : Type 0} where
-  has_next : (s : Settings) (plan : Plan) (f : Frame P) → IsAllocating s plan f → HasNext f.asked (length f.objects.memories.items)
-  has_next s plan f allocating = record {
-    asked = some_asked f.asked (length f.objects.memories.items) allocating.more;
+  has_next : (s : Settings) (plan : Plan) (f : Frame P) → IsAllocating s plan f → IsMemoryNext f → HasNext f.asked (length f.objects.memories.items)
+  has_next s plan f allocating more = record {
+    asked = some_asked f.asked (length f.objects.memories.items) more;
     images = allocating.to_grant.images;
-    small = omega (arith, allocating.more, allocating.to_grant.supported.few);
-    more = allocating.more;
+    small = omega (arith, more, allocating.to_grant.supported.few);
+    more = more;
   }
+
+  has_table_next : (s : Settings) (plan : Plan) (f : Frame P) → IsAllocating s plan f → IsTableNext f → HasTableNext f.asked (length f.objects.tables.items)
+  has_table_next s plan f allocating table =
+      let more : length f.objects.tables.items < length (tables_wanted f.asked) = omega (arith, allocating.more, allocating.to_grant.few, table) in
+      record { asked = some_table f.asked (length f.objects.tables.items) more; more = more }
+
+  can_make_table : (maker : MakerTold) (s : Settings) (plan : Plan) (name : SlotName) (region : Told) (f : Frame P) → IsSettings s → IsAllocating s plan f → HasTable maker s plan name region → IfTable f (CanMakeTable s region)
+  can_make_table maker s plan name region f settings allocating has =
+      told_weaker (IsTableSupported s) (CanMakeTable s region) (slice_get (tables_wanted f.asked) (length f.objects.tables.items))
+      (λ ty is.
+      let within : table_bytes s ty ≤ region.len = omega (arith, bytes_within s ty, its_len maker s name.slot region has.region.slot) in
+      record { limits = type_enough s ty settings is; inside = within; zeros = table_room maker s name.slot (table_bytes s ty) region has.region within })
+      (allocating.to_grant.tables.each (length f.objects.tables.items))
 
   can_begin : (maker : MakerTold) (s : Settings) (plan : Plan) (name : SlotName) (held : Slot) (f : Frame P) → s.page ≡ maker.page → IsSettings s → IsAllocating s plan f → HasSlot maker s plan name held → IfSome (slice_get (memories_wanted f.asked) (length f.objects.memories.items)) (CanBegin held (image_wanted f))
   can_begin maker s plan name held f page settings allocating has =
@@ -130,21 +163,17 @@ module _ {P : Type 0} where
   can_find_home : (maker : MakerTold) (name : SlotName) (c : PoolCore P) → IsCore maker c → IsSlotName c.plan name → HasHome c.plan name
   can_find_home maker name c core named = record { placed = placed_of c.plan (length c.parts) name.kind core.plan named.pooled; has = has_home c.plan (length c.parts) name core.plan named }
 
-  can_flush : (maker : MakerTold) (step : FlushStep) (c : PoolCore P) (f : Frame P) → CanStep maker c (in_phase Flush f) → Finds f.local step → CanFlush step c (in_phase Flush f)
-  can_flush maker run c f can found = (found.ranges refl, can.frame.queue.owners)
-  can_flush maker put c f can found = (
-    λ m rest is.
-        let named = (first_can_be_put maker c f m rest can.core can.fits is).named in
+  can_flush : (maker : MakerTold) (step : FlushStep) (c : PoolCore P) (f : Frame P) → CanStep maker c (in_phase Flush f) → Finds step f.local f.freed.items → CanFlush step c (in_phase Flush f)
+  can_flush maker run c f can found = (found, can.frame.queue.owners)
+  can_flush maker (zero kind) c f can found = found.0
+  can_flush maker (put kind) c f can found = (
+    λ m is.
+        let named = (first_can_be_put maker c f kind m can.core can.fits is).named in
         (can_place maker m.name c can.core named, cell_part maker m.name c can.core named),
-    record {
-      no_ranges = found.put_none refl;
-      some = found.put_some refl;
-      kind = λ m rest is. pooled_memory m.name.kind (first_can_be_put maker c f m rest can.core can.fits is).named.pooled;
-      room = omega (arith, can.frame.freed_room.0, can.frame.freed_room.1, found.put_some refl);
-    },
+    record { no_ranges = found.0; room = omega (arith, can.frame.freed_room.0, can.frame.freed_room.1, put_some kind f.local.slots f.freed.items found.1) },
   )
   can_flush maker free c f can found =
-      let first = first_can_be_freed maker c f can (some_freed f can.frame.shape.1 (found.free_slots refl)) in
+      let first = first_can_be_freed maker c f can (first_freed maker c f can found.1).some in
       (shard_part maker (first_shard c.plan f.freed.items) c can.core first.shard, record { used = first.used; each = All-weaker (IsFreedOf c.plan) (CanBeFreed c.plan) (λ x of. record { home = can_find_home maker x.name c can.core of.named; bytes = of.bytes }) f.freed.items can.frame.freed_each })
 
   -- Just what the code of a step needs, phase by phase.
@@ -154,20 +183,23 @@ module _ {P : Type 0} where
   can_at maker Validate c f can counts =
       λ k. told_weaker (λ decl. (decl.ty.page_size_log2 < 64) × IfSome (get_or (images_wanted f.asked) k None) (FitsInto c.settings.page (minimum_byte_size decl.ty))) (λ decl. decl.ty.page_size_log2 < 64) (slice_get (memories_wanted f.asked) k) (λ decl of. of.0) (can.frame.shape.2.each k)
   can_at maker CountInstance c f can counts = counts.instances
-  can_at maker (Pick tried) c f can counts = (record { stripe = can.frame.stripe; inside = can.frame.shape.2; placed = (stripe_is c.plan (length c.parts) f.stripe can.core.plan can.frame.stripe).placed }, shard_part maker (shard_tried tried c.plan f) c can.core (tried_is_shard tried c.plan (length c.parts) f can.core.plan can.frame.stripe), omega (arith, can.frame.shape.1.more, can.frame.shape.1.to_grant.supported.few))
+  can_at maker (Pick tried) c f can counts = (record { memories = can.frame.stripe; tables = can.core.plan.tables }, record { inside = can.frame.shape.2; placed = (allocator_is c.plan (length c.parts) (kind_next f) f.stripe can.core.plan can.frame.stripe).placed }, shard_part maker (shard_tried tried c.plan f) c can.core (tried_is_shard tried c.plan (length c.parts) f can.core.plan can.frame.stripe), omega (arith, can.frame.shape.1.to_grant.few, can.frame.shape.1.to_grant.supported.few))
   can_at maker TakeQueue c f can counts =
       let settled = can.frame.shape.0 in
       let i : ℕ = queue_tried f.queues c.plan f in
-      (can.frame.shape.2, can.frame.stripe, can_try_queue maker f.home c can.core, queue_part maker i c can.core (tried_is_queue f.queues c.plan (length c.parts) f can.core.plan), local_is_spare maker i c (in_phase TakeQueue f) can.core can.frame (tried_is_queue f.queues c.plan (length c.parts) f can.core.plan) settled.no_ranges settled.no_slots)
+      (can.frame.shape.2, record { memories = can.frame.stripe; tables = can.core.plan.tables }, can_try_queue maker f.home c can.core, queue_part maker i c can.core (tried_is_queue f.queues c.plan (length c.parts) f can.core.plan), local_is_spare maker i c (in_phase TakeQueue f) can.core can.frame (tried_is_queue f.queues c.plan (length c.parts) f can.core.plan) settled.no_ranges settled.no_slots)
   can_at maker (TakeRegion name) c f can counts =
       let named : IsSlotName c.plan name = can.frame.shape.2 in
-      (can_place maker name c can.core named, cell_part maker name c can.core named, record { there = picked_is_home maker name c f can.core can.fits; fresh = region_is_fresh maker name c can.core named })
+      (can_place maker name c can.core named, cell_part maker name c can.core named, record { there = picked_is_home maker name c f can.core can.fits; fresh = λ region. region_is_fresh maker name c can.core named region })
   can_at maker (Empty slot held) c f can counts = tt
   can_at maker (Instantiate slot held) c f can counts =
-      (has_next c.settings c.plan (in_phase (Instantiate slot held) f) can.frame.shape.1, can.frame.shape.3, can_begin maker c.settings c.plan slot.name held (in_phase (Instantiate slot held) f) can.core.page can.core.settings can.frame.shape.1 can.frame.shape.2)
+      (has_next c.settings c.plan (in_phase (Instantiate slot held) f) can.frame.shape.1 can.frame.shape.4, can.frame.shape.3, can_begin maker c.settings c.plan slot.name held (in_phase (Instantiate slot held) f) can.core.page can.core.settings can.frame.shape.1 can.frame.shape.2)
   can_at maker (MakeMemory slot held) c f can counts =
-      (has_next c.settings c.plan (in_phase (MakeMemory slot held) f) can.frame.shape.1, can_make maker c.settings c.plan slot.name held (in_phase (MakeMemory slot held) f) can.core.page can.core.settings can.frame.shape.1 can.frame.shape.2 can.frame.shape.3)
-  can_at maker (CountObject (Memory lease)) c f can counts = (counts.memories, omega (arith, can.frame.shape.1.more, can.frame.shape.1.to_grant.room))
+      (has_next c.settings c.plan (in_phase (MakeMemory slot held) f) can.frame.shape.1 can.frame.shape.4, can_make maker c.settings c.plan slot.name held (in_phase (MakeMemory slot held) f) can.core.page can.core.settings can.frame.shape.1 can.frame.shape.2 can.frame.shape.3)
+  can_at maker (MakeTable slot region) c f can counts =
+      (has_table_next c.settings c.plan (in_phase (MakeTable slot region) f) can.frame.shape.1 can.frame.shape.3, can_make_table maker c.settings c.plan slot.name region (in_phase (MakeTable slot region) f) can.core.settings can.frame.shape.1 can.frame.shape.2)
+  can_at maker (CountObject (Memory lease)) c f can counts = (counts.memories, omega (arith, can.frame.shape.4, can.frame.shape.1.to_grant.room))
+  can_at maker (CountObject (Table lease)) c f can counts = (counts.tables, omega (arith, can.frame.shape.1.more, can.frame.shape.4, can.frame.shape.1.to_grant.few, can.frame.shape.1.to_grant.table_room))
   can_at maker (PutBack at held) c f can counts =
       let region = can.frame.shape.2 in
       (can_place maker at.name c can.core region.named, cell_part maker at.name c can.core region.named, clean_held maker c.settings at.name.kind at.name.slot (cell_of held) region.named.pooled region.holds)
@@ -179,6 +211,7 @@ module _ {P : Type 0} where
     },
   )
   can_at maker (UncountObject (Memory lease)) c f can counts = omega (arith, can.fits.memories)
+  can_at maker (UncountObject (Table lease)) c f can counts = omega (arith, can.fits.tables)
   can_at maker (Reset (Memory lease)) c f can counts =
       let settled = can.frame.shape.0 in
       record {
@@ -189,6 +222,19 @@ module _ {P : Type 0} where
         owners = can.frame.queue.owners;
         range_room = omega (arith, can.frame.queue.range_room, can.core.settings.batch.0);
         slot_room = omega (arith, can.frame.queue.slot_room, can.core.settings.batch.0);
+      }
+  can_at maker (Reset (Table lease)) c f can counts =
+      let settled = can.frame.shape.0 in
+      let held : IsTableLease maker c.settings c.plan lease = can.frame.shape.2 in
+      record {
+        page = can.core.settings.table_keep_page;
+        region = (held.region, held.lies);
+        room = record {
+          ranges = omega (arith, can.frame.queue.range_room, can.core.settings.batch.0, ap (length {A = QueuedRange}) settled.no_ranges);
+          slots = omega (arith, can.frame.queue.slot_room, can.core.settings.batch.0, ap (length {A = Queued}) settled.no_slots);
+          owners = can.frame.queue.owners;
+          not_held = rw settled.no_slots refl;
+        };
       }
   can_at maker Merge c f can counts =
       let i : ℕ = queue_tried 0 c.plan f in
@@ -207,7 +253,7 @@ module _ {P : Type 0} where
           slot_room = can.frame.queue.slot_room ∙ sym shared.slot_room;
         },
       )
-  can_at maker Flush c f can counts = can_flush maker (flush_step f.local) c f can (finds f.local)
+  can_at maker Flush c f can counts = can_flush maker (flush_step f.local f.freed.items) c f can (finds f.local f.freed.items)
   can_at maker UncountInstance c f can counts = (omega (arith, can.fits.instances), can.frame.shape.1)
 
   pub can_step_at : (maker : MakerTold) (c : PoolCore P) (f : Frame P) → CanStep maker c f → CanCount c → CanStepAt f.phase c f
@@ -227,6 +273,7 @@ module _ {P : Type 0} (maker : MakerTold) (old new : LimiterTold) where
   rows_ok g (Empty slot had) c f on can told asks = row_ok maker old new c _ _ (empty_ready maker old new g.fault g.slot slot had c f can told)
   rows_ok g (Instantiate slot had) c f on can told asks = row_ok maker old new c _ _ (instantiate_ready maker old new g.fault g.slot slot had c f can told)
   rows_ok g (MakeMemory slot had) c f on can told asks = row_ok maker old new c _ _ (make_memory_ready maker old new g.limiter slot had c f can asks)
+  rows_ok g (MakeTable slot region) c f on can told asks = row_ok maker old new c _ _ (make_table_ready maker old new g.limiter slot region c f can asks)
   rows_ok g (CountObject object) c f on can told asks = row_ok maker old new c _ _ (count_object_ready maker old new object c f can)
   rows_ok g (PutBack at had) c f on can told asks = row_ok maker old new c _ _ (put_back_ready maker old new at had c f can)
   rows_ok g (FreeOne name) c f on can told asks = row_ok maker old new c _ _ (free_one_ready maker old new name c f can)
@@ -254,10 +301,10 @@ module _ {P : Type 0} (maker : MakerTold) (old new : LimiterTold) where
     core = ok.core;
     frame = ok.frame;
     granted = ok.granted_is;
-    conserves = record { places = ok.places; instances = ok.instances; memories = ok.memories };
+    conserves = record { places = ok.places; instances = ok.instances; memories = ok.memories; tables = ok.tables };
     settings = ok.settings;
     plan = ok.plan;
-    ends = record { answer = rw on ok.answer; instances = ok.instances_by_one; memories = ok.memories_by_one };
+    ends = record { answer = rw on ok.answer; instances = ok.instances_by_one; memories = ok.memories_by_one; tables = ok.tables_by_one };
     goes = record { asked = ok.asked; way = ok.way };
     fewer = λ busy. ok.fewer;
     searched = ok.searched;
@@ -268,10 +315,10 @@ module _ {P : Type 0} (maker : MakerTold) (old new : LimiterTold) where
     core = can.core;
     frame = can.frame;
     granted = tt;
-    conserves = record { places = λ t. omega arith; instances = omega arith; memories = omega arith };
+    conserves = record { places = λ t. omega arith; instances = omega arith; memories = omega arith; tables = omega arith };
     settings = refl;
     plan = refl;
-    ends = record { answer = refl; instances = omega arith; memories = omega arith };
+    ends = record { answer = refl; instances = omega arith; memories = omega arith; tables = omega arith };
     goes = record { asked = λ on. absurd cc; way = tt };
     fewer = λ busy. absurd cc;
     searched = λ s. tt;

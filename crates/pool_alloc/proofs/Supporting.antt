@@ -1,16 +1,17 @@
--- The memories of a module that breaks no rule are supported.
-use Rattle.std.proofs.Common.{◌≡◌, ℕ, zero, suc, ◌^◌, ◌<◌, ◌≤◌, Bool, true, false, List, [], ◌∷◌, length, get_or, refl, arith, Option, Some, None}
+-- The memories and the tables of a module that breaks no rule are supported.
+use Rattle.std.proofs.Common.{◌≡◌, ℕ, zero, suc, ◌+◌, ◌^◌, ◌<◌, ◌≤◌, Bool, true, false, List, [], ◌∷◌, length, get_or, refl, arith, Option, Some, None}
 use Rattle.std.specs.Prelude.{nat_lt, nat_le, if◌then◌else◌, IfSome, slice_get}
 use Rattle.std.proofs.lemmas.Bool.{ltb-false}
 use Rattle.pool_pages.specs.MemoryTypes.{minimum_byte_size, refused_limits}
 use Rattle.pool_pages.specs.declared.module_types.MemoryDecl.{MemoryDecl}
 use Rattle.pool_pages.specs.declared.module_types.MemoryType.{MemoryType}
+use Rattle.pool_pages.specs.declared.table_type.TableType.{TableType}
 use Rattle.pool_pages.specs.declared.unsupported.Unsupported.{Unsupported}
 use Rattle.pool_images.specs.Images.{Image}
 use Rattle.pool_images.specs.Slots.{FitsInto}
 use Rattle.std.specs.Option.{option_or}
-use Rattle.pool_alloc.specs.Refusals.{first_refused, offset_refused, number_refused, memory_refused, memories_refused}
-use Rattle.pool_alloc.specs.Sound.{IsSupported, AreSupported, AreImagesOf}
+use Rattle.pool_alloc.specs.Refusals.{first_refused, offset_refused, number_refused, memory_refused, tables_refused, long_table, module_refused}
+use Rattle.pool_alloc.specs.Sound.{IsSupported, AreSupported, IsTableSupported, AreTablesSupported, AreImagesOf}
 use Rattle.pool_alloc.specs.declared.pool_core.Settings.{Settings}
 use Rattle.pool_alloc.proofs.Telling.{told_both}
 
@@ -18,7 +19,7 @@ no_refusal : (a b : Option Unsupported) → option_or a b ≡ None → (a ≡ No
 no_refusal None b e = (refl, e)
 no_refusal (Some rule) b e = absurd cc
 
-each_passes : (rule : MemoryDecl → Option Unsupported) (decls : List MemoryDecl) → first_refused rule decls ≡ None → (k : ℕ) → IfSome (slice_get decls k) (λ d. rule d ≡ None)
+each_passes : {X : Type 0} (rule : X → Option Unsupported) (decls : List X) → first_refused rule decls ≡ None → (k : ℕ) → IfSome (slice_get decls k) (λ d. rule d ≡ None)
 each_passes rule [] e k = tt
 each_passes rule (d ∷ decls) e zero = (no_refusal (rule d) (first_refused rule decls) e).0
 each_passes rule (d ∷ decls) e (suc k) = each_passes rule decls (no_refusal (rule d) (first_refused rule decls) e).1 k
@@ -38,20 +39,45 @@ record Passes (s : Settings) (decl : MemoryDecl) : Type 0 where
   limits : refused_limits decl.ty.limits ≡ None
   minimum : minimum_byte_size decl.ty ≤ s.max_memory_size
 
-pub supported : (s : Settings) (decls : List MemoryDecl) (images : List (Option Image)) → s.max_memories_per_module < 2 ^ 32 → AreImagesOf s decls images → memories_refused s decls ≡ None → AreSupported s decls images
-supported s decls images small of e =
+-- of a table, likewise
+long_each : (s : Settings) (i : ℕ) (tables : List TableType) → long_table s i tables ≡ None → (k : ℕ) → IfSome (slice_get tables k) (λ ty. ty.limits.min ≤ s.table_elements)
+long_each s i [] e k = tt
+long_each s i (ty ∷ tys) e zero = ltb-false s.table_elements ty.limits.min (not_above (nat_lt s.table_elements ty.limits.min) _ _ (no_refusal _ (long_table s (i + 1) tys) e).0).0
+long_each s i (ty ∷ tys) e (suc k) = long_each s (i + 1) tys (no_refusal _ (long_table s (i + 1) tys) e).1 k
+
+few_tables : (s : Settings) (total n : ℕ) → tables_refused s total n ≡ None → n ≤ total
+few_tables s total n e = ltb-false total n (not_above (nat_lt total n) _ _ (not_above (nat_lt s.max_tables_per_module n) _ _ e).1).0
+
+pub supported : (s : Settings) (total : ℕ) (decls : List MemoryDecl) (tables : List TableType) (images : List (Option Image)) → s.max_memories_per_module < 2 ^ 32 → AreImagesOf s decls images → module_refused s total decls tables ≡ None → AreSupported s decls images × AreTablesSupported s total tables
+supported s total decls tables images small of e =
     let limits : Option Unsupported = first_refused (λ d. refused_limits d.ty.limits) decls in
+    let table_limits : Option Unsupported = first_refused (λ ty. refused_limits ty.limits) tables in
+    let number : Option Unsupported = number_refused s (length decls) in
     let slots : Option Unsupported = first_refused (λ d. memory_refused s d.ty) decls in
-    let after_offsets = (no_refusal (first_refused (λ d. offset_refused s.page d.image) decls) (option_or limits (option_or (number_refused s (length decls)) slots)) e).1 in
-    let by_limits = no_refusal limits (option_or (number_refused s (length decls)) slots) after_offsets in
-    let by_number = no_refusal (number_refused s (length decls)) slots by_limits.1 in
-    record {
-      few = omega (arith, few_enough s (length decls) by_number.0);
-      each = λ k.
-          told_both (Passes s) (λ decl. (decl.ty.page_size_log2 < 64) × IfSome (get_or images k None) (FitsInto s.page (minimum_byte_size decl.ty))) (λ decl. IsSupported s decl (get_or images k None)) (slice_get decls k)
-          (λ decl passes image. record { page_log2 = image.0; limits = passes.limits; minimum = passes.minimum; image_fits = image.1 })
-          (told_both (λ decl. refused_limits decl.ty.limits ≡ None) (λ decl. memory_refused s decl.ty ≡ None) (Passes s) (slice_get decls k)
-          (λ decl limit slot. record { limits = limit; minimum = fits_slot s decl.ty slot })
-          (each_passes (λ d. refused_limits d.ty.limits) decls by_limits.0 k) (each_passes (λ d. memory_refused s d.ty) decls by_number.1 k))
-          (of.each k);
-    }
+    let many : Option Unsupported = tables_refused s total (length tables) in
+    let long : Option Unsupported = long_table s 0 tables in
+    let from_slots : Option Unsupported = option_or slots (option_or many long) in
+    let from_limits : Option Unsupported = option_or limits (option_or table_limits (option_or number from_slots)) in
+    let after_offsets = (no_refusal (first_refused (λ d. offset_refused s.page d.image) decls) from_limits e).1 in
+    let by_limits = no_refusal limits (option_or table_limits (option_or number from_slots)) after_offsets in
+    let by_table_limits = no_refusal table_limits (option_or number from_slots) by_limits.1 in
+    let by_number = no_refusal number from_slots by_table_limits.1 in
+    let by_slots = no_refusal slots (option_or many long) by_number.1 in
+    let by_many = no_refusal many long by_slots.1 in (
+      record {
+        few = omega (arith, few_enough s (length decls) by_number.0);
+        each = λ k.
+            told_both (Passes s) (λ decl. (decl.ty.page_size_log2 < 64) × IfSome (get_or images k None) (FitsInto s.page (minimum_byte_size decl.ty))) (λ decl. IsSupported s decl (get_or images k None)) (slice_get decls k)
+            (λ decl passes image. record { page_log2 = image.0; limits = passes.limits; minimum = passes.minimum; image_fits = image.1 })
+            (told_both (λ decl. refused_limits decl.ty.limits ≡ None) (λ decl. memory_refused s decl.ty ≡ None) (Passes s) (slice_get decls k)
+            (λ decl limit slot. record { limits = limit; minimum = fits_slot s decl.ty slot })
+            (each_passes (λ d. refused_limits d.ty.limits) decls by_limits.0 k) (each_passes (λ d. memory_refused s d.ty) decls by_slots.0 k))
+            (of.each k);
+      },
+      record {
+        few = few_tables s total (length tables) by_many.0;
+        each = λ k.
+            told_both (λ ty. refused_limits ty.limits ≡ None) (λ ty. ty.limits.min ≤ s.table_elements) (IsTableSupported s) (slice_get tables k) (λ ty limit least. record { limits = limit; minimum = least })
+            (each_passes (λ ty. refused_limits ty.limits) tables by_table_limits.0 k) (long_each s 0 tables by_many.1 k);
+      },
+    )

@@ -1,4 +1,5 @@
 -- Sums over the parts of the pool, one part after the other, each up to the end of its type.
+use Rattle.pool_alloc.specs.TableLeases.{LeasedTable}
 use Rattle.std.proofs.Common.{◌≡◌, ℕ, ◌+◌, ◌-◌, ◌^◌, ◌<◌, List, [], ◌∷◌, ◌++◌, length, take, get_or, sym, ap, ◌∙◌, arith}
 use Rattle.std.specs.Prelude.{min, map}
 use Rattle.std.proofs.lemmas.List.{take_more, map-append}
@@ -7,7 +8,7 @@ use Rattle.pool_pages.specs.declared.pages.PageCalls.{PageCalls}
 use Rattle.pool_pages.specs.CallSums.{both, added}
 use Rattle.pool_slots.specs.Cells.{all_calls, sum_at_most}
 use Rattle.pool_slots.proofs.Fresh.{same_calls}
-use Rattle.pool_alloc.specs.Sums.{calls_of_leases, part_calls, calls_of_parts}
+use Rattle.pool_alloc.specs.Sums.{calls_of_leases, part_calls, calls_of_parts, calls_of_tables, table_calls}
 use Rattle.pool_alloc.specs.Leases.{Lease}
 use Rattle.pool_memory.specs.Memories.{slot_of}
 use Rattle.pool_slots.specs.declared.part.PoolPart.{PoolPart}
@@ -59,3 +60,6 @@ parts_more parts i d inside = next_added part_calls parts i d inside
 
 pub leases_more : (leases : List Lease) (i : ℕ) (d : Lease) → i < length leases → added (calls_of_leases (take i leases)) (slot_of (get_or leases i d).memory).region.calls ≡ calls_of_leases (take (i + 1) leases)
 leases_more leases i d inside = next_added (λ (l : Lease). (slot_of l.memory).region.calls) leases i d inside
+
+pub tables_more : (leases : List LeasedTable) (i : ℕ) (d : LeasedTable) → i < length leases → added (calls_of_tables (take i leases)) (table_calls (get_or leases i d)) ≡ calls_of_tables (take (i + 1) leases)
+tables_more leases i d inside = next_added table_calls leases i d inside

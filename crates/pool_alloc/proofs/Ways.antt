@@ -153,6 +153,7 @@ module _ {P : Type 0} (maker : MakerTold) (old new : LimiterTold) (d : PoolCore 
     plan = plan;
     instances_by_one = omega (arith, ap (λ (n : Counters). n.core_instances) counters);
     memories_by_one = omega (arith, ap (λ (n : Counters). n.memories) counters);
+    tables_by_one = omega (arith, ap (λ (n : Counters). n.tables) counters);
   }
 
   -- a call stays at its stage,
@@ -165,7 +166,7 @@ module _ {P : Type 0} (maker : MakerTold) (old new : LimiterTold) (d : PoolCore 
   pub fails_way : (ending : Ending) (n : ℕ) (x : AllocError) → ending ≡ granted → Raises maker old new d e (admitted n) x → Goes maker old new d e (stage_by ending n) (refusing x) None
   fails_way ending n x is raised = let W : Ending → Type 0 = λ y. Goes maker old new d e (stage_by y n) (refusing x) None in subst W (sym is) raised
 
-  -- a memory more is made,
+  -- an object more is made,
   pub made_way : (ending : Ending) (n : ℕ) → ending ≡ granted → Follows old new d e (admitted n) (admitted (n + 1)) → Goes maker old new d e (stage_by ending n) (stage_by ending (n + 1)) None
   made_way ending n is follows = let W : Ending → Type 0 = λ y. Goes maker old new d e (stage_by y n) (stage_by y (n + 1)) None in subst W (sym is) follows
 

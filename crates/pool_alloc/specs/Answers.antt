@@ -16,7 +16,9 @@ use Rattle.pool_memory.specs.Static.{CanHold}
 use Rattle.pool_slots.specs.SlotQueues.{Queue, LeavesClean, after_run, first_slot, IsFaulted}
 use Rattle.pool_slots.specs.SlotOrders.{run_of, AreInOrder}
 use Rattle.pool_memory.specs.Memories.{slot_of}
-use Rattle.pool_alloc.specs.Modules.{IfAllocated}
+use Rattle.pool_table.specs.Making.{making_question}
+use Rattle.pool_alloc.specs.TableSteps.{AsksForTable}
+use Rattle.pool_alloc.specs.Modules.{IfAllocated, IfTable}
 use Rattle.pool_alloc.specs.Leases.{slot_taken}
 use Rattle.pool_alloc.specs.Own.{slot_ended, reset_listed}
 use Rattle.pool_alloc.specs.Steps.{StepGiven, image_wanted}
@@ -25,9 +27,9 @@ use Rattle.pool_alloc.specs.declared.pool_core.Settings.{Settings}
 use Rattle.pool_alloc.specs.declared.frame.Frame.{Frame}
 use Rattle.pool_alloc.specs.declared.frame.Phase.{Phase}
 use Rattle.pool_alloc.specs.declared.frame.Object.{Object}
-use Rattle.pool_alloc.specs.declared.frame.Object.TheVariants.{Memory}
+use Rattle.pool_alloc.specs.declared.frame.Object.TheVariants.{Memory, Table}
 use Rattle.pool_alloc.specs.declared.frame.TakenSlot.{TakenSlot}
-use Rattle.pool_alloc.specs.declared.frame.Phase.TheVariants.{Empty, Instantiate, MakeMemory, Reset, Flush}
+use Rattle.pool_alloc.specs.declared.frame.Phase.TheVariants.{Empty, Instantiate, MakeMemory, MakeTable, Reset, Flush}
 
 -- a slot is emptied, and clean then, or a call on its region failed
 abbrev pub Empties : Bool → Slot → Slot → Type 0
@@ -106,27 +108,31 @@ module _ {P : Type 0} where
   -- an object is reset
   abbrev pub ResetTold : Settings → StepGiven → Object P → Type 0
   ResetTold s g (Memory lease) = Resets g.fault s.keep_resident.bytes (slot_taken lease) (slot_of lease.memory) g.slot
+  ResetTold s g (Table lease) = Unit {0}
 
   abbrev pub ResetPlanned : Settings → StepGiven → Object P → Type 0
   ResetPlanned s g (Memory lease) = FollowsReset s.keep_resident.bytes g.fault (slot_of lease.memory) g.slot
+  ResetPlanned s g (Table lease) = Unit {0}
 
   -- the given answers may come in this phase
   abbrev pub MayBeTold : Settings → StepGiven → Phase P → Frame P → Type 0
   MayBeTold s g (Empty at held) f = Empties g.fault held g.slot
   MayBeTold s g (Instantiate at held) f = IfAllocated f (λ decl. InstantiatesFor s decl g.fault (image_wanted f) held g.slot)
   MayBeTold s g (Reset object) f = ResetTold s g object
-  MayBeTold s g Flush f = FlushTold (flush_step f.local) g f.local
+  MayBeTold s g Flush f = FlushTold (flush_step f.local f.freed.items) g f.local
   MayBeTold s g _ f = Unit {0}
 
-  -- what the step makes of the limiter: only the making of a memory asks it
+  -- what the step makes of the limiter: only the making of a memory or a table asks it
   abbrev pub AsksOf : LimiterTold → LimiterTold → StepGiven → Phase P → Frame P → Type 0
   AsksOf old new g (MakeMemory at held) f = IfAllocated f (AsksForMemory g.limiter old new)
+  AsksOf old new g (MakeTable at region) f = IfTable f (AsksForTable g.limiter old new)
   AsksOf old new g _ f = new ≡ old
 
-  -- What passes between the step and the limiter, of which this is told: the making of a memory asks it once, and no
-  -- other step speaks to it.
+  -- What passes between the step and the limiter, of which this is told: the making of a memory or a table asks it once,
+  -- and no other step speaks to it.
   abbrev pub LimiterHears : (List Exchange → Type 0) → StepGiven → Phase P → Frame P → Type 0
   LimiterHears Passes g (MakeMemory at held) f = IfAllocated f (λ decl. Passes (may_grow (minimum_question decl.ty) g.limiter ∷ []))
+  LimiterHears Passes g (MakeTable at region) f = IfTable f (λ ty. Passes (may_grow (making_question ty) g.limiter ∷ []))
   LimiterHears Passes g _ f = Passes []
 
   -- whether a page call of the step failed is as the regions' plans say, where they are told
@@ -134,5 +140,5 @@ module _ {P : Type 0} where
   IsPlanned s g (Empty at held) f = Follows (wiping held) (not g.fault) held.region g.slot.region
   IsPlanned s g (Instantiate at held) f = IfAllocated f (λ decl. FollowsPlanFor s decl g.fault (image_wanted f) held g.slot)
   IsPlanned s g (Reset object) f = ResetPlanned s g object
-  IsPlanned s g Flush f = FlushPlanned (flush_step f.local) g f.local
+  IsPlanned s g Flush f = FlushPlanned (flush_step f.local f.freed.items) g f.local
   IsPlanned s g _ f = Unit {0}

@@ -1,5 +1,5 @@
 -- How many steps a call makes at most, by the sizes of the pool alone, and how many it still makes.
-use Rattle.std.specs.Prelude.{ℕ, List, ◌+◌, ◌*◌, ◌-◌, length, nat_lt, if◌then◌else◌, Option, Some, ◌==◌, zero, suc, sum_by, ◌∷◌, [], max}
+use Rattle.std.specs.Prelude.{ℕ, List, ◌+◌, ◌*◌, ◌-◌, length, nat_lt, if◌then◌else◌, Option, Some, ◌==◌, zero, suc, sum_by, ◌∷◌, [], max, ◌++◌, Bool, not, is_some, ◌&&◌, ◌||◌}
 use Rattle.pool_slots.specs.SlotQueues.{Queue, Queued}
 use Rattle.pool_index.specs.Shard.{one_if}
 use Rattle.pool_alloc.specs.Objects.{objects_in, objects_wanted}
@@ -10,7 +10,7 @@ use Rattle.pool_slots.specs.Plans.{home_of}
 use Rattle.pool_slots.specs.declared.slot_name.SlotName.{SlotName}
 use Rattle.pool_slots.specs.declared.plan.Allocator.{Allocator}
 use Rattle.pool_slots.specs.declared.plan.Plan.{Plan}
-use Rattle.pool_alloc.specs.Steps.{memory_slots, queues_searched}
+use Rattle.pool_alloc.specs.Steps.{queues_searched}
 use Rattle.pool_alloc.specs.declared.frame.Grant.TheVariants.{Instance}
 use Rattle.pool_alloc.specs.declared.pool_core.PoolCore.{PoolCore}
 use Rattle.pool_alloc.specs.declared.frame.Call.{Call}
@@ -21,7 +21,7 @@ use Rattle.pool_alloc.specs.declared.frame.Frame.{Frame}
 use Rattle.pool_alloc.specs.declared.frame.FreedSlot.{FreedSlot}
 use Rattle.pool_alloc.specs.Asked.{ModuleAsked}
 use Rattle.pool_alloc.specs.declared.frame.Phase.{Phase}
-use Rattle.pool_alloc.specs.declared.frame.Phase.TheVariants.{Idle, Key, Validate, CountInstance, Pick, TakeQueue, TakeRegion, Empty, Instantiate, MakeMemory, CountObject, PutBack, FreeOne, UncountObject, Reset, Merge, Flush, UncountInstance}
+use Rattle.pool_alloc.specs.declared.frame.Phase.TheVariants.{Idle, Key, Validate, CountInstance, Pick, TakeQueue, TakeRegion, Empty, Instantiate, MakeMemory, MakeTable, CountObject, PutBack, FreeOne, UncountObject, Reset, Merge, Flush, UncountInstance}
 
 -- The sizes on which bounds rest: the most shards of one allocator, the queues, the slots, and where the plan has each.
 pub record PoolSizes : Type 0 where
@@ -41,13 +41,13 @@ all_shards (a ∷ more) = a.shards + all_shards more
 
 -- the allocators of slots that a flush frees
 abbrev pub flushed_allocators : Plan → List Allocator
-flushed_allocators plan = plan.memories
+flushed_allocators plan = plan.memories ++ plan.tables
 
 -- the sizes of a pool
 abbrev pub sizes_of : Plan → PoolSizes
-sizes_of plan = record { shards = most_shards (flushed_allocators plan); queues = queues_searched plan; slots = memory_slots plan; plan = plan }
+sizes_of plan = record { shards = most_shards (flushed_allocators plan); queues = queues_searched plan; slots = plan.totals.memory + plan.totals.table; plan = plan }
 
--- A flush, with the step that begins it: three steps for each slot, and one for each shard. (Of memories it makes fewer.)
+-- A flush, with the step that begins it: three steps for each slot, and one for each shard. (Without tables it makes fewer.)
 abbrev pub flush_bound : PoolSizes → ℕ
 flush_bound z = 1 + 3 * z.slots + all_shards (flushed_allocators z.plan)
 
@@ -84,10 +84,17 @@ abbrev pub all_waiting : PoolSizes → List Allocator → List Queued → List F
 all_waiting z [] queued freed = 0
 all_waiting z (a ∷ more) queued freed = shards_waiting z a.first_place a.shards queued freed + all_waiting z more queued freed
 
--- What is left of a flush: each run of ranges, each region that is to be put back, and each shard of which slots are to be
--- freed, however many.
+-- 1 for a slot that may still have to be zeroed by hand: that is found out once all ranges are gone
+abbrev pub may_zero : Bool → Queued → ℕ
+may_zero ranges m = one_if (is_some m.by_hand && (ranges || not m.known))
+
+abbrev pub zeroings : Queue → ℕ
+zeroings local = sum_by (may_zero (nat_lt 0 (length local.ranges))) local.slots
+
+-- What is left of a flush: each run of ranges, each slot that may be zeroed, each region that is to be put back, and each
+-- shard of which slots are to be freed, however many.
 abbrev pub flush_left : PoolSizes → Queue → Reserved FreedSlot → ℕ
-flush_left z local freed = runs local.ranges + length local.slots + all_waiting z (flushed_allocators z.plan) local.slots freed.items
+flush_left z local freed = runs local.ranges + zeroings local + length local.slots + all_waiting z (flushed_allocators z.plan) local.slots freed.items
 
 -- the objects that are still to be given back, and the instance
 abbrev pub returns_left : {P : Type 0} → PoolSizes → InstanceLease P → ℕ
@@ -135,6 +142,7 @@ module _ {P : Type 0} where
   steps_at z (Empty at held) f = 5 + objects_left z f.asked f.objects
   steps_at z (Instantiate at held) f = 4 + objects_left z f.asked f.objects
   steps_at z (MakeMemory at held) f = 3 + objects_left z f.asked f.objects
+  steps_at z (MakeTable at region) f = 3 + objects_left z f.asked f.objects
   steps_at z (CountObject object) f = 1 + objects_left z f.asked f.objects
   steps_at z (PutBack at held) f = 2 + returns_left z f.objects
   steps_at z (FreeOne name) f = 1 + returns_left z f.objects

@@ -4,7 +4,7 @@ use Rattle.pool_pages.specs.MakerTold.{MakerTold}
 use Rattle.pool_slots.specs.SlotQueues.{empty_queue}
 use Rattle.pool_slots.specs.declared.plan.Plan.{Plan}
 use Rattle.pool_alloc.specs.Objects.{no_objects}
-use Rattle.pool_alloc.specs.Steps.{memories_wanted, images_wanted}
+use Rattle.pool_alloc.specs.Steps.{memories_wanted, images_wanted, tables_wanted}
 use Rattle.pool_alloc.specs.Turns.{returned_next}
 use Rattle.pool_alloc.specs.Sound.{AreLeasesOf, AreImagesOf, AreBegun}
 use Rattle.pool_alloc.specs.Modules.{HasImages}
@@ -46,7 +46,7 @@ module _ {P : Type 0} where
 
   -- and it has an object for each that was asked for, which begins as that is to
   abbrev pub IsGrantOf : MakerTold → Settings → Plan → Option ModuleAsked → Grant P → Type 0
-  IsGrantOf maker s plan asked (Instance lease) = AreLeasesOf maker s plan lease × (length lease.memories.items ≡ length (memories_wanted asked)) × AreBegun s asked lease
+  IsGrantOf maker s plan asked (Instance lease) = AreLeasesOf maker s plan lease × (length lease.memories.items ≡ length (memories_wanted asked)) × AreBegun s asked lease × (length lease.tables.items ≡ length (tables_wanted asked))
 
   -- what is granted, if a call ends with a grant
   abbrev pub IfGranted : (Grant P → Type 0) → Option (Outcome P) → Type 0
@@ -62,7 +62,7 @@ module _ {P : Type 0} where
 
   -- the objects of a grant are given back in order, and then the instance
   abbrev pub gives_back : Grant P → Frame P → Frame P
-  gives_back (Instance lease) f = record (returned_next lease.memories.items (record f { objects = lease; ending = returned })).frame { step_count = 0 }
+  gives_back (Instance lease) f = record (returned_next lease.memories.items lease.tables.items (record f { objects = lease; ending = returned })).frame { step_count = 0 }
 
   -- the frame once the call began
   abbrev pub begun_call : Call P → Frame P → Frame P

@@ -1,5 +1,5 @@
 -- Just what the code of each step needs of the pool's parts and of the frame.
-use Rattle.std.specs.Prelude.{◌≡◌, ℕ, ◌+◌, ◌^◌, ◌<◌, ◌≤◌, List, [], ◌∷◌, length, slice_get, All, false, Option, None, IsSome, IfSome, true}
+use Rattle.std.specs.Prelude.{◌≡◌, ℕ, ◌+◌, ◌^◌, ◌<◌, ◌≤◌, List, [], length, slice_get, All, false, Option, None, IsSome, IfSome, true, Some}
 use Rattle.pool_pages.specs.Count.{count, rounded_up}
 use Rattle.pool_pages.specs.Told.{Told}
 use Rattle.pool_pages.specs.MemoryTypes.{minimum_byte_size, refused_limits}
@@ -12,36 +12,47 @@ use Rattle.pool_memory.specs.Memories.{slot_of}
 use Rattle.pool_memory.specs.Static.{CanHold}
 use Rattle.pool_slots.specs.Cells.{is_taken, unmapped, IsCleanOnceUsed}
 use Rattle.pool_slots.specs.RegionCells.{CellState}
-use Rattle.pool_slots.specs.SlotQueues.{Queue, Queued, HasOwners, IsSpareOf}
+use Rattle.pool_slots.specs.SlotQueues.{Queue, Queued, first_of_kind, HasOwners, IsSpareOf}
 use Rattle.pool_slots.specs.declared.plan.Plan.{Plan}
 use Rattle.pool_slots.specs.CellOf.{cell_of}
 use Rattle.pool_slots.specs.Plans.{cell_place, home_of, IsPlacedAllocator}
 use Rattle.pool_slots.specs.declared.slot_name.SlotName.{SlotName}
 use Rattle.pool_alloc.specs.Freeing.{AreUsedInTurn, HasHome, CanBeFreed}
-use Rattle.pool_alloc.specs.Modules.{HasImages, IfAllocated}
+use Rattle.pool_pages.specs.declared.table_type.TableType.{TableType}
+use Rattle.pool_table.specs.Making.{room_of}
+use Rattle.pool_table.specs.Tables.{IsRoom, type_maximum}
+use Rattle.pool_slots.specs.declared.plan.Allocator.{Allocator}
+use Rattle.pool_hall.specs.declared.unit_name.SlotKind.{SlotKind}
+use Rattle.pool_alloc.specs.TableLeases.{LeasedTable, table_slot}
+use Rattle.pool_alloc.specs.TableSteps.{IsInRegion, CanQueue, table_bytes}
+use Rattle.pool_alloc.specs.Modules.{HasImages, IfAllocated, IfTable}
 use Rattle.pool_alloc.specs.Reserved.{Reserved}
-use Rattle.pool_alloc.specs.Rows.{FlushStep, run, put, free, flush_step}
+use Rattle.pool_alloc.specs.Rows.{FlushStep, run, zero, put, free, flush_step}
 use Rattle.pool_alloc.specs.Turns.{is_granting}
 use Rattle.pool_slots.specs.QueueMerges.{CanMerge}
 use Rattle.pool_slots.specs.Parts.{IsAt, IsShardPart, IsCellPart}
-use Rattle.pool_alloc.specs.Steps.{memories_wanted, image_wanted, IsQueuePart, stripe_allocator, queues_searched, shard_at, cell_named, queue_at, freed_of, first_shard, shard_tried, queue_tried}
+use Rattle.pool_alloc.specs.Steps.{memories_wanted, tables_wanted, image_wanted, IsQueuePart, allocator_for, queues_searched, shard_at, cell_named, queue_at, freed_of, first_shard, shard_tried, queue_tried}
 use Rattle.pool_alloc.specs.declared.pool_core.PoolCore.{PoolCore}
 use Rattle.pool_alloc.specs.declared.pool_core.Settings.{Settings}
 use Rattle.pool_alloc.specs.declared.frame.Frame.{Frame}
 use Rattle.pool_alloc.specs.declared.frame.FreedSlot.{FreedSlot}
-use Rattle.pool_alloc.specs.declared.frame.Object.TheVariants.{Memory}
+use Rattle.pool_alloc.specs.declared.frame.Object.TheVariants.{Memory, Table}
 use Rattle.pool_alloc.specs.Asked.{ModuleAsked}
 use Rattle.pool_alloc.specs.declared.frame.Phase.{Phase}
-use Rattle.pool_alloc.specs.declared.frame.Phase.TheVariants.{Idle, Key, Validate, CountInstance, Pick, TakeQueue, TakeRegion, Empty, Instantiate, MakeMemory, CountObject, PutBack, FreeOne, UncountObject, Reset, Merge, Flush, UncountInstance}
+use Rattle.pool_alloc.specs.declared.frame.Phase.TheVariants.{Idle, Key, Validate, CountInstance, Pick, TakeQueue, TakeRegion, Empty, Instantiate, MakeMemory, MakeTable, CountObject, PutBack, FreeOne, UncountObject, Reset, Merge, Flush, UncountInstance}
 
 -- the place of a slot's cell, that of a shard that is tried, and that of a queue are numbers that the code can compute
 abbrev pub CanPlace : Plan → SlotName → Type 0
 CanPlace plan name = cell_place plan name < 2 ^ 32
 
-pub record CanTryShard (plan : Plan) (of tried : ℕ) : Type 0 where
-  pub stripe : of < length plan.memories
-  pub inside : tried < (stripe_allocator plan of).shards
-  pub placed : IsPlacedAllocator (stripe_allocator plan of)
+-- the plan has the allocators of a stripe's memories and of tables
+pub record HasAllocators (plan : Plan) (stripe : ℕ) : Type 0 where
+  pub memories : stripe < length plan.memories
+  pub tables : 0 < length plan.tables
+
+pub record CanTryShard (plan : Plan) (a : Allocator) (tried : ℕ) : Type 0 where
+  pub inside : tried < a.shards
+  pub placed : IsPlacedAllocator a
 
 pub record CanTryQueue (plan : Plan) (home : ℕ) : Type 0 where
   pub some : 0 < plan.queues
@@ -53,10 +64,10 @@ pub record CanTryQueue (plan : Plan) (home : ℕ) : Type 0 where
 abbrev pub CanValidate : List MemoryDecl → Type 0
 CanValidate decls = (k : ℕ) → IfSome (slice_get decls k) (λ decl. decl.ty.page_size_log2 < 64)
 
--- the region lies in the cell; one that was never used is as it was made
-pub record CanTakeRegion (s : Settings) (cell : CellState) : Type 0 where
+-- the region of a slot of this kind lies in the cell; a memory's that was never used is as it was made
+pub record CanTakeRegion (s : Settings) (kind : SlotKind) (cell : CellState) : Type 0 where
   pub there : is_taken cell.holds ≡ false
-  pub fresh : (region : Told) → cell.holds ≡ unmapped region → IsFresh (count s.page 0) (count s.page 0) s.max_memory_size None region
+  pub fresh : (region : Told) → kind ≡ memory_kind → cell.holds ≡ unmapped region → IsFresh (count s.page 0) (count s.page 0) s.max_memory_size None region
 
 -- a memory of the module is the next one
 pub record HasNext (call : Option ModuleAsked) (granted : ℕ) : Type 0 where
@@ -79,6 +90,17 @@ pub record CanMake (s : Settings) (held : Slot) (decl : MemoryDecl) : Type 0 whe
   pub slot : minimum_byte_size decl.ty < 2 ^ 64 → CanHold (minimum_byte_size decl.ty) held
   pub room : rounded_up held.region.page s.max_memory_size ≤ held.static_size
 
+-- a table of the module is the next one
+pub record HasTableNext (call : Option ModuleAsked) (granted : ℕ) : Type 0 where
+  pub asked : IsSome call
+  pub more : granted < length (tables_wanted call)
+
+-- the region has room for the table
+pub record CanMakeTable (s : Settings) (region : Told) (ty : TableType) : Type 0 where
+  pub limits : ty.limits.min ≤ room_of ty (table_bytes s ty) → ty.limits.min ≤ type_maximum ty
+  pub inside : table_bytes s ty ≤ region.len
+  pub zeros : IfSome region.contents (IsRoom region.page region.len 0 (table_bytes s ty))
+
 -- a slot of a shard is used
 pub record CanFreeOne (name : SlotName) (plan : Plan) (shard : ShardState) : Type 0 where
   pub home : HasHome plan name
@@ -94,11 +116,15 @@ pub record CanReset (s : Settings) (held : Slot) (local : Queue) : Type 0 where
   pub range_room : 0 < local.range_room
   pub slot_room : 0 < local.slot_room
 
--- the first slot of the queue is a memory's, and there is room among those to be freed
+-- the table lies in its region, and the local queue has room for its slot
+pub record CanResetTable (s : Settings) (lease : LeasedTable) (local : Queue) : Type 0 where
+  pub page : s.table_keep_resident.page ≡ s.page
+  pub region : (region : Told) × IsInRegion s.page lease region
+  pub room : CanQueue (table_slot lease.index) local
+
+-- the queue has no ranges, and there is room among the slots to be freed
 pub record CanPutNext (local : Queue) (freed : Reserved FreedSlot) : Type 0 where
   pub no_ranges : local.ranges ≡ []
-  pub some : 0 < length local.slots
-  pub kind : (m : Queued) (rest : List Queued) → local.slots ≡ m ∷ rest → m.name.kind ≡ memory_kind
   pub room : length freed.items < freed.room
 
 -- the slots are used in their shard
@@ -110,7 +136,8 @@ module _ {P : Type 0} where
   -- just the next part of a flush
   abbrev pub CanFlush : FlushStep → PoolCore P → Frame P → Type 0
   CanFlush run c f = (0 < length f.local.ranges) × HasOwners f.local
-  CanFlush put c f = ((m : Queued) (rest : List Queued) → f.local.slots ≡ m ∷ rest → CanPlace c.plan m.name × IsAt IsCellPart (cell_place c.plan m.name) c.parts) × CanPutNext f.local f.freed
+  CanFlush (zero kind) c f = f.local.ranges ≡ []
+  CanFlush (put kind) c f = ((m : Queued) → first_of_kind kind f.local.slots ≡ Some m → CanPlace c.plan m.name × IsAt IsCellPart (cell_place c.plan m.name) c.parts) × CanPutNext f.local f.freed
   CanFlush free c f = IsAt IsShardPart (first_shard c.plan f.freed.items) c.parts × CanFree c.plan f.freed.items (shard_at (first_shard c.plan f.freed.items) c)
 
   -- in each phase
@@ -119,17 +146,21 @@ module _ {P : Type 0} where
   CanStepAt Key c f = (0 < length c.plan.memories) × (length c.plan.memories < 2 ^ 32)
   CanStepAt Validate c f = CanValidate (memories_wanted f.asked)
   CanStepAt CountInstance c f = c.counters.core_instances + 1 < 2 ^ 64
-  CanStepAt (Pick tried) c f = CanTryShard c.plan f.stripe tried × IsAt IsShardPart (shard_tried tried c.plan f) c.parts × (length f.objects.memories.items < 2 ^ 32)
-  CanStepAt TakeQueue c f = (f.queues < queues_searched c.plan) × (f.stripe < length c.plan.memories) × CanTryQueue c.plan f.home × IsAt IsQueuePart (queue_tried f.queues c.plan f) c.parts × IsSpareOf (queue_at (queue_tried f.queues c.plan f) c) f.local
-  CanStepAt (TakeRegion name) c f = CanPlace c.plan name × IsAt IsCellPart (cell_place c.plan name) c.parts × CanTakeRegion c.settings (cell_named name c)
+  CanStepAt (Pick tried) c f = HasAllocators c.plan f.stripe × CanTryShard c.plan (allocator_for c.plan f) tried × IsAt IsShardPart (shard_tried tried c.plan f) c.parts × (length f.objects.memories.items < 2 ^ 32)
+  CanStepAt TakeQueue c f = (f.queues < queues_searched c.plan) × HasAllocators c.plan f.stripe × CanTryQueue c.plan f.home × IsAt IsQueuePart (queue_tried f.queues c.plan f) c.parts × IsSpareOf (queue_at (queue_tried f.queues c.plan f) c) f.local
+  CanStepAt (TakeRegion name) c f = CanPlace c.plan name × IsAt IsCellPart (cell_place c.plan name) c.parts × CanTakeRegion c.settings name.kind (cell_named name c)
   CanStepAt (Empty at held) c f = Unit {0}
   CanStepAt (Instantiate at held) c f = HasNext f.asked (length f.objects.memories.items) × IsClean held × IfAllocated f (CanBegin held (image_wanted f))
   CanStepAt (MakeMemory at held) c f = HasNext f.asked (length f.objects.memories.items) × IfAllocated f (CanMake c.settings held)
+  CanStepAt (MakeTable at region) c f = HasTableNext f.asked (length f.objects.tables.items) × IfTable f (CanMakeTable c.settings region)
   CanStepAt (CountObject (Memory lease)) c f = (c.counters.memories + 1 < 2 ^ 64) × (length f.objects.memories.items < f.objects.memories.room)
+  CanStepAt (CountObject (Table lease)) c f = (c.counters.tables + 1 < 2 ^ 64) × (length f.objects.tables.items < f.objects.tables.room)
   CanStepAt (PutBack at held) c f = CanPlace c.plan at.name × IsAt IsCellPart (cell_place c.plan at.name) c.parts × IsCleanOnceUsed (cell_of held)
   CanStepAt (FreeOne name) c f = IsAt IsShardPart (home_of c.plan name).place c.parts × CanFreeOne name c.plan (shard_at (home_of c.plan name).place c)
   CanStepAt (UncountObject (Memory lease)) c f = 0 < c.counters.memories
+  CanStepAt (UncountObject (Table lease)) c f = 0 < c.counters.tables
   CanStepAt (Reset (Memory lease)) c f = CanReset c.settings (slot_of lease.memory) f.local
+  CanStepAt (Reset (Table lease)) c f = CanResetTable c.settings lease f.local
   CanStepAt Merge c f = CanTryQueue c.plan f.home × IsAt IsQueuePart (queue_tried 0 c.plan f) c.parts × CanMerge (queue_at (queue_tried 0 c.plan f) c) f.local
-  CanStepAt Flush c f = CanFlush (flush_step f.local) c f
+  CanStepAt Flush c f = CanFlush (flush_step f.local f.freed.items) c f
   CanStepAt UncountInstance c f = (0 < c.counters.core_instances) × (is_granting f.ending ≡ false)

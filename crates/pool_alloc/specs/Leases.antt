@@ -50,7 +50,7 @@ pub record IsGrown {R : Type 0} (told : R → LimiterTold) (leads : R → Exchan
   pub memory : IsUsable new.memory
 
 -- the lease at this place was so changed, and the others stay
-pub record IsChanged (Change : Lease → Lease → Type 0) (place : ℕ) (old new : Reserved Lease) : Type 0 where
-  pub lease : Lease
-  pub change : (d : Lease) → Change (slice_index_or old.items place d) lease
+pub record IsChanged {L : Type 0} (Change : L → L → Type 0) (place : ℕ) (old new : Reserved L) : Type 0 where
+  pub lease : L
+  pub change : (d : L) → Change (slice_index_or old.items place d) lease
   pub is : new ≡ record old { items = slice_set old.items place lease }

@@ -1,7 +1,8 @@
 -- The module of which an instance is asked for.
 use Rattle.std.specs.Prelude.{◌≡◌, length, slice_get, Option, IfSome}
 use Rattle.pool_pages.specs.declared.module_types.MemoryDecl.{MemoryDecl}
-use Rattle.pool_alloc.specs.Steps.{memories_wanted}
+use Rattle.pool_pages.specs.declared.table_type.TableType.{TableType}
+use Rattle.pool_alloc.specs.Steps.{memories_wanted, tables_wanted}
 use Rattle.pool_alloc.specs.declared.frame.Frame.{Frame}
 use Rattle.pool_alloc.specs.Asked.{ModuleAsked}
 
@@ -13,3 +14,7 @@ module _ {P : Type 0} where
   -- the memory that is allocated
   abbrev pub IfAllocated : Frame P → (MemoryDecl → Type 0) → Type 0
   IfAllocated f Q = IfSome (slice_get (memories_wanted f.asked) (length f.objects.memories.items)) Q
+
+  -- and the table
+  abbrev pub IfTable : Frame P → (TableType → Type 0) → Type 0
+  IfTable f Q = IfSome (slice_get (tables_wanted f.asked) (length f.objects.tables.items)) Q

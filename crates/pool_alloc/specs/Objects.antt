@@ -1,26 +1,28 @@
 -- What is allocated for an instance: its objects, one after the other.
-use Rattle.std.specs.Prelude.{ℕ, length, Option}
+use Rattle.std.specs.Prelude.{ℕ, ◌+◌, length, Option}
 use Rattle.pool_alloc.specs.Asked.{ModuleAsked}
 use Rattle.pool_alloc.specs.Leases.{slot_taken}
 use Rattle.pool_alloc.specs.Reserved.{no_room}
-use Rattle.pool_alloc.specs.Steps.{memories_wanted}
+use Rattle.pool_alloc.specs.Steps.{memories_wanted, tables_wanted}
+use Rattle.pool_alloc.specs.TableLeases.{table_taken}
 use Rattle.pool_alloc.specs.declared.frame.Object.{Object}
-use Rattle.pool_alloc.specs.declared.frame.Object.TheVariants.{Memory}
+use Rattle.pool_alloc.specs.declared.frame.Object.TheVariants.{Memory, Table}
 use Rattle.pool_alloc.specs.declared.frame.TakenSlot.{TakenSlot}
 use Rattle.pool_alloc.specs.declared.lease.InstanceLease.{InstanceLease}
 
 -- how many objects a request is for
 abbrev pub objects_wanted : Option ModuleAsked → ℕ
-objects_wanted asked = length (memories_wanted asked)
+objects_wanted asked = length (memories_wanted asked) + length (tables_wanted asked)
 
 module _ {P : Type 0} where
   -- how many of them are there, and nothing of them
   abbrev pub objects_in : InstanceLease P → ℕ
-  objects_in lease = length lease.memories.items
+  objects_in lease = length lease.memories.items + length lease.tables.items
 
   abbrev pub no_objects : InstanceLease P
-  no_objects = record { memories = no_room }
+  no_objects = record { memories = no_room; tables = no_room }
 
   -- the slot of an object, and the numbers that its region went out with
   abbrev pub slot_of_object : Object P → TakenSlot
   slot_of_object (Memory lease) = slot_taken lease
+  slot_of_object (Table lease) = table_taken lease

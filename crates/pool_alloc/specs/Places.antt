@@ -7,7 +7,7 @@ use Rattle.pool_alloc.specs.declared.pool_core.PoolCore.{PoolCore}
 use Rattle.pool_alloc.specs.declared.frame.Frame.{Frame}
 use Rattle.pool_alloc.specs.declared.frame.FreedSlot.{FreedSlot}
 use Rattle.pool_alloc.specs.declared.frame.Phase.{Phase}
-use Rattle.pool_alloc.specs.declared.frame.Phase.TheVariants.{Idle, Key, Validate, CountInstance, TakeRegion, Empty, Instantiate, MakeMemory, CountObject, PutBack, FreeOne, UncountObject, Reset}
+use Rattle.pool_alloc.specs.declared.frame.Phase.TheVariants.{Idle, Key, Validate, CountInstance, TakeRegion, Empty, Instantiate, MakeMemory, MakeTable, CountObject, PutBack, FreeOne, UncountObject, Reset}
 use Rattle.pool_hall.specs.Sum.{total}
 use Rattle.pool_hall.specs.declared.unit_name.UnitName.{UnitName}
 use Rattle.pool_slots.specs.RegionCells.{right_to as unit_right, region_of as unit_region}
@@ -16,8 +16,9 @@ use Rattle.pool_slots.specs.ListUnits.{is_right, is_region, all_away, all_kept}
 use Rattle.pool_slots.specs.declared.slot_name.RegionNumbers.{RegionNumbers}
 use Rattle.pool_slots.specs.declared.slot_name.SlotName.{SlotName}
 use Rattle.pool_alloc.specs.Objects.{slot_of_object}
+use Rattle.pool_alloc.specs.TableLeases.{LeasedTable, table_slot}
 use Rattle.pool_alloc.specs.declared.frame.Object.{Object}
-use Rattle.pool_alloc.specs.declared.frame.Object.TheVariants.{Memory}
+use Rattle.pool_alloc.specs.declared.frame.Object.TheVariants.{Memory, Table}
 use Rattle.pool_alloc.specs.declared.frame.TakenSlot.{TakenSlot}
 use Rattle.pool_alloc.specs.declared.lease.InstanceLease.{InstanceLease}
 
@@ -46,12 +47,15 @@ both_count t name numbers = slot_count t name + region_count t name numbers
 abbrev pub taken_count : Thing → TakenSlot → ℕ
 taken_count t at = both_count t at.name at.numbers
 
--- what slots in a queue weigh, with their regions; and likewise leases of memories; and slots that are to be freed
+-- what slots in a queue weigh, with their regions; and likewise leases of memories and of tables; and slots that are to be freed
 abbrev pub queued_count : Thing → List Queued → ℕ
 queued_count t slots = total t (units_of_slots slots)
 
 abbrev pub leased_count : Thing → List Lease → ℕ
 leased_count t leases = sum_by (λ l. both_count t (memory_slot l.index) l.numbers) leases
+
+abbrev pub tables_count : Thing → List LeasedTable → ℕ
+tables_count t leases = sum_by (λ l. both_count t (table_slot l.index) l.numbers) leases
 
 abbrev pub freed_count : Thing → List FreedSlot → ℕ
 freed_count t slots = sum_by (λ x. slot_count t x.name) slots
@@ -66,7 +70,7 @@ module _ {P : Type 0} where
 
   -- what an instance has
   abbrev pub instance_count : Thing → InstanceLease P → ℕ
-  instance_count t lease = leased_count t lease.memories.items
+  instance_count t lease = leased_count t lease.memories.items + tables_count t lease.tables.items
 
   -- what a call has taken for its next step
   abbrev pub phase_count : Thing → Phase P → ℕ
@@ -74,6 +78,7 @@ module _ {P : Type 0} where
   phase_count t (Empty at held) = taken_count t at
   phase_count t (Instantiate at held) = taken_count t at
   phase_count t (MakeMemory at held) = taken_count t at
+  phase_count t (MakeTable at region) = taken_count t at
   phase_count t (CountObject object) = taken_count t (slot_of_object object)
   phase_count t (PutBack at held) = taken_count t at
   phase_count t (FreeOne name) = slot_count t name
@@ -85,7 +90,7 @@ module _ {P : Type 0} where
   abbrev pub frame_count : Thing → Frame P → ℕ
   frame_count t f = instance_count t f.objects + queued_count t f.local.slots + freed_count t f.freed.items + phase_count t f.phase
 
-  -- how many instances a call has counted, and how many memories
+  -- how many instances a call has counted, how many memories, and how many tables
   abbrev pub phase_instances : Phase P → ℕ
   phase_instances Idle = 0
   phase_instances Key = 0
@@ -95,6 +100,11 @@ module _ {P : Type 0} where
 
   abbrev pub memory_in : Object P → ℕ
   memory_in (Memory lease) = 1
+  memory_in (Table lease) = 0
+
+  abbrev pub table_in : Object P → ℕ
+  table_in (Memory lease) = 0
+  table_in (Table lease) = 1
 
   abbrev pub phase_memories : Phase P → ℕ
   phase_memories (UncountObject object) = memory_in object
@@ -102,3 +112,10 @@ module _ {P : Type 0} where
 
   abbrev pub frame_memories : Frame P → ℕ
   frame_memories f = length f.objects.memories.items + phase_memories f.phase
+
+  abbrev pub phase_tables : Phase P → ℕ
+  phase_tables (UncountObject object) = table_in object
+  phase_tables _ = 0
+
+  abbrev pub frame_tables : Frame P → ℕ
+  frame_tables f = length f.objects.tables.items + phase_tables f.phase

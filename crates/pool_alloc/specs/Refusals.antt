@@ -1,16 +1,17 @@
 -- Which modules the pool refuses, and for which of the rules that they break.
-use Rattle.std.specs.Prelude.{ℕ, ◌%◌, ◌^◌, ◌==◌, List, [], ◌∷◌, length, nat_le, nat_lt, if◌then◌else◌, Option, Some, None}
+use Rattle.std.specs.Prelude.{ℕ, ◌%◌, ◌^◌, ◌+◌, ◌==◌, List, [], ◌∷◌, length, nat_le, nat_lt, if◌then◌else◌, Option, Some, None}
 use Rattle.std.specs.Option.{option_or}
 use Rattle.pool_pages.specs.MemoryTypes.{minimum_byte_size, refused_limits}
 use Rattle.pool_pages.specs.declared.module_types.ImageDecl.{ImageDecl}
 use Rattle.pool_pages.specs.declared.module_types.MemoryDecl.{MemoryDecl}
 use Rattle.pool_pages.specs.declared.module_types.MemoryType.{MemoryType}
+use Rattle.pool_pages.specs.declared.table_type.TableType.{TableType}
 use Rattle.pool_pages.specs.declared.unsupported.Unsupported.{Unsupported}
-use Rattle.pool_pages.specs.declared.unsupported.Unsupported.TheVariants.{ImageOffset, MemoriesPerModule, MemoryUnrepresentable, MemoryExceedsSlot, MemoryShared}
+use Rattle.pool_pages.specs.declared.unsupported.Unsupported.TheVariants.{ImageOffset, MemoriesPerModule, MemoryUnrepresentable, MemoryExceedsSlot, MemoryShared, TablesPerModule, TotalTables, TableExceedsSlot}
 use Rattle.pool_alloc.specs.declared.pool_core.Settings.{Settings}
 
--- the refusal of the first memory of which a rule is broken
-abbrev pub first_refused : (MemoryDecl → Option Unsupported) → List MemoryDecl → Option Unsupported
+-- the refusal of the first memory or table of which a rule is broken
+abbrev pub first_refused : {X : Type 0} → (X → Option Unsupported) → List X → Option Unsupported
 first_refused rule [] = None
 first_refused rule (decl ∷ decls) = option_or (rule decl) (first_refused rule decls)
 
@@ -34,10 +35,26 @@ memory_refused s ty =
     else (if ty.shared then Some MemoryShared else None)
     )
 
--- The first rule that a module with these memories breaks: each rule is tested for all memories before the next is.
-abbrev pub memories_refused : Settings → List MemoryDecl → Option Unsupported
-memories_refused s decls =
-    option_or (first_refused (λ d. offset_refused s.page d.image) decls)
-    (option_or (first_refused (λ d. refused_limits d.ty.limits) decls)
-    (option_or (number_refused s (length decls))
-    (first_refused (λ d. memory_refused s d.ty) decls)))
+-- an instance may have so many tables, and so may the pool
+abbrev pub tables_refused : Settings → ℕ → ℕ → Option Unsupported
+tables_refused s total n =
+    if nat_lt s.max_tables_per_module n
+    then Some (TablesPerModule n s.max_tables_per_module)
+    else (if nat_lt total n then Some (TotalTables n total) else None)
+
+-- the first table, of those of which the first has this number, that has more elements than a table may have
+abbrev pub long_table : Settings → ℕ → List TableType → Option Unsupported
+long_table s i [] = None
+long_table s i (ty ∷ tys) = option_or (if nat_lt s.table_elements ty.limits.min then Some (TableExceedsSlot i ty.limits.min s.table_elements) else None) (long_table s (i + 1) tys)
+
+-- The first rule that a module with these memories and tables breaks, in a pool with so many slots for tables: each rule is
+-- tested for all memories or tables before the next is.
+abbrev pub module_refused : Settings → ℕ → List MemoryDecl → List TableType → Option Unsupported
+module_refused s total memories tables =
+    option_or (first_refused (λ (d : MemoryDecl). offset_refused s.page d.image) memories)
+    (option_or (first_refused (λ (d : MemoryDecl). refused_limits d.ty.limits) memories)
+    (option_or (first_refused (λ (ty : TableType). refused_limits ty.limits) tables)
+    (option_or (number_refused s (length memories))
+    (option_or (first_refused (λ (d : MemoryDecl). memory_refused s d.ty) memories)
+    (option_or (tables_refused s total (length tables))
+    (long_table s 0 tables))))))

@@ -1,6 +1,6 @@
 -- The step table: what each step of a call does to the pool, of which it changes one part, and to the party's frame, and
 -- with which turn it ends.
-use Rattle.std.specs.Prelude.{ℕ, ◌+◌, ◌-◌, ◌%◌, ◌^◌, ◌==◌, ◌||◌, List, [], ◌∷◌, length, Bool, true, false, nat_lt, nat_le, if◌then◌else◌, Option, Some, None, Result, Ok, Err}
+use Rattle.std.specs.Prelude.{◌≡◌, ℕ, ◌+◌, ◌-◌, ◌%◌, ◌^◌, ◌==◌, ◌||◌, List, [], ◌∷◌, length, Bool, true, false, nat_lt, nat_le, if◌then◌else◌, Option, Some, None, Result, Ok, Err, is_some}
 use Rattle.pool_pages.specs.declared.unsupported.Unsupported.{Unsupported}
 use Rattle.pool_images.specs.Slots.{Slot, forgotten}
 use Rattle.pool_index.specs.Shard.{ShardState, pick_answer, after_pick, after_free, slot_number}
@@ -13,26 +13,33 @@ use Rattle.pool_memory.specs.declared.memory_error.MemoryError.{MemoryError}
 use Rattle.pool_slots.specs.Cells.{Cell, unmapped, unknown, previously_used, taken}
 use Rattle.pool_slots.specs.CellOf.{cell_of}
 use Rattle.pool_slots.specs.Plans.{home_of}
-use Rattle.pool_slots.specs.declared.cells.ImageSlot.TheVariants.{Unknown}
+use Rattle.pool_slots.specs.declared.cells.ImageSlot.TheVariants.{Unmapped, Unknown}
 use Rattle.pool_slots.specs.declared.slot_name.SlotName.{SlotName}
 use Rattle.pool_slots.specs.RegionCells.{CellState, cell_numbers, cell_emptied, cell_filled}
-use Rattle.pool_slots.specs.SlotQueues.{Queue, Queued, after_append, after_take, taken_into, drained}
+use Rattle.pool_slots.specs.SlotQueues.{Queue, Queued, same_kind, is_to_zero, first_of_kind, others_of_kind, first_zeroed, after_append, after_take, taken_into, drained}
 use Rattle.pool_slots.specs.declared.plan.Plan.{Plan}
+use Rattle.pool_hall.specs.declared.unit_name.SlotKind.{SlotKind}
+use Rattle.pool_hall.specs.declared.unit_name.SlotKind.TheVariants.{Memory as memory_kind, Table as table_kind}
+use Rattle.pool_pages.specs.Told.{Told}
+use Rattle.std.specs.List.{list_any}
+use Rattle.pool_alloc.specs.TableLeases.{LeasedTable}
+use Rattle.pool_alloc.specs.TableSteps.{table_made, table_reset_into}
+use Rattle.pool_alloc.specs.declared.frame.FreedSlot.{FreedSlot}
 use Rattle.pool_slots.specs.declared.errors.AllocError.{AllocError}
 use Rattle.pool_slots.specs.declared.errors.AllocError.TheVariants as refusal
 use Rattle.pool_slots.specs.declared.errors.ConcurrencyKind.TheVariants.{CoreInstances}
 use Rattle.pool_alloc.specs.Reserved.{with_item}
 use Rattle.pool_alloc.specs.Leases.{Lease, slot_taken}
 use Rattle.pool_alloc.specs.Own.{image_made, reset_into, refusal_of, memory_made}
-use Rattle.pool_alloc.specs.Refusals.{memories_refused}
-use Rattle.pool_alloc.specs.Steps.{StepGiven, memories_wanted, shard_at, cell_named, queue_at, freed_of, freed_elsewhere, first_shard, after_frees, allocator_for, with_shard, with_cell, with_queue, counting_keys, counting_instances, counting_memories, wanted, cell_returned, shard_tried, queue_tried}
-use Rattle.pool_alloc.specs.Turns.{Turn, goes, ends, next, flush, stays, Row, lifted, After, failing, memory_search, stepped}
+use Rattle.pool_alloc.specs.Refusals.{module_refused}
+use Rattle.pool_alloc.specs.Steps.{StepGiven, memories_wanted, tables_wanted, shard_at, cell_named, queue_at, freed_of, freed_elsewhere, first_shard, after_frees, allocator_for, with_shard, with_cell, with_queue, counting_keys, counting_instances, counting_memories, counting_tables, wanted, cell_returned, shard_tried, queue_tried}
+use Rattle.pool_alloc.specs.Turns.{Turn, goes, ends, next, flush, stays, Row, lifted, After, failing, slot_search, stepped}
 use Rattle.pool_alloc.specs.declared.pool_core.PoolCore.{PoolCore}
 use Rattle.pool_alloc.specs.declared.pool_core.Settings.{Settings}
 use Rattle.pool_alloc.specs.declared.frame.Frame.{Frame}
 use Rattle.pool_alloc.specs.declared.frame.Phase.{Phase}
 use Rattle.pool_alloc.specs.declared.frame.TakenSlot.{TakenSlot}
-use Rattle.pool_alloc.specs.declared.frame.Phase.TheVariants.{Idle, Key, Validate, CountInstance, Pick, TakeQueue, TakeRegion, Empty, Instantiate, MakeMemory, CountObject, PutBack, FreeOne, UncountObject, Reset, Merge, Flush, UncountInstance}
+use Rattle.pool_alloc.specs.declared.frame.Phase.TheVariants.{Idle, Key, Validate, CountInstance, Pick, TakeQueue, TakeRegion, Empty, Instantiate, MakeMemory, MakeTable, CountObject, PutBack, FreeOne, UncountObject, Reset, Merge, Flush, UncountInstance}
 use Rattle.pool_alloc.specs.declared.frame.Ending.{Ending}
 use Rattle.pool_alloc.specs.declared.frame.Ending.TheVariants.{Refused as refused}
 use Rattle.pool_alloc.specs.declared.frame.Object.{Object}
@@ -40,21 +47,45 @@ use Rattle.pool_alloc.specs.declared.frame.Object.TheVariants as object
 use Rattle.pool_alloc.specs.declared.frame.Outcome.{Outcome}
 use Rattle.pool_alloc.specs.declared.frame.Outcome.TheVariants as answer
 
--- which part of a flush is next: ranges of one slot are decommitted, a region is put back, or slots are freed
+-- Which part of a flush is next: ranges of one slot are decommitted, a slot of a kind is zeroed by hand, the region of one
+-- is put back, or slots are freed.
 pub data FlushStep : Type 0 where
   run : FlushStep
-  put : FlushStep
+  zero : SlotKind → FlushStep
+  put : SlotKind → FlushStep
   free : FlushStep
 
-abbrev pub flush_step : Queue → FlushStep
-flush_step local = if length local.ranges == 0 then (if length local.slots == 0 then free else put) else run
+-- Some slot of a kind is queued, or such slots are still to be freed: those that wait are all of the kind of the first.
+abbrev pub some_queued : SlotKind → List Queued → Bool
+some_queued kind slots = is_some (first_of_kind kind slots)
+
+abbrev pub some_freed : SlotKind → List FreedSlot → Bool
+some_freed kind [] = false
+some_freed kind (x ∷ rest) = same_kind kind x.name.kind
+
+-- Where no ranges are left, memories are put back one by one and then freed, and after them tables, of which those are
+-- zeroed first that have to be.
+abbrev pub put_step : List Queued → FlushStep
+put_step slots = if some_queued table_kind slots then put table_kind else free
+
+abbrev pub tables_step : List Queued → FlushStep
+tables_step slots = if list_any (is_to_zero table_kind) slots then zero table_kind else put_step slots
+
+abbrev pub freed_step : List Queued → List FreedSlot → FlushStep
+freed_step slots freed = if some_freed memory_kind freed then free else tables_step slots
+
+abbrev pub settled_step : List Queued → List FreedSlot → FlushStep
+settled_step slots freed = if some_queued memory_kind slots then put memory_kind else freed_step slots freed
+
+abbrev pub flush_step : Queue → List FreedSlot → FlushStep
+flush_step local freed = if length local.ranges == 0 then settled_step local.slots freed else run
 
 -- The rows that change one part: what each leaves of the part, of the frame, and its turn.
 module _ {P : Type 0} where
   -- A slot is picked from a shard: the shard gave one, the next is tried, or after the last the search goes on.
   abbrev pub picked : Plan → Option (SlotId × ℕ) → ShardState → ℕ → Frame P → Turn P
   picked plan (Some p) shard tried f = goes (TakeRegion (record { kind = (allocator_for plan f).kind; slot = slot_number shard p.0.0 }))
-  picked plan None shard tried f = if nat_lt (tried + 1) (allocator_for plan f).shards then goes (Pick (tried + 1)) else memory_search plan f
+  picked plan None shard tried f = if nat_lt (tried + 1) (allocator_for plan f).shards then goes (Pick (tried + 1)) else slot_search plan f
 
   abbrev pub pick_on : Plan → ℕ → ShardState → Frame P → Row ShardState P
   pick_on plan tried shard f = record {
@@ -75,9 +106,14 @@ module _ {P : Type 0} where
     turn = flush;
   }
 
-  -- A region leaves its cell. An image slot is made of one that was never used.
+  -- A region leaves its cell. An image slot is made of one that was never used, and a table in one of a table.
+  abbrev pub unmapped_next : Settings → SlotKind → TakenSlot → Told → Turn P
+  unmapped_next s memory_kind at region = goes (Instantiate at (image_made s.page s.max_memory_size region))
+  unmapped_next s table_kind at region = goes (MakeTable at region)
+  unmapped_next s _ at region = goes Idle
+
   abbrev pub region_next : Settings → TakenSlot → Cell → Turn P
-  region_next s at (unmapped region) = goes (Instantiate at (image_made s.page s.max_memory_size region))
+  region_next s at (unmapped region) = unmapped_next s at.name.kind at region
   region_next s at (unknown held) = goes (Empty at held)
   region_next s at (previously_used held) = goes (Instantiate at held)
   region_next s at taken = goes Idle
@@ -105,7 +141,7 @@ module _ {P : Type 0} where
   take_queue_on plan queue f = record {
     part = after_take queue;
     frame = record f { local = taken_into f.local queue; queues = f.queues + 1 };
-    turn = if length queue.slots == 0 then memory_search plan f else flush;
+    turn = if length queue.slots == 0 then slot_search plan f else flush;
   }
 
   -- The local queue is appended. Where there are as many ranges as a batch then, the whole queue comes into the local one
@@ -150,7 +186,11 @@ module _ {P : Type 0} where
   -- the lists of what is to be granted are reserved, or there was no memory for them
   abbrev pub reserved : Bool → PoolCore P → Frame P → Row (PoolCore P) P
   reserved true c f = refused_at_once refusal.Memory c f
-  reserved false c f = record { part = c; frame = record f { objects = record { memories = record { items = []; room = length (memories_wanted f.asked) } } }; turn = goes CountInstance }
+  reserved false c f = record {
+    part = c;
+    frame = record f { objects = record { memories = record { items = []; room = length (memories_wanted f.asked) }; tables = record { items = []; room = length (tables_wanted f.asked) } } };
+    turn = goes CountInstance;
+  }
 
   abbrev pub validated : Option Unsupported → Bool → PoolCore P → Frame P → Row (PoolCore P) P
   validated (Some rule) wants c f = refused_at_once (refusal.Unsupported rule) c f
@@ -158,7 +198,7 @@ module _ {P : Type 0} where
 
   -- The module is tested, and the lists of its objects reserved.
   abbrev pub validate_row : Bool → PoolCore P → Frame P → Row (PoolCore P) P
-  validate_row wants c f = validated (memories_refused c.settings (memories_wanted f.asked)) wants c f
+  validate_row wants c f = validated (module_refused c.settings c.plan.totals.table (memories_wanted f.asked) (tables_wanted f.asked)) wants c f
 
   -- The instance is counted, also where there are too many.
   abbrev pub counted : Bool → PoolCore P → Frame P → Row (PoolCore P) P
@@ -192,6 +232,19 @@ module _ {P : Type 0} where
   abbrev pub make_memory_row : Result Bool LimiterError → TakenSlot → Slot → PoolCore P → Frame P → Row (PoolCore P) P
   make_memory_row given at held c f = was_made at held (memory_made c.settings (memories_wanted f.asked) (length f.objects.memories.items) given held) c f
 
+  -- The limiter is asked, and the table made.
+  abbrev pub was_made_table : TakenSlot → Told → Result LeasedTable AllocError → PoolCore P → Frame P → Row (PoolCore P) P
+  was_made_table at region (Ok lease) c f = record { part = c; frame = f; turn = goes (CountObject (object.Table lease)) }
+  was_made_table at region (Err e) c f = record { part = c; frame = failing e f; turn = goes (PutBack at (Unmapped region)) }
+
+  -- the same of what the code's making answers
+  abbrev pub table_made_by : TakenSlot → Result LeasedTable (Told × AllocError) → PoolCore P → Frame P → Row (PoolCore P) P
+  table_made_by at (Ok lease) c f = record { part = c; frame = f; turn = goes (CountObject (object.Table lease)) }
+  table_made_by at (Err left) c f = was_made_table at left.0 (Err left.1) c f
+
+  abbrev pub make_table_row : Result Bool LimiterError → TakenSlot → Told → PoolCore P → Frame P → Row (PoolCore P) P
+  make_table_row given at region c f = was_made_table at region (table_made c.settings (tables_wanted f.asked) (length f.objects.tables.items) given at region) c f
+
   -- The object is granted. The search for the next one's slot begins anew.
   abbrev pub count_object_row : Object P → PoolCore P → Frame P → Row (PoolCore P) P
   count_object_row (object.Memory lease) c f = record {
@@ -199,13 +252,19 @@ module _ {P : Type 0} where
     frame = record f { objects = record f.objects { memories = with_item lease f.objects.memories }; queues = 0 };
     turn = next;
   }
+  count_object_row (object.Table lease) c f = record {
+    part = counting_tables (c.counters.tables + 1) c;
+    frame = record f { objects = record f.objects { tables = with_item lease f.objects.tables }; queues = 0 };
+    turn = next;
+  }
 
   -- The object is no grant any more.
   abbrev pub uncount_object_row : Object P → PoolCore P → Frame P → Row (PoolCore P) P
   uncount_object_row (object.Memory lease) c f = record { part = counting_memories (c.counters.memories - 1) c; frame = f; turn = goes (Reset (object.Memory lease)) }
+  uncount_object_row (object.Table lease) c f = record { part = counting_tables (c.counters.tables - 1) c; frame = f; turn = goes (Reset (object.Table lease)) }
 
-  -- The memory is reset into the local queue. That is flushed where it has no range or as many as a batch, and else
-  -- appended to the home queue. Where a page call of the reset failed, nothing is known of the slot.
+  -- The object is reset into the local queue. That is flushed where it has no range or as many as a batch, and else
+  -- appended to the home queue. Where a page call of a memory's reset failed, nothing is known of the slot.
   abbrev pub reset_turn : ℕ → Queue → Turn P
   reset_turn batch local = if (length local.ranges == 0) || nat_le batch (length local.ranges) then flush else goes Merge
 
@@ -215,8 +274,14 @@ module _ {P : Type 0} where
       let local : Queue = reset_into c.settings.keep_resident.bytes (slot_taken lease) (slot_of lease.memory) f.local in
       record { part = c; frame = record f { local = local }; turn = reset_turn c.settings.batch local }
 
+  abbrev pub table_reset_row : LeasedTable → PoolCore P → Frame P → Row (PoolCore P) P
+  table_reset_row lease c f =
+      let local : Queue = table_reset_into c.settings lease f.local in
+      record { part = c; frame = record f { local = local }; turn = reset_turn c.settings.batch local }
+
   abbrev pub reset_row : StepGiven → Object P → PoolCore P → Frame P → Row (PoolCore P) P
   reset_row g (object.Memory lease) c f = was_reset g.fault g.slot lease c f
+  reset_row g (object.Table lease) c f = table_reset_row lease c f
 
   -- the answer that a call ends with once all is given back
   abbrev pub answer_of : Ending → Outcome P
@@ -230,17 +295,28 @@ module _ {P : Type 0} where
   abbrev pub decommit_row : Queue → PoolCore P → Frame P → Row (PoolCore P) P
   decommit_row queue c f = record { part = c; frame = record f { local = queue }; turn = flush }
 
-  abbrev pub put_region_row : List Queued → PoolCore P → Frame P → Row (PoolCore P) P
-  put_region_row [] c f = record { part = c; frame = f; turn = goes Idle }
-  put_region_row (m ∷ rest) c f = in_cell m.name c (put_region_on m rest (cell_named m.name c) f)
+  abbrev pub put_first : Option Queued → List Queued → PoolCore P → Frame P → Row (PoolCore P) P
+  put_first None rest c f = record { part = c; frame = f; turn = goes Idle }
+  put_first (Some m) rest c f = in_cell m.name c (put_region_on m rest (cell_named m.name c) f)
+
+  abbrev pub put_region_row : SlotKind → PoolCore P → Frame P → Row (PoolCore P) P
+  put_region_row kind c f = put_first (first_of_kind kind f.local.slots) (others_of_kind kind f.local.slots) c f
+
+  abbrev pub zero_row : SlotKind → PoolCore P → Frame P → Row (PoolCore P) P
+  zero_row kind c f = record { part = c; frame = record f { local = record f.local { slots = first_zeroed kind f.local.slots } }; turn = flush }
 
   abbrev pub free_row : PoolCore P → Frame P → Row (PoolCore P) P
   free_row c f = let place : ℕ = first_shard c.plan f.freed.items in in_shard place c (free_on c.plan place (shard_at place c) f)
 
   abbrev pub flush_row : FlushStep → Queue → PoolCore P → Frame P → Row (PoolCore P) P
   flush_row run queue c f = decommit_row queue c f
-  flush_row put queue c f = put_region_row f.local.slots c f
+  flush_row (zero kind) queue c f = zero_row kind c f
+  flush_row (put kind) queue c f = put_region_row kind c f
   flush_row free queue c f = free_row c f
+
+-- A step of a flush that decommits nothing leaves this.
+abbrev pub SettlesTo : {P : Type 0} → FlushStep → PoolCore P → Frame P → After P → Type 0
+SettlesTo step c f after = (queue : Queue) → after ≡ stepped (flush_row step queue c f)
 
 -- The table.
 module _ {P : Type 0} where
@@ -255,13 +331,14 @@ module _ {P : Type 0} where
   row_of g (Empty at held) c f = empty_row g.fault g.slot at c f
   row_of g (Instantiate at held) c f = instantiate_row g.fault g.slot at c f
   row_of g (MakeMemory at held) c f = make_memory_row g.limiter at held c f
+  row_of g (MakeTable at region) c f = make_table_row g.limiter at region c f
   row_of g (CountObject held) c f = count_object_row held c f
   row_of g (PutBack at held) c f = in_cell at.name c (put_back_on at.name (cell_of held) (cell_named at.name c) f)
   row_of g (FreeOne name) c f = let place : ℕ = (home_of c.plan name).place in in_shard place c (free_one_on c.plan name (shard_at place c) f)
   row_of g (UncountObject held) c f = uncount_object_row held c f
   row_of g (Reset held) c f = reset_row g held c f
   row_of g Merge c f = let place : ℕ = queue_tried 0 c.plan f in in_queue place c (merge_on c.settings (queue_at place c) f)
-  row_of g Flush c f = flush_row (flush_step f.local) g.queue c f
+  row_of g Flush c f = flush_row (flush_step f.local f.freed.items) g.queue c f
   row_of g UncountInstance c f = uncount_instance_row c f
 
   -- A step takes the phase out of the frame, and makes its row with what the phase has.

@@ -1,6 +1,6 @@
 -- What holds of the pool's parts, and of a party's frame, between steps.
 use Rattle.std.specs.List.{AllByRecursion}
-use Rattle.std.specs.Prelude.{◌≡◌, ℕ, ◌+◌, ◌*◌, ◌%◌, ◌^◌, ◌<◌, ◌≤◌, List, [], length, slice_get, slice_index_or, All, false, Option, None, IsSome, IfSome}
+use Rattle.std.specs.Prelude.{◌≡◌, ℕ, ◌+◌, ◌*◌, ◌%◌, ◌^◌, ◌<◌, ◌≤◌, List, [], length, slice_get, slice_index_or, All, false, Option, None, IsSome, IfSome, ◌⊎◌}
 use Rattle.pool_pages.specs.Count.{IsPageSize}
 use Rattle.pool_pages.specs.MakerTold.{MakerTold}
 use Rattle.pool_pages.specs.MemoryTypes.{minimum_byte_size, refused_limits}
@@ -8,7 +8,7 @@ use Rattle.pool_pages.specs.declared.module_types.MemoryDecl.{MemoryDecl}
 use Rattle.pool_pages.specs.declared.pages.DecommitBehavior.{DecommitBehavior}
 use Rattle.pool_images.specs.Images.{Image}
 use Rattle.pool_images.specs.Slots.{Slot, IsClean, IsBegun, FitsInto}
-use Rattle.pool_hall.specs.declared.unit_name.SlotKind.TheVariants.{Memory as memory_kind}
+use Rattle.pool_hall.specs.declared.unit_name.SlotKind.TheVariants.{Memory as memory_kind, Table as table_kind}
 use Rattle.pool_memory.specs.Memories.{MemoryState, slot_of as image_slot_of}
 use Rattle.pool_memory.specs.Making.{maximum_asked}
 use Rattle.pool_memory.specs.Static.{CanHold, static_capacity}
@@ -19,7 +19,7 @@ use Rattle.pool_slots.specs.declared.slot_name.SlotName.{SlotName}
 use Rattle.pool_hall.specs.declared.unit_name.SlotKind.{SlotKind}
 use Rattle.pool_alloc.specs.Objects.{objects_in, objects_wanted}
 use Rattle.pool_alloc.specs.declared.frame.Object.{Object}
-use Rattle.pool_alloc.specs.declared.frame.Object.TheVariants.{Memory}
+use Rattle.pool_alloc.specs.declared.frame.Object.TheVariants.{Memory, Table}
 use Rattle.pool_alloc.specs.declared.lease.InstanceLease.{InstanceLease}
 use Rattle.pool_slots.specs.RegionCells.{CellState}
 use Rattle.pool_slots.specs.ListUnits.{IsShardOf}
@@ -29,14 +29,17 @@ use Rattle.pool_slots.specs.declared.plan.Allocator.{Allocator}
 use Rattle.pool_slots.specs.declared.plan.Plan.{Plan}
 use Rattle.pool_slots.specs.declared.part.PoolPart.{PoolPart}
 use Rattle.pool_slots.specs.declared.part.PoolPart.TheVariants as part
-use Rattle.pool_slots.specs.SlotQueues.{Queue, Queued, HasOwners, IsQueue}
+use Rattle.pool_slots.specs.SlotQueues.{Queue, Queued, first_of_kind, HasOwners, IsQueue}
 use Rattle.pool_alloc.specs.Reserved.{Reserved}
 use Rattle.pool_alloc.specs.Leases.{Lease, IsUsable}
-use Rattle.pool_alloc.specs.Modules.{HasImages, IfAllocated}
+use Rattle.pool_pages.specs.Told.{Told}
+use Rattle.pool_pages.specs.declared.table_type.TableType.{TableType}
+use Rattle.pool_alloc.specs.PoolTables.{IsPoolTable, IsInTableCell, IsTableRegion, IsTableLease, IsBegunTable}
+use Rattle.pool_alloc.specs.Modules.{HasImages, IfAllocated, IfTable}
 use Rattle.pool_alloc.specs.RangeRuns.{IsGrouped}
 use Rattle.pool_alloc.specs.Turns.{is_granting, is_flushed}
-use Rattle.pool_alloc.specs.Steps.{memories_wanted, images_wanted, image_wanted, memory_slots, queues_searched, allocator_for}
-use Rattle.pool_alloc.specs.Places.{Thing, right_to, region_of, kept_count, away_count, frame_count, phase_instances, frame_memories}
+use Rattle.pool_alloc.specs.Steps.{memories_wanted, images_wanted, image_wanted, memory_slots, queues_searched, allocator_for, tables_wanted, kind_next}
+use Rattle.pool_alloc.specs.Places.{Thing, right_to, region_of, kept_count, away_count, frame_count, phase_instances, frame_memories, frame_tables}
 use Rattle.pool_alloc.specs.declared.pool_core.PoolCore.{PoolCore}
 use Rattle.pool_alloc.specs.declared.pool_core.Settings.{Settings}
 use Rattle.pool_alloc.specs.declared.frame.Ending.{Ending}
@@ -45,7 +48,7 @@ use Rattle.pool_alloc.specs.declared.frame.Frame.{Frame}
 use Rattle.pool_alloc.specs.Asked.{ModuleAsked}
 use Rattle.pool_alloc.specs.declared.frame.FreedSlot.{FreedSlot}
 use Rattle.pool_alloc.specs.declared.frame.Phase.{Phase}
-use Rattle.pool_alloc.specs.declared.frame.Phase.TheVariants.{Idle, Key, Validate, CountInstance, Pick, TakeQueue, TakeRegion, Empty, Instantiate, MakeMemory, CountObject, PutBack, FreeOne, UncountObject, Reset, Merge, Flush, UncountInstance}
+use Rattle.pool_alloc.specs.declared.frame.Phase.TheVariants.{Idle, Key, Validate, CountInstance, Pick, TakeQueue, TakeRegion, Empty, Instantiate, MakeMemory, MakeTable, CountObject, PutBack, FreeOne, UncountObject, Reset, Merge, Flush, UncountInstance}
 
 -- the settings make sense
 pub record IsSettings (s : Settings) : Type 0 where
@@ -56,25 +59,33 @@ pub record IsSettings (s : Settings) : Type 0 where
   pub bounded : s.max_memory_size + s.page ≤ 2 ^ 64
   pub batch : (1 ≤ s.batch) × (s.batch ≤ 4096)
   pub memories : s.max_memories_per_module < 2 ^ 32
+  pub tables : s.max_tables_per_module < 2 ^ 32
+  pub table_keep_page : s.table_keep_resident.page ≡ s.page
+  pub table_kept : s.table_keep_resident.bytes % s.page ≡ 0
+  pub table_whole : s.table_slot % s.page ≡ 0
+  pub table_few : s.table_slot ≤ 2 ^ 32
 
 -- the kinds of slots that the pool has
 abbrev pub IsPooled : SlotKind → Type 0
 IsPooled memory_kind = Unit {0}
+IsPooled table_kind = Unit {0}
 IsPooled _ = ⊥
 
--- the allocator of a stripe has shards, whose places are numbers of 32 bits
+-- the allocator of a stripe, or of tables, has shards, whose places are numbers of 32 bits
 pub record IsStripe (a : Allocator) : Type 0 where
   pub some : 0 < a.shards
   pub placed : IsPlacedAllocator a
 
--- The plan is right for a pool with so many places. It has stripes, each with shards, and queues that all parties share,
--- and slots of no other kinds.
+-- The plan is right for a pool with so many places. It has stripes, each with shards, shards of tables, queues that all parties
+-- share, and slots of no other kinds.
 pub record IsPoolPlan (plan : Plan) (places : ℕ) : Type 0 where
   pub planned : IsPlanned plan places
   pub small : places < 2 ^ 32
   pub stripes : 0 < length plan.memories
   pub few : length plan.memories < 2 ^ 32
   pub shards : AllByRecursion IsStripe plan.memories
+  pub tables : 0 < length plan.tables
+  pub table_shards : AllByRecursion IsStripe plan.tables
   pub queues : 0 < plan.queues
   pub shared : plan.owned ≡ false
   pub pooled : (kind : SlotKind) → 0 < of_kind kind plan.totals → IsPooled kind
@@ -91,6 +102,7 @@ pub record IsSlotName (plan : Plan) (name : SlotName) : Type 0 where
 -- by its kind, what the cell of a slot may hold, and its cell
 abbrev pub MayHold : MakerTold → Settings → SlotKind → ℕ → Cell → Type 0
 MayHold maker s memory_kind i held = IsCell (region_made maker s.behaviour s.max_memory_size i) None s.max_memory_size held
+MayHold maker s table_kind i held = IsInTableCell maker s i held
 MayHold maker s _ i held = ⊥
 
 pub record IsCellOf (maker : MakerTold) (s : Settings) (name : SlotName) (cell : CellState) : Type 0 where
@@ -100,10 +112,17 @@ pub record IsCellOf (maker : MakerTold) (s : Settings) (name : SlotName) (cell :
 -- and as what it lies in a queue
 abbrev pub MayQueue : MakerTold → Settings → SlotKind → ℕ → Slot → Type 0
 MayQueue maker s memory_kind i slot = IsPoolSlot maker s.behaviour s.max_memory_size i slot
+MayQueue maker s table_kind i slot = IsPoolTable maker s i slot
 MayQueue maker s _ i slot = ⊥
 
-abbrev pub IsQueuedOf : MakerTold → Settings → Queued → Type 0
-IsQueuedOf maker s m = MayQueue maker s m.name.kind m.name.slot m.slot
+-- a table is zeroed by hand where a decommit fails
+abbrev pub MustBeByHand : SlotKind → Option ℕ → Type 0
+MustBeByHand table_kind by_hand = IsSome by_hand
+MustBeByHand _ by_hand = Unit {0}
+
+pub record IsQueuedOf (maker : MakerTold) (s : Settings) (m : Queued) : Type 0 where
+  pub slot : MayQueue maker s m.name.kind m.name.slot m.slot
+  pub by_hand : MustBeByHand m.name.kind m.by_hand
 
 -- A shared queue has fewer ranges than a batch, no more slots than ranges, and room for twice the batch. The ranges of each
 -- slot lie together.
@@ -121,6 +140,7 @@ pub record IsShared (maker : MakerTold) (s : Settings) (q : Queue) : Type 0 wher
 abbrev pub IsPartFor : {P : Type 0} → MakerTold → Settings → Role → PoolPart P → Type 0
 IsPartFor maker s (shard_role a j) (part.Shard shard) = IsShardOf a j shard
 IsPartFor maker s (cell_role name) (part.Memory cell) = (name.kind ≡ memory_kind) × IsCellOf maker s name cell
+IsPartFor maker s (cell_role name) (part.Table cell) = (name.kind ≡ table_kind) × IsCellOf maker s name cell
 IsPartFor maker s queue_role (part.Queue queue) = IsShared maker s queue
 IsPartFor maker s _ _ = ⊥
 
@@ -144,14 +164,20 @@ pub record IsLeaseOf (maker : MakerTold) (s : Settings) (plan : Plan) (l : Lease
 -- an object is a lease of the pool, and so is each of an instance
 abbrev pub IsObjectOf : {P : Type 0} → MakerTold → Settings → Plan → Object P → Type 0
 IsObjectOf maker s plan (Memory lease) = IsLeaseOf maker s plan lease
+IsObjectOf maker s plan (Table lease) = IsTableLease maker s plan lease
 
 abbrev pub AreLeasesOf : {P : Type 0} → MakerTold → Settings → Plan → InstanceLease P → Type 0
-AreLeasesOf maker s plan lease = All (IsLeaseOf maker s plan) lease.memories.items
+AreLeasesOf maker s plan lease = All (IsLeaseOf maker s plan) lease.memories.items × All (IsTableLease maker s plan) lease.tables.items
 
 -- a slot of the pool that is to be freed, and keeps no more bytes resident than a slot may
 pub record IsFreedOf (plan : Plan) (x : FreedSlot) : Type 0 where
   pub named : IsSlotName plan x.name
   pub bytes : x.bytes ≤ 2 ^ 32
+
+-- Memories are freed before tables are put back: as long as memories wait to be freed no table does, and once tables do no
+-- memory is queued.
+abbrev pub FreesInOrder : List Queued → List FreedSlot → Type 0
+FreesInOrder slots freed = All (λ x. x.name.kind ≡ memory_kind) freed ⊎ ((first_of_kind memory_kind slots ≡ None) × All (λ x. x.name.kind ≡ table_kind) freed)
 
 -- the slots that a party has on their way back
 pub record IsLocal (maker : MakerTold) (s : Settings) (q : Queue) : Type 0 where
@@ -174,6 +200,16 @@ pub record AreSupported (s : Settings) (memories : List MemoryDecl) (images : Li
   pub few : length memories < 2 ^ 32
   pub each : (k : ℕ) → IfSome (slice_get memories k) (λ decl. IsSupported s decl (slice_index_or images k None))
 
+-- A table doesn't begin with more elements than it may have, nor with more than a table of the pool. There are no more tables
+-- than the pool has slots for them.
+pub record IsTableSupported (s : Settings) (ty : TableType) : Type 0 where
+  pub limits : refused_limits ty.limits ≡ None
+  pub minimum : ty.limits.min ≤ s.table_elements
+
+pub record AreTablesSupported (s : Settings) (total : ℕ) (tables : List TableType) : Type 0 where
+  pub few : length tables ≤ total
+  pub each : (k : ℕ) → IfSome (slice_get tables k) (IsTableSupported s)
+
 -- an image that is given is one of its memory: it ends within the memory's minimum
 pub record AreImagesOf (s : Settings) (memories : List MemoryDecl) (images : List (Option Image)) : Type 0 where
   pub each : (k : ℕ) → IfSome (slice_get memories k) (λ decl. (decl.ty.page_size_log2 < 64) × IfSome (slice_index_or images k None) (FitsInto s.page (minimum_byte_size decl.ty)))
@@ -183,6 +219,12 @@ pub record HasSlot (maker : MakerTold) (s : Settings) (plan : Plan) (name : Slot
   pub kind : name.kind ≡ memory_kind
   pub inside : name.slot < memory_slots plan
   pub region : IsPoolSlot maker s.behaviour s.max_memory_size name.slot held
+
+-- the region of a table's slot, likewise
+pub record HasTable (maker : MakerTold) (s : Settings) (plan : Plan) (name : SlotName) (held : Told) : Type 0 where
+  pub kind : name.kind ≡ table_kind
+  pub inside : name.slot < plan.totals.table
+  pub region : IsTableRegion maker s name.slot held
 
 -- the region of a slot, as a call puts it back into its cell
 pub record HasRegion (maker : MakerTold) (s : Settings) (plan : Plan) (name : SlotName) (held : Cell) : Type 0 where
@@ -217,19 +259,25 @@ pub record NothingWaits (local : Queue) (freed : Reserved FreedSlot) : Type 0 wh
 pub record NothingHeld {P : Type 0} (local : Queue) (freed : Reserved FreedSlot) (objects : InstanceLease P) : Type 0 where
   pub settled : NothingWaits local freed
   pub no_memories : objects.memories.items ≡ []
+  pub no_tables : objects.tables.items ≡ []
 
 -- the objects that were granted so far begin as asked
 abbrev pub AreBegun : {P : Type 0} → Settings → Option ModuleAsked → InstanceLease P → Type 0
 AreBegun s asked lease =
-    (k : ℕ) → IfSome (slice_get lease.memories.items k) (λ lease. IfSome (slice_get (memories_wanted asked) k) (IsNew s.max_memory_size (slice_index_or (images_wanted asked) k None) lease.memory))
+    ((k : ℕ) → IfSome (slice_get lease.memories.items k) (λ lease. IfSome (slice_get (memories_wanted asked) k) (IsNew s.max_memory_size (slice_index_or (images_wanted asked) k None) lease.memory)))
+    × ((k : ℕ) → IfSome (slice_get lease.tables.items k) (λ lease. IfSome (slice_get (tables_wanted asked) k) (IsBegunTable s lease)))
 
--- A call that is to be granted an instance: its module is supported, what it was granted so far begins as asked, and it
--- has taken no more queues than there are.
+-- A call that is to be granted an instance: its module is supported, what it was granted so far begins as asked, memories
+-- first, and it has taken no more queues than there are.
 pub record IsToGrant {P : Type 0} (s : Settings) (plan : Plan) (asked : Option ModuleAsked) (queues : ℕ) (objects : InstanceLease P) : Type 0 where
   pub supported : AreSupported s (memories_wanted asked) (images_wanted asked)
+  pub tables : AreTablesSupported s plan.totals.table (tables_wanted asked)
   pub images : HasImages asked
   pub room : objects.memories.room ≡ length (memories_wanted asked)
+  pub table_room : objects.tables.room ≡ length (tables_wanted asked)
   pub few : length objects.memories.items ≤ length (memories_wanted asked)
+  pub few_tables : length objects.tables.items ≤ length (tables_wanted asked)
+  pub order : length objects.memories.items < length (memories_wanted asked) → objects.tables.items ≡ []
   pub begun : AreBegun s asked objects
   pub taken : queues ≤ queues_searched plan
 
@@ -265,6 +313,13 @@ module _ {P : Type 0} where
   abbrev pub IsAllocating : Settings → Plan → Frame P → Type 0
   IsAllocating s plan f = GrantsMore s plan f.ending f.asked f.queues f.objects
 
+  -- a memory is allocated, or a table
+  abbrev pub IsMemoryNext : Frame P → Type 0
+  IsMemoryNext f = length f.objects.memories.items < length (memories_wanted f.asked)
+
+  abbrev pub IsTableNext : Frame P → Type 0
+  IsTableNext f = length (memories_wanted f.asked) ≤ length f.objects.memories.items
+
   -- something is given back
   abbrev pub IsReturning : Frame P → Type 0
   IsReturning f = is_granting f.ending ≡ false
@@ -281,14 +336,16 @@ module _ {P : Type 0} where
   IsShapedAt maker s plan Idle f = IsAtRest f
   IsShapedAt maker s plan Key f = IsAtRest f
   IsShapedAt maker s plan Validate f = IsAtRest f × IsRequested f × AreImagesOf s (memories_wanted f.asked) (images_wanted f.asked)
-  IsShapedAt maker s plan CountInstance f = IsAtRest f × IsRequested f × AreSupported s (memories_wanted f.asked) (images_wanted f.asked) × (f.objects.memories.room ≡ length (memories_wanted f.asked))
+  IsShapedAt maker s plan CountInstance f = IsAtRest f × IsRequested f × AreSupported s (memories_wanted f.asked) (images_wanted f.asked) × (f.objects.memories.room ≡ length (memories_wanted f.asked)) × (f.objects.tables.room ≡ length (tables_wanted f.asked)) × AreTablesSupported s plan.totals.table (tables_wanted f.asked)
   IsShapedAt maker s plan (Pick tried) f = HasNoneWaiting f × IsAllocating s plan f × (tried < (allocator_for plan f).shards)
   IsShapedAt maker s plan TakeQueue f = HasNoneWaiting f × IsAllocating s plan f × (f.queues < queues_searched plan)
-  IsShapedAt maker s plan (TakeRegion name) f = HasNoneWaiting f × IsAllocating s plan f × IsSlotName plan name
-  IsShapedAt maker s plan (Empty at held) f = HasNoneWaiting f × IsAllocating s plan f × HasSlot maker s plan at.name held
-  IsShapedAt maker s plan (Instantiate at held) f = HasNoneWaiting f × IsAllocating s plan f × HasSlot maker s plan at.name held × IsClean held
-  IsShapedAt maker s plan (MakeMemory at held) f = HasNoneWaiting f × IsAllocating s plan f × HasSlot maker s plan at.name held × IfAllocated f (HasBegun (image_wanted f) held)
-  IsShapedAt maker s plan (CountObject (Memory lease)) f = HasNoneWaiting f × IsAllocating s plan f × IsLeaseOf maker s plan lease × IfAllocated f (IsNew s.max_memory_size (image_wanted f) lease.memory)
+  IsShapedAt maker s plan (TakeRegion name) f = HasNoneWaiting f × IsAllocating s plan f × IsSlotName plan name × (name.kind ≡ kind_next f)
+  IsShapedAt maker s plan (Empty at held) f = HasNoneWaiting f × IsAllocating s plan f × HasSlot maker s plan at.name held × IsMemoryNext f
+  IsShapedAt maker s plan (Instantiate at held) f = HasNoneWaiting f × IsAllocating s plan f × HasSlot maker s plan at.name held × IsClean held × IsMemoryNext f
+  IsShapedAt maker s plan (MakeMemory at held) f = HasNoneWaiting f × IsAllocating s plan f × HasSlot maker s plan at.name held × IfAllocated f (HasBegun (image_wanted f) held) × IsMemoryNext f
+  IsShapedAt maker s plan (MakeTable at region) f = HasNoneWaiting f × IsAllocating s plan f × HasTable maker s plan at.name region × IsTableNext f
+  IsShapedAt maker s plan (CountObject (Memory lease)) f = HasNoneWaiting f × IsAllocating s plan f × IsLeaseOf maker s plan lease × IfAllocated f (IsNew s.max_memory_size (image_wanted f) lease.memory) × IsMemoryNext f
+  IsShapedAt maker s plan (CountObject (Table lease)) f = HasNoneWaiting f × IsAllocating s plan f × IsTableLease maker s plan lease × IfTable f (IsBegunTable s lease) × IsTableNext f
   IsShapedAt maker s plan (PutBack at held) f = HasNoneWaiting f × IsReturning f × HasRegion maker s plan at.name (cell_of held)
   IsShapedAt maker s plan (FreeOne name) f = HasNoneWaiting f × IsReturning f × IsSlotName plan name
   IsShapedAt maker s plan (UncountObject object) f = HasNoneWaiting f × IsReturning f × IsObjectOf maker s plan object
@@ -303,6 +360,7 @@ module _ {P : Type 0} where
     pub queue : IsLocal maker s f.local
     pub freed_room : HasFreedRoom s f
     pub freed_each : All (IsFreedOf plan) f.freed.items
+    pub freed_order : FreesInOrder f.local.slots f.freed.items
     pub objects : AreLeasesOf maker s plan f.objects
     pub shape : IsShapedAt maker s plan f.phase f
 
@@ -313,3 +371,4 @@ module _ {P : Type 0} where
     pub others : (name : SlotName) → away_count (region_of name) c + (kept_count (right_to name) c + frame_count (right_to name) f) ≤ away_count (right_to name) c + (kept_count (region_of name) c + frame_count (region_of name) f)
     pub instances : phase_instances f.phase ≤ c.counters.core_instances
     pub memories : frame_memories f ≤ c.counters.memories
+    pub tables : frame_tables f ≤ c.counters.tables

@@ -10,18 +10,21 @@ use Rattle.pool_memory.specs.Memories.{MemoryState}
 use Rattle.pool_slots.specs.declared.errors.AllocError.{AllocError}
 use Rattle.pool_slots.specs.declared.errors.AllocError.TheVariants as refusal
 use Rattle.pool_alloc.specs.Answers.{AsksForMemory}
-use Rattle.pool_alloc.specs.Leases.{memory_slot}
-use Rattle.pool_alloc.specs.Modules.{IfAllocated}
+use Rattle.pool_alloc.specs.Modules.{IfAllocated, IfTable}
 use Rattle.pool_alloc.specs.Objects.{objects_in, objects_wanted}
 use Rattle.pool_alloc.specs.Own.{memory_made}
+use Rattle.pool_alloc.specs.TableLeases.{LeasedTable}
+use Rattle.pool_alloc.specs.TableSteps.{AsksForTable, table_made}
+use Rattle.pool_pages.specs.Told.{Told}
+use Rattle.pool_alloc.specs.declared.frame.TakenSlot.{TakenSlot}
 use Rattle.pool_slots.specs.declared.slot_name.SlotName.{SlotName}
 use Rattle.pool_alloc.specs.Places.{right_to, slot_count, instance_count, kept_count, away_count, frame_count}
-use Rattle.pool_alloc.specs.Refusals.{memories_refused}
+use Rattle.pool_alloc.specs.Refusals.{module_refused}
 use Rattle.pool_alloc.specs.Rows.{no_instance_left}
 use Rattle.pool_alloc.specs.Searches.{IsSearched}
-use Rattle.pool_alloc.specs.Sound.{AreSupported, IsAllocating, HasSlot}
+use Rattle.pool_alloc.specs.Sound.{AreSupported, AreTablesSupported, IsAllocating, IsMemoryNext, IsTableNext, HasSlot}
 use Rattle.pool_slots.specs.Plans.{has_number}
-use Rattle.pool_alloc.specs.Steps.{memories_wanted, images_wanted, allocator_for}
+use Rattle.pool_alloc.specs.Steps.{memories_wanted, images_wanted, tables_wanted, allocator_for, slot_next}
 use Rattle.pool_alloc.specs.Stepping.{is_idle}
 use Rattle.pool_alloc.specs.Turns.{After, no_slot_left}
 use Rattle.pool_alloc.specs.declared.pool_core.PoolCore.{PoolCore}
@@ -33,7 +36,7 @@ use Rattle.pool_alloc.specs.declared.frame.Outcome.TheVariants as answer
 use Rattle.pool_alloc.specs.declared.frame.Phase.{Phase}
 use Rattle.pool_alloc.specs.declared.frame.Phase.TheVariants.{Idle, Key, Validate, CountInstance, CountObject}
 
--- how far a request is: its module isn't tested yet; its instance isn't counted yet; it is, and so many of its memories
+-- how far a request is: its module isn't tested yet; its instance isn't counted yet; it is, and so many of its objects
 -- are made
 pub data Progress : Type 0 where
   untested : Progress
@@ -72,20 +75,21 @@ module _ {P : Type 0} where
   abbrev pub stage_of : Frame P → Stage
   stage_of f = stage_at f.phase f.ending (objects_in f.objects)
 
-  -- No slot is found for the next memory. The call has no slots but those of its memories, and where nobody freed one
-  -- meanwhile, each of its stripe is given out, and none lies in a queue.
+  -- No slot is found for the next object. The call has no slots but those of its objects, and where nobody freed one
+  -- meanwhile, each of the allocator is given out, and none lies in a queue.
   pub record FindsNone (c : PoolCore P) (f : Frame P) (n : ℕ) (e : AllocError) : Type 0 where
     pub is : e ≡ no_slot_left c.plan f
     pub number : n ≡ objects_in f.objects
     pub allocating : IsAllocating c.settings c.plan f
     pub has : (name : SlotName) → frame_count (right_to name) f ≡ instance_count (right_to name) f.objects
-    pub none : IsSearched c f → (k : ℕ) → has_number (allocator_for c.plan f) k ≡ true → (kept_count (right_to (memory_slot k)) c ≡ 0) × (away_count (right_to (memory_slot k)) c ≡ 1)
+    pub none : IsSearched c f → (k : ℕ) → has_number (allocator_for c.plan f) k ≡ true → (kept_count (right_to (slot_next k f)) c ≡ 0) × (away_count (right_to (slot_next k f)) c ≡ 1)
 
-  -- A page call failed on the region of a slot that the call has.
+  -- A page call failed on the region of a memory's slot that the call has.
   pub record IsPageFaulted (maker : MakerTold) (c : PoolCore P) (f : Frame P) (n : ℕ) (e : AllocError) : Type 0 where
     pub is : e ≡ refusal.PageFault
     pub number : n ≡ objects_in f.objects
     pub allocating : IsAllocating c.settings c.plan f
+    pub next : IsMemoryNext f
     pub name : SlotName
     pub old : Slot
     pub new : Slot
@@ -97,32 +101,44 @@ module _ {P : Type 0} where
   pub record Makes (old new : LimiterTold) (c : PoolCore P) (f : Frame P) (n : ℕ) (made : Result MemoryState AllocError) : Type 0 where
     pub number : n ≡ objects_in f.objects
     pub allocating : IsAllocating c.settings c.plan f
+    pub next : IsMemoryNext f
     pub given : Result Bool LimiterError
     pub held : Slot
     pub asked : IfAllocated f (AsksForMemory given old new)
     pub is : memory_made c.settings (memories_wanted f.asked) (length f.objects.memories.items) given held ≡ made
 
+  -- and likewise for table n
+  pub record MakesTable (old new : LimiterTold) (c : PoolCore P) (f : Frame P) (n : ℕ) (made : Result LeasedTable AllocError) : Type 0 where
+    pub number : n ≡ objects_in f.objects
+    pub allocating : IsAllocating c.settings c.plan f
+    pub next : IsTableNext f
+    pub given : Result Bool LimiterError
+    pub at : TakenSlot
+    pub region : Told
+    pub asked : IfTable f (AsksForTable given old new)
+    pub is : table_made c.settings (tables_wanted f.asked) (length f.objects.tables.items) given at region ≡ made
+
   -- Why a step fails a request that is so far.
   abbrev pub Raises : MakerTold → LimiterTold → LimiterTold → PoolCore P → Frame P → Progress → AllocError → Type 0
-  Raises maker old new c f untested e = IsUntested (memories_refused c.settings (memories_wanted f.asked)) e
+  Raises maker old new c f untested e = IsUntested (module_refused c.settings c.plan.totals.table (memories_wanted f.asked) (tables_wanted f.asked)) e
   Raises maker old new c f uncounted e = (e ≡ no_instance_left c.settings) × (c.settings.max_core_instances ≤ c.counters.core_instances)
-  Raises maker old new c f (admitted n) e = FindsNone c f n e ⊎ (IsPageFaulted maker c f n e ⊎ Makes old new c f n (Err e))
+  Raises maker old new c f (admitted n) e = FindsNone c f n e ⊎ (IsPageFaulted maker c f n e ⊎ (Makes old new c f n (Err e) ⊎ MakesTable old new c f n (Err e)))
 
   -- What is known where a step takes a request on.
   abbrev pub Follows : LimiterTold → LimiterTold → PoolCore P → Frame P → Progress → Progress → Type 0
-  Follows old new c f untested uncounted = memories_refused c.settings (memories_wanted f.asked) ≡ None
+  Follows old new c f untested uncounted = module_refused c.settings c.plan.totals.table (memories_wanted f.asked) (tables_wanted f.asked) ≡ None
   Follows old new c f uncounted (admitted n) = (n ≡ 0) × (c.counters.core_instances < c.settings.max_core_instances)
-  Follows old new c f (admitted n) (admitted m) = (m ≡ n) ⊎ ((m ≡ n + 1) × (memory : MemoryState) × Makes old new c f n (Ok memory))
+  Follows old new c f (admitted n) (admitted m) = (m ≡ n) ⊎ ((m ≡ n + 1) × (((memory : MemoryState) × Makes old new c f n (Ok memory)) ⊎ ((lease : LeasedTable) × MakesTable old new c f n (Ok lease))))
   Follows old new c f _ _ = ⊥
 
   -- How a step may take a call on from one stage to another, with this answer. Only the test of its module ends a request
-  -- at once with a refusal. A grant is of all memories that are asked for, which are supported.
+  -- at once with a refusal. A grant is of all objects that are asked for, which are supported.
   abbrev pub Goes : MakerTold → LimiterTold → LimiterTold → PoolCore P → Frame P → Stage → Stage → Option (Outcome P) → Type 0
   Goes maker old new c f no_call no_call None = Unit {0}
   Goes maker old new c f keys no_call (Some answer.Key) = Unit {0}
   Goes maker old new c f (asks p) (asks q) None = Follows old new c f p q
   Goes maker old new c f (asks p) (refusing e) None = Raises maker old new c f p e
-  Goes maker old new c f (asks p) no_call (Some (answer.Granted grant)) = Follows old new c f p (admitted (objects_wanted f.asked)) × AreSupported c.settings (memories_wanted f.asked) (images_wanted f.asked)
+  Goes maker old new c f (asks p) no_call (Some (answer.Granted grant)) = Follows old new c f p (admitted (objects_wanted f.asked)) × AreSupported c.settings (memories_wanted f.asked) (images_wanted f.asked) × AreTablesSupported c.settings c.plan.totals.table (tables_wanted f.asked)
   Goes maker old new c f (asks untested) no_call (Some (answer.Refused e)) = Raises maker old new c f untested e
   Goes maker old new c f returning returning None = Unit {0}
   Goes maker old new c f returning no_call (Some answer.Returned) = Unit {0}

@@ -3,7 +3,7 @@ use Rattle.std.specs.Prelude.{◌≡◌, ◌⊎◌, ℕ, ◌+◌, ◌^◌, ◌<�
 use Rattle.pool_pages.specs.MakerTold.{MakerTold}
 use Rattle.pool_limits.specs.Exchanges.{Exchange}
 use Rattle.pool_limits.specs.LimiterTold.{LimiterTold}
-use Rattle.pool_alloc.specs.Steps.{StepGiven, with_shard, with_cell, with_queue, counting_keys, counting_instances, counting_memories}
+use Rattle.pool_alloc.specs.Steps.{StepGiven, with_shard, with_cell, with_queue, counting_keys, counting_instances, counting_memories, counting_tables}
 use Rattle.pool_index.specs.Shard.{ShardState}
 use Rattle.pool_slots.specs.RegionCells.{CellState}
 use Rattle.pool_slots.specs.declared.slot_name.SlotName.{SlotName}
@@ -11,7 +11,7 @@ use Rattle.pool_slots.specs.SlotQueues.{Queue}
 use Rattle.pool_alloc.specs.Turns.{After}
 use Rattle.pool_alloc.specs.Rows.{row}
 use Rattle.pool_alloc.specs.Answers.{MayBeTold, IsPlanned, AsksOf, LimiterHears}
-use Rattle.pool_alloc.specs.Places.{Thing, kept_count, away_count, frame_count, instance_count, phase_instances, frame_memories}
+use Rattle.pool_alloc.specs.Places.{Thing, kept_count, away_count, frame_count, instance_count, phase_instances, frame_memories, frame_tables}
 use Rattle.pool_alloc.specs.Sound.{IsCore, IsFrame, FitsCore}
 use Rattle.pool_alloc.specs.declared.pool_core.PoolCore.{PoolCore}
 use Rattle.pool_alloc.specs.declared.frame.Frame.{Frame}
@@ -32,6 +32,9 @@ module _ {P : Type 0} where
 
   abbrev pub grant_memories : Grant P → ℕ
   grant_memories (Instance lease) = length lease.memories.items
+
+  abbrev pub grant_tables : Grant P → ℕ
+  grant_tables (Instance lease) = length lease.tables.items
 
   -- the number that an answer has of what grants have
   abbrev pub count_granted : (Grant P → ℕ) → Option (Outcome P) → ℕ
@@ -62,6 +65,7 @@ module _ {P : Type 0} where
     pub places : (t : Thing) → kept_count t a.core + (frame_count t a.frame + count_granted (grant_count t) a.outcome) + away_count t c ≡ kept_count t c + frame_count t f + away_count t a.core
     pub instances : a.core.counters.core_instances + phase_instances f.phase ≡ c.counters.core_instances + (phase_instances a.frame.phase + count_granted grant_instances a.outcome)
     pub memories : a.core.counters.memories + frame_memories f ≡ c.counters.memories + (frame_memories a.frame + count_granted grant_memories a.outcome)
+    pub tables : a.core.counters.tables + frame_tables f ≡ c.counters.tables + (frame_tables a.frame + count_granted grant_tables a.outcome)
 
   -- What no step changes: the settings and the plan, and so how many slots, shards and queues there are.
   pub record IsSameSize (old new : PoolCore P) : Type 0 where
@@ -79,7 +83,7 @@ module _ {P : Type 0} where
   ChangesQueue old new = (place : ℕ) × (queue : Queue) × (new ≡ with_queue place queue old)
 
   abbrev pub ChangesCounter : PoolCore P → PoolCore P → Type 0
-  ChangesCounter old new = (n : ℕ) × ((new ≡ counting_keys n old) ⊎ ((new ≡ counting_instances n old) ⊎ (new ≡ counting_memories n old)))
+  ChangesCounter old new = (n : ℕ) × ((new ≡ counting_keys n old) ⊎ ((new ≡ counting_instances n old) ⊎ ((new ≡ counting_memories n old) ⊎ (new ≡ counting_tables n old))))
 
   abbrev pub ChangesOnePart : PoolCore P → PoolCore P → Type 0
   ChangesOnePart old new = (new ≡ old) ⊎ (ChangesShard old new ⊎ (ChangesCell old new ⊎ (ChangesQueue old new ⊎ ChangesCounter old new)))
@@ -94,11 +98,13 @@ module _ {P : Type 0} where
     pub answer : is_some a.outcome ≡ (not (is_idle f.phase) && is_idle a.frame.phase)
     pub instances : a.core.counters.core_instances ≤ c.counters.core_instances + 1
     pub memories : a.core.counters.memories ≤ c.counters.memories + 1
+    pub tables : a.core.counters.tables ≤ c.counters.tables + 1
 
   -- no counter but the key stands at its end
   pub record CanCount (c : PoolCore P) : Type 0 where
     pub instances : c.counters.core_instances + 1 < 2 ^ 64
     pub memories : c.counters.memories + 1 < 2 ^ 64
+    pub tables : c.counters.tables + 1 < 2 ^ 64
 
   -- the frame can make a step on the core
   pub record CanStep (maker : MakerTold) (c : PoolCore P) (f : Frame P) : Type 0 where

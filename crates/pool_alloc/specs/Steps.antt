@@ -1,13 +1,15 @@
 -- What the steps of a call read: what is asked for, and the parts of the pool.
-use Rattle.std.specs.Prelude.{ℕ, ◌==◌, List, [], ◌∷◌, length, filter, min, slice_index_or, slice_set, Bool, not, Option, Some, None, Result, if◌then◌else◌}
+use Rattle.std.specs.Prelude.{ℕ, ◌==◌, List, [], ◌∷◌, length, filter, min, slice_index_or, slice_set, Bool, not, Option, Some, None, Result, if◌then◌else◌, nat_lt}
+use Rattle.pool_pages.specs.declared.table_type.TableType.{TableType}
 use Rattle.pool_pages.specs.declared.module_types.MemoryDecl.{MemoryDecl}
 use Rattle.pool_images.specs.Images.{Image}
 use Rattle.pool_images.specs.Slots.{Slot}
 use Rattle.pool_index.specs.Shard.{ShardState, fresh_shard, after_free}
 use Rattle.pool_index.specs.declared.ids.MemoryInModule.{MemoryInModule}
-use Rattle.pool_hall.specs.declared.unit_name.SlotKind.TheVariants.{Memory as memory_kind}
+use Rattle.pool_hall.specs.declared.unit_name.SlotKind.{SlotKind}
+use Rattle.pool_hall.specs.declared.unit_name.SlotKind.TheVariants.{Memory as memory_kind, Table as table_kind}
 use Rattle.pool_limits.specs.declared.errors.LimiterError.{LimiterError}
-use Rattle.pool_slots.specs.Cells.{Cell, unknown, previously_used}
+use Rattle.pool_slots.specs.Cells.{Cell, unmapped, unknown, previously_used}
 use Rattle.pool_slots.specs.RegionCells.{CellState}
 use Rattle.pool_slots.specs.Parts.{part_at, cell_of_part}
 use Rattle.pool_slots.specs.Plans.{cell_place, home_of, queues_for, shard_tried as nth_shard_tried, queue_tried as nth_queue_tried}
@@ -31,7 +33,7 @@ pub record StepGiven : Type 0 where
   pub queue : Queue
   pub limiter : Result Bool LimiterError
 
--- the memories of the module that is asked for, and their images
+-- the memories of the module that is asked for, with their images, and its tables
 abbrev pub memories_wanted : Option ModuleAsked → List MemoryDecl
 memories_wanted None = []
 memories_wanted (Some m) = m.info.memories
@@ -44,7 +46,11 @@ abbrev pub images_wanted : Option ModuleAsked → List (Option Image)
 images_wanted None = []
 images_wanted (Some m) = images_made m.images
 
--- how many memory slots there are, and through how many queues a search for one goes
+abbrev pub tables_wanted : Option ModuleAsked → List TableType
+tables_wanted None = []
+tables_wanted (Some m) = m.info.tables
+
+-- how many memory slots there are, and through how many queues a search for a slot goes, a memory's or a table's
 abbrev pub memory_slots : Plan → ℕ
 memory_slots plan = plan.totals.memory
 
@@ -57,6 +63,11 @@ no_allocator = record { kind = memory_kind; first_place = 0; shards = 0; slots_p
 
 abbrev pub stripe_allocator : Plan → ℕ → Allocator
 stripe_allocator plan stripe = slice_index_or plan.memories stripe no_allocator
+
+-- and that of the pool's tables
+abbrev pub allocator_of : Plan → SlotKind → ℕ → Allocator
+allocator_of plan table_kind stripe = slice_index_or plan.tables 0 no_allocator
+allocator_of plan _ stripe = stripe_allocator plan stripe
 
 -- of slots that are to be freed: those of the shard at a place, and the others
 abbrev pub freed_of : Plan → ℕ → List FreedSlot → List FreedSlot
@@ -76,14 +87,22 @@ abbrev pub after_frees : Plan → List FreedSlot → ShardState → ShardState
 after_frees plan [] shard = shard
 after_frees plan (x ∷ rest) shard = after_frees plan rest (after_free (home_of plan x.name).local x.bytes shard)
 
--- which memory of the module that is asked for has this number
+-- which memory of the module that is asked for has this number; no slot is affine to a table
 abbrev pub wanted_of : Option ModuleAsked → ℕ → Option MemoryInModule
 wanted_of None index = None
 wanted_of (Some m) index = Some (record { 0 = m.id; 1 = record { 0 = index } })
 
--- what a region's cell holds once its memory is given back
+abbrev pub affine_of : SlotKind → Option ModuleAsked → ℕ → Option MemoryInModule
+affine_of memory_kind asked index = wanted_of asked index
+affine_of _ asked index = None
+
+-- what a region's cell holds once its memory or its table is given back
+abbrev pub returned_as : SlotKind → Queued → Cell
+returned_as memory_kind m = if m.known then previously_used m.slot else unknown m.slot
+returned_as _ m = unmapped m.slot.region
+
 abbrev pub cell_returned : Queued → Cell
-cell_returned m = if m.known then previously_used m.slot else unknown m.slot
+cell_returned m = returned_as m.name.kind m
 
 module _ {P : Type 0} where
   -- the part is a queue
@@ -130,7 +149,7 @@ module _ {P : Type 0} where
   abbrev pub with_queue : ℕ → Queue → PoolCore P → PoolCore P
   with_queue place queue c = with_part place (part.Queue queue) c
 
-  -- the pool with another number of its key counter, another count of instances, or of memories
+  -- the pool with another number of its key counter, another count of instances, of memories, or of tables
   abbrev pub counting_keys : ℕ → PoolCore P → PoolCore P
   counting_keys n c = record c { counters = record c.counters { key = n } }
 
@@ -140,16 +159,27 @@ module _ {P : Type 0} where
   abbrev pub counting_memories : ℕ → PoolCore P → PoolCore P
   counting_memories n c = record c { counters = record c.counters { memories = n } }
 
-  -- which memory is allocated
+  abbrev pub counting_tables : ℕ → PoolCore P → PoolCore P
+  counting_tables n c = record c { counters = record c.counters { tables = n } }
+
+  -- what is allocated: a memory until there are all, and then a table
+  abbrev pub kind_next : Frame P → SlotKind
+  kind_next f = if nat_lt (length f.objects.memories.items) (length (memories_wanted f.asked)) then memory_kind else table_kind
+
+  -- a slot of that kind
+  abbrev pub slot_next : ℕ → Frame P → SlotName
+  slot_next k f = record { kind = kind_next f; slot = k }
+
+  -- which memory it is
   abbrev pub wanted : Frame P → Option MemoryInModule
-  wanted f = wanted_of f.asked (length f.objects.memories.items)
+  wanted f = affine_of (kind_next f) f.asked (length f.objects.memories.items)
 
   abbrev pub image_wanted : Frame P → Option Image
   image_wanted f = slice_index_or (images_wanted f.asked) (length f.objects.memories.items) None
 
-  -- the allocator of a party's memories, which is that of its stripe
+  -- the allocator of what is allocated: of a memory, that of the party's stripe
   abbrev pub allocator_for : Plan → Frame P → Allocator
-  allocator_for plan f = stripe_allocator plan f.stripe
+  allocator_for plan f = allocator_of plan (kind_next f) f.stripe
 
   -- the place of the shard that is so many after the home shard, and that of the queue that is so many after the home queue
   abbrev pub shard_tried : ℕ → Plan → Frame P → ℕ

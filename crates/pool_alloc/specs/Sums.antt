@@ -1,5 +1,5 @@
 -- What the parts of the pool have together, for its numbers.
-use Rattle.std.specs.Prelude.{ℕ, ◌-◌, ◌^◌, List, length, min, sum_by, map, None}
+use Rattle.std.specs.Prelude.{ℕ, ◌-◌, ◌^◌, List, length, min, sum_by, map, None, if◌then◌else◌}
 use Rattle.pool_pages.specs.declared.pages.PageCalls.{PageCalls}
 use Rattle.pool_index.specs.Shard.{resident_bytes}
 use Rattle.pool_memory.specs.Memories.{slot_of}
@@ -8,51 +8,65 @@ use Rattle.pool_pages.specs.CallSums.{added}
 use Rattle.pool_slots.specs.Cells.{all_calls, calls_in}
 use Rattle.pool_slots.specs.CellOf.{cell_of}
 use Rattle.pool_alloc.specs.declared.frame.Object.{Object}
-use Rattle.pool_alloc.specs.declared.frame.Object.TheVariants.{Memory}
+use Rattle.pool_alloc.specs.declared.frame.Object.TheVariants.{Memory, Table}
 use Rattle.pool_alloc.specs.declared.lease.InstanceLease.{InstanceLease}
 use Rattle.pool_slots.specs.declared.part.PoolPart.{PoolPart}
 use Rattle.pool_slots.specs.declared.part.PoolPart.TheVariants as part
-use Rattle.pool_slots.specs.SlotQueues.{calls_held}
+use Rattle.pool_slots.specs.SlotQueues.{calls_held, same_kind}
+use Rattle.std.specs.Option.{option_map_or}
+use Rattle.pool_pages.specs.Told.{Told}
+use Rattle.pool_hall.specs.declared.unit_name.SlotKind.{SlotKind}
+use Rattle.pool_hall.specs.declared.unit_name.SlotKind.TheVariants.{Memory as memory_kind, Table as table_kind}
 use Rattle.pool_alloc.specs.Leases.{Lease}
+use Rattle.pool_alloc.specs.TableLeases.{LeasedTable}
 use Rattle.pool_alloc.specs.declared.pool_core.PoolCore.{PoolCore}
 use Rattle.pool_alloc.specs.declared.metrics.Metrics.{Metrics}
 use Rattle.pool_alloc.specs.declared.frame.Frame.{Frame}
 use Rattle.pool_alloc.specs.declared.frame.Phase.{Phase}
-use Rattle.pool_alloc.specs.declared.frame.Phase.TheVariants.{Empty, Instantiate, MakeMemory, CountObject, PutBack, UncountObject, Reset}
+use Rattle.pool_alloc.specs.declared.frame.Phase.TheVariants.{Empty, Instantiate, MakeMemory, MakeTable, CountObject, PutBack, UncountObject, Reset}
 
--- how many slots of the shards are warm, and how many bytes those keep resident, up to the ends of their types
-abbrev pub warm_in : {P : Type 0} → PoolPart P → ℕ
-warm_in (part.Shard s) = length s.warm
-warm_in _ = 0
+-- how many slots of a kind are warm in the shards, and how many bytes those keep resident, up to the ends of their types
+abbrev pub warm_in : {P : Type 0} → SlotKind → PoolPart P → ℕ
+warm_in kind (part.Shard s) = if same_kind kind s.kind then length s.warm else 0
+warm_in kind _ = 0
 
-abbrev pub warm_slots : {P : Type 0} → List (PoolPart P) → ℕ
-warm_slots parts = min (sum_by warm_in parts) (2 ^ 32 - 1)
+abbrev pub warm_slots : {P : Type 0} → SlotKind → List (PoolPart P) → ℕ
+warm_slots kind parts = min (sum_by (warm_in kind) parts) (2 ^ 32 - 1)
 
-abbrev pub resident_in : {P : Type 0} → PoolPart P → ℕ
-resident_in (part.Shard s) = resident_bytes s
-resident_in _ = 0
+abbrev pub resident_in : {P : Type 0} → SlotKind → PoolPart P → ℕ
+resident_in kind (part.Shard s) = if same_kind kind s.kind then resident_bytes s else 0
+resident_in kind _ = 0
 
-abbrev pub resident_sum : {P : Type 0} → List (PoolPart P) → ℕ
-resident_sum parts = min (sum_by resident_in parts) (2 ^ 64 - 1)
+abbrev pub resident_sum : {P : Type 0} → SlotKind → List (PoolPart P) → ℕ
+resident_sum kind parts = min (sum_by (resident_in kind) parts) (2 ^ 64 - 1)
 
 -- the calls on the regions that lie in a part: in a cell, or in a queue
 abbrev pub part_calls : {P : Type 0} → PoolPart P → PageCalls
 part_calls (part.Memory cell) = calls_in cell.holds
+part_calls (part.Table cell) = calls_in cell.holds
 part_calls (part.Queue q) = calls_held q.slots
 part_calls _ = no_calls
 
 abbrev pub calls_of_parts : {P : Type 0} → List (PoolPart P) → PageCalls
 calls_of_parts parts = all_calls (map part_calls parts)
 
--- the calls on the region of an object, and on those of memories and of an instance, together
+-- the calls on the region of a table, none where it has none
+abbrev pub table_calls : LeasedTable → PageCalls
+table_calls l = option_map_or (λ (region : Told). region.calls) l.table.region no_calls
+
+-- the calls on the region of an object, and on those of memories, of tables and of an instance, together
 abbrev pub calls_of_object : {P : Type 0} → Object P → PageCalls
 calls_of_object (Memory lease) = (slot_of lease.memory).region.calls
+calls_of_object (Table lease) = table_calls lease
 
 abbrev pub calls_of_leases : List Lease → PageCalls
 calls_of_leases leases = all_calls (map (λ l. (slot_of l.memory).region.calls) leases)
 
+abbrev pub calls_of_tables : List LeasedTable → PageCalls
+calls_of_tables leases = all_calls (map table_calls leases)
+
 abbrev pub calls_of_instance : {P : Type 0} → InstanceLease P → PageCalls
-calls_of_instance lease = calls_of_leases lease.memories.items
+calls_of_instance lease = added (calls_of_leases lease.memories.items) (calls_of_tables lease.tables.items)
 
 module _ {P : Type 0} where
   -- the calls on the regions in the pool's parts, together
@@ -64,6 +78,7 @@ module _ {P : Type 0} where
   calls_in_phase (Empty at held) = held.region.calls
   calls_in_phase (Instantiate at held) = held.region.calls
   calls_in_phase (MakeMemory at held) = held.region.calls
+  calls_in_phase (MakeTable at region) = region.calls
   calls_in_phase (CountObject object) = calls_of_object object
   calls_in_phase (PutBack at held) = calls_in (cell_of held)
   calls_in_phase (UncountObject object) = calls_of_object object
@@ -79,13 +94,13 @@ module _ {P : Type 0} where
     core_instances = c.counters.core_instances;
     component_instances = 0;
     memories = c.counters.memories;
-    tables = 0;
+    tables = c.counters.tables;
     stacks = 0;
     gc_heaps = 0;
-    unused_warm_memories = warm_slots c.parts;
-    unused_memory_bytes_resident = resident_sum c.parts;
-    unused_warm_tables = 0;
-    unused_table_bytes_resident = 0;
+    unused_warm_memories = warm_slots memory_kind c.parts;
+    unused_memory_bytes_resident = resident_sum memory_kind c.parts;
+    unused_warm_tables = warm_slots table_kind c.parts;
+    unused_table_bytes_resident = resident_sum table_kind c.parts;
     unused_warm_stacks = 0;
     unused_stack_bytes_resident = None;
   }

@@ -3,10 +3,14 @@
 use Rattle.std.specs.Prelude.{◌&&◌, ◌==◌, List, [], ◌∷◌, length, Bool, true, false, nat_lt, if◌then◌else◌, Option, Some, None, ℕ, ◌+◌, ◌%◌, ◌^◌}
 use Rattle.pool_slots.specs.declared.errors.AllocError.{AllocError}
 use Rattle.pool_slots.specs.declared.errors.AllocError.TheVariants as refusal
-use Rattle.pool_slots.specs.declared.errors.ConcurrencyKind.TheVariants.{MemoryStripe}
+use Rattle.pool_slots.specs.declared.errors.ConcurrencyKind.{ConcurrencyKind}
+use Rattle.pool_slots.specs.declared.errors.ConcurrencyKind.TheVariants.{MemoryStripe, Tables}
 use Rattle.pool_alloc.specs.Objects.{objects_in, objects_wanted, no_objects}
+use Rattle.pool_hall.specs.declared.unit_name.SlotKind.{SlotKind}
+use Rattle.pool_hall.specs.declared.unit_name.SlotKind.TheVariants.{Table as table_kind}
 use Rattle.pool_alloc.specs.Leases.{Lease}
-use Rattle.pool_alloc.specs.Steps.{queues_searched, allocator_for}
+use Rattle.pool_alloc.specs.TableLeases.{LeasedTable}
+use Rattle.pool_alloc.specs.Steps.{queues_searched, allocator_for, kind_next}
 use Rattle.pool_alloc.specs.declared.pool_core.PoolCore.{PoolCore}
 use Rattle.pool_slots.specs.declared.plan.Plan.{Plan}
 use Rattle.pool_alloc.specs.declared.frame.Frame.{Frame}
@@ -15,7 +19,7 @@ use Rattle.pool_alloc.specs.declared.frame.Phase.TheVariants.{Idle, Pick, TakeQu
 use Rattle.pool_alloc.specs.declared.frame.Ending.{Ending}
 use Rattle.pool_alloc.specs.declared.frame.Ending.TheVariants.{Granted as granted, Returned as returned, Refused as refused}
 use Rattle.pool_alloc.specs.declared.frame.Grant.TheVariants.{Instance}
-use Rattle.pool_alloc.specs.declared.frame.Object.TheVariants.{Memory}
+use Rattle.pool_alloc.specs.declared.frame.Object.TheVariants.{Memory, Table}
 use Rattle.pool_alloc.specs.declared.frame.Outcome.{Outcome}
 use Rattle.pool_alloc.specs.declared.frame.Outcome.TheVariants as answer
 
@@ -56,6 +60,11 @@ pub record After (P : Type 0) : Type 0 where
   pub frame : Frame P
   pub outcome : Option (Outcome P)
 
+-- what it is that the pool has no more of
+abbrev pub limit_of : SlotKind → ℕ → ConcurrencyKind
+limit_of table_kind stripe = Tables
+limit_of _ stripe = MemoryStripe stripe
+
 -- the call is to end with a grant
 abbrev pub is_granting : Ending → Bool
 is_granting granted = true
@@ -77,10 +86,11 @@ module _ {P : Type 0} where
   abbrev pub ends_with : Frame P → Outcome P → Left P
   ends_with f outcome = record { frame = record f { phase = Idle; asked = None; ending = returned; queues = 0; step_count = (f.step_count + 1) % 2 ^ 64 }; outcome = Some outcome }
 
-  -- the next of these memories is given back, or else the instance
-  abbrev pub returned_next : List Lease → Frame P → Left P
-  returned_next [] f = goes_to f UncountInstance
-  returned_next (lease ∷ rest) f = goes_to (record f { objects = record f.objects { memories = record f.objects.memories { items = rest } } }) (UncountObject (Memory lease))
+  -- the next of these memories is given back, or of these tables, or else the instance
+  abbrev pub returned_next : List Lease → List LeasedTable → Frame P → Left P
+  returned_next (lease ∷ rest) tables f = goes_to (record f { objects = record f.objects { memories = record f.objects.memories { items = rest } } }) (UncountObject (Memory lease))
+  returned_next [] (lease ∷ rest) f = goes_to (record f { objects = record f.objects { tables = record f.objects.tables { items = rest } } }) (UncountObject (Table lease))
+  returned_next [] [] f = goes_to f UncountInstance
 
   -- a slot is picked for the next object of the instance, or the instance is whole
   abbrev pub granted_next : Frame P → Left P
@@ -91,8 +101,8 @@ module _ {P : Type 0} where
 
   abbrev pub next_by : Ending → Frame P → Left P
   next_by granted f = granted_next f
-  next_by returned f = returned_next f.objects.memories.items f
-  next_by (refused e) f = returned_next f.objects.memories.items f
+  next_by returned f = returned_next f.objects.memories.items f.objects.tables.items f
+  next_by (refused e) f = returned_next f.objects.memories.items f.objects.tables.items f
 
   -- the local queue is flushed, and its slots are free
   abbrev pub is_flushed : Frame P → Bool
@@ -105,7 +115,7 @@ module _ {P : Type 0} where
   search_next queues e f =
       if nat_lt f.queues queues
       then goes_to f TakeQueue
-      else returned_next f.objects.memories.items (failing e f)
+      else returned_next f.objects.memories.items f.objects.tables.items (failing e f)
 
   -- what a turn leaves
   abbrev pub after : Frame P → Turn P → Left P
@@ -116,12 +126,12 @@ module _ {P : Type 0} where
   after f (search queues e) = search_next queues e f
   after f stays = record { frame = f; outcome = None }
 
-  -- the search for a memory's slot: the refusal for room, where the stripe has so many slots, and its turn
+  -- the search for a slot: the refusal for room, where the allocator has so many slots, and its turn
   abbrev pub no_slot_left : Plan → Frame P → AllocError
-  no_slot_left plan f = refusal.Limit (record { limit = (allocator_for plan f).capacity; kind = MemoryStripe f.stripe })
+  no_slot_left plan f = refusal.Limit (record { limit = (allocator_for plan f).capacity; kind = limit_of (kind_next f) f.stripe })
 
-  abbrev pub memory_search : Plan → Frame P → Turn P
-  memory_search plan f = search (queues_searched plan) (no_slot_left plan f)
+  abbrev pub slot_search : Plan → Frame P → Turn P
+  slot_search plan f = search (queues_searched plan) (no_slot_left plan f)
 
   -- what a step leaves of one part, by its row
   abbrev pub part_after : {X : Type 0} → Row X P → PartAfter X P

@@ -1,9 +1,10 @@
 -- What a request is for, one thing after the other.
-use Rattle.std.specs.Prelude.{List, [], ◌∷◌, map, Option, None}
+use Rattle.std.specs.Prelude.{List, [], ◌∷◌, ◌++◌, map, Option, None}
 use Rattle.pool_pages.specs.declared.module_types.MemoryDecl.{MemoryDecl}
+use Rattle.pool_pages.specs.declared.table_type.TableType.{TableType}
 use Rattle.pool_images.specs.Images.{Image}
 use Rattle.pool_alloc.specs.Asked.{ModuleAsked}
-use Rattle.pool_alloc.specs.Steps.{memories_wanted, images_wanted}
+use Rattle.pool_alloc.specs.Steps.{memories_wanted, images_wanted, tables_wanted}
 
 -- a memory, and the image that it begins with
 pub record MemoryWant : Type 0 where
@@ -12,6 +13,7 @@ pub record MemoryWant : Type 0 where
 
 pub data Want : Type 0 where
   new_memory : MemoryWant → Want
+  new_table : TableType → Want
 
 -- these memories, each with its image, if one is given
 abbrev pub wants_from : List MemoryDecl → List (Option Image) → List MemoryWant
@@ -19,6 +21,6 @@ wants_from [] images = []
 wants_from (decl ∷ decls) [] = record { decl = decl; image = None } ∷ wants_from decls []
 wants_from (decl ∷ decls) (image ∷ images) = record { decl = decl; image = image } ∷ wants_from decls images
 
--- what is asked for, in the order in which it is allocated
+-- what is asked for, in the order in which it is allocated: memories, then tables
 abbrev pub wants_asked : Option ModuleAsked → List Want
-wants_asked asked = map new_memory (wants_from (memories_wanted asked) (images_wanted asked))
+wants_asked asked = map new_memory (wants_from (memories_wanted asked) (images_wanted asked)) ++ map new_table (tables_wanted asked)

@@ -1,16 +1,17 @@
 -- A pool with all that have something of it.
 use Rattle.std.specs.Prelude.{◌≡◌, ℕ, ◌+◌, ◌≤◌, List, [], sum_by}
 use Rattle.pool_slots.specs.ListUnits.{all_away, all_kept}
-use Rattle.pool_alloc.specs.Places.{Thing, right_to, region_of, kept_count, away_count, frame_count, phase_instances, frame_memories}
+use Rattle.pool_alloc.specs.Places.{Thing, right_to, region_of, kept_count, away_count, frame_count, phase_instances, frame_memories, frame_tables}
 use Rattle.pool_slots.specs.declared.slot_name.SlotName.{SlotName}
 use Rattle.pool_alloc.specs.declared.pool_core.PoolCore.{PoolCore}
 use Rattle.pool_alloc.specs.declared.frame.Frame.{Frame}
 
--- how much someone has of each thing, and how many instances and memories they have counted
+-- how much someone has of each thing, and how many instances, memories and tables they have counted
 pub record Holding : Type 0 where
   pub places : Thing → ℕ
   pub instances : ℕ
   pub memories : ℕ
+  pub tables : ℕ
 
 -- no region without its slot
 abbrev pub HasSlots : Holding → Type 0
@@ -21,11 +22,12 @@ pub record AddUp (some more all : Holding) : Type 0 where
   pub places : (t : Thing) → all.places t ≡ some.places t + more.places t
   pub instances : all.instances ≡ some.instances + more.instances
   pub memories : all.memories ≡ some.memories + more.memories
+  pub tables : all.tables ≡ some.tables + more.tables
 
 module _ {P : Type 0} where
   -- what a call has
   abbrev pub held_by : Frame P → Holding
-  held_by f = record { places = λ t. frame_count t f; instances = phase_instances f.phase; memories = frame_memories f }
+  held_by f = record { places = λ t. frame_count t f; instances = phase_instances f.phase; memories = frame_memories f; tables = frame_tables f }
 
   -- What the pool has given out is in one place: in a queue, or with one of those that hold something. The counters are
   -- the numbers of what they have counted.
@@ -33,6 +35,7 @@ module _ {P : Type 0} where
     pub places : (t : Thing) → kept_count t c + sum_by (λ x. (has x).places t) holders ≡ away_count t c
     pub instances : c.counters.core_instances ≡ sum_by (λ x. (has x).instances) holders
     pub memories : c.counters.memories ≡ sum_by (λ x. (has x).memories) holders
+    pub tables : c.counters.tables ≡ sum_by (λ x. (has x).tables) holders
 
   -- Nothing is given out, nothing is queued, and nothing is counted, as where the pool is made.
   pub record IsUntouched (c : PoolCore P) : Type 0 where
@@ -40,3 +43,4 @@ module _ {P : Type 0} where
     pub none_kept : all_kept c.parts ≡ []
     pub instances : c.counters.core_instances ≡ 0
     pub memories : c.counters.memories ≡ 0
+    pub tables : c.counters.tables ≡ 0

@@ -7,9 +7,9 @@ ghost use Rattle.pool_slots.specs.CellOf.{cell_of};
 ghost use Rattle.pool_slots.specs.Plans.{cell_place, home_of};
 ghost use Rattle.pool_slots.specs.SlotQueues.{IsSpareOf};
 ghost use Rattle.pool_slots.specs.Parts.{IsAt, IsShardPart, IsCellPart};
-ghost use Rattle.pool_alloc.specs.CanStep.{CanPlace, CanTryShard, CanTryQueue, CanTakeRegion, CanFreeOne, CanStepAt};
+ghost use Rattle.pool_alloc.specs.CanStep.{CanPlace, CanTryShard, CanTryQueue, CanTakeRegion, CanFreeOne, CanStepAt, HasAllocators};
 ghost use Rattle.pool_alloc.specs.Rows.{key_row, count_instance_row, pick_on, in_shard, take_queue_on, in_queue, take_region_on, in_cell, count_object_row, put_back_on, free_one_on};
-ghost use Rattle.pool_alloc.specs.Steps.{IsQueuePart, shard_at, cell_named, queue_at, queues_searched, shard_tried, queue_tried};
+ghost use Rattle.pool_alloc.specs.Steps.{IsQueuePart, shard_at, cell_named, queue_at, queues_searched, shard_tried, queue_tried, allocator_for};
 ghost use Rattle.pool_alloc.specs.Turns.{After, stepped};
 
 use crate::frame::{Frame, Object, Outcome, Phase, TakenSlot};
@@ -17,6 +17,7 @@ use crate::freeing::home;
 use crate::lease::MemoryLease;
 use crate::part_steps;
 use crate::pool_core::PoolCore;
+use crate::table_lease::TableLease;
 use pool_pages::Pages;
 use pool_slots::{AllocError, ConcurrencyKind, ImageSlot, PoolConcurrencyLimitError, SlotName};
 use std::alloc::Global;
@@ -58,7 +59,8 @@ impl<P: Pages> PoolCore<P> {
 
     // Picks a slot from the shard that is so many after the home shard.
     pub(crate) fn pick(&mut self, frame: &mut Frame<P>, tried: u32) -> Option<Outcome<P>>
-        requires tries { CanTryShard self.old.plan frame.old.stripe tried }
+        requires plan { HasAllocators self.old.plan frame.old.stripe }
+        requires tries { CanTryShard self.old.plan (allocator_for self.old.plan frame.old) tried }
         requires shard { IsAt IsShardPart (shard_tried tried self.old.plan frame.old) self.old.parts }
         requires few { length frame.old.objects.memories.items < 2 ^ 32 }
         ensures { ◌≡◌ {A = After P} (record { core = self.new; frame = frame.new; outcome = result }) (stepped (in_shard (shard_tried tried self.old.plan frame.old) self.old (pick_on self.old.plan tried (shard_at (shard_tried tried self.old.plan frame.old) self.old) frame.old))) }
@@ -71,7 +73,7 @@ impl<P: Pages> PoolCore<P> {
     // Takes the whole next queue. It is flushed where it holds something.
     pub(crate) fn take_queue(&mut self, alloc: Global, frame: &mut Frame<P>) -> Option<Outcome<P>>
         requires taken { frame.old.queues < queues_searched self.old.plan }
-        requires stripe { frame.old.stripe < length self.old.plan.memories }
+        requires plan { HasAllocators self.old.plan frame.old.stripe }
         requires tries { CanTryQueue self.old.plan frame.old.home }
         requires queue { IsAt IsQueuePart (queue_tried frame.old.queues self.old.plan frame.old) self.old.parts }
         requires spare { IsSpareOf (queue_at (queue_tried frame.old.queues self.old.plan frame.old) self.old) frame.old.local }
@@ -86,7 +88,7 @@ impl<P: Pages> PoolCore<P> {
     pub(crate) fn take_region(&mut self, frame: &mut Frame<P>, name: SlotName) -> Option<Outcome<P>>
         requires place { CanPlace self.old.plan name }
         requires cell { IsAt IsCellPart (cell_place self.old.plan name) self.old.parts }
-        requires can { CanTakeRegion self.old.settings (cell_named name self.old) }
+        requires can { CanTakeRegion self.old.settings name.kind (cell_named name self.old) }
         ensures { ◌≡◌ {A = After P} (record { core = self.new; frame = frame.new; outcome = result }) (stepped (in_cell name self.old (take_region_on self.old.settings name (cell_named name self.old) frame.old))) }
     {
         let place = self.plan.cell_place(name);
@@ -106,6 +108,7 @@ impl<P: Pages> PoolCore<P> {
     {
         match object {
             Object::Memory(lease) => self.count_memory(alloc, frame, lease),
+            Object::Table(lease) => self.count_table(alloc, frame, lease),
         }
     }
 
@@ -121,6 +124,22 @@ impl<P: Pages> PoolCore<P> {
     {
         self.counters.memories += 1;
         frame.objects.memories.push(lease);
+        frame.queues = 0;
+        frame.next(alloc)
+    }
+
+    fn count_table(
+        &mut self,
+        alloc: Global,
+        frame: &mut Frame<P>,
+        lease: TableLease<P>,
+    ) -> Option<Outcome<P>>
+        requires count { self.old.counters.tables + 1 < 2 ^ 64 }
+        requires room { length frame.old.objects.tables.items < frame.old.objects.tables.room }
+        ensures { ◌≡◌ {A = After P} (record { core = self.new; frame = frame.new; outcome = result }) (stepped (count_object_row (Object.Table lease) self.old frame.old)) }
+    {
+        self.counters.tables += 1;
+        frame.objects.tables.push(lease);
         frame.queues = 0;
         frame.next(alloc)
     }

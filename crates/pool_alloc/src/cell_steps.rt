@@ -6,9 +6,9 @@ ghost use Rattle.pool_slots.specs.RegionCells.{CellState};
 ghost use Rattle.pool_slots.specs.CellOf.{cell_of};
 ghost use Rattle.pool_slots.specs.SlotQueues.{Queued, IsSettled};
 ghost use Rattle.pool_alloc.specs.Own.{image_made};
-ghost use Rattle.pool_alloc.specs.Rows.{take_region_on, put_back_on, region_put};
+ghost use Rattle.pool_alloc.specs.Rows.{take_region_on, put_back_on, region_put, unmapped_next};
 ghost use Rattle.pool_alloc.specs.Steps.{cell_returned};
-ghost use Rattle.pool_alloc.specs.Turns.{PartAfter, part_after};
+ghost use Rattle.pool_alloc.specs.Turns.{PartAfter, part_after, goes};
 
 use crate::frame::{Frame, FreedSlot, Outcome, Phase, TakenSlot};
 use crate::pool_core::Settings;
@@ -26,18 +26,31 @@ pub(crate) fn take_region<P: Pages>(
     name: SlotName,
 ) -> Option<Outcome<P>>
     requires there { is_taken cell.old.holds ≡ false }
-    requires fresh { (region : _) → cell.old.holds ≡ unmapped region → IsFresh (count settings.now.page 0) (count settings.now.page 0) settings.now.max_memory_size None region }
+    requires fresh { (region : _) → name.kind ≡ SlotKind.Memory → cell.old.holds ≡ unmapped region → IsFresh (count settings.now.page 0) (count settings.now.page 0) settings.now.max_memory_size None region }
     ensures { ◌≡◌ {A = PartAfter CellState P} (record { part = cell.new; frame = frame.new; outcome = result }) (part_after (take_region_on settings.now name cell.old frame.old)) }
 {
     let (held, numbers) = cell.take();
     let at = TakenSlot { name, numbers };
     let phase = match held {
-        ImageSlot::Unmapped(region) => Phase::Instantiate(at, image_slot_of(settings, region)),
+        ImageSlot::Unmapped(region) => unmapped_next(settings, at, region),
         ImageSlot::Unknown(held) => Phase::Empty(at, held),
         ImageSlot::PreviouslyUsed(held) => Phase::Instantiate(at, held),
         ImageSlot::Taken => unreachable!(),
     };
     frame.go(phase)
+}
+
+// What comes next with a region that lies in its cell as it was made, or that is a table's. The other kinds have no cells
+// yet.
+fn unmapped_next<P: Pages>(settings: &Settings, at: TakenSlot, region: PageRegion<P>) -> Phase<P>
+    requires { at.name.kind ≡ SlotKind.Memory → IsFresh (count settings.now.page 0) (count settings.now.page 0) settings.now.max_memory_size None region }
+    ensures { goes result ≡ unmapped_next settings.now at.name.kind at region }
+{
+    match at.name.kind {
+        SlotKind::Memory => Phase::Instantiate(at, image_slot_of(settings, region)),
+        SlotKind::Table => Phase::MakeTable(at, region),
+        _ => Phase::Idle,
+    }
 }
 
 // The image slot of a region that was never used.
@@ -76,7 +89,6 @@ pub(crate) fn put_region<P: Pages>(
     frame: &mut Frame<P>,
     item: QueuedSlot<P>,
 ) -> Option<Outcome<P>>
-    requires memory { item.name.kind ≡ SlotKind.Memory }
     requires settled { IsSettled item }
     requires room { length frame.old.freed.items < frame.old.freed.room }
     ensures { ◌≡◌ {A = PartAfter CellState P} (record { part = cell.new; frame = frame.new; outcome = result }) (part_after (region_put item cell.old frame.old)) }
@@ -88,9 +100,8 @@ pub(crate) fn put_region<P: Pages>(
     frame.flush(alloc)
 }
 
-// What a region's cell holds once its memory is given back.
+// What a region's cell holds once its memory or its table is given back.
 fn cell_returned<P: Pages>(item: QueuedSlot<P>) -> ImageSlot<P>
-    requires memory { item.name.kind ≡ SlotKind.Memory }
     requires settled { IsSettled item }
     ensures value { cell_of result ≡ cell_returned item }
     ensures clean { IsCleanOnceUsed (cell_of result) }
@@ -98,7 +109,8 @@ fn cell_returned<P: Pages>(item: QueuedSlot<P>) -> ImageSlot<P>
     let known = item.known;
     match item.held {
         HeldSlot::Memory(slot) => slot_returned(known, slot),
-        _ => unreachable!(),
+        HeldSlot::Table(region, _, _) => ImageSlot::Unmapped(region),
+        HeldSlot::Stack(region, _, _) => ImageSlot::Unmapped(region),
     }
 }
 

@@ -1,22 +1,22 @@
 ghost use Rattle.std.specs.Prelude.{◌≡◌, ◌<◌, ◌≤◌, ◌^◌, [], ◌∷◌, length, List, Bool};
-ghost use Rattle.pool_hall.specs.declared.unit_name.SlotKind.TheVariants.{Memory as memory_kind};
-ghost use Rattle.pool_slots.specs.SlotQueues.{Queue, Queued, HasOwners, IsSettled};
+ghost use Rattle.pool_slots.specs.SlotQueues.{Queue, HasOwners, IsSettled};
 ghost use Rattle.pool_alloc.specs.Answers.{FlushTold, FlushPlanned, Decommits, FollowsRun};
-ghost use Rattle.pool_alloc.specs.CanStep.{CanPlace, CanTryQueue, CanPutNext, CanFree, CanFlush};
-ghost use Rattle.pool_alloc.specs.Rows.{flush_step, in_queue, merge_on, decommit_row, put_region_row, free_row, flush_row};
+ghost use Rattle.pool_alloc.specs.CanStep.{CanPlace, CanTryQueue, CanFree, CanFlush};
+ghost use Rattle.pool_alloc.specs.Rows.{SettlesTo, flush_step, settled_step, freed_step, tables_step, put_step, some_freed, in_queue, in_cell, region_put, merge_on, decommit_row, free_row, flush_row};
 ghost use Rattle.pool_slots.specs.Plans.{cell_place};
 ghost use Rattle.pool_slots.specs.QueueMerges.{CanMerge};
 ghost use Rattle.pool_slots.specs.Parts.{IsAt, IsShardPart, IsCellPart};
-ghost use Rattle.pool_alloc.specs.Steps.{StepGiven, IsQueuePart, shard_at, queue_at, first_shard, queue_tried};
+ghost use Rattle.pool_alloc.specs.Steps.{StepGiven, IsQueuePart, shard_at, cell_named, queue_at, first_shard, queue_tried};
 ghost use Rattle.pool_alloc.specs.Turns.{After, stepped};
 
-use crate::frame::{Frame, Outcome};
+use crate::frame::{Frame, FreedSlot, Outcome};
 use crate::freeing::first_shard;
 use crate::part_steps;
 use crate::pool_core::PoolCore;
+use crate::reserved::ReservedList;
 use pool_index::SlotKind;
 use pool_pages::Pages;
-use pool_slots::{DecommitQueue, QueuedSlot};
+use pool_slots::QueuedSlot;
 use std::alloc::Global;
 
 impl<P: Pages> PoolCore<P> {
@@ -34,16 +34,60 @@ impl<P: Pages> PoolCore<P> {
 
     // The next part of a flush.
     pub(crate) fn flush(&mut self, alloc: Global, frame: &mut Frame<P>) -> Option<Outcome<P>>
-        requires { CanFlush (flush_step frame.old.local) self.old frame.old }
-        ensures { (g : StepGiven) × FlushTold (flush_step frame.old.local) g frame.old.local × FlushPlanned (flush_step frame.old.local) g frame.old.local × (◌≡◌ {A = After P} (record { core = self.new; frame = frame.new; outcome = result }) (stepped (flush_row (flush_step frame.old.local) g.queue self.old frame.old))) }
+        requires { CanFlush (flush_step frame.old.local frame.old.freed.items) self.old frame.old }
+        ensures { (g : StepGiven) × FlushTold (flush_step frame.old.local frame.old.freed.items) g frame.old.local × FlushPlanned (flush_step frame.old.local frame.old.freed.items) g frame.old.local × (◌≡◌ {A = After P} (record { core = self.new; frame = frame.new; outcome = result }) (stepped (flush_row (flush_step frame.old.local frame.old.freed.items) g.queue self.old frame.old))) }
     {
         if frame.local.raw_len() > 0 {
             return self.decommit(alloc, frame);
         }
-        if frame.local.is_empty() {
+        self.settle(alloc, frame)
+    }
+
+    // The same where no ranges are left: memories are put back and freed, and then tables.
+    fn settle(&mut self, alloc: Global, frame: &mut Frame<P>) -> Option<Outcome<P>>
+        requires none { frame.old.local.ranges ≡ [] }
+        requires can { CanFlush (settled_step frame.old.local.slots frame.old.freed.items) self.old frame.old }
+        ensures { SettlesTo (settled_step frame.old.local.slots frame.old.freed.items) self.old frame.old (record { core = self.new; frame = frame.new; outcome = result }) }
+    {
+        match frame.local.pop(SlotKind::Memory) {
+            Some(item) => self.put_region(alloc, frame, item),
+            None => self.settle_freed(alloc, frame),
+        }
+    }
+
+    // Where no memory is queued.
+    fn settle_freed(&mut self, alloc: Global, frame: &mut Frame<P>) -> Option<Outcome<P>>
+        requires none { frame.old.local.ranges ≡ [] }
+        requires can { CanFlush (freed_step frame.old.local.slots frame.old.freed.items) self.old frame.old }
+        ensures { SettlesTo (freed_step frame.old.local.slots frame.old.freed.items) self.old frame.old (record { core = self.new; frame = frame.new; outcome = result }) }
+    {
+        if some_freed(SlotKind::Memory, &frame.freed) {
             return self.free(alloc, frame);
         }
-        self.put_region(alloc, frame)
+        self.settle_tables(alloc, frame)
+    }
+
+    // Where none waits to be freed either: tables are zeroed where that has to be, put back and freed.
+    fn settle_tables(&mut self, alloc: Global, frame: &mut Frame<P>) -> Option<Outcome<P>>
+        requires none { frame.old.local.ranges ≡ [] }
+        requires can { CanFlush (tables_step frame.old.local.slots) self.old frame.old }
+        ensures { SettlesTo (tables_step frame.old.local.slots) self.old frame.old (record { core = self.new; frame = frame.new; outcome = result }) }
+    {
+        if frame.local.zero_next(SlotKind::Table) {
+            return frame.flush(alloc);
+        }
+        self.put_table(alloc, frame)
+    }
+
+    fn put_table(&mut self, alloc: Global, frame: &mut Frame<P>) -> Option<Outcome<P>>
+        requires none { frame.old.local.ranges ≡ [] }
+        requires can { CanFlush (put_step frame.old.local.slots) self.old frame.old }
+        ensures { SettlesTo (put_step frame.old.local.slots) self.old frame.old (record { core = self.new; frame = frame.new; outcome = result }) }
+    {
+        match frame.local.pop(SlotKind::Table) {
+            Some(item) => self.put_region(alloc, frame, item),
+            None => self.free(alloc, frame),
+        }
     }
 
     // Decommits the next ranges of one slot.
@@ -56,13 +100,19 @@ impl<P: Pages> PoolCore<P> {
         frame.flush(alloc)
     }
 
-    // Puts the first region of the local queue back into its cell.
-    fn put_region(&mut self, alloc: Global, frame: &mut Frame<P>) -> Option<Outcome<P>>
-        requires cell { (m : Queued) (rest : List Queued) → frame.old.local.slots ≡ m ∷ rest → CanPlace self.old.plan m.name × IsAt IsCellPart (cell_place self.old.plan m.name) self.old.parts }
-        requires can { CanPutNext frame.old.local frame.old.freed }
-        ensures { ◌≡◌ {A = After P} (record { core = self.new; frame = frame.new; outcome = result }) (stepped (put_region_row frame.old.local.slots self.old frame.old)) }
+    // Puts a region back into its cell that was in the local queue.
+    fn put_region(
+        &mut self,
+        alloc: Global,
+        frame: &mut Frame<P>,
+        item: QueuedSlot<P>,
+    ) -> Option<Outcome<P>>
+        requires place { CanPlace self.old.plan item.name }
+        requires cell { IsAt IsCellPart (cell_place self.old.plan item.name) self.old.parts }
+        requires settled { IsSettled item }
+        requires room { length frame.old.freed.items < frame.old.freed.room }
+        ensures { ◌≡◌ {A = After P} (record { core = self.new; frame = frame.new; outcome = result }) (stepped (in_cell item.name self.old (region_put item (cell_named item.name self.old) frame.old))) }
     {
-        let item = pop_memory(&mut frame.local);
         let place = self.plan.cell_place(item.name());
         let part = self.parts.at(place);
         part_steps::put_region(part, alloc, frame, item)
@@ -80,18 +130,12 @@ impl<P: Pages> PoolCore<P> {
     }
 }
 
-// Takes out the first slot of a queue that has no ranges, where it is a memory's.
-#[tactic(auto, using(crate::proofs::Popped::first_popped, crate::proofs::Popped::some_popped))]
-fn pop_memory<P: Pages>(local: &mut DecommitQueue<P>) -> QueuedSlot<P>
-    requires none { local.old.ranges ≡ [] }
-    requires some { 0 < length local.old.slots }
-    requires kind { (m : Queued) (rest : List Queued) → local.old.slots ≡ m ∷ rest → m.name.kind ≡ memory_kind }
-    ensures first { local.old.slots ≡ result ∷ local.new.slots }
-    ensures same { local.new ≡ record local.old { slots = local.new.slots } }
-    ensures settled { IsSettled result }
+// Whether slots of a kind are still to be freed: those that wait are all of one kind.
+fn some_freed(kind: SlotKind, freed: &ReservedList<FreedSlot>) -> bool
+    ensures { result ≡ some_freed kind freed.now.items }
 {
-    match local.pop(SlotKind::Memory) {
-        Some(item) => item,
-        None => unreachable!(),
+    if freed.is_empty() {
+        return false;
     }
+    kind == freed.get(0).name.kind
 }

@@ -1,7 +1,8 @@
 use crate::lease::{InstanceLease, MemoryLease};
 use crate::reserved::ReservedList;
+use crate::table_lease::TableLease;
 use pool_images::{MemoryImageSlot, ModuleMemoryImages};
-use pool_pages::{CompiledModuleId, ModuleInfo, Pages};
+use pool_pages::{CompiledModuleId, ModuleInfo, PageRegion, Pages};
 use pool_slots::{AllocError, DecommitQueue, ImageSlot, RegionNumbers, SlotName};
 use std::marker::Model;
 use std::sync::Arc;
@@ -76,6 +77,7 @@ pub struct TakenSlot {
 #[derive(Drop)]
 pub enum Object<P: Pages> {
     Memory(MemoryLease<P>),
+    Table(TableLease<P>),
 }
 
 /// The step that a party makes next, with what it has taken for it.
@@ -98,8 +100,10 @@ pub enum Phase<P: Pages> {
     Instantiate(TakenSlot, MemoryImageSlot<P>),
     /// Ask the limiter, and make the memory.
     MakeMemory(TakenSlot, MemoryImageSlot<P>),
+    /// Ask the limiter, and make the table.
+    MakeTable(TakenSlot, PageRegion<P>),
     CountObject(Object<P>),
-    /// Put the region of a slot back after a failure. Nothing is known of it.
+    /// Put the region of a slot back after a failure. Nothing is known of a memory's.
     PutBack(TakenSlot, ImageSlot<P>),
     /// Free the slot then.
     FreeOne(SlotName),
@@ -109,7 +113,8 @@ pub enum Phase<P: Pages> {
     /// Append the local queue to the home queue.
     Merge,
     /// The next part of a flush of the local queue: decommit the next ranges of one slot; where there are none, put the
-    /// next region back; where there is none, free the slots of one shard.
+    /// region of a memory back; where there is none, free the slots of one shard; then the same of tables, each of which is
+    /// zeroed by hand first where a decommit failed.
     Flush,
     UncountInstance,
 }

@@ -5,10 +5,11 @@ ghost use Rattle.pool_alloc.specs.Sound.{IsFrame};
 ghost use Rattle.pool_slots.specs.declared.plan.Plan.{Plan};
 ghost use Rattle.pool_alloc.specs.declared.pool_core.Settings.{Settings};
 ghost use Rattle.pool_alloc.specs.Sums.{calls_in_frame, calls_in_phase, calls_of_object};
-ghost use Rattle.pool_alloc.specs.Steps.{memories_wanted, wanted};
+ghost use Rattle.pool_alloc.specs.Steps.{memories_wanted, wanted, tables_wanted, kind_next, wanted_of};
+ghost use Rattle.pool_alloc.specs.Objects.{objects_wanted};
 
 use crate::frame::{Call, Ending, Frame, Grant, Object, Phase};
-use pool_index::MemoryInModule;
+use pool_index::{MemoryInModule, SlotKind};
 use pool_pages::{DefinedMemoryIndex, PageCalls, Pages};
 
 impl<P: Pages> Frame<P> {
@@ -63,7 +64,7 @@ impl<P: Pages> Frame<P> {
         self.objects.page_calls().plus(waiting)
     }
 
-    // How many memories the module has that is asked for.
+    // How many memories the module has that is asked for, and how many tables.
     pub(crate) fn memories_wanted(&self) -> usize
         ensures { result ≡ length (memories_wanted self.now.asked) }
     {
@@ -73,10 +74,47 @@ impl<P: Pages> Frame<P> {
         }
     }
 
+    pub(crate) fn tables_wanted(&self) -> usize
+        ensures { result ≡ length (tables_wanted self.now.asked) }
+    {
+        match &self.asked {
+            None => 0,
+            Some(call) => call.info.tables.len(),
+        }
+    }
+
+    // How many objects the request is for.
+    pub(crate) fn objects_wanted(&self) -> u128
+        ensures { result ≡ objects_wanted self.now.asked }
+    {
+        self.memories_wanted() as u128 + self.tables_wanted() as u128
+    }
+
+    // What is allocated: a memory until there are all, and then a table.
+    pub(crate) fn kind_next(&self) -> SlotKind
+        ensures { result ≡ kind_next self.now }
+    {
+        if self.objects.memories.len() < self.memories_wanted() {
+            SlotKind::Memory
+        } else {
+            SlotKind::Table
+        }
+    }
+
     // The memory that is allocated, where slots may be affine to it.
     pub(crate) fn wanted(&self) -> Option<MemoryInModule>
         requires { length self.now.objects.memories.items < 2 ^ 32 }
         ensures { result ≡ wanted self.now }
+    {
+        match self.kind_next() {
+            SlotKind::Memory => self.memory_wanted(),
+            _ => None,
+        }
+    }
+
+    fn memory_wanted(&self) -> Option<MemoryInModule>
+        requires { length self.now.objects.memories.items < 2 ^ 32 }
+        ensures { result ≡ wanted_of self.now.asked (length self.now.objects.memories.items) }
     {
         let index = DefinedMemoryIndex(self.objects.memories.len() as u32);
         match &self.asked {
@@ -95,6 +133,7 @@ impl<P: Pages> Phase<P> {
             Phase::Empty(_, held) => held.region().calls(),
             Phase::Instantiate(_, held) => held.region().calls(),
             Phase::MakeMemory(_, held) => held.region().calls(),
+            Phase::MakeTable(_, region) => region.calls(),
             Phase::PutBack(_, held) => held.page_calls(),
             Phase::CountObject(object) => object.page_calls(),
             Phase::UncountObject(object) => object.page_calls(),
@@ -111,6 +150,7 @@ impl<P: Pages> Object<P> {
     {
         match self {
             Object::Memory(lease) => lease.page_calls(),
+            Object::Table(lease) => lease.page_calls(),
         }
     }
 }

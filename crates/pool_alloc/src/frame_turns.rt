@@ -1,6 +1,7 @@
-ghost use Rattle.std.specs.Prelude.{◌≡◌, ◌<◌, length};
+ghost use Rattle.std.specs.Prelude.{◌≡◌, ◌<◌, length, []};
 ghost use Rattle.pool_alloc.specs.Steps.{allocator_for};
-ghost use Rattle.pool_alloc.specs.Turns.{Left, next, flush, search, memory_search, after, goes_to, ends_with, failing, granted_next, returned_next, next_by, is_flushed};
+ghost use Rattle.pool_alloc.specs.Turns.{Left, next, flush, search, slot_search, limit_of, after, goes_to, ends_with, failing, granted_next, returned_next, next_by, is_flushed};
+ghost use Rattle.pool_alloc.specs.CanStep.{HasAllocators};
 
 use crate::frame::{Ending, Frame, Grant, Object, Outcome, Phase};
 use crate::lease::InstanceLease;
@@ -55,7 +56,8 @@ impl<P: Pages> Frame<P> {
     fn grant_next(&mut self, alloc: Global) -> Option<Outcome<P>>
         ensures { ◌≡◌ {A = Left P} (record { frame = self.new; outcome = result }) (granted_next self.old) }
     {
-        if self.objects.memories.len() < self.memories_wanted() {
+        let granted = self.objects.memories.len() as u128 + self.objects.tables.len() as u128;
+        if granted < self.objects_wanted() {
             return self.go(Phase::Pick(0));
         }
         let lease = mem::replace(&mut self.objects, InstanceLease::none(alloc));
@@ -64,10 +66,20 @@ impl<P: Pages> Frame<P> {
 
     // The next object is given back, or else the instance.
     pub(crate) fn return_next(&mut self) -> Option<Outcome<P>>
-        ensures { ◌≡◌ {A = Left P} (record { frame = self.new; outcome = result }) (returned_next self.old.objects.memories.items self.old) }
+        ensures { ◌≡◌ {A = Left P} (record { frame = self.new; outcome = result }) (returned_next self.old.objects.memories.items self.old.objects.tables.items self.old) }
     {
-        let phase = match self.objects.memories.pop_first() {
-            Some(lease) => Phase::UncountObject(Object::Memory(lease)),
+        match self.objects.memories.pop_first() {
+            Some(lease) => self.go(Phase::UncountObject(Object::Memory(lease))),
+            None => self.return_table(),
+        }
+    }
+
+    // The same where no memory is left.
+    fn return_table(&mut self) -> Option<Outcome<P>>
+        ensures { ◌≡◌ {A = Left P} (record { frame = self.new; outcome = result }) (returned_next [] self.old.objects.tables.items self.old) }
+    {
+        let phase = match self.objects.tables.pop_first() {
+            Some(lease) => Phase::UncountObject(Object::Table(lease)),
             None => Phase::UncountInstance,
         };
         self.go(phase)
@@ -89,14 +101,14 @@ impl<P: Pages> Frame<P> {
         self.local.is_empty() && self.freed.is_empty()
     }
 
-    // The search for a memory's slot goes on.
-    pub(crate) fn search_memory(&mut self, plan: &Plan) -> Option<Outcome<P>>
-        requires { self.old.stripe < length plan.now.memories }
-        ensures { ◌≡◌ {A = Left P} (record { frame = self.new; outcome = result }) (after self.old (memory_search plan.now self.old)) }
+    // The search for a slot goes on.
+    pub(crate) fn search_slot(&mut self, plan: &Plan) -> Option<Outcome<P>>
+        requires { HasAllocators plan.now self.old.stripe }
+        ensures { ◌≡◌ {A = Left P} (record { frame = self.new; outcome = result }) (after self.old (slot_search plan.now self.old)) }
     {
         let refusal = AllocError::Limit(PoolConcurrencyLimitError {
             limit: self.allocator(plan).capacity as usize,
-            kind: ConcurrencyKind::MemoryStripe(self.stripe),
+            kind: limit_of(self.kind_next(), self.stripe),
         });
         self.search(plan.queues_for(SlotKind::Memory), refusal)
     }
@@ -112,11 +124,24 @@ impl<P: Pages> Frame<P> {
         self.return_next()
     }
 
-    // The allocator of the party's memories.
+    // The allocator of what is allocated.
     pub(crate) fn allocator(&self, plan: &Plan) -> Allocator
-        requires { self.now.stripe < length plan.now.memories }
+        requires { HasAllocators plan.now self.now.stripe }
         ensures { result ≡ allocator_for plan.now self.now }
     {
-        plan.memories.as_slice()[self.stripe as usize]
+        match self.kind_next() {
+            SlotKind::Table => plan.tables.as_slice()[0],
+            _ => plan.memories.as_slice()[self.stripe as usize],
+        }
+    }
+}
+
+// What it is that the pool has no more of.
+fn limit_of(kind: SlotKind, stripe: u32) -> ConcurrencyKind
+    ensures { result ≡ limit_of kind stripe }
+{
+    match kind {
+        SlotKind::Table => ConcurrencyKind::Tables,
+        _ => ConcurrencyKind::MemoryStripe(stripe),
     }
 }

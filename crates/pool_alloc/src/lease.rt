@@ -2,9 +2,10 @@ ghost use Rattle.std.specs.Prelude.{◌≡◌, ◌<◌, length, replicate};
 ghost use Rattle.pool_memory.specs.Memories.{slot_of};
 ghost use Rattle.pool_alloc.specs.Leases.{IsWritten, IsGrown, IsChanged};
 ghost use Rattle.pool_alloc.specs.Objects.{no_objects};
-ghost use Rattle.pool_alloc.specs.Sums.{calls_of_leases, calls_of_instance};
+ghost use Rattle.pool_alloc.specs.Sums.{calls_of_leases, calls_of_instance, calls_of_tables};
 
 use crate::reserved::ReservedList;
+use crate::table_lease::TableLease;
 use pool_limits::{GrowFault, ResourceLimiter, Trap};
 use pool_memory::{Memory, StaticMemory};
 use pool_pages::{PageCalls, Pages};
@@ -107,10 +108,11 @@ impl<P: Pages> ReservedList<MemoryLease<P>> {
     }
 }
 
-/// An instance that was granted: its memories in order.
+/// An instance that was granted: its memories and its tables, in order.
 #[derive(Drop)]
 pub struct InstanceLease<P: Pages> {
     pub memories: ReservedList<MemoryLease<P>>,
+    pub tables: ReservedList<TableLease<P>>,
 }
 
 impl<P: Pages> InstanceLease<P> {
@@ -120,6 +122,7 @@ impl<P: Pages> InstanceLease<P> {
     {
         InstanceLease {
             memories: ReservedList::none(alloc),
+            tables: ReservedList::none(alloc),
         }
     }
 
@@ -127,13 +130,24 @@ impl<P: Pages> InstanceLease<P> {
     pub fn page_calls(&self) -> PageCalls
         ensures { result ≡ calls_of_instance self.now }
     {
-        calls_of(&self.memories)
+        calls_of(&self.memories).plus(calls_of_tables(&self.tables))
     }
 }
 
 // The calls made so far on the regions of memories, together.
 fn calls_of<P: Pages>(leases: &ReservedList<MemoryLease<P>>) -> PageCalls
     ensures { result ≡ calls_of_leases leases.now.items }
+{
+    let mut calls = PageCalls::none();
+    for at in 0..leases.len() {
+        calls = calls.plus(leases.get(at).page_calls());
+    }
+    calls
+}
+
+// The calls made so far on the regions of tables, together.
+fn calls_of_tables<P: Pages>(leases: &ReservedList<TableLease<P>>) -> PageCalls
+    ensures { result ≡ calls_of_tables leases.now.items }
 {
     let mut calls = PageCalls::none();
     for at in 0..leases.len() {

@@ -2,9 +2,9 @@ ghost use Rattle.std.specs.Prelude.{◌≡◌, ◌+◌, ◌^◌, ◌≤◌, fals
 ghost use Rattle.pool_pages.specs.ConfigLimits.{IsWithinLimits};
 ghost use Rattle.pool_pages.specs.MakerTold.{MakerTold};
 ghost use Rattle.pool_pages.specs.SettingsRules.{first_broken_rule};
-ghost use Rattle.pool_slots.specs.Makings.{RaisesPoolFaults, RaisesPoolBehind, makes_listed_regions, IsListedPoolFault};
+ghost use Rattle.pool_slots.specs.Makings.{RaisesPoolFaults, RaisesPoolBehind, IsListedPoolFault};
 ghost use Rattle.pool_alloc.specs.Calls.{frame_made};
-ghost use Rattle.pool_alloc.specs.Made.{settings_of, plan_settings, part_settings, IsMadeCore, IsRefusedFor, CountsFault, NeedsFault, NeedsListed};
+ghost use Rattle.pool_alloc.specs.Made.{settings_of, plan_settings, part_settings, lists_making, IsMadeCore, IsRefusedFor, CountsFault, NeedsFault, NeedsListed};
 ghost use Rattle.pool_alloc.specs.Sound.{IsCore, IsFrame};
 ghost use Rattle.pool_alloc.specs.Whole.{IsUntouched};
 
@@ -24,7 +24,8 @@ use pool_slots::{
 use std::alloc::{AllocError, Global};
 
 impl<P: Pages> PoolCore<P> {
-    /// Makes a pool with the regions of its memory slots, none of which is accessible, of the behaviour that is offered.
+    /// Makes a pool with the regions of its memory slots, none of which is accessible, and of its table slots, all of which
+    /// are, of the behaviour that is offered.
     /// The page is the maker's. Tests the rules of the settings first, so that nothing is made where one is broken. As
     /// yet every pool has one shard, one queue, one stripe and plain resets: also where 2 to 16 shards are asked for, and
     /// where protection keys or dirty pages are offered. All memory that its steps need is taken now, but for the list of
@@ -47,9 +48,9 @@ impl<P: Pages> PoolCore<P> {
         ensures maker { M.told maker.new ≡ record (M.told maker.old) { behind = (M.told maker.new).behind; faults = (M.told maker.new).faults } }
         ensures borrows { M.borrows maker.new ≡ M.borrows maker.old }
         ensures faults { MatchResult result (λ _. (M.told maker.new).faults ≡ (M.told maker.old).faults) (CountsFault (M.told maker.old).faults (M.told maker.new).faults) }
-        ensures listed { IfOk result (λ _. makes_listed_regions (M.told maker.old).listed config.now.limits.total_memories ≡ false) }
-        ensures behind { MatchResult result (λ _. (M.told maker.new).behind ≡ (M.told maker.old).behind) (NeedsFault (makes_listed_regions (M.told maker.old).listed config.now.limits.total_memories) (M.told maker.old).behind (M.told maker.new).behind) }
-        ensures planned { MatchResult result (λ _. IfSome (M.told maker.old).plan (λ plan. makes_listed_regions plan config.now.limits.total_memories ≡ false)) (λ e. IfSome (M.told maker.old).plan (λ plan. NeedsListed (makes_listed_regions plan config.now.limits.total_memories) e)) }
+        ensures listed { IfOk result (λ _. lists_making config.now (M.told maker.old).listed ≡ false) }
+        ensures behind { MatchResult result (λ _. (M.told maker.new).behind ≡ (M.told maker.old).behind) (NeedsFault (lists_making config.now (M.told maker.old).listed) (M.told maker.old).behind (M.told maker.new).behind) }
+        ensures planned { MatchResult result (λ _. IfSome (M.told maker.old).plan (λ plan. lists_making config.now plan ≡ false)) (λ e. IfSome (M.told maker.old).plan (λ plan. NeedsListed (lists_making config.now plan) e)) }
     {
         if let Err(rule) = config.check_rules(tunables, page.get(), shards, offered) {
             return Err(PoolNewError::BadConfig(rule));
@@ -75,9 +76,9 @@ impl<P: Pages> PoolCore<P> {
         ensures maker { M.told maker.new ≡ record (M.told maker.old) { behind = (M.told maker.new).behind; faults = (M.told maker.new).faults } }
         ensures borrows { M.borrows maker.new ≡ M.borrows maker.old }
         ensures faults { MatchResult result (λ _. (M.told maker.new).faults ≡ (M.told maker.old).faults) (RaisesPoolFaults (M.told maker.old).faults (M.told maker.new).faults) }
-        ensures listed { IfOk result (λ _. makes_listed_regions (M.told maker.old).listed config.now.limits.total_memories ≡ false) }
-        ensures behind { MatchResult result (λ _. (M.told maker.new).behind ≡ (M.told maker.old).behind) (RaisesPoolBehind (makes_listed_regions (M.told maker.old).listed config.now.limits.total_memories) (M.told maker.old).behind (M.told maker.new).behind) }
-        ensures planned { MatchResult result (λ _. IfSome (M.told maker.old).plan (λ plan. makes_listed_regions plan config.now.limits.total_memories ≡ false)) (λ e. IfSome (M.told maker.old).plan (λ plan. IsListedPoolFault (makes_listed_regions plan config.now.limits.total_memories) e)) }
+        ensures listed { IfOk result (λ _. lists_making config.now (M.told maker.old).listed ≡ false) }
+        ensures behind { MatchResult result (λ _. (M.told maker.new).behind ≡ (M.told maker.old).behind) (RaisesPoolBehind (lists_making config.now (M.told maker.old).listed) (M.told maker.old).behind (M.told maker.new).behind) }
+        ensures planned { MatchResult result (λ _. IfSome (M.told maker.old).plan (λ plan. lists_making config.now plan ≡ false)) (λ e. IfSome (M.told maker.old).plan (λ plan. IsListedPoolFault (lists_making config.now plan) e)) }
     {
         let _bytes = page.get();
         let settings = settings_of(page, config, tunables, offered);
@@ -96,6 +97,7 @@ impl<P: Pages> PoolCore<P> {
                 key: 0,
                 core_instances: 0,
                 memories: 0,
+                tables: 0,
             },
             settings,
             plan,
@@ -134,6 +136,8 @@ fn settings_of(
 ) -> Settings
     requires size { config.now.limits.max_memory_size + page ≤ 2 ^ 64 }
     requires kept { config.now.linear_memory_keep_resident ≤ 2 ^ 32 }
+    requires elements { config.now.limits.table_elements ≤ 100000000 }
+    requires table_kept { config.now.table_keep_resident ≤ 2 ^ 32 }
     ensures { result ≡ settings_of page config.now tunables.now offered.now }
 {
     let _bytes = page.get();
@@ -150,18 +154,28 @@ fn settings_of(
         batch: config.decommit_batch_size,
         max_core_instances: limits.total_core_instances as u64,
         max_memories_per_module: limits.max_memories_per_module,
+        max_tables_per_module: limits.max_tables_per_module,
+        table_elements: limits.table_elements,
+        table_slot: HostAlignedByteCount::rounded_up_unchecked(
+            page,
+            8 * limits.table_elements,
+        ).byte_count(),
+        table_keep_resident: HostAlignedByteCount::rounded_up_unchecked(
+            page,
+            config.table_keep_resident,
+        ),
         tunables: MemoryTunables::new(tunables, MemoryKind::LinearMemory),
     }
 }
 
-// How many slots of each kind there are. No other kind has slots as yet.
+// How many slots of each kind there are. Stacks and heaps have none as yet.
 fn plan_settings(config: &PoolingAllocationConfig) -> StripedPlanSettings
     ensures { result ≡ plan_settings config.now }
 {
     StripedPlanSettings {
         totals: OfKinds {
             memory: config.limits.total_memories,
-            table: 0,
+            table: config.limits.total_tables,
             stack: 0,
             heap: 0,
         },
@@ -177,15 +191,17 @@ fn part_settings(
     offered: &Offered,
 ) -> PartSettings
     requires size { config.now.limits.max_memory_size + page ≤ 2 ^ 64 }
+    requires elements { config.now.limits.table_elements ≤ 100000000 }
     requires batch { config.now.decommit_batch_size ≤ 4096 }
     ensures { result ≡ part_settings page config.now offered.now }
 {
     let _bytes = page.get();
     let size = config.limits.max_memory_size;
+    let elements = config.limits.table_elements;
     PartSettings {
         behaviour: offered.behaviour,
         memory_len: HostAlignedByteCount::rounded_up_unchecked(page, size),
-        table_len: page.zero(),
+        table_len: HostAlignedByteCount::rounded_up_unchecked(page, 8 * elements),
         stack_len: page.zero(),
         max_unused_warm_slots: config.max_unused_warm_slots,
         queue_room: 2 * config.decommit_batch_size,

@@ -2,6 +2,7 @@ ghost use Rattle.std.specs.Prelude.{◌≡◌};
 ghost use Rattle.pool_alloc.specs.Sums.{metrics_of, calls_kept};
 
 use crate::pool_core::PoolCore;
+use pool_index::SlotKind;
 use pool_pages::{PageCalls, Pages};
 
 /// The numbers of a pool: how many of each thing are live, how many free slots were used before, and how many bytes
@@ -24,7 +25,7 @@ pub struct Metrics {
 }
 
 impl<P: Pages> PoolCore<P> {
-    /// The pool's numbers. It has no components, tables, stacks and heaps yet.
+    /// The pool's numbers. It has no components, stacks and heaps yet.
     pub fn metrics(&self) -> Metrics
         ensures { result ≡ metrics_of self.now }
     {
@@ -32,13 +33,13 @@ impl<P: Pages> PoolCore<P> {
             core_instances: self.counters.core_instances,
             component_instances: 0,
             memories: self.counters.memories as usize,
-            tables: 0,
+            tables: self.counters.tables as usize,
             stacks: 0,
             gc_heaps: 0,
-            unused_warm_memories: self.parts.unused_warm_slots(),
-            unused_memory_bytes_resident: self.parts.unused_bytes_resident(),
-            unused_warm_tables: 0,
-            unused_table_bytes_resident: 0,
+            unused_warm_memories: self.parts.unused_warm_slots(SlotKind::Memory),
+            unused_memory_bytes_resident: self.parts.unused_bytes_resident(SlotKind::Memory),
+            unused_warm_tables: self.parts.unused_warm_slots(SlotKind::Table),
+            unused_table_bytes_resident: self.parts.unused_bytes_resident(SlotKind::Table),
             unused_warm_stacks: 0,
             unused_stack_bytes_resident: None,
         }

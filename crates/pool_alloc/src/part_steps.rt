@@ -1,25 +1,25 @@
-ghost use Rattle.std.specs.Prelude.{◌≡◌, ◌+◌, ◌<◌, ◌≤◌, ◌^◌, false, All, length, IsSome, None};
+ghost use Rattle.std.specs.Prelude.{◌≡◌, ◌+◌, ◌<◌, ◌≤◌, ◌^◌, false, All, length, IsSome, None, if◌then◌else◌};
 ghost use Rattle.pool_pages.specs.Count.{count};
 ghost use Rattle.pool_images.specs.Slots.{IsFresh};
-ghost use Rattle.pool_index.specs.Shard.{use_of};
+ghost use Rattle.pool_index.specs.Shard.{use_of, resident_bytes};
 ghost use Rattle.pool_slots.specs.Cells.{is_taken, unmapped, IsCleanOnceUsed};
 ghost use Rattle.pool_slots.specs.CellOf.{cell_of};
 ghost use Rattle.pool_slots.specs.Plans.{home_of};
 ghost use Rattle.pool_slots.specs.QueueMerges.{CanMerge};
 ghost use Rattle.pool_slots.specs.Parts.{IsShardPart, IsCellPart, cell_of_part};
-ghost use Rattle.pool_slots.specs.SlotQueues.{IsSpareOf, IsSettled};
+ghost use Rattle.pool_slots.specs.SlotQueues.{IsSpareOf, IsSettled, same_kind};
 ghost use Rattle.pool_slots.specs.declared.part.PoolPart.{PoolPart};
-ghost use Rattle.pool_alloc.specs.CanStep.{CanTryShard};
+ghost use Rattle.pool_alloc.specs.CanStep.{CanTryShard, HasAllocators};
 ghost use Rattle.pool_alloc.specs.Freeing.{AreUsedInTurn, HasHome, CanBeFreed};
 ghost use Rattle.pool_alloc.specs.Rows.{pick_on, free_one_on, free_on, take_region_on, put_back_on, region_put, take_queue_on, merge_on};
 ghost use Rattle.pool_alloc.specs.Sums.{warm_in, resident_in, part_calls};
-ghost use Rattle.pool_alloc.specs.Steps.{IsQueuePart, shard_in, queue_in, part_holding, freed_of};
+ghost use Rattle.pool_alloc.specs.Steps.{IsQueuePart, shard_in, queue_in, part_holding, freed_of, allocator_for};
 ghost use Rattle.pool_alloc.specs.Turns.{PartAfter, part_after, lifted};
 
 use crate::frame::{Frame, Outcome};
 use crate::pool_core::Settings;
 use crate::{cell_steps, queue_steps, shard_steps};
-use pool_index::SlotKind;
+use pool_index::{Shard, SlotKind};
 use pool_pages::{PageCalls, Pages};
 use pool_slots::{ImageSlot, Plan, PoolPart, QueuedSlot, SlotName};
 use std::alloc::Global;
@@ -33,7 +33,8 @@ pub(crate) fn pick<P: Pages>(
     tried: u32,
 ) -> Option<Outcome<P>>
     requires shard { IsShardPart part.old }
-    requires tries { CanTryShard plan.now frame.old.stripe tried }
+    requires plan { HasAllocators plan.now frame.old.stripe }
+    requires tries { CanTryShard plan.now (allocator_for plan.now frame.old) tried }
     requires few { length frame.old.objects.memories.items < 2 ^ 32 }
     ensures { ◌≡◌ {A = PartAfter (PoolPart P) P} (record { part = part.new; frame = frame.new; outcome = result }) (part_after (lifted (λ x. PoolPart.Shard x) (pick_on plan.now tried (shard_in part.old) frame.old))) }
 {
@@ -87,7 +88,7 @@ pub(crate) fn take_region<P: Pages>(
 ) -> Option<Outcome<P>>
     requires cell { IsCellPart part.old }
     requires there { is_taken (cell_of_part part.old).holds ≡ false }
-    requires fresh { (region : _) → (cell_of_part part.old).holds ≡ unmapped region → IsFresh (count settings.now.page 0) (count settings.now.page 0) settings.now.max_memory_size None region }
+    requires fresh { (region : _) → name.kind ≡ SlotKind.Memory → (cell_of_part part.old).holds ≡ unmapped region → IsFresh (count settings.now.page 0) (count settings.now.page 0) settings.now.max_memory_size None region }
     ensures { ◌≡◌ {A = PartAfter (PoolPart P) P} (record { part = part.new; frame = frame.new; outcome = result }) (part_after (lifted (λ x. part_holding x part.old) (take_region_on settings.now name (cell_of_part part.old) frame.old))) }
 {
     match part {
@@ -123,7 +124,6 @@ pub(crate) fn put_region<P: Pages>(
     item: QueuedSlot<P>,
 ) -> Option<Outcome<P>>
     requires cell { IsCellPart part.old }
-    requires memory { item.name.kind ≡ SlotKind.Memory }
     requires settled { IsSettled item }
     requires room { length frame.old.freed.items < frame.old.freed.room }
     ensures { ◌≡◌ {A = PartAfter (PoolPart P) P} (record { part = part.new; frame = frame.new; outcome = result }) (part_after (lifted (λ x. part_holding x part.old) (region_put item (cell_of_part part.old) frame.old))) }
@@ -145,7 +145,7 @@ pub(crate) fn take_queue<P: Pages>(
     requires queue { IsQueuePart part.old }
     requires spare { IsSpareOf (queue_in part.old) frame.old.local }
     requires taken { frame.old.queues + 1 < 2 ^ 32 }
-    requires stripe { frame.old.stripe < length plan.now.memories }
+    requires plan { HasAllocators plan.now frame.old.stripe }
     ensures { ◌≡◌ {A = PartAfter (PoolPart P) P} (record { part = part.new; frame = frame.new; outcome = result }) (part_after (lifted (λ x. PoolPart.Queue x) (take_queue_on plan.now (queue_in part.old) frame.old))) }
 {
     match part {
@@ -170,23 +170,43 @@ pub(crate) fn merge<P: Pages>(
     }
 }
 
-// How many of a part's slots are warm.
-pub(crate) fn warm_in<P: Pages>(part: &PoolPart<P>) -> u32
-    ensures { result ≡ warm_in part.now }
+// How many of a part's slots are warm, if they are of this kind.
+pub(crate) fn warm_in<P: Pages>(kind: SlotKind, part: &PoolPart<P>) -> u32
+    ensures { result ≡ warm_in kind part.now }
 {
     match part {
-        PoolPart::Shard(shard) => shard.unused_warm_slots(),
+        PoolPart::Shard(shard) => warm_slots(kind, shard),
         _ => 0,
     }
 }
 
+fn warm_slots(kind: SlotKind, shard: &Shard) -> u32
+    ensures { result ≡ (if same_kind kind shard.now.kind then length shard.now.warm else 0) }
+{
+    if kind == shard.kind() {
+        shard.unused_warm_slots()
+    } else {
+        0
+    }
+}
+
 // How many bytes they keep resident.
-pub(crate) fn resident_in<P: Pages>(part: &PoolPart<P>) -> usize
-    ensures { result ≡ resident_in part.now }
+pub(crate) fn resident_in<P: Pages>(kind: SlotKind, part: &PoolPart<P>) -> usize
+    ensures { result ≡ resident_in kind part.now }
 {
     match part {
-        PoolPart::Shard(shard) => shard.unused_bytes_resident(),
+        PoolPart::Shard(shard) => bytes_resident(kind, shard),
         _ => 0,
+    }
+}
+
+fn bytes_resident(kind: SlotKind, shard: &Shard) -> usize
+    ensures { result ≡ (if same_kind kind shard.now.kind then resident_bytes shard.now else 0) }
+{
+    if kind == shard.kind() {
+        shard.unused_bytes_resident()
+    } else {
+        0
     }
 }
 
@@ -196,6 +216,7 @@ pub(crate) fn part_calls<P: Pages>(part: &PoolPart<P>) -> PageCalls
 {
     match part {
         PoolPart::Memory(cell) => cell.page_calls(),
+        PoolPart::Table(cell) => cell.page_calls(),
         PoolPart::Queue(queue) => queue.page_calls(),
         _ => PageCalls::none(),
     }

@@ -2,6 +2,7 @@ ghost use Rattle.std.specs.Prelude.{◌≡◌};
 ghost use Rattle.pool_alloc.specs.Sums.{warm_slots, resident_sum, calls_of_parts};
 
 use crate::part_steps;
+use pool_index::SlotKind;
 use pool_pages::{PageCalls, Pages};
 use pool_slots::PoolPart;
 use std::marker::Model;
@@ -28,24 +29,24 @@ impl<P: Pages> Parts<P> {
         Parts { list }
     }
 
-    /// How many slots are warm. Stands still at the end of its type.
-    pub fn unused_warm_slots(&self) -> u32
-        ensures { result ≡ warm_slots self.now }
+    /// How many slots of a kind are warm. Stands still at the end of its type.
+    pub fn unused_warm_slots(&self, kind: SlotKind) -> u32
+        ensures { result ≡ warm_slots kind self.now }
     {
         let mut slots = 0u32;
         for part in &self.list {
-            slots = slots.saturating_add(part_steps::warm_in(part));
+            slots = slots.saturating_add(part_steps::warm_in(kind, part));
         }
         slots
     }
 
-    /// How many bytes the warm slots keep resident. Stands still at the end of its type.
-    pub fn unused_bytes_resident(&self) -> usize
-        ensures { result ≡ resident_sum self.now }
+    /// How many bytes the warm slots of a kind keep resident. Stands still at the end of its type.
+    pub fn unused_bytes_resident(&self, kind: SlotKind) -> usize
+        ensures { result ≡ resident_sum kind self.now }
     {
         let mut bytes = 0usize;
         for part in &self.list {
-            bytes = bytes.saturating_add(part_steps::resident_in(part));
+            bytes = bytes.saturating_add(part_steps::resident_in(kind, part));
         }
         bytes
     }

@@ -9,6 +9,7 @@ pub struct Counters {
     pub key: u64,
     pub core_instances: u64,
     pub memories: u64,
+    pub tables: u64,
 }
 
 /// What is the same for the whole life of a core.
@@ -26,6 +27,13 @@ pub struct Settings {
     pub batch: usize,
     pub max_core_instances: u64,
     pub max_memories_per_module: u32,
+    pub max_tables_per_module: u32,
+    /// How many elements a table may have.
+    pub table_elements: usize,
+    /// The size of a table's slot, in bytes.
+    pub table_slot: usize,
+    /// How many bytes of a table a reset keeps resident.
+    pub table_keep_resident: HostAlignedByteCount,
     pub tunables: MemoryTunables,
 }
 

@@ -3,6 +3,7 @@ ghost use Rattle.pool_slots.specs.SlotQueues.{Queue, IsSpareOf};
 ghost use Rattle.pool_slots.specs.QueueMerges.{CanMerge};
 ghost use Rattle.pool_alloc.specs.Rows.{take_queue_on, merge_on};
 ghost use Rattle.pool_alloc.specs.Turns.{PartAfter, part_after};
+ghost use Rattle.pool_alloc.specs.CanStep.{HasAllocators};
 
 use crate::frame::{Frame, Outcome};
 use crate::pool_core::Settings;
@@ -19,13 +20,13 @@ pub(crate) fn take_queue<P: Pages>(
 ) -> Option<Outcome<P>>
     requires spare { IsSpareOf queue.old frame.old.local }
     requires taken { frame.old.queues + 1 < 2 ^ 32 }
-    requires stripe { frame.old.stripe < length plan.now.memories }
+    requires plan { HasAllocators plan.now frame.old.stripe }
     ensures { ◌≡◌ {A = PartAfter Queue P} (record { part = queue.new; frame = frame.new; outcome = result }) (part_after (take_queue_on plan.now queue.old frame.old)) }
 {
     queue.take(&mut frame.local);
     frame.queues += 1;
     if frame.local.is_empty() {
-        frame.search_memory(plan)
+        frame.search_slot(plan)
     } else {
         frame.flush(alloc)
     }

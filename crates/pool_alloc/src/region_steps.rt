@@ -9,6 +9,7 @@ ghost use Rattle.pool_alloc.specs.Turns.{After, stepped, is_granting};
 use crate::frame::{Ending, Frame, Object, Outcome, Phase, TakenSlot};
 use crate::lease::MemoryLease;
 use crate::pool_core::PoolCore;
+use crate::table_lease::TableLease;
 use pool_images::MemoryImageSlot;
 use pool_pages::Pages;
 use pool_slots::{AllocError, ImageSlot};
@@ -46,6 +47,7 @@ impl<P: Pages> PoolCore<P> {
     {
         match object {
             Object::Memory(lease) => self.uncount_memory(frame, lease),
+            Object::Table(lease) => self.uncount_table(frame, lease),
         }
     }
 
@@ -55,6 +57,14 @@ impl<P: Pages> PoolCore<P> {
     {
         self.counters.memories -= 1;
         frame.go(Phase::Reset(Object::Memory(lease)))
+    }
+
+    fn uncount_table(&mut self, frame: &mut Frame<P>, lease: TableLease<P>) -> Option<Outcome<P>>
+        requires { 0 < self.old.counters.tables }
+        ensures { ◌≡◌ {A = After P} (record { core = self.new; frame = frame.new; outcome = result }) (stepped (uncount_object_row (Object.Table lease) self.old frame.old)) }
+    {
+        self.counters.tables -= 1;
+        frame.go(Phase::Reset(Object::Table(lease)))
     }
 
     pub(crate) fn uncount_instance(&mut self, frame: &mut Frame<P>) -> Option<Outcome<P>>

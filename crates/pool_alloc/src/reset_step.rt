@@ -2,9 +2,9 @@ ghost use Rattle.std.specs.Prelude.{◌≡◌, ◌^◌, ◌<◌, ◌≤◌, [], 
 ghost use Rattle.pool_images.specs.Slots.{Slot};
 ghost use Rattle.pool_memory.specs.Memories.{slot_of};
 ghost use Rattle.pool_alloc.specs.Answers.{Resets, FollowsReset, ResetTold, ResetPlanned};
-ghost use Rattle.pool_alloc.specs.CanStep.{CanReset, CanStepAt};
+ghost use Rattle.pool_alloc.specs.CanStep.{CanReset, CanResetTable, CanStepAt};
 ghost use Rattle.pool_alloc.specs.Leases.{memory_slot, slot_taken};
-ghost use Rattle.pool_alloc.specs.Rows.{was_reset, reset_turn, reset_row};
+ghost use Rattle.pool_alloc.specs.Rows.{was_reset, reset_turn, table_reset_row, reset_row};
 ghost use Rattle.pool_alloc.specs.Steps.{StepGiven};
 ghost use Rattle.pool_alloc.specs.Turns.{After, Left, after, stepped};
 
@@ -12,6 +12,8 @@ use crate::frame::{Frame, Object, Outcome, Phase, TakenSlot};
 use crate::freeing::memory_slot;
 use crate::lease::MemoryLease;
 use crate::pool_core::PoolCore;
+use crate::table_lease::TableLease;
+use crate::table_steps::reset_table;
 use pool_images::{MemoryImageSlot, Ranges};
 use pool_pages::Pages;
 use pool_slots::{HeldSlot, ImageSlot, QueueKind, QueuedSlot};
@@ -30,7 +32,23 @@ impl<P: Pages> PoolCore<P> {
     {
         match object {
             Object::Memory(lease) => self.reset_memory(alloc, frame, lease),
+            Object::Table(lease) => self.reset_table(alloc, frame, lease),
         }
+    }
+
+    // Resets a table into the local queue, likewise. That makes no page call.
+    fn reset_table(
+        &mut self,
+        alloc: Global,
+        frame: &mut Frame<P>,
+        lease: TableLease<P>,
+    ) -> Option<Outcome<P>>
+        requires { CanResetTable self.old.settings lease frame.old.local }
+        ensures { ◌≡◌ {A = After P} (record { core = self.new; frame = frame.new; outcome = result }) (stepped (table_reset_row lease self.old frame.old)) }
+    {
+        let keep = self.settings.table_keep_resident;
+        reset_table(self.settings.page, keep, lease, &mut frame.local);
+        was_reset(alloc, self.settings.batch, frame)
     }
 
     // Resets a memory into the local queue. That is flushed where it has no range or as many as a batch, and else goes

@@ -1,11 +1,11 @@
 ghost use Rattle.std.specs.Prelude.{◌≡◌, ◌+◌, ◌<◌, ◌≤◌, ◌^◌, ◌/◌, nat_lt, length, All, IsSome, None, option_map, if◌then◌else◌};
 ghost use Rattle.pool_index.specs.Shard.{ShardState, IsShard, IsSameShard, use_of, pick_answer, after_pick, after_free, slot_number};
-ghost use Rattle.pool_alloc.specs.CanStep.{CanTryShard};
+ghost use Rattle.pool_alloc.specs.CanStep.{HasAllocators, CanTryShard};
 ghost use Rattle.pool_alloc.specs.Freeing.{AreUsedInTurn, HasHome, CanBeFreed};
 ghost use Rattle.pool_alloc.specs.Rows.{picked, pick_on, free_one_on, free_on};
 ghost use Rattle.pool_slots.specs.Plans.{home_of};
 ghost use Rattle.pool_alloc.specs.Steps.{freed_of, allocator_for};
-ghost use Rattle.pool_alloc.specs.Turns.{Left, PartAfter, after, part_after, goes, memory_search};
+ghost use Rattle.pool_alloc.specs.Turns.{Left, PartAfter, after, part_after, goes, slot_search};
 
 use crate::frame::{Frame, Outcome, Phase};
 use crate::freeing::{free_all, home};
@@ -23,7 +23,8 @@ pub(crate) fn pick<P: Pages>(
     frame: &mut Frame<P>,
     tried: u32,
 ) -> Option<Outcome<P>>
-    requires tries { CanTryShard plan.now frame.old.stripe tried }
+    requires plan { HasAllocators plan.now frame.old.stripe }
+    requires tries { CanTryShard plan.now (allocator_for plan.now frame.old) tried }
     requires few { length frame.old.objects.memories.items < 2 ^ 32 }
     ensures { ◌≡◌ {A = PartAfter ShardState P} (record { part = shard.new; frame = frame.new; outcome = result }) (part_after (pick_on plan.now tried shard.old frame.old)) }
 {
@@ -35,7 +36,7 @@ pub(crate) fn pick<P: Pages>(
 
 // The shard had this slot.
 fn go_to_slot<P: Pages>(plan: &Plan, frame: &mut Frame<P>, slot: u32) -> Option<Outcome<P>>
-    requires { frame.old.stripe < length plan.now.memories }
+    requires { HasAllocators plan.now frame.old.stripe }
     ensures { ◌≡◌ {A = Left P} (record { frame = frame.new; outcome = result }) (after frame.old (goes (Phase.TakeRegion (record { kind = (allocator_for plan.now frame.old).kind; slot = slot })))) }
 {
     let kind = frame.allocator(plan).kind;
@@ -44,14 +45,15 @@ fn go_to_slot<P: Pages>(plan: &Plan, frame: &mut Frame<P>, slot: u32) -> Option<
 
 // The shard had no slot: the next is tried, unless it was the last.
 fn pick_next<P: Pages>(plan: &Plan, frame: &mut Frame<P>, tried: u32) -> Option<Outcome<P>>
-    requires { CanTryShard plan.now frame.old.stripe tried }
-    ensures { ◌≡◌ {A = Left P} (record { frame = frame.new; outcome = result }) (after frame.old (if nat_lt (tried + 1) (allocator_for plan.now frame.old).shards then goes (Phase.Pick (tried + 1)) else memory_search plan.now frame.old)) }
+    requires plan { HasAllocators plan.now frame.old.stripe }
+    requires tries { CanTryShard plan.now (allocator_for plan.now frame.old) tried }
+    ensures { ◌≡◌ {A = Left P} (record { frame = frame.new; outcome = result }) (after frame.old (if nat_lt (tried + 1) (allocator_for plan.now frame.old).shards then goes (Phase.Pick (tried + 1)) else slot_search plan.now frame.old)) }
 {
     let shards = frame.allocator(plan).shards;
     if tried + 1 < shards {
         return frame.go(Phase::Pick(tried + 1));
     }
-    frame.search_memory(plan)
+    frame.search_slot(plan)
 }
 
 // Frees a slot of a shard. Nothing is known of it.

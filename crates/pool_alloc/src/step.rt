@@ -20,7 +20,7 @@ use std::mem;
 
 impl<P: Pages> PoolCore<P> {
     /// Makes one step of the frame's call, as the step table says. Answers Some exactly where the call ends with it. A
-    /// step of a frame without a call changes nothing. Only the making of a memory asks the limiter; without one it is
+    /// step of a frame without a call changes nothing. Only the making of a memory or a table asks the limiter; without one it is
     /// granted. No step makes a heap yet, so the maker of heaps stays as it is.
     pub fn step<R: ResourceLimiter, K: HeapMaker>(
         &mut self,
@@ -72,6 +72,7 @@ impl<P: Pages> PoolCore<P> {
             Phase::Empty(at, held) => self.empty(frame, at, held),
             Phase::Instantiate(at, held) => self.instantiate(frame, at, held),
             Phase::MakeMemory(at, held) => self.make_memory(frame, at, held, limiter),
+            Phase::MakeTable(at, region) => self.make_table(frame, at, region, limiter),
             Phase::CountObject(object) => self.count_object(alloc, frame, object),
             Phase::PutBack(at, held) => self.put_back(frame, at, held),
             Phase::FreeOne(name) => self.free_one(alloc, frame, name),

@@ -1,17 +1,19 @@
-ghost use Rattle.std.specs.Prelude.{◌≡◌, ◌<◌, ◌%◌, ◌==◌, Bool, Some, None, if◌then◌else◌};
+ghost use Rattle.std.specs.Prelude.{◌≡◌, ◌<◌, ◌%◌, ◌==◌, Bool, Some, None, if◌then◌else◌, [], length, IfOk};
 ghost use Rattle.pool_pages.specs.MemoryTypes.{refused_limits};
 ghost use Rattle.pool_slots.specs.declared.errors.AllocError.TheVariants as refusal;
 ghost use Rattle.pool_alloc.specs.CanStep.{CanValidate};
-ghost use Rattle.pool_alloc.specs.Refusals.{first_refused, offset_refused, number_refused, memory_refused, memories_refused};
+ghost use Rattle.pool_alloc.specs.Refusals.{first_refused, offset_refused, number_refused, memory_refused, tables_refused, long_table, module_refused};
 ghost use Rattle.pool_alloc.specs.Rows.{refused_at_once, validated, validate_row};
-ghost use Rattle.pool_alloc.specs.Steps.{memories_wanted};
+ghost use Rattle.pool_alloc.specs.Steps.{memories_wanted, tables_wanted};
 ghost use Rattle.pool_alloc.specs.Turns.{After, stepped};
+ghost use Rattle.std.specs.Option.{option_or};
 
 use crate::frame::{Frame, Outcome, Phase};
 use crate::lease::InstanceLease;
 use crate::pool_core::{PoolCore, Settings};
 use crate::reserved::ReservedList;
-use pool_pages::{ImageDecl, MemoryDecl, MemoryType, PageSize, Pages, Unsupported};
+use crate::table_rules::{long_table, table_limits_refused, tables_refused};
+use pool_pages::{ImageDecl, MemoryDecl, MemoryType, PageSize, Pages, TableType, Unsupported};
 use pool_slots::AllocError;
 use std::alloc::Global;
 
@@ -37,9 +39,9 @@ impl<P: Pages> PoolCore<P> {
     fn reserve_grants(&mut self, alloc: Global, frame: &mut Frame<P>) -> Option<Outcome<P>>
         ensures { (wants : Bool) × (◌≡◌ {A = After P} (record { core = self.new; frame = frame.new; outcome = result }) (stepped (validated None wants self.old frame.old))) }
     {
-        match ReservedList::with_room(alloc, frame.memories_wanted()) {
-            Ok(memories) => {
-                frame.objects = InstanceLease { memories };
+        match room_for(alloc, frame.memories_wanted(), frame.tables_wanted()) {
+            Ok(objects) => {
+                frame.objects = objects;
                 frame.go(Phase::CountInstance)
             }
             Err(_) => self.refuse_at_once(frame, AllocError::Memory),
@@ -49,18 +51,42 @@ impl<P: Pages> PoolCore<P> {
     // The first rule that the module breaks.
     fn module_refused(&self, frame: &Frame<P>) -> Option<Unsupported>
         requires { CanValidate (memories_wanted frame.now.asked) }
-        ensures { result ≡ memories_refused self.now.settings (memories_wanted frame.now.asked) }
+        ensures { result ≡ module_refused self.now.settings self.now.plan.totals.table (memories_wanted frame.now.asked) (tables_wanted frame.now.asked) }
     {
+        let total = self.plan.totals.table;
         match &frame.asked {
-            None => memories_refused(&self.settings, &[]),
-            Some(call) => memories_refused(&self.settings, call.info.memories.as_slice()),
+            None => module_refused(&self.settings, total, &[], &[]),
+            Some(call) => module_refused(
+                &self.settings,
+                total,
+                call.info.memories.as_slice(),
+                call.info.tables.as_slice(),
+            ),
         }
     }
 }
 
-fn memories_refused(settings: &Settings, decls: &[MemoryDecl]) -> Option<Unsupported>
+// Nothing of an instance, with room for so many memories and tables.
+fn room_for<P: Pages>(
+    alloc: Global,
+    memories: usize,
+    tables: usize,
+) -> Result<InstanceLease<P>, std::alloc::AllocError>
+    ensures { IfOk result (λ l. l ≡ record { memories = record { items = []; room = memories }; tables = record { items = []; room = tables } }) }
+{
+    let memories = ReservedList::with_room(alloc, memories)?;
+    let tables = ReservedList::with_room(alloc, tables)?;
+    Ok(InstanceLease { memories, tables })
+}
+
+fn module_refused(
+    settings: &Settings,
+    total: u32,
+    decls: &[MemoryDecl],
+    tables: &[TableType],
+) -> Option<Unsupported>
     requires { CanValidate decls.now }
-    ensures { result ≡ memories_refused settings.now decls.now }
+    ensures { result ≡ module_refused settings.now total decls.now tables.now }
 {
     if let Some(rule) = offsets_refused(settings.page, decls) {
         return Some(rule);
@@ -68,10 +94,26 @@ fn memories_refused(settings: &Settings, decls: &[MemoryDecl]) -> Option<Unsuppo
     if let Some(rule) = limits_refused(decls) {
         return Some(rule);
     }
+    if let Some(rule) = table_limits_refused(tables) {
+        return Some(rule);
+    }
     if let Some(rule) = number_refused(settings, decls.len()) {
         return Some(rule);
     }
-    slots_refused(settings, decls)
+    if let Some(rule) = slots_refused(settings, decls) {
+        return Some(rule);
+    }
+    tables_broken(settings, total, tables)
+}
+
+// The rules on tables that are tested last.
+fn tables_broken(settings: &Settings, total: u32, tables: &[TableType]) -> Option<Unsupported>
+    ensures { result ≡ option_or (tables_refused settings.now total (length tables.now)) (long_table settings.now 0 tables.now) }
+{
+    if let Some(rule) = tables_refused(settings, total, tables.len()) {
+        return Some(rule);
+    }
+    long_table(settings, tables)
 }
 
 #[tactic(auto, using(crate::proofs::Refusing::refused_here, crate::proofs::Refusing::refused_later, crate::proofs::Refusing::refused_nowhere))]

@@ -4,4 +4,4 @@ use Rattle.pool_alloc.proofs.parts.Parts.unused_bytes_resident.Given as goal
 
 -- those of the parts so far
 abbrev pub invariant-loop-part : goal.invariant-loop-part
-invariant-loop-part g l = l.bytes ≡ resident_sum (take l.part-index l.part-items)
+invariant-loop-part g l = l.bytes ≡ resident_sum l.kind (take l.part-index l.part-items)

@@ -1,6 +1,6 @@
 use Rattle.std.proofs.Common.{refl, sym, ◌∙◌}
 use Rattle.pool_limits.specs.Exchanges.{Exchanged}
-use Rattle.pool_alloc.specs.declared.frame.Phase.TheVariants.{Idle, Key, Validate, CountInstance, Pick, TakeQueue, TakeRegion, Empty, Instantiate, MakeMemory, CountObject, PutBack, FreeOne, UncountObject, Reset, Merge, Flush, UncountInstance}
+use Rattle.pool_alloc.specs.declared.frame.Phase.TheVariants.{Idle, Key, Validate, CountInstance, Pick, TakeQueue, TakeRegion, Empty, Instantiate, MakeMemory, MakeTable, CountObject, PutBack, FreeOne, UncountObject, Reset, Merge, Flush, UncountInstance}
 use Rattle.pool_alloc.proofs.Advancing.{nothing_told, by_row, quiet, idle_row}
 use Rattle.pool_alloc.proofs.pool_core.PoolCore.advance.Goals as goal
 
@@ -57,3 +57,6 @@ returns-in-UncountInstance g c = quiet g.L.ResourceLimiter.leads c.args.limiter.
 
 pub returns-in-MakeMemory : goal.returns-in-MakeMemory
 returns-in-MakeMemory g c = by_row (λ passed. Exchanged g.L.ResourceLimiter.leads passed c.args.limiter.now c.make_memory.new.limiter) _ _ (record nothing_told { limiter = c.make_memory.ensures.0 }) (MakeMemory c.in-MakeMemory.at c.in-MakeMemory.held) c.args.self.now c.args.frame.now _ c.replace.new.dest (sym c.replace.ensures.value ∙ c.in-MakeMemory.is) c.replace.ensures.after tt tt c.make_memory.ensures.1 c.make_memory.ensures.2 c.make_memory.ensures.3
+
+pub returns-in-MakeTable : goal.returns-in-MakeTable
+returns-in-MakeTable g c = by_row (λ passed. Exchanged g.L.ResourceLimiter.leads passed c.args.limiter.now c.make_table.new.limiter) _ _ (record nothing_told { limiter = c.make_table.ensures.0 }) (MakeTable c.in-MakeTable.at c.in-MakeTable.region) c.args.self.now c.args.frame.now _ c.replace.new.dest (sym c.replace.ensures.value ∙ c.in-MakeTable.is) c.replace.ensures.after tt tt c.make_table.ensures.1 c.make_table.ensures.2 c.make_table.ensures.3

@@ -1,16 +1,16 @@
-use Rattle.std.proofs.Common.{◌≡◌, ℕ, ◌+◌, ◌^◌, ◌<◌, ◌≤◌, Bool, List, refl, sym, ap, subst, ◌∙◌, arith}
-use Rattle.std.specs.Prelude.{IfSome, false}
+use Rattle.std.proofs.Common.{◌≡◌, ℕ, ◌+◌, ◌^◌, ◌<◌, ◌≤◌, List, refl, sym, ap, subst, ◌∙◌, arith}
+use Rattle.std.specs.Prelude.{false}
 use Rattle.pool_pages.specs.Count.{IsPageSize}
 use Rattle.pool_pages.specs.MakerTold.{MakerTold, Planned}
-use Rattle.pool_slots.specs.Makings.{IsListedPoolFault, RaisesPoolBehind, makes_listed_regions}
+use Rattle.pool_slots.specs.Makings.{IsListedPoolFault, RaisesPoolBehind}
 use Rattle.pool_slots.specs.PartsMade.{fails_some_slot, lists_some_making, SomeGivenUp, HaveGuards, AreMadeTo}
 use Rattle.pool_slots.specs.PlansMade.{heaps_from, places_planned}
 use Rattle.pool_slots.specs.StripedPlans.{divided, IsStripedPlanOf}
 use Rattle.pool_slots.specs.declared.part_maker.PartSettings.{PartSettings}
 use Rattle.pool_slots.specs.declared.striped_plan.StripedPlanSettings.{StripedPlanSettings}
 use Rattle.pool_slots.proofs.Plans.{plain_faults, plain_behind, mapped_told}
-use Rattle.pool_alloc.specs.Made.{settings_of, plan_settings, part_settings}
-use Rattle.pool_alloc.proofs.MadePools.{fails_of_memories, lists_of_memories, none_given_up, made_core, made_untouched}
+use Rattle.pool_alloc.specs.Made.{settings_of, plan_settings, part_settings, lists_making}
+use Rattle.pool_alloc.proofs.MadePools.{fails_by_kind, lists_by_kind, none_given_up, made_core, made_untouched}
 use Rattle.pool_alloc.proofs.pool_core.PoolCore.within_rules.Goals as goal
 
 pub make_parts-requires-clause-stripes : goal.make_parts-requires-clause-stripes
@@ -33,7 +33,7 @@ returns-in-Err-clause-behind g c =
     let maker : MakerTold = g.M.PageMaker.told c.args.maker.now in
     let ps : PartSettings = c.part_settings-parts.result in
     let new : ℕ = (g.M.PageMaker.told c.make_parts.new.maker).behind in
-    let listed : lists_some_making c.plan_settings-numbers.result.totals maker.listed ≡ makes_listed_regions maker.listed config.limits.total_memories = ap (λ (z : StripedPlanSettings). lists_some_making z.totals maker.listed) c.plan_settings-numbers.ensures ∙ lists_of_memories config maker.listed in
+    let listed : lists_some_making c.plan_settings-numbers.result.totals maker.listed ≡ lists_making config maker.listed = ap (λ (z : StripedPlanSettings). lists_some_making z.totals maker.listed) c.plan_settings-numbers.ensures ∙ lists_by_kind config maker.listed in
     subst (λ b. RaisesPoolBehind b maker.behind new c.in-Err.refusal) listed
     (plain_behind (SomeGivenUp c.plan_settings-numbers.result ps maker)
     (λ some. none_given_up config ps maker (subst (λ z. SomeGivenUp z ps maker) c.plan_settings-numbers.ensures some))
@@ -43,21 +43,21 @@ pub returns-in-Err-clause-planned : goal.returns-in-Err-clause-planned
 returns-in-Err-clause-planned g c =
     let config = c.args.config.now in
     let ps : PartSettings = c.part_settings-parts.result in
-    let fails : (plan : List Planned) → fails_some_slot c.plan_settings-numbers.result ps plan ≡ makes_listed_regions plan config.limits.total_memories = λ plan. ap (λ (z : StripedPlanSettings). fails_some_slot z ps plan) c.plan_settings-numbers.ensures ∙ fails_of_memories config ps plan in
-    mapped_told (λ plan. IsListedPoolFault (fails_some_slot c.plan_settings-numbers.result ps plan) c.in-Err.refusal) (λ plan. IsListedPoolFault (makes_listed_regions plan config.limits.total_memories) c.in-Err.refusal) (g.M.PageMaker.told c.args.maker.now).plan
+    let fails : (plan : List Planned) → fails_some_slot c.plan_settings-numbers.result ps plan ≡ lists_making config plan = λ plan. ap (λ (z : StripedPlanSettings). fails_some_slot z ps plan) c.plan_settings-numbers.ensures ∙ fails_by_kind config ps plan in
+    mapped_told (λ plan. IsListedPoolFault (fails_some_slot c.plan_settings-numbers.result ps plan) c.in-Err.refusal) (λ plan. IsListedPoolFault (lists_making config plan) c.in-Err.refusal) (g.M.PageMaker.told c.args.maker.now).plan
     (λ plan h. subst (λ b. IsListedPoolFault b c.in-Err.refusal) (fails plan) h) c.in-Err.ensures.planned
 
 pub returns-clause-listed : goal.returns-clause-listed
 returns-clause-listed g c =
     let listed : List Planned = (g.M.PageMaker.told c.args.maker.now).listed in
-    sym (ap (λ (z : StripedPlanSettings). lists_some_making z.totals listed) c.plan_settings-numbers.ensures ∙ lists_of_memories c.args.config.now listed) ∙ c.in-Ok-make_parts.ensures.listed
+    sym (ap (λ (z : StripedPlanSettings). lists_some_making z.totals listed) c.plan_settings-numbers.ensures ∙ lists_by_kind c.args.config.now listed) ∙ c.in-Ok-make_parts.ensures.listed
 
 pub returns-clause-planned : goal.returns-clause-planned
 returns-clause-planned g c =
     let config = c.args.config.now in
     let ps : PartSettings = c.part_settings-parts.result in
-    mapped_told (λ plan. fails_some_slot c.plan_settings-numbers.result ps plan ≡ false) (λ plan. makes_listed_regions plan config.limits.total_memories ≡ false) (g.M.PageMaker.told c.args.maker.now).plan
-    (λ plan h. sym (ap (λ (z : StripedPlanSettings). fails_some_slot z ps plan) c.plan_settings-numbers.ensures ∙ fails_of_memories config ps plan) ∙ h) c.in-Ok-make_parts.ensures.planned
+    mapped_told (λ plan. fails_some_slot c.plan_settings-numbers.result ps plan ≡ false) (λ plan. lists_making config plan ≡ false) (g.M.PageMaker.told c.args.maker.now).plan
+    (λ plan h. sym (ap (λ (z : StripedPlanSettings). fails_some_slot z ps plan) c.plan_settings-numbers.ensures ∙ fails_by_kind config ps plan) ∙ h) c.in-Ok-make_parts.ensures.planned
 
 pub returns-clause-made : goal.returns-clause-made
 returns-clause-made g c =

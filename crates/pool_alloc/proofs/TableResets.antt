@@ -1,0 +1,29 @@
+-- What a table's slot is once it is reset.
+use Rattle.std.proofs.Common.{◌≡◌, ℕ, ◌≤◌, true, List, All, Some, ap, arith}
+use Rattle.std.specs.Prelude.{◌-◌, ◌^◌, min}
+use Rattle.pool_images.specs.declared.ranges.ByteRange.{ByteRange}
+use Rattle.pool_images.specs.Slots.{Slot, IsPart, IsClean, size_of, decommitted_all}
+use Rattle.pool_pages.specs.Told.{Told}
+use Rattle.pool_slots.specs.PlainSlots.{IsPlain, IsUnusedFrom, bottom_reset}
+use Rattle.pool_slots.specs.SlotQueues.{IsReset, plain_slot}
+use Rattle.pool_slots.specs.declared.slot_name.RegionNumbers.{RegionNumbers}
+use Rattle.pool_alloc.specs.TableLeases.{LeasedTable, table_slot}
+use Rattle.pool_alloc.specs.TableSteps.{IsInRegion, bytes_used}
+
+-- It can be zeroed by hand, and is clean once its ranges are decommitted.
+pub table_is_reset : (page keep : ℕ) (l : LeasedTable) (region : Told) (ranges : List ByteRange) (s : Slot) (kept : ℕ) (numbers : RegionNumbers) → IsInRegion page l region → IsPlain s
+    → s ≡ bottom_reset keep (bytes_used page l) (plain_slot 0 region) → kept ≡ min keep (bytes_used page l) → IsUnusedFrom (bytes_used page l) s → All (IsPart s.region.page (size_of s)) ranges → IsClean (decommitted_all ranges s)
+    → IsReset ranges (record { name = table_slot l.index; slot = s; known = true; bytes = kept; by_hand = Some (bytes_used page l); numbers = numbers })
+table_is_reset page keep l region ranges s kept numbers in_region plain is keeps unused parts clean =
+    let used : ℕ = bytes_used page l in
+    let size : s.static_size ≡ region.len - 0 = ap (λ (x : Slot). x.static_size) is in
+    let within : used ≤ s.accessible.bytes = omega (arith, in_region.within, size, plain.all) in
+    let few : kept ≤ 2 ^ 32 = omega (arith, keeps, in_region.within, in_region.few) in
+    record {
+      fits = plain.fits;
+      parts = parts;
+      clean = λ _. clean;
+      by_hand = tt;
+      zeroed = record { fits = plain.fits; image = plain.image; not_dirty = plain.not_dirty; all = plain.all; within = within; ready = plain.ready; rest = unused };
+      bytes = few;
+    }

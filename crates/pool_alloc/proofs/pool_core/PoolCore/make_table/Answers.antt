@@ -1,0 +1,19 @@
+use Rattle.std.proofs.Common.{◌∙◌, ap, length, Option}
+use Rattle.std.specs.Prelude.{slice_get}
+use Rattle.pool_pages.specs.declared.table_type.TableType.{TableType}
+use Rattle.pool_alloc.specs.Steps.{tables_wanted}
+use Rattle.pool_alloc.specs.Turns.{stepped}
+use Rattle.pool_alloc.proofs.Makings.{table_in_code}
+use Rattle.pool_alloc.proofs.Telling.{told_there, told_weaker}
+use Rattle.pool_alloc.proofs.pool_core.PoolCore.make_table.Goals as goal
+
+pub returns : goal.returns
+returns g c =
+    let core = c.args.self.now in
+    let frame = c.args.frame.now in
+    let next : Option TableType = slice_get (tables_wanted frame.asked) (length frame.objects.tables.items) in
+    let answer = c.make_next_table-making.ensures.0 in
+    let makes = c.make_next_table-making.ensures.1 in
+    let row = told_there _ (tables_wanted frame.asked) (length frame.objects.tables.items) c.requires.next.more
+    (table_in_code c.args.at c.args.region core frame answer next c.make_next_table-making.result (told_weaker _ _ next (λ ty m. m.is) makes)) in
+    (answer, told_weaker _ _ next (λ ty m. m.asks) makes, told_weaker _ _ next (λ ty m. m.exchanged) makes, c.table_made.ensures core ∙ ap stepped row)

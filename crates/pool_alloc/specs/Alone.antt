@@ -1,0 +1,27 @@
+-- The steps of one call with no step of another call between them.
+use Rattle.std.specs.Prelude.{◌≡◌, ◌+◌, List, [], ◌∷◌, None}
+use Rattle.pool_limits.specs.LimiterTold.{LimiterTold}
+use Rattle.pool_alloc.specs.Places.{Thing, kept_count, away_count}
+use Rattle.pool_alloc.specs.Stepping.{StepsTo}
+use Rattle.pool_alloc.specs.Turns.{After}
+use Rattle.pool_alloc.specs.declared.pool_core.PoolCore.{PoolCore}
+use Rattle.pool_alloc.specs.declared.frame.Frame.{Frame}
+
+module _ {P : Type 0} where
+  -- a step, under some limiter
+  abbrev pub IsStep : PoolCore P → Frame P → After P → Type 0
+  IsStep c f a = (old : LimiterTold) × ((new : LimiterTold) × StepsTo old new c f a)
+
+  -- Steps of the frame's call, each made on what the one before left. What each but the last leaves is listed, and none of
+  -- those answers; this is what the last leaves.
+  abbrev pub AreSteps : PoolCore P → Frame P → List (After P) → After P → Type 0
+  AreSteps c f [] a = IsStep c f a
+  AreSteps c f (b ∷ rest) a = IsStep c f b × ((b.outcome ≡ None) × AreSteps b.core b.frame rest a)
+
+  -- Every count is as it was: how many instances, memories and tables there are, and what is given out less what queues
+  -- keep of it.
+  pub record HasSameCounts (old new : PoolCore P) : Type 0 where
+    pub given : (t : Thing) → away_count t new + kept_count t old ≡ away_count t old + kept_count t new
+    pub instances : new.counters.core_instances ≡ old.counters.core_instances
+    pub memories : new.counters.memories ≡ old.counters.memories
+    pub tables : new.counters.tables ≡ old.counters.tables

@@ -1,0 +1,57 @@
+ghost use Rattle.std.specs.Prelude.{◌≡◌, ◌<◌, ◌^◌, length};
+ghost use Rattle.pool_pages.specs.MemoryTypes.{refused_limits};
+ghost use Rattle.pool_alloc.specs.Refusals.{first_refused, tables_refused, long_table};
+
+use crate::pool_core::Settings;
+use pool_pages::{TableType, Unsupported};
+
+/// The refusal of the first table of which the minimum exceeds the maximum.
+#[tactic(auto, using(crate::proofs::Refusing::refused_here, crate::proofs::Refusing::refused_later, crate::proofs::Refusing::refused_nowhere))]
+pub(crate) fn table_limits_refused(tables: &[TableType]) -> Option<Unsupported>
+    ensures { result ≡ first_refused (λ ty. refused_limits ty.limits) tables.now }
+{
+    for ty in tables {
+        if let Err(rule) = ty.check() {
+            return Some(rule);
+        }
+    }
+    None
+}
+
+/// The refusal of so many tables of an instance, in a pool that has `total`.
+pub(crate) fn tables_refused(settings: &Settings, total: u32, count: usize) -> Option<Unsupported>
+    ensures { result ≡ tables_refused settings.now total count }
+{
+    let limit = settings.max_tables_per_module;
+    if count > limit as usize {
+        return Some(Unsupported::TablesPerModule { count, limit });
+    }
+    if count > total as usize {
+        Some(Unsupported::TotalTables {
+            count,
+            limit: total,
+        })
+    } else {
+        None
+    }
+}
+
+/// The refusal of the first table that begins with more elements than a table may have.
+#[tactic(auto, using(crate::proofs::TableRules::long_here, crate::proofs::TableRules::long_later, crate::proofs::TableRules::long_nowhere))]
+pub(crate) fn long_table(settings: &Settings, tables: &[TableType]) -> Option<Unsupported>
+    requires { length tables.now < 2 ^ 32 }
+    ensures { result ≡ long_table settings.now 0 tables.now }
+{
+    let limit = settings.table_elements;
+    for (index, ty) in tables.iter().enumerate() {
+        let min = ty.limits.min;
+        if min > limit as u64 {
+            return Some(Unsupported::TableExceedsSlot {
+                index: index as u32,
+                min,
+                limit,
+            });
+        }
+    }
+    None
+}
