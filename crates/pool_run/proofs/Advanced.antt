@@ -19,6 +19,7 @@ use Rattle.pool_alloc.specs.Asked.{ModuleAsked}
 use Rattle.pool_alloc.specs.declared.frame.Outcome.{Outcome}
 use Rattle.pool_alloc.specs.declared.frame.Outcome.TheVariants as answer
 use Rattle.pool_alloc.proofs.BegunCalls.{idle_left, begun_bounded}
+use Rattle.pool_table.specs.declared.gc_store.ListedStore.{ListedStore}
 use Rattle.pool_run.specs.Rooms.{World}
 use Rattle.pool_run.specs.Progress.{begun_by, begins_by, bound_asked, bound_returned, bound_begun, bound_keyed, bound_by}
 use Rattle.pool_run.specs.Ties.{CanTurn}
@@ -31,7 +32,7 @@ use Rattle.pool_run.specs.declared.reply.Reply.TheVariants.{Refused}
 use Rattle.pool_run.specs.declared.reply.Refusal.TheVariants.{NoSuchGrant, Alloc}
 use Rattle.pool_run.specs.declared.running_party.RunningParty.{RunningParty}
 use Rattle.pool_run.proofs.Parties.{can_step, called_key, returned_stage}
-use Rattle.pool_run.specs.Acts.{Act, requests, on_memory, drops, act_of}
+use Rattle.pool_run.specs.Acts.{Act, requests, on_memory, on_table, drops, act_of}
 use Rattle.pool_run.proofs.Opened.{idle_is, IsStep, drops_opened, module_opened}
 use Rattle.pool_run.proofs.StageSteps.{is_none, none_idle, is_key}
 use Rattle.pool_run.proofs.Stepped.{IsStepped, stepped}
@@ -125,8 +126,8 @@ module _ {P : Type 0} (maker : MakerTold) (c : PoolCore P) (p : RunningParty P) 
   none_left = omega (arith, idle_left c p.frame idle)
 
   -- a command that ends at once
-  replies_on : (live : List (Option (Grant P))) (reply : Reply) (t : Turned P) → Leaves (replies reply live) c p t → HasAdvanced 1 1 c p t
-  replies_on live reply t leaves = subst (HasAdvanced 1 1 c p) (sym leaves) (record { ready = ready; fewer = λ busy. never busy; bounded = λ idles. omega (arith, idle_left c (one_step p.frame) idle); begun = omega arith })
+  replies_on : (live : List (Option (Grant P))) (store : ListedStore) (reply : Reply) (t : Turned P) → Leaves (replies reply live store) c p t → HasAdvanced 1 1 c p t
+  replies_on live store reply t leaves = subst (HasAdvanced 1 1 c p) (sym leaves) (record { ready = ready; fewer = λ busy. never busy; bounded = λ idles. omega (arith, idle_left c (one_step p.frame) idle); begun = omega arith })
 
   -- a call that begins, and makes its first step
   begins_step : (bound : ℕ) (frame : Frame P) (live : List (Option (Grant P))) (t : Turned P) → IsStep maker c p frame live → IsReady frame → steps_left c frame ≤ bound → Leaves (makes_step frame live) c p t → HasAdvanced 1 bound c p t
@@ -138,7 +139,7 @@ module _ {P : Type 0} (maker : MakerTold) (c : PoolCore P) (p : RunningParty P) 
 
   -- a give-back
   drops_on : (of : ℕ) (x : Option (Grant P)) (t : Turned P) → slice_index_or p.live of None ≡ x → Leaves (drop_opening x of p) c p t → HasAdvanced 1 (bound_returned c x) c p t
-  drops_on of None t has leaves = replies_on p.live (Refused NoSuchGrant) t leaves
+  drops_on of None t has leaves = replies_on p.live p.store (Refused NoSuchGrant) t leaves
   drops_on of (Some grant) t has leaves =
       begins_step (bound_of c (call.GiveBack grant)) (begun_call (call.GiveBack grant) p.frame) (slice_set p.live of None) t (drops_opened maker c p can idle of (Some grant) has)
       (ap is_drawing (returned_stage grant p.frame))
@@ -150,7 +151,7 @@ module _ {P : Type 0} (maker : MakerTold) (c : PoolCore P) (p : RunningParty P) 
   requests_on w number (Some kept) o t for opens leaves room =
       let L : Opening P → Type 0 = λ x. Leaves x c p t in
       elim opens [
-        | inl is ↦ looser 1 1 (bound_of c (call.Module kept)) c p t (omega arith) (replies_on p.live (Refused (Alloc alloc.Memory)) t (subst L is leaves))
+        | inl is ↦ looser 1 1 (bound_of c (call.Module kept)) c p t (omega arith) (replies_on p.live p.store (Refused (Alloc alloc.Memory)) t (subst L is leaves))
         | inr is ↦
             begins_step (bound_of c (call.Module kept)) (begun_call (call.Module kept) p.frame) p.live t (module_opened maker c p can idle kept for.fit room)
             refl
@@ -161,7 +162,10 @@ module _ {P : Type 0} (maker : MakerTold) (c : PoolCore P) (p : RunningParty P) 
   act_on w modules (requests number) o t calls opens leaves room = requests_on w number (slice_get modules number) o t (calls number) opens leaves room
   act_on w modules (on_memory of k op) o t calls opens leaves room =
       let L : Opening P → Type 0 = λ x. Leaves x c p t in
-      replies_on opens.1 opens.0 t (subst L opens.3 leaves)
+      replies_on opens.1 p.store opens.0 t (subst L opens.3 leaves)
+  act_on w modules (on_table of k op) o t calls opens leaves room =
+      let L : Opening P → Type 0 = λ x. Leaves x c p t in
+      replies_on opens.1 opens.2 opens.0 t (subst L opens.5 leaves)
   act_on w modules (drops of) o t calls opens leaves room =
       let L : Opening P → Type 0 = λ x. Leaves x c p t in
       drops_on of (slice_index_or p.live of None) t refl (subst L opens leaves)

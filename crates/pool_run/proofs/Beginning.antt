@@ -1,6 +1,7 @@
 -- The first step of a command, and each turn, as the party sees it.
-use Rattle.std.proofs.Common.{◌≡◌, ℕ, ◌+◌, ◌<◌, ◌≤◌, Bool, true, false, List, length, Option, Some, None, refl, sym, ap, ◌∙◌, subst, inl, inr, arith}
+use Rattle.std.proofs.Common.{◌≡◌, ℕ, ◌+◌, ◌<◌, ◌≤◌, Bool, true, false, List, length, map, Option, Some, None, refl, sym, ap, ◌∙◌, subst, inl, inr, arith}
 use Rattle.std.specs.Prelude.{IfSome, IsSome, option_map, slice_get, slice_set, slice_index_or}
+use Rattle.std.proofs.lemmas.List.{map-set}
 use Rattle.std.proofs.lemmas.Option.{slice_get_within}
 use Rattle.pool_slots.specs.declared.errors.AllocError.TheVariants as alloc
 use Rattle.pool_alloc.specs.Objects.{objects_in}
@@ -14,9 +15,13 @@ use Rattle.pool_alloc.specs.declared.frame.Grant.{Grant}
 use Rattle.pool_alloc.specs.declared.frame.Phase.{Phase}
 use Rattle.pool_alloc.specs.Stages.{Stage, no_call, stage_at, stage_of}
 use Rattle.pool_run.specs.PartyRules.{rule_of}
-use Rattle.pool_run.specs.Private.{PrivateInstance, Grants, grant_at, request_of, MovesGrants, Drops, private_memories}
+use Rattle.pool_run.specs.Private.{PrivateState, PrivateInstance, Grants, grant_at, request_of, Moves, Drops, private_memories, private_tables, with_table}
+use Rattle.pool_run.specs.PrivateTables.{Host, PrivateTable, TableMoves}
+use Rattle.pool_alloc.specs.TableLeases.{LeasedTable}
+use Rattle.pool_alloc.specs.declared.frame.Grant.TheVariants.{Instance as instance}
+use Rattle.pool_table.specs.declared.gc_store.ListedStore.{ListedStore}
 use Rattle.pool_run.specs.Rooms.{World, TellsOfPool}
-use Rattle.pool_run.specs.Turns.{Turned, one_step, with_reply, private_memory, LeaseMoves, private_grant, grants_of, Turns, memory_leases, Opening, replies, makes_step, drop_opening, OpensRequest, OpensAct, OpensNext, OpensAt, Leaves}
+use Rattle.pool_run.specs.Turns.{Turned, one_step, with_reply, private_memory, private_table, LeaseMoves, MovesTable, private_grant, grants_of, host_of_party, Turns, memory_leases, table_leases, Opening, replies, makes_step, drop_opening, OpensRequest, OpensAct, OpensNext, OpensAt, Leaves}
 use Rattle.pool_run.specs.Ties.{TiedAs, IsPrivate, CanTurn, IsAlone}
 use Rattle.pool_run.proofs.Parties.{returned_stage}
 use Rattle.pool_run.specs.Worlds.{IsWorldOf, IsCallFor, AreCallsFor}
@@ -25,27 +30,47 @@ use Rattle.pool_run.specs.declared.reply.Reply.{Reply}
 use Rattle.pool_run.specs.declared.reply.Reply.TheVariants.{Refused}
 use Rattle.pool_run.specs.declared.reply.Refusal.TheVariants.{NoSuchGrant, Alloc}
 use Rattle.pool_run.specs.declared.running_party.RunningParty.{RunningParty}
-use Rattle.pool_run.proofs.Grants.{grants_set, told_at}
+use Rattle.pool_run.proofs.Grants.{state_of, grants_set, told_at}
 use Rattle.pool_run.proofs.Causes.{memory_cause}
 use Rattle.pool_run.proofs.Turning.{SeesTurn, replied, step_private}
-use Rattle.pool_run.specs.Acts.{MemoryOp, Act, requests, on_memory, drops, act_of, act_at}
-use Rattle.pool_run.specs.Objects.{object_at, with_object, MovesObject}
+use Rattle.pool_run.specs.Acts.{MemoryOp, TableOp, Act, requests, on_memory, on_table, drops, act_of, act_at}
+use Rattle.pool_run.specs.Objects.{object_at, with_object, MovesNamed, MovesObject}
 use Rattle.pool_run.proofs.Opened.{idle_is, IsStep, still_alone, drops_opened, module_opened, key_opened, step_opened}
 use Rattle.pool_run.proofs.Operations.{SeesMove, op_seen, named_moves, named_tells, memories_seen}
-use Rattle.pool_run.proofs.Named.{on_seen}
+use Rattle.pool_run.proofs.Named.{AreSeen, none_seen, on_seen}
 use Rattle.pool_run.proofs.Sounds.{lease_held}
 
 -- a grant that is given back is one of those told
 is_told : {A B : Type 0} (f : A → B) (o : Option B) (x : A) → o ≡ option_map f (Some x) → IsSome o
 is_told f o x is = rw is refl
 
+-- an operation on a table, as its party sees it, whose store made so many calls before and after
+abbrev SeesTable : TableOp → Host → ℕ → ℕ → PrivateTable → PrivateTable → Reply → Type 0
+SeesTable op host before after t new reply = TableMoves op host (record { table = t; calls = before }) (record { table = new; calls = after }) reply
+
+-- So it moves what is told of the party's tables beside the calls on its store.
+stored_moves : (op : TableOp) (host : Host) (before after of k : ℕ) (grants new : Grants) (reply : Reply) (o : Option PrivateTable) → MovesNamed (SeesTable op host before after) o (with_object private_tables of k) grants reply new → (o ≡ None → after ≡ before)
+    → MovesNamed (TableMoves op host) (option_map (λ t. record { table = t; calls = before }) o) (with_table of k) (state_of grants before) reply (state_of new after)
+stored_moves op host before after of k grants new reply None is none = (is.0, ap (λ (g : Grants). state_of g after) is.1 ∙ ap (state_of grants) (none refl))
+stored_moves op host before after of k grants new reply (Some t) is none = (record { table = is.0; calls = after }, is.1, ap (λ (g : Grants). state_of g after) is.2)
+
+-- The party sees its tables by their leases.
+same_tables : {P : Type 0} (g : Grant P) → private_tables.in_grant (private_grant g) ≡ map private_table (table_leases.in_grant g)
+same_tables (instance lease) = refl
+
+changed_table : {P : Type 0} (k : ℕ) (l : LeasedTable) (g : Grant P) → private_grant (table_leases.put_in k l g) ≡ private_tables.put_in k (private_table l) (private_grant g)
+changed_table k l (instance lease) = ap (λ (ts : List PrivateTable). record (private_grant (instance lease)) { tables = ts }) (map-set private_table lease.tables.items k l)
+
+tables_seen_by : (P : Type 0) → AreSeen (table_leases {P = P}) private_tables private_grant private_table
+tables_seen_by P = record { same = same_tables; changed = changed_table }
+
 -- a party of this world: what it was told, and that it may turn
-module _ {P : Type 0} (w : World) (start : Grants) (commands : List Command) (before : List Reply) (c : PoolCore P) (p : RunningParty P) (private : IsPrivate w start commands before p) (world : IsWorldOf w c) (can : CanTurn w.maker c p) (alone : w.alone ≡ true → IsAlone c p.frame p.live) (ruled : rule_of p.limits ≡ w.terms.rule) where
+module _ {P : Type 0} (w : World) (start : Grants) (commands : List Command) (before : List Reply) (c : PoolCore P) (p : RunningParty P) (private : IsPrivate w start commands before p) (world : IsWorldOf w c) (can : CanTurn w.maker c p) (alone : w.alone ≡ true → IsAlone c p.frame p.live) (ruled : host_of_party p ≡ w.terms.host) where
   -- a call makes its next step
   steps_seen : (frame : Frame P) (live : List (Option (Grant P))) (t : Turned P) → IsStep w.maker c p frame live → TiedAs w (stage_of frame) commands p.done frame.asked (grants_of live) private.grants → Leaves (makes_step frame live) c p t → SeesTurn w start commands before t
   steps_seen frame live t step tied follows =
       step_private w start commands before c (record p { frame = frame; live = live }) t (record { grants = private.grants; run = private.run; count = private.count; tied = tied })
-      world step.can (λ e. still_alone w.maker c p frame live step (alone e)) ruled follows
+      world step.can (λ e. still_alone w.maker c p frame live step (alone e)) (ap (λ (h : Host). h.rule) ruled) follows
 
   module _ (idle : IsIdle p.frame) where
     none : stage_of p.frame ≡ no_call
@@ -56,16 +81,20 @@ module _ {P : Type 0} (w : World) (start : Grants) (commands : List Command) (be
         let Tied : Stage → Type 0 = λ s. TiedAs w s commands p.done p.frame.asked (grants_of p.live) private.grants in
         subst Tied none private.tied
 
+    -- what the party may see before
+    abbrev told : PrivateState
+    told = state_of private.grants p.store.made
+
     -- a command ends at once
-    ends_seen : (act : Act) (live : List (Option (Grant P))) (reply : Reply) (t : Turned P) → act_at commands p.done ≡ Some act → MovesGrants w.terms p.done private.grants act reply (grants_of live) → TellsOfPool w private.grants act reply → Leaves (replies reply live) c p t → SeesTurn w start commands before t
-    ends_seen act live reply t next step pool follows =
-        subst (SeesTurn w start commands before) (sym follows) (replied w start commands before p (record p { frame = one_step p.frame; live = live; done = p.done + 1 }) act reply private refl none next step pool)
+    ends_seen : (act : Act) (live : List (Option (Grant P))) (store : ListedStore) (reply : Reply) (t : Turned P) → act_at commands p.done ≡ Some act → Moves w.terms p.done told act reply (state_of (grants_of live) store.made) → TellsOfPool w private.grants act reply → Leaves (replies reply live store) c p t → SeesTurn w start commands before t
+    ends_seen act live store reply t next step pool follows =
+        subst (SeesTurn w start commands before) (sym follows) (replied w start commands before p (record p { frame = one_step p.frame; live = live; store = store; done = p.done + 1 }) act reply private refl none next step pool)
 
     -- a give-back
     drops_seen : (of : ℕ) (x : Option (Grant P)) (t : Turned P) → slice_index_or p.live of None ≡ x → Leaves (drop_opening x of p) c p t → act_at commands p.done ≡ Some (drops of) → SeesTurn w start commands before t
     drops_seen of None t has follows next =
         let Back : Option PrivateInstance → Type 0 = λ o. Drops o private.grants of (Refused NoSuchGrant) (grants_of p.live) in
-        ends_seen (drops of) p.live (Refused NoSuchGrant) t next (subst Back (sym (told_at p.live private.grants of None told_now has)) (refl, told_now)) tt follows
+        ends_seen (drops of) p.live p.store (Refused NoSuchGrant) t next (grants_of p.live, subst Back (sym (told_at p.live private.grants of None told_now has)) (refl, told_now), refl) tt follows
     drops_seen of (Some grant) t has follows next =
         let new : List (Option (Grant P)) = slice_set p.live of None in
         let emptied : grants_of new ≡ slice_set private.grants of None = grants_set p.live of None ∙ ap (λ (g : Grants). slice_set g of None) told_now in
@@ -79,28 +108,45 @@ module _ {P : Type 0} (w : World) (start : Grants) (commands : List Command) (be
     requests_seen number (Some kept) o t for opens follows next room =
         let F : Opening P → Type 0 = λ x. Leaves x c p t in
         elim opens [
-          | inl is ↦ ends_seen (requests number) p.live (Refused (Alloc alloc.Memory)) t next ((memory_cause w (request_of w.terms number) private.grants).0, told_now) tt (subst F is follows)
+          | inl is ↦ ends_seen (requests number) p.live p.store (Refused (Alloc alloc.Memory)) t next (grants_of p.live, ((memory_cause w (request_of w.terms number) private.grants).0, told_now), refl) tt (subst F is follows)
           | inr is ↦
               steps_seen (begun_call (call.Module kept) p.frame) p.live t (module_opened w.maker c p can idle kept for.fit room) (told_now, record { number = number; act = next; asked_for = for.asked; so_far = tt }) (subst F is follows)
         ]
 
     -- a command on a memory
-    moves_seen : (op : MemoryOp) (of k : ℕ) (live : List (Option (Grant P))) (reply : Reply) (t : Turned P) → MovesObject memory_leases (LeaseMoves op (rule_of p.limits)) of k p.live reply live → act_at commands p.done ≡ Some (on_memory of k op) → Leaves (replies reply live) c p t → SeesTurn w start commands before t
+    moves_seen : (op : MemoryOp) (of k : ℕ) (live : List (Option (Grant P))) (reply : Reply) (t : Turned P) → MovesObject memory_leases (LeaseMoves op (rule_of p.limits)) of k p.live reply live → act_at commands p.done ≡ Some (on_memory of k op) → Leaves (replies reply live p.store) c p t → SeesTurn w start commands before t
     moves_seen op of k live reply t is next follows =
         let seen : MovesObject private_memories (SeesMove w op) of k (grants_of p.live) reply (grants_of live) =
         on_seen memory_leases private_memories private_grant private_memory (memories_seen P) (LeaseMoves op (rule_of p.limits)) (SeesMove w op) of k p.live live reply
-        (λ m. op_seen w c.settings c.plan (rule_of p.limits) op m.old m.changed reply ruled (lease_held w.maker c p of k m.grant m.old can.party.sound m.granted m.there) m.move) is in
+        (λ m. op_seen w c.settings c.plan (rule_of p.limits) op m.old m.changed reply (ap (λ (h : Host). h.rule) ruled) (lease_held w.maker c p of k m.grant m.old can.party.sound m.granted m.there) m.move) is in
         let On : Grants → Type 0 = λ g. MovesObject private_memories (SeesMove w op) of k g reply (grants_of live) in
         let on : On private.grants = subst On told_now seen in
-        ends_seen (on_memory of k op) live reply t next
-        (named_moves w op (object_at private_memories of k private.grants) (with_object private_memories of k) private.grants (grants_of live) reply on)
+        ends_seen (on_memory of k op) live p.store reply t next
+        (grants_of live, named_moves w op (object_at private_memories of k private.grants) (with_object private_memories of k) private.grants (grants_of live) reply on, refl)
         (named_tells w op (object_at private_memories of k private.grants) (with_object private_memories of k) private.grants (grants_of live) reply on) follows
+
+    -- a command on a table
+    tables_seen : (op : TableOp) (of k : ℕ) (live : List (Option (Grant P))) (store : ListedStore) (reply : Reply) (t : Turned P) → MovesObject table_leases (MovesTable op (rule_of p.limits) p.store store) of k p.live reply live → (object_at table_leases of k p.live ≡ None → store ≡ p.store) → act_at commands p.done ≡ Some (on_table of k op) → Leaves (replies reply live store) c p t → SeesTurn w start commands before t
+    tables_seen op of k live store reply t is unasked next follows =
+        let Sees : PrivateTable → PrivateTable → Reply → Type 0 = SeesTable op w.terms.host p.store.made store.made in
+        let By : Host → PrivateTable → PrivateTable → Reply → Type 0 = λ h x y r. SeesTable op h p.store.made store.made x y r in
+        let seen : MovesObject private_tables Sees of k (grants_of p.live) reply (grants_of live) =
+        on_seen table_leases private_tables private_grant private_table (tables_seen_by P) (MovesTable op (rule_of p.limits) p.store store) Sees of k p.live live reply
+        (λ m. subst (λ (h : Host). By h (private_table m.old) (private_table m.changed) reply) ruled m.move.move) is in
+        let On : Grants → Type 0 = λ g. MovesObject private_tables Sees of k g reply (grants_of live) in
+        let none : object_at private_tables of k private.grants ≡ None → store.made ≡ p.store.made =
+        λ nothing. ap (λ (x : ListedStore). x.made) (unasked (none_seen table_leases private_tables private_grant private_table (tables_seen_by P) (MovesTable op (rule_of p.limits) p.store store) Sees of k p.live (ap (object_at private_tables of k) told_now ∙ nothing))) in
+        ends_seen (on_table of k op) live store reply t next
+        (stored_moves op w.terms.host p.store.made store.made of k private.grants (grants_of live) reply (object_at private_tables of k private.grants) (subst On told_now seen) none) tt follows
 
     act_seen : (modules : List ModuleAsked) (act : Act) (o : Opening P) (t : Turned P) → AreCallsFor w.terms c.settings modules → OpensAct modules act p o → Leaves o c p t → act_at commands p.done ≡ Some act → p.done < length p.live → SeesTurn w start commands before t
     act_seen modules (requests number) o t calls opens follows next room = requests_seen number (slice_get modules number) o t (calls number) opens follows next room
     act_seen modules (on_memory of k op) o t calls opens follows next room =
         let F : Opening P → Type 0 = λ x. Leaves x c p t in
         moves_seen op of k opens.1 opens.0 t opens.2 next (subst F opens.3 follows)
+    act_seen modules (on_table of k op) o t calls opens follows next room =
+        let F : Opening P → Type 0 = λ x. Leaves x c p t in
+        tables_seen op of k opens.1 opens.2 opens.0 t opens.3 opens.4 next (subst F opens.5 follows)
     act_seen modules (drops of) o t calls opens follows next room =
         let F : Opening P → Type 0 = λ x. Leaves x c p t in
         drops_seen of (slice_index_or p.live of None) t refl (subst F opens follows) next
@@ -123,5 +169,5 @@ module _ {P : Type 0} (w : World) (start : Grants) (commands : List Command) (be
 
 module _ {P : Type 0} where
   -- After a turn of a party its replies are still a private run.
-  pub turn_private : (w : World) (modules : List ModuleAsked) (start : Grants) (commands : List Command) (before : List Reply) (c : PoolCore P) (p : RunningParty P) (t : Turned P) → IsWorldOf w c → AreCallsFor w.terms c.settings modules → CanTurn w.maker c p → (w.alone ≡ true → IsAlone c p.frame p.live) → rule_of p.limits ≡ w.terms.rule → length commands ≤ length p.live → IsPrivate w start commands before p → Turns modules commands c p t → IsPrivate w start commands (with_reply t.reply before) t.party
+  pub turn_private : (w : World) (modules : List ModuleAsked) (start : Grants) (commands : List Command) (before : List Reply) (c : PoolCore P) (p : RunningParty P) (t : Turned P) → IsWorldOf w c → AreCallsFor w.terms c.settings modules → CanTurn w.maker c p → (w.alone ≡ true → IsAlone c p.frame p.live) → host_of_party p ≡ w.terms.host → length commands ≤ length p.live → IsPrivate w start commands before p → Turns modules commands c p t → IsPrivate w start commands (with_reply t.reply before) t.party
   turn_private w modules start commands before c p t world calls can alone ruled room private turns = seen_at w start commands before c p private world can alone ruled (is_idle p.frame.phase) modules turns.0 t refl calls room turns.1 turns.2

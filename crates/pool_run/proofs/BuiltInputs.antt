@@ -1,7 +1,7 @@
--- What an input that can be run so far has: modules of at most one memory, the size of which can be computed.
-use Rattle.std.proofs.Common.{◌≡◌, ◌≤◌, length, true}
+-- What an input that can be run so far has: modules of memories whose sizes can be computed.
+use Rattle.std.proofs.Common.{◌≡◌, ◌≤◌, true}
 use Rattle.std.specs.List.{list_all}
-use Rattle.std.specs.Prelude.{◌==◌, nat_le}
+use Rattle.std.specs.Prelude.{◌==◌}
 use Rattle.std.proofs.lemmas.Bool.{leb-true}
 use Rattle.pool_pages.specs.declared.module_types.MemoryDecl.{MemoryDecl}
 use Rattle.pool_pages.specs.declared.module_types.ModuleInfo.{ModuleInfo}
@@ -13,7 +13,7 @@ pub built_modules : (input : Input) → is_built input ≡ true → list_all is_
 built_modules input built = second (list_all is_built_fault input.faults) _ (second (is_built_config input.config) _ (second (is_built_offer input.offered) _ (second (input.shards == 1) _ built)))
 
 pub built_memories : (m : ModuleInfo) → is_built_module m ≡ true → list_all is_built_memory m.memories ≡ true
-built_memories m built = first (list_all is_built_memory m.memories) _ (second (nat_le (length m.memories) 1) _ built)
+built_memories m built = first (list_all is_built_memory m.memories) _ built
 
 pub small_pages : (d : MemoryDecl) → is_built_memory d ≡ true → d.ty.page_size_log2 ≤ 16
 small_pages d built = leb-true d.ty.page_size_log2 16 built

@@ -1,11 +1,11 @@
 -- A call that ends leaves nothing of itself in its frame.
-use Rattle.std.proofs.Common.{◌≡◌, ℕ, Bool, true, false, List, [], ◌∷◌, length, Option, None, refl, sym, ap, ◌∙◌, is_some}
+use Rattle.std.proofs.Common.{◌≡◌, ℕ, Bool, true, false, List, [], ◌∷◌, Option, None, refl, sym, ap, ◌∙◌, is_some}
 use Rattle.std.specs.Prelude.{nat_lt, if◌then◌else◌}
-use Rattle.pool_alloc.specs.Objects.{objects_in}
+use Rattle.pool_alloc.specs.Objects.{objects_in, objects_wanted}
 use Rattle.pool_alloc.specs.Asked.{ModuleAsked}
 use Rattle.pool_alloc.specs.Leases.{Lease}
+use Rattle.pool_alloc.specs.TableLeases.{LeasedTable}
 use Rattle.pool_alloc.specs.Stepping.{is_idle}
-use Rattle.pool_alloc.specs.Steps.{memories_wanted}
 use Rattle.pool_alloc.specs.Turns.{Turn, goes, ends, next, flush, search, stays, Row, Left, failing, returned_next, granted_next, next_by, is_flushed, after, stepped}
 use Rattle.pool_alloc.specs.declared.frame.Ending.{Ending}
 use Rattle.pool_alloc.specs.declared.frame.Ending.TheVariants.{Granted as granted, Returned as returned, Refused as refused}
@@ -33,17 +33,18 @@ module _ {P : Type 0} where
   either_clear true x y one other = one
   either_clear false x y one other = other
 
-  returned_clear : (items : List Lease) (f : Frame P) → IsClearLeft (returned_next items f)
-  returned_clear [] f = λ e. absurd cc
-  returned_clear (lease ∷ rest) f = λ e. absurd cc
+  returned_clear : (items : List Lease) (tables : List LeasedTable) (f : Frame P) → IsClearLeft (returned_next items tables f)
+  returned_clear [] [] f = λ e. absurd cc
+  returned_clear [] (lease ∷ rest) f = λ e. absurd cc
+  returned_clear (lease ∷ rest) tables f = λ e. absurd cc
 
   granted_clear : (f : Frame P) → IsClearLeft (granted_next f)
-  granted_clear f = either_clear (nat_lt (objects_in f.objects) (length (memories_wanted f.asked))) _ _ (λ e. absurd cc) (λ e. record { asked_for = refl; aim = refl; none_taken = refl })
+  granted_clear f = either_clear (nat_lt (objects_in f.objects) (objects_wanted f.asked)) _ _ (λ e. absurd cc) (λ e. record { asked_for = refl; aim = refl; none_taken = refl })
 
   next_clear : (e : Ending) (f : Frame P) → IsClearLeft (next_by e f)
   next_clear granted f = granted_clear f
-  next_clear returned f = returned_clear f.objects.memories.items f
-  next_clear (refused e) f = returned_clear f.objects.memories.items f
+  next_clear returned f = returned_clear f.objects.memories.items f.objects.tables.items f
+  next_clear (refused e) f = returned_clear f.objects.memories.items f.objects.tables.items f
 
   after_clear : (f : Frame P) (t : Turn P) → IsClearLeft (after f t)
   after_clear f (goes phase) = λ e. absurd cc
@@ -51,7 +52,7 @@ module _ {P : Type 0} where
   after_clear f (ends outcome) = λ e. record { asked_for = refl; aim = refl; none_taken = refl }
   after_clear f next = next_clear f.ending f
   after_clear f flush = either_clear (is_flushed f) _ _ (next_clear f.ending f) (λ e. absurd cc)
-  after_clear f (search queues e) = either_clear (nat_lt f.queues queues) _ _ (λ some. absurd cc) (returned_clear f.objects.memories.items (failing e f))
+  after_clear f (search queues e) = either_clear (nat_lt f.queues queues) _ _ (λ some. absurd cc) (returned_clear f.objects.memories.items f.objects.tables.items (failing e f))
 
   -- So a frame is after a step, where it answers.
   pub stepped_clear : (r : Row (PoolCore P) P) → is_some (stepped r).outcome ≡ true → IsClear (stepped r).frame.asked (stepped r).frame.ending (stepped r).frame.queues

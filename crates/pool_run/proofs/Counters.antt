@@ -4,62 +4,103 @@ use Rattle.std.specs.Prelude.{sum_by, ◌-◌}
 use Rattle.std.proofs.lemmas.Bool.{cases_eq}
 use Rattle.std.proofs.lemmas.List.Sums.{sum_by-le-sum_by}
 use Rattle.pool_pages.specs.MakerTold.{MakerTold}
+use Rattle.pool_slots.specs.SlotNames.{of_kind}
+use Rattle.pool_slots.specs.Plans.{cell_place}
 use Rattle.pool_slots.specs.declared.plan.Plan.{Plan}
+use Rattle.pool_slots.specs.declared.slot_name.SlotName.{SlotName}
 use Rattle.pool_alloc.specs.Leases.{Lease, memory_slot}
-use Rattle.pool_alloc.specs.Places.{right_to, instance_count, phase_count, phase_instances, phase_memories}
-use Rattle.pool_alloc.specs.Sound.{IsPoolPlan}
-use Rattle.pool_alloc.specs.Stepping.{CanCount, grant_count, grant_instances}
+use Rattle.pool_alloc.specs.Places.{right_to, instance_count, phase_count, phase_instances, phase_memories, phase_tables}
+use Rattle.pool_alloc.specs.Sound.{IsPoolPlan, IsSlotName}
+use Rattle.pool_alloc.specs.Stepping.{CanCount, grant_count, grant_instances, grant_memories, grant_tables}
 use Rattle.pool_alloc.specs.Steps.{memory_slots}
+use Rattle.pool_alloc.specs.TableLeases.{LeasedTable, table_slot}
 use Rattle.pool_alloc.specs.declared.pool_core.PoolCore.{PoolCore}
 use Rattle.pool_alloc.specs.declared.frame.Grant.{Grant}
 use Rattle.pool_alloc.specs.declared.frame.Grant.TheVariants.{Instance as instance}
-use Rattle.pool_alloc.specs.declared.frame.Object.TheVariants.{Memory}
+use Rattle.pool_alloc.specs.declared.frame.Object.TheVariants as object
 use Rattle.pool_alloc.specs.declared.frame.Phase.{Phase}
 use Rattle.pool_alloc.specs.declared.frame.Phase.TheVariants.{Idle, UncountObject}
+use Rattle.pool_alloc.specs.declared.lease.InstanceLease.{InstanceLease}
 use Rattle.pool_alloc.proofs.Below.{below, below_sum, below_most}
 use Rattle.pool_alloc.proofs.PlanPlaces.{cell_inside}
 use Rattle.pool_run.specs.Ties.{granted_to, held_by_party, IsRunning}
 use Rattle.pool_run.specs.declared.running_party.RunningParty.{RunningParty}
-use Rattle.pool_run.proofs.Exhausted.{memory_one, memories_below, live_below}
+use Rattle.pool_run.proofs.Exhausted.{lease_below, live_below}
+use Rattle.pool_run.proofs.SlotKinds.{memory_one, table_one, memories_counted, tables_counted}
 use Rattle.pool_run.proofs.SlotsBelow.{below_le, sum_below, ones, one_below, none_made}
-use Rattle.pool_run.proofs.SlotsMade.{made_once, away_made}
+use Rattle.pool_run.proofs.SlotsMade.{made_slot, made_once, away_made}
 
 -- a pool has fewer slots than places
-few_slots : (plan : Plan) (places : ℕ) → IsPoolPlan plan places → memory_slots plan < 2 ^ 32
-few_slots plan places is =
-    elim (cases_eq (memory_slots plan) 0) [
+few_slots : (plan : Plan) (places total : ℕ) (named : ℕ → SlotName) → IsPoolPlan plan places → ((k : ℕ) → k < total → IsSlotName plan (named k)) → ((k : ℕ) → k ≤ cell_place plan (named k)) → total < 2 ^ 32
+few_slots plan places total named is names past =
+    elim (cases_eq total 0) [
       | inl none ↦ omega (arith, none)
-      | inr some ↦ omega (arith, some, is.small, cell_inside plan places (memory_slot (memory_slots plan - 1)) is (record { pooled = tt; inside = omega (arith, some) }))
+      | inr some ↦ omega (arith, some, is.small, cell_inside plan places (named (total - 1)) is (names (total - 1) (omega (arith, some))), past (total - 1))
     ]
 
 module _ {P : Type 0} where
   -- what is uncounted has a slot
-  phase_below : (n : ℕ) (phase : Phase P) → ((k : ℕ) → n ≤ k → phase_count (right_to (memory_slot k)) phase ≡ 0) → phase_memories phase ≤ below (λ k. phase_count (right_to (memory_slot k)) phase) n
-  phase_below n (UncountObject (Memory lease)) none = one_below memory_slot memory_one (λ (l : Lease). l.index) (λ l. l.numbers) n lease none
-  phase_below n _ none = omega arith
+  memory_below : (n : ℕ) (phase : Phase P) → ((k : ℕ) → n ≤ k → phase_count (right_to (memory_slot k)) phase ≡ 0) → phase_memories phase ≤ below (λ k. phase_count (right_to (memory_slot k)) phase) n
+  memory_below n (UncountObject (object.Memory lease)) none = one_below memory_slot memory_one (λ (l : Lease). l.index) (λ l. l.numbers) n lease none
+  memory_below n _ none = omega arith
 
-  party_below : (n : ℕ) (p : RunningParty P) → ((k : ℕ) → n ≤ k → (held_by_party p).places (right_to (memory_slot k)) ≡ 0) → (held_by_party p).memories ≤ below (λ k. (held_by_party p).places (right_to (memory_slot k))) n
-  party_below n p none =
-      let objects : ℕ → ℕ = λ k. instance_count (right_to (memory_slot k)) p.frame.objects in
-      let phase : ℕ → ℕ = λ k. phase_count (right_to (memory_slot k)) p.frame.phase in
-      let live : ℕ → ℕ = λ k. sum_by (granted_to (grant_count (right_to (memory_slot k)))) p.live in
-      let first = memories_below n p.frame.objects (λ k past. omega (arith, none k past)) in
-      let second = phase_below n p.frame.phase (λ k past. omega (arith, none k past)) in
-      let third = live_below n p.live (λ k past. omega (arith, none k past)) in
-      let two = below_sum objects phase (λ k. objects k + phase k) (λ k. refl) n in
-      let three = below_sum (λ k. objects k + phase k) live (λ k. objects k + phase k + live k) (λ k. refl) n in
-      let all = below_le (λ k. objects k + phase k + live k) (λ k. (held_by_party p).places (right_to (memory_slot k))) (λ k. omega arith) n in
-      omega (arith, first, second, third, two, three, all)
+  table_below : (n : ℕ) (phase : Phase P) → ((k : ℕ) → n ≤ k → phase_count (right_to (table_slot k)) phase ≡ 0) → phase_tables phase ≤ below (λ k. phase_count (right_to (table_slot k)) phase) n
+  table_below n (UncountObject (object.Table lease)) none = one_below table_slot table_one (λ (l : LeasedTable). l.index) (λ l. l.numbers) n lease none
+  table_below n _ none = omega arith
 
-  -- There are no more memories than slots.
-  pub few_memories : (maker : MakerTold) (c : PoolCore P) (parties : List (RunningParty P)) → IsRunning maker c parties → c.counters.memories ≤ memory_slots c.plan
+  -- of a kind, a party has no more objects than slots
+  module _ (named : ℕ → SlotName) (objects : InstanceLease P → ℕ) (uncounted : Phase P → ℕ) (of : Grant P → ℕ) (total : ℕ)
+      (lease_below : (lease : InstanceLease P) → ((k : ℕ) → total ≤ k → instance_count (right_to (named k)) lease ≡ 0) → objects lease ≤ below (λ k. instance_count (right_to (named k)) lease) total)
+      (phase_below : (phase : Phase P) → ((k : ℕ) → total ≤ k → phase_count (right_to (named k)) phase ≡ 0) → uncounted phase ≤ below (λ k. phase_count (right_to (named k)) phase) total)
+      (live_below : (live : List (Option (Grant P))) → ((k : ℕ) → total ≤ k → sum_by (granted_to (grant_count (right_to (named k)))) live ≡ 0) → sum_by (granted_to of) live ≤ below (λ k. sum_by (granted_to (grant_count (right_to (named k)))) live) total) where
+    abbrev has : RunningParty P → ℕ
+    has p = objects p.frame.objects + uncounted p.frame.phase + sum_by (granted_to of) p.live
+
+    party_below : (p : RunningParty P) → ((k : ℕ) → total ≤ k → (held_by_party p).places (right_to (named k)) ≡ 0) → has p ≤ below (λ k. (held_by_party p).places (right_to (named k))) total
+    party_below p none =
+        let leases : ℕ → ℕ = λ k. instance_count (right_to (named k)) p.frame.objects in
+        let phase : ℕ → ℕ = λ k. phase_count (right_to (named k)) p.frame.phase in
+        let live : ℕ → ℕ = λ k. sum_by (granted_to (grant_count (right_to (named k)))) p.live in
+        omega (
+          arith,
+          lease_below p.frame.objects (λ k past. omega (arith, none k past)),
+          phase_below p.frame.phase (λ k past. omega (arith, none k past)),
+          live_below p.live (λ k past. omega (arith, none k past)),
+          below_sum leases phase (λ k. leases k + phase k) (λ k. refl) total,
+          below_sum (λ k. leases k + phase k) live (λ k. leases k + phase k + live k) (λ k. refl) total,
+          below_le (λ k. leases k + phase k + live k) (λ k. (held_by_party p).places (right_to (named k))) (λ k. omega arith) total,
+        )
+
+    few_held : (maker : MakerTold) (c : PoolCore P) (parties : List (RunningParty P)) → IsRunning maker c parties → ((k : ℕ) → made_slot (named k).slot (of_kind (named k).kind c.plan.totals) ≡ made_slot k total) → sum_by has parties ≤ total
+    few_held maker c parties running made =
+        let most : (k : ℕ) → sum_by (λ p. (held_by_party p).places (right_to (named k))) parties ≤ made_slot k total = λ k. omega (arith, running.whole.places (right_to (named k)), away_made maker (named k) c running.core, made k) in
+        omega (
+          arith,
+          sum_below (λ k p. (held_by_party p).places (right_to (named k))) has total parties party_below (λ k past. omega (arith, most k, none_made k total past)),
+          below_most (λ k. sum_by (λ p. (held_by_party p).places (right_to (named k))) parties) (λ k. omega (arith, most k, made_once k total)) total,
+        )
+
+  -- There are no more memories than slots, and no more tables.
+  few_memories : (maker : MakerTold) (c : PoolCore P) (parties : List (RunningParty P)) → IsRunning maker c parties → c.counters.memories ≤ memory_slots c.plan
   few_memories maker c parties running =
       let n : ℕ = memory_slots c.plan in
       omega (
         arith,
         running.whole.memories,
-        sum_below (λ k p. (held_by_party p).places (right_to (memory_slot k))) (λ p. (held_by_party p).memories) n parties (party_below n) (λ k past. omega (arith, running.whole.places (right_to (memory_slot k)), away_made maker (memory_slot k) c running.core, none_made k n past)),
-        below_most (λ k. sum_by (λ p. (held_by_party p).places (right_to (memory_slot k))) parties) (λ k. omega (arith, running.whole.places (right_to (memory_slot k)), away_made maker (memory_slot k) c running.core, made_once k n)) n,
+        few_held memory_slot (λ lease. length lease.memories.items) phase_memories grant_memories n
+            (λ lease none. lease_below memory_slot memory_one (λ (l : Lease). l.index) (λ l. l.numbers) (λ l. l.memories.items) memories_counted grant_memories (λ l. refl) n lease none) (memory_below n)
+            (λ live none. live_below memory_slot memory_one (λ (l : Lease). l.index) (λ l. l.numbers) (λ l. l.memories.items) memories_counted grant_memories (λ l. refl) n live none) maker c parties running (λ k. refl),
+      )
+
+  few_tables : (maker : MakerTold) (c : PoolCore P) (parties : List (RunningParty P)) → IsRunning maker c parties → c.counters.tables ≤ c.plan.totals.table
+  few_tables maker c parties running =
+      let n : ℕ = c.plan.totals.table in
+      omega (
+        arith,
+        running.whole.tables,
+        few_held table_slot (λ lease. length lease.tables.items) phase_tables grant_tables n
+            (λ lease none. lease_below table_slot table_one (λ (l : LeasedTable). l.index) (λ l. l.numbers) (λ l. l.tables.items) tables_counted grant_tables (λ l. refl) n lease none) (table_below n)
+            (λ live none. live_below table_slot table_one (λ (l : LeasedTable). l.index) (λ l. l.numbers) (λ l. l.tables.items) tables_counted grant_tables (λ l. refl) n live none) maker c parties running (λ k. refl),
       )
 
   phase_counts_one : (phase : Phase P) → phase_instances phase ≤ 1
@@ -78,5 +119,6 @@ module _ {P : Type 0} where
   pub can_count : (maker : MakerTold) (c : PoolCore P) (parties : List (RunningParty P)) → IsRunning maker c parties → sum_by (λ p. 1 + length p.live) parties + 1 < 2 ^ 64 → CanCount c
   can_count maker c parties running few = record {
     instances = omega (arith, running.whole.instances, sum_by-le-sum_by (λ p. (held_by_party p).instances) (λ p. 1 + length p.live) parties few_instances);
-    memories = omega (arith, few_memories maker c parties running, few_slots c.plan (length c.parts) running.core.plan);
+    memories = omega (arith, few_memories maker c parties running, few_slots c.plan (length c.parts) (memory_slots c.plan) memory_slot running.core.plan (λ k inside. record { pooled = tt; inside = inside }) (λ k. omega arith));
+    tables = omega (arith, few_tables maker c parties running, few_slots c.plan (length c.parts) c.plan.totals.table table_slot running.core.plan (λ k inside. record { pooled = tt; inside = inside }) (λ k. omega arith));
   }

@@ -4,13 +4,14 @@ use Rattle.std.specs.Prelude.{IfSome, slice_get, slice_index_or}
 use Rattle.std.proofs.lemmas.List.{length-set}
 use Rattle.std.proofs.lemmas.Option.{slice_get-get_or}
 use Rattle.pool_alloc.specs.Asked.{ModuleAsked}
-use Rattle.pool_run.specs.PartyRules.{rule_of}
+use Rattle.pool_run.specs.Turns.{host_of_party}
 use Rattle.pool_run.specs.Private.{PrivateState, StepsBy, with_grants, no_grants}
 use Rattle.pool_run.specs.Rooms.{World, PooledStep, under}
 use Rattle.pool_run.specs.Folds.{RunState, commands_of, replies_to, party_by_party, TurnsIf, Folds, HasNothingLeft, IsFinished, Runs, IsRunTo, IsUnderWay}
 use Rattle.pool_run.specs.declared.command.Command.{Command}
 use Rattle.pool_run.specs.declared.reply.Reply.{Reply}
 use Rattle.pool_run.specs.declared.running_party.RunningParty.{RunningParty}
+use Rattle.pool_run.proofs.Grants.{state_of}
 
 -- there are no more replies than commands
 pub no_more_replies : (Step : ℕ → PrivateState → Command → Reply → PrivateState → Type 0) (n : ℕ) (commands : List Command) (replies : List Reply) (start end : PrivateState) → StepsBy Step n commands replies start end → length replies ≤ length commands
@@ -21,7 +22,7 @@ no_more_replies Step n (c ∷ commands) (r ∷ replies) start end run = omega (a
 module _ {P : Type 0} where
   -- so that they have places
   pub few_told : (w : World) (commands : List Command) (replies : List Reply) (p : RunningParty P) → IsRunTo w commands replies p → length replies ≤ length p.live
-  few_told w commands replies p to = omega (arith, no_more_replies (PooledStep (under (rule_of p.limits) w)) 0 commands replies (with_grants (no_grants commands)) (with_grants to.private.grants) to.private.run, to.room)
+  few_told w commands replies p to = omega (arith, no_more_replies (PooledStep (under (host_of_party p) w)) 0 commands replies (with_grants (no_grants commands)) (state_of to.private.grants p.store.made) to.private.run, to.room)
 
   turned_count : (modules : List ModuleAsked) (commands : List Command) (i : ℕ) (o : Option (RunningParty P)) (s new : RunState P) → TurnsIf modules commands i o s new → length new.parties ≡ length s.parties
   turned_count modules commands i None s new turns = ap (λ (x : RunState P). length x.parties) turns
@@ -42,4 +43,4 @@ module _ {P : Type 0} where
       let to = way.each i d below in
       let Left : Option (RunningParty P) → Type 0 = λ o. IfSome o (HasNothingLeft (commands_of inputs i)) in
       let none : HasNothingLeft (commands_of inputs i) (slice_index_or s.parties i d) = subst Left (slice_get-get_or s.parties i d below) (finished i) in
-      omega (arith, none.all, to.private.count, no_more_replies (PooledStep (under (rule_of (slice_index_or s.parties i d).limits) w)) 0 (commands_of inputs i) (replies_to i s.replies) (with_grants (no_grants (commands_of inputs i))) (with_grants to.private.grants) to.private.run)
+      omega (arith, none.all, to.private.count, to.room, few_told w (commands_of inputs i) (replies_to i s.replies) (slice_index_or s.parties i d) to)

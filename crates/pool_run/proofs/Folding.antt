@@ -8,40 +8,36 @@ use Rattle.pool_alloc.specs.Stepping.{IsSameSize}
 use Rattle.pool_alloc.specs.declared.pool_core.PoolCore.{PoolCore}
 use Rattle.pool_alloc.specs.declared.pool_core.Settings.{Settings}
 use Rattle.pool_alloc.specs.Asked.{ModuleAsked}
-use Rattle.pool_limits.specs.Growth.{GrowthRule, always}
 use Rattle.pool_alloc.proofs.Telling.{told_weaker}
-use Rattle.pool_run.specs.PartyRules.{rule_of}
-use Rattle.pool_run.specs.declared.input.PartyLimits.{PartyLimits}
-use Rattle.pool_run.specs.Private.{IsPrivateRun, no_grants, with_grants}
-use Rattle.pool_run.specs.Rooms.{World, under, world_at, IsPooledRun}
-use Rattle.pool_run.specs.Turns.{Turned, Turns, with_reply}
+use Rattle.pool_run.specs.PrivateTables.{Host}
+use Rattle.pool_run.specs.Private.{IsPrivateRun, no_grants}
+use Rattle.pool_run.specs.Rooms.{World, open_host, under, world_at, IsPooledRun}
+use Rattle.pool_run.specs.Turns.{Turned, Turns, with_reply, host_of_party}
 use Rattle.pool_run.specs.Ties.{IsAlone, IsPrivate, CanTurn}
-use Rattle.pool_run.specs.Worlds.{IsWorldOf, IsCallFor, AreCallsFor, HasOneStripe}
+use Rattle.pool_run.specs.Worlds.{IsWorldOf, IsCallFor, AreCallsFor, HasOneStripe, HasTables}
 use Rattle.pool_run.specs.Folds.{RunState, commands_of, replies_to, party_by_party, with_turn, TurnsIf, TurnsOf, Folds, Runs, IsRunTo, IsUnderWay}
 use Rattle.pool_run.specs.declared.command.Command.{Command}
 use Rattle.pool_run.specs.declared.reply.Reply.{Reply}
 use Rattle.pool_run.specs.declared.running_party.RunningParty.{RunningParty}
 use Rattle.pool_run.proofs.Beginning.{turn_private}
-use Rattle.pool_run.proofs.Grants.{pooled_private}
+use Rattle.pool_run.proofs.Grants.{state_of, pooled_private}
 use Rattle.pool_run.proofs.Running.{can_turn, turned_running}
 use Rattle.pool_run.proofs.Turned.{HasTurned, has_turned, turn_sound}
 use Rattle.pool_run.proofs.LimitsOfRuns.{turn_within, live_within}
 use Rattle.pool_run.specs.Limits.{IsWithinCounts}
-use Rattle.pool_slots.specs.declared.plan.Plan.{Plan}
-use Rattle.pool_alloc.specs.Steps.{memory_slots}
 
 module _ {P : Type 0} where
   -- The world stays that of the pool.
   world_over : (w : World) (c d : PoolCore P) → IsSameSize c d → IsWorldOf w c → IsWorldOf w d
-  world_over w c d size world = record { tells = world.tells; settings = world.settings ∙ sym size.settings; plan = subst (HasOneStripe w.terms.slots) (sym size.plan) world.plan }
+  world_over w c d size world = record { tells = world.tells; settings = world.settings ∙ sym size.settings; plan = subst (HasOneStripe w.terms.slots) (sym size.plan) world.plan; tables = subst (HasTables w.terms.table_slots) (sym size.plan) world.tables }
 
-  -- The world is the pool's whatever the rule of a party.
-  world_under : (rule : GrowthRule) (w : World) (c : PoolCore P) → IsWorldOf w c → IsWorldOf (under rule w) c
-  world_under rule w c world = record { tells = world.tells; settings = world.settings; plan = world.plan }
+  -- The world is the pool's whatever the host of a party.
+  world_under : (host : Host) (w : World) (c : PoolCore P) → IsWorldOf w c → IsWorldOf (under host w) c
+  world_under host w c world = record { tells = world.tells; settings = world.settings; plan = world.plan; tables = world.tables }
 
-calls_under : (rule : GrowthRule) (w : World) (s : Settings) (modules : List ModuleAsked) → AreCallsFor w.terms s modules → AreCallsFor (under rule w).terms s modules
-calls_under rule w s modules calls number =
-    told_weaker (IsCallFor w.terms s number) (IsCallFor (under rule w).terms s number) (slice_get modules number)
+calls_under : (host : Host) (w : World) (s : Settings) (modules : List ModuleAsked) → AreCallsFor w.terms s modules → AreCallsFor (under host w).terms s modules
+calls_under host w s modules calls number =
+    told_weaker (IsCallFor w.terms s number) (IsCallFor (under host w).terms s number) (slice_get modules number)
     (λ m for. record { asked = for.asked; fit = for.fit }) (calls number)
 
 module _ {P : Type 0} where
@@ -55,9 +51,9 @@ module _ {P : Type 0} where
   run_to w modules commands replies c p t world calls can alone to turns turned = record {
     room = turned.room ∙ to.room;
     private =
-        let u : World = under (rule_of p.limits) w in
-        let By : Option PartyLimits → Type 0 = λ limits. IsPrivate (under (rule_of limits) w) (no_grants commands) commands (with_reply t.reply replies) t.party in
-        subst By (sym turned.limits) (turn_private u modules (no_grants commands) commands replies c p t (world_under (rule_of p.limits) w c world) (calls_under (rule_of p.limits) w c.settings modules calls) can alone refl (omega (arith, to.room)) to.private turns);
+        let u : World = under (host_of_party p) w in
+        let By : Host → Type 0 = λ host. IsPrivate (under host w) (no_grants commands) commands (with_reply t.reply replies) t.party in
+        subst By (sym turned.host) (turn_private u modules (no_grants commands) commands replies c p t (world_under (host_of_party p) w c world) (calls_under (host_of_party p) w c.settings modules calls) can alone refl (omega (arith, to.room)) to.private turns);
   }
 
   -- A party that is alone stays so.
@@ -98,10 +94,10 @@ module _ {P : Type 0} where
         given = way.given;
         world = world_over w s.core t.core turned.size way.world;
         calls = calls_over w modules s.core t.core turned.size way.calls;
-        rules =
-            let rule : RunningParty P → GrowthRule = λ q. rule_of q.limits in
-            let same : rule t.party ≡ slice_index_or (map rule s.parties) i always = ap rule_of turned.limits ∙ ap rule (sym here) ∙ sym (get_or-map rule s.parties i p always below) in
-            map-set rule s.parties i t.party ∙ ap (slice_set (map rule s.parties) i) same ∙ set-get_or (map rule s.parties) i always ∙ way.rules;
+        hosts =
+            let hosts : List Host = map host_of_party s.parties in
+            let same : host_of_party t.party ≡ slice_index_or hosts i open_host = turned.host ∙ ap host_of_party (sym here) ∙ sym (get_or-map host_of_party s.parties i p open_host below) in
+            map-set host_of_party s.parties i t.party ∙ ap (slice_set hosts i) same ∙ set-get_or hosts i open_host ∙ way.hosts;
         alone = λ e.
             let one = way.alone e in
             record {
@@ -153,10 +149,10 @@ module _ {P : Type 0} where
   pub replies_pooled : (w : World) (modules : List ModuleAsked) (inputs : List (List Command)) (s : RunState P) (i : ℕ) (d : RunningParty P) → IsUnderWay w modules inputs s → i < length s.parties → IsPooledRun (world_at w i) (commands_of inputs i) (replies_to i s.replies)
   replies_pooled w modules inputs s i d way below =
       let to = way.each i d below in
-      let rule : RunningParty P → GrowthRule = λ q. rule_of q.limits in
-      let same : rule (slice_index_or s.parties i d) ≡ slice_index_or w.rules i always = sym (get_or-map rule s.parties i d always below) ∙ ap (λ (rs : List GrowthRule). slice_index_or rs i always) way.rules in
-      let By : GrowthRule → Type 0 = λ r. IsPooledRun (under r w) (commands_of inputs i) (replies_to i s.replies) in
-      subst By same (with_grants to.private.grants, to.private.run)
+      let p : RunningParty P = slice_index_or s.parties i d in
+      let same : host_of_party p ≡ slice_index_or w.hosts i open_host = sym (get_or-map host_of_party s.parties i d open_host below) ∙ ap (λ (hosts : List Host). slice_index_or hosts i open_host) way.hosts in
+      let By : Host → Type 0 = λ host. IsPooledRun (under host w) (commands_of inputs i) (replies_to i s.replies) in
+      subst By same (state_of to.private.grants p.store.made, to.private.run)
 
   pub replies_private : (w : World) (modules : List ModuleAsked) (inputs : List (List Command)) (s : RunState P) (i : ℕ) (d : RunningParty P) → IsUnderWay w modules inputs s → i < length s.parties → IsPrivateRun (world_at w i).terms (commands_of inputs i) (replies_to i s.replies)
   replies_private w modules inputs s i d way below = pooled_private (world_at w i) (commands_of inputs i) (replies_to i s.replies) (replies_pooled w modules inputs s i d way below)

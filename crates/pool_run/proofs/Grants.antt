@@ -9,6 +9,10 @@ use Rattle.pool_run.specs.Turns.{private_grant, grants_of}
 use Rattle.pool_run.specs.declared.command.Command.{Command}
 use Rattle.pool_run.specs.declared.reply.Reply.{Reply}
 
+-- a party with these grants, which called its store so often
+abbrev pub state_of : Grants → ℕ → PrivateState
+state_of grants stores = record (with_grants grants) { stores = stores }
+
 -- a place that is there, among the maps of those that are
 pub mapped_at : {A B : Type 0} (f : A → B) (xs : List (Option A)) (i : ℕ) → slice_index_or (map (option_map f) xs) i None ≡ option_map f (slice_index_or xs i None)
 mapped_at f [] i = refl

@@ -13,7 +13,6 @@ use Rattle.pool_alloc.specs.Sums.{metrics_of}
 use Rattle.pool_alloc.specs.Whole.{IsUntouched}
 use Rattle.pool_alloc.specs.declared.frame.Grant.{Grant}
 use Rattle.pool_alloc.specs.Asked.{ModuleAsked}
-use Rattle.pool_limits.specs.Growth.{GrowthRule}
 use Rattle.pool_alloc.specs.declared.pool_core.PoolCore.{PoolCore}
 use Rattle.pool_alloc.specs.declared.pool_core.Settings.{Settings}
 use Rattle.pool_run.specs.Built.{is_built}
@@ -21,7 +20,9 @@ use Rattle.pool_run.specs.Agreeing.{IsRunnable}
 use Rattle.pool_run.specs.Folds.{RunParts, RunState, IsUnderWay, commands_of, replies_to, told_state}
 use Rattle.pool_run.specs.Made.{calls_made}
 use Rattle.pool_run.specs.Numbers.{calls_of_run}
-use Rattle.pool_run.specs.PartyRules.{rule_of}
+use Rattle.pool_run.specs.PartyRules.{host_for}
+use Rattle.pool_run.specs.PrivateTables.{Host}
+use Rattle.pool_run.specs.Turns.{host_of_party}
 use Rattle.pool_run.specs.Rooms.{World, world_at, IsPooledRun}
 use Rattle.pool_run.specs.Progress.{IsRunOf}
 use Rattle.pool_run.specs.Runs.{Performs, IsToldBy, IsMadeRun, IsRun, world_of, HoldsFromStart}
@@ -30,7 +31,7 @@ use Rattle.pool_run.specs.Schedules.{turns_of}
 use Rattle.pool_run.specs.Validity.{is_valid, is_valid_act, are_valid_after, most_commands}
 use Rattle.pool_run.specs.Worlds.{IsWorldOf, AreCallsFor, NamesModule, NameModules}
 use Rattle.pool_run.specs.declared.command.Command.{Command}
-use Rattle.pool_run.specs.Acts.{Act, requests, on_memory, drops, act_of}
+use Rattle.pool_run.specs.Acts.{Act, requests, on_memory, on_table, drops, act_of}
 use Rattle.pool_run.specs.declared.input.Input.{Input}
 use Rattle.pool_run.specs.declared.input.Party.{Party}
 use Rattle.pool_run.specs.declared.input.ScheduleEntry.{ScheduleEntry}
@@ -52,6 +53,7 @@ use Rattle.pool_run.proofs.WorldsMade.{is_world, are_calls_for}
 names : (modules : List ModuleInfo) (earlier : List Command) (act : Act) → is_valid_act modules earlier act ≡ true → NamesModule (length modules) act
 names modules earlier (requests number) valid = ltb-true number (length modules) valid
 names modules earlier (on_memory of k op) valid = tt
+names modules earlier (on_table of k op) valid = tt
 names modules earlier (drops of) valid = tt
 
 pub all_name : (modules : List ModuleInfo) (earlier commands : List Command) → are_valid_after modules earlier commands ≡ true → NameModules (length modules) commands
@@ -66,10 +68,10 @@ parties_name input parties modules same count valid i d below =
     subst (Names modules) (sym same)
     (subst (λ n. Names n input.parties) (sym count) (all_name input.modules [] (slice_index_or input.parties i d).commands (valid_commands input i (get_or input.parties i d) valid (slice_get-get_or input.parties i d inside))))
 
--- each party grows by the rule of its limits
-rules_made : (P : Type 0) (s : Settings) (parties : List Party) → map (λ p. rule_of p.limits) (map (party_made_for {P = P} s) parties) ≡ map (λ p. rule_of p.limits) parties
-rules_made P s [] = refl
-rules_made P s (p ∷ ps) = ap (λ (rules : List GrowthRule). rule_of p.limits ∷ rules) (rules_made P s ps)
+-- each party has the host that its input says
+hosts_made : (P : Type 0) (s : Settings) (parties : List Party) → map host_of_party (map (party_made_for {P = P} s) parties) ≡ map host_for parties
+hosts_made P s [] = refl
+hosts_made P s (p ∷ ps) = ap (λ (hosts : List Host). host_for p ∷ hosts) (hosts_made P s ps)
 
 -- Each entry of the schedule is of a party that there is, and each home is a small number.
 pub entries_below : (input : Input) (parties : List Party) (schedule : List ScheduleEntry) → parties ≡ input.parties → schedule ≡ input.schedule → is_valid input ≡ true → (k : ℕ) (d : ScheduleEntry) → k < length schedule → (slice_index_or schedule k d).party < length parties
@@ -114,7 +116,7 @@ module _ {P : Type 0} where
       let parties : List (RunningParty P) = map (party_made_for {P = P} c.settings) input.parties in
       let count : length parties ≡ length input.parties = length-map input.parties (party_made_for {P = P} c.settings) in
       let Way : ℕ → Type 0 = λ n. IsUnderWay w modules (commands_in input.parties) (record { core = c; modules = modules; parties = parties; replies = replicate n [] }) in
-      subst Way count (run_started w modules (commands_in input.parties) c parties core untouched world calls (are_made c.settings input.parties) (rules_made P c.settings input.parties) (λ alone. count ∙ eqb-true (length input.parties) 1 alone))
+      subst Way count (run_started w modules (commands_in input.parties) c parties core untouched world calls (are_made c.settings input.parties) (hosts_made P c.settings input.parties) (λ alone. count ∙ eqb-true (length input.parties) 1 alone))
 
   calls_there : (input : Input) (maker : MakerTold) (c : PoolCore P) (modules : List ModuleAsked) → is_built input ≡ true → IsCore maker c → modules ≡ calls_made input.tunables maker.page 0 input.modules → AreCallsFor (world_of input maker).terms c.settings modules
   calls_there input maker c modules built core calls = are_calls_for (world_of input maker).terms c.settings modules (built_modules input built) core.page (omega (arith, core.settings.page.at_least)) calls
@@ -178,11 +180,11 @@ module _ {P : Type 0} where
         replies = replies;
         told = λ i below.
             let Told : List (List Reply) → Type 0 = λ rs. IsToldBy input.finish (world_at w i).terms (commands_of (commands_in input.parties) i) (replies_to i rs) in
-            subst Told (sym replies) (told_by input.finish w run.modules (commands_in input.parties) (turns_of input.schedule) (told_state run (nothing_told input.parties)) end i (party_made 0 None run.core.settings 0) (made_under_way input maker run runnable made) performed (omega (arith, below, made_count input maker run made)));
+            subst Told (sym replies) (told_by input.finish w run.modules (commands_in input.parties) (turns_of input.schedule) (told_state run (nothing_told input.parties)) end i (party_made 0 None [] run.core.settings 0) (made_under_way input maker run runnable made) performed (omega (arith, below, made_count input maker run made)));
         room = λ i below.
             let ended = performed_under_way input.finish w run.modules (commands_in input.parties) (turns_of input.schedule) (told_state run (nothing_told input.parties)) end (made_under_way input maker run runnable made) performed in
             let Told : List (List Reply) → Type 0 = λ rs. IsPooledRun (world_at w i) (commands_of (commands_in input.parties) i) (replies_to i rs) in
-            subst Told (sym replies) (replies_pooled w run.modules (commands_in input.parties) end i (party_made 0 None run.core.settings 0) ended.0 (omega (arith, below, made_count input maker run made, ended.1)));
+            subst Told (sym replies) (replies_pooled w run.modules (commands_in input.parties) end i (party_made 0 None [] run.core.settings 0) ended.0 (omega (arith, below, made_count input maker run made, ended.1)));
         metrics = metrics;
         calls_made = numbers;
       }

@@ -18,17 +18,17 @@ use Rattle.pool_run.specs.declared.reply.Reply.{Reply}
 use Rattle.pool_run.specs.declared.reply.Reply.TheVariants.{Done, Trap as trapped}
 use Rattle.pool_run.proofs.Growths.{grown_as}
 
-pub changed_as : (A B : Lease → Lease → Type 0) (place : ℕ) (old new : Reserved Lease) → ((l n : Lease) → A l n → B l n) → IsChanged A place old new → IsChanged B place old new
+pub changed_as : {L : Type 0} (A B : L → L → Type 0) (place : ℕ) (old new : Reserved L) → ((l n : L) → A l n → B l n) → IsChanged A place old new → IsChanged B place old new
 changed_as A B place old new step is = record { lease = is.lease; change = λ d. step (slice_index_or old.items place d) is.lease (is.change d); is = is.is }
 
 -- A lease that is only looked at stays as it is.
-pub looked_at : (A : Lease → Lease → Type 0) (place : ℕ) (old : Reserved Lease) (l : Lease) → place < length old.items → l ≡ slice_index_or old.items place l → A l l → IsChanged A place old old
-looked_at A place old l below there is =
+pub looked_at : {L : Type 0} (A : L → L → Type 0) (place : ℕ) (old : Reserved L) (l : L) → place < length old.items → l ≡ slice_index_or old.items place l → A l l → IsChanged A place old old
+looked_at {L} A place old l below there is =
     let get : slice_get old.items place ≡ Some l = slice_get-get_or old.items place l below ∙ ap Some (sym there) in
     record {
       lease = l;
-      change = λ d. let At : Lease → Type 0 = λ x. A x l in subst At (sym (get_or_from_slice_get old.items place l d get)) is;
-      is = ap (λ (xs : List Lease). record old { items = xs }) (sym (ap (slice_set old.items place) there ∙ set-get_or old.items place l));
+      change = λ d. let At : L → Type 0 = λ x. A x l in subst At (sym (get_or_from_slice_get old.items place l d get)) is;
+      is = ap (λ (xs : List L). record old { items = xs }) (sym (ap (slice_set old.items place) there ∙ set-get_or old.items place l));
     }
 
 -- what a write leaves, with its reply

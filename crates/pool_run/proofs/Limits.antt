@@ -68,7 +68,7 @@ module _ {P : Type 0} (others : ℕ) (c : PoolCore P) (p : RunningParty P) (with
 
   follows_within : (maker : MakerTold) (o : Opening P) (t : Turned P) → IsOpened maker c p o → Leaves o c p t → StaysWithin t
   follows_within maker rests t is follows = subst StaysWithin (sym follows) within
-  follows_within maker (replies reply live) t is follows = subst StaysWithin (sym follows) (omega (arith, within, is.same.instances))
+  follows_within maker (replies reply live store) t is follows = subst StaysWithin (sym follows) (omega (arith, within, is.same.instances))
   follows_within maker (makes_step frame live) t is follows = step_within maker others c (record p { frame = frame; live = live }) t is.can follows (omega (arith, is.admitted, within)) (omega (arith, is.admitted, counted))
 
   -- Each turn of a party.

@@ -3,21 +3,24 @@ use Rattle.std.proofs.Common.{◌≡◌, ℕ, zero, suc, ◌+◌, ◌<◌, List,
 use Rattle.std.specs.Prelude.{◌≤◌, ◌↔◌, ◌||◌, ◌&&◌, not, is_some, ◌⊎◌, IfSome, IsSome, slice_get, if◌then◌else◌}
 use Rattle.std.specs.List.{list_all, list_any, range_with_len}
 use Rattle.std.proofs.lemmas.Bool.{cases_eq}
+use Rattle.std.proofs.lemmas.List.Folds.{list_any-append}
 use Rattle.pool_pages.specs.MakerTold.{MakerTold, Planned}
 use Rattle.pool_pages.specs.Told.{Rose}
 use Rattle.pool_pages.specs.declared.module_types.ModuleInfo.{ModuleInfo}
 use Rattle.pool_pages.specs.declared.module_types.Tunables.{Tunables}
 use Rattle.pool_pages.specs.MakerTold.{fails_making}
-use Rattle.pool_pages.specs.declared.pages.RegionName.TheVariants.{Memory}
+use Rattle.pool_pages.specs.declared.pages.RegionName.TheVariants.{Memory, Table}
+use Rattle.pool_pages.specs.declared.pages.RegionName.{RegionName}
 use Rattle.pool_images.specs.ImageErrors.{RaisesImageBehind}
 use Rattle.pool_images.specs.declared.memory_image.ImageError.{ImageError}
 use Rattle.pool_images.specs.declared.memory_image.ImageError.TheVariants as unmade
 use Rattle.pool_pages.specs.declared.unsupported.Unsupported.{Unsupported}
 use Rattle.pool_pages.specs.declared.unsupported.Unsupported.TheVariants.{ImageOffset}
 use Rattle.pool_images.specs.Images.{Image, first_misplaced, ends_in_minimum, makes_listed_images, images_from}
-use Rattle.pool_slots.specs.Makings.{makes_listed_regions}
+use Rattle.pool_alloc.specs.Made.{lists_making}
+use Rattle.pool_pages.specs.declared.config.InstanceLimits.{InstanceLimits}
 use Rattle.pool_run.specs.Private.{has_images, images_of}
-use Rattle.pool_run.specs.Runs.{region_listed, makings_of, module_listed, images_listed, making_listed, ModuleFaults, ModulesFault, FaultsInMaking, HasFaultedMaking, with_faults}
+use Rattle.pool_run.specs.Runs.{region_listed, makings_of, makings_for, module_listed, images_listed, making_listed, ModuleFaults, ModulesFault, FaultsInMaking, HasFaultedMaking, with_faults}
 use Rattle.pool_run.specs.declared.input.Input.{Input}
 
 pub or_right : (a b : Bool) → b ≡ true → (a || b) ≡ true
@@ -65,7 +68,7 @@ module_of_all t page modules i m old new below is fault =
 -- and so is some making for the input
 images_list : (input : Input) (plan : Option (List Planned)) → IfSome plan (λ p. images_listed input.tunables input.page 0 p input.modules ≡ true) → IfSome plan (λ p. making_listed input p ≡ true)
 images_list input None listed = tt
-images_list input (Some p) listed = or_right (list_any (region_listed p) (makings_of input.config.limits.total_memories)) (images_listed input.tunables input.page 0 p input.modules) listed
+images_list input (Some p) listed = or_right (list_any (region_listed p) (makings_for input)) (images_listed input.tunables input.page 0 p input.modules) listed
 
 pub images_fault : (input : Input) (modules : List ModuleInfo) (page : ℕ) (old new : MakerTold) → modules ≡ input.modules → page ≡ input.page → ModulesFault input.tunables page modules old new → FaultsInMaking input old new
 images_fault input modules page old new same is fault =
@@ -119,22 +122,30 @@ neither true b left right = absurd cc
 neither false b left right = right
 
 -- each region of the pool is made by its making alone
-regions_from : (plan : List Planned) (slots : List ℕ) → list_any (region_listed plan) (map (λ slot. record { region = Memory slot; calls = 0 ∷ [] }) slots) ≡ list_any (λ i. fails_making (Memory i) plan) slots
-regions_from plan [] = refl
-regions_from plan (i ∷ is) =
-    let rest : Bool = list_any (region_listed plan) (map (λ slot. record { region = Memory slot; calls = 0 ∷ [] }) is) in
-    ap (λ (b : Bool). b || rest) (or_none (fails_making (Memory i) plan)) ∙ ap (λ (b : Bool). fails_making (Memory i) plan || b) (regions_from plan is)
+regions_from : (region : ℕ → RegionName) (plan : List Planned) (slots : List ℕ) → list_any (region_listed plan) (map (λ slot. record { region = region slot; calls = 0 ∷ [] }) slots) ≡ list_any (λ i. fails_making (region i) plan) slots
+regions_from region plan [] = refl
+regions_from region plan (i ∷ is) =
+    let rest : Bool = list_any (region_listed plan) (map (λ slot. record { region = region slot; calls = 0 ∷ [] }) is) in
+    ap (λ (b : Bool). b || rest) (or_none (fails_making (region i) plan)) ∙ ap (λ (b : Bool). fails_making (region i) plan || b) (regions_from region plan is)
 
-pub regions_told : (plan : Option (List Planned)) (total : ℕ) (b : Bool) → IfSome plan (λ p. makes_listed_regions p total ≡ b) → IfSome plan (λ p. list_any (region_listed p) (makings_of total) ≡ b)
-regions_told None total b is = tt
-regions_told (Some p) total b is = regions_from p (range_with_len 0 total) ∙ is
+-- those of its memories, and those of its tables
+pool_listed : (input : Input) (plan : List Planned) → list_any (region_listed plan) (makings_for input) ≡ lists_making input.config plan
+pool_listed input plan =
+    let limits : InstanceLimits = input.config.limits in
+    list_any-append (region_listed plan) (makings_of Memory limits.total_memories) (makings_of Table limits.total_tables)
+    ∙ ap (λ (b : Bool). b || list_any (region_listed plan) (makings_of Table limits.total_tables)) (regions_from Memory plan (range_with_len 0 limits.total_memories))
+    ∙ ap (λ (b : Bool). list_any (λ i. fails_making (Memory i) plan) (range_with_len 0 limits.total_memories) || b) (regions_from Table plan (range_with_len 0 limits.total_tables))
+
+pub regions_told : (input : Input) (plan : Option (List Planned)) (b : Bool) → IfSome plan (λ p. lists_making input.config p ≡ b) → IfSome plan (λ p. list_any (region_listed p) (makings_for input) ≡ b)
+regions_told input None b is = tt
+regions_told input (Some p) b is = pool_listed input p ∙ is
 
 -- where the making of a region is listed, some making for the input is
-regions_list : (input : Input) (plan : Option (List Planned)) → IfSome plan (λ p. makes_listed_regions p input.config.limits.total_memories ≡ true) → IfSome plan (λ p. making_listed input p ≡ true)
+regions_list : (input : Input) (plan : Option (List Planned)) → IfSome plan (λ p. lists_making input.config p ≡ true) → IfSome plan (λ p. making_listed input p ≡ true)
 regions_list input None listed = tt
-regions_list input (Some p) listed = or_left (list_any (region_listed p) (makings_of input.config.limits.total_memories)) (images_listed input.tunables input.page 0 p input.modules) (regions_from p (range_with_len 0 input.config.limits.total_memories) ∙ listed)
+regions_list input (Some p) listed = or_left (list_any (region_listed p) (makings_for input)) (images_listed input.tunables input.page 0 p input.modules) (pool_listed input p ∙ listed)
 
-pub regions_fault : (input : Input) (old new : MakerTold) → Rose old.faults new.faults → (makes_listed_regions old.listed input.config.limits.total_memories ≡ true) ⊎ Rose old.behind new.behind → IfSome old.plan (λ p. makes_listed_regions p input.config.limits.total_memories ≡ true) → FaultsInMaking input old new
+pub regions_fault : (input : Input) (old new : MakerTold) → Rose old.faults new.faults → (lists_making input.config old.listed ≡ true) ⊎ Rose old.behind new.behind → IfSome old.plan (λ p. lists_making input.config p ≡ true) → FaultsInMaking input old new
 regions_fault input old new rose cause listed = record {
   rose = rose;
   cause = elim cause [
@@ -190,12 +201,12 @@ none_listed t page modules count (Some p) all each =
     subst Q here (each k (omega (arith, below, all))))
 
 -- No making for the input is listed.
-pub nothing_listed : (input : Input) (modules : List ModuleInfo) (page : ℕ) (plan : Option (List Planned)) → modules ≡ input.modules → page ≡ input.page → IfSome plan (λ p. list_any (region_listed p) (makings_of input.config.limits.total_memories) ≡ false) → IfSome plan (λ p. images_listed input.tunables page 0 p modules ≡ false) → IfSome plan (λ p. making_listed input p ≡ false)
+pub nothing_listed : (input : Input) (modules : List ModuleInfo) (page : ℕ) (plan : Option (List Planned)) → modules ≡ input.modules → page ≡ input.page → IfSome plan (λ p. list_any (region_listed p) (makings_for input) ≡ false) → IfSome plan (λ p. images_listed input.tunables page 0 p modules ≡ false) → IfSome plan (λ p. making_listed input p ≡ false)
 nothing_listed input modules page None same is regions images = tt
 nothing_listed input modules page (Some p) same is regions images =
     let Listed : List ModuleInfo → Type 0 = λ ms. images_listed input.tunables page 0 p ms ≡ false in
     let At : ℕ → Type 0 = λ n. images_listed input.tunables n 0 p input.modules ≡ false in
-    neither (list_any (region_listed p) (makings_of input.config.limits.total_memories)) (images_listed input.tunables input.page 0 p input.modules) regions (subst At is (subst Listed same images))
+    neither (list_any (region_listed p) (makings_for input)) (images_listed input.tunables input.page 0 p input.modules) regions (subst At is (subst Listed same images))
 
 -- A fault over the maker with the input's faults is one that the input lists, or one of the maker behind them.
 pub fault_of_run : (input : Input) (maker left before after : MakerTold) → before ≡ with_faults input maker → FaultsInMaking input before after → after.behind ≡ left.faults → HasFaultedMaking input maker left

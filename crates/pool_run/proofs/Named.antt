@@ -86,6 +86,14 @@ module _ {G L H X : Type 0} (leases : Objects G L) (objects : Objects H X) (gran
   seen_at : (live : List (Option G)) → object_at objects of k (all_seen live) ≡ option_map seen (object_at leases of k live)
   seen_at live = ap (λ (o : Option H). option_and_then (λ h. slice_get (objects.in_grant h) k) o) (mapped_at grant_seen live of) ∙ seen_in (slice_index_or live of None)
 
+  -- Where the party sees none, there is none.
+  pub none_seen : (live : List (Option G)) → object_at objects of k (all_seen live) ≡ None → object_at leases of k live ≡ None
+  none_seen live none = not_mapped (object_at leases of k live) (sym (seen_at live) ∙ none)
+    where
+      not_mapped : (o : Option L) → option_map seen o ≡ None → o ≡ None
+      not_mapped None is = refl
+      not_mapped (Some l) is = absurd cc
+
   -- A command on an object is one on what the party sees of it, where a move of the object is.
   pub on_seen : (live new : List (Option G)) (reply : Reply) → ((m : IsMoved leases Move of k live new reply) → Sees (seen m.old) (seen m.changed) reply) → MovesObject leases Move of k live reply new → MovesObject objects Sees of k (all_seen live) reply (all_seen new)
   on_seen live new reply sees is =

@@ -1,17 +1,21 @@
 -- What a turn opens with: the party has as much of the pool, and where a call is to make its next step, that can be made.
 use Rattle.pool_alloc.specs.declared.frame.TakenSlot.{TakenSlot}
-use Rattle.std.proofs.Common.{◌≡◌, ◌≢◌, ℕ, ◌<◌, ◌≤◌, Bool, true, false, List, length, get_or, Option, Some, None, refl, sym, ap, ◌∙◌, subst, inl, inr, arith}
+use Rattle.std.proofs.Common.{◌≡◌, ◌≢◌, ℕ, ◌<◌, ◌≤◌, All, Bool, true, false, List, length, get_or, Option, Some, None, refl, sym, ap, ◌∙◌, subst, inl, inr, arith}
 use Rattle.std.specs.Prelude.{IfSome, slice_get, slice_set, slice_index_or, sum_by}
 use Rattle.std.proofs.lemmas.Option.{slice_get_within, get_or_from_slice_get}
+use Rattle.std.proofs.lemmas.List.Elements.{All-set, All-get_or}
 use Rattle.std.proofs.lemmas.List.{length-set, get_or-set_other}
 use Rattle.std.proofs.lemmas.List.Sums.{sum_by-set}
 use Rattle.pool_pages.specs.MakerTold.{MakerTold}
+use Rattle.pool_alloc.specs.Calls.{IsIdle, IsGrant, begun_call}
 use Rattle.pool_alloc.specs.Objects.{objects_in}
-use Rattle.pool_alloc.specs.Calls.{IsIdle, begun_call}
+use Rattle.pool_alloc.specs.PoolTables.{IsTableLease}
+use Rattle.pool_alloc.specs.TableLeases.{LeasedTable, table_taken}
+use Rattle.pool_table.specs.declared.gc_store.ListedStore.{ListedStore}
 use Rattle.pool_alloc.specs.Leases.{Lease, slot_taken}
 use Rattle.pool_alloc.specs.Sound.{IsLeaseOf}
-use Rattle.pool_alloc.specs.Places.{Thing, taken_count, leased_count}
-use Rattle.pool_alloc.specs.Stepping.{is_idle, grant_count, grant_instances, grant_memories}
+use Rattle.pool_alloc.specs.Places.{Thing, taken_count}
+use Rattle.pool_alloc.specs.Stepping.{is_idle, grant_count, grant_instances, grant_memories, grant_tables}
 use Rattle.pool_alloc.specs.declared.pool_core.PoolCore.{PoolCore}
 use Rattle.pool_alloc.specs.declared.frame.Call.TheVariants as call
 use Rattle.pool_alloc.specs.declared.frame.Frame.{Frame}
@@ -20,14 +24,14 @@ use Rattle.pool_alloc.specs.declared.frame.Grant.TheVariants.{Instance as instan
 use Rattle.pool_alloc.specs.Asked.{ModuleAsked}
 use Rattle.pool_alloc.specs.declared.frame.Phase.{Phase}
 use Rattle.pool_alloc.specs.declared.frame.Phase.TheVariants.{Idle}
-use Rattle.pool_run.specs.Acts.{MemoryOp, Act, requests, on_memory, drops, act_of}
+use Rattle.pool_run.specs.Acts.{MemoryOp, TableOp, Act, requests, on_memory, on_table, drops, act_of}
 use Rattle.pool_run.specs.Limits.{admitted_at, admitted_to}
-use Rattle.pool_run.specs.Objects.{MovesObject}
+use Rattle.pool_run.specs.Objects.{MovesObject, object_at}
 use Rattle.pool_run.specs.PartyRules.{rule_of}
 use Rattle.pool_run.specs.Private.{Terms}
 use Rattle.pool_alloc.specs.Searches.{IsSearched}
 use Rattle.pool_run.proofs.StageSteps.{is_none, none_idle}
-use Rattle.pool_run.specs.Turns.{LeaseMoves, memory_leases, with_lease, Opening, rests, replies, makes_step, drop_opening, OpensRequest, OpensAct, OpensNext, OpensAt}
+use Rattle.pool_run.specs.Turns.{LeaseMoves, MovesTable, leases_of, tables_of, memory_leases, table_leases, with_lease, with_table_lease, Opening, rests, replies, makes_step, drop_opening, OpensRequest, OpensAct, OpensNext, OpensAt}
 use Rattle.pool_run.specs.Ties.{granted_to, CanTurn, IsSoundParty, IsAlone}
 use Rattle.pool_run.specs.Worlds.{IsFit, IsCallFor, AreCallsFor}
 use Rattle.pool_run.specs.declared.command.Command.{Command}
@@ -36,7 +40,7 @@ use Rattle.pool_run.specs.declared.running_party.RunningParty.{RunningParty}
 use Rattle.pool_run.proofs.Named.{moved}
 use Rattle.pool_run.proofs.Operations.{op_slot, op_keeps}
 use Rattle.pool_run.proofs.Parties.{HaveSame, grant_inside, live_grant, has_call, called_key, called_module, called_back, returned_searched, returned_stage, brings_key, brings_module, brings_grant}
-use Rattle.pool_run.proofs.Sounds.{lease_there, move_sound}
+use Rattle.pool_run.proofs.TableKept.{table_kept}
 
 module _ {P : Type 0} where
   pub idle_is : (phase : Phase P) → is_idle phase ≡ true → phase ≡ Idle
@@ -48,15 +52,56 @@ module _ {P : Type 0} where
       let g : Frame P = begun_call (call.GiveBack grant) f in
       sym (none_idle g.phase g.ending (objects_in g.objects)) ∙ ap is_none (returned_stage grant f)
 
+-- a grant is in the place of another of the pool, and counts for as much
+record StaysGrant {P : Type 0} (maker : MakerTold) (c : PoolCore P) (old new : Grant P) : Type 0 where
+  places : (x : Thing) → grant_count x new ≡ grant_count x old
+  instances : grant_instances new ≡ grant_instances old
+  memories : grant_memories new ≡ grant_memories old
+  tables : grant_tables new ≡ grant_tables old
+  sound : IsGrant maker c.settings c.plan old → IsGrant maker c.settings c.plan new
+
+-- what things in slots weigh, once another is in one of these slots
+slots_same : {X : Type 0} (taken : X → TakenSlot) (x : Thing) (k : ℕ) (items : List X) (l new : X) → slice_get items k ≡ Some l → taken new ≡ taken l → sum_by (λ m. taken_count x (taken m)) (slice_set items k new) ≡ sum_by (λ m. taken_count x (taken m)) items
+slots_same {X = X} taken x k items l new there same =
+    let of : X → ℕ = λ m. taken_count x (taken m) in
+    let here : of (get_or items k l) ≡ of l = ap of (get_or_from_slice_get items k l l there) in
+    let moved : of new ≡ of l = ap (taken_count x) same in
+    omega (arith, here, moved, sum_by-set of items k new l (slice_get_within items k l there))
+
+-- all of a list are something where one of them is replaced by such
+all_still : {X : Type 0} (A : X → Type 0) (items : List X) (k : ℕ) (l new : X) → slice_get items k ≡ Some l → (A l → A new) → All A items → All A (slice_set items k new)
+all_still A items k l new there keeps all = All-set A items k new (keeps (subst A (get_or_from_slice_get items k l l there) (All-get_or A items k l (slice_get_within items k l there) all))) all
+
+-- A lease is in the place of another in its slot.
+module _ {P : Type 0} (maker : MakerTold) (c : PoolCore P) (k : ℕ) where
+  memory_stays : (grant : Grant P) (old changed : Lease) → slice_get (leases_of grant) k ≡ Some old → slot_taken changed ≡ slot_taken old → (IsLeaseOf maker c.settings c.plan old → IsLeaseOf maker c.settings c.plan changed) → StaysGrant maker c grant (with_lease k changed grant)
+  memory_stays (instance lease) old changed there same keeps = record {
+    places = λ x. omega (arith, slots_same slot_taken x k lease.memories.items old changed there same);
+    instances = refl;
+    memories = length-set lease.memories.items k changed;
+    tables = refl;
+    sound = λ is. (all_still (IsLeaseOf maker c.settings c.plan) lease.memories.items k old changed there keeps is.0, is.1);
+  }
+
+  table_stays : (grant : Grant P) (old changed : LeasedTable) → slice_get (tables_of grant) k ≡ Some old → changed ≡ record old { table = changed.table } → (IsTableLease maker c.settings c.plan old → IsTableLease maker c.settings c.plan changed) → StaysGrant maker c grant (with_table_lease k changed grant)
+  table_stays (instance lease) old changed there same keeps = record {
+    places = λ x. omega (arith, slots_same table_taken x k lease.tables.items old changed there (ap table_taken same));
+    instances = refl;
+    memories = refl;
+    tables = length-set lease.tables.items k changed;
+    sound = λ is. (is.0, all_still (IsTableLease maker c.settings c.plan) lease.tables.items k old changed there keeps is.1);
+  }
+
 -- a party that may turn
 module _ {P : Type 0} (maker : MakerTold) (c : PoolCore P) (p : RunningParty P) where
-  -- A command ended with these live grants: the party has as much of the pool, and its places to come are empty.
-  pub record IsReply (live : List (Option (Grant P))) : Type 0 where
+  -- A command ended with these live grants and this store: the party has as much of the pool, and its places to come are empty.
+  pub record IsReply (live : List (Option (Grant P))) (store : ListedStore) : Type 0 where
     pub idle : IsIdle p.frame
     pub same : HaveSame p (record p { live = live })
     pub room : length live ≡ length p.live
     pub to_come : (k : ℕ) → p.done ≤ k → slice_index_or live k None ≡ None
     pub sound : IsSoundParty maker c (record p { live = live })
+    pub listed : store.failing ≡ p.store.failing
 
   -- A call is to make its next step, from this frame and beside these live grants.
   pub record IsStep (frame : Frame P) (live : List (Option (Grant P))) : Type 0 where
@@ -69,11 +114,11 @@ module _ {P : Type 0} (maker : MakerTold) (c : PoolCore P) (p : RunningParty P) 
 
   abbrev pub IsOpened : Opening P → Type 0
   IsOpened rests = Unit {0}
-  IsOpened (replies reply live) = IsReply live
+  IsOpened (replies reply live store) = IsReply live store
   IsOpened (makes_step frame live) = IsStep frame live
 
   same_now : HaveSame p p
-  same_now = record { places = λ x. refl; instances = refl; memories = refl }
+  same_now = record { places = λ x. refl; instances = refl; memories = refl; tables = refl }
 
   -- A party that is alone stays so.
   pub still_alone : (frame : Frame P) (live : List (Option (Grant P))) → IsStep frame live → IsAlone c p.frame p.live → IsAlone c frame live
@@ -84,16 +129,8 @@ module _ {P : Type 0} (maker : MakerTold) (c : PoolCore P) (p : RunningParty P) 
   }
 
   module _ (can : CanTurn maker c p) (idle : IsIdle p.frame) where
-    pub unchanged : IsReply p.live
-    unchanged = record { idle = idle; same = same_now; room = refl; to_come = can.party.to_come; sound = can.party.sound }
-
-    -- a move: the grant has the same slots
-    lease_same : (x : Thing) (k : ℕ) (items : List Lease) (l new : Lease) → slice_get items k ≡ Some l → slot_taken new ≡ slot_taken l → leased_count x (slice_set items k new) ≡ leased_count x items
-    lease_same x k items l new there same =
-        let of : TakenSlot → ℕ = taken_count x in
-        let here : of (slot_taken (get_or items k l)) ≡ of (slot_taken l) = ap (λ (m : Lease). of (slot_taken m)) (get_or_from_slice_get items k l l there) in
-        let moved : of (slot_taken new) ≡ of (slot_taken l) = ap of same in
-        omega (arith, here, moved, sum_by-set (λ (m : Lease). of (slot_taken m)) items k new l (slice_get_within items k l there))
+    pub unchanged : IsReply p.live p.store
+    unchanged = record { idle = idle; same = same_now; room = refl; to_come = can.party.to_come; sound = can.party.sound; listed = refl }
 
     swapped : (of : Grant P → ℕ) (j : ℕ) (old new : Grant P) → slice_index_or p.live j None ≡ Some old → of new ≡ of old → sum_by (granted_to of) (slice_set p.live j (Some new)) ≡ sum_by (granted_to of) p.live
     swapped of j old new is same =
@@ -105,34 +142,47 @@ module _ {P : Type 0} (maker : MakerTold) (c : PoolCore P) (p : RunningParty P) 
         let apart : k ≢ j = λ e. let both : slice_index_or p.live j None ≡ None = subst (λ (n : ℕ). slice_index_or p.live n None ≡ None) e none in cc in
         get_or-set_other p.live j k (Some new) None apart ∙ none
 
-    put_opened : (of k : ℕ) (grant : Grant P) (old changed : Lease) → slice_index_or p.live of None ≡ Some grant → slice_get (memory_leases.in_grant grant) k ≡ Some old → slot_taken changed ≡ slot_taken old → (IsSoundParty maker c p → IsSoundParty maker c (record p { live = slice_set p.live of (Some (with_lease k changed grant)) })) → IsReply (slice_set p.live of (Some (with_lease k changed grant)))
-    put_opened of k (instance lease) old changed granted there same sound =
-        let new : Grant P = with_lease k changed (instance lease) in
-        record {
-          idle = idle;
-          same = record {
-            places = λ x. omega (arith, swapped (grant_count x) of (instance lease) new granted (lease_same x k lease.memories.items old changed there same));
-            instances = omega (arith, swapped grant_instances of (instance lease) new granted refl);
-            memories = omega (arith, swapped grant_memories of (instance lease) new granted (length-set lease.memories.items k changed));
-          };
-          room = length-set p.live of (Some new);
-          to_come = λ n behind. other_place of n (instance lease) new granted (can.party.to_come n behind);
-          sound = sound can.party.sound;
-        }
+    -- A grant that counts for as much is in the place of another.
+    put_opened : (of : ℕ) (old new : Grant P) (store : ListedStore) → slice_index_or p.live of None ≡ Some old → StaysGrant maker c old new → store.failing ≡ p.store.failing → IsReply (slice_set p.live of (Some new)) store
+    put_opened of old new store granted stays listed = record {
+      idle = idle;
+      same = record {
+        places = λ x. omega (arith, swapped (grant_count x) of old new granted (stays.places x));
+        instances = omega (arith, swapped grant_instances of old new granted stays.instances);
+        memories = omega (arith, swapped grant_memories of old new granted stays.memories);
+        tables = omega (arith, swapped grant_tables of old new granted stays.tables);
+      };
+      room = length-set p.live of (Some new);
+      to_come = λ n behind. other_place of n old new granted (can.party.to_come n behind);
+      sound = record {
+        frame = can.party.sound.frame;
+        grants = All-set (λ g. IfSome g (IsGrant maker c.settings c.plan)) p.live of (Some new) (stays.sound (live_grant maker c.settings c.plan p.live of old can.party.sound.grants granted)) can.party.sound.grants;
+      };
+      listed = listed;
+    }
 
-    stays_sound : (Move : Lease → Lease → Reply → Type 0) (of k : ℕ) (grant : Grant P) (old changed : Lease) (reply : Reply) → ((l new : Lease) (answer : Reply) → IsLeaseOf maker c.settings c.plan l → Move l new answer → IsLeaseOf maker c.settings c.plan new) → slice_index_or p.live of None ≡ Some grant → slice_get (memory_leases.in_grant grant) k ≡ Some old → Move old changed reply → IsSoundParty maker c p → IsSoundParty maker c (record p { live = slice_set p.live of (Some (with_lease k changed grant)) })
-    stays_sound Move of k (instance lease) old changed reply keeps granted there move sound = move_sound maker c p of k lease changed sound granted (keeps old changed reply (lease_there maker c p of k lease old sound granted there) move)
-
-    -- A command on a memory.
-    pub moves_opened : (op : MemoryOp) (of k : ℕ) (live : List (Option (Grant P))) (reply : Reply) → MovesObject memory_leases (LeaseMoves op (rule_of p.limits)) of k p.live reply live → IsReply live
+    -- A command on a memory,
+    pub moves_opened : (op : MemoryOp) (of k : ℕ) (live : List (Option (Grant P))) (reply : Reply) → MovesObject memory_leases (LeaseMoves op (rule_of p.limits)) of k p.live reply live → IsReply live p.store
     moves_opened op of k live reply is =
-        let Move : Lease → Lease → Reply → Type 0 = LeaseMoves op (rule_of p.limits) in
-        elim (moved memory_leases Move of k p.live live reply is) [
-          | inl none ↦ subst IsReply (sym none.same) unchanged
+        let Now : List (Option (Grant P)) → Type 0 = λ ls. IsReply ls p.store in
+        elim (moved memory_leases (LeaseMoves op (rule_of p.limits)) of k p.live live reply is) [
+          | inl none ↦ subst Now (sym none.same) unchanged
           | inr m ↦
-              subst IsReply (sym m.is)
-              (put_opened of k m.grant m.old m.changed m.granted m.there (op_slot op (rule_of p.limits) m.old m.changed reply m.move)
-              (stays_sound Move of k m.grant m.old m.changed reply (op_keeps maker c.settings c.plan op (rule_of p.limits)) m.granted m.there m.move))
+              subst Now (sym m.is)
+              (put_opened of m.grant (with_lease k m.changed m.grant) p.store m.granted
+              (memory_stays maker c k m.grant m.old m.changed m.there (op_slot op (rule_of p.limits) m.old m.changed reply m.move) (λ l. op_keeps maker c.settings c.plan op (rule_of p.limits) m.old m.changed reply l m.move)) refl)
+        ]
+
+    -- and one on a table.
+    pub tables_opened : (op : TableOp) (of k : ℕ) (live : List (Option (Grant P))) (store : ListedStore) (reply : Reply) → MovesObject table_leases (MovesTable op (rule_of p.limits) p.store store) of k p.live reply live → (object_at table_leases of k p.live ≡ None → store ≡ p.store) → IsReply live store
+    tables_opened op of k live store reply is unasked =
+        let Now : List (Option (Grant P)) → Type 0 = λ ls. IsReply ls store in
+        elim (moved table_leases (MovesTable op (rule_of p.limits) p.store store) of k p.live live reply is) [
+          | inl none ↦ subst Now (sym none.same) (subst (IsReply p.live) (sym (unasked none.none)) unchanged)
+          | inr m ↦
+              subst Now (sym m.is)
+              (put_opened of m.grant (with_table_lease k m.changed m.grant) store m.granted
+              (table_stays maker c k m.grant m.old m.changed m.there m.move.same (λ l. table_kept maker c.settings c.plan op (rule_of p.limits) p.store store m.old m.changed reply l m.move)) (ap (λ (s : ListedStore). s.failing) m.move.store))
         ]
 
     -- A call begins: the party has what it had, with what the call brings along.
@@ -171,6 +221,7 @@ module _ {P : Type 0} (maker : MakerTold) (c : PoolCore P) (p : RunningParty P) 
     act_opened : (t : Terms) (modules : List ModuleAsked) (act : Act) (o : Opening P) → AreCallsFor t c.settings modules → p.done < length p.live → OpensAct modules act p o → IsOpened o
     act_opened t modules (requests number) o calls room opens = requests_opened t number (slice_get modules number) o (calls number) room opens
     act_opened t modules (on_memory of k op) o calls room opens = subst IsOpened (sym opens.3) (moves_opened op of k opens.1 opens.0 opens.2)
+    act_opened t modules (on_table of k op) o calls room opens = subst IsOpened (sym opens.5) (tables_opened op of k opens.1 opens.2 opens.0 opens.3 opens.4)
     act_opened t modules (drops of) o calls room opens = subst IsOpened (sym opens) (drops_opened of (slice_index_or p.live of None) refl)
 
     pub key_opened : IsStep (begun_call call.Key p.frame) p.live

@@ -43,25 +43,25 @@ move_seen maker s plan Moves Sees l new reply seen of is =
     subst At (sym (ap (λ (x : Lease). x.index) is.same)) (seen l new.memory reply of is.move)
 
 -- a growth tells so of the pool
-grown_tells : (w : World) (pages : ℕ) (m : PrivateMemory) (reply : Reply) (fault : Bool) → (fault ≡ true → MayFault w m.slot) → reply ≡ (growth w.terms.rule fault pages m).1 → TellsGrowth w pages m reply
+grown_tells : (w : World) (pages : ℕ) (m : PrivateMemory) (reply : Reply) (fault : Bool) → (fault ≡ true → MayFault w m.slot) → reply ≡ (growth w.terms.host.rule fault pages m).1 → TellsGrowth w pages m reply
 grown_tells w pages m reply true may is = inr (may refl)
 grown_tells w pages m reply false may is = inl is
 
 -- what the party sees of the operation, and what that tells of the pool
 abbrev pub SeesMove : World → MemoryOp → PrivateMemory → PrivateMemory → Reply → Type 0
-SeesMove w op m new reply = MemoryMoves op w.terms.rule m new reply × TellsMove w op m reply
+SeesMove w op m new reply = MemoryMoves op w.terms.host.rule m new reply × TellsMove w op m reply
 
-pub op_seen : (w : World) (s : Settings) (plan : Plan) (rule : GrowthRule) (op : MemoryOp) (l new : Lease) (reply : Reply) → rule ≡ w.terms.rule → IsLeaseOf w.maker s plan l → LeaseMoves op rule l new reply → SeesMove w op (private_memory l) (private_memory new) reply
+pub op_seen : (w : World) (s : Settings) (plan : Plan) (rule : GrowthRule) (op : MemoryOp) (l new : Lease) (reply : Reply) → rule ≡ w.terms.host.rule → IsLeaseOf w.maker s plan l → LeaseMoves op rule l new reply → SeesMove w op (private_memory l) (private_memory new) reply
 op_seen w s plan rule (reads i len) l new reply ruled of is = ((is.0, ap private_memory is.1), tt)
 op_seen w s plan rule (writes i bytes) l new reply ruled of is = (move_seen w.maker s plan (MemoryWrites i bytes) (Writes i bytes) l new reply (writes_seen w.maker s plan i bytes) of is, tt)
 op_seen w s plan rule (fills i len byte) l new reply ruled of is = (move_seen w.maker s plan (MemoryWrites i (replicate len byte)) (Writes i (replicate len byte)) l new reply (writes_seen w.maker s plan i (replicate len byte)) of is, tt)
 op_seen w s plan rule (grows pages) l new reply ruled of is =
-    let grown : GrowsSeen w.maker w.terms.rule pages (private_memory l) (private_memory new) reply = move_seen w.maker s plan (MemoryGrows rule pages) (GrowsSeen w.maker w.terms.rule pages) l new reply (grows_seen w.maker s plan rule w.terms.rule pages ruled) of is in
+    let grown : GrowsSeen w.maker w.terms.host.rule pages (private_memory l) (private_memory new) reply = move_seen w.maker s plan (MemoryGrows rule pages) (GrowsSeen w.maker w.terms.host.rule pages) l new reply (grows_seen w.maker s plan rule w.terms.host.rule pages ruled) of is in
     ((grown.0, grown.1), grown_tells w pages (private_memory l) reply grown.0 grown.2 (ap (λ (p : PrivateMemory × Reply). p.1) grown.1))
 op_seen w s plan rule asks_size l new reply ruled of is = ((is.0, ap private_memory is.1), tt)
 
 -- the two halves of that, of what is named
-pub named_moves : {S : Type 0} (w : World) (op : MemoryOp) (o : Option PrivateMemory) (put : PrivateMemory → S → S) (old new : S) (reply : Reply) → MovesNamed (SeesMove w op) o put old reply new → MovesNamed (MemoryMoves op w.terms.rule) o put old reply new
+pub named_moves : {S : Type 0} (w : World) (op : MemoryOp) (o : Option PrivateMemory) (put : PrivateMemory → S → S) (old new : S) (reply : Reply) → MovesNamed (SeesMove w op) o put old reply new → MovesNamed (MemoryMoves op w.terms.host.rule) o put old reply new
 named_moves w op None put old new reply is = is
 named_moves w op (Some m) put old new reply is = (is.0, is.1.0, is.2)
 
@@ -74,7 +74,7 @@ same_memories : {P : Type 0} (g : Grant P) → private_memories.in_grant (privat
 same_memories (instance lease) = refl
 
 changed_memory : {P : Type 0} (k : ℕ) (l : Lease) (g : Grant P) → private_grant (memory_leases.put_in k l g) ≡ private_memories.put_in k (private_memory l) (private_grant g)
-changed_memory k l (instance lease) = ap (λ (ms : List PrivateMemory). record { memories = ms }) (map-set private_memory lease.memories.items k l)
+changed_memory k l (instance lease) = ap (λ (ms : List PrivateMemory). record (private_grant (instance lease)) { memories = ms }) (map-set private_memory lease.memories.items k l)
 
 pub memories_seen : (P : Type 0) → AreSeen (memory_leases {P = P}) private_memories private_grant private_memory
 memories_seen P = record { same = same_memories; changed = changed_memory }

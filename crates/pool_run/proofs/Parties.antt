@@ -9,13 +9,14 @@ use Rattle.pool_alloc.specs.Sound.{IsFrame, AreImagesOf}
 use Rattle.pool_alloc.specs.Modules.{HasImages}
 use Rattle.pool_alloc.specs.Calls.{IsIdle, IsGrant, MayBegin, begun_call}
 use Rattle.pool_alloc.proofs.BegunCalls.{call_has}
-use Rattle.pool_alloc.specs.Stepping.{CanStep, grant_count, grant_instances, grant_memories}
+use Rattle.pool_alloc.specs.Stepping.{CanStep, grant_count, grant_instances, grant_memories, grant_tables}
 use Rattle.pool_alloc.specs.declared.pool_core.PoolCore.{PoolCore}
 use Rattle.pool_alloc.specs.declared.pool_core.Settings.{Settings}
-use Rattle.pool_alloc.specs.Steps.{memories_wanted, images_wanted, memory_slots}
+use Rattle.pool_alloc.specs.Steps.{memories_wanted, images_wanted}
 use Rattle.pool_alloc.specs.Asked.{ModuleAsked}
 use Rattle.pool_alloc.specs.declared.frame.Ending.TheVariants as ending
 use Rattle.pool_alloc.specs.Leases.{Lease}
+use Rattle.pool_alloc.specs.TableLeases.{LeasedTable}
 use Rattle.pool_alloc.specs.Searches.{IsSearched}
 use Rattle.pool_alloc.specs.Stages.{returning, stage_of}
 use Rattle.pool_alloc.specs.Turns.{returned_next}
@@ -24,8 +25,8 @@ use Rattle.pool_alloc.specs.declared.frame.Call.TheVariants as call
 use Rattle.pool_alloc.specs.declared.frame.Frame.{Frame}
 use Rattle.pool_alloc.specs.declared.frame.Grant.{Grant}
 use Rattle.pool_alloc.specs.declared.frame.Grant.TheVariants.{Instance as instance}
-use Rattle.pool_alloc.proofs.BegunCalls.{begun_frame, begun_count, begun_instances, begun_memories}
-use Rattle.pool_alloc.proofs.QueueCounts.{sum_by_agree, leased_regions}
+use Rattle.pool_alloc.proofs.BegunCalls.{begun_frame, begun_count, begun_instances, begun_memories, begun_tables}
+use Rattle.pool_alloc.proofs.QueueCounts.{sum_by_agree, leased_regions, tables_regions}
 use Rattle.pool_run.specs.Ties.{is_asking, granted_to, held_by_party, FitsParty, CanTurn}
 use Rattle.pool_run.specs.declared.running_party.RunningParty.{RunningParty}
 use Rattle.pool_slots.specs.declared.plan.Plan.{Plan}
@@ -34,7 +35,7 @@ use Rattle.pool_slots.specs.declared.slot_name.SlotName.{SlotName}
 module _ {P : Type 0} where
   grant_regions : (k : SlotName) (o : Option (Grant P)) → granted_to (grant_count (region_of k)) o ≡ granted_to (grant_count (right_to k)) o
   grant_regions k None = refl
-  grant_regions k (Some (instance lease)) = leased_regions k lease.memories.items
+  grant_regions k (Some (instance lease)) = omega (arith, leased_regions k lease.memories.items, tables_regions k lease.tables.items)
 
   -- The live grants have the region of each of their slots.
   pub live_regions : (k : SlotName) (live : List (Option (Grant P))) → sum_by (granted_to (grant_count (region_of k))) live ≡ sum_by (granted_to (grant_count (right_to k))) live
@@ -50,6 +51,7 @@ module _ {P : Type 0} where
       others = λ k. omega (arith, can.fits.others k, live_regions k p.live);
       instances = omega (arith, can.fits.instances);
       memories = omega (arith, can.fits.memories);
+      tables = omega (arith, can.fits.tables);
     };
   }
 
@@ -58,6 +60,7 @@ module _ {P : Type 0} where
     pub places : (t : Thing) → (held_by_party q).places t ≡ (held_by_party p).places t
     pub instances : (held_by_party q).instances ≡ (held_by_party p).instances
     pub memories : (held_by_party q).memories ≡ (held_by_party p).memories
+    pub tables : (held_by_party q).tables ≡ (held_by_party p).tables
 
   pub fits_same : (c : PoolCore P) (p q : RunningParty P) → HaveSame p q → FitsParty c p → FitsParty c q
   fits_same c p q same fits = record {
@@ -65,6 +68,7 @@ module _ {P : Type 0} where
     others = λ k. omega (arith, fits.others k, same.places (right_to k), same.places (region_of k));
     instances = omega (arith, fits.instances, same.instances);
     memories = omega (arith, fits.memories, same.memories);
+    tables = omega (arith, fits.tables, same.tables);
   }
 
   -- a place with a grant is there
@@ -87,19 +91,21 @@ module _ {P : Type 0} where
     pub places : (t : Thing) → sum_by (granted_to (grant_count t)) new + call_has (grant_count t) asked ≡ sum_by (granted_to (grant_count t)) old
     pub instances : sum_by (granted_to grant_instances) new + call_has grant_instances asked ≡ sum_by (granted_to grant_instances) old
     pub memories : sum_by (granted_to grant_memories) new + call_has grant_memories asked ≡ sum_by (granted_to grant_memories) old
+    pub tables : sum_by (granted_to grant_tables) new + call_has grant_tables asked ≡ sum_by (granted_to grant_tables) old
 
   pub has_call : (maker : MakerTold) (asked : Call P) (new : List (Option (Grant P))) (c : PoolCore P) (p : RunningParty P) → IsFrame maker c.settings c.plan p.frame → MayBegin maker c.settings c.plan asked p.frame → Brings asked p.live new → HaveSame p (with_call asked new p)
   has_call maker asked new c p frame may brings = record {
     places = λ t. omega (arith, begun_count maker t asked c.settings c.plan p.frame frame may, brings.places t);
     instances = omega (arith, begun_instances maker asked c.settings c.plan p.frame may, brings.instances);
     memories = omega (arith, begun_memories maker asked c.settings c.plan p.frame frame may, brings.memories);
+    tables = omega (arith, begun_tables maker asked c.settings c.plan p.frame frame may, brings.tables);
   }
 
   pub brings_key : (live : List (Option (Grant P))) → Brings call.Key live live
-  brings_key live = record { places = λ t. omega arith; instances = omega arith; memories = omega arith }
+  brings_key live = record { places = λ t. omega arith; instances = omega arith; memories = omega arith; tables = omega arith }
 
   pub brings_module : (m : ModuleAsked) (live : List (Option (Grant P))) → Brings (call.Module m) live live
-  brings_module m live = record { places = λ t. omega arith; instances = omega arith; memories = omega arith }
+  brings_module m live = record { places = λ t. omega arith; instances = omega arith; memories = omega arith; tables = omega arith }
 
   fewer : (of : Grant P → ℕ) (live : List (Option (Grant P))) (i : ℕ) (grant : Grant P) → slice_index_or live i None ≡ Some grant → sum_by (granted_to of) (slice_set live i None) + of grant ≡ sum_by (granted_to of) live
   fewer of live i grant is =
@@ -107,7 +113,7 @@ module _ {P : Type 0} where
       omega (arith, sum_by-set (granted_to of) live i None None (grant_inside live i grant is))
 
   pub brings_grant : (live : List (Option (Grant P))) (i : ℕ) (grant : Grant P) → slice_index_or live i None ≡ Some grant → Brings (call.GiveBack grant) live (slice_set live i None)
-  brings_grant live i grant is = record { places = λ t. fewer (grant_count t) live i grant is; instances = fewer grant_instances live i grant is; memories = fewer grant_memories live i grant is }
+  brings_grant live i grant is = record { places = λ t. fewer (grant_count t) live i grant is; instances = fewer grant_instances live i grant is; memories = fewer grant_memories live i grant is; tables = fewer grant_tables live i grant is }
 
   -- nothing comes into a place that is emptied
   pub still_none : (live : List (Option (Grant P))) (i k : ℕ) → slice_index_or live k None ≡ None → slice_index_or (slice_set live i None) k None ≡ None
@@ -136,12 +142,13 @@ module _ {P : Type 0} where
   called_module maker m c p can idle images each room = called maker (call.Module m) p.live c p can (idle, images, each) (brings_module m p.live) can.party.sound.grants can.party.to_come (λ is. room)
 
   -- a give-back is under way then
-  next_stage : (leases : List Lease) (f : Frame P) → stage_of (returned_next leases (record f { ending = ending.Returned })).frame ≡ returning
-  next_stage [] f = refl
-  next_stage (l ∷ ls) f = refl
+  next_stage : (leases : List Lease) (tables : List LeasedTable) (f : Frame P) → stage_of (returned_next leases tables (record f { ending = ending.Returned })).frame ≡ returning
+  next_stage [] [] f = refl
+  next_stage [] (t ∷ ts) f = refl
+  next_stage (l ∷ ls) ts f = refl
 
   pub returned_stage : (grant : Grant P) (f : Frame P) → stage_of (begun_call (call.GiveBack grant) f) ≡ returning
-  returned_stage (instance lease) f = next_stage lease.memories.items (record f { objects = lease })
+  returned_stage (instance lease) f = next_stage lease.memories.items lease.tables.items (record f { objects = lease })
 
   pub returned_asks : (grant : Grant P) (f : Frame P) → is_asking (stage_of (begun_call (call.GiveBack grant) f)) ≡ true → ⊥
   returned_asks grant f asking = let no : is_asking (stage_of (begun_call (call.GiveBack grant) f)) ≡ false = ap is_asking (returned_stage grant f) in absurd cc
@@ -153,9 +160,10 @@ module _ {P : Type 0} where
       (λ k behind. still_none p.live i k (can.party.to_come k behind))
       (λ asking. absurd (returned_asks grant p.frame asking))
 
-  next_searched : (leases : List Lease) (c : PoolCore P) (f : Frame P) → IsSearched c (record (returned_next leases f).frame { step_count = 0 })
-  next_searched [] c f = tt
-  next_searched (l ∷ ls) c f = tt
+  next_searched : (leases : List Lease) (tables : List LeasedTable) (c : PoolCore P) (f : Frame P) → IsSearched c (record (returned_next leases tables f).frame { step_count = 0 })
+  next_searched [] [] c f = tt
+  next_searched [] (t ∷ ts) c f = tt
+  next_searched (l ∷ ls) ts c f = tt
 
   pub returned_searched : (grant : Grant P) (c : PoolCore P) (f : Frame P) → IsSearched c (begun_call (call.GiveBack grant) f)
-  returned_searched (instance lease) c f = next_searched lease.memories.items c (record f { objects = lease; ending = ending.Returned })
+  returned_searched (instance lease) c f = next_searched lease.memories.items lease.tables.items c (record f { objects = lease; ending = ending.Returned })

@@ -5,7 +5,7 @@ use Rattle.pool_pages.specs.MakerTold.{MakerTold}
 use Rattle.pool_pages.specs.MemoryTypes.{minimum_byte_size, allow_growth_to}
 use Rattle.pool_pages.specs.declared.module_types.MemoryType.{MemoryType}
 use Rattle.pool_pages.specs.declared.unsupported.Unsupported.{Unsupported}
-use Rattle.pool_pages.specs.declared.unsupported.Unsupported.TheVariants.{InitialSize, AddressSpace, MemoryMinimum}
+use Rattle.pool_pages.specs.declared.unsupported.Unsupported.TheVariants.{InitialSize, AddressSpace, MemoryMinimum, TableSize}
 use Rattle.pool_images.specs.Slots.{Slot}
 use Rattle.pool_limits.specs.LimiterTold.{LimiterTold}
 use Rattle.pool_limits.specs.declared.errors.LimiterError.{LimiterError}
@@ -18,7 +18,10 @@ use Rattle.pool_slots.specs.declared.errors.AllocError.{AllocError}
 use Rattle.pool_slots.specs.declared.errors.AllocError.TheVariants as refusal
 use Rattle.pool_alloc.specs.Own.{made_of, made_of_limits, made_for}
 use Rattle.pool_alloc.specs.Stages.{Progress, untested, uncounted, admitted, Stage, no_call, keys, asks, returning, refusing, stage_of, Raises, Goes}
-use Rattle.pool_alloc.specs.Steps.{memories_wanted}
+use Rattle.pool_alloc.specs.Steps.{memories_wanted, tables_wanted}
+use Rattle.pool_alloc.specs.TableLeases.{LeasedTable}
+use Rattle.pool_alloc.specs.TableSteps.{table_refused, table_in, made_table, made_unless}
+use Rattle.pool_run.specs.Private.{table_room}
 use Rattle.pool_alloc.specs.declared.frame.Frame.{Frame}
 use Rattle.pool_alloc.specs.declared.frame.Grant.{Grant}
 use Rattle.pool_alloc.specs.declared.frame.Grant.TheVariants.{Instance as instance}
@@ -61,6 +64,20 @@ not_memory made e finds is memory =
     let wrong : false ≡ true = sym finds ∙ ap finds_none (is ∙ ap (λ (x : AllocError). Err x) memory) in
     absurd cc
 
+-- nor is a table's minimum refused for that
+past_other : (past : Bool) (least room : ℕ) (e : AllocError) → (if past then Some (refusal.Unsupported (TableSize least room)) else None) ≡ Some e → e ≢ refusal.Memory
+past_other true least room e is memory = let wrong = is ∙ ap (λ (x : AllocError). Some x) memory in absurd cc
+past_other false least room e is memory = absurd cc
+
+refused_other : (answer : Result Bool LimiterError) (least room : ℕ) (e : AllocError) → table_refused answer least room ≡ Some e → e ≢ refusal.Memory
+refused_other (Err x) least room e is memory = let wrong = is ∙ ap (λ (y : AllocError). Some y) memory in absurd cc
+refused_other (Ok false) least room e is memory = let wrong = is ∙ ap (λ (y : AllocError). Some y) memory in absurd cc
+refused_other (Ok true) least room e is memory = past_other (nat_lt room least) least room e is memory
+
+unless_is : (o : Option AllocError) (l : LeasedTable) (e : AllocError) → made_unless o l ≡ Err e → o ≡ Some e
+unless_is None l e is = absurd cc
+unless_is (Some d) l e is = let same : d ≡ e = cc in ap (λ (x : AllocError). Some x) same
+
 refused_once : (e : AllocError) → Refused (Alloc e) ≡ want_of_memory → e ≡ refusal.Memory
 refused_once e is = cc
 
@@ -92,8 +109,13 @@ module _ {P : Type 0} (maker : MakerTold) (old new : LimiterTold) (c : PoolCore 
         | inr rest ↦
             elim rest [
               | inl fault ↦ λ is. let wrong = sym fault.is ∙ is in absurd cc
-              | inr makes ↦
-                  at_place (slice_get (memories_wanted f.asked) (length f.objects.memories.items)) (get_there (memories_wanted f.asked) (length f.objects.memories.items) (omega (arith, makes.allocating.more)))
+              | inr (inr makes) ↦
+                  at_place (slice_get (tables_wanted f.asked) (length f.objects.tables.items)) (get_there (tables_wanted f.asked) (length f.objects.tables.items) (omega (arith, makes.allocating.more, makes.next, makes.allocating.to_grant.few)))
+                  (λ ty there.
+                  let made : made_table c.settings makes.given makes.at makes.region (Some ty) ≡ Err e = ap (made_table c.settings makes.given makes.at makes.region) (sym there) ∙ makes.is in
+                  refused_other makes.given ty.limits.min (table_room c.settings ty) e (unless_is (table_refused makes.given ty.limits.min (table_room c.settings ty)) (table_in c.settings ty makes.at makes.region) e made))
+              | inr (inl makes) ↦
+                  at_place (slice_get (memories_wanted f.asked) (length f.objects.memories.items)) (get_there (memories_wanted f.asked) (length f.objects.memories.items) (omega (arith, makes.next)))
                   (λ decl there.
                   let made : made_for c.settings.max_memory_size makes.given makes.held (Some decl) ≡ Err e = ap (made_for c.settings.max_memory_size makes.given makes.held) (sym there) ∙ makes.is in
                   not_memory (made_for c.settings.max_memory_size makes.given makes.held (Some decl)) e (answer_finds makes.given decl.ty c.settings.max_memory_size makes.held) made)

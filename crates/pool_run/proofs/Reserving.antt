@@ -1,4 +1,4 @@
--- The list for the slots of what is asked for has room for them, until the reply takes it.
+-- The lists for the slots of what is asked for have room for them, until the reply takes them.
 use Rattle.std.proofs.Common.{◌≡◌, ℕ, ◌<◌, ◌≤◌, Option, Some, None, List, [], length, refl, sym, ap, ◌∙◌, subst, inl, inr, arith, true}
 use Rattle.std.specs.Prelude.{replicate, slice_set, slice_index_or}
 use Rattle.std.proofs.lemmas.Bool.{cases_eq}
@@ -6,9 +6,8 @@ use Rattle.std.proofs.lemmas.List.{length-map, length-replicate, length-set, get
 use Rattle.pool_pages.specs.MakerTold.{MakerTold}
 use Rattle.pool_limits.specs.LimiterTold.{LimiterTold}
 use Rattle.pool_alloc.specs.Objects.{objects_in}
-use Rattle.pool_alloc.specs.Calls.{IsGrantOf, IfGranted, begun_call}
-use Rattle.pool_alloc.specs.Reserved.{Reserved, no_room}
-use Rattle.pool_alloc.specs.Steps.{memories_wanted}
+use Rattle.pool_alloc.specs.Calls.{IsGrantOf, IfGranted, begun_call, frame_made}
+use Rattle.pool_alloc.specs.Steps.{memories_wanted, tables_wanted}
 use Rattle.pool_alloc.specs.Turns.{After}
 use Rattle.pool_alloc.specs.Stepping.{is_idle}
 use Rattle.pool_alloc.specs.declared.pool_core.PoolCore.{PoolCore}
@@ -23,41 +22,64 @@ use Rattle.pool_run.specs.RunsMade.{AreReserved, party_made_for, parties_made}
 use Rattle.pool_run.specs.Ties.{IsReserved, is_asking}
 use Rattle.pool_alloc.specs.Stages.{stage_of}
 use Rattle.pool_alloc.specs.Asked.{ModuleAsked}
-use Rattle.pool_run.specs.Turns.{Turned, leases_of, answered, slots_after}
+use Rattle.pool_run.specs.Turns.{Turned, leases_of, tables_of, answered, slots_after, no_lists}
 use Rattle.pool_run.specs.declared.input.Party.{Party}
 use Rattle.pool_run.specs.declared.reply.Reply.{Reply}
 use Rattle.pool_run.specs.declared.running_party.RunningParty.{RunningParty}
+use Rattle.pool_run.specs.declared.slot_lists.SlotLists.{SlotLists}
 use Rattle.pool_run.proofs.Parties.{returned_asks}
 use Rattle.pool_run.proofs.StageSteps.{is_none, none_idle, place_granted, settled_place, asking_some, IsStagedStep}
 use Rattle.pool_run.proofs.Stepped.{IsStepped}
 use Rattle.pool_slots.specs.declared.plan.Plan.{Plan}
 
 module _ {P : Type 0} where
-  pub back_reserved : (grant : Grant P) (f : Frame P) (slots : Reserved ℕ) → IsReserved f slots → IsReserved (begun_call (call.GiveBack grant) f) slots
-  back_reserved grant f slots reserved = record { empty = reserved.empty; room = λ asking. absurd (returned_asks grant f asking) }
+  -- where nothing is asked for, no room is needed
+  unasked_reserved : (f : Frame P) (slots : SlotLists) → slots.memories.items ≡ [] → slots.tables.items ≡ [] → (is_asking (stage_of f) ≡ true → ⊥) → IsReserved f slots
+  unasked_reserved f slots memories tables none = record { memories = record { empty = memories; room = λ is. absurd (none is) }; tables = record { empty = tables; room = λ is. absurd (none is) } }
 
-  granted_room : (maker : MakerTold) (s : Settings) (plan : Plan) (asked : Option ModuleAsked) (room : ℕ) (o : Option (Outcome P)) → IfGranted (λ g. length (memories_wanted asked) ≤ room) o → IfGranted (IsGrantOf maker s plan asked) o → IfGranted (λ g. length (leases_of g) ≤ room) o
-  granted_room maker s plan asked room (Some (answer.Granted (instance lease))) place is = omega (arith, is.1, place)
-  granted_room maker s plan asked room _ place is = tt
+  pub back_reserved : (grant : Grant P) (f : Frame P) (slots : SlotLists) → IsReserved f slots → IsReserved (begun_call (call.GiveBack grant) f) slots
+  back_reserved grant f slots reserved = unasked_reserved (begun_call (call.GiveBack grant) f) slots reserved.memories.empty reserved.tables.empty (returned_asks grant f)
 
-  -- It has room for what is granted.
-  pub room_granted : {old new : LimiterTold} (maker : MakerTold) (c : PoolCore P) (f : Frame P) (a : After P) (slots : Reserved ℕ) → IsReserved f slots → IsStepped maker old new c f a → IfGranted (λ g. length (leases_of g) ≤ slots.room) a.outcome
-  room_granted maker c f a slots reserved on =
-      granted_room maker c.settings c.plan f.asked slots.room a.outcome
-      (place_granted (length (memories_wanted f.asked) ≤ slots.room) (is_asking (stage_of f)) a.outcome reserved.room on.staged.granted) on.granted
+  granted_room : (of : Grant P → ℕ) (n room : ℕ) (o : Option (Outcome P)) → IfGranted (λ g. n ≤ room) o → IfGranted (λ g. of g ≡ n) o → IfGranted (λ g. of g ≤ room) o
+  granted_room of n room (Some (answer.Granted grant)) place is = omega (arith, is, place)
+  granted_room of n room _ place is = tt
 
-  after_reserved : (o : Option (Outcome P)) (f g : Frame P) (slots : Reserved ℕ) → IsReserved f slots → IsStagedStep (stage_of f) (stage_of g) o → (is_asking (stage_of g) ≡ true → g.asked ≡ f.asked) → IsReserved g (slots_after o slots)
+  as_many : (maker : MakerTold) (s : Settings) (plan : Plan) (asked : Option ModuleAsked) (o : Option (Outcome P)) → IfGranted (IsGrantOf maker s plan asked) o → IfGranted (λ g. length (leases_of g) ≡ length (memories_wanted asked)) o × IfGranted (λ g. length (tables_of g) ≡ length (tables_wanted asked)) o
+  as_many maker s plan asked (Some (answer.Granted (instance lease))) is = (is.1, is.3)
+  as_many maker s plan asked _ is = (tt, tt)
+
+  -- They have room for what is granted.
+  pub memories_granted : {old new : LimiterTold} (maker : MakerTold) (c : PoolCore P) (f : Frame P) (a : After P) (slots : SlotLists) → IsReserved f slots → IsStepped maker old new c f a → IfGranted (λ g. length (leases_of g) ≤ slots.memories.room) a.outcome
+  memories_granted maker c f a slots reserved on =
+      granted_room (λ g. length (leases_of g)) (length (memories_wanted f.asked)) slots.memories.room a.outcome
+      (place_granted (length (memories_wanted f.asked) ≤ slots.memories.room) (is_asking (stage_of f)) a.outcome reserved.memories.room on.staged.granted) (as_many maker c.settings c.plan f.asked a.outcome on.granted).0
+
+  pub tables_granted : {old new : LimiterTold} (maker : MakerTold) (c : PoolCore P) (f : Frame P) (a : After P) (slots : SlotLists) → IsReserved f slots → IsStepped maker old new c f a → IfGranted (λ g. length (tables_of g) ≤ slots.tables.room) a.outcome
+  tables_granted maker c f a slots reserved on =
+      granted_room (λ g. length (tables_of g)) (length (tables_wanted f.asked)) slots.tables.room a.outcome
+      (place_granted (length (tables_wanted f.asked) ≤ slots.tables.room) (is_asking (stage_of f)) a.outcome reserved.tables.room on.staged.granted) (as_many maker c.settings c.plan f.asked a.outcome on.granted).1
+
+  ends_reserved : (o : Outcome P) (f g : Frame P) (slots : SlotLists) → IsReserved f slots → IsStagedStep (stage_of f) (stage_of g) (Some o) → IsReserved g slots
+  ends_reserved o f g slots r staged = unasked_reserved g slots r.memories.empty r.tables.empty (λ is. settled_place (stage_of g) (staged.settled refl) is)
+
+  after_reserved : (o : Option (Outcome P)) (f g : Frame P) (slots : SlotLists) → IsReserved f slots → IsStagedStep (stage_of f) (stage_of g) o → (is_asking (stage_of g) ≡ true → g.asked ≡ f.asked) → IsReserved g (slots_after o slots)
   after_reserved None f g slots r staged same = record {
-    empty = r.empty;
-    room = λ is. let R : Option ModuleAsked → Type 0 = λ o. length (memories_wanted o) ≤ slots.room in subst R (sym (same is)) (r.room (staged.asking is));
+    memories = record {
+      empty = r.memories.empty;
+      room = λ is. let R : Option ModuleAsked → Type 0 = λ o. length (memories_wanted o) ≤ slots.memories.room in subst R (sym (same is)) (r.memories.room (staged.asking is));
+    };
+    tables = record {
+      empty = r.tables.empty;
+      room = λ is. let R : Option ModuleAsked → Type 0 = λ o. length (tables_wanted o) ≤ slots.tables.room in subst R (sym (same is)) (r.tables.room (staged.asking is));
+    };
   }
-  after_reserved (Some answer.Key) f g slots r staged same = record { empty = r.empty; room = λ is. settled_place (stage_of g) (staged.settled refl) is }
-  after_reserved (Some (answer.Granted grant)) f g slots r staged same = record { empty = refl; room = λ is. settled_place (stage_of g) (staged.settled refl) is }
-  after_reserved (Some answer.Returned) f g slots r staged same = record { empty = r.empty; room = λ is. settled_place (stage_of g) (staged.settled refl) is }
-  after_reserved (Some (answer.Refused e)) f g slots r staged same = record { empty = r.empty; room = λ is. settled_place (stage_of g) (staged.settled refl) is }
+  after_reserved (Some (answer.Granted grant)) f g slots r staged same = unasked_reserved g no_lists refl refl (λ is. settled_place (stage_of g) (staged.settled refl) is)
+  after_reserved (Some answer.Key) f g slots r staged same = ends_reserved answer.Key f g slots r staged
+  after_reserved (Some answer.Returned) f g slots r staged same = ends_reserved answer.Returned f g slots r staged
+  after_reserved (Some (answer.Refused e)) f g slots r staged same = ends_reserved (answer.Refused e) f g slots r staged
 
-  -- A step leaves it, or the reply takes it.
-  pub step_reserved : {old new : LimiterTold} (maker : MakerTold) (c : PoolCore P) (f : Frame P) (a : After P) (slots left : Reserved ℕ) → IsReserved f slots → IsStepped maker old new c f a → left ≡ slots_after a.outcome slots → IsReserved a.frame left
+  -- A step leaves them, or the reply takes them.
+  pub step_reserved : {old new : LimiterTold} (maker : MakerTold) (c : PoolCore P) (f : Frame P) (a : After P) (slots left : SlotLists) → IsReserved f slots → IsStepped maker old new c f a → left ≡ slots_after a.outcome slots → IsReserved a.frame left
   step_reserved maker c f a slots left reserved on is =
       let idle : is_none (stage_of a.frame) ≡ is_idle a.frame.phase = none_idle a.frame.phase a.frame.ending (objects_in a.frame.objects) in
       subst (IsReserved a.frame) (sym is) (after_reserved a.outcome f a.frame slots reserved on.staged (λ asking. on.goes.asked (sym idle ∙ asking_some (stage_of a.frame) asking)))
@@ -70,32 +92,32 @@ module _ {P : Type 0} where
   answered_frame (Some (answer.Refused e)) c p = refl
 
   -- The answer leaves the frame as it is.
-  pub reserved_there : (o : Option (Outcome P)) (c : PoolCore P) (p q : RunningParty P) (reply : Option Reply) (slots : Reserved ℕ) → record { core = c; party = q; reply = reply } ≡ answered o c p → IsReserved p.frame slots → IsReserved q.frame slots
+  pub reserved_there : (o : Option (Outcome P)) (c : PoolCore P) (p q : RunningParty P) (reply : Option Reply) (slots : SlotLists) → record { core = c; party = q; reply = reply } ≡ answered o c p → IsReserved p.frame slots → IsReserved q.frame slots
   reserved_there o c p q reply slots is reserved =
       let R : Frame P → Type 0 = λ f. IsReserved f slots in
       subst R (sym (ap (λ (t : Turned P). t.party.frame) is ∙ answered_frame o c p)) reserved
 
-  -- Each party has one at the start,
-  pub made_reserved : (s : Settings) (parties : List Party) (slots : List (Reserved ℕ)) → slots ≡ replicate (length parties) no_room → AreReserved (parties_made {P = P} s parties) slots
+  -- Each party has them at the start,
+  pub made_reserved : (s : Settings) (parties : List Party) (slots : List SlotLists) → slots ≡ replicate (length parties) no_lists → AreReserved (parties_made {P = P} s parties) slots
   made_reserved s parties slots is =
-      let count : length slots ≡ length parties = ap (length {A = Reserved ℕ}) is ∙ length-replicate {A = Reserved ℕ} (length parties) no_room in
+      let count : length slots ≡ length parties = ap (length {A = SlotLists}) is ∙ length-replicate {A = SlotLists} (length parties) no_lists in
       record {
         count = count ∙ sym (length-map parties (party_made_for {P = P} s));
         each = λ i d x below.
             let inside : i < length parties = omega (arith, below, length-map parties (party_made_for {P = P} s)) in
-            let e : Party = record { home = 0; limits = None; commands = [] } in
-            let none : slice_index_or slots i x ≡ no_room = ap (λ (l : List (Reserved ℕ)). slice_index_or l i x) is ∙ get_or-replicate (length parties) i no_room x inside in
+            let e : Party = record { home = 0; limits = None; gc_faults = []; commands = [] } in
+            let none : slice_index_or slots i x ≡ no_lists = ap (λ (l : List SlotLists). slice_index_or l i x) is ∙ get_or-replicate (length parties) i no_lists x inside in
             let made : slice_index_or (parties_made {P = P} s parties) i d ≡ party_made_for s (slice_index_or parties i e) = get_or-map (party_made_for {P = P} s) parties i e d inside in
-            let R : RunningParty P → Reserved ℕ → Type 0 = λ p l. IsReserved p.frame l in
-            subst (λ p. R p (slice_index_or slots i x)) (sym made) (subst (R (party_made_for s (slice_index_or parties i e))) (sym none) (record { empty = refl; room = λ asking. absurd cc }));
+            let R : RunningParty P → SlotLists → Type 0 = λ p l. IsReserved p.frame l in
+            subst (λ p. R p (slice_index_or slots i x)) (sym made) (subst (R (party_made_for s (slice_index_or parties i e))) (sym none) (unasked_reserved (frame_made (slice_index_or parties i e).home s) no_lists refl refl (λ asking. absurd cc)));
       }
 
   -- and after a turn of one of them.
-  pub turned_reserved : (parties : List (RunningParty P)) (slots : List (Reserved ℕ)) (i : ℕ) (p : RunningParty P) (x : Reserved ℕ) → i < length parties → AreReserved parties slots → IsReserved p.frame x → AreReserved (slice_set parties i p) (slice_set slots i x)
+  pub turned_reserved : (parties : List (RunningParty P)) (slots : List SlotLists) (i : ℕ) (p : RunningParty P) (x : SlotLists) → i < length parties → AreReserved parties slots → IsReserved p.frame x → AreReserved (slice_set parties i p) (slice_set slots i x)
   turned_reserved parties slots i p x below are is = record {
     count = length-set slots i x ∙ are.count ∙ sym (length-set parties i p);
     each = λ k d y inside.
-        let R : RunningParty P → Reserved ℕ → Type 0 = λ q l. IsReserved q.frame l in
+        let R : RunningParty P → SlotLists → Type 0 = λ q l. IsReserved q.frame l in
         elim (cases_eq k i) [
           | inl same ↦
               subst (λ (n : ℕ). R (slice_index_or (slice_set parties i p) n d) (slice_index_or (slice_set slots i x) n y)) (sym same)

@@ -1,6 +1,9 @@
 -- A run keeps what it promises.
 use Rattle.std.proofs.Common.{◌≡◌, ℕ, ◌+◌, ◌^◌, ◌<◌, ◌≤◌, List, [], ◌∷◌, ◌++◌, length, map, take, get_or, replicate, Option, Some, None, refl, sym, ap, ◌∙◌, subst, arith}
-use Rattle.std.specs.Prelude.{IfSome, slice_get, slice_set, slice_index_or}
+use Rattle.std.specs.Prelude.{IfSome, slice_get, slice_set, slice_index_or, unwrap_or}
+use Rattle.pool_table.specs.Stores.{StoreTold, listed_store}
+use Rattle.pool_table.specs.declared.gc_store.ListedStore.{ListedStore}
+use Rattle.pool_run.specs.AtOnce.{store_told}
 use Rattle.std.proofs.lemmas.List.{length-set, get_or-set_same, get_or-map, length-map, map-append, take_all, take_more, replicate_more}
 use Rattle.std.proofs.lemmas.List.Elements.{All-map}
 use Rattle.std.proofs.lemmas.List.Sums.{sum_by-set, get_or-le-sum_by}
@@ -56,9 +59,13 @@ all_passed i count n same past = omega (arith, same, past)
 pub map_all : {X Y : Type 0} (f : X → Y) (xs : List X) (i : ℕ) → length xs ≤ i → map f (take i xs) ≡ map f xs
 map_all f xs i all = ap (map f) (take_all i xs all)
 
+-- a store as it is made
+pub store_made : (store : ListedStore) (failing : List ℕ) → store_told store ≡ listed_store failing 0 0 → store ≡ record { failing = failing; made = 0; faults = 0 }
+store_made store failing is = ap (λ (t : StoreTold). record { failing = unwrap_or t.plan []; made = t.made; faults = t.faults }) is
+
 -- a party that doesn't matter
 nobody : Party
-nobody = record { home = 0; limits = None; commands = [] }
+nobody = record { home = 0; limits = None; gc_faults = []; commands = [] }
 
 module _ {P : Type 0} where
   -- a turn that was made is one of the run
@@ -156,7 +163,7 @@ module _ {P : Type 0} where
       subst F (replicate_more n i) (folds_more modules inputs (replicate n i) i s mid new folds turns)
 
   one_made : (s : Settings) (q : Party) → IsMadeParty s (length q.commands) (party_made_for {P = P} s q)
-  one_made s q = record { home = q.home; frame = refl; limits = q.limits; limited = refl; keyed = refl; done = refl; live = refl }
+  one_made s q = record { home = q.home; frame = refl; limits = q.limits; limited = refl; failing = q.gc_faults; store = refl; keyed = refl; done = refl; live = refl }
 
   -- each party is as it is made, with a place for each of its commands
   pub are_made : (s : Settings) (parties : List Party) → AreMade s (commands_in parties) (map (party_made_for {P = P} s) parties)

@@ -1,5 +1,5 @@
 -- A run of several parties: each may turn, and after a turn of one the run goes on.
-use Rattle.std.proofs.Common.{◌≡◌, ℕ, ◌+◌, ◌<◌, ◌≤◌, List, length, get_or, refl, ap, arith, All}
+use Rattle.std.proofs.Common.{ℕ, ◌+◌, ◌<◌, ◌≤◌, List, length, get_or, arith, All}
 use Rattle.std.specs.Prelude.{IfSome, remove, sum_by, slice_set, slice_index_or}
 use Rattle.std.proofs.lemmas.List.Elements.{All-set, All-get_or}
 use Rattle.std.proofs.lemmas.List.Sums.{sum_by-set, sum_by-remove, sum_by-le-sum_by, get_or-le-sum_by}
@@ -20,7 +20,6 @@ use Rattle.pool_run.proofs.Turned.{HasTurned}
 use Rattle.pool_run.proofs.Sounds.{IsSoundTurn, over_size}
 use Rattle.pool_slots.specs.declared.plan.Plan.{Plan}
 use Rattle.pool_slots.specs.declared.slot_name.SlotName.{SlotName}
-use Rattle.pool_alloc.specs.Steps.{memory_slots}
 
 module _ {P : Type 0} where
   -- A party has no region without its slot.
@@ -43,6 +42,7 @@ module _ {P : Type 0} where
     others = λ k. omega (arith, whole.places (right_to k), whole.places (region_of k), others_have_slots parties i k d below);
     instances = omega (arith, whole.instances, get_or-le-sum_by (λ p. (held_by_party p).instances) parties i d below);
     memories = omega (arith, whole.memories, get_or-le-sum_by (λ p. (held_by_party p).memories) parties i d below);
+    tables = omega (arith, whole.tables, get_or-le-sum_by (λ p. (held_by_party p).tables) parties i d below);
   }
 
   -- Each of them may turn.
@@ -58,6 +58,7 @@ module _ {P : Type 0} where
     places = λ x. omega (arith, whole.places x, turned.places x, sum_by-set (λ p. (held_by_party p).places x) parties i t.party d below);
     instances = omega (arith, whole.instances, turned.instances, sum_by-set (λ p. (held_by_party p).instances) parties i t.party d below);
     memories = omega (arith, whole.memories, turned.memories, sum_by-set (λ p. (held_by_party p).memories) parties i t.party d below);
+    tables = omega (arith, whole.tables, turned.tables, sum_by-set (λ p. (held_by_party p).tables) parties i t.party d below);
   }
 
   -- A party stays sound over a pool of the same sizes.

@@ -27,13 +27,9 @@ use Rattle.pool_run.proofs.Cleared.{IsClearIdle}
 use Rattle.pool_run.proofs.Opened.{idle_is}
 use Rattle.pool_run.proofs.Pending.{IsPast, PastReply, step_past}
 use Rattle.pool_run.proofs.SameTurns.{IsApart, can_now, turn_alike, turn_clear}
+use Rattle.pool_run.proofs.Wants.{stays_get}
 
--- what is in a list stays in it behind others, and what is put behind it is there
-pub stays_get : {X : Type 0} (xs ys : List X) (n : ℕ) (x : X) → slice_get xs n ≡ Some x → slice_get (xs ++ ys) n ≡ Some x
-stays_get [] ys n x there = absurd cc
-stays_get (y ∷ xs) ys zero x there = there
-stays_get (y ∷ xs) ys (suc n) x there = stays_get xs ys n x there
-
+-- what is put behind a list is there
 last_get : {X : Type 0} (xs : List X) (x : X) → slice_get (xs ++ x ∷ []) (length xs) ≡ Some x
 last_get [] x = refl
 last_get (y ∷ xs) x = last_get xs x

@@ -7,7 +7,7 @@ use Rattle.pool_pages.specs.Count.{rounded_up}
 use Rattle.pool_pages.specs.MakerTold.{MakerTold, part_of, Planned}
 use Rattle.pool_pages.specs.Told.{Told, PageCall, counted, passes}
 use Rattle.pool_pages.specs.declared.pages.RegionName.{RegionName}
-use Rattle.pool_pages.specs.declared.pages.RegionName.TheVariants.{Memory as memory_region, OnDemand}
+use Rattle.pool_pages.specs.declared.pages.RegionName.TheVariants.{Memory as memory_region, Table as table_region, OnDemand}
 use Rattle.pool_images.specs.Orders.{failed as call_failed}
 use Rattle.pool_images.specs.Slots.{Slot, SlotIdentity, raising, limited, CallFaulted}
 use Rattle.pool_limits.specs.Growth.{GrowthRule}
@@ -17,6 +17,7 @@ use Rattle.pool_memory.specs.Linear.{Storage, in_slot, stored, slot_in, Linear, 
 use Rattle.pool_memory.specs.Memories.{MemoryState, bytes_of, slot_of}
 use Rattle.pool_slots.specs.declared.errors.AllocError.TheVariants as alloc
 use Rattle.pool_alloc.specs.Leases.{Lease}
+use Rattle.pool_alloc.specs.PoolTables.{IsPoolTable}
 use Rattle.pool_alloc.specs.Sound.{IsLeaseOf, IsPoolSlot}
 use Rattle.pool_slots.specs.declared.plan.Plan.{Plan}
 use Rattle.pool_alloc.specs.declared.pool_core.Settings.{Settings}
@@ -40,6 +41,11 @@ pub slot_planned : (maker : MakerTold) (s : Settings) (i : ℕ) (slot : Slot) �
 slot_planned maker s i slot planned of =
     let Q : Option (List ℕ) → Type 0 = λ o. IsSome o in
     subst Q (sym (ap (λ (z : SlotIdentity). z.plan) of.same)) (planned_part (memory_region i) maker.plan maker.layers planned)
+
+pub table_planned : (maker : MakerTold) (s : Settings) (i : ℕ) (slot : Slot) → IsSome maker.plan → IsPoolTable maker s i slot → IsSome slot.region.plan
+table_planned maker s i slot planned of =
+    let Q : Option (List ℕ) → Type 0 = λ o. IsSome o in
+    subst Q (sym (ap (λ (z : SlotIdentity). z.plan) of.same)) (planned_part (table_region i) maker.plan maker.layers planned)
 
 -- and what they hold.
 pub slot_tells : (maker : MakerTold) (s : Settings) (i : ℕ) (slot : Slot) → maker.tells ≡ true → IsPoolSlot maker s.behaviour s.max_memory_size i slot → is_some slot.region.contents ≡ true

@@ -1,8 +1,8 @@
 -- A step of a call has one outcome, where the maker tells what its regions hold and which of their calls fail, and there is
 -- memory for what is asked.
 use Rattle.std.proofs.Common.{◌≡◌, ℕ, zero, suc, ◌<◌, Bool, true, false, List, [], ◌∷◌, length, Option, Some, None, IsSome, Result, inl, inr, refl, sym, ap, ◌∙◌, subst, arith, is_some}
-use Rattle.std.specs.Prelude.{◌==◌, if◌then◌else◌, IfSome, not, slice_get}
-use Rattle.std.proofs.lemmas.Bool.{ne_eqb}
+use Rattle.std.specs.Prelude.{if◌then◌else◌, IfSome, not, slice_get}
+use Rattle.std.specs.List.{list_any}
 use Rattle.pool_pages.specs.Count.{rounded_up}
 use Rattle.pool_pages.specs.MakerTold.{MakerTold}
 use Rattle.pool_pages.specs.MemoryTypes.{minimum_byte_size}
@@ -16,20 +16,24 @@ use Rattle.pool_limits.specs.LimiterTold.{LimiterTold}
 use Rattle.pool_limits.specs.declared.errors.LimiterError.{LimiterError}
 use Rattle.pool_memory.specs.Making.{minimum_asked, maximum_asked}
 use Rattle.pool_memory.specs.Memories.{slot_of}
-use Rattle.pool_slots.specs.SlotQueues.{Queued, Queue}
+use Rattle.pool_slots.specs.SlotQueues.{Queue, is_to_zero}
 use Rattle.pool_slots.specs.declared.queued_range.QueuedRange.{QueuedRange}
 use Rattle.pool_slots.specs.declared.errors.AllocError.TheVariants as refusal
 use Rattle.pool_alloc.specs.Answers.{Empties, Resets, InstantiatesAs, InstantiatesFor, FollowsPlan, FollowsPlanFor, FollowsReset, AsksForMemory, FlushTold, FlushPlanned, MayBeTold, IsPlanned, AsksOf}
 use Rattle.pool_alloc.specs.Leases.{Lease, slot_taken}
-use Rattle.pool_alloc.specs.Refusals.{memories_refused}
-use Rattle.pool_alloc.specs.Rows.{FlushStep, run, put, free, flush_step, paged, make_memory_row, validated, was_reset, flush_row, row_of}
+use Rattle.pool_alloc.specs.Refusals.{module_refused}
+use Rattle.pool_alloc.specs.Rows.{FlushStep, run, zero as zero_by_hand, put, free, flush_step, settled_step, some_queued, some_freed, paged, make_memory_row, make_table_row, validated, was_reset, flush_row, row_of}
 use Rattle.pool_alloc.specs.Sound.{IsFrame, IsShapedAt, HasSlot}
 use Rattle.pool_alloc.specs.Stepping.{CanStep}
-use Rattle.pool_alloc.specs.Steps.{StepGiven, memories_wanted, image_wanted}
+use Rattle.pool_alloc.specs.Steps.{StepGiven, memories_wanted, tables_wanted, image_wanted}
+use Rattle.pool_alloc.specs.TableSteps.{AsksForTable}
+use Rattle.pool_table.specs.Tables.{type_maximum}
+use Rattle.pool_hall.specs.declared.unit_name.SlotKind.TheVariants.{Memory as memory_kind, Table as table_kind}
+use Rattle.pool_alloc.specs.declared.frame.FreedSlot.{FreedSlot}
 use Rattle.pool_alloc.specs.Turns.{After, Row, goes, failing, stepped}
 use Rattle.pool_alloc.specs.declared.frame.Frame.{Frame}
 use Rattle.pool_alloc.specs.declared.frame.Phase.{Phase}
-use Rattle.pool_alloc.specs.declared.frame.Phase.TheVariants.{Idle, Validate, Empty, Instantiate, MakeMemory, PutBack, Reset, Flush}
+use Rattle.pool_alloc.specs.declared.frame.Phase.TheVariants.{Idle, Validate, Empty, Instantiate, MakeMemory, MakeTable, PutBack, Reset, Flush}
 use Rattle.pool_alloc.specs.declared.frame.TakenSlot.{TakenSlot}
 use Rattle.pool_alloc.specs.declared.frame.Object.TheVariants as object
 use Rattle.pool_slots.specs.declared.slot_name.SlotName.{SlotName}
@@ -40,6 +44,7 @@ use Rattle.pool_run.proofs.Growths.{answer_told}
 use Rattle.pool_run.proofs.SameFlushes.{decommit_same}
 use Rattle.pool_run.proofs.SameMoves.{slot_planned, slot_tells}
 use Rattle.pool_run.proofs.SameSlots.{follow_same, not_same, forgotten_same, one_way}
+use Rattle.pool_run.proofs.TableChanges.{table_answer_told}
 
 -- what holds of the element at a place that is there
 pub at_place : {X A : Type 0} (o : Option X) → IsSome o → ((x : X) → o ≡ Some x → A) → A
@@ -122,20 +127,21 @@ reset_same a b keep at old new other planned one two way also =
 -- a queue has ranges where they are decommitted
 abbrev is_run : FlushStep → Bool
 is_run run = true
-is_run put = false
-is_run free = false
+is_run _ = false
 
-no_run : (slots : List Queued) → (if length slots == 0 then free else put) ≡ run → ⊥
-no_run [] is = let wrong : false ≡ true = ap is_run is in absurd cc
-no_run (m ∷ ms) is =
-    let none : (length (m ∷ ms) == 0) ≡ false = ne_eqb (length (m ∷ ms)) 0 (λ e. omega (arith, e)) in
-    let wrong : false ≡ true = ap (λ (b : Bool). is_run (if b then free else put)) (sym none) ∙ ap is_run is in
+no_run : (a b c d : Bool) → is_run (if a then put memory_kind else (if b then free else (if c then zero_by_hand table_kind else (if d then put table_kind else free)))) ≡ false
+no_run true b c d = refl
+no_run false true c d = refl
+no_run false false true d = refl
+no_run false false false true = refl
+no_run false false false false = refl
+
+runs_some : (local : Queue) (freed : List FreedSlot) (step : FlushStep) → flush_step local freed ≡ step → step ≡ run → local.ranges ≡ [] → ⊥
+runs_some local freed step is runs none =
+    let Step : List QueuedRange → FlushStep = λ rs. flush_step (record local { ranges = rs }) freed in
+    let settled : is_run (settled_step local.slots freed) ≡ false = no_run (some_queued memory_kind local.slots) (some_freed memory_kind freed) (list_any (is_to_zero table_kind) local.slots) (some_queued table_kind local.slots) in
+    let wrong : false ≡ true = sym settled ∙ ap is_run (ap Step (sym none) ∙ is ∙ runs) in
     absurd cc
-
-runs_some : (local : Queue) (step : FlushStep) → flush_step local ≡ step → step ≡ run → local.ranges ≡ [] → ⊥
-runs_some local step is runs none =
-    let Step : List QueuedRange → FlushStep = λ rs. flush_step (record local { ranges = rs }) in
-    no_run local.slots (ap Step (sym none) ∙ is ∙ runs)
 
 module _ {P : Type 0} (c : PoolCore P) (f : Frame P) where
   -- The rows under what comes of these.
@@ -177,10 +183,11 @@ module _ {P : Type 0} (maker : MakerTold) (tells : maker.tells ≡ true) (planne
   allocated : length f.objects.memories.items < length (memories_wanted f.asked) → IsSome (slice_get (memories_wanted f.asked) (length f.objects.memories.items))
   allocated more = get_there (memories_wanted f.asked) (length f.objects.memories.items) more
 
-  flushed_same : (step : FlushStep) (g h : StepGiven) → flush_step f.local ≡ step → FlushTold step g f.local → FlushTold step h f.local → FlushPlanned step g f.local → FlushPlanned step h f.local → flush_row step g.queue c bare ≡ flush_row step h.queue c bare
+  flushed_same : (step : FlushStep) (g h : StepGiven) → flush_step f.local f.freed.items ≡ step → FlushTold step g f.local → FlushTold step h f.local → FlushPlanned step g f.local → FlushPlanned step h f.local → flush_row step g.queue c bare ≡ flush_row step h.queue c bare
   flushed_same run g h is left right one two =
-      ap (λ (q : Queue). flush_row {P = P} run q c bare) (decommit_same maker c.settings g.fault h.fault f.local g.queue h.queue planned frame.queue (runs_some f.local run is refl) left right one two)
-  flushed_same put g h is left right one two = refl
+      ap (λ (q : Queue). flush_row {P = P} run q c bare) (decommit_same maker c.settings g.fault h.fault f.local g.queue h.queue planned frame.queue (runs_some f.local f.freed.items run is refl) left right one two)
+  flushed_same (put kind) g h is left right one two = refl
+  flushed_same (zero_by_hand kind) g h is left right one two = refl
   flushed_same free g h is left right one two = refl
 
   row_same : (g h : StepGiven) (phase : Phase P) → is_test phase ≡ false → IsShapedAt maker c.settings c.plan phase f → IsGivenAt g phase → IsGivenAt h phase → row_of g phase c bare ≡ row_of h phase c bare
@@ -189,7 +196,7 @@ module _ {P : Type 0} (maker : MakerTold) (tells : maker.tells ≡ true) (planne
       paged_same c bare g.fault h.fault at (λ s. Instantiate at s) g.slot h.slot (emptied_same g.fault h.fault held g.slot h.slot (with_plan at.name held shape.2) one.told two.told one.plan two.plan)
   row_same g h (Instantiate at held) test shape one two =
       let image : Option Image = image_wanted f in
-      at_place (slice_get (memories_wanted f.asked) (length f.objects.memories.items)) (allocated shape.1.more)
+      at_place (slice_get (memories_wanted f.asked) (length f.objects.memories.items)) (allocated shape.4)
       (λ decl there.
       let Told : StepGiven → Type 0 = λ x. InstantiatesFor c.settings decl x.fault image held x.slot in
       let Plan : StepGiven → Type 0 = λ x. FollowsPlanFor c.settings decl x.fault image held x.slot in
@@ -200,7 +207,7 @@ module _ {P : Type 0} (maker : MakerTold) (tells : maker.tells ≡ true) (planne
       paged_same c bare g.fault h.fault at (λ s. MakeMemory at s) g.slot h.slot
       (instantiated_same (minimum_byte_size decl.ty) (hides decl.ty c.settings.tunables held.region.page) image held (slot_tells maker c.settings at.name.slot held tells shape.2.region) (with_plan at.name held shape.2) g.fault h.fault g.slot h.slot first second way also))
   row_same g h (MakeMemory at held) test shape one two =
-      at_place (slice_get (memories_wanted f.asked) (length f.objects.memories.items)) (allocated shape.1.more)
+      at_place (slice_get (memories_wanted f.asked) (length f.objects.memories.items)) (allocated shape.4)
       (λ decl there.
       let first : AsksForMemory g.limiter one.old one.new decl = held_of (AsksForMemory g.limiter one.old one.new) _ decl there one.limiter in
       let second : AsksForMemory h.limiter two.old two.new decl = held_of (AsksForMemory h.limiter two.old two.new) _ decl there two.limiter in
@@ -208,10 +215,19 @@ module _ {P : Type 0} (maker : MakerTold) (tells : maker.tells ≡ true) (planne
       let most : Option ℕ = maximum_asked decl.ty in
       let same : g.limiter ≡ h.limiter = answer_told by one.old.rule g.limiter least most one.rule first.answer ∙ sym (answer_told by two.old.rule h.limiter least most two.rule second.answer) in
       ap (λ (r : Result Bool LimiterError). make_memory_row r at held c bare) same)
+  row_same g h (MakeTable at region) test shape one two =
+      let table : length f.objects.tables.items < length (tables_wanted f.asked) = omega (arith, shape.3, shape.1.more, shape.1.to_grant.few) in
+      at_place (slice_get (tables_wanted f.asked) (length f.objects.tables.items)) (get_there (tables_wanted f.asked) (length f.objects.tables.items) table)
+      (λ ty there.
+      let first : AsksForTable g.limiter one.old one.new ty = held_of (AsksForTable g.limiter one.old one.new) _ ty there one.limiter in
+      let second : AsksForTable h.limiter two.old two.new ty = held_of (AsksForTable h.limiter two.old two.new) _ ty there two.limiter in
+      let most : Option ℕ = Some (type_maximum ty) in
+      let same : g.limiter ≡ h.limiter = table_answer_told by one.old.rule g.limiter ty.limits.min most one.rule first.answers ∙ sym (table_answer_told by two.old.rule h.limiter ty.limits.min most two.rule second.answers) in
+      ap (λ (r : Result Bool LimiterError). make_table_row r at region c bare) same)
   row_same g h (Reset (object.Memory lease)) test shape one two =
       was_reset_same c bare g.fault h.fault lease g.slot h.slot
       (reset_same g.fault h.fault c.settings.keep_resident.bytes (slot_taken lease) (slot_of lease.memory) g.slot h.slot (slot_planned maker c.settings lease.index (slot_of lease.memory) planned shape.2.slot) one.told two.told one.plan two.plan)
-  row_same g h Flush test shape one two = flushed_same (flush_step f.local) g h refl one.told two.told one.plan two.plan
+  row_same g h Flush test shape one two = flushed_same (flush_step f.local f.freed.items) g h refl one.told two.told one.plan two.plan
   row_same g h _ test shape one two = refl
 
 module _ {P : Type 0} where
@@ -227,7 +243,7 @@ module _ {P : Type 0} where
 
   -- and one that is: there is memory for the list, or there is none.
   abbrev pub tested : Bool → PoolCore P → Frame P → After P
-  tested wants c f = stepped (validated (memories_refused c.settings (memories_wanted f.asked)) wants c (record f { phase = Idle }))
+  tested wants c f = stepped (validated (module_refused c.settings c.plan.totals.table (memories_wanted f.asked) (tables_wanted f.asked)) wants c (record f { phase = Idle }))
 
   pub step_tests : (rule : GrowthRule) (c : PoolCore P) (f : Frame P) (a : After P) → f.phase ≡ Validate → StepsUnder rule c f a → (wants : Bool) × (a ≡ tested wants c f)
   step_tests rule c f a test steps =

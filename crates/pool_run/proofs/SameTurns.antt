@@ -8,12 +8,14 @@ use Rattle.pool_alloc.specs.Objects.{objects_in}
 use Rattle.pool_alloc.specs.Asked.{ModuleAsked}
 use Rattle.pool_alloc.specs.Calls.{begun_call}
 use Rattle.pool_alloc.specs.Leases.{Lease}
+use Rattle.pool_alloc.specs.TableLeases.{LeasedTable}
+use Rattle.pool_table.specs.declared.gc_store.ListedStore.{ListedStore}
 use Rattle.pool_pages.specs.MakerTold.{MakerTold}
 use Rattle.pool_pages.specs.declared.unsupported.Unsupported.{Unsupported}
-use Rattle.pool_alloc.specs.Refusals.{memories_refused}
+use Rattle.pool_alloc.specs.Refusals.{module_refused}
 use Rattle.pool_alloc.specs.Rows.{validated, row_of}
 use Rattle.pool_alloc.specs.Stages.{stage_of}
-use Rattle.pool_alloc.specs.Steps.{memories_wanted}
+use Rattle.pool_alloc.specs.Steps.{memories_wanted, tables_wanted}
 use Rattle.pool_alloc.specs.Turns.{After, stepped}
 use Rattle.pool_alloc.specs.declared.frame.Phase.{Phase}
 use Rattle.pool_alloc.specs.declared.frame.Phase.TheVariants.{Idle, Validate}
@@ -24,14 +26,14 @@ use Rattle.pool_alloc.specs.declared.frame.Frame.{Frame}
 use Rattle.pool_alloc.specs.declared.frame.Grant.{Grant}
 use Rattle.pool_alloc.specs.declared.frame.Outcome.{Outcome}
 use Rattle.pool_alloc.specs.declared.frame.Outcome.TheVariants as answer
-use Rattle.pool_run.specs.Acts.{MemoryOp, Act, requests, on_memory, drops, act_of}
+use Rattle.pool_run.specs.Acts.{MemoryOp, TableOp, Act, requests, on_memory, on_table, drops, act_of}
 use Rattle.pool_run.specs.Agreeing.{want_of_memory}
 use Rattle.pool_run.specs.Folds.{RunState, commands_of, IsUnderWay}
-use Rattle.pool_run.specs.Objects.{object_at, MovesObject}
+use Rattle.pool_run.specs.Objects.{Objects, object_at, MovesObject}
 use Rattle.pool_run.specs.PartyRules.{rule_of}
 use Rattle.pool_run.specs.Rooms.{World}
 use Rattle.pool_run.specs.Ties.{CanTurn}
-use Rattle.pool_run.specs.Turns.{Turned, Turns, StepsUnder, Opening, rests, replies, makes_step, ended_at_once, answered, after_step, LeaseMoves, memory_leases, OpensRequest, OpensAct, OpensNext, OpensAt, Leaves}
+use Rattle.pool_run.specs.Turns.{Turned, Turns, StepsUnder, Opening, rests, replies, makes_step, ended_at_once, answered, after_step, LeaseMoves, memory_leases, MovesTable, table_leases, OpensRequest, OpensAct, OpensNext, OpensAt, Leaves}
 use Rattle.pool_run.specs.declared.command.Command.{Command}
 use Rattle.pool_run.specs.declared.reply.Reply.{Reply}
 use Rattle.pool_run.specs.declared.reply.Refusal.TheVariants.{Alloc}
@@ -44,10 +46,11 @@ use Rattle.pool_run.proofs.Running.{can_turn}
 use Rattle.pool_run.proofs.SameMoves.{op_same}
 use Rattle.pool_run.proofs.Cleared.{IsClear, IsClearIdle, stepped_clear, clear_is}
 use Rattle.pool_run.proofs.Pending.{PastReply}
+use Rattle.pool_run.proofs.SameTables.{table_same}
 use Rattle.pool_run.proofs.SameSteps.{is_test, step_same, step_tests}
 use Rattle.pool_run.proofs.StageSteps.{is_none, none_idle}
 use Rattle.pool_run.proofs.Stepped.{IsStepped, stepped as stepped_so}
-use Rattle.pool_run.proofs.Sounds.{lease_held}
+use Rattle.pool_run.proofs.Sounds.{lease_held, table_held}
 
 -- whether a phase is the test of a request
 test_is : {P : Type 0} (phase : Phase P) → is_test phase ≡ true → phase ≡ Validate
@@ -92,11 +95,11 @@ module _ {P : Type 0} (w : World) (tells : w.maker.tells ≡ true) (planned : Is
       let first = step_tests (rule_of p.limits) c frame one.0 (test_is frame.phase test) one.1 in
       let second = step_tests (rule_of p.limits) c frame two.0 (test_is frame.phase test) two.1 in
       let After_of : After P → Turned P = λ a. after_step a q in
-      tests_by (memories_refused c.settings (memories_wanted frame.asked)) first.0 second.0 c (record frame { phase = Idle }) q t u (one.2 ∙ ap After_of first.1) (two.2 ∙ ap After_of second.1)
+      tests_by (module_refused c.settings c.plan.totals.table (memories_wanted frame.asked) (tables_wanted frame.asked)) first.0 second.0 c (record frame { phase = Idle }) q t u (one.2 ∙ ap After_of first.1) (two.2 ∙ ap After_of second.1)
 
   leaves_alike : (o : Opening P) (t u : Turned P) → IsOpened w.maker c p o → Leaves o c p t → Leaves o c p u → AreAlike t u
   leaves_alike rests t u is one two = inl (one ∙ sym two)
-  leaves_alike (replies reply live) t u is one two = inl (one ∙ sym two)
+  leaves_alike (replies reply live store) t u is one two = inl (one ∙ sym two)
   leaves_alike (makes_step frame live) t u is one two = let q : RunningParty P = record p { frame = frame; live = live } in step_alike (is_test frame.phase) frame q t u refl (can_step w.maker c q is.can) one two
 
   same_opening : (a b : Opening P) (t u : Turned P) → IsOpened w.maker c p a → a ≡ b → Leaves a c p t → Leaves b c p u → AreAlike t u
@@ -104,15 +107,15 @@ module _ {P : Type 0} (w : World) (tells : w.maker.tells ≡ true) (planned : Is
       let L : Opening P → Type 0 = λ o. Leaves o c p u in
       leaves_alike a t u is one (subst L (sym same) two)
 
-  -- A command on a memory.
-  there : (of k : ℕ) (grant : Grant P) (l : Lease) → slice_index_or p.live of None ≡ Some grant → slice_get (memory_leases.in_grant grant) k ≡ Some l → object_at memory_leases of k p.live ≡ Some l
-  there of k grant l granted is = ap (λ (o : Option (Grant P)). option_and_then (λ g. slice_get (memory_leases.in_grant g) k) o) granted ∙ is
+  -- A command on an object.
+  there : {X : Type 0} (objects : Objects (Grant P) X) (of k : ℕ) (grant : Grant P) (l : X) → slice_index_or p.live of None ≡ Some grant → slice_get (objects.in_grant grant) k ≡ Some l → object_at objects of k p.live ≡ Some l
+  there objects of k grant l granted is = ap (λ (o : Option (Grant P)). option_and_then (λ g. slice_get (objects.in_grant g) k) o) granted ∙ is
 
   -- the replies decide
-  replied_alike : (r q : Reply) (live other : List (Option (Grant P))) (t u : Turned P) → t ≡ ended_at_once r c (record p { live = live }) → u ≡ ended_at_once q c (record p { live = other }) → ((live ≡ other) × (r ≡ q)) ⊎ (((r ≡ want_of_memory) × (q ≢ want_of_memory)) ⊎ ((q ≡ want_of_memory) × (r ≢ want_of_memory))) → AreAlike t u
+  replied_alike : (r q : Reply) (live other : List (Option (Grant P))) (t u : Turned P) → t ≡ ended_at_once r c (record p { live = live; store = p.store }) → u ≡ ended_at_once q c (record p { live = other; store = p.store }) → ((live ≡ other) × (r ≡ q)) ⊎ (((r ≡ want_of_memory) × (q ≢ want_of_memory)) ⊎ ((q ≡ want_of_memory) × (r ≢ want_of_memory))) → AreAlike t u
   replied_alike r q live other t u one two are =
       let Later : Turned P → Type 0 = λ x. PastReply x.reply (stage_of x.party.frame) in
-      let E : Reply → List (Option (Grant P)) → Turned P = λ x ls. ended_at_once x c (record p { live = ls }) in
+      let E : Reply → List (Option (Grant P)) → Turned P = λ x ls. ended_at_once x c (record p { live = ls; store = p.store }) in
       elim are [
         | inl same ↦ inl (one ∙ ap (E r) same.0 ∙ ap (λ (x : Reply). E x other) same.1 ∙ sym two)
         | inr apart ↦
@@ -129,11 +132,11 @@ module _ {P : Type 0} (w : World) (tells : w.maker.tells ≡ true) (planned : Is
         | inl none ↦
             elim (moved memory_leases Move of k p.live other q two) [
               | inl nor ↦ inl (none.same ∙ sym nor.same, none.refused ∙ sym nor.refused)
-              | inr m ↦ let wrong : None ≡ Some m.old = sym none.none ∙ there of k m.grant m.old m.granted m.there in absurd cc
+              | inr m ↦ let wrong : None ≡ Some m.old = sym none.none ∙ there memory_leases of k m.grant m.old m.granted m.there in absurd cc
             ]
         | inr m ↦
             elim (moved memory_leases Move of k p.live other q two) [
-              | inl none ↦ let wrong : None ≡ Some m.old = sym none.none ∙ there of k m.grant m.old m.granted m.there in absurd cc
+              | inl none ↦ let wrong : None ≡ Some m.old = sym none.none ∙ there memory_leases of k m.grant m.old m.granted m.there in absurd cc
               | inr n ↦
                   let grant : m.grant ≡ n.grant = let both : Some m.grant ≡ Some n.grant = sym m.granted ∙ n.granted in cc in
                   let At : Grant P → Type 0 = λ g. slice_get (memory_leases.in_grant g) k ≡ Some n.old in
@@ -147,6 +150,41 @@ module _ {P : Type 0} (w : World) (tells : w.maker.tells ≡ true) (planned : Is
             ]
       ]
 
+  -- of a table and its store
+  pub record AreSameReplies (live other : List (Option (Grant P))) (store left : ListedStore) (r q : Reply) : Type 0 where
+    pub grants : live ≡ other
+    pub calls : store ≡ left
+    pub told : r ≡ q
+
+  tables_same : (op : TableOp) (of k : ℕ) (r q : Reply) (live other : List (Option (Grant P))) (store left : ListedStore) → MovesObject table_leases (MovesTable op (rule_of p.limits) p.store store) of k p.live r live → MovesObject table_leases (MovesTable op (rule_of p.limits) p.store left) of k p.live q other → (object_at table_leases of k p.live ≡ None → store ≡ p.store) → (object_at table_leases of k p.live ≡ None → left ≡ p.store) → AreSameReplies live other store left r q
+  tables_same op of k r q live other store left one two first second =
+      let Move : LeasedTable → LeasedTable → Reply → Type 0 = MovesTable op (rule_of p.limits) p.store store in
+      let Other : LeasedTable → LeasedTable → Reply → Type 0 = MovesTable op (rule_of p.limits) p.store left in
+      elim (moved table_leases Move of k p.live live r one) [
+        | inl none ↦
+            elim (moved table_leases Other of k p.live other q two) [
+              | inl nor ↦ record { grants = none.same ∙ sym nor.same; calls = first none.none ∙ sym (second nor.none); told = none.refused ∙ sym nor.refused }
+              | inr m ↦ let wrong : None ≡ Some m.old = sym none.none ∙ there table_leases of k m.grant m.old m.granted m.there in absurd cc
+            ]
+        | inr m ↦
+            elim (moved table_leases Other of k p.live other q two) [
+              | inl none ↦ let wrong : None ≡ Some m.old = sym none.none ∙ there table_leases of k m.grant m.old m.granted m.there in absurd cc
+              | inr n ↦
+                  let grant : m.grant ≡ n.grant = let both : Some m.grant ≡ Some n.grant = sym m.granted ∙ n.granted in cc in
+                  let At : Grant P → Type 0 = λ g. slice_get (table_leases.in_grant g) k ≡ Some n.old in
+                  let old : m.old ≡ n.old = let both : Some m.old ≡ Some n.old = sym m.there ∙ subst At (sym grant) n.there in cc in
+                  let From : LeasedTable → Type 0 = λ l. Other l n.changed q in
+                  let Put : Grant P → LeasedTable → List (Option (Grant P)) = λ g l. slice_set p.live of (Some (table_leases.put_in k l g)) in
+                  let same = table_same w.maker c.settings c.plan tells m.old (table_held w.maker c p of k m.grant m.old can.party.sound m.granted m.there) op (rule_of p.limits) p.store store left m.changed n.changed r q m.move (subst From (sym old) n.move) in
+                  record { grants = m.is ∙ ap (λ (g : Grant P). Put g m.changed) grant ∙ ap (Put n.grant) same.lease ∙ sym n.is; calls = same.store; told = same.reply }
+            ]
+      ]
+
+  stored_alike : (r q : Reply) (live other : List (Option (Grant P))) (store left : ListedStore) (t u : Turned P) → t ≡ ended_at_once r c (record p { live = live; store = store }) → u ≡ ended_at_once q c (record p { live = other; store = left }) → AreSameReplies live other store left r q → AreAlike t u
+  stored_alike r q live other store left t u one two same =
+      let E : Reply → List (Option (Grant P)) → ListedStore → Turned P = λ x ls s. ended_at_once x c (record p { live = ls; store = s }) in
+      inl (one ∙ ap (λ (ls : List (Option (Grant P))). E r ls store) same.grants ∙ ap (E r other) same.calls ∙ ap (λ (x : Reply). E x other left) same.told ∙ sym two)
+
   -- A request, of which one finds no memory at once, and the other makes its test.
   wants_by : (o : Option Unsupported) (v : Bool) (m : ModuleAsked) (t u : Turned P) → p.frame.phase ≡ Idle → IsClear p.frame.asked p.frame.ending p.frame.queues → t ≡ ended_at_once want_of_memory c p
       → u ≡ after_step (stepped (validated o v c (record (begun_call (call.Module m) p.frame) { phase = Idle }))) (record p { frame = begun_call (call.Module m) p.frame; live = p.live }) → AreAlike t u
@@ -156,12 +194,12 @@ module _ {P : Type 0} (w : World) (tells : w.maker.tells ≡ true) (planned : Is
   wants_by None false m t u idle clear one two =
       inr (inl (record { wants = ap (λ (x : Turned P). x.reply) one; later = subst (λ (x : Turned P). PastReply x.reply (stage_of x.party.frame)) (sym two) tt }))
 
-  wants_or_tests : (m : ModuleAsked) (t u : Turned P) → p.frame.phase ≡ Idle → IsClear p.frame.asked p.frame.ending p.frame.queues → Leaves (replies want_of_memory p.live) c p t → Leaves (makes_step (begun_call (call.Module m) p.frame) p.live) c p u → AreAlike t u
+  wants_or_tests : (m : ModuleAsked) (t u : Turned P) → p.frame.phase ≡ Idle → IsClear p.frame.asked p.frame.ending p.frame.queues → Leaves (replies want_of_memory p.live p.store) c p t → Leaves (makes_step (begun_call (call.Module m) p.frame) p.live) c p u → AreAlike t u
   wants_or_tests m t u idle clear one two =
       let frame : Frame P = begun_call (call.Module m) p.frame in
       let q : RunningParty P = record p { frame = frame; live = p.live } in
       let test = step_tests (rule_of p.limits) c frame two.0 refl two.1 in
-      wants_by (memories_refused c.settings (memories_wanted frame.asked)) test.0 m t u idle clear one (two.2 ∙ ap (λ (a : After P). after_step a q) test.1)
+      wants_by (module_refused c.settings c.plan.totals.table (memories_wanted frame.asked) (tables_wanted frame.asked)) test.0 m t u idle clear one (two.2 ∙ ap (λ (a : After P). after_step a q) test.1)
 
   request_alike : (kept : Option ModuleAsked) (a b : Opening P) (t u : Turned P) → p.frame.phase ≡ Idle → IsClear p.frame.asked p.frame.ending p.frame.queues → IsOpened w.maker c p a → OpensRequest kept p a → OpensRequest kept p b → Leaves a c p t → Leaves b c p u → AreAlike t u
   request_alike None a b t u idle clear is one two first second = absurd one
@@ -185,6 +223,9 @@ module _ {P : Type 0} (w : World) (tells : w.maker.tells ≡ true) (planned : Is
   act_alike modules (on_memory of k op) a b t u idle clear is one two first second =
       let L : Turned P → Opening P → Type 0 = λ x o. Leaves o c p x in
       replied_alike one.0 two.0 one.1 two.1 t u (subst (L t) one.3 first) (subst (L u) two.3 second) (moves_alike op of k one.0 two.0 one.1 two.1 one.2 two.2)
+  act_alike modules (on_table of k op) a b t u idle clear is one two first second =
+      let L : Turned P → Opening P → Type 0 = λ x o. Leaves o c p x in
+      stored_alike one.0 two.0 one.1 two.1 one.2 two.2 t u (subst (L t) one.5 first) (subst (L u) two.5 second) (tables_same op of k one.0 two.0 one.1 two.1 one.2 two.2 one.3 two.3 one.4 two.4)
   act_alike modules (drops of) a b t u idle clear is one two first second = same_opening a b t u is (one ∙ sym two) first second
 
   next_alike : (modules : List ModuleAsked) (next : Option Command) (keyed : Bool) (a b : Opening P) (t u : Turned P) → p.frame.phase ≡ Idle → IsClear p.frame.asked p.frame.ending p.frame.queues → IsOpened w.maker c p a → OpensNext modules next keyed p a → OpensNext modules next keyed p b → Leaves a c p t → Leaves b c p u → AreAlike t u
@@ -216,7 +257,7 @@ module _ {P : Type 0} (maker : MakerTold) (c : PoolCore P) (p : RunningParty P) 
 
   leaves_clear : (o : Opening P) (t : Turned P) → IsOpened maker c p o → IsClearIdle p.frame → Leaves o c p t → IsClearIdle t.party.frame
   leaves_clear rests t is clear leaves = let C : Turned P → Type 0 = λ x. IsClearIdle x.party.frame in subst C (sym leaves) clear
-  leaves_clear (replies reply live) t is clear leaves = let C : Turned P → Type 0 = λ x. IsClearIdle x.party.frame in subst C (sym leaves) clear
+  leaves_clear (replies reply live store) t is clear leaves = let C : Turned P → Type 0 = λ x. IsClearIdle x.party.frame in subst C (sym leaves) clear
   leaves_clear (makes_step frame live) t is clear leaves =
       let q : RunningParty P = record p { frame = frame; live = live } in
       let F : Frame P → Type 0 = λ f. IsClearIdle f in

@@ -1,6 +1,6 @@
 -- What a turn leaves is sound where what its calls leave is.
 use Rattle.std.proofs.Common.{◌≡◌, ℕ, List, Option, Some, None, sym, subst, All}
-use Rattle.std.specs.Prelude.{IfSome, slice_get, slice_set, slice_index_or}
+use Rattle.std.specs.Prelude.{IfSome, slice_get, slice_index_or}
 use Rattle.std.proofs.lemmas.List.Elements.{All-set, All-get_or}
 use Rattle.std.proofs.lemmas.Option.{slice_get_within, get_or_from_slice_get}
 use Rattle.pool_limits.specs.LimiterTold.{LimiterTold}
@@ -8,6 +8,8 @@ use Rattle.pool_pages.specs.MakerTold.{MakerTold}
 use Rattle.pool_alloc.specs.Asked.{ModuleAsked}
 use Rattle.pool_alloc.specs.Calls.{IsIdle, IsGrant, IsGrantOf, IfGranted}
 use Rattle.pool_alloc.specs.Leases.{Lease}
+use Rattle.pool_alloc.specs.PoolTables.{IsTableLease}
+use Rattle.pool_alloc.specs.TableLeases.{LeasedTable}
 use Rattle.pool_alloc.specs.Sound.{IsCore, IsFrame, IsShapedAt, IsLeaseOf}
 use Rattle.pool_alloc.specs.Turns.{After}
 use Rattle.pool_alloc.specs.declared.pool_core.PoolCore.{PoolCore}
@@ -19,7 +21,7 @@ use Rattle.pool_alloc.specs.declared.frame.Grant.TheVariants.{Instance as instan
 use Rattle.pool_alloc.specs.declared.frame.Outcome.{Outcome}
 use Rattle.pool_alloc.specs.declared.frame.Outcome.TheVariants as answer
 use Rattle.pool_alloc.specs.declared.lease.InstanceLease.{InstanceLease}
-use Rattle.pool_run.specs.Turns.{Turned, leases_of, with_lease, one_step, ended_at_once, answered, after_step}
+use Rattle.pool_run.specs.Turns.{Turned, leases_of, tables_of, one_step, ended_at_once, answered, after_step}
 use Rattle.pool_run.specs.Ties.{IsSoundParty}
 use Rattle.pool_run.specs.declared.reply.Reply.{Reply}
 use Rattle.pool_run.specs.declared.running_party.RunningParty.{RunningParty}
@@ -62,27 +64,25 @@ module _ {P : Type 0} where
       let Granted : Settings → Plan → Type 0 = λ s plan. IfGranted (IsGrant maker s plan) a.outcome in
       answered_sound maker c p a.core a.frame a.outcome (over_size Grants c a.core on.size sound.grants) on.core on.frame (over_size Granted c a.core on.size (granted_any maker c.settings c.plan p.frame.asked a.outcome on.granted))
 
-  -- So does a command that ends at once,
+  -- So does a command that ends at once.
   pub reply_sound : (maker : MakerTold) (c : PoolCore P) (p : RunningParty P) (reply : Reply) → IsCore maker c → IsIdle p.frame → IsSoundParty maker c p → IsSoundTurn maker (ended_at_once reply c p)
   reply_sound maker c p reply core idle sound =
       let Shaped : Phase P → Type 0 = λ phase. IsShapedAt maker c.settings c.plan phase (one_step p.frame) in
       let rest : Shaped p.frame.phase = subst Shaped (sym idle) (at_rest maker c.settings c.plan p.frame sound.frame idle) in
       record { core = core; party = record { frame = frame_of maker c.settings c.plan (one_step p.frame) (held_of maker c.settings c.plan p.frame sound.frame) rest; grants = sound.grants } }
 
-  -- and a move of a memory that stays one of the pool.
-  pub move_sound : (maker : MakerTold) (c : PoolCore P) (p : RunningParty P) (of k : ℕ) (lease : InstanceLease P) (new : Lease) → IsSoundParty maker c p → slice_index_or p.live of None ≡ Some (instance lease) → IsLeaseOf maker c.settings c.plan new → IsSoundParty maker c (record p { live = slice_set p.live of (Some (with_lease k new (instance lease))) })
-  move_sound maker c p of k lease new sound has still =
-      record {
-        frame = sound.frame;
-        grants = All-set (λ g. IfSome g (IsGrant maker c.settings c.plan)) p.live of (Some (with_lease k new (instance lease))) (All-set (IsLeaseOf maker c.settings c.plan) lease.memories.items k new still (live_grant maker c.settings c.plan p.live of (instance lease) sound.grants has)) sound.grants;
-      }
-
   -- The memory that moves was one.
   pub lease_there : (maker : MakerTold) (c : PoolCore P) (p : RunningParty P) (of k : ℕ) (lease : InstanceLease P) (l : Lease) → IsSoundParty maker c p → slice_index_or p.live of None ≡ Some (instance lease) → slice_get lease.memories.items k ≡ Some l → IsLeaseOf maker c.settings c.plan l
   lease_there maker c p of k lease l sound has there =
       let items : List Lease = lease.memories.items in
       let L : Lease → Type 0 = IsLeaseOf maker c.settings c.plan in
-      subst L (get_or_from_slice_get items k l l there) (All-get_or L items k l (slice_get_within items k l there) (live_grant maker c.settings c.plan p.live of (instance lease) sound.grants has))
+      subst L (get_or_from_slice_get items k l l there) (All-get_or L items k l (slice_get_within items k l there) (live_grant maker c.settings c.plan p.live of (instance lease) sound.grants has).0)
 
   pub lease_held : (maker : MakerTold) (c : PoolCore P) (p : RunningParty P) (of k : ℕ) (grant : Grant P) (l : Lease) → IsSoundParty maker c p → slice_index_or p.live of None ≡ Some grant → slice_get (leases_of grant) k ≡ Some l → IsLeaseOf maker c.settings c.plan l
   lease_held maker c p of k (instance lease) l sound has there = lease_there maker c p of k lease l sound has there
+
+  pub table_held : (maker : MakerTold) (c : PoolCore P) (p : RunningParty P) (of k : ℕ) (grant : Grant P) (l : LeasedTable) → IsSoundParty maker c p → slice_index_or p.live of None ≡ Some grant → slice_get (tables_of grant) k ≡ Some l → IsTableLease maker c.settings c.plan l
+  table_held maker c p of k (instance lease) l sound has there =
+      let items : List LeasedTable = lease.tables.items in
+      let L : LeasedTable → Type 0 = IsTableLease maker c.settings c.plan in
+      subst L (get_or_from_slice_get items k l l there) (All-get_or L items k l (slice_get_within items k l there) (live_grant maker c.settings c.plan p.live of (instance lease) sound.grants has).1)

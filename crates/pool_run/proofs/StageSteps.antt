@@ -1,13 +1,13 @@
 -- How a step takes a party's call from one stage to another: what follows of the stages alone.
 use Rattle.std.proofs.Common.{◌≡◌, ℕ, ◌+◌, ◌≤◌, Bool, true, false, Option, Some, None, refl, ap, arith}
-use Rattle.std.specs.Prelude.{◌&&◌, not, is_some, length}
+use Rattle.std.specs.Prelude.{◌&&◌, not, is_some}
 use Rattle.pool_pages.specs.MakerTold.{MakerTold}
 use Rattle.pool_limits.specs.LimiterTold.{LimiterTold}
 use Rattle.pool_alloc.specs.Calls.{IfGranted}
 use Rattle.pool_alloc.specs.Places.{phase_instances}
 use Rattle.pool_alloc.specs.Stages.{Progress, untested, uncounted, admitted, Stage, no_call, keys, asks, returning, refusing, stage_by, stage_at, Follows, Goes}
 use Rattle.pool_alloc.specs.Stepping.{is_idle, count_granted, grant_instances}
-use Rattle.pool_alloc.specs.Steps.{memories_wanted}
+use Rattle.pool_alloc.specs.Objects.{objects_wanted}
 use Rattle.pool_alloc.specs.declared.pool_core.PoolCore.{PoolCore}
 use Rattle.pool_alloc.specs.declared.frame.Ending.{Ending}
 use Rattle.pool_alloc.specs.declared.frame.Ending.TheVariants as ending
@@ -134,7 +134,7 @@ module _ {P : Type 0} (maker : MakerTold) (old new : LimiterTold) (c : PoolCore 
   admits others (asks p) (asks q) None goes within counted = record { within = omega (arith, followed_within others p q goes within counted) }
   admits others (asks p) (refusing e) None goes within counted = record { within = omega (arith, within) }
   admits others (asks untested) no_call (Some (answer.Refused e)) goes within counted = record { within = omega (arith, within) }
-  admits others (asks p) no_call (Some (answer.Granted (instance lease))) goes within counted = record { within = omega (arith, granted_within others (length (memories_wanted f.asked)) p goes.0 within counted) }
+  admits others (asks p) no_call (Some (answer.Granted (instance lease))) goes within counted = record { within = omega (arith, granted_within others (objects_wanted f.asked) p goes.0 within counted) }
   admits others returning returning None goes within counted = record { within = omega (arith, within) }
   admits others returning no_call (Some answer.Returned) goes within counted = record { within = omega (arith, within) }
   admits others (refusing e) (refusing d) None goes within counted = record { within = omega (arith, within) }

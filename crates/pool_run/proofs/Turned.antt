@@ -12,8 +12,10 @@ use Rattle.pool_alloc.specs.declared.frame.Grant.{Grant}
 use Rattle.pool_alloc.specs.declared.frame.Outcome.{Outcome}
 use Rattle.pool_alloc.specs.declared.frame.Outcome.TheVariants as answer
 use Rattle.pool_alloc.specs.declared.frame.Phase.{Phase}
+use Rattle.pool_table.specs.declared.gc_store.ListedStore.{ListedStore}
 use Rattle.pool_run.specs.Rooms.{World}
-use Rattle.pool_run.specs.Turns.{Turned, one_step, ended_at_once, answered, Steps, Turns, Opening, rests, replies, makes_step, Leaves}
+use Rattle.pool_run.specs.PartyRules.{host_of}
+use Rattle.pool_run.specs.Turns.{Turned, host_of_party, one_step, ended_at_once, answered, Steps, Turns, Opening, rests, replies, makes_step, Leaves}
 use Rattle.pool_run.specs.Ties.{CanTurn, is_asking}
 use Rattle.pool_run.proofs.Sounds.{reply_sound, step_sound, IsSoundTurn}
 use Rattle.pool_run.specs.Worlds.{AreCallsFor}
@@ -24,7 +26,7 @@ use Rattle.pool_run.proofs.Parties.{can_step}
 use Rattle.std.proofs.lemmas.List.{length-set, get_or-set_other}
 use Rattle.std.proofs.lemmas.List.Sums.{sum_by-set}
 use Rattle.pool_alloc.specs.Places.{Thing, kept_count, away_count}
-use Rattle.pool_alloc.specs.Stepping.{Conserves, IsSameSize, grant_count, grant_instances, grant_memories}
+use Rattle.pool_alloc.specs.Stepping.{Conserves, IsSameSize, grant_count, grant_instances, grant_memories, grant_tables}
 use Rattle.pool_run.specs.Ties.{granted_to, held_by_party}
 use Rattle.pool_run.proofs.Parties.{HaveSame}
 use Rattle.pool_run.proofs.Opened.{IsOpened, opened}
@@ -40,9 +42,10 @@ module _ {P : Type 0} where
     pub places : (x : Thing) → kept_count x t.core + (held_by_party t.party).places x + away_count x c ≡ kept_count x c + (held_by_party p).places x + away_count x t.core
     pub instances : t.core.counters.core_instances + (held_by_party p).instances ≡ c.counters.core_instances + (held_by_party t.party).instances
     pub memories : t.core.counters.memories + (held_by_party p).memories ≡ c.counters.memories + (held_by_party t.party).memories
+    pub tables : t.core.counters.tables + (held_by_party p).tables ≡ c.counters.tables + (held_by_party t.party).tables
     pub size : IsSameSize c t.core
     pub room : length t.party.live ≡ length p.live
-    pub limits : t.party.limits ≡ p.limits
+    pub host : host_of_party t.party ≡ host_of_party p
     pub to_come : (k : ℕ) → t.party.done ≤ k → slice_index_or t.party.live k None ≡ None
     pub place : is_asking (stage_of t.party.frame) ≡ true → t.party.done < length t.party.live
     pub searched : IsSearched c p.frame → IsSearched t.core t.party.frame
@@ -52,17 +55,18 @@ module _ {P : Type 0} where
 
   -- Nothing happened.
   stayed : (c : PoolCore P) (p : RunningParty P) → ((k : ℕ) → p.done ≤ k → slice_index_or p.live k None ≡ None) → (is_asking (stage_of p.frame) ≡ true → p.done < length p.live) → HasTurned c p (record { core = c; party = p; reply = None })
-  stayed c p to_come place = record { places = λ x. refl; instances = refl; memories = refl; size = same_size c; room = refl; limits = refl; to_come = to_come; place = place; searched = λ s. s }
+  stayed c p to_come place = record { places = λ x. refl; instances = refl; memories = refl; tables = refl; size = same_size c; room = refl; host = refl; to_come = to_come; place = place; searched = λ s. s }
 
   -- A command ended at once, and the party has the same of the pool.
-  ended : (c : PoolCore P) (p : RunningParty P) (live : List (Option (Grant P))) (reply : Reply) → HaveSame p (record p { live = live }) → length live ≡ length p.live → ((k : ℕ) → p.done ≤ k → slice_index_or live k None ≡ None) → IsIdle p.frame → HasTurned c p (ended_at_once reply c (record p { live = live }))
-  ended c p live reply same room to_come idle = record {
+  ended : (c : PoolCore P) (p : RunningParty P) (live : List (Option (Grant P))) (store : ListedStore) (reply : Reply) → HaveSame p (record p { live = live }) → length live ≡ length p.live → ((k : ℕ) → p.done ≤ k → slice_index_or live k None ≡ None) → IsIdle p.frame → store.failing ≡ p.store.failing → HasTurned c p (ended_at_once reply c (record p { live = live; store = store }))
+  ended c p live store reply same room to_come idle listed = record {
     places = λ x. omega (arith, same.places x);
     instances = omega (arith, same.instances);
     memories = omega (arith, same.memories);
+    tables = omega (arith, same.tables);
     size = same_size c;
     room = room;
-    limits = refl;
+    host = ap (host_of p.limits) listed;
     to_come = λ k behind. to_come k (omega (arith, behind));
     place = λ is. settled_place (stage_of p.frame) (ap (λ (phase : Phase P). stage_at phase p.frame.ending (objects_in p.frame.objects)) idle) is;
     searched = λ s. let S : Phase P → Type 0 = λ phase. IsSearchedAt phase c (one_step p.frame) in subst S (sym idle) tt;
@@ -79,9 +83,10 @@ module _ {P : Type 0} where
     places = λ x. omega (arith, b.places x);
     instances = omega (arith, b.instances);
     memories = omega (arith, b.memories);
+    tables = omega (arith, b.tables);
     size = size;
     room = refl;
-    limits = refl;
+    host = refl;
     to_come = to_come;
     place = λ is. place (staged.asking is);
     searched = after;
@@ -90,9 +95,10 @@ module _ {P : Type 0} where
     places = λ x. omega (arith, b.places x);
     instances = omega (arith, b.instances);
     memories = omega (arith, b.memories);
+    tables = omega (arith, b.tables);
     size = size;
     room = refl;
-    limits = refl;
+    host = refl;
     to_come = to_come;
     place = λ is. settled_place (stage_of f) (staged.settled refl) is;
     searched = after;
@@ -103,9 +109,10 @@ module _ {P : Type 0} where
         places = λ x. omega (arith, b.places x, more (grant_count x) p.live p.done grant (place staged.granted) none);
         instances = omega (arith, b.instances, more grant_instances p.live p.done grant (place staged.granted) none);
         memories = omega (arith, b.memories, more grant_memories p.live p.done grant (place staged.granted) none);
+        tables = omega (arith, b.tables, more grant_tables p.live p.done grant (place staged.granted) none);
         size = size;
         room = length-set p.live p.done (Some grant);
-        limits = refl;
+        host = refl;
         to_come = λ k behind. get_or-set_other p.live p.done k (Some grant) None (λ is. omega (arith, is, behind)) ∙ to_come k (omega (arith, behind));
         place = λ is. settled_place (stage_of f) (staged.settled refl) is;
         searched = after;
@@ -114,9 +121,10 @@ module _ {P : Type 0} where
     places = λ x. omega (arith, b.places x);
     instances = omega (arith, b.instances);
     memories = omega (arith, b.memories);
+    tables = omega (arith, b.tables);
     size = size;
     room = refl;
-    limits = refl;
+    host = refl;
     to_come = λ k behind. to_come k (omega (arith, behind));
     place = λ is. settled_place (stage_of f) (staged.settled refl) is;
     searched = after;
@@ -125,9 +133,10 @@ module _ {P : Type 0} where
     places = λ x. omega (arith, b.places x);
     instances = omega (arith, b.instances);
     memories = omega (arith, b.memories);
+    tables = omega (arith, b.tables);
     size = size;
     room = refl;
-    limits = refl;
+    host = refl;
     to_come = λ k behind. to_come k (omega (arith, behind));
     place = λ is. settled_place (stage_of f) (staged.settled refl) is;
     searched = after;
@@ -141,14 +150,15 @@ module _ {P : Type 0} where
       subst (HasTurned c p) (sym steps.2) (answered_turned c p a.core a.frame a.outcome can.party.to_come on.conserves on.size on.staged can.party.place on.searched)
 
   -- The same from a party with as much of the pool.
-  turned_from : (c : PoolCore P) (p q : RunningParty P) (t : Turned P) → HaveSame p q → length q.live ≡ length p.live → q.limits ≡ p.limits → (IsSearched c p.frame → IsSearched c q.frame) → HasTurned c q t → HasTurned c p t
-  turned_from c p q t same room limits searching turned = record {
+  turned_from : (c : PoolCore P) (p q : RunningParty P) (t : Turned P) → HaveSame p q → length q.live ≡ length p.live → host_of_party q ≡ host_of_party p → (IsSearched c p.frame → IsSearched c q.frame) → HasTurned c q t → HasTurned c p t
+  turned_from c p q t same room host searching turned = record {
     places = λ x. omega (arith, turned.places x, same.places x);
     instances = omega (arith, turned.instances, same.instances);
     memories = omega (arith, turned.memories, same.memories);
+    tables = omega (arith, turned.tables, same.tables);
     size = turned.size;
     room = turned.room ∙ room;
-    limits = turned.limits ∙ limits;
+    host = turned.host ∙ host;
     to_come = turned.to_come;
     place = turned.place;
     searched = λ s. turned.searched (searching s);
@@ -157,13 +167,13 @@ module _ {P : Type 0} where
 module _ {P : Type 0} (maker : MakerTold) (c : PoolCore P) (p : RunningParty P) (can : CanTurn maker c p) where
   follows_turned : (o : Opening P) (t : Turned P) → IsOpened maker c p o → Leaves o c p t → HasTurned c p t
   follows_turned rests t is follows = subst (HasTurned c p) (sym follows) (stayed c p can.party.to_come can.party.place)
-  follows_turned (replies reply live) t is follows = subst (HasTurned c p) (sym follows) (ended c p live reply is.same is.room is.to_come is.idle)
+  follows_turned (replies reply live store) t is follows = subst (HasTurned c p) (sym follows) (ended c p live store reply is.same is.room is.to_come is.idle is.listed)
   follows_turned (makes_step frame live) t is follows = turned_from c p (record p { frame = frame; live = live }) t is.same is.room refl is.searched (step_turned maker c (record p { frame = frame; live = live }) t is.can follows)
 
   -- What it leaves is sound.
   follows_sound : (o : Opening P) (t : Turned P) → IsOpened maker c p o → Leaves o c p t → IsSoundTurn maker t
   follows_sound rests t is leaves = subst (IsSoundTurn maker) (sym leaves) (record { core = can.core; party = can.party.sound })
-  follows_sound (replies reply live) t is leaves = subst (IsSoundTurn maker) (sym leaves) (reply_sound maker c (record p { live = live }) reply can.core is.idle is.sound)
+  follows_sound (replies reply live store) t is leaves = subst (IsSoundTurn maker) (sym leaves) (reply_sound maker c (record p { live = live; store = store }) reply can.core is.idle (record { frame = is.sound.frame; grants = is.sound.grants }))
   follows_sound (makes_step frame live) t is leaves =
       let q : RunningParty P = record p { frame = frame; live = live } in
       let on : IsStepped maker leaves.1.0 leaves.1.1 c frame leaves.0 = stepped maker leaves.1.0 leaves.1.1 c frame leaves.0 (can_step maker c q is.can) leaves.1.3 in

@@ -12,7 +12,7 @@ use Rattle.pool_alloc.specs.declared.frame.Outcome.{Outcome}
 use Rattle.pool_alloc.specs.declared.frame.Outcome.TheVariants as answer
 use Rattle.pool_run.specs.PartyRules.{rule_of}
 use Rattle.pool_run.specs.Acts.{Act, act_of, act_at}
-use Rattle.pool_run.specs.Private.{Grants, MovesGrants, with_grants}
+use Rattle.pool_run.specs.Private.{Grants, PrivateState, Moves, with_grants}
 use Rattle.pool_run.specs.Rooms.{World, PooledStep, TellsOfPool}
 use Rattle.pool_run.specs.Turns.{Turned, with_reply, grants_of, granted_reply, answered, Steps}
 use Rattle.pool_run.specs.Ties.{granted_to, TiedAs, IsPrivate, CanTurn, IsAlone}
@@ -22,7 +22,7 @@ use Rattle.pool_run.specs.declared.reply.Reply.{Reply}
 use Rattle.pool_run.specs.declared.reply.Reply.TheVariants.{Refused, Returned}
 use Rattle.pool_run.specs.declared.reply.Refusal.TheVariants.{Alloc}
 use Rattle.pool_run.specs.declared.running_party.RunningParty.{RunningParty}
-use Rattle.pool_run.proofs.Grants.{one_more}
+use Rattle.pool_run.proofs.Grants.{state_of, one_more}
 use Rattle.pool_run.proofs.Parties.{can_step}
 use Rattle.pool_run.proofs.Tied.{TiedBy, tied_by}
 use Rattle.pool_run.proofs.StageSteps.{is_none, none_idle, uncounted_none}
@@ -48,21 +48,27 @@ module _ {P : Type 0} where
   abbrev pub SeesTurn : World → Grants → List Command → List Reply → Turned P → Type 0
   SeesTurn w start commands before t = IsPrivate w start commands (with_reply t.reply before) t.party
 
+  -- what a party with these grants may see
+  abbrev told_by : RunningParty P → Grants → PrivateState
+  told_by p grants = state_of grants p.store.made
+
   -- One reply more, after which no call is under way.
-  pub replied : (w : World) (start : Grants) (commands : List Command) (before : List Reply) (p q : RunningParty P) (act : Act) (reply : Reply) (private : IsPrivate w start commands before p) → q.done ≡ p.done + 1 → stage_of q.frame ≡ no_call → act_at commands p.done ≡ Some act → MovesGrants w.terms p.done private.grants act reply (grants_of q.live) → TellsOfPool w private.grants act reply → IsPrivate w start commands (before ++ reply ∷ []) q
+  pub replied : (w : World) (start : Grants) (commands : List Command) (before : List Reply) (p q : RunningParty P) (act : Act) (reply : Reply) (private : IsPrivate w start commands before p) → q.done ≡ p.done + 1 → stage_of q.frame ≡ no_call → act_at commands p.done ≡ Some act → Moves w.terms p.done (told_by p private.grants) act reply (told_by q (grants_of q.live)) → TellsOfPool w private.grants act reply → IsPrivate w start commands (before ++ reply ∷ []) q
   replied w start commands before p q act reply private done settled next moves pool =
       let found = command_at (slice_get commands p.done) act next in
       let command : Command = found.0 in
-      let Moves : Act → Type 0 = λ a. MovesGrants w.terms p.done private.grants a reply (grants_of q.live) in
+      let old : PrivateState = told_by p private.grants in
+      let new : PrivateState = told_by q (grants_of q.live) in
+      let Does : Act → Type 0 = λ a. Moves w.terms p.done old a reply new in
       let Tells : Act → Type 0 = λ a. TellsOfPool w private.grants a reply in
       let Next : ℕ → Type 0 = λ n. slice_get commands n ≡ Some command in
-      let Step : ℕ → Type 0 = λ n. PooledStep w n (with_grants private.grants) command reply (with_grants (grants_of q.live)) in
-      let step : Step p.done = record { private = record { moves = subst Moves (sym found.2) moves; stores = refl; heaps = refl }; pool = subst Tells (sym found.2) pool } in
+      let Step : ℕ → Type 0 = λ n. PooledStep w n old command reply new in
+      let step : Step p.done = record { private = subst Does (sym found.2) moves; pool = subst Tells (sym found.2) pool } in
       let Tied : Stage → Type 0 = λ s. TiedAs w s commands q.done q.frame.asked (grants_of q.live) (grants_of q.live) in
       let place : p.done ≡ 0 + length before = omega (arith, private.count) in
       record {
         grants = grants_of q.live;
-        run = one_more (PooledStep w) 0 commands before command reply (with_grants start) (with_grants private.grants) (with_grants (grants_of q.live)) private.run (subst Next (sym private.count) found.1) (subst Step place step);
+        run = one_more (PooledStep w) 0 commands before command reply (with_grants start) old new private.run (subst Next (sym private.count) found.1) (subst Step place step);
         count = omega (arith, length_push before reply, private.count, done);
         tied = subst Tied (sym settled) refl;
       }
@@ -71,9 +77,9 @@ module _ {P : Type 0} where
   answered_private : (w : World) (start : Grants) (commands : List Command) (before : List Reply) (c : PoolCore P) (p : RunningParty P) (f : Frame P) (o : Option (Outcome P)) (private : IsPrivate w start commands before p) → (is_some o ≡ true → stage_of f ≡ no_call) → TiedBy w commands p.done p.live private.grants (stage_of f) f.asked o → SeesTurn w start commands before (answered o c (record p { frame = f }))
   answered_private w start commands before c p f None private settled tied = record { grants = private.grants; run = private.run; count = private.count; tied = tied }
   answered_private w start commands before c p f (Some answer.Key) private settled tied = record { grants = private.grants; run = private.run; count = private.count; tied = tied }
-  answered_private w start commands before c p f (Some (answer.Granted grant)) private settled tied = replied w start commands before p (record p { frame = f; live = slice_set p.live p.done (Some grant); done = p.done + 1 }) tied.act (granted_reply grant) private refl (settled refl) tied.next tied.moves tied.pool
-  answered_private w start commands before c p f (Some answer.Returned) private settled tied = replied w start commands before p (record p { frame = f; done = p.done + 1 }) tied.act Returned private refl (settled refl) tied.next tied.moves tied.pool
-  answered_private w start commands before c p f (Some (answer.Refused e)) private settled tied = replied w start commands before p (record p { frame = f; done = p.done + 1 }) tied.act (Refused (Alloc e)) private refl (settled refl) tied.next tied.moves tied.pool
+  answered_private w start commands before c p f (Some (answer.Granted grant)) private settled tied = replied w start commands before p (record p { frame = f; live = slice_set p.live p.done (Some grant); done = p.done + 1 }) tied.act (granted_reply grant) private refl (settled refl) tied.next (tied.moves p.store.made) tied.pool
+  answered_private w start commands before c p f (Some answer.Returned) private settled tied = replied w start commands before p (record p { frame = f; done = p.done + 1 }) tied.act Returned private refl (settled refl) tied.next (tied.moves p.store.made) tied.pool
+  answered_private w start commands before c p f (Some (answer.Refused e)) private settled tied = replied w start commands before p (record p { frame = f; done = p.done + 1 }) tied.act (Refused (Alloc e)) private refl (settled refl) tied.next (tied.moves p.store.made) tied.pool
 
   -- what is granted isn't the party's yet, and is made once
   apart : (c : PoolCore P) (f : Frame P) (live : List (Option (Grant P))) (a : After P) (o : Option (Outcome P)) → o ≡ a.outcome → ((t : Thing) → kept_count t c + (frame_count t f + sum_by (granted_to (grant_count t)) live) ≤ away_count t c) → Conserves c f a → ((name : SlotName) → away_count (right_to name) a.core ≤ made_slot name.slot (of_kind name.kind c.plan.totals)) → IfGranted (λ g. (name : SlotName) → grant_count (right_to name) g + sum_by (granted_to (grant_count (right_to name))) live ≤ made_slot name.slot (of_kind name.kind c.plan.totals)) o
@@ -87,7 +93,7 @@ module _ {P : Type 0} where
   apart c f live a (Some (answer.Refused e)) is once b most = tt
 
   -- A step of the call under way.
-  pub step_private : (w : World) (start : Grants) (commands : List Command) (before : List Reply) (c : PoolCore P) (p : RunningParty P) (t : Turned P) → IsPrivate w start commands before p → IsWorldOf w c → CanTurn w.maker c p → (w.alone ≡ true → IsAlone c p.frame p.live) → rule_of p.limits ≡ w.terms.rule → Steps c p t → SeesTurn w start commands before t
+  pub step_private : (w : World) (start : Grants) (commands : List Command) (before : List Reply) (c : PoolCore P) (p : RunningParty P) (t : Turned P) → IsPrivate w start commands before p → IsWorldOf w c → CanTurn w.maker c p → (w.alone ≡ true → IsAlone c p.frame p.live) → rule_of p.limits ≡ w.terms.host.rule → Steps c p t → SeesTurn w start commands before t
   step_private w start commands before c p t private world can alone ruled steps =
       let a : After P = steps.0 in
       let f : Frame P = p.frame in

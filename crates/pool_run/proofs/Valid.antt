@@ -1,10 +1,11 @@
 -- What an input has that can be run.
-use Rattle.std.proofs.Common.{◌≡◌, ℕ, ◌<◌, ◌≤◌, [], length, Some, Bool, true, ◌&&◌}
+use Rattle.std.proofs.Common.{◌≡◌, ℕ, ◌<◌, ◌≤◌, ◌^◌, [], length, Some, Bool, true, ◌&&◌, arith}
+use Rattle.pool_pages.specs.declared.module_types.ModuleInfo.{ModuleInfo}
 use Rattle.std.specs.Prelude.{nat_le, nat_lt}
 use Rattle.std.specs.List.{list_all, slice_get}
 use Rattle.std.proofs.lemmas.Bool.{leb-true, ltb-true}
 use Rattle.pool_run.specs.Schedules.{turns_of}
-use Rattle.pool_run.specs.Validity.{is_valid, are_valid_modules, is_valid_party, is_valid_schedule, are_valid_after, homes, most_commands, most_parties, most_steps}
+use Rattle.pool_run.specs.Validity.{is_valid, are_valid_modules, is_valid_module, is_valid_memory, most_modules, most_memories, most_tables, is_valid_party, is_valid_schedule, are_valid_after, homes, most_commands, most_parties, most_steps}
 use Rattle.pool_run.specs.declared.input.Input.{Input}
 use Rattle.pool_run.specs.declared.input.Party.{Party}
 use Rattle.pool_run.specs.declared.input.ScheduleEntry.{ScheduleEntry}
@@ -16,8 +17,19 @@ valid_rest input valid = second (are_valid_modules input.modules) (nat_le (lengt
 valid_turns : (input : Input) → is_valid input ≡ true → (is_valid_schedule (length input.parties) input.schedule && list_all (is_valid_party input.modules) input.parties) ≡ true
 valid_turns input valid = second (nat_le (length input.parties) most_parties) (is_valid_schedule (length input.parties) input.schedule && list_all (is_valid_party input.modules) input.parties) (valid_rest input valid)
 
-valid_party : (input : Input) (i : ℕ) (p : Party) → is_valid input ≡ true → slice_get input.parties i ≡ Some p → is_valid_party input.modules p ≡ true
-valid_party input i p valid is = of_all (is_valid_party input.modules) input.parties i p (second (is_valid_schedule (length input.parties) input.schedule) (list_all (is_valid_party input.modules) input.parties) (valid_turns input valid)) is
+valid_party : (input : Input) (i : ℕ) (p : Party) → is_valid input ≡ true → slice_get input.parties i ≡ Some p → (nat_lt p.home homes && (nat_le (length p.commands) most_commands && are_valid_after input.modules [] p.commands)) ≡ true
+valid_party input i p valid is = second (list_all (nat_lt 0) p.gc_faults) (nat_lt p.home homes && (nat_le (length p.commands) most_commands && are_valid_after input.modules [] p.commands)) (of_all (is_valid_party input.modules) input.parties i p (second (is_valid_schedule (length input.parties) input.schedule) (list_all (is_valid_party input.modules) input.parties) (valid_turns input valid)) is)
+
+-- each module is valid, and has not too many memories
+pub valid_modules : (input : Input) → is_valid input ≡ true → list_all is_valid_module input.modules ≡ true
+valid_modules input valid =
+    let rest : Bool = nat_le (length input.parties) most_parties && (is_valid_schedule (length input.parties) input.schedule && list_all (is_valid_party input.modules) input.parties) in
+    second (nat_le (length input.modules) most_modules) (list_all is_valid_module input.modules) (first (are_valid_modules input.modules) rest valid)
+
+pub few_memories : (m : ModuleInfo) → is_valid_module m ≡ true → length m.memories < 2 ^ 32
+few_memories m valid =
+    let few : length m.memories ≤ most_memories = leb-true (length m.memories) most_memories (first (nat_le (length m.memories) most_memories) (nat_le (length m.tables) most_tables && list_all is_valid_memory m.memories) valid) in
+    omega (arith, few)
 
 -- there are not too many parties
 pub valid_parties : (input : Input) → is_valid input ≡ true → length input.parties ≤ most_parties

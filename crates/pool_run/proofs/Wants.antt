@@ -1,9 +1,25 @@
 -- What a call asks for, thing by thing.
-use Rattle.std.proofs.Common.{◌≡◌, ℕ, zero, suc, List, [], ◌∷◌, length, map, Option, Some, None, refl, sym, ap, ◌∙◌, arith}
-use Rattle.std.specs.Prelude.{slice_get, slice_index_or}
+use Rattle.std.proofs.Common.{◌≡◌, ℕ, ◌+◌, zero, suc, List, [], ◌∷◌, ◌++◌, length, map, Option, Some, None, refl, ap, ◌∙◌, arith}
+use Rattle.std.specs.Prelude.{slice_get, slice_index_or, option_map}
+use Rattle.std.proofs.lemmas.List.{length-append, length-map}
+use Rattle.std.proofs.lemmas.Option.{slice_get-map}
+use Rattle.pool_pages.specs.declared.table_type.TableType.{TableType}
 use Rattle.pool_pages.specs.declared.module_types.MemoryDecl.{MemoryDecl}
 use Rattle.pool_images.specs.Images.{Image}
-use Rattle.pool_alloc.specs.Wants.{MemoryWant, wants_from}
+use Rattle.pool_alloc.specs.Wants.{MemoryWant, new_memory, new_table, wants_from}
+use Rattle.pool_run.specs.Private.{Request, wants_of}
+
+-- what is in a list stays in it behind others; and those are behind it
+pub stays_get : {X : Type 0} (xs ys : List X) (n : ℕ) (x : X) → slice_get xs n ≡ Some x → slice_get (xs ++ ys) n ≡ Some x
+stays_get [] ys n x there = absurd cc
+stays_get (y ∷ xs) ys zero x there = there
+stays_get (y ∷ xs) ys (suc n) x there = stays_get xs ys n x there
+
+behind_get : {X : Type 0} (xs ys : List X) (k : ℕ) → slice_get (xs ++ ys) (length xs + k) ≡ slice_get ys k
+behind_get [] ys k = ap (slice_get ys) (omega arith)
+behind_get {X = X} (x ∷ xs) ys k =
+    let more : length (x ∷ xs) + k ≡ suc (length xs + k) = omega arith in
+    ap (slice_get (x ∷ (xs ++ ys))) more ∙ behind_get xs ys k
 
 pub count_wanted : (decls : List MemoryDecl) (images : List (Option Image)) → length (wants_from decls images) ≡ length decls
 count_wanted [] images = refl
@@ -33,3 +49,16 @@ pub all_declared : (decls : List MemoryDecl) (images : List (Option Image)) → 
 all_declared [] images = refl
 all_declared (d ∷ ds) [] = ap (λ (xs : List MemoryDecl). d ∷ xs) (all_declared ds [])
 all_declared (d ∷ ds) (i ∷ is) = ap (λ (xs : List MemoryDecl). d ∷ xs) (all_declared ds is)
+
+-- all that a request is for: its memories, and behind them its tables
+pub count_all : (request : Request) → length (wants_of request) ≡ length request.memories + length request.tables
+count_all request = omega (arith, length-append (map new_memory request.memories) (map new_table request.tables), length-map request.memories new_memory, length-map request.tables new_table)
+
+pub memory_at : (request : Request) (k : ℕ) (want : MemoryWant) → slice_get request.memories k ≡ Some want → slice_get (wants_of request) k ≡ Some (new_memory want)
+memory_at request k want there =
+    stays_get (map new_memory request.memories) (map new_table request.tables) k (new_memory want) (slice_get-map new_memory request.memories k ∙ ap (option_map new_memory) there)
+
+pub table_at : (request : Request) (k : ℕ) (ty : TableType) → slice_get request.tables k ≡ Some ty → slice_get (wants_of request) (length request.memories + k) ≡ Some (new_table ty)
+table_at request k ty there =
+    let counted : length request.memories + k ≡ length (map new_memory request.memories) + k = omega (arith, length-map request.memories new_memory) in
+    ap (slice_get (wants_of request)) counted ∙ behind_get (map new_memory request.memories) (map new_table request.tables) k ∙ slice_get-map new_table request.tables k ∙ ap (option_map new_table) there

@@ -21,22 +21,25 @@ use Rattle.pool_alloc.specs.Made.{IsMadeCore, plan_settings}
 use Rattle.pool_alloc.specs.declared.pool_core.PoolCore.{PoolCore}
 use Rattle.pool_alloc.specs.declared.pool_core.Settings.{Settings}
 use Rattle.pool_alloc.specs.Asked.{ModuleAsked}
-use Rattle.pool_alloc.specs.Steps.{images_made, stripe_allocator, no_allocator}
+use Rattle.pool_alloc.specs.Steps.{images_made, stripe_allocator, allocator_of, no_allocator}
 use Rattle.pool_alloc.specs.Leases.{memory_slot}
+use Rattle.pool_alloc.specs.TableLeases.{table_slot}
+use Rattle.pool_hall.specs.declared.unit_name.SlotKind.TheVariants.{Table}
+use Rattle.pool_slots.specs.PlansMade.{allocator_planned}
 use Rattle.pool_alloc.specs.Wants.{wants_from}
 use Rattle.pool_run.specs.Built.{is_built_memory, is_built_module}
 use Rattle.pool_run.specs.Made.{call_made, calls_made}
 use Rattle.pool_run.specs.Private.{Terms, no_module, module_of, has_images, images_of, request_for}
 use Rattle.pool_run.specs.Runs.{world_of}
 use Rattle.std.proofs.lemmas.Option.{get_or_from_slice_get}
-use Rattle.pool_run.specs.Worlds.{IsWorldOf, IsCallFor, AreCallsFor, HasOneStripe}
+use Rattle.pool_run.specs.Worlds.{IsWorldOf, IsCallFor, AreCallsFor, HasOneStripe, HasTables}
 use Rattle.pool_run.specs.declared.input.Input.{Input}
 use Rattle.pool_run.proofs.BuiltInputs.{built_memories, small_pages}
 use Rattle.pool_run.proofs.Tests.{second, of_all}
 use Rattle.pool_slots.specs.declared.plan.Plan.{Plan}
 use Rattle.pool_slots.specs.declared.plan.Allocator.{Allocator}
 use Rattle.pool_slots.specs.Plans.{has_number, have_number}
-use Rattle.pool_slots.specs.StripedPlans.{IsStripedPlanOf, stripe_allocator as stripe_made}
+use Rattle.pool_slots.specs.StripedPlans.{IsStripedPlanOf, divided, stripe_allocator as stripe_made}
 use Rattle.pool_slots.specs.declared.striped_plan.StripedPlanSettings.{StripedPlanSettings}
 use Rattle.pool_slots.proofs.StripedPlans.{follow}
 use Rattle.pool_pages.specs.declared.config.PoolingAllocationConfig.{PoolingAllocationConfig}
@@ -65,10 +68,23 @@ one_stripe config plan made =
       each = λ k inside. ap (λ (x : Allocator). has_number x k) first ∙ only_one (has_number a k) (subst (Has k) made.memories ((follow z plan (omega arith) made).one (memory_slot k) inside));
     }
 
+-- Its tables have one allocator.
+tables_made : (config : PoolingAllocationConfig) (plan : Plan) → IsStripedPlanOf (plan_settings config) plan → HasTables config.limits.total_tables plan
+tables_made config plan made =
+    let z : StripedPlanSettings = plan_settings config in
+    let a : Allocator = allocator_planned (divided z) Table in
+    let Has : ℕ → List Allocator → Type 0 = λ k as'. have_number as' k ≡ 1 in
+    let first : allocator_of plan Table 0 ≡ a = ap (λ (as' : List Allocator). slice_index_or as' 0 no_allocator) made.tables in
+    record {
+      total = sym (ap (λ (n : OfKinds). n.table) made.totals);
+      room = ap (λ (x : Allocator). x.capacity) first;
+      each = λ k inside. ap (λ (x : Allocator). has_number x k) first ∙ only_one (has_number a k) (subst (Has k) made.tables ((follow z plan (omega arith) made).one (table_slot k) inside));
+    }
+
 module _ {P : Type 0} where
   -- The pool as it is made has the sizes of the world.
   pub is_world : (input : Input) (maker : MakerTold) (c : PoolCore P) → IsMadeCore maker input.config input.tunables input.offered c → IsWorldOf (world_of input maker) c
-  is_world input maker c made = record { tells = refl; settings = sym made.settings; plan = one_stripe input.config c.plan made.plan }
+  is_world input maker c made = record { tells = refl; settings = sym made.settings; plan = one_stripe input.config c.plan made.plan; tables = tables_made input.config c.plan made.plan }
 
 count_from : (id : CompiledModuleId) (page n : ℕ) (decls : List MemoryDecl) → length (images_from id page n decls) ≡ length decls
 count_from id page n [] = refl
@@ -116,7 +132,7 @@ is_call_for t s number m there built page some =
     let made : Option (List (Option Image)) = images_of tunables t.settings.page number m.memories in
     let given : List (Option Image) = unwrap_or made [] in
     record {
-      asked = record { memories = ap (wants_from m.memories) (asked_images made) ∙ ap (λ (x : ModuleInfo). (request_for t number x).memories) is };
+      asked = record { memories = ap (wants_from m.memories) (asked_images made) ∙ ap (λ (x : ModuleInfo). (request_for t number x).memories) is; tables = ap (λ (x : ModuleInfo). (request_for t number x).tables) is };
       fit = record {
         images = record {
           each = λ k.

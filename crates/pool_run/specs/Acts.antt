@@ -1,7 +1,8 @@
 -- What a command acts on: commands that do alike have one case.
 use Rattle.std.specs.Prelude.{ℕ, List, slice_get, Option, option_map}
 use Rattle.pool_run.specs.declared.command.Command.{Command}
-use Rattle.pool_run.specs.declared.command.Command.TheVariants.{Instantiate, Read, Write, Fill, Grow, Size, Drop}
+use Rattle.pool_run.specs.declared.command.Command.TheVariants.{Instantiate, Read, Write, Fill, Grow, Size, Get, Set, TableFill, TableGrow, TableSize, Drop}
+use Rattle.pool_run.specs.declared.command.TableValue.{TableValue}
 
 -- what is done with a memory: so many bytes are read from a place, or these written there, or so many set to one byte; it
 -- grows by so many of its own pages; or its size is asked for
@@ -12,11 +13,20 @@ pub data MemoryOp : Type 0 where
   grows : ℕ → MemoryOp
   asks_size : MemoryOp
 
--- An instance of the module of this number is requested, something is done with a memory of the grant of a command, or
--- that grant is given back.
+-- What is done with a table: an element is asked for; so many are set from a place on; it grows by so many; or how many
+-- it has is asked for.
+pub data TableOp : Type 0 where
+  gets : ℕ → TableOp
+  sets : ℕ → ℕ → TableValue → TableOp
+  lengthens : ℕ → TableOp
+  asks_length : TableOp
+
+-- An instance of the module of this number is requested, something is done with a memory or a table of the grant of a
+-- command, or that grant is given back.
 pub data Act : Type 0 where
   requests : ℕ → Act
   on_memory : ℕ → ℕ → MemoryOp → Act
+  on_table : ℕ → ℕ → TableOp → Act
   drops : ℕ → Act
 
 abbrev pub act_of : Command → Act
@@ -26,6 +36,11 @@ act_of (Write of k at bytes) = on_memory of k (writes at bytes)
 act_of (Fill of k at len byte) = on_memory of k (fills at len byte)
 act_of (Grow of k pages) = on_memory of k (grows pages)
 act_of (Size of k) = on_memory of k asks_size
+act_of (Get of k at) = on_table of k (gets at)
+act_of (Set of k at value) = on_table of k (sets at 1 value)
+act_of (TableFill of k at value len) = on_table of k (sets at len value)
+act_of (TableGrow of k by) = on_table of k (lengthens by)
+act_of (TableSize of k) = on_table of k asks_length
 act_of (Drop of) = drops of
 
 -- what command n does, if there is one

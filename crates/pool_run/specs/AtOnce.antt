@@ -1,4 +1,4 @@
--- What the code makes of a command, as an act, and of the answers of a memory, as replies.
+-- What the code makes of a command, as an act, and of the answers of a memory or a table, as replies.
 use Rattle.std.specs.Prelude.{◌≡◌, ℕ, Option, Some, Result, Ok, Err}
 use Rattle.pool_limits.specs.Growth.{GrowthRule}
 use Rattle.pool_limits.specs.Growing.{GrowthGiven}
@@ -8,15 +8,24 @@ use Rattle.pool_limits.specs.declared.errors.GrowFault.TheVariants as fault
 use Rattle.pool_limits.specs.declared.errors.Trap.{Trap}
 use Rattle.pool_memory.specs.Growing.{IsGrowth}
 use Rattle.pool_slots.specs.declared.errors.AllocError.TheVariants as alloc
+use Rattle.pool_table.specs.Growing.{IsTableGrowth}
+use Rattle.pool_table.specs.Stores.{StoreTold, listed_store}
+use Rattle.pool_table.specs.declared.gc_store.ListedStore.{ListedStore}
+use Rattle.pool_table.specs.declared.gc_store.GcTableError.{GcTableError}
+use Rattle.pool_table.specs.declared.gc_store.GcTableError.TheVariants as failed
 use Rattle.pool_alloc.specs.Leases.{Lease, IsUsable}
-use Rattle.pool_run.specs.Acts.{MemoryOp, reads, writes, fills, grows, asks_size, Act, requests, on_memory, drops}
+use Rattle.pool_alloc.specs.TableLeases.{LeasedTable, LiesInRegion}
+use Rattle.pool_alloc.specs.declared.table_element.Element.{Element}
+use Rattle.pool_run.specs.Acts.{MemoryOp, reads, writes, fills, grows, asks_size, TableOp, gets, sets, lengthens, asks_length, Act, requests, on_memory, on_table, drops}
 use Rattle.pool_run.specs.declared.act.MemoryOp.{MemoryOp as GivenOp}
 use Rattle.pool_run.specs.declared.act.MemoryOp.TheVariants as op
+use Rattle.pool_run.specs.declared.act.TableOp.{TableOp as GivenTableOp}
+use Rattle.pool_run.specs.declared.act.TableOp.TheVariants as table_op
 use Rattle.pool_run.specs.declared.act.Act.{Act as GivenAct}
 use Rattle.pool_run.specs.declared.act.Act.TheVariants as act
 use Rattle.pool_run.specs.declared.reply.Reply.{Reply}
-use Rattle.pool_run.specs.declared.reply.Reply.TheVariants.{Done, Grown, Refused, Trap as trapped}
-use Rattle.pool_run.specs.declared.reply.Refusal.TheVariants.{Alloc}
+use Rattle.pool_run.specs.declared.reply.Reply.TheVariants.{Done, Grown, Element as told_element, Refused, Trap as trapped}
+use Rattle.pool_run.specs.declared.reply.Refusal.TheVariants.{GcStoreFault, Alloc}
 
 -- what the code is given, as an operation and an act
 abbrev pub given_op : GivenOp → MemoryOp
@@ -26,9 +35,16 @@ given_op (op.Fill at len byte) = fills at len byte
 given_op (op.Grow pages) = grows pages
 given_op op.Size = asks_size
 
+abbrev pub given_table_op : GivenTableOp → TableOp
+given_table_op (table_op.Get at) = gets at
+given_table_op (table_op.Set at value len) = sets at len value
+given_table_op (table_op.Grow by) = lengthens by
+given_table_op table_op.Size = asks_length
+
 abbrev pub given_act : GivenAct → Act
 given_act (act.Request number) = requests number
 given_act (act.OnMemory of k by) = on_memory of k (given_op by)
+given_act (act.OnTable of k by) = on_table of k (given_table_op by)
 given_act (act.Drop of) = drops of
 
 -- the reply to a write with this answer, and to a growth
@@ -40,6 +56,26 @@ abbrev pub growth_reply : Result (Option ℕ) GrowFault → Reply
 growth_reply (Ok size) = Grown size
 growth_reply (Err fault.Memory) = Refused (Alloc alloc.Memory)
 growth_reply (Err (fault.LimiterFault e)) = Refused (Alloc (alloc.LimiterFault e))
+
+-- the reply to a look at an element with this answer, and to a fill
+abbrev pub element_reply : Result Element Trap → Reply
+element_reply (Ok e) = told_element e
+element_reply (Err trap) = trapped trap
+
+abbrev pub fill_reply : Result (Unit {0}) GcTableError → Reply
+fill_reply (Ok u) = Done
+fill_reply (Err (failed.Trap trap)) = trapped trap
+fill_reply (Err failed.GcStoreFault) = Refused GcStoreFault
+
+-- what a store of a party tells
+abbrev pub store_told : ListedStore → StoreTold
+store_told s = listed_store s.failing s.made s.faults
+
+-- a table that a limiter with this rule let grow, or didn't
+pub record LengthensUnder (rule : GrowthRule) (by : ℕ) (l new : LeasedTable) (answer : Result (Option ℕ) GrowFault) : Type 0 where
+  pub same : new ≡ record l { table = new.table }
+  pub growth : (given : GrowthGiven) × (asked : LimiterTold) × (left : LimiterTold) × (asked.rule ≡ Some rule) × IsTableGrowth given by l.table new.table asked left answer
+  pub region : LiesInRegion new.table
 
 -- a lease that a limiter with this rule let grow, or didn't
 pub record GrowsUnder (rule : GrowthRule) (pages : ℕ) (l new : Lease) (answer : Result (Option ℕ) GrowFault) : Type 0 where

@@ -6,7 +6,7 @@ use Rattle.pool_pages.specs.declared.bad_config.BadConfig.{BadConfig}
 use Rattle.pool_pages.specs.declared.config.PoolingAllocationConfig.{PoolingAllocationConfig}
 use Rattle.pool_pages.specs.declared.fault_plan.Fault.{Fault}
 use Rattle.pool_pages.specs.declared.fault_plan.FaultKind.{FaultKind}
-use Rattle.pool_pages.specs.declared.fault_plan.FaultKind.TheVariants.{Table, Stack}
+use Rattle.pool_pages.specs.declared.fault_plan.FaultKind.TheVariants.{Stack}
 use Rattle.pool_pages.specs.declared.module_types.MemoryDecl.{MemoryDecl}
 use Rattle.pool_pages.specs.declared.module_types.ModuleInfo.{ModuleInfo}
 use Rattle.pool_pages.specs.declared.offered.Offered.{Offered}
@@ -16,13 +16,9 @@ use Rattle.pool_run.specs.declared.input.Input.{Input}
 abbrev pub is_built_memory : MemoryDecl → Bool
 is_built_memory decl = nat_le decl.ty.page_size_log2 16
 
--- a module of one such memory at most, and of nothing else
+-- a module of such memories and of tables, and of nothing else
 abbrev pub is_built_module : ModuleInfo → Bool
-is_built_module m =
-    nat_le (length m.memories) 1
-    && (list_all is_built_memory m.memories
-    && (length m.tables == 0
-    && (m.state_bytes == 0 && length m.parts == 0)))
+is_built_module m = list_all is_built_memory m.memories && (m.state_bytes == 0 && length m.parts == 0)
 
 -- no keys and no marks of dirty pages are offered
 abbrev pub is_built_offer : Offered → Bool
@@ -32,9 +28,8 @@ is_built_offer offered = offered.keys == 0 && not offered.dirty_pages
 abbrev pub is_built_config : PoolingAllocationConfig → Bool
 is_built_config config = config.limits.total_stacks == 0 && not config.async_stack_zeroing
 
--- a failure of a call on a memory's region, or of the making of an image
+-- a failure of a call on the region of a memory or a table, or of the making of an image
 abbrev pub is_built_kind : FaultKind → Bool
-is_built_kind Table = false
 is_built_kind Stack = false
 is_built_kind _ = true
 

@@ -4,7 +4,7 @@ use Rattle.std.specs.Prelude.{◌≡◌, ℕ, ◌+◌, ◌<◌, ◌≤◌, List,
 use Rattle.pool_pages.specs.MakerTold.{MakerTold}
 use Rattle.pool_alloc.specs.declared.pool_core.PoolCore.{PoolCore}
 use Rattle.pool_alloc.specs.Asked.{ModuleAsked}
-use Rattle.pool_run.specs.PartyRules.{rule_of}
+use Rattle.pool_run.specs.Turns.{host_of_party}
 use Rattle.pool_run.specs.Private.{no_grants}
 use Rattle.pool_run.specs.Rooms.{World, under}
 use Rattle.pool_run.specs.Turns.{Turned, Turns, with_reply}
@@ -102,11 +102,11 @@ module _ {P : Type 0} where
     pub folds : Folds modules inputs schedule s scheduled
     pub finishes : FinishesRun modules inputs scheduled end
 
-  -- how far a party is: its replies are a private run of its commands under its limits, and it has a place for each of
+  -- how far a party is: its replies are a private run of its commands under its limits and with its store, and it has a place for each of
   -- these
   pub record IsRunTo (w : World) (commands : List Command) (replies : List Reply) (p : RunningParty P) : Type 0 where
     pub room : length p.live ≡ length commands
-    pub private : IsPrivate (under (rule_of p.limits) w) (no_grants commands) commands replies p
+    pub private : IsPrivate (under (host_of_party p) w) (no_grants commands) commands replies p
 
   -- there is one party, which has all that the pool hasn't
   pub record IsOfOne (s : RunState P) : Type 0 where
@@ -120,7 +120,7 @@ module _ {P : Type 0} where
     pub given : s.modules ≡ modules
     pub world : IsWorldOf w s.core
     pub calls : AreCallsFor w.terms s.core.settings modules
-    pub rules : map (λ p. rule_of p.limits) s.parties ≡ w.rules
+    pub hosts : map host_of_party s.parties ≡ w.hosts
     pub alone : w.alone ≡ true → IsOfOne s
     pub told : length s.replies ≡ length s.parties
     pub each : (i : ℕ) (d : RunningParty P) → i < length s.parties → IsRunTo w (commands_of inputs i) (replies_to i s.replies) (slice_index_or s.parties i d)

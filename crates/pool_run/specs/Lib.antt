@@ -3,6 +3,7 @@ pub mod Agreeing
 pub mod AtOnce
 pub mod Built
 pub mod Folds
+pub mod GrowthEnds
 pub mod Limits
 pub mod Made
 pub mod Numbers
@@ -10,6 +11,7 @@ pub mod Objects
 pub mod PartyRules
 pub mod Placed
 pub mod Private
+pub mod PrivateTables
 pub mod Progress
 pub mod Rooms
 pub mod Runs
@@ -19,6 +21,7 @@ pub mod SharedEvents
 pub mod SharedRuns
 pub mod SharedSteps
 pub mod SharedValidity
+pub mod TableValues
 pub mod Ties
 pub mod Turns
 pub mod Validity

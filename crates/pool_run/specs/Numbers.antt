@@ -2,7 +2,7 @@
 use Rattle.std.specs.Prelude.{List, fold, Option, Some, None}
 use Rattle.pool_pages.specs.declared.pages.PageCalls.{PageCalls}
 use Rattle.pool_pages.specs.CallSums.{added}
-use Rattle.pool_alloc.specs.Sums.{calls_of_leases, calls_kept, calls_in_frame}
+use Rattle.pool_alloc.specs.Sums.{calls_of_instance, calls_kept, calls_in_frame}
 use Rattle.pool_alloc.specs.declared.pool_core.PoolCore.{PoolCore}
 use Rattle.pool_alloc.specs.declared.frame.Grant.{Grant}
 use Rattle.pool_alloc.specs.declared.frame.Grant.TheVariants.{Instance as instance}
@@ -12,7 +12,7 @@ module _ {P : Type 0} where
   -- the calls with those on the regions of a live grant, and of all that a party has
   abbrev pub with_grant : PageCalls → Option (Grant P) → PageCalls
   with_grant calls None = calls
-  with_grant calls (Some (instance lease)) = added calls (calls_of_leases lease.memories.items)
+  with_grant calls (Some (instance lease)) = added calls (calls_of_instance lease)
 
   abbrev pub with_party : PageCalls → RunningParty P → PageCalls
   with_party calls p = fold with_grant (added calls (calls_in_frame p.frame)) p.live

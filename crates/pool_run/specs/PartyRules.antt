@@ -1,11 +1,20 @@
--- How the growth of a party's memories is decided: by its limits, or always yes where it has none.
-use Rattle.std.specs.Prelude.{Option, Some, None}
+-- How the growth of a party's memories and tables is decided: by its limits, or always yes where it has none.
+use Rattle.std.specs.Prelude.{ℕ, List, Option, Some, None}
 use Rattle.pool_limits.specs.Growth.{GrowthLimits, GrowthRule, always, limited_by}
+use Rattle.pool_run.specs.PrivateTables.{Host}
+use Rattle.pool_run.specs.declared.input.Party.{Party}
 use Rattle.pool_run.specs.declared.input.PartyLimits.{PartyLimits}
 
 abbrev pub growth_of : PartyLimits → GrowthLimits
-growth_of l = record { memory_size = l.memory_size; table_elements = None; trap_on_grow_failure = l.trap_on_grow_failure }
+growth_of l = record { memory_size = l.memory_size; table_elements = l.table_elements; trap_on_grow_failure = l.trap_on_grow_failure }
 
 abbrev pub rule_of : Option PartyLimits → GrowthRule
 rule_of None = always
 rule_of (Some l) = limited_by (growth_of l)
+
+-- what a party with these limits is answered, where these calls on its store fail
+abbrev pub host_of : Option PartyLimits → List ℕ → Host
+host_of limits failing = record { rule = rule_of limits; failing = failing }
+
+abbrev pub host_for : Party → Host
+host_for p = host_of p.limits p.gc_faults

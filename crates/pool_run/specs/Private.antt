@@ -9,8 +9,8 @@ use Rattle.pool_pages.specs.declared.module_types.ModuleInfo.{ModuleInfo}
 use Rattle.pool_pages.specs.declared.module_types.MemoryType.{MemoryType}
 use Rattle.pool_pages.specs.declared.module_types.Tunables.{Tunables}
 use Rattle.pool_pages.specs.declared.unsupported.Unsupported.{Unsupported}
-use Rattle.pool_limits.specs.Growth.{GrowthRule, memory_answer, memory_failure}
-use Rattle.pool_limits.specs.declared.errors.LimiterError.{LimiterError}
+use Rattle.pool_pages.specs.declared.table_type.TableType.{TableType}
+use Rattle.pool_limits.specs.Growth.{GrowthRule, memory_answer, table_answer, memory_failure}
 use Rattle.pool_limits.specs.declared.errors.Trap.TheVariants.{MemoryOutOfBounds}
 use Rattle.pool_images.specs.Images.{Image, images_from, start, first_misplaced, ends_in_minimum}
 use Rattle.pool_memory.specs.Growing.{exceeds}
@@ -19,13 +19,19 @@ use Rattle.pool_memory.specs.Static.{static_capacity}
 use Rattle.pool_memory.specs.declared.memory_error.MemoryError.{MemoryError}
 use Rattle.pool_slots.specs.declared.errors.AllocError.{AllocError}
 use Rattle.pool_slots.specs.declared.errors.AllocError.TheVariants as alloc
-use Rattle.pool_slots.specs.declared.errors.ConcurrencyKind.TheVariants.{MemoryStripe, CoreInstances}
+use Rattle.pool_slots.specs.declared.errors.ConcurrencyKind.TheVariants.{MemoryStripe, Tables, CoreInstances}
+use Rattle.pool_table.specs.Elements.{empty}
+use Rattle.pool_table.specs.Making.{kind_of, room_of}
+use Rattle.pool_table.specs.Tables.{type_maximum}
 use Rattle.pool_alloc.specs.Own.{refusal_of}
-use Rattle.pool_alloc.specs.Refusals.{memories_refused}
-use Rattle.pool_alloc.specs.Wants.{MemoryWant, Want, new_memory, wants_from}
+use Rattle.pool_alloc.specs.Refusals.{module_refused}
+use Rattle.pool_alloc.specs.TableSteps.{table_refused, table_bytes}
+use Rattle.pool_alloc.specs.Wants.{MemoryWant, Want, new_memory, new_table, wants_from}
 use Rattle.pool_alloc.specs.declared.pool_core.Settings.{Settings}
-use Rattle.pool_run.specs.Objects.{Objects, MovesObject}
-use Rattle.pool_run.specs.Acts.{MemoryOp, reads, writes, fills, grows, asks_size, Act, requests, on_memory, drops, act_of}
+use Rattle.pool_run.specs.Objects.{Objects, MovesNamed, MovesObject, object_at, with_object}
+use Rattle.pool_run.specs.Acts.{MemoryOp, reads, writes, fills, grows, asks_size, Act, requests, on_memory, on_table, drops, act_of}
+use Rattle.pool_run.specs.PrivateTables.{Host, PrivateTable, StoredTable, TableMoves}
+pub use Rattle.pool_run.specs.GrowthEnds.{GrowthEnd, as_it_was, could_not, has_grown, if_allowed, reported}
 use Rattle.pool_run.specs.declared.command.Command.{Command}
 use Rattle.pool_run.specs.declared.reply.Reply.{Reply}
 use Rattle.pool_run.specs.declared.reply.Reply.TheVariants.{Instance, Bytes, Done, Size, Grown, Returned, Refused, Trap}
@@ -41,9 +47,10 @@ pub record PrivateMemory : Type 0 where
   pub capacity : ℕ
   pub bytes : Option (List ℕ)
 
--- a live instance: its memories in order
+-- a live instance: its memories and its tables in order
 pub record PrivateInstance : Type 0 where
   pub memories : List PrivateMemory
+  pub tables : List PrivateTable
 
 -- A party's grants by the numbers of its commands: none where the command is still to come, asked for none or was
 -- refused, or where its grant was given back.
@@ -54,13 +61,14 @@ abbrev pub grant_at : Grants → ℕ → Option PrivateInstance
 grant_at grants of = slice_index_or grants of None
 
 -- What a party's replies depend on beside its commands: whether pages are told, the modules, the pool's settings and how
--- many memory slots it has, and the rule by which the growth of the party's memories is decided.
+-- many slots for memories and for tables it has, and what the host answers the party.
 pub record Terms : Type 0 where
   pub tells : Bool
   pub modules : List ModuleInfo
   pub settings : Settings
   pub slots : ℕ
-  pub rule : GrowthRule
+  pub table_slots : ℕ
+  pub host : Host
 
 -- a module of nothing, which none of those that there are need be
 abbrev pub no_module : ModuleInfo
@@ -69,6 +77,10 @@ no_module = record { memories = []; tables = []; state_bytes = 0; parts = [] }
 -- the module of this number
 abbrev pub module_of : Terms → ℕ → ModuleInfo
 module_of t number = slice_index_or t.modules number no_module
+
+-- how many elements of a table's type fit its slot
+abbrev pub table_room : Settings → TableType → ℕ
+table_room s ty = room_of ty (table_bytes s ty)
 
 -- Images are made for these memories: where memories begin as images at all, and each of them begins with a page and,
 -- padded, ends within its memory's minimum.
@@ -79,20 +91,22 @@ has_images tunables page decls = tunables.memory_init_cow && (not (is_some (firs
 abbrev pub images_of : Tunables → ℕ → ℕ → List MemoryDecl → Option (List (Option Image))
 images_of tunables page number decls = if has_images tunables page decls then Some (images_from (record { 0 = number }) page 0 decls) else None
 
--- a request: the first rule of the pool that it breaks, and the memories that it is for, in order
+-- a request: the first rule of the pool that it breaks, and the memories and tables that it is for, in order
 pub record Request : Type 0 where
   pub broken : Option Unsupported
   pub memories : List MemoryWant
+  pub tables : List TableType
 
--- all that it is for
+-- all that it is for: memories, and then tables
 abbrev pub wants_of : Request → List Want
-wants_of request = map new_memory request.memories
+wants_of request = map new_memory request.memories ++ map new_table request.tables
 
 -- the request for an instance of a module with this number
 abbrev pub request_for : Terms → ℕ → ModuleInfo → Request
 request_for t number m = record {
-  broken = memories_refused t.settings m.memories;
+  broken = module_refused t.settings t.table_slots m.memories m.tables;
   memories = wants_from m.memories (unwrap_or (images_of t.settings.tunables.tunables t.settings.page number m.memories) []);
+  tables = m.tables;
 }
 
 abbrev pub request_of : Terms → ℕ → Request
@@ -109,38 +123,53 @@ begun_memory t slot want = record {
   bytes = if t.tells then Some (start want.image (minimum_byte_size want.decl.ty)) else None;
 }
 
+-- A table as it begins: its minimum of elements, which are empty. It can have as many as fit its slot, or as its type
+-- allows if that is less.
+abbrev pub begun_table : Terms → ℕ → TableType → PrivateTable
+begun_table t slot ty = record {
+  slot = slot;
+  kind = kind_of ty.element t.settings.tunables.tunables.table_lazy_init;
+  size = ty.limits.min;
+  maximum = min (table_room t.settings ty) (type_maximum ty);
+  elements = if t.tells then Some (replicate ty.limits.min (empty (kind_of ty.element t.settings.tunables.tunables.table_lazy_init))) else None;
+}
+
 -- what is made of these, each in one of these slots
 abbrev pub begun : {W X : Type 0} → (ℕ → W → X) → List W → List ℕ → List X
 begun make [] slots = []
 begun make (want ∷ wants) [] = []
 begun make (want ∷ wants) (slot ∷ slots) = make slot want ∷ begun make wants slots
 
--- the instance that is made for a request, in these slots
-abbrev pub begun_instance : Terms → Request → List ℕ → PrivateInstance
-begun_instance t request memories = record { memories = begun (begun_memory t) request.memories memories }
+-- the instance that is made for a request, in these slots for memories and these for tables
+abbrev pub begun_instance : Terms → Request → List ℕ → List ℕ → PrivateInstance
+begun_instance t request memories tables = record {
+  memories = begun (begun_memory t) request.memories memories;
+  tables = begun (begun_table t) request.tables tables;
+}
 
 -- the refusal in an answer, if it is one
 abbrev pub refused_by : {X : Type 0} → Result X MemoryError → Option AllocError
 refused_by (Ok x) = None
 refused_by (Err e) = Some (refusal_of e)
 
--- A memory's own refusal, whatever slot it gets: the limiter is asked for its minimum first, then a minimum is refused
--- that no size can be.
-abbrev pub own_refusal : GrowthRule → Want → Option AllocError
-own_refusal rule (new_memory want) = refused_by (limits_answer (memory_answer (Some rule) (Ok true) (minimum_asked want.decl.ty) (maximum_asked want.decl.ty)) want.decl.ty)
+-- What refuses a memory or a table whatever slot it gets: the limiter is asked for its minimum first, then a minimum is
+-- refused that no size can be, or that doesn't fit the slot.
+abbrev pub own_refusal : Terms → Want → Option AllocError
+own_refusal t (new_memory want) = refused_by (limits_answer (memory_answer (Some t.host.rule) (Ok true) (minimum_asked want.decl.ty) (maximum_asked want.decl.ty)) want.decl.ty)
+own_refusal t (new_table ty) = table_refused (table_answer (Some t.host.rule) (Ok true) ty.limits.min (Some (type_maximum ty))) ty.limits.min (table_room t.settings ty)
 
--- that of the first memory which has one
-abbrev pub first_refusal : GrowthRule → List Want → Option AllocError
-first_refusal rule [] = None
-first_refusal rule (want ∷ wants) = option_or (own_refusal rule want) (first_refusal rule wants)
+-- that of the first of them which has one
+abbrev pub first_refusal : Terms → List Want → Option AllocError
+first_refusal t [] = None
+first_refusal t (want ∷ wants) = option_or (own_refusal t want) (first_refusal t wants)
 
--- for how many memories a slot is taken: up to that one
-abbrev pub slots_asked : GrowthRule → List Want → ℕ
-slots_asked rule [] = 0
-slots_asked rule (want ∷ wants) = 1 + (if is_some (own_refusal rule want) then 0 else slots_asked rule wants)
+-- for how many of them a slot is taken: up to that one
+abbrev pub slots_asked : Terms → List Want → ℕ
+slots_asked t [] = 0
+slots_asked t (want ∷ wants) = 1 + (if is_some (own_refusal t want) then 0 else slots_asked t wants)
 
 -- What a request may meet whatever it is for: there is no memory for it, as many instances are granted as there may
--- be, no slot is free for the memory of this number, or a call on the pages of that memory's slot failed.
+-- be, no slot is free for the thing of this number, or a call on the pages of that memory's slot failed.
 pub data GivenRefusal : Type 0 where
   no_memory : GivenRefusal
   no_instance : GivenRefusal
@@ -148,42 +177,52 @@ pub data GivenRefusal : Type 0 where
   page_fault : ℕ → GivenRefusal
 
 -- how it is refused then
-abbrev pub refused_as : Terms → GivenRefusal → AllocError
-refused_as t no_memory = alloc.Memory
-refused_as t no_instance = alloc.Limit (record { limit = t.settings.max_core_instances; kind = CoreInstances })
-refused_as t (no_slot i) = alloc.Limit (record { limit = t.slots; kind = MemoryStripe 0 })
-refused_as t (page_fault i) = alloc.PageFault
+abbrev pub limit_for : Terms → Option Want → AllocError
+limit_for t (Some (new_table ty)) = alloc.Limit (record { limit = t.table_slots; kind = Tables })
+limit_for t _ = alloc.Limit (record { limit = t.slots; kind = MemoryStripe 0 })
 
--- a slot is asked for each memory up to the first that has an own refusal
-abbrev pub IsInTime : ℕ → GivenRefusal → Type 0
-IsInTime slots no_memory = Unit {0}
-IsInTime slots no_instance = Unit {0}
-IsInTime slots (no_slot i) = i < slots
-IsInTime slots (page_fault i) = i < slots
+abbrev pub refused_as : Terms → List Want → GivenRefusal → AllocError
+refused_as t wants no_memory = alloc.Memory
+refused_as t wants no_instance = alloc.Limit (record { limit = t.settings.max_core_instances; kind = CoreInstances })
+refused_as t wants (no_slot i) = limit_for t (slice_get wants i)
+refused_as t wants (page_fault i) = alloc.PageFault
+
+-- for a thing of a memory's kind pages are called on as it is made
+abbrev pub is_memory : Option Want → Bool
+is_memory (Some (new_memory want)) = true
+is_memory _ = false
+
+-- a slot is asked for each thing up to the first that has an own refusal
+abbrev pub IsInTime : Terms → List Want → GivenRefusal → Type 0
+IsInTime t wants no_memory = Unit {0}
+IsInTime t wants no_instance = Unit {0}
+IsInTime t wants (no_slot i) = i < slots_asked t wants
+IsInTime t wants (page_fault i) = (i < slots_asked t wants) × (is_memory (slice_get wants i) ≡ true)
 
 abbrev pub IsGiven : Terms → List Want → AllocError → Type 0
-IsGiven t wants e = (given : GivenRefusal) × (e ≡ refused_as t given) × IsInTime (slots_asked t.rule wants) given
+IsGiven t wants e = (given : GivenRefusal) × (e ≡ refused_as t wants given) × IsInTime t wants given
 
 -- Why a request is refused: where it breaks a rule of the pool, for that, or for want of memory; otherwise with the first
--- own refusal of its memories, or with one that is given.
+-- own refusal of its memories and tables, or with one that is given.
 abbrev pub IsRefused : Option Unsupported → Terms → List Want → AllocError → Type 0
 IsRefused (Some rule) t wants e = (e ≡ alloc.Unsupported rule) ⊎ (e ≡ alloc.Memory)
-IsRefused None t wants e = (first_refusal t.rule wants ≡ Some e) ⊎ IsGiven t wants e
+IsRefused None t wants e = (first_refusal t wants ≡ Some e) ⊎ IsGiven t wants e
 
 abbrev pub IsCause : Terms → Request → Refusal → Type 0
-IsCause t request NoSuchGrant = ⊥
 IsCause t request (Alloc e) = IsRefused request.broken t (wants_of request) e
+IsCause t request _ = ⊥
 
--- a request is granted: nothing of it is refused, and each of its memories has a slot
-pub record IsGranted (t : Terms) (request : Request) (slots : List ℕ) : Type 0 where
+-- a request is granted: nothing of it is refused, and each of its memories and tables has a slot
+pub record IsGranted (t : Terms) (request : Request) (memories tables : List ℕ) : Type 0 where
   pub supported : request.broken ≡ None
-  pub allowed : first_refusal t.rule (wants_of request) ≡ None
-  pub count : length slots ≡ length request.memories
+  pub allowed : first_refusal t (wants_of request) ≡ None
+  pub memory_slots : length memories ≡ length request.memories
+  pub table_slots : length tables ≡ length request.tables
 
 -- the reply to command n, which makes this request for an instance
 abbrev pub Instantiates : Terms → ℕ → Request → Grants → Reply → Grants → Type 0
 Instantiates t n request grants (Instance memories tables) new =
-    IsGranted t request memories × (tables ≡ []) × (new ≡ slice_set grants n (Some (begun_instance t request memories)))
+    IsGranted t request memories tables × (new ≡ slice_set grants n (Some (begun_instance t request memories tables)))
 Instantiates t n request grants (Refused refusal) new = IsCause t request refusal × (new ≡ grants)
 Instantiates t n request grants _ new = ⊥
 
@@ -212,25 +251,8 @@ size_wanted pages m = min (m.size + pages * page_size m.ty) (2 ^ 64 - page_size 
 abbrev pub memory_grown : ℕ → PrivateMemory → PrivateMemory
 memory_grown size m = record m { size = size; bytes = option_map (λ b. b ++ replicate {A = ℕ} (size - m.size) 0) m.bytes }
 
--- the reply to a growth that failed: none, or the error that the limiter makes of it
-abbrev pub reported : Result (Unit {0}) LimiterError → Reply
-reported (Ok u) = Grown None
-reported (Err e) = Refused (Alloc (alloc.LimiterFault e))
-
 abbrev pub report : GrowthRule → Reply
 report rule = reported (memory_failure (Some rule) (Ok tt))
-
--- How a growth ends: the memory is as it was, and no call on its pages was made; that call failed; or it has grown.
-pub data GrowthEnd : Type 0 where
-  as_it_was : GrowthEnd
-  could_not : GrowthEnd
-  has_grown : GrowthEnd
-
--- the end and the reply where the limiter says yes, and else none or its error
-abbrev pub if_allowed : Result Bool LimiterError → GrowthEnd × Reply → GrowthEnd × Reply
-if_allowed (Ok true) end = end
-if_allowed (Ok false) end = (as_it_was, Grown None)
-if_allowed (Err e) end = (as_it_was, Refused (Alloc (alloc.LimiterFault e)))
 
 -- The end of a growth by so many pages under this rule, and the reply. By none nobody is asked. A size that the type
 -- forbids is only reported; then the limiter is asked; then a size past the maximum or the capacity, and a failed call on
@@ -271,32 +293,45 @@ MemoryMoves (fills at len byte) rule m new reply = Writes at (replicate len byte
 MemoryMoves (grows pages) rule m new reply = Grows rule pages m new reply
 MemoryMoves asks_size rule m new reply = (reply ≡ Size m.size) × (new ≡ m)
 
--- the memories of a grant
+-- the memories and the tables of a grant
 abbrev pub private_memories : Objects PrivateInstance PrivateMemory
-private_memories = record { in_grant = λ g. g.memories; put_in = λ k m g. record { memories = slice_set g.memories k m } }
+private_memories = record { in_grant = λ g. g.memories; put_in = λ k m g. record g { memories = slice_set g.memories k m } }
+
+abbrev pub private_tables : Objects PrivateInstance PrivateTable
+private_tables = record { in_grant = λ g. g.tables; put_in = λ k m g. record g { tables = slice_set g.tables k m } }
 
 -- a grant is given back, and ends
 abbrev pub Drops : Option PrivateInstance → Grants → ℕ → Reply → Grants → Type 0
 Drops None grants of reply new = (reply ≡ Refused NoSuchGrant) × (new ≡ grants)
 Drops (Some g) grants of reply new = (reply ≡ Returned) × (new ≡ slice_set grants of None)
 
--- what command n does, its reply, and the grants before and after
-abbrev pub MovesGrants : Terms → ℕ → Grants → Act → Reply → Grants → Type 0
-MovesGrants t n grants (requests number) reply new = Instantiates t n (request_of t number) grants reply new
-MovesGrants t n grants (on_memory of k op) reply new = MovesObject private_memories (MemoryMoves op t.rule) of k grants reply new
-MovesGrants t n grants (drops of) reply new = Drops (grant_at grants of) grants of reply new
-
--- what a party may see: its live grants, and how often it called its store of objects and its maker of heaps
+-- what a party may see: its live grants, and how often it called its store of GC references and its maker of heaps
 pub record PrivateState : Type 0 where
   pub grants : Grants
   pub stores : ℕ
   pub heaps : ℕ
 
--- neither a store nor a maker of heaps is called by a command on memories
-pub record PrivateStep (t : Terms) (n : ℕ) (s : PrivateState) (command : Command) (reply : Reply) (new : PrivateState) : Type 0 where
-  pub moves : MovesGrants t n s.grants (act_of command) reply new.grants
-  pub stores : new.stores ≡ s.stores
-  pub heaps : new.heaps ≡ s.heaps
+-- what a command makes of the grants alone
+abbrev pub OnGrants : (Grants → Reply → Grants → Type 0) → PrivateState → Reply → PrivateState → Type 0
+OnGrants Move s reply new = (grants : Grants) × Move s.grants reply grants × (new ≡ record s { grants = grants })
+
+-- a table of a grant beside the calls on the store, and the state with both put back
+abbrev pub table_at : ℕ → ℕ → PrivateState → Option StoredTable
+table_at of k s = option_map (λ t. record { table = t; calls = s.stores }) (object_at private_tables of k s.grants)
+
+abbrev pub with_table : ℕ → ℕ → StoredTable → PrivateState → PrivateState
+with_table of k t s = record s { grants = with_object private_tables of k t.table s.grants; stores = t.calls }
+
+-- What command n does, its reply, and the state before and after. Only a command on a table calls the store, and none
+-- calls the maker of heaps.
+abbrev pub Moves : Terms → ℕ → PrivateState → Act → Reply → PrivateState → Type 0
+Moves t n s (requests number) reply new = OnGrants (Instantiates t n (request_of t number)) s reply new
+Moves t n s (on_memory of k op) reply new = OnGrants (MovesObject private_memories (MemoryMoves op t.host.rule) of k) s reply new
+Moves t n s (on_table of k op) reply new = MovesNamed (TableMoves op t.host) (table_at of k s) (with_table of k) s reply new
+Moves t n s (drops of) reply new = OnGrants (λ grants. Drops (grant_at grants of) grants of) s reply new
+
+abbrev pub PrivateStep : Terms → ℕ → PrivateState → Command → Reply → PrivateState → Type 0
+PrivateStep t n s command reply new = Moves t n s (act_of command) reply new
 
 -- Steps of commands, the first of which is command n: each of the replies is to the next command, from the state at the
 -- start to the one at the end. There may be fewer replies than commands.

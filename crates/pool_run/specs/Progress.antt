@@ -10,7 +10,7 @@ use Rattle.pool_alloc.specs.Asked.{ModuleAsked}
 use Rattle.pool_run.specs.Folds.{RunState, Folds, IsUnderWay}
 use Rattle.pool_run.specs.RunsMade.{Background, commands_in}
 use Rattle.pool_run.specs.Worlds.{NameModules}
-use Rattle.pool_run.specs.Acts.{Act, requests, on_memory, drops, act_of}
+use Rattle.pool_run.specs.Acts.{Act, requests, on_memory, on_table, drops, act_of}
 use Rattle.pool_run.specs.declared.command.Command.{Command}
 use Rattle.pool_run.specs.declared.input.Party.{Party}
 use Rattle.pool_run.specs.declared.running_party.RunningParty.{RunningParty}
@@ -61,6 +61,7 @@ module _ {P : Type 0} where
   abbrev pub bound_begun : List ModuleAsked → Act → PoolCore P → RunningParty P → ℕ
   bound_begun modules (requests number) c p = bound_asked c (slice_get modules number)
   bound_begun modules (on_memory of k op) c p = 1
+  bound_begun modules (on_table of k op) c p = 1
   bound_begun modules (drops of) c p = bound_returned c (slice_index_or p.live of None)
 
   -- the same of the party's next call; its stripe is drawn in one turn

@@ -1,14 +1,15 @@
 -- What the replies to a party tell of the pool beside its private run: the slots of its memories, and that a request is
 -- granted where there is room for it.
-use Rattle.std.specs.Prelude.{◌≡◌, ◌≢◌, ℕ, ◌+◌, ◌<◌, ◌≤◌, List, length, sum_by, slice_index_or, All, ◌⊎◌, Bool, true, false, Option, Some, None, IfSome}
+use Rattle.std.specs.Prelude.{◌≡◌, ◌≢◌, ℕ, ◌+◌, ◌<◌, ◌≤◌, List, [], length, sum_by, slice_index_or, All, ◌⊎◌, Bool, true, false, Option, Some, None, IfSome}
 use Rattle.pool_pages.specs.MakerTold.{MakerTold, plan_for}
 use Rattle.pool_pages.specs.declared.pages.RegionName.TheVariants.{Memory as memory_region}
-use Rattle.pool_limits.specs.Growth.{GrowthRule, always}
+use Rattle.pool_limits.specs.Growth.{always}
 use Rattle.pool_slots.specs.declared.errors.AllocError.{AllocError}
 use Rattle.pool_slots.specs.declared.errors.AllocError.TheVariants as alloc
 use Rattle.pool_slots.specs.declared.errors.ConcurrencyKind.{ConcurrencyKind}
-use Rattle.pool_slots.specs.declared.errors.ConcurrencyKind.TheVariants.{MemoryStripe, CoreInstances}
+use Rattle.pool_slots.specs.declared.errors.ConcurrencyKind.TheVariants.{MemoryStripe, Tables, CoreInstances}
 use Rattle.pool_run.specs.Private.{PrivateMemory, PrivateInstance, PrivateState, PrivateStep, Grants, Terms, grant_at, private_memories, Request, request_of, wants_of, slots_asked, growth, StepsBy, with_grants, no_grants}
+use Rattle.pool_run.specs.PrivateTables.{Host}
 use Rattle.pool_run.specs.Objects.{object_at}
 use Rattle.pool_run.specs.Acts.{MemoryOp, grows, Act, requests, on_memory, act_of}
 use Rattle.pool_run.specs.declared.command.Command.{Command}
@@ -16,13 +17,20 @@ use Rattle.pool_run.specs.declared.reply.Reply.{Reply}
 use Rattle.pool_run.specs.declared.reply.Reply.TheVariants.{Instance, Refused}
 use Rattle.pool_run.specs.declared.reply.Refusal.TheVariants.{Alloc}
 
--- how many memories are live
+-- how many memories are live, and how many tables
 abbrev pub memories_in : Option PrivateInstance → ℕ
 memories_in None = 0
 memories_in (Some g) = length g.memories
 
+abbrev pub tables_in : Option PrivateInstance → ℕ
+tables_in None = 0
+tables_in (Some g) = length g.tables
+
 abbrev pub live_count : Grants → ℕ
 live_count grants = sum_by memories_in grants
+
+abbrev pub table_count : Grants → ℕ
+table_count grants = sum_by tables_in grants
 
 -- and how many instances
 abbrev pub instances_in : Option PrivateInstance → ℕ
@@ -32,24 +40,31 @@ instances_in (Some g) = 1
 abbrev pub instance_count : Grants → ℕ
 instance_count grants = sum_by instances_in grants
 
--- what is the same for a whole run: the maker of the pool's regions, the rules by which the growth of each party's
--- memories is decided, whether there is one party alone, and the terms of the party that is spoken of
+-- what is the same for a whole run: the maker of the pool's regions, what the host answers each party, whether there is
+-- one party alone, and the terms of the party that is spoken of
 pub record World : Type 0 where
   pub maker : MakerTold
-  pub rules : List GrowthRule
+  pub hosts : List Host
   pub alone : Bool
   pub terms : Terms
 
--- the world of a party with this rule, and that of party i
-abbrev pub under : GrowthRule → World → World
-under rule w = record w { terms = record w.terms { rule = rule } }
+-- a host that allows everything
+abbrev pub open_host : Host
+open_host = record { rule = always; failing = [] }
+
+-- the world of a party with this host, and that of party i
+abbrev pub under : Host → World → World
+under host w = record w { terms = record w.terms { host = host } }
 
 abbrev pub world_at : World → ℕ → World
-world_at w i = under (slice_index_or w.rules i always) w
+world_at w i = under (slice_index_or w.hosts i open_host) w
 
--- no live memory is in this slot
+-- no live memory is in this slot, and no live table in that one
 abbrev pub HasNoMemoryIn : ℕ → Grants → Type 0
 HasNoMemoryIn slot grants = (i : ℕ) → IfSome (grant_at grants i) (λ g. All (λ m. m.slot ≢ slot) g.memories)
+
+abbrev pub HasNoTableIn : ℕ → Grants → Type 0
+HasNoTableIn slot grants = (i : ℕ) → IfSome (grant_at grants i) (λ g. All (λ t. t.slot ≢ slot) g.tables)
 
 -- no slot is named twice
 abbrev pub AllDiffer : List ℕ → Type 0
@@ -64,15 +79,17 @@ pub record AreFreeSlots (total live : ℕ) (IsFree : ℕ → Type 0) (slots : Li
   pub few : live + length slots ≤ total
 
 -- An instance that is granted has free slots, and the party's own grants leave room for it.
-pub record HasRoom (w : World) (grants : Grants) (memory_slots : List ℕ) : Type 0 where
+pub record HasRoom (w : World) (grants : Grants) (memory_slots table_slots : List ℕ) : Type 0 where
   pub memories : AreFreeSlots w.terms.slots (live_count grants) (λ slot. HasNoMemoryIn slot grants) memory_slots
+  pub tables : AreFreeSlots w.terms.table_slots (table_count grants) (λ slot. HasNoTableIn slot grants) table_slots
   pub instances : instance_count grants < w.terms.settings.max_core_instances
 
 -- A party that is alone is refused for room only where all that there is of this kind is its own: instances, or the slots,
--- with those of the memories of the request before the one for which none is free.
+-- with those of the memories, or of the tables, of the request before the one for which none is free.
 abbrev pub IsFull : World → Request → Grants → ConcurrencyKind → Type 0
 IsFull w request grants CoreInstances = w.terms.settings.max_core_instances ≤ instance_count grants
-IsFull w request grants (MemoryStripe s) = (i : ℕ) × (i < slots_asked w.terms.rule (wants_of request)) × (w.terms.slots ≤ live_count grants + i)
+IsFull w request grants (MemoryStripe s) = (i : ℕ) × (i < length request.memories) × (i < slots_asked w.terms (wants_of request)) × (w.terms.slots ≤ live_count grants + i)
+IsFull w request grants Tables = (i : ℕ) × (i < length request.tables) × (length request.memories + i < slots_asked w.terms (wants_of request)) × (w.terms.table_slots ≤ table_count grants + i)
 IsFull w request grants _ = ⊥
 
 -- the plan that this slot's region is made with, where it is told, lists a call on it
@@ -90,13 +107,13 @@ IsForRoom w request grants _ = Unit {0}
 
 -- what the reply to a request for an instance tells of room
 abbrev pub TellsRoom : World → Request → Grants → Reply → Type 0
-TellsRoom w request grants (Instance memories tables) = HasRoom w grants memories
+TellsRoom w request grants (Instance memories tables) = HasRoom w grants memories tables
 TellsRoom w request grants (Refused (Alloc e)) = IsForRoom w request grants e
 TellsRoom w request grants _ = Unit {0}
 
 -- A growth ends as its rules alone would have it, or a call on the pages of its memory's slot failed.
 abbrev pub TellsGrowth : World → ℕ → PrivateMemory → Reply → Type 0
-TellsGrowth w pages m reply = (reply ≡ (growth w.terms.rule false pages m).1) ⊎ MayFault w m.slot
+TellsGrowth w pages m reply = (reply ≡ (growth w.terms.host.rule false pages m).1) ⊎ MayFault w m.slot
 
 abbrev pub TellsMove : World → MemoryOp → PrivateMemory → Reply → Type 0
 TellsMove w (grows pages) m reply = TellsGrowth w pages m reply

@@ -1,16 +1,15 @@
 -- What a run of an input is: the turns of its schedule over a pool as it is made, and then of each party until it has
 -- nothing left; and the output, which tells each party a private run.
-use Rattle.std.specs.Prelude.{◌≡◌, ℕ, ◌<◌, ◌&&◌, ◌||◌, ◌==◌, List, [], ◌∷◌, ◌+◌, length, map, ◌⊎◌, Bool, true, false, Option, Some, None, IfSome}
+use Rattle.std.specs.Prelude.{◌++◌, ◌≡◌, ℕ, ◌<◌, ◌&&◌, ◌||◌, ◌==◌, List, [], ◌∷◌, ◌+◌, length, map, ◌⊎◌, Bool, true, false, Option, Some, None, IfSome}
 use Rattle.std.specs.List.{list_any, range_with_len}
 use Rattle.pool_pages.specs.FaultPlans.{failing_maker, planned_faults}
 use Rattle.pool_pages.specs.MakerTold.{MakerTold, Planned, calls_of}
 use Rattle.pool_pages.specs.Told.{Rose}
 use Rattle.pool_pages.specs.declared.bad_config.BadConfig.{BadConfig as BrokenRule}
 use Rattle.pool_pages.specs.declared.pages.RegionName.{RegionName}
-use Rattle.pool_pages.specs.declared.pages.RegionName.TheVariants.{Memory as memory_region}
+use Rattle.pool_pages.specs.declared.pages.RegionName.TheVariants.{Memory as memory_region, Table as table_region}
 use Rattle.pool_pages.specs.declared.module_types.ModuleInfo.{ModuleInfo}
 use Rattle.pool_pages.specs.declared.module_types.Tunables.{Tunables}
-use Rattle.pool_limits.specs.Growth.{GrowthRule, always}
 use Rattle.pool_images.specs.Images.{makes_listed_images}
 use Rattle.pool_alloc.specs.Made.{IsMadeCore, settings_of}
 use Rattle.pool_alloc.specs.Sums.{metrics_of}
@@ -18,9 +17,10 @@ use Rattle.pool_alloc.specs.Asked.{ModuleAsked}
 use Rattle.pool_run.specs.Folds.{RunParts, RunState, HoldsThroughout, Folds, Runs, commands_of, replies_to, told_state}
 use Rattle.pool_run.specs.Made.{calls_made}
 use Rattle.pool_run.specs.Numbers.{calls_of_run}
-use Rattle.pool_run.specs.PartyRules.{rule_of}
+use Rattle.pool_run.specs.PartyRules.{host_for}
+use Rattle.pool_run.specs.PrivateTables.{Host}
 use Rattle.pool_run.specs.Private.{Terms, has_images, IsPrivateRun, IsWholeRun}
-use Rattle.pool_run.specs.Rooms.{World, world_at, IsPooledRun}
+use Rattle.pool_run.specs.Rooms.{World, open_host, world_at, IsPooledRun}
 use Rattle.pool_run.specs.RunsMade.{commands_in, nothing_told, parties_made}
 use Rattle.pool_run.specs.Schedules.{turns_of}
 use Rattle.pool_run.specs.declared.command.Command.{Command}
@@ -34,23 +34,24 @@ use Rattle.pool_run.specs.declared.reply.Reply.{Reply}
 abbrev pub with_faults : Input → MakerTold → MakerTold
 with_faults input maker = failing_maker maker input.page (planned_faults input.faults) maker.next maker.faults
 
--- what the replies to a party of this input depend on, over regions of this maker, where its memories grow by this rule
-abbrev pub terms_of : Input → MakerTold → GrowthRule → Terms
-terms_of input maker rule = record {
+-- what the replies to a party of this input depend on, over regions of this maker, with this host
+abbrev pub terms_of : Input → MakerTold → Host → Terms
+terms_of input maker host = record {
   tells = maker.tells;
   modules = input.modules;
   settings = settings_of maker.page input.config input.tunables input.offered;
   slots = input.config.limits.total_memories;
-  rule = rule;
+  table_slots = input.config.limits.total_tables;
+  host = host;
 }
 
 -- what is the same for a whole run of this input
 abbrev pub world_of : Input → MakerTold → World
 world_of input maker = record {
   maker = maker;
-  rules = map (λ p. rule_of p.limits) input.parties;
+  hosts = map host_for input.parties;
   alone = length input.parties == 1;
-  terms = terms_of input maker always;
+  terms = terms_of input maker open_host;
 }
 
 -- the turns of the schedule, and with `finish` those of each party until it has nothing left
@@ -68,9 +69,12 @@ pub record Making : Type 0 where
   pub region : RegionName
   pub calls : List ℕ
 
--- the regions of so many memory slots, each with its making alone
-abbrev pub makings_of : ℕ → List Making
-makings_of total = map (λ slot. record { region = memory_region slot; calls = 0 ∷ [] }) (range_with_len 0 total)
+-- the regions of so many slots of a kind, each with its making alone
+abbrev pub makings_of : (ℕ → RegionName) → ℕ → List Making
+makings_of region total = map (λ slot. record { region = region slot; calls = 0 ∷ [] }) (range_with_len 0 total)
+
+abbrev pub makings_for : Input → List Making
+makings_for input = makings_of memory_region input.config.limits.total_memories ++ makings_of table_region input.config.limits.total_tables
 
 -- one of the calls that make the region is listed as one that fails
 abbrev pub region_listed : List Planned → Making → Bool
@@ -87,7 +91,7 @@ images_listed tunables page n plan (m ∷ ms) = module_listed tunables page n pl
 
 -- a making of a region of the pool, or of an image, is listed as one that fails
 abbrev pub making_listed : Input → List Planned → Bool
-making_listed input plan = list_any (region_listed plan) (makings_of input.config.limits.total_memories) || images_listed input.tunables input.page 0 plan input.modules
+making_listed input plan = list_any (region_listed plan) (makings_for input) || images_listed input.tunables input.page 0 plan input.modules
 
 -- The run is as it is made of the input: its pool is, with a call for each module, and no party has done anything. No
 -- making for it is one that fails, by the maker's own list or by its plan.

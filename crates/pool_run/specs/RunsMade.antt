@@ -15,6 +15,7 @@ use Rattle.pool_run.specs.declared.input.Party.{Party}
 use Rattle.pool_run.specs.declared.input.PartyLimits.{PartyLimits}
 use Rattle.pool_run.specs.declared.reply.Reply.{Reply}
 use Rattle.pool_run.specs.declared.running_party.RunningParty.{RunningParty}
+use Rattle.pool_run.specs.declared.slot_lists.SlotLists.{SlotLists}
 
 -- the commands of each party
 abbrev pub commands_in : List Party → List (List Command)
@@ -50,11 +51,18 @@ is_drawing _ = false
 
 module _ {P : Type 0} where
   -- a party as it is made, with places for so many commands
-  abbrev pub party_made : ℕ → Option PartyLimits → Settings → ℕ → RunningParty P
-  party_made home limits s places = record { frame = frame_made home s; limits = limits; keyed = false; done = 0; live = replicate places None }
+  abbrev pub party_made : ℕ → Option PartyLimits → List ℕ → Settings → ℕ → RunningParty P
+  party_made home limits failing s places = record {
+    frame = frame_made home s;
+    limits = limits;
+    store = record { failing = failing; made = 0; faults = 0 };
+    keyed = false;
+    done = 0;
+    live = replicate places None;
+  }
 
   abbrev pub party_made_for : Settings → Party → RunningParty P
-  party_made_for s p = party_made p.home p.limits s (length p.commands)
+  party_made_for s p = party_made p.home p.limits p.gc_faults s (length p.commands)
 
   abbrev pub parties_made : Settings → List Party → List (RunningParty P)
   parties_made s parties = map (party_made_for s) parties
@@ -71,10 +79,10 @@ module _ {P : Type 0} where
     pub few : places_in parties + 1 < 2 ^ 64
     pub drawn : All (λ p. is_drawing (stage_of p.frame) ≡ false) parties
 
-  -- Each party has a list for the slots of what it asks for.
-  pub record AreReserved (parties : List (RunningParty P)) (slots : List (Reserved ℕ)) : Type 0 where
+  -- Each party has lists for the slots of what it asks for.
+  pub record AreReserved (parties : List (RunningParty P)) (slots : List SlotLists) : Type 0 where
     pub count : length slots ≡ length parties
-    pub each : (i : ℕ) (d : RunningParty P) (x : Reserved ℕ) → i < length parties → IsReserved (slice_index_or parties i d).frame (slice_index_or slots i x)
+    pub each : (i : ℕ) (d : RunningParty P) (x : SlotLists) → i < length parties → IsReserved (slice_index_or parties i d).frame (slice_index_or slots i x)
 
   -- For each party there is a list with room for a reply to each of its commands.
   pub record HaveRoom (parties : List (RunningParty P)) (told : List (Reserved Reply)) : Type 0 where

@@ -1,16 +1,15 @@
 -- What a party was told, and what it has: between two turns they fit each other.
 use Rattle.std.specs.Prelude.{◌≡◌, ℕ, ◌+◌, ◌<◌, ◌≤◌, List, [], length, slice_get, slice_index_or, slice_set, sum_by, All, Bool, true, false, Option, Some, None, IsSome, IfSome}
 use Rattle.pool_pages.specs.MakerTold.{MakerTold}
-use Rattle.pool_limits.specs.Growth.{GrowthRule}
 use Rattle.pool_slots.specs.declared.errors.AllocError.{AllocError}
 use Rattle.pool_alloc.specs.Reserved.{Reserved}
 use Rattle.pool_alloc.specs.Searches.{IsSearched}
 use Rattle.pool_alloc.specs.Stages.{Progress, untested, uncounted, admitted, Stage, no_call, keys, asks, returning, refusing, stage_of}
-use Rattle.pool_alloc.specs.Steps.{memories_wanted, images_wanted}
+use Rattle.pool_alloc.specs.Steps.{memories_wanted, images_wanted, tables_wanted}
 use Rattle.pool_alloc.specs.Wants.{Want, wants_from}
 use Rattle.pool_slots.specs.declared.slot_name.SlotName.{SlotName}
-use Rattle.pool_alloc.specs.Places.{Thing, right_to, region_of, away_count, kept_count, frame_count, phase_instances, frame_memories}
-use Rattle.pool_alloc.specs.Stepping.{grant_count, grant_instances, grant_memories}
+use Rattle.pool_alloc.specs.Places.{Thing, right_to, region_of, away_count, kept_count, frame_count, phase_instances, frame_memories, frame_tables}
+use Rattle.pool_alloc.specs.Stepping.{grant_count, grant_instances, grant_memories, grant_tables}
 use Rattle.pool_alloc.specs.Calls.{IsGrant}
 use Rattle.pool_alloc.specs.Sound.{IsCore, IsFrame}
 use Rattle.pool_alloc.specs.Whole.{Holding, IsPartitioned}
@@ -18,7 +17,7 @@ use Rattle.pool_alloc.specs.declared.pool_core.PoolCore.{PoolCore}
 use Rattle.pool_alloc.specs.declared.frame.Frame.{Frame}
 use Rattle.pool_alloc.specs.Asked.{ModuleAsked}
 use Rattle.pool_alloc.specs.declared.frame.Grant.{Grant}
-use Rattle.pool_run.specs.Private.{Grants, Request, request_of, wants_of, grant_at, own_refusal, IsCause, StepsBy, with_grants}
+use Rattle.pool_run.specs.Private.{Grants, Terms, Request, request_of, wants_of, grant_at, own_refusal, IsCause, StepsBy, with_grants}
 use Rattle.pool_run.specs.Rooms.{World, PooledStep, IsForRoom, instance_count}
 use Rattle.pool_run.specs.Turns.{grants_of}
 use Rattle.pool_run.specs.Acts.{requests, drops, act_at}
@@ -26,17 +25,18 @@ use Rattle.pool_run.specs.declared.command.Command.{Command}
 use Rattle.pool_run.specs.declared.reply.Reply.{Reply}
 use Rattle.pool_run.specs.declared.reply.Refusal.TheVariants.{Alloc}
 use Rattle.pool_run.specs.declared.running_party.RunningParty.{RunningParty}
+use Rattle.pool_run.specs.declared.slot_lists.SlotLists.{SlotLists}
 
 -- thing k that is asked for has no refusal of its own
-abbrev pub HasNoRefusal : GrowthRule → List Want → ℕ → Type 0
-HasNoRefusal rule wants k = IfSome (slice_get wants k) (λ want. own_refusal rule want ≡ None)
+abbrev pub HasNoRefusal : Terms → List Want → ℕ → Type 0
+HasNoRefusal t wants k = IfSome (slice_get wants k) (λ want. own_refusal t want ≡ None)
 
 -- What is known of a request that is so far: it broke no rule; then there was room for an instance, and none of the
--- memories that are made has a refusal of its own.
+-- memories and tables that are made has a refusal of its own.
 pub record IsAdmitted (w : World) (request : Request) (told : Grants) (n : ℕ) : Type 0 where
   pub supported : request.broken ≡ None
   pub counted : instance_count told < w.terms.settings.max_core_instances
-  pub allowed : (k : ℕ) → k < n → HasNoRefusal w.terms.rule (wants_of request) k
+  pub allowed : (k : ℕ) → k < n → HasNoRefusal w.terms (wants_of request) k
 
 abbrev pub IsSoFar : World → Request → Grants → Progress → Type 0
 IsSoFar w request told untested = Unit {0}
@@ -50,6 +50,7 @@ HasCause w request told e = IsCause w.terms request (Alloc e) × IsForRoom w req
 -- a call asks for what the request is for
 pub record IsFor (request : Request) (asked : Option ModuleAsked) : Type 0 where
   pub memories : wants_from (memories_wanted asked) (images_wanted asked) ≡ request.memories
+  pub tables : tables_wanted asked ≡ request.tables
 
 -- the command under way requests an instance, and what is asked for is what it is for
 pub record IsRequest (w : World) (commands : List Command) (done : ℕ) (asked : Option ModuleAsked) (told : Grants) (progress : Progress) : Type 0 where
@@ -84,11 +85,16 @@ abbrev pub is_asking : Stage → Bool
 is_asking (asks progress) = true
 is_asking _ = false
 
+-- a list is empty, and has room for so many slots where they are asked for
+pub record HasRoomFor (asked_for : Bool) (count : ℕ) (slots : Reserved ℕ) : Type 0 where
+  pub empty : slots.items ≡ []
+  pub room : asked_for ≡ true → count ≤ slots.room
+
 module _ {P : Type 0} where
   -- What a party was told so far is a private run that tells of the pool, whose grants fit what the party has.
   pub record IsPrivate (w : World) (start : Grants) (commands : List Command) (replies : List Reply) (p : RunningParty P) : Type 0 where
     pub grants : Grants
-    pub run : StepsBy (PooledStep w) 0 commands replies (with_grants start) (with_grants grants)
+    pub run : StepsBy (PooledStep w) 0 commands replies (with_grants start) (record (with_grants grants) { stores = p.store.made })
     pub count : length replies ≡ p.done
     pub tied : TiedAs w (stage_of p.frame) commands p.done p.frame.asked (grants_of p.live) grants
 
@@ -102,6 +108,7 @@ module _ {P : Type 0} where
     places = λ t. frame_count t p.frame + sum_by (granted_to (grant_count t)) p.live;
     instances = phase_instances p.frame.phase + sum_by (granted_to grant_instances) p.live;
     memories = frame_memories p.frame + sum_by (granted_to grant_memories) p.live;
+    tables = frame_tables p.frame + sum_by (granted_to grant_tables) p.live;
   }
 
   -- what a turn leaves of a party that its calls say
@@ -116,10 +123,10 @@ module _ {P : Type 0} where
     pub to_come : (k : ℕ) → p.done ≤ k → slice_index_or p.live k None ≡ None
     pub place : is_asking (stage_of p.frame) ≡ true → p.done < length p.live
 
-  -- the list for the slots of what is asked for is empty, and has room for them
-  pub record IsReserved (f : Frame P) (slots : Reserved ℕ) : Type 0 where
-    pub empty : slots.items ≡ []
-    pub room : is_asking (stage_of f) ≡ true → length (memories_wanted f.asked) ≤ slots.room
+  -- the lists for the slots of what is asked for are empty, and have room for them
+  pub record IsReserved (f : Frame P) (slots : SlotLists) : Type 0 where
+    pub memories : HasRoomFor (is_asking (stage_of f)) (length (memories_wanted f.asked)) slots.memories
+    pub tables : HasRoomFor (is_asking (stage_of f)) (length (tables_wanted f.asked)) slots.tables
 
   -- What a turn relies on: what the party has fits what the pool has given out. It was given out and isn't kept, others
   -- have no region without its slot, and what the party has counted is counted.
@@ -128,6 +135,7 @@ module _ {P : Type 0} where
     pub others : (name : SlotName) → away_count (region_of name) c + (kept_count (right_to name) c + (held_by_party p).places (right_to name)) ≤ away_count (right_to name) c + (kept_count (region_of name) c + (held_by_party p).places (region_of name))
     pub instances : (held_by_party p).instances ≤ c.counters.core_instances
     pub memories : (held_by_party p).memories ≤ c.counters.memories
+    pub tables : (held_by_party p).tables ≤ c.counters.tables
 
   pub record CanTurn (maker : MakerTold) (c : PoolCore P) (p : RunningParty P) : Type 0 where
     pub core : IsCore maker c

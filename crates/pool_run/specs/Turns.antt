@@ -1,13 +1,18 @@
 -- A turn of a party in a run: the next step of its call, or the first step of its next command.
-use Rattle.std.specs.Prelude.{◌≡◌, ℕ, ◌+◌, List, [], ◌∷◌, ◌++◌, length, map, replicate, nat_le, slice_get, slice_index_or, slice_set, ◌⊎◌, Bool, true, false, if◌then◌else◌, Option, Some, None, option_map}
+use Rattle.std.specs.Prelude.{◌≡◌, ℕ, ◌+◌, ◌*◌, List, [], ◌∷◌, ◌++◌, length, map, replicate, nat_le, nat_lt, slice_get, slice_index_or, slice_set, ◌⊎◌, Bool, true, false, if◌then◌else◌, Option, Some, None, option_map}
+use Rattle.std.specs.List.{concat}
+use Rattle.pool_pages.specs.Told.{Told, overwritten, risen}
 use Rattle.pool_limits.specs.Growth.{GrowthRule}
 use Rattle.pool_limits.specs.LimiterTold.{LimiterTold}
 use Rattle.pool_limits.specs.declared.errors.GrowError.TheVariants.{PageFault}
 use Rattle.pool_memory.specs.Growing.{InPlace, FailsInPlace, IsCallPlanned}
 use Rattle.pool_memory.specs.Memories.{MemoryState, bytes_of, memory_written}
 use Rattle.pool_slots.specs.declared.errors.AllocError.TheVariants as alloc
+use Rattle.pool_table.specs.Elements.{ElementKind, Element, width, word, type_of}
+use Rattle.pool_table.specs.declared.gc_store.ListedStore.{ListedStore}
 use Rattle.pool_alloc.specs.Leases.{Lease, IsUsable}
-use Rattle.pool_alloc.specs.Reserved.{Reserved, no_room}
+use Rattle.pool_alloc.specs.TableLeases.{LeasedTable, LiesInRegion}
+use Rattle.pool_alloc.specs.Reserved.{no_room}
 use Rattle.pool_alloc.specs.Calls.{begun_call}
 use Rattle.pool_alloc.specs.Turns.{After}
 use Rattle.pool_alloc.specs.Stepping.{StepsTo, is_idle}
@@ -19,16 +24,19 @@ use Rattle.pool_alloc.specs.declared.frame.Grant.{Grant}
 use Rattle.pool_alloc.specs.declared.frame.Grant.TheVariants.{Instance as instance}
 use Rattle.pool_alloc.specs.declared.frame.Outcome.{Outcome}
 use Rattle.pool_alloc.specs.declared.frame.Outcome.TheVariants as answer
-use Rattle.pool_run.specs.PartyRules.{rule_of}
+use Rattle.pool_run.specs.PartyRules.{rule_of, host_of}
+use Rattle.pool_run.specs.PrivateTables.{Host, PrivateTable, StoredTable, TableMoves, elements_set}
+use Rattle.pool_run.specs.TableValues.{element_for}
 use Rattle.pool_run.specs.Private.{PrivateMemory, PrivateInstance, Grants, IsRead, GrowthEnd, as_it_was, could_not, has_grown, growth, size_wanted, memory_grown}
-use Rattle.pool_run.specs.Objects.{Objects, MovesObject}
-use Rattle.pool_run.specs.Acts.{MemoryOp, reads, writes, fills, grows, asks_size, Act, requests, on_memory, drops, act_of}
+use Rattle.pool_run.specs.Objects.{Objects, MovesObject, object_at}
+use Rattle.pool_run.specs.Acts.{MemoryOp, reads, writes, fills, grows, asks_size, TableOp, sets, Act, requests, on_memory, on_table, drops, act_of}
 use Rattle.pool_run.specs.declared.command.Command.{Command}
 use Rattle.pool_run.specs.declared.reply.Reply.{Reply}
 use Rattle.pool_run.specs.declared.reply.Reply.TheVariants.{Instance, Done, Size, Returned, Refused, Trap as trapped}
 use Rattle.pool_limits.specs.declared.errors.Trap.TheVariants.{MemoryOutOfBounds}
-use Rattle.pool_run.specs.declared.reply.Refusal.TheVariants.{NoSuchGrant, Alloc}
+use Rattle.pool_run.specs.declared.reply.Refusal.TheVariants.{NoSuchGrant, GcStoreFault, Alloc}
 use Rattle.pool_run.specs.declared.running_party.RunningParty.{RunningParty}
+use Rattle.pool_run.specs.declared.slot_lists.SlotLists.{SlotLists}
 
 -- the memory in a slot, as the party sees it
 abbrev pub seen_as : ℕ → MemoryState → PrivateMemory
@@ -70,6 +78,45 @@ LeaseMoves (fills at len byte) rule l new reply = MovesLease (MemoryWrites at (r
 LeaseMoves (grows pages) rule l new reply = MovesLease (MemoryGrows rule pages) l new reply
 LeaseMoves asks_size rule l new reply = (reply ≡ Size l.memory.linear.size) × (new ≡ l)
 
+-- the table in a slot, as the party sees it
+abbrev pub private_table : LeasedTable → PrivateTable
+private_table l = record { slot = l.index; kind = l.table.kind; size = l.table.size; maximum = l.table.maximum; elements = l.table.elements }
+
+-- a table of a party with this store, as the party sees both
+abbrev pub stored_as : LeasedTable → ListedStore → StoredTable
+stored_as l s = record { table = private_table l; calls = s.made }
+
+-- so many elements of a table in a region were set from a place on: their words were written there
+abbrev pub region_set : ℕ → ℕ → Element → ElementKind → Told → Told
+region_set first done element kind r = overwritten (first * width kind) (concat (replicate done (word kind element))) r
+
+-- The region after an operation on the table that lies there, where these calls on the store fail. Only elements that are
+-- set are written.
+abbrev pub region_left : TableOp → List ℕ → StoredTable → Told → Told
+region_left (sets first count value) failing t r =
+    if nat_lt t.table.size (first + count)
+    then r
+    else region_set first (elements_set t.table.kind failing t.calls count) (element_for (type_of t.table.kind) value) t.table.kind r
+region_left _ failing t r = r
+
+-- the count of faults of a store after a reply
+abbrev pub faults_left : Reply → ℕ → ℕ
+faults_left (Refused GcStoreFault) faults = risen faults
+faults_left _ faults = faults
+
+-- A lease whose table moved as its party sees it, whose store was in one state before and is in the other after. The table
+-- lies where it lay.
+pub record MovesTable (op : TableOp) (rule : GrowthRule) (before after : ListedStore) (l new : LeasedTable) (reply : Reply) : Type 0 where
+  pub same : new ≡ record l { table = new.table }
+  pub move : TableMoves op (record { rule = rule; failing = before.failing }) (stored_as l before) (stored_as new after) reply
+  pub region : new.table.region ≡ option_map (region_left op before.failing (stored_as l before)) l.table.region
+  pub lies : (new.table ≡ l.table) ⊎ LiesInRegion new.table
+  pub store : after ≡ record before { made = after.made; faults = faults_left reply before.faults }
+
+-- no lists of slots, which have no room
+abbrev pub no_lists : SlotLists
+no_lists = record { memories = no_room; tables = no_room }
+
 -- the replies so far, with one more if there is one
 abbrev pub with_reply : Option Reply → List Reply → List Reply
 with_reply None before = before
@@ -82,21 +129,24 @@ pub record Turned (P : Type 0) : Type 0 where
   pub reply : Option Reply
 
 -- What a turn opens with: nothing, where nothing is left to do; a command that ends at once, with this reply and these
--- live grants; or a step of a call, from this frame and beside these live grants.
+-- live grants and this store; or a step of a call, from this frame and beside these live grants.
 pub data Opening (P : Type 0) : Type 0 where
   rests : Opening P
-  replies : Reply → List (Option (Grant P)) → Opening P
+  replies : Reply → List (Option (Grant P)) → ListedStore → Opening P
   makes_step : Frame P → List (Option (Grant P)) → Opening P
 
 module _ {P : Type 0} where
   abbrev pub private_grant : Grant P → PrivateInstance
-  private_grant (instance lease) = record { memories = map private_memory lease.memories.items }
+  private_grant (instance lease) = record { memories = map private_memory lease.memories.items; tables = map private_table lease.tables.items }
 
   abbrev pub grants_of : List (Option (Grant P)) → Grants
   grants_of live = map (option_map private_grant) live
 
   abbrev pub leases_of : Grant P → List Lease
   leases_of (instance lease) = lease.memories.items
+
+  abbrev pub tables_of : Grant P → List LeasedTable
+  tables_of (instance lease) = lease.tables.items
 
   -- the command ends with this reply
   abbrev pub ended_with : Reply → PoolCore P → RunningParty P → Turned P
@@ -111,7 +161,7 @@ module _ {P : Type 0} where
 
   -- the reply to a request that was granted
   abbrev pub granted_reply : Grant P → Reply
-  granted_reply (instance lease) = Instance (map (λ l. l.index) lease.memories.items) []
+  granted_reply (instance lease) = Instance (map (λ l. l.index) lease.memories.items) (map (λ l. l.index) lease.tables.items)
 
   -- a call's answer, as the party takes it
   abbrev pub answered : Option (Outcome P) → PoolCore P → RunningParty P → Turned P
@@ -121,9 +171,9 @@ module _ {P : Type 0} where
   answered (Some answer.Returned) c p = ended_with Returned c p
   answered (Some (answer.Refused e)) c p = ended_with (Refused (Alloc e)) c p
 
-  -- the list for the slots of what is asked for: its grant's reply takes it
-  abbrev pub slots_after : Option (Outcome P) → Reserved ℕ → Reserved ℕ
-  slots_after (Some (answer.Granted grant)) slots = no_room
+  -- the lists for the slots of what is asked for: its grant's reply takes them
+  abbrev pub slots_after : Option (Outcome P) → SlotLists → SlotLists
+  slots_after (Some (answer.Granted grant)) slots = no_lists
   slots_after _ slots = slots
 
   abbrev pub after_step : After P → RunningParty P → Turned P
@@ -137,6 +187,17 @@ module _ {P : Type 0} where
   abbrev pub Steps : PoolCore P → RunningParty P → Turned P → Type 0
   Steps c p t = (a : After P) × StepsUnder (rule_of p.limits) c p.frame a × (t ≡ after_step a p)
 
+  -- the leases of the tables of a grant
+  abbrev pub with_table_lease : ℕ → LeasedTable → Grant P → Grant P
+  with_table_lease k l (instance lease) = instance (record lease { tables = record lease.tables { items = slice_set lease.tables.items k l } })
+
+  abbrev pub table_leases : Objects (Grant P) LeasedTable
+  table_leases = record { in_grant = tables_of; put_in = with_table_lease }
+
+  -- what the host answers the party
+  abbrev pub host_of_party : RunningParty P → Host
+  host_of_party p = host_of p.limits p.store.failing
+
   -- the leases of the memories of a grant
   abbrev pub with_lease : ℕ → Lease → Grant P → Grant P
   with_lease k l (instance lease) = instance (record lease { memories = record lease.memories { items = slice_set lease.memories.items k l } })
@@ -149,18 +210,21 @@ module _ {P : Type 0} where
   abbrev pub OpensRequest : Option ModuleAsked → RunningParty P → Opening P → Type 0
   OpensRequest None p o = ⊥
   OpensRequest (Some kept) p o =
-      (o ≡ replies (Refused (Alloc alloc.Memory)) p.live) ⊎ (o ≡ makes_step (begun_call (call.Module kept) p.frame) p.live)
+      (o ≡ replies (Refused (Alloc alloc.Memory)) p.live p.store) ⊎ (o ≡ makes_step (begun_call (call.Module kept) p.frame) p.live)
 
   -- a grant that the party gives back is no longer one of its live ones
   abbrev pub drop_opening : Option (Grant P) → ℕ → RunningParty P → Opening P
-  drop_opening None of p = replies (Refused NoSuchGrant) p.live
+  drop_opening None of p = replies (Refused NoSuchGrant) p.live p.store
   drop_opening (Some grant) of p = makes_step (begun_call (call.GiveBack grant) p.frame) (slice_set p.live of None)
 
   -- what a command opens with, where these are the calls for the modules by number
   abbrev pub OpensAct : List ModuleAsked → Act → RunningParty P → Opening P → Type 0
   OpensAct modules (requests number) p o = OpensRequest (slice_get modules number) p o
   OpensAct modules (on_memory of k op) p o =
-      (reply : Reply) × (live : List (Option (Grant P))) × MovesObject memory_leases (LeaseMoves op (rule_of p.limits)) of k p.live reply live × (o ≡ replies reply live)
+      (reply : Reply) × (live : List (Option (Grant P))) × MovesObject memory_leases (LeaseMoves op (rule_of p.limits)) of k p.live reply live × (o ≡ replies reply live p.store)
+  OpensAct modules (on_table of k op) p o =
+      (reply : Reply) × (live : List (Option (Grant P))) × (store : ListedStore) × MovesObject table_leases (MovesTable op (rule_of p.limits) p.store store) of k p.live reply live
+      × (object_at table_leases of k p.live ≡ None → store ≡ p.store) × (o ≡ replies reply live store)
   OpensAct modules (drops of) p o = o ≡ drop_opening (slice_index_or p.live of None) of p
 
   -- the next command, if there is one; before its first the party draws its stripe
@@ -177,7 +241,7 @@ module _ {P : Type 0} where
   -- what a turn leaves that opens so
   abbrev pub Leaves : Opening P → PoolCore P → RunningParty P → Turned P → Type 0
   Leaves rests c p t = t ≡ record { core = c; party = p; reply = None }
-  Leaves (replies reply live) c p t = t ≡ ended_at_once reply c (record p { live = live })
+  Leaves (replies reply live store) c p t = t ≡ ended_at_once reply c (record p { live = live; store = store })
   Leaves (makes_step frame live) c p t = Steps c (record p { frame = frame; live = live }) t
 
   abbrev pub TurnsFrom : (Opening P → Type 0) → PoolCore P → RunningParty P → Turned P → Type 0

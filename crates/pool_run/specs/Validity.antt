@@ -1,11 +1,13 @@
 -- When an input can be run: its sizes are within the limits, and what it names is there.
 use Rattle.std.specs.Prelude.{ℕ, List, [], ◌∷◌, ◌++◌, length, ◌&&◌, nat_lt, nat_le, Bool, true, false, Option, Some, None}
 use Rattle.std.specs.List.{list_all, slice_get}
-use Rattle.std.specs.Option.{option_map_or}
+use Rattle.std.specs.Option.{option_map_or, option_and_then}
 use Rattle.pool_pages.specs.declared.module_types.ImageDecl.{ImageDecl}
 use Rattle.pool_pages.specs.declared.module_types.MemoryDecl.{MemoryDecl}
 use Rattle.pool_pages.specs.declared.module_types.ModuleInfo.{ModuleInfo}
-use Rattle.pool_run.specs.Acts.{MemoryOp, reads, writes, Act, requests, on_memory, drops, act_of, act_at}
+use Rattle.pool_pages.specs.declared.table_type.TableType.{TableType}
+use Rattle.pool_run.specs.TableValues.{is_value_of}
+use Rattle.pool_run.specs.Acts.{MemoryOp, reads, writes, TableOp, sets, Act, requests, on_memory, on_table, drops, act_of, act_at}
 use Rattle.pool_run.specs.declared.command.Command.{Command}
 use Rattle.pool_run.specs.declared.input.Input.{Input}
 use Rattle.pool_run.specs.declared.input.Party.{Party}
@@ -16,9 +18,12 @@ use Rattle.pool_run.specs.Schedules.{turns_of}
 abbrev pub most_modules : ℕ
 most_modules = 1000
 
--- how many memories a module may have
+-- how many memories a module may have, and how many tables
 abbrev pub most_memories : ℕ
 most_memories = 100
+
+abbrev pub most_tables : ℕ
+most_tables = 100
 
 -- how many parties there may be
 abbrev pub most_parties : ℕ
@@ -40,24 +45,31 @@ most_commands = 100000
 abbrev pub most_bytes : ℕ
 most_bytes = 1048576
 
--- how many memories the module of this number has, where there is one
-abbrev pub memory_count : Option ModuleInfo → Option ℕ
-memory_count None = None
-memory_count (Some info) = Some (length info.memories)
+-- the module of which an instance is requested, where one is
+abbrev pub module_granted : List ModuleInfo → Option Act → Option ModuleInfo
+module_granted modules (Some (requests number)) = slice_get modules number
+module_granted modules _ = None
 
--- how many memories the grant has that is requested, where one is
-abbrev pub memories_granted : List ModuleInfo → Option Act → Option ℕ
-memories_granted modules (Some (requests number)) = memory_count (slice_get modules number)
-memories_granted modules _ = None
+-- command `of` of the earlier ones requests a grant that has this memory, or this table
+abbrev pub has_memory : Option ModuleInfo → ℕ → Bool
+has_memory None place = false
+has_memory (Some info) place = nat_lt place (length info.memories)
 
--- there is one with this number
-abbrev pub has : Option ℕ → ℕ → Bool
-has None place = false
-has (Some count) place = nat_lt place count
-
--- command `of` of the earlier ones requests a grant that has this memory
 abbrev pub names_memory : List ModuleInfo → List Command → ℕ → ℕ → Bool
-names_memory modules earlier of memory = has (memories_granted modules (act_at earlier of)) memory
+names_memory modules earlier of memory = has_memory (module_granted modules (act_at earlier of)) memory
+
+abbrev pub table_named : List ModuleInfo → List Command → ℕ → ℕ → Option TableType
+table_named modules earlier of table = option_and_then (λ (info : ModuleInfo). slice_get info.tables table) (module_granted modules (act_at earlier of))
+
+-- an element of a table of this type can be set to it
+abbrev pub can_be_set : TableOp → TableType → Bool
+can_be_set (sets at count value) ty = is_value_of ty.element value
+can_be_set _ ty = true
+
+-- command `of` requests a grant that has this table, of which the operation can be one
+abbrev pub suits : TableOp → Option TableType → Bool
+suits op None = false
+suits op (Some ty) = can_be_set op ty
 
 -- a grant is requested
 abbrev pub requests_grant : Option Act → Bool
@@ -74,6 +86,7 @@ is_short _ = true
 abbrev pub is_valid_act : List ModuleInfo → List Command → Act → Bool
 is_valid_act modules earlier (requests number) = nat_lt number (length modules)
 is_valid_act modules earlier (on_memory of k op) = is_short op && names_memory modules earlier of k
+is_valid_act modules earlier (on_table of k op) = suits op (table_named modules earlier of k)
 is_valid_act modules earlier (drops of) = requests_grant (act_at earlier of)
 
 -- so can each of the commands, after the earlier ones and those before it
@@ -81,9 +94,11 @@ abbrev pub are_valid_after : List ModuleInfo → List Command → List Command �
 are_valid_after modules earlier [] = true
 are_valid_after modules earlier (command ∷ rest) = is_valid_act modules earlier (act_of command) && are_valid_after modules (earlier ++ command ∷ []) rest
 
--- its home is one of those that there are, and its commands are valid one after another
+-- its home is one of those that there are, the calls on its store are numbered from 1 on, and its commands are valid one
+-- after another
 abbrev pub is_valid_party : List ModuleInfo → Party → Bool
-is_valid_party modules party = nat_lt party.home homes && (nat_le (length party.commands) most_commands && are_valid_after modules [] party.commands)
+is_valid_party modules party =
+    list_all (nat_lt 0) party.gc_faults && (nat_lt party.home homes && (nat_le (length party.commands) most_commands && are_valid_after modules [] party.commands))
 
 -- each step is one of a party that there is, of so many parties
 abbrev pub is_valid_schedule : ℕ → List ScheduleEntry → Bool
@@ -94,7 +109,7 @@ abbrev pub is_valid_memory : MemoryDecl → Bool
 is_valid_memory decl = option_map_or (λ (image : ImageDecl). nat_le (length image.bytes) most_bytes) decl.image true
 
 abbrev pub is_valid_module : ModuleInfo → Bool
-is_valid_module info = nat_le (length info.memories) most_memories && list_all is_valid_memory info.memories
+is_valid_module info = nat_le (length info.memories) most_memories && (nat_le (length info.tables) most_tables && list_all is_valid_memory info.memories)
 
 abbrev pub are_valid_modules : List ModuleInfo → Bool
 are_valid_modules modules = nat_le (length modules) most_modules && list_all is_valid_module modules

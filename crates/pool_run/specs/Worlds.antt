@@ -1,10 +1,11 @@
 -- What a run relies on from its input: the pool has the sizes that replies speak of, and each call for a module is a call
 -- for its memories and their images.
 use Rattle.std.specs.Prelude.{◌≡◌, ℕ, ◌<◌, List, length, slice_get, true, Some, IfSome}
+use Rattle.pool_hall.specs.declared.unit_name.SlotKind.TheVariants.{Table as table_kind}
 use Rattle.pool_slots.specs.Plans.{has_number}
 use Rattle.pool_slots.specs.declared.plan.Plan.{Plan}
 use Rattle.pool_alloc.specs.Modules.{HasImages}
-use Rattle.pool_alloc.specs.Steps.{memories_wanted, images_wanted, memory_slots, stripe_allocator}
+use Rattle.pool_alloc.specs.Steps.{memories_wanted, images_wanted, memory_slots, stripe_allocator, allocator_of}
 use Rattle.pool_alloc.specs.Sound.{AreImagesOf}
 use Rattle.pool_alloc.specs.declared.pool_core.PoolCore.{PoolCore}
 use Rattle.pool_alloc.specs.declared.pool_core.Settings.{Settings}
@@ -22,11 +23,18 @@ pub record HasOneStripe (slots : ℕ) (plan : Plan) : Type 0 where
   pub room : (stripe_allocator plan 0).capacity ≡ slots
   pub each : (slot : ℕ) → slot < slots → has_number (stripe_allocator plan 0) slot ≡ true
 
+-- and so many are all its slots for tables, which have one allocator
+pub record HasTables (slots : ℕ) (plan : Plan) : Type 0 where
+  pub total : slots ≡ plan.totals.table
+  pub room : (allocator_of plan table_kind 0).capacity ≡ slots
+  pub each : (slot : ℕ) → slot < slots → has_number (allocator_of plan table_kind 0) slot ≡ true
+
 -- the pool has the settings and as many slots as the world says, in one stripe
 pub record IsWorldOf {P : Type 0} (w : World) (c : PoolCore P) : Type 0 where
   pub tells : w.terms.tells ≡ w.maker.tells
   pub settings : w.terms.settings ≡ c.settings
   pub plan : HasOneStripe w.terms.slots c.plan
+  pub tables : HasTables w.terms.table_slots c.plan
 
 -- the images that are given are those of the module's memories
 pub record IsFit (s : Settings) (m : ModuleAsked) : Type 0 where

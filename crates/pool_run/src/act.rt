@@ -2,7 +2,7 @@ ghost use Rattle.std.specs.Prelude.{◌≡◌};
 ghost use Rattle.pool_run.specs.Acts.{act_of};
 ghost use Rattle.pool_run.specs.AtOnce.{given_act};
 
-use crate::command::Command;
+use crate::command::{Command, TableValue};
 
 /// What a command does with a memory of a live grant.
 #[derive(Drop)]
@@ -11,6 +11,23 @@ pub(crate) enum MemoryOp<'a> {
     Write { at: u64, bytes: &'a [u8] },
     Fill { at: u64, len: u64, byte: u8 },
     Grow { pages: u64 },
+    Size,
+}
+
+/// What a command does with a table of a live grant.
+#[derive(Drop)]
+pub(crate) enum TableOp {
+    Get {
+        at: u64,
+    },
+    Set {
+        at: u64,
+        value: TableValue,
+        len: u64,
+    },
+    Grow {
+        by: u64,
+    },
     Size,
 }
 
@@ -26,6 +43,12 @@ pub(crate) enum Act<'a> {
         of: usize,
         memory: usize,
         op: MemoryOp<'a>,
+    },
+    /// Does something with table `table` of the grant of command `of`.
+    OnTable {
+        of: usize,
+        table: usize,
+        op: TableOp,
     },
     /// Gives the grant of command `of` back.
     Drop {
@@ -86,6 +109,50 @@ pub(crate) fn act_of(command: &Command) -> Act<'_>
             of: *of,
             memory: *memory,
             op: MemoryOp::Size,
+        },
+        Command::Get { of, table, at } => Act::OnTable {
+            of: *of,
+            table: *table,
+            op: TableOp::Get { at: *at },
+        },
+        Command::Set {
+            of,
+            table,
+            at,
+            value,
+        } => Act::OnTable {
+            of: *of,
+            table: *table,
+            op: TableOp::Set {
+                at: *at,
+                value: *value,
+                len: 1,
+            },
+        },
+        Command::TableFill {
+            of,
+            table,
+            at,
+            value,
+            len,
+        } => Act::OnTable {
+            of: *of,
+            table: *table,
+            op: TableOp::Set {
+                at: *at,
+                value: *value,
+                len: *len,
+            },
+        },
+        Command::TableGrow { of, table, by } => Act::OnTable {
+            of: *of,
+            table: *table,
+            op: TableOp::Grow { by: *by },
+        },
+        Command::TableSize { of, table } => Act::OnTable {
+            of: *of,
+            table: *table,
+            op: TableOp::Size,
         },
         Command::Drop { of } => Act::Drop { of: *of },
     }

@@ -1,7 +1,7 @@
 ghost use Rattle.std.specs.Prelude.{◌≡◌, ◌<◌, length, replicate, slice_get, slice_set, None, Some};
 ghost use Rattle.pool_alloc.specs.Leases.{IsChanged};
 ghost use Rattle.pool_alloc.specs.declared.frame.Grant.TheVariants.{Instance as instance};
-ghost use Rattle.pool_run.specs.AtOnce.{given_op, GrowsUnder, growth_reply, write_reply};
+ghost use Rattle.pool_run.specs.AtOnce.{given_op, GrowsUnder};
 ghost use Rattle.pool_run.specs.PartyRules.{rule_of};
 ghost use Rattle.pool_run.specs.Objects.{MovesNamed, MovesObject};
 ghost use Rattle.pool_run.specs.Private.{IsRead};
@@ -13,9 +13,10 @@ use crate::copies::zeros;
 use crate::input::PartyLimits;
 use crate::leases::Leases;
 use crate::limiter::limiter_of;
+use crate::replies::{growth_reply, write_reply};
 use crate::reply::{Refusal, Reply};
 use pool_alloc::{Grant, InstanceLease, MemoryLease, ReservedList};
-use pool_limits::{GrowFault, Trap, Unlimited};
+use pool_limits::{GrowFault, Unlimited};
 use pool_pages::{ByteList, Pages};
 use pool_slots::AllocError as Cause;
 use std::alloc::Global;
@@ -138,25 +139,5 @@ fn grow<P: Pages>(
             let mut limiter = limiter_of(limits);
             memories.grow(memory, pages, &mut limiter)
         }
-    }
-}
-
-fn write_reply(answer: Result<(), Trap>) -> Reply
-    ensures { result ≡ write_reply answer }
-{
-    match answer {
-        Ok(()) => Reply::Done,
-        Err(trap) => Reply::Trap(trap),
-    }
-}
-
-fn growth_reply(answer: Result<Option<usize>, GrowFault>) -> Reply
-    ensures { result ≡ growth_reply answer }
-{
-    match answer {
-        Ok(None) => Reply::Grown(None),
-        Ok(Some(size)) => Reply::Grown(Some(size as u64)),
-        Err(GrowFault::Memory) => Reply::Refused(Refusal::Alloc(Cause::Memory)),
-        Err(GrowFault::LimiterFault(e)) => Reply::Refused(Refusal::Alloc(Cause::LimiterFault(e))),
     }
 }

@@ -6,8 +6,8 @@ use crate::input::Input;
 use pool_pages::{Fault, FaultKind, MemoryDecl, ModuleInfo, Offered, PoolingAllocationConfig};
 
 /// Whether the input is of those that can be run so far: one shard, no keys and no marks of dirty pages offered, no
-/// stacks, no failure of a call on a table's or a stack's region, and modules of at most one memory each, whose own pages
-/// have at most 64 KiB, without tables, parts or bytes of state.
+/// stacks, no failure of a call on a stack's region, and modules of tables and of memories whose own pages have at most
+/// 64 KiB, without parts or bytes of state.
 pub fn is_built(input: &Input) -> bool
     ensures { result ≡ is_built input.now }
 {
@@ -46,8 +46,8 @@ fn is_built_kind(kind: FaultKind) -> bool
     ensures { result ≡ is_built_kind kind }
 {
     match kind {
-        FaultKind::Memory | FaultKind::Image | FaultKind::OnDemand => true,
-        FaultKind::Table | FaultKind::Stack => false,
+        FaultKind::Memory | FaultKind::Table | FaultKind::Image | FaultKind::OnDemand => true,
+        FaultKind::Stack => false,
     }
 }
 
@@ -60,11 +60,7 @@ fn are_built_modules(modules: &[ModuleInfo]) -> bool
 fn is_built_module(info: &ModuleInfo) -> bool
     ensures { result ≡ is_built_module info.now }
 {
-    info.memories.len() <= 1
-        && are_built_memories(info.memories.as_slice())
-        && info.tables.len() == 0
-        && info.state_bytes == 0
-        && info.parts.len() == 0
+    are_built_memories(info.memories.as_slice()) && info.state_bytes == 0 && info.parts.len() == 0
 }
 
 fn are_built_memories(memories: &[MemoryDecl]) -> bool

@@ -5,6 +5,7 @@ ghost use Rattle.std.specs.Arc.{arc_value};
 ghost use Rattle.pool_run.specs.Built.{is_built_module};
 ghost use Rattle.pool_run.specs.Made.{call_made, calls_made};
 ghost use Rattle.pool_run.specs.Runs.{ModuleFaults, ModulesFault, module_listed, images_listed, is_refused};
+ghost use Rattle.pool_run.specs.Validity.{is_valid_module};
 
 use crate::copies::copy_of;
 use crate::images::make_images;
@@ -22,7 +23,8 @@ pub(crate) fn make_calls<M: PageMaker>(
     tunables: &Tunables,
     modules: &[ModuleInfo],
 ) -> Result<Vec<ModuleCall>, RunFault>
-    requires { list_all is_built_module modules.now ≡ true }
+    requires built { list_all is_built_module modules.now ≡ true }
+    requires valid { list_all is_valid_module modules.now ≡ true }
     ensures calls { IfOk result (λ v. v.items ≡ calls_made tunables.now (M.told maker.old).page 0 modules.now) }
     ensures same { OnOk result (M.told maker.new ≡ M.told maker.old) }
     ensures maker { M.told maker.new ≡ record (M.told maker.old) { behind = (M.told maker.new).behind; faults = (M.told maker.new).faults } }
@@ -55,7 +57,8 @@ fn make_call<M: PageMaker>(
     number: u64,
     info: &ModuleInfo,
 ) -> Result<ModuleCall, RunFault>
-    requires { is_built_module info.now ≡ true }
+    requires built { is_built_module info.now ≡ true }
+    requires valid { is_valid_module info.now ≡ true }
     ensures call { IfOk result (λ call. call ≡ call_made tunables.now (M.told maker.old).page number info.now) }
     ensures same { OnOk result (M.told maker.new ≡ M.told maker.old) }
     ensures maker { M.told maker.new ≡ record (M.told maker.old) { behind = (M.told maker.new).behind; faults = (M.told maker.new).faults } }

@@ -1,7 +1,16 @@
 use pool_pages::ByteList;
+use pool_table::VMContObj;
+
+/// What a command sets an element of a table to: null, a function or a GC reference by its number, or a continuation.
+#[derive(Clone, Copy, Debug, PartialEq, Eq)]
+pub enum TableValue {
+    Null,
+    Number(u64),
+    Continuation(VMContObj),
+}
 
 /// A command of a party. `of` is the number of an earlier command of that party which asked for a grant, and
-/// `memory` is a place in that grant.
+/// `memory` or `table` is a place in that grant.
 #[derive(Debug, Drop)]
 pub enum Command {
     /// Asks for an instance of the module with this number.
@@ -40,6 +49,38 @@ pub enum Command {
     Size {
         of: usize,
         memory: usize,
+    },
+    /// Asks for the element at `at`.
+    Get {
+        of: usize,
+        table: usize,
+        at: u64,
+    },
+    /// Sets the element at `at`.
+    Set {
+        of: usize,
+        table: usize,
+        at: u64,
+        value: TableValue,
+    },
+    /// Sets `len` elements from `at` on.
+    TableFill {
+        of: usize,
+        table: usize,
+        at: u64,
+        value: TableValue,
+        len: u64,
+    },
+    /// Grows the table by so many elements.
+    TableGrow {
+        of: usize,
+        table: usize,
+        by: u64,
+    },
+    /// Asks for the table's size in elements.
+    TableSize {
+        of: usize,
+        table: usize,
     },
     /// Gives the grant back.
     Drop {

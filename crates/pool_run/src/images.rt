@@ -3,6 +3,7 @@ ghost use Rattle.pool_pages.specs.Told.{Rose};
 ghost use Rattle.pool_run.specs.Built.{is_built_module};
 ghost use Rattle.pool_run.specs.Private.{images_of};
 ghost use Rattle.pool_run.specs.Runs.{ModuleFaults, module_listed, is_refused};
+ghost use Rattle.pool_run.specs.Validity.{is_valid_module};
 
 use crate::output::RunFault;
 use pool_images::{ImageError, ModuleMemoryImages};
@@ -18,7 +19,8 @@ pub(crate) fn make_images<M: PageMaker>(
     number: u64,
     info: &ModuleInfo,
 ) -> Result<Option<ModuleMemoryImages>, RunFault>
-    requires { is_built_module info.now ≡ true }
+    requires built { is_built_module info.now ≡ true }
+    requires valid { is_valid_module info.now ≡ true }
     ensures ok { IfOk result (λ made. made ≡ images_of tunables.now (M.told maker.old).page number info.now.memories) }
     ensures same { OnOk result (M.told maker.new ≡ M.told maker.old) }
     ensures maker { M.told maker.new ≡ record (M.told maker.old) { behind = (M.told maker.new).behind; faults = (M.told maker.new).faults } }

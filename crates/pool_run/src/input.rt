@@ -1,21 +1,25 @@
 use crate::command::Command;
 use pool_pages::{Fault, ModuleInfo, Offered, PlainList, PoolingAllocationConfig, Tunables};
 
-/// What a party's memories may grow to.
+/// What a party's memories and tables may grow to.
 #[derive(Clone, Copy, Debug, PartialEq, Eq)]
 pub struct PartyLimits {
     /// In bytes.
     pub memory_size: Option<usize>,
+    /// How many elements a table may have.
+    pub table_elements: Option<usize>,
     /// Whether a growth that fails is an error.
     pub trap_on_grow_failure: bool,
 }
 
 /// One party: the number from which its home shard and its home queue follow, the limits on its growth, if there are
-/// any, and what it commands, in order.
+/// any, which calls on its store fail, and what it commands, in order.
 #[derive(Debug, Drop)]
 pub struct Party {
     pub home: u64,
     pub limits: Option<PartyLimits>,
+    /// The numbers of the calls on the party's store of GC references that fail, from 1 on.
+    pub gc_faults: PlainList<u64>,
     pub commands: PlainList<Command>,
 }
 

@@ -14,6 +14,7 @@ mod leases;
 mod limiter;
 mod output;
 mod pools;
+mod replies;
 mod reply;
 mod reserved_vec;
 mod run;
@@ -25,16 +26,20 @@ mod shared_input;
 mod shared_reply;
 mod shared_run;
 mod shared_validity;
+mod slot_lists;
+mod table_commands;
+mod table_values;
 mod told_run;
 mod turn;
 mod validity;
 
 pub use built::is_built;
-pub use command::Command;
+pub use command::{Command, TableValue};
 pub use input::{Input, Party, PartyLimits, ScheduleEntry};
 pub use laws::{runs_agree, slots_have_places};
 pub use leases::Leases;
 pub use output::{RunFault, RunOutput};
+pub use pool_alloc::Element;
 pub use reply::{Refusal, Reply, ReplyList, SlotList};
 pub use reserved_vec::ReservedVec;
 pub use run::Run;
@@ -44,8 +49,9 @@ pub use shared_input::{SharedEvent, SharedInput};
 pub use shared_reply::SharedReply;
 pub use shared_run::run_shared;
 pub use shared_validity::{MOST_EVENTS, MOST_MINIMUM, WAITERS, is_valid_shared};
+pub use slot_lists::SlotLists;
 pub use turn::turn_of;
 pub use validity::{
     HOMES, MOST_BYTES, MOST_COMMANDS, MOST_MEMORIES, MOST_MODULES, MOST_PARTIES, MOST_STEPS,
-    is_valid,
+    MOST_TABLES, is_valid,
 };

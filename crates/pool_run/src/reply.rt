@@ -1,3 +1,4 @@
+use pool_alloc::Element;
 use pool_limits::Trap;
 use pool_pages::{ByteList, PlainList};
 use pool_slots::AllocError;
@@ -13,6 +14,8 @@ pub type ReplyList = PlainList<Reply>;
 pub enum Refusal {
     /// The command named was refused, or its grant was given back.
     NoSuchGrant,
+    /// A call on the party's store failed. The elements that were set before that stay set.
+    GcStoreFault,
     Alloc(AllocError),
 }
 
@@ -25,10 +28,11 @@ pub enum Reply {
     },
     Bytes(ByteList),
     Done,
-    /// In bytes.
+    /// Of a memory in bytes, of a table in elements.
     Size(u64),
-    /// The size before a growth, in bytes, or None where there was none.
+    /// Likewise the size before a growth, or None where there was none.
     Grown(Option<u64>),
+    Element(Element),
     Returned,
     Refused(Refusal),
     Trap(Trap),

@@ -1,7 +1,6 @@
 ghost use Rattle.std.specs.Prelude.{◌≡◌, ◌↔◌, ℕ, ◌+◌, ◌^◌, ◌<◌, ◌≤◌, Err, Some, length, map, replicate, slice_get, slice_index_or, true, false, fold, None, IfOk, IfErr, OnOk};
 ghost use Rattle.pool_pages.specs.MakerTold.{MakerTold};
 ghost use Rattle.pool_pages.specs.declared.bad_config.BadConfig.{BadConfig};
-ghost use Rattle.pool_alloc.specs.Reserved.{no_room};
 ghost use Rattle.pool_alloc.specs.Sound.{IsCore};
 ghost use Rattle.pool_alloc.specs.Sums.{metrics_of};
 ghost use Rattle.pool_alloc.specs.Whole.{IsUntouched};
@@ -11,6 +10,7 @@ ghost use Rattle.pool_run.specs.Numbers.{with_party, calls_of_run};
 ghost use Rattle.pool_run.specs.Progress.{is_busy, commands_done, Advances, IsRunOf};
 ghost use Rattle.pool_run.specs.Runs.{IsMadeRun, FaultsInMaking, NamesRule};
 ghost use Rattle.pool_run.specs.RunsMade.{SoFar, IsKept, party_made_for, parties_made, places_in};
+ghost use Rattle.pool_run.specs.Turns.{no_lists};
 ghost use Rattle.pool_run.specs.Validity.{is_valid};
 
 use crate::calls::make_calls;
@@ -19,8 +19,8 @@ use crate::leases::Leases;
 use crate::output::RunFault;
 use crate::pools::make_pool;
 use crate::reply::Reply;
-use crate::reserved_vec::ReservedVec;
-use crate::running_party::RunningParty;
+use crate::running_party::{RunningParty, store_for};
+use crate::slot_lists::SlotLists;
 use crate::turn::{is_idle, turn_of};
 use crate::validity::is_valid;
 use pool_alloc::{Metrics, ModuleCall, PoolCore};
@@ -29,13 +29,13 @@ use std::alloc::{AllocError, Global};
 use std::marker::Model;
 
 /// A pool, the calls for the modules, and the parties, each with what its call and its live grants have of the pool,
-/// and with a list for the slots of what it asks for.
+/// and with lists for the slots of what it asks for.
 #[derive(Drop)]
 pub struct Run<P: Pages> {
     core: PoolCore<P>,
     modules: Vec<ModuleCall>,
     parties: Vec<RunningParty<P>>,
-    slots: Vec<ReservedVec<u32>>,
+    slots: Vec<SlotLists>,
 }
 
 impl<P: Pages> Model for Run<P> {
@@ -232,18 +232,19 @@ fn make_party<P: Pages>(
     Ok(RunningParty {
         frame: core.frame(alloc, party.home as u32)?,
         limits: party.limits,
+        store: store_for(alloc, party.gc_faults.as_slice())?,
         keyed: false,
         done: 0,
         live: Leases::new(alloc, party.commands.len())?,
     })
 }
 
-fn no_slots(alloc: Global, count: usize) -> Result<Vec<ReservedVec<u32>>, AllocError>
-    ensures { IfOk result (λ v. v.items ≡ replicate count no_room) }
+fn no_slots(alloc: Global, count: usize) -> Result<Vec<SlotLists>, AllocError>
+    ensures { IfOk result (λ v. v.items ≡ replicate count no_lists) }
 {
     let mut slots = Vec::with_capacity(alloc, count)?;
     for at in 0..count {
-        slots.push(ReservedVec::none(alloc))?;
+        slots.push(SlotLists::none(alloc))?;
     }
     Ok(slots)
 }

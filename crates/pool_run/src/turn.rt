@@ -1,13 +1,12 @@
-ghost use Rattle.std.specs.Prelude.{◌≡◌, ℕ, ◌+◌, ◌^◌, ◌<◌, ◌≤◌, [], length, map, slice_get, slice_index_or, IfOk, None, Some};
+ghost use Rattle.std.specs.Prelude.{◌≡◌, ◌+◌, ◌^◌, ◌<◌, ◌≤◌, [], length, map, slice_get, slice_index_or, IfOk, None, Some};
 ghost use Rattle.pool_pages.specs.MakerTold.{MakerTold};
 ghost use Rattle.pool_alloc.specs.Calls.{IsIdle, IfGranted, begun_call};
-ghost use Rattle.pool_alloc.specs.Reserved.{Reserved};
-ghost use Rattle.pool_alloc.specs.Steps.{memories_wanted};
+ghost use Rattle.pool_alloc.specs.Steps.{memories_wanted, tables_wanted};
 ghost use Rattle.pool_alloc.specs.Stepping.{CanStep, CanCount, is_idle};
 ghost use Rattle.pool_run.specs.AtOnce.{given_act};
 ghost use Rattle.pool_run.specs.PartyRules.{rule_of};
 ghost use Rattle.pool_run.specs.Ties.{CanTurn, IsReserved};
-ghost use Rattle.pool_run.specs.Turns.{leases_of, granted_reply, answered, ended_at_once, slots_after, StepsUnder, Steps, makes_step, drop_opening, OpensRequest, OpensAct, OpensNext, TurnsFrom, Turns};
+ghost use Rattle.pool_run.specs.Turns.{leases_of, tables_of, granted_reply, answered, ended_at_once, slots_after, StepsUnder, Steps, makes_step, drop_opening, OpensRequest, OpensAct, OpensNext, TurnsFrom, Turns};
 ghost use Rattle.pool_run.specs.Worlds.{IsFit, AreFit, NamesModule, NameModules};
 
 use crate::act::{Act, act_of};
@@ -18,6 +17,8 @@ use crate::limiter::limiter_of;
 use crate::reply::{Refusal, Reply, SlotList};
 use crate::reserved_vec::ReservedVec;
 use crate::running_party::RunningParty;
+use crate::slot_lists::SlotLists;
+use crate::table_commands::act_on_table;
 use pool_alloc::{Call, Frame, Grant, InstanceLease, ModuleCall, Outcome, Phase, PoolCore};
 use pool_limits::Unlimited;
 use pool_pages::Pages;
@@ -34,7 +35,7 @@ pub fn turn_of<P: Pages>(
     modules: &[ModuleCall],
     commands: &[Command],
     party: &mut RunningParty<P>,
-    slots: &mut ReservedVec<u32>,
+    slots: &mut SlotLists,
 ) -> Option<Reply>
     ghost maker: { MakerTold }
     requires can { CanTurn maker core.old party.old }
@@ -66,7 +67,7 @@ fn step_call<P: Pages>(
     alloc: Global,
     core: &mut PoolCore<P>,
     party: &mut RunningParty<P>,
-    slots: &mut ReservedVec<u32>,
+    slots: &mut SlotLists,
 ) -> Option<Reply>
     ghost maker: { MakerTold }
     requires can { CanTurn maker core.old party.old }
@@ -109,13 +110,14 @@ fn step_under<P: Pages>(
 fn answer<P: Pages>(
     alloc: Global,
     party: &mut RunningParty<P>,
-    slots: &mut ReservedVec<u32>,
+    slots: &mut SlotLists,
     outcome: Option<Outcome<P>>,
 ) -> Option<Reply>
     requires place { IfGranted (λ g. party.old.done < length party.old.live) outcome }
     requires small { party.old.done + 1 < 2 ^ 64 }
-    requires empty { slots.old.items ≡ [] }
-    requires room { IfGranted (λ g. length (leases_of g) ≤ slots.old.room) outcome }
+    requires empty { (slots.old.memories.items ≡ []) × (slots.old.tables.items ≡ []) }
+    requires memories { IfGranted (λ g. length (leases_of g) ≤ slots.old.memories.room) outcome }
+    requires tables { IfGranted (λ g. length (tables_of g) ≤ slots.old.tables.room) outcome }
     ensures answered { (c : PoolCore P) → record { core = c; party = party.new; reply = result } ≡ answered outcome c party.old }
     ensures slots { slots.new ≡ slots_after outcome slots.old }
 {
@@ -126,8 +128,8 @@ fn answer<P: Pages>(
             None
         }
         Some(Outcome::Granted(grant)) => {
-            let reserved = mem::replace(slots, ReservedVec::none(alloc));
-            let reply = granted_reply(alloc, reserved, &grant);
+            let reserved = mem::replace(slots, SlotLists::none(alloc));
+            let reply = granted_reply(reserved, &grant);
             party.live.put(party.done, grant);
             party.done += 1;
             Some(reply)
@@ -143,20 +145,21 @@ fn answer<P: Pages>(
     }
 }
 
-// The reply to a request that was granted: the slots of its memories, in the list that was reserved for them.
-fn granted_reply<P: Pages>(alloc: Global, slots: ReservedVec<u32>, grant: &Grant<P>) -> Reply
-    requires empty { slots.items ≡ [] }
-    requires room { length (leases_of grant.now) ≤ slots.room }
+// The reply to a request that was granted: the slots of its memories and tables, in the lists that were reserved for them.
+fn granted_reply<P: Pages>(slots: SlotLists, grant: &Grant<P>) -> Reply
+    requires empty { (slots.memories.items ≡ []) × (slots.tables.items ≡ []) }
+    requires memories { length (leases_of grant.now) ≤ slots.memories.room }
+    requires tables { length (tables_of grant.now) ≤ slots.tables.room }
     ensures { result ≡ granted_reply grant.now }
 {
     let Grant::Instance(lease) = grant;
     Reply::Instance {
-        memories: slots_of(slots, lease),
-        tables: SlotList::new(alloc),
+        memories: memory_slots(slots.memories, lease),
+        tables: table_slots(slots.tables, lease),
     }
 }
 
-fn slots_of<P: Pages>(slots: ReservedVec<u32>, lease: &InstanceLease<P>) -> SlotList
+fn memory_slots<P: Pages>(slots: ReservedVec<u32>, lease: &InstanceLease<P>) -> SlotList
     requires empty { slots.items ≡ [] }
     requires room { length lease.now.memories.items ≤ slots.room }
     ensures { result ≡ map (λ l. l.index) lease.now.memories.items }
@@ -169,6 +172,19 @@ fn slots_of<P: Pages>(slots: ReservedVec<u32>, lease: &InstanceLease<P>) -> Slot
     slots.into_list()
 }
 
+fn table_slots<P: Pages>(slots: ReservedVec<u32>, lease: &InstanceLease<P>) -> SlotList
+    requires empty { slots.items ≡ [] }
+    requires room { length lease.now.tables.items ≤ slots.room }
+    ensures { result ≡ map (λ l. l.index) lease.now.tables.items }
+{
+    let mut slots = slots;
+    let count = lease.tables.len();
+    for at in 0..count {
+        slots.push(lease.tables.get(at).index.0);
+    }
+    slots.into_list()
+}
+
 // Makes the first step of the next command, or of the call that gives the party its stripe.
 fn begin_next<P: Pages>(
     alloc: Global,
@@ -176,7 +192,7 @@ fn begin_next<P: Pages>(
     modules: &[ModuleCall],
     commands: &[Command],
     party: &mut RunningParty<P>,
-    slots: &mut ReservedVec<u32>,
+    slots: &mut SlotLists,
 ) -> Option<Reply>
     ghost maker: { MakerTold }
     requires can { CanTurn maker core.old party.old }
@@ -207,7 +223,7 @@ fn draw_key<P: Pages>(
     alloc: Global,
     core: &mut PoolCore<P>,
     party: &mut RunningParty<P>,
-    slots: &mut ReservedVec<u32>,
+    slots: &mut SlotLists,
 ) -> Option<Reply>
     ghost maker: { MakerTold }
     requires can { CanTurn maker core.old party.old }
@@ -229,7 +245,7 @@ fn begin<P: Pages>(
     modules: &[ModuleCall],
     act: &Act,
     party: &mut RunningParty<P>,
-    slots: &mut ReservedVec<u32>,
+    slots: &mut SlotLists,
 ) -> Option<Reply>
     ghost maker: { MakerTold }
     requires can { CanTurn maker core.old party.old }
@@ -249,6 +265,11 @@ fn begin<P: Pages>(
             let reply = act_on(alloc, &mut party.live, *of, *memory, op, party.limits);
             end_at_once(party, reply)
         }
+        Act::OnTable { of, table, op } => {
+            let store = &mut party.store;
+            let reply = act_on_table(&mut party.live, store, *of, *table, op, party.limits);
+            end_at_once(party, reply)
+        }
         Act::Drop { of } => give_back(alloc, core, party, slots, *of),
     }
 }
@@ -257,7 +278,7 @@ fn begin<P: Pages>(
 fn end_at_once<P: Pages>(party: &mut RunningParty<P>, reply: Reply) -> Option<Reply>
     requires small { party.old.done + 1 < 2 ^ 64 }
     ensures turn { (c : PoolCore P) → record { core = c; party = party.new; reply = result } ≡ ended_at_once reply c party.old }
-    ensures reserved { (slots : Reserved ℕ) → IsReserved party.old.frame slots → IsReserved party.new.frame slots }
+    ensures reserved { (slots : SlotLists) → IsReserved party.old.frame slots → IsReserved party.new.frame slots }
 {
     party.frame.step_count = 1;
     party.done += 1;
@@ -270,7 +291,7 @@ fn ask<P: Pages>(
     core: &mut PoolCore<P>,
     kept: &ModuleCall,
     party: &mut RunningParty<P>,
-    slots: &mut ReservedVec<u32>,
+    slots: &mut SlotLists,
 ) -> Option<Reply>
     ghost maker: { MakerTold }
     requires can { CanTurn maker core.old party.old }
@@ -293,13 +314,17 @@ fn ask<P: Pages>(
     }
 }
 
-// The same call, and the list for the slots of its grant.
-fn prepare(alloc: Global, kept: &ModuleCall) -> Result<(ModuleCall, ReservedVec<u32>), AllocError>
+// The same call, and the lists for the slots of its grant.
+fn prepare(alloc: Global, kept: &ModuleCall) -> Result<(ModuleCall, SlotLists), AllocError>
     ensures share { IfOk result (λ r. r.0 ≡ kept.now) }
-    ensures room { IfOk result (λ r. r.1 ≡ record { items = []; room = length (memories_wanted (Some kept.now)) }) }
+    ensures memories { IfOk result (λ r. r.1.memories ≡ record { items = []; room = length (memories_wanted (Some kept.now)) }) }
+    ensures tables { IfOk result (λ r. r.1.tables ≡ record { items = []; room = length (tables_wanted (Some kept.now)) }) }
 {
     let call = share(kept)?;
-    let slots = ReservedVec::with_room(alloc, kept.info.memories.len())?;
+    let slots = SlotLists {
+        memories: ReservedVec::with_room(alloc, kept.info.memories.len())?,
+        tables: ReservedVec::with_room(alloc, kept.info.tables.len())?,
+    };
     Ok((call, slots))
 }
 
@@ -324,7 +349,7 @@ fn give_back<P: Pages>(
     alloc: Global,
     core: &mut PoolCore<P>,
     party: &mut RunningParty<P>,
-    slots: &mut ReservedVec<u32>,
+    slots: &mut SlotLists,
     of: usize,
 ) -> Option<Reply>
     ghost maker: { MakerTold }

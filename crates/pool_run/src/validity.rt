@@ -2,19 +2,23 @@ ghost use Rattle.std.specs.Prelude.{◌≡◌, [], length, nat_le, nat_lt};
 ghost use Rattle.std.specs.List.{list_all};
 ghost use Rattle.pool_run.specs.Schedules.{turns_of};
 ghost use Rattle.pool_run.specs.Acts.{act_at};
-ghost use Rattle.pool_run.specs.AtOnce.{given_act, given_op};
-ghost use Rattle.pool_run.specs.Validity.{is_valid, is_valid_memory, is_valid_module, are_valid_modules, is_valid_schedule, is_valid_party, is_valid_act, are_valid_after, is_short, names_memory, requests_grant, most_steps};
+ghost use Rattle.pool_run.specs.AtOnce.{given_act, given_op, given_table_op};
+ghost use Rattle.pool_run.specs.Validity.{is_valid, is_valid_memory, is_valid_module, are_valid_modules, is_valid_schedule, is_valid_party, is_valid_act, are_valid_after, is_short, names_memory, can_be_set, suits, table_named, requests_grant, most_steps};
 
-use crate::act::{Act, MemoryOp, act_of};
+use crate::act::{Act, MemoryOp, TableOp, act_of};
 use crate::command::Command;
 use crate::input::{Input, Party, ScheduleEntry};
-use pool_pages::{MemoryDecl, ModuleInfo};
+use crate::table_values::is_value_of;
+use pool_pages::{MemoryDecl, ModuleInfo, TableType};
 
 /// How many modules an input may have.
 pub const MOST_MODULES: usize = 1_000;
 
 /// How many memories a module may have.
 pub const MOST_MEMORIES: usize = 100;
+
+/// How many tables a module may have.
+pub const MOST_TABLES: usize = 100;
 
 /// How many parties an input may have.
 pub const MOST_PARTIES: usize = 64;
@@ -59,6 +63,36 @@ fn is_short(op: &MemoryOp) -> bool
     }
 }
 
+fn can_be_set(op: &TableOp, ty: &TableType) -> bool
+    ensures { result ≡ can_be_set (given_table_op op.now) ty.now }
+{
+    match op {
+        TableOp::Set { value, .. } => is_value_of(ty.element, *value),
+        _ => true,
+    }
+}
+
+fn suits_table(
+    modules: &[ModuleInfo],
+    earlier: &[Command],
+    of: usize,
+    table: usize,
+    op: &TableOp,
+) -> bool
+    ensures { result ≡ suits (given_table_op op.now) (table_named modules.now earlier.now of table) }
+{
+    match earlier.get(of) {
+        Some(Command::Instantiate { module }) => match modules.get(*module) {
+            Some(info) => match info.tables.as_slice().get(table) {
+                Some(ty) => can_be_set(op, ty),
+                None => false,
+            },
+            None => false,
+        },
+        _ => false,
+    }
+}
+
 fn is_valid_act(modules: &[ModuleInfo], earlier: &[Command], act: &Act) -> bool
     ensures { result ≡ is_valid_act modules.now earlier.now (given_act act.now) }
 {
@@ -67,6 +101,7 @@ fn is_valid_act(modules: &[ModuleInfo], earlier: &[Command], act: &Act) -> bool
         Act::OnMemory { of, memory, op } => {
             is_short(op) && names_memory(modules, earlier, *of, *memory)
         }
+        Act::OnTable { of, table, op } => suits_table(modules, earlier, *of, *table, op),
         Act::Drop { of } => requests_grant(earlier, *of),
     }
 }
@@ -82,10 +117,18 @@ fn are_valid(modules: &[ModuleInfo], commands: &[Command]) -> bool
     true
 }
 
+// Whether each is a number of a call. They are numbered from 1.
+fn are_call_numbers(numbers: &[u64]) -> bool
+    ensures { result ≡ list_all (nat_lt 0) numbers.now }
+{
+    numbers.iter().all(|&number| number > 0)
+}
+
 fn is_valid_party(modules: &[ModuleInfo], party: &Party) -> bool
     ensures { result ≡ is_valid_party modules.now party.now }
 {
-    party.home < HOMES
+    are_call_numbers(party.gc_faults.as_slice())
+        && party.home < HOMES
         && party.commands.len() <= MOST_COMMANDS
         && are_valid(modules, party.commands.as_slice())
 }
@@ -139,7 +182,9 @@ fn are_valid_memories(memories: &[MemoryDecl]) -> bool
 fn is_valid_module(info: &ModuleInfo) -> bool
     ensures { result ≡ is_valid_module info.now }
 {
-    info.memories.len() <= MOST_MEMORIES && are_valid_memories(info.memories.as_slice())
+    info.memories.len() <= MOST_MEMORIES
+        && info.tables.len() <= MOST_TABLES
+        && are_valid_memories(info.memories.as_slice())
 }
 
 fn is_each_valid(modules: &[ModuleInfo]) -> bool

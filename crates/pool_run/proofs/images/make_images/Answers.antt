@@ -4,8 +4,12 @@ use Rattle.pool_pages.specs.MakerTold.{Planned}
 use Rattle.pool_run.specs.Private.{images_of}
 use Rattle.pool_run.specs.Runs.{module_listed}
 use Rattle.pool_run.proofs.Makings.{made_images, images_unlisted, misplaced_none, no_images, none_unlisted}
+use Rattle.pool_run.proofs.Valid.{few_memories}
 use Rattle.pool_run.proofs.images.make_images.Goals as goal
 use Rattle.pool_run.proofs.images.make_images.Goals.{in-Ok, in-Err-Memory, in-Err-PageFault, in-Err-Unsupported}
+
+pub new-requires-clause-count : goal.new-requires-clause-count
+new-requires-clause-count g c = few_memories c.args.info.now c.requires.valid
 
 pub returns-clause-ok : goal.returns-clause-ok
 returns-clause-ok g c =

@@ -7,7 +7,7 @@ use Rattle.pool_run.proofs.pools.make_pool.Goals.{in-Ok, in-Err-BadConfig, in-Er
 pub returns-clause-own : goal.returns-clause-own
 returns-clause-own g c =
     elim c.match-new.branch [
-      | in-Ok w ↦ rw w.result-is (regions_told (Some (g.M.PageMaker.told c.args.pages.now).listed) c.args.input.now.config.limits.total_memories false w.in-Ok.ensures.listed)
+      | in-Ok w ↦ rw w.result-is (regions_told c.args.input.now (Some (g.M.PageMaker.told c.args.pages.now).listed) false w.in-Ok.ensures.listed)
       | in-Err-BadConfig w ↦ rw w.result-is tt
       | in-Err-PageFault w ↦ rw w.result-is tt
       | in-Err-Memory w ↦ rw w.result-is tt
@@ -16,7 +16,7 @@ returns-clause-own g c =
 pub returns-clause-unlisted : goal.returns-clause-unlisted
 returns-clause-unlisted g c =
     elim c.match-new.branch [
-      | in-Ok w ↦ rw w.result-is (regions_told (g.M.PageMaker.told c.args.pages.now).plan c.args.input.now.config.limits.total_memories false w.in-Ok.ensures.planned)
+      | in-Ok w ↦ rw w.result-is (regions_told c.args.input.now (g.M.PageMaker.told c.args.pages.now).plan false w.in-Ok.ensures.planned)
       | in-Err-BadConfig w ↦ rw w.result-is tt
       | in-Err-PageFault w ↦ rw w.result-is tt
       | in-Err-Memory w ↦ rw w.result-is tt

@@ -12,7 +12,7 @@ use Rattle.pool_run.proofs.TurnsMade.{ok_there}
 use Rattle.pool_run.proofs.turn.ask.Goals as goal
 
 pub returns-in-Err-clause-turn : goal.returns-in-Err-clause-turn
-returns-in-Err-clause-turn g c = (replies (Refused (Alloc Memory)) c.args.party.now.live, inl refl, c.end_at_once.ensures.turn c.args.core.now)
+returns-in-Err-clause-turn g c = (replies (Refused (Alloc Memory)) c.args.party.now.live c.args.party.now.store, inl refl, c.end_at_once.ensures.turn c.args.core.now)
 
 pub returns-in-Ok-clause-turn : goal.returns-in-Ok-clause-turn
 returns-in-Ok-clause-turn g c =

@@ -34,7 +34,7 @@ returns-in-None-clause-turn g c =
     let none : slice_index_or p.live c.args.of None ≡ None = sym c.take.ensures.value ∙ c.in-None.is in
     let same : slice_set p.live c.args.of None ≡ p.live = ap (λ (x : Option (Grant P)). slice_set p.live c.args.of x) (sym none) ∙ set-get_or p.live c.args.of None in
     let End : List (Option (Grant P)) → Turned P = λ live. ended_at_once (Refused NoSuchGrant) c.args.core.now (record p { live = live }) in
-    (replies (Refused NoSuchGrant) p.live, sym (ap (λ (x : Option (Grant P)). drop_opening x c.args.of p) none), c.end_at_once.ensures.turn c.args.core.now ∙ ap End (c.take.ensures.rest ∙ same))
+    (replies (Refused NoSuchGrant) p.live p.store, sym (ap (λ (x : Option (Grant P)). drop_opening x c.args.of p) none), c.end_at_once.ensures.turn c.args.core.now ∙ ap End (c.take.ensures.rest ∙ same))
 
 pub returns-in-None-clause-reserved : goal.returns-in-None-clause-reserved
 returns-in-None-clause-reserved g c = c.end_at_once.ensures.reserved c.args.slots.now c.requires.1.1.1.1.1

@@ -1,7 +1,7 @@
 use Rattle.std.proofs.Common.{rules}
 use Rattle.pool_alloc.specs.Turns.{After}
 use Rattle.pool_run.proofs.Parties.{can_step}
-use Rattle.pool_run.proofs.Reserving.{room_granted, step_reserved, reserved_there}
+use Rattle.pool_run.proofs.Reserving.{memories_granted, tables_granted, step_reserved, reserved_there}
 use Rattle.pool_run.proofs.Stepped.{stepped}
 use Rattle.pool_run.proofs.TurnsMade.{place_for}
 use Rattle.pool_run.proofs.turn.step_call.Goals as goal
@@ -17,11 +17,17 @@ answer-requires-clause-place g c =
     let row = c.step_under-outcome.ensures in
     place_for g.maker c.args.core.now c.args.party.now a c.requires.1.0 (stepped g.maker row.0 row.1 c.args.core.now c.args.party.now.frame a (can_step g.maker c.args.core.now c.args.party.now c.requires.1.0) row.3)
 
-pub answer-requires-clause-room : goal.answer-requires-clause-room
-answer-requires-clause-room g c =
+pub answer-requires-clause-memories : goal.answer-requires-clause-memories
+answer-requires-clause-memories g c =
     let a : After g.row.P.Denot = record { core = c.step_under-outcome.new.core; frame = c.step_under-outcome.new.frame; outcome = c.step_under-outcome.result } in
     let row = c.step_under-outcome.ensures in
-    room_granted g.maker c.args.core.now c.args.party.now.frame a c.args.slots.now c.requires.1.1.1.1 (stepped g.maker row.0 row.1 c.args.core.now c.args.party.now.frame a (can_step g.maker c.args.core.now c.args.party.now c.requires.1.0) row.3)
+    memories_granted g.maker c.args.core.now c.args.party.now.frame a c.args.slots.now c.requires.1.1.1.1 (stepped g.maker row.0 row.1 c.args.core.now c.args.party.now.frame a (can_step g.maker c.args.core.now c.args.party.now c.requires.1.0) row.3)
+
+pub answer-requires-clause-tables : goal.answer-requires-clause-tables
+answer-requires-clause-tables g c =
+    let a : After g.row.P.Denot = record { core = c.step_under-outcome.new.core; frame = c.step_under-outcome.new.frame; outcome = c.step_under-outcome.result } in
+    let row = c.step_under-outcome.ensures in
+    tables_granted g.maker c.args.core.now c.args.party.now.frame a c.args.slots.now c.requires.1.1.1.1 (stepped g.maker row.0 row.1 c.args.core.now c.args.party.now.frame a (can_step g.maker c.args.core.now c.args.party.now c.requires.1.0) row.3)
 
 pub returns-clause-steps : goal.returns-clause-steps
 returns-clause-steps g c =

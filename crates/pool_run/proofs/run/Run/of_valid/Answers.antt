@@ -7,7 +7,7 @@ use Rattle.pool_alloc.specs.Sound.{IsCore}
 use Rattle.pool_run.specs.Built.{is_built_module, broken_rule}
 use Rattle.pool_run.specs.Folds.{RunParts}
 use Rattle.pool_run.specs.Made.{calls_made}
-use Rattle.pool_run.specs.Runs.{IsMadeRun, FaultsInMaking, region_listed, makings_of, images_listed}
+use Rattle.pool_run.specs.Runs.{IsMadeRun, FaultsInMaking, region_listed, makings_for, images_listed}
 use Rattle.pool_run.specs.RunsMade.{parties_made}
 use Rattle.pool_run.specs.declared.input.Input.{Input}
 use Rattle.pool_run.specs.declared.output.RunFault.TheVariants.{PageFault}
@@ -15,10 +15,17 @@ use Rattle.pool_run.proofs.Makings.{images_fault, nothing_listed}
 use Rattle.pool_run.proofs.RulesNamed.{names_none}
 use Rattle.pool_run.proofs.InputsRun.{homes_below, few_places}
 use Rattle.pool_run.proofs.BuiltInputs.{built_modules}
+use Rattle.pool_run.specs.Validity.{is_valid_module}
+use Rattle.pool_run.proofs.Valid.{valid_modules}
 use Rattle.pool_run.proofs.run.Run.of_valid.Goals as goal
 
-pub make_calls-requires : goal.make_calls-requires
-make_calls-requires g c =
+pub make_calls-requires-clause-valid : goal.make_calls-requires-clause-valid
+make_calls-requires-clause-valid g c =
+    let Valid : List ModuleInfo → Type 0 = λ modules. list_all is_valid_module modules ≡ true in
+    subst Valid (sym c.as_slice.ensures) (valid_modules c.args.input.now c.requires.1.1.1.1.0)
+
+pub make_calls-requires-clause-built : goal.make_calls-requires-clause-built
+make_calls-requires-clause-built g c =
     let Built : List ModuleInfo → Type 0 = λ modules. list_all is_built_module modules ≡ true in
     subst Built (sym c.as_slice.ensures) (built_modules c.args.input.now c.requires.1.1.1.0)
 
@@ -50,7 +57,7 @@ returns-in-Ok-over-clause-made g c =
     let Calls : MakerTold → List ModuleInfo → Type 0 = λ maker modules. c.in-Ok-make_calls.calls.items ≡ calls_made input.tunables maker.page 0 modules in
     let Own : MakerTold → Type 0 = λ m. images_listed input.tunables m.page 0 m.listed c.as_slice.result.now ≡ false in
     let own : Own old = subst Own c.in-Ok.ensures.same c.in-Ok-make_calls.ensures.own in
-    let Regions : MakerTold → Type 0 = λ m. IfSome m.plan (λ p. list_any (region_listed p) (makings_of input.config.limits.total_memories) ≡ false) in
+    let Regions : MakerTold → Type 0 = λ m. IfSome m.plan (λ p. list_any (region_listed p) (makings_for input) ≡ false) in
     let Images : MakerTold → Type 0 = λ m. IfSome m.plan (λ p. images_listed input.tunables m.page 0 p c.as_slice.result.now ≡ false) in
     let regions : Regions old = c.in-Ok.ensures.unlisted in
     let images : Images old = subst Images c.in-Ok.ensures.same c.in-Ok-make_calls.ensures.unlisted in

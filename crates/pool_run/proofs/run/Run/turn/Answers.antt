@@ -1,7 +1,7 @@
 use Rattle.std.proofs.Common.{rules, ◌≡◌, ℕ, ◌<◌, List, length, Some, sym, ap, ◌∙◌, subst, arith}
 use Rattle.std.specs.Prelude.{slice_get, slice_index_or}
 use Rattle.std.proofs.lemmas.Option.{slice_get-get_or}
-use Rattle.pool_alloc.specs.Reserved.{Reserved}
+use Rattle.pool_run.specs.declared.slot_lists.SlotLists.{SlotLists}
 use Rattle.pool_alloc.specs.Asked.{ModuleAsked}
 use Rattle.pool_run.specs.Folds.{RunState, commands_of}
 use Rattle.pool_run.specs.Progress.{IsRunOf}
@@ -32,8 +32,8 @@ turn_of-requires g c κs within =
     let take = can_take g.before.of given commands i p s run c.self.invariant.0 there same in
     let M : List ModuleAsked → Type 0 = λ modules. AreFit s.core.settings modules × NameModules (length modules) commands in
     let modules : M c.as_slice-modules.result.now = subst M (sym c.as_slice-modules.ensures.value) (take.calls, take.named) in
-    let x : Reserved ℕ = c.index_mut-slots.result.now in
-    let R : RunningParty P → Reserved ℕ → Type 0 = λ q slots. IsReserved q.frame slots in
+    let x : SlotLists = c.index_mut-slots.result.now in
+    let R : RunningParty P → SlotLists → Type 0 = λ q slots. IsReserved q.frame slots in
     let reserved : R p x = subst (R p) (sym c.index_mut-slots.ensures.value) (subst (λ q. R q (slice_index_or c.self.inside.slots.items i x)) (sym c.index_mut-running.ensures.value) (c.self.invariant.1.each i p x below)) in
     (search rules, (take.can, (take.counts, (modules.0, (modules.1, (take.places, (take.small, reserved)))))))
 
