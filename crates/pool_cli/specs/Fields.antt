@@ -77,6 +77,13 @@ each_item read (item value rest) = read value >>= (λ x. each_item read rest >>=
 abbrev pub list_of : {A : Type 0} → (Data → Option A) → Data → Option (List A)
 list_of read value = as_array value >>= each_item read
 
+-- two numbers, as a list of them
+abbrev pub number_pair : Items → Option (ℕ × ℕ)
+number_pair no_items = None
+number_pair (item first no_items) = None
+number_pair (item first (item second no_items)) = whole_number first >>= (λ x. whole_number second >>= (λ y. Some (x, y)))
+number_pair (item first (item second (item more rest))) = None
+
 -- what was returned is what the form gives, unless memory ran out
 abbrev pub IsOfForm : {A : Type 0} → Option A → Result A FormFault → Type 0
 IsOfForm form (Ok x) = form ≡ Some x

@@ -1,16 +1,18 @@
 -- The input that a JSON value is. `None` says that it has another form than those accepted so far.
-use Rattle.std.specs.Prelude.{ℕ, List, [], ◌∷◌, codes, min, true, false, if◌then◌else◌, Option, Some, None}
+use Rattle.std.specs.Prelude.{ℕ, List, [], ◌∷◌, codes, min, true, false, if◌then◌else◌, Option, Some, None, option_map, is_some}
 use Rattle.std.specs.Str.{bytes_eq}
 use Rattle.serde_json.specs.Data.{Data, Items, no_items, item}
-use Rattle.serde_json.specs.Find.{get, as_str, as_array, as_bool}
+use Rattle.serde_json.specs.Find.{get, as_str, as_array, as_bool, as_null}
 use Rattle.pool_pages.specs.Config.{default_config, default_offered, default_tunables}
 use Rattle.pool_run.specs.declared.command.Command.{Command}
-use Rattle.pool_run.specs.declared.command.Command.TheVariants.{Instantiate, Read, Write, Fill, Grow, Size, Drop}
+use Rattle.pool_run.specs.declared.command.Command.TheVariants.{Instantiate, Read, Write, Fill, Grow, Size, Get, Set, TableFill, TableGrow, TableSize, Drop}
+use Rattle.pool_run.specs.declared.command.TableValue.{TableValue}
+use Rattle.pool_run.specs.declared.command.TableValue.TheVariants.{Null, Number, Continuation}
 use Rattle.pool_run.specs.declared.input.Input.{Input}
 use Rattle.pool_run.specs.declared.input.Party.{Party}
 use Rattle.pool_run.specs.declared.input.PartyLimits.{PartyLimits}
 use Rattle.pool_run.specs.declared.input.ScheduleEntry.{ScheduleEntry}
-use Rattle.pool_cli.specs.Fields.{◌>>=◌, only, whole_number, hex_bytes, required, optional, or_null, list_of}
+use Rattle.pool_cli.specs.Fields.{◌>>=◌, only, whole_number, number_pair, hex_bytes, required, optional, or_null, list_of}
 use Rattle.pool_cli.specs.ModuleForms.{module_form}
 use Rattle.pool_cli.specs.SettingsForms.{config_form, tunables_form, offered_form, fault_form}
 
@@ -64,11 +66,77 @@ size_form value = do
   memory ← optional 0 whole_number (get (codes "memory") fields)
   Some (Size of memory)
 
+-- the value of an element: null, a number, or a pair of numbers
+abbrev pub pair_value : Items → Option TableValue
+pair_value items = option_map (λ p. Continuation (record { contref = p.0; revision = p.1 })) (number_pair items)
+
+abbrev pub number_value : Data → Option TableValue
+number_value value = option_map Number (whole_number value)
+
+abbrev pub number_or_pair : Option Items → Data → Option TableValue
+number_or_pair None value = number_value value
+number_or_pair (Some items) value = pair_value items
+
+unfoldable pub value_form : Data → Option TableValue
+value_form value = if is_some (as_null value) then Some Null else number_or_pair (as_array value) value
+
+unfoldable pub get_form : Data → Option Command
+get_form value = do
+  fields ← only (codes "do" ∷ codes "of" ∷ codes "table" ∷ codes "at" ∷ []) value
+  of ← required whole_number (get (codes "of") fields)
+  table ← optional 0 whole_number (get (codes "table") fields)
+  at ← required whole_number (get (codes "at") fields)
+  Some (Get of table at)
+
+unfoldable pub set_form : Data → Option Command
+set_form value = do
+  fields ← only (codes "do" ∷ codes "of" ∷ codes "table" ∷ codes "at" ∷ codes "value" ∷ []) value
+  of ← required whole_number (get (codes "of") fields)
+  table ← optional 0 whole_number (get (codes "table") fields)
+  at ← required whole_number (get (codes "at") fields)
+  to ← required value_form (get (codes "value") fields)
+  Some (Set of table at to)
+
+unfoldable pub table_fill_form : Data → Option Command
+table_fill_form value = do
+  fields ← only (codes "do" ∷ codes "of" ∷ codes "table" ∷ codes "at" ∷ codes "value" ∷ codes "len" ∷ []) value
+  of ← required whole_number (get (codes "of") fields)
+  table ← optional 0 whole_number (get (codes "table") fields)
+  at ← required whole_number (get (codes "at") fields)
+  to ← required value_form (get (codes "value") fields)
+  len ← required whole_number (get (codes "len") fields)
+  Some (TableFill of table at to len)
+
+unfoldable pub table_grow_form : Data → Option Command
+table_grow_form value = do
+  fields ← only (codes "do" ∷ codes "of" ∷ codes "table" ∷ codes "by" ∷ []) value
+  of ← required whole_number (get (codes "of") fields)
+  table ← optional 0 whole_number (get (codes "table") fields)
+  by ← required whole_number (get (codes "by") fields)
+  Some (TableGrow of table by)
+
+unfoldable pub table_size_form : Data → Option Command
+table_size_form value = do
+  fields ← only (codes "do" ∷ codes "of" ∷ codes "table" ∷ []) value
+  of ← required whole_number (get (codes "of") fields)
+  table ← optional 0 whole_number (get (codes "table") fields)
+  Some (TableSize of table)
+
 unfoldable pub drop_form : Data → Option Command
 drop_form value = do
   fields ← only (codes "do" ∷ codes "of" ∷ []) value
   of ← required whole_number (get (codes "of") fields)
   Some (Drop of)
+
+-- the command on a table of this name
+abbrev pub form_on_table : List ℕ → Data → Option Command
+form_on_table name value =
+    if bytes_eq name (codes "get") then get_form value
+    else if bytes_eq name (codes "set") then set_form value
+    else if bytes_eq name (codes "table_fill") then table_fill_form value
+    else if bytes_eq name (codes "table_grow") then table_grow_form value
+    else if bytes_eq name (codes "table_size") then table_size_form value
+    else None
 
 -- the command of this name
 abbrev pub form_of_name : List ℕ → Data → Option Command
@@ -80,7 +148,7 @@ form_of_name name value =
     else if bytes_eq name (codes "grow") then grow_form value
     else if bytes_eq name (codes "size") then size_form value
     else if bytes_eq name (codes "drop") then drop_form value
-    else None
+    else form_on_table name value
 
 -- a command is an object whose field `do` is its name
 unfoldable pub command_form : Data → Option Command
@@ -88,21 +156,23 @@ command_form value = do
   name ← required as_str (get (codes "do") value)
   form_of_name name value
 
--- what a party's memories may grow to
+-- what a party's memories and tables may grow to
 unfoldable pub limits_form : Data → Option PartyLimits
 limits_form value = do
-  fields ← only (codes "memory_size" ∷ codes "trap_on_grow_failure" ∷ []) value
+  fields ← only (codes "memory_size" ∷ codes "table_elements" ∷ codes "trap_on_grow_failure" ∷ []) value
   size ← optional None (or_null whole_number) (get (codes "memory_size") fields)
+  elements ← optional None (or_null whole_number) (get (codes "table_elements") fields)
   trap ← optional false as_bool (get (codes "trap_on_grow_failure") fields)
-  Some (record { memory_size = size; trap_on_grow_failure = trap })
+  Some (record { memory_size = size; table_elements = elements; trap_on_grow_failure = trap })
 
 unfoldable pub party_form : Data → Option Party
 party_form value = do
-  fields ← only (codes "home" ∷ codes "limits" ∷ codes "commands" ∷ []) value
+  fields ← only (codes "home" ∷ codes "limits" ∷ codes "gc_faults" ∷ codes "commands" ∷ []) value
   home ← optional 0 whole_number (get (codes "home") fields)
   limits ← optional None (or_null limits_form) (get (codes "limits") fields)
+  faults ← optional [] (list_of whole_number) (get (codes "gc_faults") fields)
   commands ← optional [] (list_of command_form) (get (codes "commands") fields)
-  Some (record { home = home; limits = limits; commands = commands })
+  Some (record { home = home; limits = limits; gc_faults = faults; commands = commands })
 
 -- the number of a party: one step of it
 unfoldable pub step_form : Data → Option ScheduleEntry
@@ -112,13 +182,7 @@ step_form value = do
 
 -- the number of a party, and how many steps of it
 abbrev pub pair_form : Items → Option ScheduleEntry
-pair_form no_items = None
-pair_form (item party no_items) = None
-pair_form (item party (item times no_items)) = do
-  number ← whole_number party
-  steps ← whole_number times
-  Some (record { party = number; times = steps })
-pair_form (item party (item times (item more rest))) = None
+pair_form items = option_map (λ p. record { party = p.0; times = p.1 }) (number_pair items)
 
 -- an entry is a pair where it is a list, and else one step
 abbrev pub step_or_pair_form : Option Items → Data → Option ScheduleEntry

@@ -9,6 +9,9 @@ use Rattle.pool_pages.specs.declared.module_types.MemoryType.{MemoryType}
 use Rattle.pool_pages.specs.declared.module_types.ImageDecl.{ImageDecl}
 use Rattle.pool_pages.specs.declared.module_types.MemoryDecl.{MemoryDecl}
 use Rattle.pool_pages.specs.declared.module_types.ModuleInfo.{ModuleInfo}
+use Rattle.pool_pages.specs.declared.table_type.TableType.{TableType}
+use Rattle.pool_pages.specs.declared.table_type.TableElementType.{TableElementType}
+use Rattle.pool_pages.specs.declared.table_type.TableElementType.TheVariants.{Func, GcRef, Cont}
 use Rattle.pool_cli.specs.Fields.{◌>>=◌, only, given, whole_number, hex_bytes, required, optional, or_null, list_of}
 
 -- bytes at an offset
@@ -49,9 +52,30 @@ memory_form value = do
   image ← optional None (or_null image_form) (get (codes "image") fields)
   Some (record { ty = ty; image = image })
 
--- A module has no tables and no state so far.
+-- the type of elements of this name
+abbrev pub element_named : List ℕ → Option TableElementType
+element_named name =
+    if bytes_eq name (codes "func") then Some Func
+    else if bytes_eq name (codes "gc") then Some GcRef
+    else if bytes_eq name (codes "cont") then Some Cont
+    else None
+
+abbrev pub element_form : Data → Option TableElementType
+element_form value = as_str value >>= element_named
+
+unfoldable pub table_form : Data → Option TableType
+table_form value = do
+  fields ← only (codes "kind" ∷ codes "min" ∷ codes "max" ∷ codes "index" ∷ []) value
+  element ← optional Func element_form (get (codes "kind") fields)
+  min ← optional 0 whole_number (get (codes "min") fields)
+  max ← optional None (or_null whole_number) (get (codes "max") fields)
+  index ← optional I32 index_form (get (codes "index") fields)
+  Some (record { idx_type = index; limits = record { min = min; max = max }; element = element })
+
+-- A module has no state so far.
 unfoldable pub module_form : Data → Option ModuleInfo
 module_form value = do
-  fields ← only (codes "memories" ∷ []) value
+  fields ← only (codes "memories" ∷ codes "tables" ∷ []) value
   memories ← optional [] (list_of memory_form) (get (codes "memories") fields)
-  Some (record { memories = memories; tables = []; state_bytes = 0; parts = [] })
+  tables ← optional [] (list_of table_form) (get (codes "tables") fields)
+  Some (record { memories = memories; tables = tables; state_bytes = 0; parts = [] })

@@ -17,9 +17,12 @@ use Rattle.pool_run.specs.declared.command.Command.TheVariants.{Instantiate}
 use Rattle.pool_run.specs.declared.input.Input.{Input}
 use Rattle.pool_run.specs.declared.output.RunOutput.{RunOutput}
 use Rattle.pool_run.specs.declared.reply.Refusal.{Refusal}
-use Rattle.pool_run.specs.declared.reply.Refusal.TheVariants.{NoSuchGrant, Alloc}
+use Rattle.pool_run.specs.declared.reply.Refusal.TheVariants.{NoSuchGrant, GcStoreFault, Alloc}
 use Rattle.pool_run.specs.declared.reply.Reply.{Reply}
-use Rattle.pool_run.specs.declared.reply.Reply.TheVariants.{Instance, Bytes, Done, Size, Grown, Returned, Refused, Trap as Trapped}
+use Rattle.pool_run.specs.declared.reply.Reply.TheVariants.{Instance, Bytes, Done, Size, Grown, Element as Told, Returned, Refused, Trap as Trapped}
+use Rattle.pool_table.specs.declared.element.VMContObj.{VMContObj}
+use Rattle.pool_alloc.specs.declared.table_element.Element.{Element}
+use Rattle.pool_alloc.specs.declared.table_element.Element.TheVariants.{Uninitialised, Func, Gc, Cont}
 use Rattle.pool_cli.specs.Fields.{◌>>=◌}
 
 -- the end of a line
@@ -65,6 +68,7 @@ alloc_error_text info HeapFault = codes "HeapFault"
 
 abbrev pub refusal_text : Option ModuleInfo → Refusal → List ℕ
 refusal_text info NoSuchGrant = codes "NoSuchGrant"
+refusal_text info GcStoreFault = codes "GcStoreFault"
 refusal_text info (Alloc e) = alloc_error_text info e
 
 abbrev pub trap_text : Trap → List ℕ
@@ -78,6 +82,19 @@ abbrev pub grown_text : Option ℕ → List ℕ
 grown_text None = codes "grown none"
 grown_text (Some old) = codes "grown " ++ decimal old
 
+-- an element of a table
+abbrev pub cont_text : Option VMContObj → List ℕ
+cont_text None = codes "cont null"
+cont_text (Some object) = codes "cont " ++ decimal object.contref ++ codes " " ++ decimal object.revision
+
+abbrev pub element_text : Element → List ℕ
+element_text Uninitialised = codes "uninitialised"
+element_text (Func None) = codes "func null"
+element_text (Func (Some name)) = codes "func " ++ decimal name
+element_text (Gc None) = codes "gc null"
+element_text (Gc (Some reference)) = codes "gc " ++ decimal reference
+element_text (Cont object) = cont_text object
+
 -- a reply to a command that asks for an instance of this module, or for something else
 abbrev pub reply_text : Option ModuleInfo → Reply → List ℕ
 reply_text info (Instance memories tables) = codes "granted memories " ++ numbers_text memories ++ codes " tables " ++ numbers_text tables
@@ -85,6 +102,7 @@ reply_text info (Bytes bytes) = codes "bytes " ++ bytes_text bytes
 reply_text info Done = codes "done"
 reply_text info (Size size) = codes "size " ++ decimal size
 reply_text info (Grown old) = grown_text old
+reply_text info (Told element) = element_text element
 reply_text info Returned = codes "returned"
 reply_text info (Refused refusal) = codes "refused " ++ refusal_text info refusal
 reply_text info (Trapped trap) = codes "trap " ++ trap_text trap

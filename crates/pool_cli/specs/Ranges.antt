@@ -1,5 +1,5 @@
 -- Numbers that the types of their fields can hold.
-use Rattle.std.specs.Prelude.{ℕ, ◌^◌, codes, Bool, true, ◌&&◌, Option}
+use Rattle.std.specs.Prelude.{ℕ, ◌^◌, List, codes, Bool, true, ◌&&◌, Option}
 use Rattle.std.specs.Option.{option_map_or}
 use Rattle.serde_json.specs.Data.{Data, Items, no_items, item}
 use Rattle.serde_json.specs.Find.{get, as_array}
@@ -14,9 +14,17 @@ all_pass test (item value rest) = test value && all_pass test rest
 abbrev pub each_passes : (Data → Bool) → Option Data → Bool
 each_passes test field = option_map_or (all_pass test) (field >>= as_array) true
 
--- 32 bits can hold the number of memories
+-- 32 bits can hold this number of things, where settings have it
+abbrev pub count_fits : Option Data → List ℕ → Bool
+count_fits config name = is_below (2 ^ 32) (config >>= get name)
+
+-- how many memories and tables there are, and how many an instance may have
 abbrev pub counts_fit : Data → Bool
-counts_fit value = is_below (2 ^ 32) (get (codes "config") value >>= get (codes "total_memories"))
+counts_fit value =
+    count_fits (get (codes "config") value) (codes "total_memories")
+    && (count_fits (get (codes "config") value) (codes "total_tables")
+    && (count_fits (get (codes "config") value) (codes "max_memories_per_module")
+    && count_fits (get (codes "config") value) (codes "max_tables_per_module")))
 
 -- 8 bits can hold the byte of a command
 abbrev pub byte_fits : Data → Bool

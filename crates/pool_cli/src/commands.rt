@@ -6,6 +6,7 @@ ghost use Rattle.pool_cli.specs.Forms.{instantiate_form, read_form, write_form, 
 use crate::fields::{bytes, has_only, number, number_or, text};
 use crate::form_fault::FormFault;
 use crate::from_json::FromJson;
+use crate::table_commands::command_on_table;
 use pool_run::Command;
 use serde_json::Value;
 use std::alloc::Global;
@@ -146,7 +147,7 @@ impl FromJson for Command {
         } else if name == "drop" {
             give_back(value).ok_or(FormFault::OtherForm)
         } else {
-            Err(FormFault::OtherForm)
+            command_on_table(name, value).ok_or(FormFault::OtherForm)
         }
     }
 }

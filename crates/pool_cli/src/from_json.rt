@@ -1,7 +1,7 @@
 ghost use Rattle.std.specs.Prelude.{◌≡◌, Option, [], option_map};
 ghost use Rattle.serde_json.specs.Data.{Data};
 ghost use Rattle.serde_json.specs.View.{view, items_view};
-ghost use Rattle.pool_cli.specs.Fields.{IsOfForm, optional, required, list_of, each_item};
+ghost use Rattle.pool_cli.specs.Fields.{IsOfForm, optional, required, list_of, each_item, whole_number};
 
 use crate::form_fault::FormFault;
 use pool_pages::PlainList;
@@ -14,6 +14,14 @@ pub trait FromJson: Drop {
 
     fn from_json(alloc: Global, value: &Value) -> Result<Self, FormFault>
         ensures { IsOfForm (form (view value.now)) result };
+}
+
+impl FromJson for u64 {
+    ghost form = { whole_number };
+
+    fn from_json(_alloc: Global, value: &Value) -> Result<u64, FormFault> {
+        value.as_u64().ok_or(FormFault::OtherForm)
+    }
 }
 
 /// Each item as it is read.

@@ -3,7 +3,7 @@ ghost use Rattle.serde_json.specs.View.{view, items_view};
 ghost use Rattle.pool_cli.specs.Fields.{optional, or_null};
 ghost use Rattle.pool_cli.specs.Forms.{limits_form, party_form, step_form, pair_form, schedule_entry_form, input_form};
 
-use crate::fields::{flag_or, has_only, number_or, number_or_none};
+use crate::fields::{flag_or, has_only, number_or, number_or_none, number_pair};
 use crate::form_fault::FormFault;
 use crate::from_json::{FromJson, list_or_empty};
 use crate::settings::{config, offered, tunables};
@@ -15,13 +15,18 @@ use std::alloc::Global;
 fn limits_of(value: &Value) -> Option<PartyLimits>
     ensures { result ≡ limits_form (view value.now) }
 {
-    if !has_only(value, &["memory_size", "trap_on_grow_failure"]) {
+    if !has_only(
+        value,
+        &["memory_size", "table_elements", "trap_on_grow_failure"],
+    ) {
         return None;
     }
     let size = number_or_none(value.get("memory_size"))?;
+    let elements = number_or_none(value.get("table_elements"))?;
     let trap_on_grow_failure = flag_or(false, value.get("trap_on_grow_failure"))?;
     Some(PartyLimits {
         memory_size: size.map(|bytes| bytes as usize),
+        table_elements: elements.map(|count| count as usize),
         trap_on_grow_failure,
     })
 }
@@ -50,15 +55,17 @@ impl FromJson for Party {
 
     #[tactic(auto, unfolding(crate::specs::Forms::party_form))]
     fn from_json(alloc: Global, value: &Value) -> Result<Party, FormFault> {
-        if !has_only(value, &["home", "limits", "commands"]) {
+        if !has_only(value, &["home", "limits", "gc_faults", "commands"]) {
             return Err(FormFault::OtherForm);
         }
         let home = number_or(0, value.get("home")).ok_or(FormFault::OtherForm)?;
         let limits = limits(value.get("limits")).ok_or(FormFault::OtherForm)?;
+        let gc_faults = list_or_empty(alloc, value.get("gc_faults"))?;
         let commands = list_or_empty(alloc, value.get("commands"))?;
         Ok(Party {
             home,
             limits,
+            gc_faults,
             commands,
         })
     }
@@ -80,17 +87,11 @@ fn step(value: &Value) -> Option<ScheduleEntry>
 fn pair(items: &[Value]) -> Option<ScheduleEntry>
     ensures { result ≡ pair_form (items_view items.now) }
 {
-    match items {
-        [party, times] => {
-            let party = party.as_u64()?;
-            let times = times.as_u64()?;
-            Some(ScheduleEntry {
-                party: party as usize,
-                times,
-            })
-        }
-        _ => None,
-    }
+    let (party, times) = number_pair(items)?;
+    Some(ScheduleEntry {
+        party: party as usize,
+        times,
+    })
 }
 
 impl FromJson for ScheduleEntry {

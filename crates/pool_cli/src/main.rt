@@ -25,6 +25,9 @@ mod stages;
 mod standard_streams;
 mod status;
 mod streams;
+mod table_commands;
+#[cfg(test)]
+mod table_tests;
 #[cfg(test)]
 mod tests;
 mod transfers;

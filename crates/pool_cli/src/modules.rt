@@ -1,13 +1,17 @@
 ghost use Rattle.std.specs.Prelude.{◌≡◌, None, option_map};
 ghost use Rattle.pool_pages.specs.declared.module_types.IndexType.TheVariants.{I32};
+ghost use Rattle.pool_pages.specs.declared.table_type.TableElementType.TheVariants.{Func};
 ghost use Rattle.serde_json.specs.View.{view};
 ghost use Rattle.pool_cli.specs.Fields.{IsOfForm, optional, or_null};
-ghost use Rattle.pool_cli.specs.ModuleForms.{image_form, index_form, index_named, page_log2_form, memory_type_form, memory_form, module_form};
+ghost use Rattle.pool_cli.specs.ModuleForms.{image_form, index_form, index_named, page_log2_form, memory_type_form, memory_form, element_form, element_named, table_form, module_form};
 
 use crate::fields::{bytes, flag_or, has_only, number, number_or, number_or_none};
 use crate::form_fault::FormFault;
 use crate::from_json::{FromJson, list_or_empty};
-use pool_pages::{ImageDecl, IndexType, Limits, MemoryDecl, MemoryType, ModuleInfo, PlainList};
+use pool_pages::{
+    ImageDecl, IndexType, Limits, MemoryDecl, MemoryType, ModuleInfo, PlainList, TableElementType,
+    TableType,
+};
 use serde_json::Value;
 use std::alloc::Global;
 
@@ -112,18 +116,69 @@ impl FromJson for MemoryDecl {
     }
 }
 
+fn element_named(name: &str) -> Option<TableElementType>
+    ensures { result ≡ element_named name.now }
+{
+    if name == "func" {
+        Some(TableElementType::Func)
+    } else if name == "gc" {
+        Some(TableElementType::GcRef)
+    } else if name == "cont" {
+        Some(TableElementType::Cont)
+    } else {
+        None
+    }
+}
+
+/// The type of a table's elements, which may be left out.
+fn element(field: Option<&Value>) -> Option<TableElementType>
+    ensures { result ≡ optional Func element_form (option_map (λ v. view v.now) field.entry) }
+{
+    match field {
+        None => Some(TableElementType::Func),
+        Some(value) => element_named(value.as_str()?),
+    }
+}
+
+#[tactic(auto, unfolding(crate::specs::ModuleForms::table_form))]
+fn table_type(value: &Value) -> Option<TableType>
+    ensures { result ≡ table_form (view value.now) }
+{
+    if !has_only(value, &["kind", "min", "max", "index"]) {
+        return None;
+    }
+    let element = element(value.get("kind"))?;
+    let min = number_or(0, value.get("min"))?;
+    let max = number_or_none(value.get("max"))?;
+    let idx_type = index(value.get("index"))?;
+    Some(TableType {
+        idx_type,
+        limits: Limits { min, max },
+        element,
+    })
+}
+
+impl FromJson for TableType {
+    ghost form = { table_form };
+
+    fn from_json(_alloc: Global, value: &Value) -> Result<TableType, FormFault> {
+        table_type(value).ok_or(FormFault::OtherForm)
+    }
+}
+
 impl FromJson for ModuleInfo {
     ghost form = { module_form };
 
     #[tactic(auto, unfolding(crate::specs::ModuleForms::module_form))]
     fn from_json(alloc: Global, value: &Value) -> Result<ModuleInfo, FormFault> {
-        if !has_only(value, &["memories"]) {
+        if !has_only(value, &["memories", "tables"]) {
             return Err(FormFault::OtherForm);
         }
         let memories = list_or_empty(alloc, value.get("memories"))?;
+        let tables = list_or_empty(alloc, value.get("tables"))?;
         Ok(ModuleInfo {
             memories,
-            tables: PlainList::new(alloc),
+            tables,
             state_bytes: 0,
             parts: PlainList::new(alloc),
         })

@@ -1,12 +1,13 @@
 ghost use Rattle.std.specs.Prelude.{◌≡◌, ◌++◌, Some, codes, IfOk, OnOk, option_map, string_bytes};
 ghost use Rattle.pool_pages.specs.UnsupportedTexts.{whole_text};
-ghost use Rattle.pool_cli.specs.Output.{numbers_text, bytes_text, one_line, refusal_text, alloc_error_text, denied_text, trap_text, grown_text, reply_text, module_of, module_asked, reply_line, reply_lines, party_lines, named, named_or_none, live_text, warm_text, metrics_line, pages_line, output_text};
+ghost use Rattle.pool_cli.specs.Output.{numbers_text, bytes_text, one_line, refusal_text, alloc_error_text, denied_text, trap_text, grown_text, cont_text, element_text, reply_text, module_of, module_asked, reply_line, reply_lines, party_lines, named, named_or_none, live_text, warm_text, metrics_line, pages_line, output_text};
 
-use pool_alloc::Metrics;
+use pool_alloc::{Element, Metrics};
 use pool_limits::Trap;
 use pool_pages::{ModuleInfo, PageCalls, Text, Unsupported};
 use pool_run::{Command, Input, Refusal, Reply, ReplyList, RunOutput};
 use pool_slots::AllocError as Refused;
+use pool_table::VMContObj;
 use std::alloc::{AllocError, Global};
 use std::fmt::Write;
 
@@ -45,6 +46,7 @@ fn push_refusal(
 {
     match refusal {
         Refusal::NoSuchGrant => out.push_str("NoSuchGrant"),
+        Refusal::GcStoreFault => out.push_str("GcStoreFault"),
         Refusal::Alloc(error) => push_alloc_error(alloc, out, info, error),
     }
 }
@@ -165,6 +167,28 @@ pub(crate) fn push_grown(out: &mut String, old: Option<u64>) -> Result<(), Alloc
     }
 }
 
+fn push_element(out: &mut String, element: Element) -> Result<(), AllocError>
+    ensures { OnOk result (string_bytes out.new ≡ string_bytes out.old ++ element_text element) }
+{
+    match element {
+        Element::Uninitialised => out.push_str("uninitialised"),
+        Element::Func(None) => out.push_str("func null"),
+        Element::Func(Some(name)) => write!(out, "func {name}"),
+        Element::Gc(None) => out.push_str("gc null"),
+        Element::Gc(Some(reference)) => write!(out, "gc {reference}"),
+        Element::Cont(None) => out.push_str("cont null"),
+        Element::Cont(Some(object)) => push_continuation(out, object),
+    }
+}
+
+fn push_continuation(out: &mut String, object: VMContObj) -> Result<(), AllocError>
+    ensures { OnOk result (string_bytes out.new ≡ string_bytes out.old ++ cont_text (Some object)) }
+{
+    let contref = object.contref;
+    let revision = object.revision;
+    write!(out, "cont {contref} {revision}")
+}
+
 fn push_reply(
     alloc: Global,
     out: &mut String,
@@ -187,6 +211,7 @@ fn push_reply(
         Reply::Done => out.push_str("done"),
         Reply::Size(size) => write!(out, "size {size}"),
         Reply::Grown(old) => push_grown(out, *old),
+        Reply::Element(element) => push_element(out, *element),
         Reply::Returned => out.push_str("returned"),
         Reply::Refused(refusal) => {
             out.push_str("refused ")?;

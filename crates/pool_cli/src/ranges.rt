@@ -1,16 +1,25 @@
-ghost use Rattle.std.specs.Prelude.{◌≡◌, option_map};
+ghost use Rattle.std.specs.Prelude.{◌≡◌, ◌&&◌, codes, Some, option_map};
 ghost use Rattle.std.specs.List.{list_all};
 ghost use Rattle.serde_json.specs.View.{view, items_view};
-ghost use Rattle.pool_cli.specs.Ranges.{all_pass, each_passes, counts_fit, byte_fits, bytes_fit, numbers_fit};
+ghost use Rattle.pool_cli.specs.Ranges.{all_pass, each_passes, count_fits, counts_fit, byte_fits, bytes_fit, numbers_fit};
 
 use crate::fields::is_below;
 use serde_json::Value;
+
+fn counts_in(config: &Value) -> bool
+    ensures { result ≡ (count_fits (Some (view config.now)) (codes "total_memories") && (count_fits (Some (view config.now)) (codes "total_tables") && (count_fits (Some (view config.now)) (codes "max_memories_per_module") && count_fits (Some (view config.now)) (codes "max_tables_per_module")))) }
+{
+    is_below(1 << 32, config.get("total_memories"))
+        && is_below(1 << 32, config.get("total_tables"))
+        && is_below(1 << 32, config.get("max_memories_per_module"))
+        && is_below(1 << 32, config.get("max_tables_per_module"))
+}
 
 fn counts_fit(value: &Value) -> bool
     ensures { result ≡ counts_fit (view value.now) }
 {
     match value.get("config") {
-        Some(config) => is_below(1 << 32, config.get("total_memories")),
+        Some(config) => counts_in(config),
         None => true,
     }
 }

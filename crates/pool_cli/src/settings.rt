@@ -3,14 +3,46 @@ ghost use Rattle.serde_json.specs.View.{view};
 ghost use Rattle.pool_pages.specs.Config.{default_config, default_offered, default_tunables};
 ghost use Rattle.pool_pages.specs.declared.pages.DecommitBehavior.TheVariants.{RestoreOriginalMapping};
 ghost use Rattle.pool_cli.specs.Fields.{optional, required};
-ghost use Rattle.pool_cli.specs.SettingsForms.{config_form, tunables_form, behaviour_form, behaviour_named, offered_form, kind_form, kind_named, fault_form};
+ghost use Rattle.pool_cli.specs.SettingsForms.{count_form, instance_limits_form, config_form, tunables_form, behaviour_form, behaviour_named, offered_form, kind_form, kind_named, fault_form};
 
 use crate::fields::{flag_or, has_only, number, number_or, text};
 use crate::form_fault::FormFault;
 use crate::from_json::FromJson;
-use pool_pages::{DecommitBehavior, Fault, FaultKind, Offered, PoolingAllocationConfig, Tunables};
+use pool_pages::{
+    DecommitBehavior, Fault, FaultKind, InstanceLimits, Offered, PoolingAllocationConfig, Tunables,
+};
 use serde_json::Value;
 use std::alloc::Global;
+
+// A number of things that may be left out.
+fn count_or(default: u32, field: Option<&Value>) -> Option<u32>
+    ensures { result ≡ optional default count_form (option_map (λ v. view v.now) field.entry) }
+{
+    match field {
+        None => Some(default),
+        Some(value) => Some(value.as_u64()?.min(u32::MAX as u64) as u32),
+    }
+}
+
+#[tactic(auto, unfolding(crate::specs::SettingsForms::instance_limits_form))]
+fn instance_limits(value: &Value) -> Option<InstanceLimits>
+    ensures { result ≡ instance_limits_form (view value.now) }
+{
+    let total_memories = count_or(10, value.get("total_memories"))?;
+    let total_tables = count_or(10, value.get("total_tables"))?;
+    let max_memories_per_module = count_or(1, value.get("max_memories_per_module"))?;
+    let max_tables_per_module = count_or(1, value.get("max_tables_per_module"))?;
+    let size = number_or(65536, value.get("max_memory_size"))?;
+    let elements = number_or(100, value.get("table_elements"))?;
+    let mut limits = InstanceLimits::default();
+    limits.total_memories = total_memories;
+    limits.total_tables = total_tables;
+    limits.max_memories_per_module = max_memories_per_module;
+    limits.max_tables_per_module = max_tables_per_module;
+    limits.max_memory_size = size as usize;
+    limits.table_elements = elements as usize;
+    Some(limits)
+}
 
 #[tactic(auto, unfolding(crate::specs::SettingsForms::config_form))]
 fn config_of(value: &Value) -> Option<PoolingAllocationConfig>
@@ -20,22 +52,27 @@ fn config_of(value: &Value) -> Option<PoolingAllocationConfig>
         value,
         &[
             "total_memories",
+            "total_tables",
+            "max_memories_per_module",
+            "max_tables_per_module",
             "max_memory_size",
+            "table_elements",
             "decommit_batch_size",
             "linear_memory_keep_resident",
+            "table_keep_resident",
         ],
     ) {
         return None;
     }
-    let total = number_or(10, value.get("total_memories"))?;
-    let size = number_or(65536, value.get("max_memory_size"))?;
+    let limits = instance_limits(value)?;
     let batch = number_or(1, value.get("decommit_batch_size"))?;
-    let resident = number_or(0, value.get("linear_memory_keep_resident"))?;
+    let memory = number_or(0, value.get("linear_memory_keep_resident"))?;
+    let table = number_or(0, value.get("table_keep_resident"))?;
     let mut config = PoolingAllocationConfig::default();
-    config.limits.total_memories = total.min(u32::MAX as u64) as u32;
-    config.limits.max_memory_size = size as usize;
+    config.limits = limits;
     config.decommit_batch_size = batch as usize;
-    config.linear_memory_keep_resident = resident as usize;
+    config.linear_memory_keep_resident = memory as usize;
+    config.table_keep_resident = table as usize;
     Some(config)
 }
 
@@ -63,6 +100,7 @@ fn tunables_of(value: &Value) -> Option<Tunables>
             "guard_before_linear_memory",
             "signals_based_traps",
             "memory_init_cow",
+            "table_lazy_init",
         ],
     ) {
         return None;
@@ -74,6 +112,7 @@ fn tunables_of(value: &Value) -> Option<Tunables>
     let before = flag_or(false, value.get("guard_before_linear_memory"))?;
     let signals = flag_or(true, value.get("signals_based_traps"))?;
     let cow = flag_or(true, value.get("memory_init_cow"))?;
+    let lazy = flag_or(true, value.get("table_lazy_init"))?;
     let mut tunables = Tunables::default();
     tunables.memory_reservation = reservation;
     tunables.memory_guard_size = guard;
@@ -82,6 +121,7 @@ fn tunables_of(value: &Value) -> Option<Tunables>
     tunables.guard_before_linear_memory = before;
     tunables.signals_based_traps = signals;
     tunables.memory_init_cow = cow;
+    tunables.table_lazy_init = lazy;
     tunables.gc_heap_reservation = reservation;
     tunables.gc_heap_guard_size = guard;
     tunables.gc_heap_reservation_for_growth = growth;
@@ -148,6 +188,8 @@ fn kind_named(name: &str) -> Option<FaultKind>
 {
     if name == "memory" {
         Some(FaultKind::Memory)
+    } else if name == "table" {
+        Some(FaultKind::Table)
     } else if name == "image" {
         Some(FaultKind::Image)
     } else {
