@@ -3,8 +3,42 @@ ghost use Rattle.std.specs.Prelude.{◌≡◌, IfOk};
 use pool_pages::{
     ByteCountNotAligned, ByteCountOutOfBounds, CompareBytes, HostAlignedByteCount, PageSize,
 };
+use std::alloc::Global;
 use std::cmp::Ordering;
 use std::test::Fail;
+
+type Calculated = Result<usize, ByteCountOutOfBounds>;
+
+// The bytes of what was calculated.
+fn bytes_of(
+    count: Result<HostAlignedByteCount, ByteCountOutOfBounds>,
+) -> Result<usize, ByteCountOutOfBounds> {
+    Ok(count?.byte_count())
+}
+
+// The bytes of a count, and whether they compare equal to it; or why there is no such count.
+type Exact = Result<(usize, bool), ByteCountNotAligned>;
+
+fn exact(page: PageSize, bytes: usize) -> Exact {
+    let count = HostAlignedByteCount::new(page, bytes)?;
+    Ok((count.byte_count(), count.eq_bytes(&bytes)))
+}
+
+fn exact_or_refused(bytes: usize, whole: bool) -> Exact {
+    if whole {
+        Ok((bytes, true))
+    } else {
+        Err(ByteCountNotAligned(bytes))
+    }
+}
+
+// The number of bytes rounded up, from a size and from 64 bits.
+fn rounded_up(page: PageSize, bytes: usize) -> (Calculated, Calculated) {
+    (
+        bytes_of(HostAlignedByteCount::new_rounded_up(page, bytes)),
+        bytes_of(HostAlignedByteCount::new_rounded_up_u64(page, bytes as u64)),
+    )
+}
 
 #[test]
 fn sizes_and_alignments_at_their_edges(rt: HostRuntime) -> Result<(), Fail> {
@@ -14,43 +48,24 @@ fn sizes_and_alignments_at_their_edges(rt: HostRuntime) -> Result<(), Fail> {
     for size in [16, 4096, 65536] {
         let page = PageSize::new(size)?;
         let last = usize::MAX - (size - 1);
-        for bytes in [0, size, last] {
-            let count = HostAlignedByteCount::new(page, bytes)?;
-            assert_eq!(rt; count.byte_count(), bytes);
-            assert!(rt; count == HostAlignedByteCount::new_rounded_up(page, bytes)?);
-            assert!(rt; count == HostAlignedByteCount::new_rounded_up_u64(page, bytes as u64)?);
-            assert!(rt; count.eq_bytes(&bytes));
-        }
-        for bytes in [1, size - 1, size + 1, last - 1, last + 1, usize::MAX] {
-            let refused = Err(ByteCountNotAligned(bytes));
-            assert!(rt; HostAlignedByteCount::new(page, bytes) == refused);
-        }
-        for (bytes, rounded) in [
-            (1, size),
-            (size - 1, size),
-            (size + 1, 2 * size),
-            (last - 1, last),
+        // the bytes, whether they are whole pages, and rounded up
+        for (bytes, whole, rounded) in [
+            (0, true, Ok(0)),
+            (1, false, Ok(size)),
+            (size - 1, false, Ok(size)),
+            (size, true, Ok(size)),
+            (size + 1, false, Ok(2 * size)),
+            (last - 1, false, Ok(last)),
+            (last, true, Ok(last)),
+            (last + 1, false, Err(ByteCountOutOfBounds::RoundUp)),
+            (usize::MAX, false, Err(ByteCountOutOfBounds::RoundUp)),
         ] {
-            let count = HostAlignedByteCount::new_rounded_up(page, bytes)?;
-            assert_eq!(rt; count.byte_count(), rounded);
-        }
-        for bytes in [last + 1, usize::MAX] {
-            let refused = Err(ByteCountOutOfBounds::RoundUp);
-            assert!(rt; HostAlignedByteCount::new_rounded_up(page, bytes) == refused);
-            assert!(rt; HostAlignedByteCount::new_rounded_up_u64(page, bytes as u64) == refused);
+            assert_eq!(rt; exact(page, bytes), exact_or_refused(bytes, whole));
+            assert_eq!(rt; rounded_up(page, bytes), (rounded, rounded));
         }
     }
     Ok(())
 }
-
-// The bytes of what was calculated.
-fn bytes_of(
-    count: Result<HostAlignedByteCount, ByteCountOutOfBounds>,
-) -> Result<usize, ByteCountOutOfBounds> {
-    Ok(count?.byte_count())
-}
-
-type Calculated = Result<usize, ByteCountOutOfBounds>;
 
 // Two counts of pages of 4,096 bytes.
 fn two(first: usize, second: usize) -> Result<(HostAlignedByteCount, HostAlignedByteCount), Fail>
@@ -135,41 +150,46 @@ fn counts_are_compared(rt: HostRuntime) -> Result<(), Fail> {
     Ok(())
 }
 
+// What is printed of a count of 65,536 bytes.
+fn printed_count(alloc: Global) -> Result<String, Fail> {
+    let count = HostAlignedByteCount::new(PageSize::new(4096)?, 65536)?;
+    Ok(format!(in alloc; "{count} {count:x} {count:#x}")?)
+}
+
+fn text_of(error: ByteCountOutOfBounds) -> &'static str {
+    match error {
+        ByteCountOutOfBounds::RoundUp => "byte count overflow rounding up",
+        ByteCountOutOfBounds::ConvertU64 => "byte count overflow converting u64",
+        ByteCountOutOfBounds::Add => "byte count overflow during addition",
+        ByteCountOutOfBounds::Sub => "byte count underflow during subtraction",
+        ByteCountOutOfBounds::Mul => "byte count overflow during multiplication",
+        ByteCountOutOfBounds::Div => "division by zero",
+        ByteCountOutOfBounds::Rem => "remainder by zero",
+    }
+}
+
 #[test]
-fn printed_forms(rt: HostRuntime) -> Result<(), Fail> {
-    let alloc = rt.alloc();
-    let page = PageSize::new(4096)?;
-    let count = HostAlignedByteCount::new(page, 65536)?;
-    let forms = format!(in alloc; "{count} {count:x} {count:#x}")?;
+fn counts_are_printed(rt: HostRuntime) -> Result<(), Fail> {
+    let forms = printed_count(rt.alloc())?;
     assert_eq!(rt; forms.as_str(), "0x10000 10000 0x10000");
-    let not_aligned = ByteCountNotAligned(4097).to_string(alloc)?;
+    let not_aligned = ByteCountNotAligned(4097).to_string(rt.alloc())?;
     assert_eq!(rt; not_aligned.as_str(), "byte count not page-aligned: 0x1001");
-    for (error, text) in [
-        (
-            ByteCountOutOfBounds::RoundUp,
-            "byte count overflow rounding up",
-        ),
-        (
-            ByteCountOutOfBounds::ConvertU64,
-            "byte count overflow converting u64",
-        ),
-        (
-            ByteCountOutOfBounds::Add,
-            "byte count overflow during addition",
-        ),
-        (
-            ByteCountOutOfBounds::Sub,
-            "byte count underflow during subtraction",
-        ),
-        (
-            ByteCountOutOfBounds::Mul,
-            "byte count overflow during multiplication",
-        ),
-        (ByteCountOutOfBounds::Div, "division by zero"),
-        (ByteCountOutOfBounds::Rem, "remainder by zero"),
+    Ok(())
+}
+
+#[test]
+fn failed_calculations_are_printed(rt: HostRuntime) -> Result<(), Fail> {
+    for error in [
+        ByteCountOutOfBounds::RoundUp,
+        ByteCountOutOfBounds::ConvertU64,
+        ByteCountOutOfBounds::Add,
+        ByteCountOutOfBounds::Sub,
+        ByteCountOutOfBounds::Mul,
+        ByteCountOutOfBounds::Div,
+        ByteCountOutOfBounds::Rem,
     ] {
-        let printed = error.to_string(alloc)?;
-        assert_eq!(rt; printed.as_str(), text);
+        let printed = error.to_string(rt.alloc())?;
+        assert_eq!(rt; printed.as_str(), text_of(error));
     }
     Ok(())
 }

@@ -1,9 +1,10 @@
 ghost use Rattle.std.specs.Prelude.{◌≡◌, ◌+◌, ◌<◌, ◌≤◌, length, IfOk, IfSome, false};
 ghost use Rattle.std.specs.Arc.{arc_value};
 ghost use Rattle.pool_memory.specs.Dynamic.{ImageOf};
+ghost use Rattle.pool_pages.specs.MemoryTypes.{minimum_byte_size};
 
 use pool_images::MemoryImage;
-use pool_limits::{GrowFault, LimiterError, StoreLimits, StoreLimitsBuilder};
+use pool_limits::{GrowFault, LimiterError, StoreLimits, StoreLimitsBuilder, Trap};
 use pool_memory::{DefaultMemoryCreator, LinearMemory, Memory, MemoryError, RuntimeMemoryCreator};
 use pool_pages::{
     CompiledModuleId, DefinedMemoryIndex, FailingMaker, Fault, FaultKind, IndexType, Limits,
@@ -92,76 +93,123 @@ fn refusal<M: PageMaker>(
     }
 }
 
+// Memories lie in regions, since their bounds are found by signals.
+fn by_signals() -> MemoryTunables {
+    let mut tunables = Tunables::default();
+    tunables.memory_init_cow = false;
+    tunables.memory_reservation = 0;
+    tunables.memory_guard_size = 0;
+    MemoryTunables::new(&tunables, MemoryKind::LinearMemory)
+}
+
+// Whether the default creator makes the memory in a region.
+fn is_in_region<M: PageMaker>(
+    alloc: Global,
+    maker: &mut M,
+    tunables: &MemoryTunables,
+) -> Result<bool, MemoryError> {
+    let creator = DefaultMemoryCreator;
+    match creator.new_memory(alloc, maker, &memory_type(), tunables, 8192, None)? {
+        LinearMemory::Mapped(_memory) => Ok(true),
+        LinearMemory::Malloc(_memory) => Ok(false),
+    }
+}
+
 #[test]
 fn settings_that_need_no_pages_give_lists(rt: HostRuntime) -> Result<(), Fail> {
     let mut maker = MemoryPages::new(PageSize::new(4096)?);
-    let ty = memory_type();
-    let creator = DefaultMemoryCreator;
-    let mut signals = Tunables::default();
-    signals.memory_init_cow = false;
-    signals.memory_reservation = 0;
-    signals.memory_guard_size = 0;
-    let by_signals = MemoryTunables::new(&signals, MemoryKind::LinearMemory);
     for (tunables, in_region) in [
         (in_regions(), true),
         (in_lists(), false),
-        (by_signals, true),
+        (by_signals(), true),
     ] {
-        match creator.new_memory(rt.alloc(), &mut maker, &ty, &tunables, 8192, None)? {
-            LinearMemory::Mapped(_memory) => assert!(rt; in_region),
-            LinearMemory::Malloc(_memory) => assert!(rt; !in_region),
-        }
+        assert_eq!(rt; is_in_region(rt.alloc(), &mut maker, &tunables)?, in_region);
     }
     assert_eq!(rt; maker.next(), 2);
     Ok(())
+}
+
+// Three bytes of the memory from there on.
+fn three<M: PageMaker>(
+    memory: &Memory<M, LinearMemory<M::Region>>,
+    at: u64,
+) -> Result<[u8; 3], Trap> {
+    let mut bytes = [9; 3];
+    memory.read(at, &mut bytes)?;
+    Ok(bytes)
+}
+
+// Whether a memory with an image holds it from the start on, and what a write into the image and a growth by a page
+// answer.
+type Moved = (bool, Result<(), Trap>, Result<Option<usize>, GrowFault>);
+
+// The same, and of the memory once it has moved the bytes at both ends of the image and at its own end, its size, and
+// whether it still holds its image.
+fn moved<M: PageMaker>(
+    alloc: Global,
+    maker: &mut M,
+) -> Result<(Moved, [Result<[u8; 3], Trap>; 3], (usize, bool)), Fail>
+    requires { (M.told maker.old).page ≡ 4096 }
+{
+    let image = image(alloc)?;
+    let mut memory = made(
+        alloc,
+        maker,
+        &memory_type(),
+        &in_regions(),
+        Some(&image),
+        None,
+    )?;
+    let holds = !memory.needs_init();
+    let written = memory.write(4096, &[5]);
+    let grown = memory.grow::<StoreLimits>(maker, 1, None);
+    let bytes = [
+        three::<M>(&memory, 4095),
+        three::<M>(&memory, 8190),
+        three::<M>(&memory, 12_285),
+    ];
+    let ends = (memory.byte_size(), !memory.needs_init());
+    Ok(((holds, written, grown), bytes, ends))
 }
 
 #[test]
 fn a_memory_begins_with_its_image_and_moves_with_it(rt: HostRuntime) -> Result<(), Fail> {
-    let alloc = rt.alloc();
     let mut maker = MemoryPages::new(PageSize::new(4096)?);
-    let image = image(alloc)?;
-    let ty = memory_type();
-    let mut memory = made(alloc, &mut maker, &ty, &in_regions(), Some(&image), None)?;
-    assert!(rt; !memory.needs_init());
-    assert_eq!(rt; memory.write(4096, &[5]), Ok(()));
-    assert_eq!(rt;
-        memory.grow::<StoreLimits>(&mut maker, 1, None),
-        Ok(Some(8192))
-    );
-    assert_eq!(rt; memory.byte_size(), 12_288);
-    assert_eq!(rt; maker.next(), 2);
-    let mut bytes = [9; 3];
-    for (at, wanted) in [(4095, [0, 5, 7]), (8190, [7, 7, 0]), (12_285, [0, 0, 0])] {
-        assert_eq!(rt; memory.read(at, &mut bytes), Ok(()));
-        assert_eq!(rt; bytes, wanted);
-    }
-    assert!(rt; memory.needs_init());
+    let (answers, bytes, ends) = moved(rt.alloc(), &mut maker)?;
+    assert_eq!(rt; answers, (true, Ok(()), Ok(Some(8192))));
+    assert_eq!(rt; bytes, [Ok([0, 5, 7]), Ok([7, 7, 0]), Ok([0; 3])]);
+    assert_eq!(rt; (ends, maker.next()), ((12_288, false), 2));
     Ok(())
+}
+
+// Whether a memory of this type needs its image, and three bytes where that would be.
+fn without_image<M: PageMaker>(
+    alloc: Global,
+    maker: &mut M,
+    ty: &MemoryType,
+    tunables: &MemoryTunables,
+) -> Result<(bool, Result<[u8; 3], Trap>), Fail>
+    requires page { (M.told maker.old).page ≡ 4096 }
+    requires small { ty.now.page_size_log2 < 64 }
+    requires fits { 8192 ≤ minimum_byte_size ty.now }
+{
+    let image = image(alloc)?;
+    let memory = made(alloc, maker, ty, tunables, Some(&image), None)?;
+    Ok((memory.needs_init(), three::<M>(&memory, 4096)))
 }
 
 #[test]
 fn an_image_is_dropped_where_the_memory_has_no_whole_pages(rt: HostRuntime) -> Result<(), Fail> {
-    let alloc = rt.alloc();
-    let mut maker = MemoryPages::new(PageSize::new(4096)?);
-    let image = image(alloc)?;
-    let mut bytes = [9; 2];
-    let memory = made(
-        alloc,
-        &mut maker,
-        &memory_type(),
-        &in_lists(),
-        Some(&image),
-        None,
-    )?;
-    assert_eq!(rt; memory.read(4096, &mut bytes), Ok(()));
-    assert_eq!(rt; (memory.needs_init(), bytes), (true, [0; 2]));
+    let page = PageSize::new(4096)?;
+    let mut maker = MemoryPages::new(page);
+    let found = without_image(rt.alloc(), &mut maker, &memory_type(), &in_lists())?;
+    assert_eq!(rt; found, (true, Ok([0; 3])));
+    let mut maker = MemoryPages::new(page);
     let mut ty = memory_type();
     ty.page_size_log2 = 0;
     ty.limits.min = 8193;
-    let memory = made(alloc, &mut maker, &ty, &in_regions(), Some(&image), None)?;
-    assert_eq!(rt; memory.read(4096, &mut bytes), Ok(()));
-    assert_eq!(rt; (memory.needs_init(), bytes), (true, [0; 2]));
+    let found = without_image(rt.alloc(), &mut maker, &ty, &in_regions())?;
+    assert_eq!(rt; found, (true, Ok([0; 3])));
     Ok(())
 }
 

@@ -66,26 +66,67 @@ fn four<M: PageMaker>(memory: &MmapMemory<M::Region>, at: usize) -> Result<[u8; 
     Ok(bytes)
 }
 
+// How many bytes the memory can have where it lies.
+fn capacity<M: PageMaker>(memory: &MmapMemory<M::Region>) -> usize {
+    RuntimeLinearMemory::<M>::byte_capacity(memory)
+}
+
+// What growing a memory to a size answers, and how many regions were made by then.
+type Growth = (Result<(), GrowError>, u32);
+
+fn grow_counting<M: PageMaker>(
+    memory: &mut MmapMemory<M::Region>,
+    maker: &mut M,
+    size: usize,
+) -> Result<Growth, Fail> {
+    let grown = grow(memory, maker, size)?;
+    Ok((grown, maker.next()))
+}
+
+// Writes to the end of a memory of 100 bytes, which grows by a region's size, and then past it. Answers both growths, both
+// capacities, and the bytes at the old end and where the first region ended.
+fn moved<M: PageMaker>(
+    alloc: Global,
+    maker: &mut M,
+) -> Result<([Growth; 2], [usize; 2], [[u8; 4]; 2]), Fail> {
+    let tunables = settings(0, 65_536, 4096, true);
+    let mut memory = mapped(alloc, maker, &tunables, 100, None)?;
+    if RuntimeLinearMemory::<M>::byte_size(&memory) != 100 {
+        return Err(Fail::new("the memory has another size"));
+    }
+    let first = capacity::<M>(&memory);
+    RuntimeLinearMemory::<M>::write(&mut memory, 97, &[1, 2, 3]);
+    let within = grow_counting(&mut memory, maker, 8192)?;
+    let past = grow_counting(&mut memory, maker, 8193)?;
+    let bytes = [four::<M>(&memory, 97)?, four::<M>(&memory, 8189)?];
+    Ok(([within, past], [first, capacity::<M>(&memory)], bytes))
+}
+
 #[test]
 fn a_memory_moves_past_its_capacity_and_keeps_its_bytes(rt: HostRuntime) -> Result<(), Fail> {
     let mut maker = MemoryPages::new(PageSize::new(4096)?);
-    let tunables = settings(0, 65_536, 4096, true);
-    let mut memory = mapped(rt.alloc(), &mut maker, &tunables, 100, None)?;
-    let capacity = RuntimeLinearMemory::<MemoryPages>::byte_capacity(&memory);
-    assert_eq!(rt; capacity, 8192);
-    if RuntimeLinearMemory::<MemoryPages>::byte_size(&memory) != 100 {
-        return Err(Fail::new("the memory has another size"));
-    }
-    RuntimeLinearMemory::<MemoryPages>::write(&mut memory, 97, &[1, 2, 3]);
-    assert_eq!(rt; grow(&mut memory, &mut maker, 8192)?, Ok(()));
-    assert_eq!(rt; maker.next(), 1);
-    assert_eq!(rt; grow(&mut memory, &mut maker, 8193)?, Ok(()));
-    assert_eq!(rt; maker.next(), 2);
-    let capacity = RuntimeLinearMemory::<MemoryPages>::byte_capacity(&memory);
-    assert_eq!(rt; capacity, 16_384);
-    assert_eq!(rt; four::<MemoryPages>(&memory, 97)?, [1, 2, 3, 0]);
-    assert_eq!(rt; four::<MemoryPages>(&memory, 8189)?, [0; 4]);
+    let (growths, capacities, bytes) = moved(rt.alloc(), &mut maker)?;
+    assert_eq!(rt; growths, [(Ok(()), 1), (Ok(()), 2)]);
+    assert_eq!(rt; capacities, [8192, 16_384]);
+    assert_eq!(rt; bytes, [[1, 2, 3, 0], [0; 4]]);
     Ok(())
+}
+
+// The capacity of a memory, what growing past it answers, and the capacity then.
+fn capacities<M: PageMaker>(
+    alloc: Global,
+    maker: &mut M,
+    tunables: &Tunables,
+    minimum: usize,
+    maximum: Option<usize>,
+) -> Result<(usize, Result<(), GrowError>, usize), Fail> {
+    let mut memory = mapped(alloc, maker, tunables, minimum, maximum)?;
+    let first = capacity::<M>(&memory);
+    if first > 65_536 {
+        return Err(Fail::new("the capacity is larger"));
+    }
+    let grown = grow(&mut memory, maker, first + 1)?;
+    Ok((first, grown, capacity::<M>(&memory)))
 }
 
 #[test]
@@ -101,27 +142,25 @@ fn what_is_reserved_holds_the_memory(rt: HostRuntime) -> Result<(), Fail> {
     ];
     for (reservation, growth, minimum, maximum, first, moved) in cases {
         let tunables = settings(reservation, 0, growth, false);
-        let mut memory = mapped(rt.alloc(), &mut maker, &tunables, minimum, maximum)?;
-        let capacity = RuntimeLinearMemory::<MemoryPages>::byte_capacity(&memory);
-        assert_eq!(rt; capacity, first);
-        if capacity > 65_536 {
-            return Err(Fail::new("the capacity is larger"));
-        }
-        assert_eq!(rt; grow(&mut memory, &mut maker, capacity + 1)?, Ok(()));
-        let capacity = RuntimeLinearMemory::<MemoryPages>::byte_capacity(&memory);
-        assert_eq!(rt; capacity, moved);
+        let found = capacities(rt.alloc(), &mut maker, &tunables, minimum, maximum)?;
+        assert_eq!(rt; found, (first, Ok(()), moved));
     }
     Ok(())
+}
+
+// The call of this number on the region of this number fails.
+fn failing(slot: u64, call: u64) -> Fault {
+    Fault {
+        kind: FaultKind::OnDemand,
+        slot,
+        call,
+    }
 }
 
 // What refuses a memory of one page whose region's making fails.
 fn refused(alloc: Global, tunables: &Tunables) -> Result<Option<MemoryError>, Fail> {
     let page = PageSize::new(4096)?;
-    let plan = [Fault {
-        kind: FaultKind::OnDemand,
-        slot: 0,
-        call: 0,
-    }];
+    let plan = [failing(0, 0)];
     let mut maker = FailingMaker::new(MemoryPages::new(page), page, &plan);
     match mapped(alloc, &mut maker, tunables, 4096, None) {
         Ok(_memory) => Ok(None),
@@ -150,28 +189,39 @@ fn guards_and_reservations_must_be_within_addresses(rt: HostRuntime) -> Result<(
     Ok(())
 }
 
+// What growing the memory answers, and its last four bytes of the first page then.
+fn grow_or_not<M: PageMaker>(
+    memory: &mut MmapMemory<M::Region>,
+    maker: &mut M,
+    size: usize,
+) -> Result<(Result<(), GrowError>, [u8; 4]), Fail> {
+    let grown = grow(memory, maker, size)?;
+    Ok((grown, four::<M>(memory, 4092)?))
+}
+
+// Four growths of a memory of a page by a region each, of which the third asks for all bytes.
+fn grown_four_times<M: PageMaker>(
+    alloc: Global,
+    maker: &mut M,
+) -> Result<[(Result<(), GrowError>, [u8; 4]); 4], Fail> {
+    let mut memory = mapped(alloc, maker, &settings(0, 4096, 0, false), 4096, None)?;
+    Ok([
+        grow_or_not(&mut memory, maker, 4097)?,
+        grow_or_not(&mut memory, maker, 4097)?,
+        grow_or_not(&mut memory, maker, usize::MAX)?,
+        grow_or_not(&mut memory, maker, 4097)?,
+    ])
+}
+
 #[test]
 fn a_move_that_fails_leaves_the_memory_as_it_is(rt: HostRuntime) -> Result<(), Fail> {
     let page = PageSize::new(4096)?;
-    let plan = [(1, 0), (2, 1)].map(|(slot, call)| Fault {
-        kind: FaultKind::OnDemand,
-        slot,
-        call,
-    });
+    let plan = [failing(1, 0), failing(2, 1)];
     let mut maker = FailingMaker::new(MemoryPages::new(page), page, &plan);
-    let tunables = settings(0, 4096, 0, false);
-    let mut memory = mapped(rt.alloc(), &mut maker, &tunables, 4096, None)?;
-    let most = usize::MAX;
-    for (size, answer) in [
-        (4097, Err(GrowError::PageFault)),
-        (4097, Err(GrowError::PageFault)),
-        (most, Err(GrowError::Overflow)),
-        (4097, Ok(())),
-    ] {
-        assert_eq!(rt; grow(&mut memory, &mut maker, size)?, answer);
-        assert_eq!(rt; four::<FailingMaker<MemoryPages>>(&memory, 4092)?, [0; 4]);
-    }
-    assert_eq!(rt; maker.next(), 4);
-    assert_eq!(rt; maker.faults(), 1);
+    let fault = (Err(GrowError::PageFault), [0; 4]);
+    let most = (Err(GrowError::Overflow), [0; 4]);
+    let found = grown_four_times(rt.alloc(), &mut maker)?;
+    assert_eq!(rt; found, [fault, fault, most, (Ok(()), [0; 4])]);
+    assert_eq!(rt; (maker.next(), maker.faults()), (4, 1));
     Ok(())
 }
