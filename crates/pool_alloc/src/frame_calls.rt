@@ -21,14 +21,14 @@ impl<P: Pages> Frame<P> {
     {
         match call {
             Call::Key => {
-                self.phase = Phase::Key;
+                self.enter(Phase::Key);
                 self.step_count = 0;
             }
             Call::Module(module) => {
                 self.asked = Some(module);
                 self.ending = Ending::Granted;
                 self.queues = 0;
-                self.phase = Phase::Validate;
+                self.enter(Phase::Validate);
                 self.step_count = 0;
             }
             Call::GiveBack(grant) => self.give_back(grant),

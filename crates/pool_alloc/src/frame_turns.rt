@@ -25,8 +25,19 @@ impl<P: Pages> Frame<P> {
         ensures { ◌≡◌ {A = Left P} (record { frame = self.new; outcome = result }) (goes_to self.old phase) }
     {
         self.step_count = self.step_count.wrapping_add(1);
-        self.phase = phase;
+        self.enter(phase);
         None
+    }
+
+    // The phase is this one. A step has taken the one before out, so that there is nothing to drop, and no room for it is
+    // prepared.
+    pub(crate) fn enter(&mut self, phase: Phase<P>)
+        ensures { self.new ≡ record self.old { phase = phase } }
+    {
+        match mem::replace(&mut self.phase, phase) {
+            Phase::Idle => {}
+            left => drop_phase(left),
+        }
     }
 
     // The call ends with this answer, and leaves nothing of itself but the number of its steps.
@@ -34,7 +45,7 @@ impl<P: Pages> Frame<P> {
         ensures { ◌≡◌ {A = Left P} (record { frame = self.new; outcome = result }) (ends_with self.old outcome) }
     {
         self.step_count = self.step_count.wrapping_add(1);
-        self.phase = Phase::Idle;
+        self.enter(Phase::Idle);
         self.asked = None;
         self.ending = Ending::Returned;
         self.queues = 0;
@@ -144,4 +155,11 @@ fn limit_of(kind: SlotKind, stripe: u32) -> ConcurrencyKind
         SlotKind::Table => ConcurrencyKind::Tables,
         _ => ConcurrencyKind::MemoryStripe(stripe),
     }
+}
+
+// Drops a phase that was left before it was over.
+#[cold]
+#[inline(never)]
+fn drop_phase<P: Pages>(left: Phase<P>) {
+    mem::drop(left);
 }
