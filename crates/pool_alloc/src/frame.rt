@@ -87,7 +87,7 @@ pub enum Phase<P: Pages> {
     Idle,
     /// Draw a number from the key counter.
     Key,
-    /// Test the module, and reserve the list of what it will be granted.
+    /// Test the module, and reserve the lists of what it will be granted.
     Validate,
     CountInstance,
     /// Pick a slot from the shard that is so many after the home shard.
@@ -134,7 +134,7 @@ pub struct Frame<P: Pages> {
     pub objects: InstanceLease<P>,
     /// How many queues the search for a slot has taken.
     pub queues: u32,
-    /// The local queue. It is empty but while memories are given back or queues flushed.
+    /// The local queue. It is empty but while objects are given back or queues flushed.
     pub local: DecommitQueue<P>,
     /// The slots whose regions are back in their cells, and which aren't free yet.
     pub freed: ReservedList<FreedSlot>,
