@@ -1,23 +1,10 @@
--- Cells as they are made, and the sum of the calls on their regions.
+-- The sum of the calls on regions.
 use Rattle.std.proofs.Common.{◌≡◌, ℕ, ◌+◌, ◌-◌, ◌^◌, ◌<◌, List, length, get_or, take, ap, ◌∙◌, subst, arith, min}
 use Rattle.std.specs.Prelude.{slice_index_or, sum_by}
 use Rattle.std.proofs.lemmas.List.Sums.{sum_by_more}
-use Rattle.pool_pages.specs.Count.{Count, count, rounded_up}
-use Rattle.pool_pages.specs.MakerTold.{MakerTold, made_region}
 use Rattle.pool_pages.specs.declared.pages.PageCalls.{PageCalls}
-use Rattle.pool_pages.specs.declared.pages.RegionName.TheVariants.{Memory}
-use Rattle.pool_pages.specs.declared.pages.DecommitBehavior.{DecommitBehavior}
 use Rattle.pool_pages.specs.CallSums.{added, both}
-use Rattle.pool_slots.specs.Cells.{unmapped, region_made, all_calls, sum_at_most}
-use Rattle.pool_slots.specs.RegionCells.{CellState, memory_cell, no_cell}
-use Rattle.pool_slots.specs.Makings.{AreMade}
-
--- the cells that were made hold the regions as made
-pub cells_made : (maker : MakerTold) (behaviour : DecommitBehavior) (page size total : ℕ) (len : Count) (cells : List CellState) → page ≡ maker.page → len ≡ count page (rounded_up page size) → AreMade maker behaviour total len cells → (i : ℕ) → i < total → slice_index_or cells i no_cell ≡ memory_cell i (unmapped (region_made maker behaviour size i))
-cells_made maker behaviour page size total len cells paged long made i below =
-    let L : Count → Type 0 = λ l. slice_index_or cells i no_cell ≡ memory_cell i (unmapped (made_region (Memory i) behaviour (count l.page 0) l maker)) in
-    let same : len ≡ count maker.page (rounded_up maker.page size) = long ∙ ap (λ (p : ℕ). count p (rounded_up p size)) paged in
-    subst L same (made.each i below)
+use Rattle.pool_slots.specs.Cells.{all_calls, sum_at_most}
 
 sat : (s x t m : ℕ) → t ≡ s + x → min (min s m + x) m ≡ min t m
 sat s x t m e = omega arith

@@ -167,7 +167,7 @@ told_held at n from to s p behind inside within holds =
 told_zeros : (at n : ℕ) (s : Slot) → IsPlain s → at + n ≤ size_of s → IfSome (plain_written at (replicate n 0) s).region.contents (Holds s at (at + n))
 told_zeros at n s p within = lifted (IsBlankTold s) (Holds s at (at + n)) (written (s.base.bytes + at) (replicate n 0)) s.region.contents (λ c b. zeros_there at n s c p.fits within b) (blank s p)
 
-empty_held : (s : Slot) (at : ℕ) (o : Option Contents) → IfSome o (IsSound s.region.page s.region.len s.base.bytes (size_of s)) → IsSlot s → at ≤ size_of s → IfSome o (Holds s at at)
+pub empty_held : (s : Slot) (at : ℕ) (o : Option Contents) → IfSome o (IsSound s.region.page s.region.len s.base.bytes (size_of s)) → IsSlot s → at ≤ size_of s → IfSome o (Holds s at at)
 empty_held s at None sound fits within = sound
 empty_held s at (Some c) sound fits within = same_range c.bytes c.origin (s.base.bytes + at) (s.base.bytes + at) (omega (arith, sound.shaped.bytes, fits.sizes.inside)) (omega (arith, sound.shaped.origin, fits.sizes.inside)) (λ j x over below. absurd (omega arith))
 

@@ -3,17 +3,11 @@ use Rattle.std.proofs.Common.{◌≡◌, ℕ, ◌+◌, ◌<◌, true, false, Lis
 use Rattle.std.specs.Prelude.{IfSome, ◌++◌, ◌∷◌, []}
 use Rattle.std.specs.List.{list_any, range_with_len}
 use Rattle.std.proofs.lemmas.Bool.{cases_lt, false≢true}
-use Rattle.std.proofs.lemmas.List.{get_or_append_left, get_or_push, length-append}
 use Rattle.std.proofs.lemmas.List.Folds.{list_any_none, list_any_at}
 use Rattle.std.proofs.lemmas.List.FromFn.{length-range_with_len, get_or-range_with_len}
-use Rattle.pool_pages.specs.Count.{Count}
-use Rattle.pool_pages.specs.MakerTold.{MakerTold, Planned, fails_making}
-use Rattle.pool_pages.specs.declared.pages.RegionName.TheVariants.{Memory}
-use Rattle.pool_pages.specs.declared.pages.DecommitBehavior.{DecommitBehavior}
-use Rattle.pool_slots.specs.Cells.{unmapped}
-use Rattle.pool_slots.specs.RegionCells.{CellState, memory_cell, no_cell}
-use Rattle.pool_slots.specs.Makings.{AreMadeInStripes, makes_listed_regions, IsListedPoolFault, RaisesPoolFaults, RaisesPoolBehind}
-use Rattle.pool_slots.specs.Colourings.{RaisesUnlessGivenUp, RaisesBehindUnlessGivenUp, SomeUncoloured, coloured_region}
+use Rattle.pool_pages.specs.MakerTold.{MakerTold, Planned}
+use Rattle.pool_slots.specs.Makings.{IsListedPoolFault, RaisesPoolFaults, RaisesPoolBehind}
+use Rattle.pool_slots.specs.Colourings.{RaisesUnlessGivenUp, RaisesBehindUnlessGivenUp}
 use Rattle.pool_slots.specs.declared.errors.PoolNewError.{PoolNewError}
 use Rattle.pool_slots.specs.declared.errors.PoolNewError.TheVariants as refused
 
@@ -52,18 +46,6 @@ both_told P Q R (Some x) step h k = step x h k
 pub any_told : {X : Type 0} (P : X → Type 0) (o : Option X) → ((x : X) → P x) → IfSome o P
 any_told P None step = tt
 any_told P (Some x) step = step x
-
--- one cell more is made
-pub made_more : (num_stripes : ℕ) (maker : MakerTold) (behaviour : DecommitBehavior) (n : ℕ) (len : Count) (cells : List CellState) (cell : CellState) → AreMadeInStripes num_stripes maker behaviour n len cells → cell ≡ memory_cell n (unmapped (coloured_region num_stripes maker behaviour len n)) → AreMadeInStripes num_stripes maker behaviour (n + 1) len (cells ++ cell ∷ [])
-made_more num_stripes maker behaviour n len cells cell made now =
-    record {
-      count = length-append cells (cell ∷ []) ∙ ap (λ (k : ℕ). k + 1) made.count;
-      each = λ i below.
-          elim (cases_lt i n) [
-            | inl under ↦ get_or_append_left cells (cell ∷ []) no_cell i (omega (arith, made.count)) ∙ made.each i under
-            | inr from ↦ let e : i ≡ n = omega arith in rw e (get_or_push cells cell no_cell n made.count ∙ now)
-          ];
-    }
 
 listed_by : (f : ℕ → Bool) (total i : ℕ) (e : PoolNewError) → i < total → IsListedPoolFault (f i) e → IsListedPoolFault (list_any f (range_with_len 0 total)) e
 listed_by f total i (refused.BadConfig b) under h = h

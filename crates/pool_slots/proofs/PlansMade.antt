@@ -1,4 +1,4 @@
--- A plan with one allocator for each kind is right: its blocks lie in a line, and each slot is at home.
+-- A plan that is laid out is right: its blocks lie in a line, and the one allocator of a kind has each of its numbers.
 use Rattle.std.proofs.Common.{◌≡◌, ℕ, ◌+◌, ◌-◌, ◌*◌, ◌/◌, ◌%◌, ◌^◌, ◌<◌, ◌≤◌, Bool, true, List, [], ◌∷◌, ◌++◌, refl, sym, ap, ◌∙◌, subst, inl, inr, arith}
 use Rattle.std.specs.Prelude.{map, nat_le, nat_lt, min}
 use Rattle.std.specs.List.{AllByRecursion}
@@ -7,14 +7,13 @@ use Rattle.std.proofs.Math.Nat.{div-add-mod, mod-lt}
 use Rattle.pool_hall.specs.declared.unit_name.SlotKind.{SlotKind}
 use Rattle.pool_hall.specs.declared.unit_name.SlotKind.TheVariants.{Memory, Table, Stack, Heap}
 use Rattle.pool_slots.specs.SlotNames.{of_kind}
-use Rattle.pool_slots.specs.Plans.{allocators_of, allocators, queue_role, heaps_role, cells_block, has_number, have_number, home_among, home_of, IsAtHome, Block, shards_block, AreBesides, AreSeparate, IsPlacedAllocator, AreAllocators, IsPlanned}
-use Rattle.pool_slots.specs.PlansMade.{HoldSlots, HaveShards, shards_planned, places_planned, allocator_planned, IsPlanOf, IsPlanWith, home_planned, FollowOneAnother}
+use Rattle.pool_slots.specs.Plans.{allocators_of, allocators, queue_role, heaps_role, cells_block, has_number, home_among, Block, shards_block, AreBesides, AreSeparate, AreAllocators, IsPlanned}
+use Rattle.pool_slots.specs.PlansMade.{HoldSlots, shards_planned, places_planned, allocator_planned, IsPlanWith, home_planned}
 use Rattle.pool_slots.specs.declared.slot_name.OfKinds.{OfKinds}
 use Rattle.pool_slots.specs.declared.slot_name.SlotName.{SlotName}
 use Rattle.pool_slots.specs.declared.plan.Allocator.{Allocator}
 use Rattle.pool_slots.specs.declared.plan.Plan.{Plan}
 use Rattle.pool_slots.specs.declared.plan_maker.PlanSettings.{PlanSettings}
-use Rattle.pool_slots.proofs.Planning.{slots_are_at_home, allocators_placed}
 use Rattle.pool_slots.proofs.Lists.{each_weaker, each_append}
 
 -- each block begins where the one before it ends, or later
@@ -126,12 +125,6 @@ has_each s kind n inside =
     let w = whole_steps n in
     rw (w.0, w.1) (and_from (nat_le 0 n) (nat_lt n (of_kind kind s.totals)) (le-leb 0 n (omega arith)) (lt-ltb n (of_kind kind s.totals) inside))
 
-holds_of : (s : PlanSettings) (kind : SlotKind) → HaveShards s → HoldSlots (of_kind kind s.totals) (of_kind kind s.shards) (of_kind kind s.slots_per_shard)
-holds_of s Memory have = have.memory
-holds_of s Table have = have.table
-holds_of s Stack have = have.stack
-holds_of s Heap have = have.heap
-
 pub allocators_are : (s : PlanSettings) (kind : SlotKind) → HoldSlots (of_kind kind s.totals) (of_kind kind s.shards) (of_kind kind s.slots_per_shard) → AreAllocators kind (of_kind kind s.totals) (allocator_planned s kind ∷ [])
 allocators_are s kind holds =
     record {
@@ -159,66 +152,10 @@ planned_with s memories plan line right is =
           subst A (sym (laid_are s memories plan is kind)) (rw is.totals (right kind));
     }
 
--- with one allocator of memories
-abbrev pub one_memory : PlanSettings → List Allocator
-one_memory s = allocator_planned s Memory ∷ []
-
-laid_one : (s : PlanSettings) (kind : SlotKind) → laid s (one_memory s) kind ≡ allocator_planned s kind ∷ []
-laid_one s Memory = refl
-laid_one s Table = refl
-laid_one s Stack = refl
-laid_one s Heap = refl
-
-pub made : (s : PlanSettings) (plan : Plan) → IsPlanWith s (one_memory s) plan → IsPlanOf s plan
-made s plan is = record {
-  allocators = λ kind. laid_are s (one_memory s) plan is kind ∙ laid_one s kind;
-  cells = is.cells;
-  totals = is.totals;
-  first_queue = is.first_queue;
-  queues = is.queues;
-  heap_list = is.heap_list;
-  shared = is.shared;
-}
-
-with_one : (s : PlanSettings) (plan : Plan) → IsPlanOf s plan → IsPlanWith s (one_memory s) plan
-with_one s plan is = record {
-  memories = is.allocators Memory;
-  tables = is.allocators Table;
-  stacks = is.allocators Stack;
-  heaps = is.allocators Heap;
-  cells = is.cells;
-  totals = is.totals;
-  first_queue = is.first_queue;
-  queues = is.queues;
-  heap_list = is.heap_list;
-  shared = is.shared;
-}
-
-pub planned : (s : PlanSettings) (plan : Plan) → HaveShards s → IsPlanOf s plan → IsPlanned plan (places_planned s)
-planned s plan have is =
-    let right : (kind : SlotKind) → AreAllocators kind (of_kind kind s.totals) (laid s (one_memory s) kind) =
-    λ kind. subst (AreAllocators kind (of_kind kind s.totals)) (sym (laid_one s kind)) (allocators_are s kind (holds_of s kind have)) in
-    planned_with s (one_memory s) plan (omega arith, omega arith) right (with_one s plan is)
-
-pub placed : (s : PlanSettings) (plan : Plan) → HaveShards s → places_planned s < 2 ^ 32 → IsPlanOf s plan → (kind : SlotKind) → AllByRecursion IsPlacedAllocator (allocators_of plan kind)
-placed s plan have fits is kind = allocators_placed plan (places_planned s) (planned s plan have is) fits kind
-
 pub home_by : (s : PlanSettings) (name : SlotName) → name.slot < of_kind name.kind s.totals → home_among (allocator_planned s name.kind ∷ []) name.slot ≡ home_planned s name
 home_by s name inside =
     let w = whole_steps name.slot in
     rw (has_each s name.kind name.slot inside, w.1) refl
-
-pub follow : (s : PlanSettings) (plan : Plan) → IsPlanOf s plan → FollowOneAnother s plan
-follow s plan is = record {
-  one = λ name inside. ap (λ (l : List Allocator). have_number l name.slot) (is.allocators name.kind) ∙ rw (has_each s name.kind name.slot inside) refl;
-  homes = λ name inside. ap (λ (l : List Allocator). home_among l name.slot) (is.allocators name.kind) ∙ home_by s name inside;
-  queues = λ home tried. rw (is.first_queue, is.queues, is.shared) refl;
-}
-
-pub at_home : (s : PlanSettings) (plan : Plan) → HaveShards s → IsPlanOf s plan → (name : SlotName) → name.slot < of_kind name.kind s.totals → IsAtHome plan name (home_of plan name)
-at_home s plan have is name inside =
-    let B : OfKinds → Type 0 = λ o. name.slot < of_kind name.kind o in
-    slots_are_at_home plan (places_planned s) name (planned s plan have is) (subst B (sym is.totals) inside)
 
 -- The settings determine the plan.
 pub one_plan_with : (s : PlanSettings) (memories : List Allocator) (a b : Plan) → IsPlanWith s memories a → IsPlanWith s memories b → a ≡ b
@@ -235,6 +172,3 @@ one_plan_with s memories a b one two =
     ∙ ap (λ (n : ℕ). Sizes b.cells b.totals b.first_queue n a.heap_list a.owned) (one.queues ∙ sym two.queues)
     ∙ ap (λ (n : ℕ). Sizes b.cells b.totals b.first_queue b.queues n a.owned) (one.heap_list ∙ sym two.heap_list)
     ∙ ap (Sizes b.cells b.totals b.first_queue b.queues b.heap_list) (one.shared ∙ sym two.shared)
-
-pub one_plan : (s : PlanSettings) (a b : Plan) → IsPlanOf s a → IsPlanOf s b → a ≡ b
-one_plan s a b one two = one_plan_with s (one_memory s) a b (with_one s a one) (with_one s b two)

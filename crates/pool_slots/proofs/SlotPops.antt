@@ -1,6 +1,6 @@
 -- A slot of a kind is taken out of a queue without ranges, or zeroed by hand in it.
 use Rattle.std.proofs.Common.{◌≡◌, ℕ, zero, suc, ◌<◌, ◌≤◌, true, false, List, [], ◌∷◌, length, get_or, refl, sym, ap, ◌∙◌, subst, inl, inr, arith, set, Option, Some, None}
-use Rattle.std.specs.Prelude.{IfSome, IsSome, OnSome, remove}
+use Rattle.std.specs.Prelude.{IfSome, IsSome, OnSome, is_some, remove}
 use Rattle.std.specs.List.{AllByRecursion, HoldsAt, list_any}
 use Rattle.std.proofs.lemmas.Bool.{cases_Bool, or_parts, or_from, true≢false}
 use Rattle.std.proofs.lemmas.List.Elements.{All-nil}
@@ -81,6 +81,10 @@ first_at kind (m ∷ ms) (suc i) d inside before here =
     let not : same_kind kind m.name.kind ≡ false = before 0 (omega arith) m in
     let rest = first_at kind ms i d (omega arith) (λ k below e. before (suc k) (omega arith) e) here in
     (rw not rest.0, rw not (ap (λ (l : List Queued). m ∷ l) rest.1))
+
+pub kind_there : (kind : SlotKind) (ms : List Queued) (i : ℕ) → i < length ms → ((k : ℕ) → k < i → HoldsAt (λ m. same_kind kind m.name.kind ≡ false) ms k) → HoldsAt (λ m. same_kind kind m.name.kind ≡ true) ms i → is_some (first_of_kind kind ms) ≡ true
+kind_there kind [] i inside before here = absurd (omega arith)
+kind_there kind (m ∷ ms) i inside before here = ap (λ (o : Option Queued). is_some o) (first_at kind (m ∷ ms) i m inside before (here m)).0
 
 pub none_of_kind : (kind : SlotKind) (ms : List Queued) → ((k : ℕ) → k < length ms → HoldsAt (λ m. same_kind kind m.name.kind ≡ false) ms k) → (first_of_kind kind ms ≡ None) × (others_of_kind kind ms ≡ ms)
 none_of_kind kind [] none = (refl, refl)

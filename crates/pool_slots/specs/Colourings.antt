@@ -1,6 +1,6 @@
 -- The colours of memory slots, how the region of a slot is given its colour, and when that fails.
 use Rattle.std.specs.Prelude.{◌≡◌, ℕ, ◌+◌, ◌^◌, ◌<◌, ◌≤◌, ◌⊎◌, ◌==◌, ◌||◌, List, Bool, true, false, nat_lt, if◌then◌else◌, Option, None, Some, IsSome, IfSome}
-use Rattle.std.specs.List.{list_any, range_with_len}
+use Rattle.std.specs.List.{list_any}
 use Rattle.pool_pages.specs.Count.{Count, count as count_of, rounded_up}
 use Rattle.pool_pages.specs.Told.{Told, Rose}
 use Rattle.pool_images.specs.Slots.{coloured, IsFresh}
@@ -34,20 +34,12 @@ abbrev pub fails_region : Option ℕ → ℕ → ℕ → List Planned → Bool
 fails_region None len i plan = fails_making (Memory i) plan
 fails_region (Some colour) len i plan = fails_making (Memory i) plan || fails_colouring (Some colour) len (calls_of (Memory i) plan)
 
--- so it is with the region of some slot
-abbrev pub fails_some_region : ℕ → ℕ → ℕ → List Planned → Bool
-fails_some_region num_stripes len total plan = list_any (λ i. fails_region (stripe_colour num_stripes i) len i plan) (range_with_len 0 total)
-
 -- The giving of the colour failed on the region of slot i, which was made. Where that region tells which calls fail, this
 -- is one.
 pub record IsUncoloured (colour : Option ℕ) (len i : ℕ) (maker : MakerTold) : Type 0 where
   pub some : IsSome colour
   pub pages : 0 < len
   pub listed : IfSome (plan_for (Memory i) maker) (λ calls. fails_colouring colour len calls ≡ true)
-
--- so it is with the region of some slot
-abbrev pub SomeUncoloured : ℕ → ℕ → ℕ → MakerTold → Type 0
-SomeUncoloured num_stripes len total maker = (i : ℕ) × (i < total) × IsUncoloured (stripe_colour num_stripes i) len i maker
 
 -- What a refusal does to the maker's count of faults: a page fault raises it, unless a region was made and given up, as
 -- the first call on it failed; that counts with the region, which is gone. Want of memory leaves the count, and no other

@@ -1,25 +1,11 @@
--- The making of the cells of memory slots, and when it is refused.
-use Rattle.std.specs.Prelude.{◌≡◌, ℕ, ◌<◌, ◌⊎◌, List, length, slice_index_or, Bool, true}
+-- When the making of the regions of slots is refused.
+use Rattle.std.specs.Prelude.{◌≡◌, ℕ, ◌⊎◌, List, Bool, true}
 use Rattle.std.specs.List.{list_any, range_with_len}
-use Rattle.pool_pages.specs.Count.{Count}
 use Rattle.pool_pages.specs.Told.{Rose}
-use Rattle.pool_pages.specs.MakerTold.{MakerTold, Planned, fails_making}
+use Rattle.pool_pages.specs.MakerTold.{Planned, fails_making}
 use Rattle.pool_pages.specs.declared.pages.RegionName.TheVariants.{Memory}
-use Rattle.pool_pages.specs.declared.pages.DecommitBehavior.{DecommitBehavior}
-use Rattle.pool_slots.specs.Cells.{unmapped}
-use Rattle.pool_slots.specs.Colourings.{coloured_region}
-use Rattle.pool_slots.specs.RegionCells.{CellState, memory_cell, no_cell}
 use Rattle.pool_slots.specs.declared.errors.PoolNewError.{PoolNewError}
 use Rattle.pool_slots.specs.declared.errors.PoolNewError.TheVariants as refused
-
--- the cells of so many slots as they are made, in so many stripes
-pub record AreMadeInStripes (num_stripes : ℕ) (maker : MakerTold) (behaviour : DecommitBehavior) (total : ℕ) (len : Count) (cells : List CellState) : Type 0 where
-  pub count : length cells ≡ total
-  pub each : (i : ℕ) → i < total → slice_index_or cells i no_cell ≡ memory_cell i (unmapped (coloured_region num_stripes maker behaviour len i))
-
--- the cells of so many slots as they are made, in one stripe, so that none has a colour
-abbrev pub AreMade : MakerTold → DecommitBehavior → ℕ → Count → List CellState → Type 0
-AreMade maker behaviour total len cells = AreMadeInStripes 1 maker behaviour total len cells
 
 -- the making of the region of some memory slot is listed as one that fails
 abbrev pub makes_listed_regions : List Planned → ℕ → Bool

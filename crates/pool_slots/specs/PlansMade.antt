@@ -1,5 +1,4 @@
--- The plan of a pool that has one allocator for each kind of slot: the shards come first, then the cells, the queues, and
--- the list of heaps.
+-- The places of a pool: the shards come first, then the cells, the queues, and the list of heaps.
 use Rattle.std.specs.Prelude.{◌≡◌, ℕ, ◌+◌, ◌*◌, ◌/◌, ◌%◌, ◌<◌, ◌≤◌, List, ◌∷◌, [], min, false}
 use Rattle.pool_hall.specs.declared.unit_name.SlotKind.{SlotKind}
 use Rattle.pool_hall.specs.declared.unit_name.SlotKind.TheVariants.{Table, Stack, Heap}
@@ -16,13 +15,6 @@ use Rattle.pool_slots.specs.declared.plan_maker.PlanSettings.{PlanSettings}
 pub record HoldSlots (total shards each : ℕ) : Type 0 where
   pub some : 0 < each
   pub covered : total ≤ shards * each
-
--- the shards of each kind hold its slots
-pub record HaveShards (s : PlanSettings) : Type 0 where
-  pub memory : HoldSlots s.totals.memory s.shards.memory s.slots_per_shard.memory
-  pub table : HoldSlots s.totals.table s.shards.table s.slots_per_shard.table
-  pub stack : HoldSlots s.totals.stack s.shards.stack s.slots_per_shard.stack
-  pub heap : HoldSlots s.totals.heap s.shards.heap s.slots_per_shard.heap
 
 -- the place of the first shard of each kind, that of the first cell of each kind, and how many places come before the cells
 abbrev pub shards_from : PlanSettings → OfKinds
@@ -79,25 +71,9 @@ pub record IsPlanWith (s : PlanSettings) (of_memories : List Allocator) (plan : 
   pub heap_list : plan.heap_list ≡ heaps_from s
   pub shared : plan.owned ≡ false
 
--- the plan is that of these settings
-pub record IsPlanOf (s : PlanSettings) (plan : Plan) : Type 0 where
-  pub allocators : (kind : SlotKind) → allocators_of plan kind ≡ allocator_planned s kind ∷ []
-  pub cells : plan.cells ≡ cells_from s
-  pub totals : plan.totals ≡ s.totals
-  pub first_queue : plan.first_queue ≡ queues_from s
-  pub queues : plan.queues ≡ s.queues
-  pub heap_list : plan.heap_list ≡ heaps_from s
-  pub shared : plan.owned ≡ false
-
--- In such a plan each slot is that of its kind's allocator, slots follow one another through the shards, and queues are tried
--- in a round.
+-- Where a kind has one allocator, its slots follow one another through the shards.
 abbrev pub home_planned : PlanSettings → SlotName → Home
 home_planned s name = record {
   place = of_kind name.kind (shards_from s) + name.slot / of_kind name.kind s.slots_per_shard;
   local = record { 0 = name.slot % of_kind name.kind s.slots_per_shard };
 }
-
-pub record FollowOneAnother (s : PlanSettings) (plan : Plan) : Type 0 where
-  pub one : (name : SlotName) → name.slot < of_kind name.kind s.totals → have_number (allocators_of plan name.kind) name.slot ≡ 1
-  pub homes : (name : SlotName) → name.slot < of_kind name.kind s.totals → home_of plan name ≡ home_planned s name
-  pub queues : (home tried : ℕ) → queue_tried plan home tried ≡ queues_from s + (home + tried) % s.queues

@@ -1,4 +1,4 @@
-ghost use Rattle.std.specs.Prelude.{◌≡◌, ◌+◌, ◌<◌, ◌≤◌, ◌==◌, ◌^◌, [], ◌∷◌, ◌++◌, length, ℕ, List, false, true, is_ok, IfOk, IfSome, OnOk, OnErr, MatchOption, slice_index_or};
+ghost use Rattle.std.specs.Prelude.{◌≡◌, ◌+◌, ◌<◌, ◌≤◌, ◌==◌, ◌^◌, [], ◌∷◌, ◌++◌, length, ℕ, List, false, true, is_ok, is_some, IfOk, IfSome, OnOk, OnErr, MatchOption, slice_index_or};
 ghost use Rattle.std.specs.List.{HoldsAt, list_any};
 ghost use Rattle.pool_images.specs.declared.ranges.ByteRange.{ByteRange};
 ghost use Rattle.pool_slots.specs.SlotNames.{slot_kind};
@@ -335,6 +335,13 @@ impl<P: Pages> DecommitQueue<P> {
             Some(range) => same_slot(owner(range), slot),
             None => false,
         }
+    }
+
+    /// Whether a slot of a kind is held.
+    pub fn holds_kind(&self, kind: SlotKind) -> bool
+        ensures { result ≡ is_some (first_of_kind kind self.now.slots) }
+    {
+        self.slots.holds_kind(kind)
     }
 
     /// Zeroes by hand the first slot of a kind of which nothing is known since a decommit failed, where its kind is zeroed so.

@@ -4,7 +4,7 @@ ghost use Rattle.pool_slots.specs.PlainSlots.{IsPlain, IsUnusedFrom, plain_writt
 ghost use Rattle.pool_slots.specs.SlotQueues.{plain_slot};
 
 use pool_images::{ByteRange, Ranges};
-use pool_pages::{HostAlignedByteCount, PageRegion, Pages};
+use pool_pages::{HostAlignedByteCount, PageCalls, PageRegion, Pages};
 use std::marker::Model;
 
 /// The region of a table or a stack from a byte on, seen as a slot without image, all of which can be reached.
@@ -70,6 +70,13 @@ impl<P: Pages> PlainSlot<P> {
     {
         let from = self.base.byte_count() + at;
         self.region.fill(from, len, byte);
+    }
+
+    /// The calls made so far on the region.
+    pub fn page_calls(&self) -> PageCalls
+        ensures { result ≡ self.now.region.calls }
+    {
+        self.region.calls()
     }
 
     /// Resets the slot as a stack: so many bytes at its top, or all where it has fewer, are zeroed by hand, and the rest is

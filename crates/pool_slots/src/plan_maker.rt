@@ -1,10 +1,5 @@
 ghost use Rattle.std.specs.Prelude.{◌≡◌, ◌^◌, ◌<◌, ◌∷◌, [], IfOk};
-ghost use Rattle.std.specs.List.{AllByRecursion};
-ghost use Rattle.pool_hall.specs.declared.unit_name.SlotKind.{SlotKind};
-ghost use Rattle.pool_slots.specs.SlotNames.{of_kind};
-ghost use Rattle.pool_slots.specs.Plans.{allocators_of, home_of, IsPlacedAllocator, IsPlanned, IsAtHome};
-ghost use Rattle.pool_slots.specs.declared.slot_name.SlotName.{SlotName};
-ghost use Rattle.pool_slots.specs.PlansMade.{HaveShards, shards_from, shards_planned, cells_from, queues_from, heaps_from, places_planned, allocator_planned, IsPlanOf, IsPlanWith, FollowOneAnother};
+ghost use Rattle.pool_slots.specs.PlansMade.{shards_from, shards_planned, cells_from, queues_from, heaps_from, places_planned, allocator_planned, IsPlanWith};
 
 use crate::plan::{Allocator, Plan};
 use crate::slot_name::OfKinds;
@@ -21,24 +16,6 @@ pub struct PlanSettings {
     /// The number of slots of each shard of a kind but the last, which has the rest.
     pub slots_per_shard: OfKinds,
     pub queues: u32,
-}
-
-/// The plan of a pool with one allocator for each kind of slot. It can't be made where no memory is to be had, nor
-/// where the pool would have 2^32 parts or more.
-pub fn make_plan(alloc: Global, settings: &PlanSettings) -> Result<Plan, AllocError>
-    requires { HaveShards settings.now }
-    ensures plan { IfOk result (IsPlanOf settings.now) }
-    ensures planned { IfOk result (λ plan. IsPlanned plan (places_planned settings.now)) }
-    ensures bounded { IfOk result (λ plan. places_planned settings.now < 2 ^ 32) }
-    ensures placed { IfOk result (λ plan. (kind : SlotKind) → AllByRecursion IsPlacedAllocator (allocators_of plan kind)) }
-    ensures at_home { IfOk result (λ plan. (name : SlotName) → name.slot < of_kind name.kind settings.now.totals → IsAtHome plan name (home_of plan name)) }
-    ensures follow { IfOk result (FollowOneAnother settings.now) }
-{
-    if settings.places() > u32::MAX as u64 {
-        return Err(AllocError);
-    }
-    let memories = one_allocator(alloc, settings.allocator(SlotKind::Memory))?;
-    lay_out(alloc, settings, memories)
 }
 
 // The plan with these allocators of memories, where its places are numbers of 32 bits.

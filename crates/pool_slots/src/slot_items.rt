@@ -1,4 +1,4 @@
-ghost use Rattle.std.specs.Prelude.{◌≡◌, ◌+◌, ◌<◌, ◌≤◌, ◌==◌, [], ◌∷◌, ◌++◌, length, map, slice_index_or, slice_set, false, true, ℕ, is_ok, IfOk, IfSome, OnOk, OnErr, MatchOption};
+ghost use Rattle.std.specs.Prelude.{◌≡◌, ◌+◌, ◌<◌, ◌≤◌, ◌==◌, [], ◌∷◌, ◌++◌, length, map, slice_index_or, slice_set, false, true, ℕ, is_ok, is_some, IfOk, IfSome, OnOk, OnErr, MatchOption};
 ghost use Rattle.std.specs.List.{AllByRecursion, HoldsAt, list_any};
 ghost use Rattle.pool_images.specs.Orders.{Follows};
 ghost use Rattle.pool_images.specs.Slots.{IsPart, IsSlot, size_of};
@@ -77,6 +77,17 @@ impl<P: Pages> SlotItems<P> {
         match self.place_of_kind(kind, len) {
             Some(at) => self.list.remove(at),
             None => None,
+        }
+    }
+
+    /// Whether there is a slot of a kind.
+    pub fn holds_kind(&self, kind: SlotKind) -> bool
+        ensures { result ≡ is_some (first_of_kind kind self.now.items) }
+    {
+        let len = self.len();
+        match self.place_of_kind(kind, len) {
+            Some(_) => true,
+            None => false,
         }
     }
 

@@ -1,4 +1,4 @@
-ghost use Rattle.std.specs.Prelude.{◌≡◌, ◌+◌, ◌≤◌, [], length, slice_range, true, All, IfSome};
+ghost use Rattle.std.specs.Prelude.{◌≡◌, ◌+◌, ◌≤◌, [], length, replicate, slice_range, true, All, IfSome};
 ghost use Rattle.pool_images.specs.Slots.{IsPart, IsClean, size_of, decommitted_all};
 ghost use Rattle.pool_slots.specs.PlainSlots.{IsPlain, plain_written, stack_kept, stack_ranges, stack_zeroed};
 ghost use Rattle.pool_slots.specs.SlotQueues.{plain_slot};
@@ -8,7 +8,7 @@ use crate::plain_slot::PlainSlot;
 use crate::queued_slot::{HeldSlot, QueuedSlot};
 use crate::slot_name::RegionNumbers;
 use pool_images::Ranges;
-use pool_pages::{HostAlignedByteCount, Pages};
+use pool_pages::{HostAlignedByteCount, PageCalls, Pages};
 use std::marker::Model;
 
 /// A fiber's stack: the usable bytes of its region, which lie behind the guard page.
@@ -70,6 +70,21 @@ impl<P: Pages> Stack<P> {
         ensures { self.new ≡ record self.old { slot = plain_written at bytes.now self.old.slot } }
     {
         self.slot.write(at, bytes);
+    }
+
+    /// Sets `len` usable bytes from `at` on to one value, as a write of them all does.
+    pub fn fill(&mut self, at: usize, len: usize, byte: u8)
+        requires { at + len ≤ self.old.slot.static_size }
+        ensures { self.new ≡ record self.old { slot = plain_written at (replicate len byte) self.old.slot } }
+    {
+        self.slot.fill(at, len, byte);
+    }
+
+    /// The calls made so far on the stack's region.
+    pub fn page_calls(&self) -> PageCalls
+        ensures { result ≡ self.now.slot.region.calls }
+    {
+        self.slot.page_calls()
     }
 
     /// Zeroes the stack where it is given back zeroed (Wasmtime's `zero_stack`): the top of it by hand, as much as is kept
