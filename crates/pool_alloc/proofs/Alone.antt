@@ -1,14 +1,14 @@
 -- What the steps of one call do together, with no step of another call between them.
-use Rattle.std.proofs.Common.{◌≡◌, arith, refl, sym, ◌∙◌, Bool, true, false, not, List, [], ◌∷◌, None, Some}
+use Rattle.std.proofs.Common.{◌≡◌, arith, refl, sym, ap, ◌∙◌, Bool, true, false, not, List, [], ◌∷◌, None, Some}
 use Rattle.std.specs.Prelude.{◌&&◌, is_some}
 use Rattle.pool_pages.specs.MakerTold.{MakerTold}
 use Rattle.pool_slots.specs.declared.errors.AllocError.{AllocError}
 use Rattle.pool_alloc.specs.Alone.{IsStep, AreSteps, HasSameCounts}
 use Rattle.pool_alloc.specs.Asked.{ModuleAsked}
 use Rattle.pool_alloc.specs.Calls.{MayBegin, begun_call}
-use Rattle.pool_alloc.specs.Places.{Thing, right_to, region_of, leased_count, tables_count, queued_count, freed_count, phase_count, frame_count, phase_instances, frame_memories, frame_tables}
+use Rattle.pool_alloc.specs.Places.{Thing, right_to, region_of, leased_count, tables_count, queued_count, freed_count, phase_count, frame_count, phase_instances, frame_memories, frame_tables, frame_instances, instances_for, phase_stacks, phase_components}
 use Rattle.pool_alloc.specs.Sound.{IsAtRest}
-use Rattle.pool_alloc.specs.Stepping.{CanStep, Conserves, count_granted, grant_count, grant_instances, grant_memories, grant_tables, is_idle}
+use Rattle.pool_alloc.specs.Stepping.{CanStep, Conserves, count_granted, grant_count, grant_instances, grant_memories, grant_tables, grant_stacks, is_idle, grant_components}
 use Rattle.pool_alloc.specs.Turns.{After}
 use Rattle.pool_alloc.specs.declared.pool_core.PoolCore.{PoolCore}
 use Rattle.pool_alloc.specs.declared.frame.Call.TheVariants as call
@@ -16,7 +16,8 @@ use Rattle.pool_alloc.specs.declared.frame.Frame.{Frame}
 use Rattle.pool_alloc.specs.declared.frame.Outcome.TheVariants.{Refused}
 use Rattle.pool_alloc.specs.declared.frame.Phase.{Phase}
 use Rattle.pool_alloc.specs.declared.frame.Phase.TheVariants.{Idle}
-use Rattle.pool_alloc.proofs.BegunCalls.{at_rest, begun_frame, begun_count, begun_instances, begun_memories, begun_tables}
+use Rattle.pool_alloc.proofs.Hands.{counts_none}
+use Rattle.pool_alloc.proofs.BegunCalls.{at_rest, begun_frame, begun_count, begun_instances, begun_memories, begun_tables, begun_stacks, begun_components}
 use Rattle.pool_alloc.proofs.Steps.{step_ok, can_still}
 
 second : (a b : Bool) → (a && b) ≡ true → b ≡ true
@@ -49,8 +50,10 @@ module _ {P : Type 0} (maker : MakerTold) where
     conserves = record {
       places = λ t. let no : count_granted (grant_count t) b.outcome ≡ 0 = rw none refl in omega (arith, first.conserves.places t, then.conserves.places t);
       instances = let no : count_granted grant_instances b.outcome ≡ 0 = rw none refl in omega (arith, first.conserves.instances, then.conserves.instances);
+      components = let no : count_granted grant_components b.outcome ≡ 0 = rw none refl in omega (arith, first.conserves.components, then.conserves.components);
       memories = let no : count_granted grant_memories b.outcome ≡ 0 = rw none refl in omega (arith, first.conserves.memories, then.conserves.memories);
       tables = let no : count_granted grant_tables b.outcome ≡ 0 = rw none refl in omega (arith, first.conserves.tables, then.conserves.tables);
+      stacks = let no : count_granted grant_stacks b.outcome ≡ 0 = rw none refl in omega (arith, first.conserves.stacks, then.conserves.stacks);
     };
     can = then.can;
     ended = then.ended;
@@ -72,8 +75,14 @@ module _ {P : Type 0} (maker : MakerTold) where
       let before : phase_count t f.phase ≡ 0 = rw idle refl in
       omega (arith, none, none_more, no_slots, none_freed, before)
 
-  idle_instances : (f : Frame P) → f.phase ≡ Idle → phase_instances f.phase ≡ 0
-  idle_instances f idle = rw idle refl
+  idle_instances : (f : Frame P) → f.phase ≡ Idle → frame_instances f ≡ 0
+  idle_instances f idle = ap (λ (p : Phase P). instances_for f.asked (phase_instances p)) idle ∙ counts_none f.asked
+
+  idle_stacks : (f : Frame P) → f.phase ≡ Idle → phase_stacks f.phase ≡ 0
+  idle_stacks f idle = rw idle refl
+
+  idle_components : (f : Frame P) → f.phase ≡ Idle → phase_components f.phase ≡ 0
+  idle_components f idle = rw idle refl
 
   idle_memories : (f : Frame P) → f.phase ≡ Idle → IsAtRest f → frame_memories f ≡ 0
   idle_memories f idle rest = rw (idle, rest.no_memories) refl
@@ -91,8 +100,10 @@ module _ {P : Type 0} (maker : MakerTold) where
           once = λ t. omega (arith, can.fits.once t, same t);
           others = λ name. omega (arith, can.fits.others name, same (region_of name), same (right_to name));
           instances = omega (arith, can.fits.instances, begun_instances maker (call.Module m) c.settings c.plan f may);
+          components = omega (arith, can.fits.components, begun_components maker (call.Module m) c.settings c.plan f may);
           memories = omega (arith, can.fits.memories, begun_memories maker (call.Module m) c.settings c.plan f can.frame may);
           tables = omega (arith, can.fits.tables, begun_tables maker (call.Module m) c.settings c.plan f can.frame may);
+          stacks = omega (arith, can.fits.stacks, begun_stacks maker (call.Module m) c.settings c.plan f may);
         };
       }
 
@@ -105,13 +116,17 @@ module _ {P : Type 0} (maker : MakerTold) where
       let idle : a.frame.phase ≡ Idle = idle_is a.frame.phase (done.ended (rw refused refl)) in
       let left = at_rest maker a.core.settings a.core.plan a.frame done.can.frame idle in
       let no_instances : count_granted grant_instances a.outcome ≡ 0 = rw refused refl in
+      let no_components : count_granted grant_components a.outcome ≡ 0 = rw refused refl in
       let no_memories : count_granted grant_memories a.outcome ≡ 0 = rw refused refl in
       let no_tables : count_granted grant_tables a.outcome ≡ 0 = rw refused refl in
+      let no_stacks : count_granted grant_stacks a.outcome ≡ 0 = rw refused refl in
       record {
         given = λ t.
             let none : count_granted (grant_count t) a.outcome ≡ 0 = rw refused refl in
             omega (arith, done.conserves.places t, begun_count maker t (call.Module m) c.settings c.plan f can.frame may, idle_has t f may.0 rest, idle_has t a.frame idle left, none);
         instances = omega (arith, done.conserves.instances, idle_instances a.frame idle, no_instances);
+        components = omega (arith, done.conserves.components, idle_components a.frame idle, no_components);
         memories = omega (arith, done.conserves.memories, begun_memories maker (call.Module m) c.settings c.plan f can.frame may, idle_memories f may.0 rest, idle_memories a.frame idle left, no_memories);
         tables = omega (arith, done.conserves.tables, begun_tables maker (call.Module m) c.settings c.plan f can.frame may, idle_tables f may.0 rest, idle_tables a.frame idle left, no_tables);
+        stacks = omega (arith, done.conserves.stacks, begun_stacks maker (call.Module m) c.settings c.plan f may, idle_stacks f may.0, idle_stacks a.frame idle, no_stacks);
       }

@@ -4,20 +4,23 @@ use Rattle.pool_slots.specs.declared.plan.Allocator.{Allocator}
 use Rattle.pool_slots.specs.declared.slot_name.SlotName.{SlotName}
 use Rattle.pool_hall.specs.declared.unit_name.SlotKind.{SlotKind}
 use Rattle.pool_hall.specs.Unit.{pick_unit}
-use Rattle.pool_alloc.proofs.PlanPlaces.{IsShardPlace, IsQueuePlace, apart_places, tried_role, tried_is_shard, tried_is_queue, allocator_most, allocator_holds}
-use Rattle.std.proofs.Common.{◌≡◌, ℕ, ◌+◌, ◌<◌, ◌≤◌, Bool, true, false, List, [], length, refl, sym, ap, subst, inl, arith, Option, Some, None}
+use Rattle.pool_alloc.proofs.PlanPlaces.{allocator_is, IsShardPlace, IsQueuePlace, apart_places, tried_role, tried_is_shard, tried_is_queue, allocator_most, allocator_holds}
+use Rattle.std.proofs.Common.{◌≡◌, ℕ, ◌+◌, ◌-◌, ◌<◌, ◌≤◌, Bool, true, false, List, [], length, refl, sym, ap, subst, inl, arith, Option, Some, None}
 use Rattle.std.specs.Prelude.{◌==◌, ◌%◌, nat_lt, IfSome}
-use Rattle.std.proofs.lemmas.Bool.{ltb-true, ltb-false}
+use Rattle.std.proofs.lemmas.Bool.{ltb-true, ltb-false, eqb-true, eqb-false}
 use Rattle.std.proofs.lemmas.List.Elements.{All-nil, All-same}
 use Rattle.std.proofs.Math.Nat.{mod-lt}
 use Rattle.pool_pages.specs.MakerTold.{MakerTold}
 use Rattle.pool_limits.specs.LimiterTold.{LimiterTold}
 use Rattle.pool_alloc.specs.declared.pool_core.PoolCore.{PoolCore}
 use Rattle.pool_alloc.specs.declared.frame.Ending.{Ending}
+use Rattle.pool_alloc.specs.declared.frame.Asked.{Asked}
+use Rattle.pool_alloc.specs.declared.frame.Asked.TheVariants.{Module as module_asked, Stack as stack_asked}
+use Rattle.pool_alloc.specs.declared.pool_core.Settings.{Settings}
 use Rattle.pool_alloc.specs.declared.frame.Frame.{Frame}
 use Rattle.pool_alloc.specs.declared.frame.FreedSlot.{FreedSlot}
 use Rattle.pool_alloc.specs.declared.frame.Phase.{Phase}
-use Rattle.pool_alloc.specs.declared.frame.Phase.TheVariants.{Idle, Key, Validate, CountInstance, Pick, TakeQueue}
+use Rattle.pool_alloc.specs.declared.frame.Phase.TheVariants.{Idle, Key, Validate, TestStack, CountInstance, Pick, TakeQueue}
 use Rattle.pool_pages.specs.declared.unsupported.Unsupported.{Unsupported}
 use Rattle.pool_index.specs.Shard.{ShardState, slot_number, after_pick, pick_answer}
 use Rattle.pool_index.specs.declared.ids.SlotId.{SlotId}
@@ -25,31 +28,32 @@ use Rattle.pool_slots.specs.SlotQueues.{Queue, after_take, taken_into}
 use Rattle.pool_slots.specs.declared.errors.AllocError.{AllocError}
 use Rattle.pool_slots.specs.declared.errors.AllocError.TheVariants as refusal
 use Rattle.pool_slots.proofs.SlotRuns.{no_slots}
-use Rattle.pool_alloc.specs.Bounds.{PoolSizes, give_back_bound, sizes_of, flush_left, objects_left}
+use Rattle.pool_alloc.specs.Bounds.{all_slots, flush_bound, PoolSizes, give_back_bound, sizes_of, flush_left, objects_left}
 use Rattle.pool_alloc.specs.Leases.{Lease}
 use Rattle.pool_alloc.specs.PoolTables.{IsTableLease}
 use Rattle.pool_alloc.specs.TableLeases.{LeasedTable}
-use Rattle.pool_alloc.specs.Places.{right_to, queued_count, leased_count, tables_count, freed_count, Thing, slot_count}
+use Rattle.pool_alloc.specs.Places.{instances_for, right_to, queued_count, leased_count, tables_count, freed_count, Thing, slot_count}
 use Rattle.pool_alloc.specs.Refusals.{module_refused}
-use Rattle.pool_alloc.specs.Rows.{key_row, refused_at_once, reserved, validated, validate_row, counted, count_instance_row, picked, pick_on, in_shard, take_queue_on, in_queue}
+use Rattle.pool_alloc.specs.Rows.{stacks_tested, test_stack_row, key_row, refused_at_once, reserved, validated, validate_row, counted, count_instance_row, picked, pick_on, in_shard, take_queue_on, in_queue}
 use Rattle.pool_alloc.specs.Searches.{AreFull, AreEmpty, IsSearchedBy}
-use Rattle.pool_alloc.specs.Objects.{objects_in}
-use Rattle.pool_alloc.specs.Sound.{IsCore, IsSlotName, IsShared, IsLeaseOf, IsToGrant, AreBegun}
-use Rattle.pool_alloc.specs.Stages.{uncounted, asks, stage_by, IsUntested, Goes}
-use Rattle.pool_alloc.specs.Steps.{memories_wanted, images_wanted, tables_wanted, kind_next, wanted, shard_at, queue_at, with_shard, with_queue, counting_instances, shard_tried, queue_tried, allocator_for}
+use Rattle.pool_alloc.specs.Objects.{objects_in, no_objects}
+use Rattle.pool_alloc.specs.Sound.{IsCore, IsSlotName, IsShared, IsLeaseOf, IsToGrant, AreBegun, IsEnabled}
+use Rattle.pool_alloc.specs.Stages.{Progress, uncounted, seeks_stack, asks, stage_by, IsUntested, Follows, Goes}
+use Rattle.pool_alloc.specs.Steps.{memories_wanted, images_wanted, tables_wanted, stacks_wanted, IsModule, kind_next, wanted, shard_at, queue_at, with_shard, with_queue, counting_instances, shard_tried, queue_tried, allocator_for, info_wanted}
 use Rattle.pool_alloc.specs.Turns.{goes, next, flush, Row, failing, no_slot_left, slot_search}
 use Rattle.pool_alloc.proofs.CoreChanges.{core_with_shard, core_with_queue, core_with_counters}
+use Rattle.pool_alloc.proofs.FlushFinds.{none_waits}
 use Rattle.pool_alloc.proofs.FlushSteps.{few_in_queue, flush_few}
 use Rattle.pool_alloc.proofs.FullShards.{nothing_left}
-use Rattle.pool_alloc.proofs.Hands.{empty_length, Hand, in_phase, hand, held_of, Even, Kept, Ready, IsReadyRow, either_ready}
+use Rattle.pool_alloc.proofs.Hands.{empty_length, counts_none, counts_one, is_admitted, none_for_stack, Hand, in_phase, hand, held_of, Even, Kept, Ready, IsReadyRow, either_ready}
 use Rattle.pool_alloc.proofs.KeptCounts.{kept_shard, kept_queue, away_shard, away_queue}
 use Rattle.pool_alloc.proofs.LocalQueues.{taken_shared, taken_local, local_of_shared}
 use Rattle.pool_alloc.proofs.Picks.{picked_sound, picked_same, picked_inside}
 use Rattle.pool_alloc.proofs.Searching.{tried_full, still_full, taken_empty, was_empty, still_empty, full_beside}
 use Rattle.pool_alloc.proofs.SlotCounts.{picked_count, pick_counts}
-use Rattle.pool_alloc.proofs.Supporting.{supported}
+use Rattle.pool_alloc.proofs.Supporting.{asked_supported}
 use Rattle.pool_alloc.proofs.Telling.{told_weaker}
-use Rattle.pool_alloc.proofs.Ways.{Can, aims_grant, same_times, first_object, next_round, next_queue, kept_part, same_way, fails_way}
+use Rattle.pool_alloc.proofs.Ways.{Can, aims_grant, same_times, first_object, next_round, next_queue, kept_part, same_way, full_way}
 use Rattle.pool_alloc.proofs.PoolParts.{planned_shard, sound_shard, sound_queue, shard_part, queue_part, slot_of_shard}
 use Rattle.pool_slots.specs.declared.part.PoolPart.TheVariants as part
 
@@ -62,11 +66,20 @@ picked_slot t a s (Some p) = slot_count t (picked_name a s p.0.0)
 picked_slot t a s None = 0
 
 abbrev picked_hand : Allocator → ShardState → Option (SlotId × ℕ) → Hand
-picked_hand a shard o = record { things = λ t. picked_slot t a shard o; instances = 1; memories = 0; tables = 0 }
+picked_hand a shard o = record { things = λ t. picked_slot t a shard o; instances = 1; memories = 0; tables = 0; stacks = 0 }
 
 picked_as : (t : Thing) (a : Allocator) (s : ShardState) (o : Option (SlotId × ℕ)) → s.kind ≡ a.kind → picked_count t s o ≡ picked_slot t a s o
 picked_as t a s None kind = refl
 picked_as t a s (Some p) kind = ap (λ (k : SlotKind). t (pick_unit k (slot_number s p.0.0))) kind
+
+-- a module's call is for no stack
+module_no_stack : (asked : Asked) → IsModule asked → stacks_wanted asked ≡ 0
+module_no_stack (module_asked m) is = refl
+module_no_stack asked is = absurd is
+
+module_enabled : (s : Settings) (asked : Asked) → IsModule asked → IsEnabled s asked
+module_enabled s (module_asked m) is = tt
+module_enabled s asked is = absurd is
 
 module _ {P : Type 0} (maker : MakerTold) (old new : LimiterTold) where
   abbrev Shows : Phase P → PoolCore P → Frame P → Row (PoolCore P) P → Type 0
@@ -84,26 +97,27 @@ module _ {P : Type 0} (maker : MakerTold) (old new : LimiterTold) where
       instances_by_one = omega arith;
       memories_by_one = omega arith;
       tables_by_one = omega arith;
+      stacks_by_one = omega arith;
     };
     shape = (can.frame.shape, tt);
-    even = record { places = λ t. omega arith; instances = omega arith; memories = omega arith; tables = omega arith };
+    even = record { places = λ t. omega arith; instances = omega arith; memories = omega arith; tables = omega arith; stacks = omega arith };
     fewer = omega arith;
     way = tt;
     searched = λ s. tt;
   }
 
   -- A request is refused before anything is granted.
-  refused_ready : (e : AllocError) (c : PoolCore P) (f : Frame P) → Can maker Validate c f → IsUntested (module_refused c.settings c.plan.totals.table (memories_wanted f.asked) (tables_wanted f.asked)) e → Shows Validate c f (refused_at_once e c (in_phase Idle f))
+  refused_ready : (e : AllocError) (c : PoolCore P) (f : Frame P) → Can maker Validate c f → IsUntested (module_refused c.settings c.plan.totals.table (info_wanted f.asked)) e → Shows Validate c f (refused_at_once e c (in_phase Idle f))
   refused_ready e c f can is = record {
     kept = kept_part maker old new c (in_phase Validate f) c (failing e (in_phase Idle f)) can.core (held_of maker c.settings c.plan (in_phase Validate f) can.frame) refl refl refl refl;
     shape = (can.frame.shape.0, tt);
-    even = record { places = λ t. omega arith; instances = omega arith; memories = omega arith; tables = omega arith };
+    even = record { places = λ t. omega arith; instances = omega arith; memories = omega arith; tables = omega arith; stacks = omega arith };
     fewer = omega arith;
     way = is;
     searched = λ s. tt;
   }
 
-  reserved_ready : (wants : Bool) (c : PoolCore P) (f : Frame P) → Can maker Validate c f → module_refused c.settings c.plan.totals.table (memories_wanted f.asked) (tables_wanted f.asked) ≡ None → Shows Validate c f (reserved wants c (in_phase Idle f))
+  reserved_ready : (wants : Bool) (c : PoolCore P) (f : Frame P) → Can maker Validate c f → module_refused c.settings c.plan.totals.table (info_wanted f.asked) ≡ None → Shows Validate c f (reserved wants c (in_phase Idle f))
   reserved_ready true c f can is = refused_ready refusal.Memory c f can (let U : Option Unsupported → Type 0 = λ o. IsUntested o refusal.Memory in subst U (sym is) refl)
   reserved_ready false c f can is =
       let rest = can.frame.shape.0 in
@@ -111,24 +125,24 @@ module _ {P : Type 0} (maker : MakerTold) (old new : LimiterTold) where
       let none : f.objects.memories.items ≡ [] = rest.no_memories in
       let none_more : f.objects.tables.items ≡ [] = rest.no_tables in
       let has : Frame P = record f { phase = Idle; objects = record { memories = record { items = []; room = length (memories_wanted f.asked) }; tables = record { items = []; room = length (tables_wanted f.asked) } } } in
-      let both = supported c.settings c.plan.totals.table (memories_wanted f.asked) (tables_wanted f.asked) (images_wanted f.asked) can.core.settings.memories can.frame.shape.2 is in
+      let both = asked_supported c.settings c.plan.totals.table f.asked can.core.settings.memories can.frame.shape.2 is in
       record {
         kept = kept_part maker old new c (in_phase Validate f) c has can.core
             (record { stripe = can.frame.stripe; queue = can.frame.queue; freed_room = can.frame.freed_room; freed_each = can.frame.freed_each; freed_order = can.frame.freed_order; objects = (All-nil (IsLeaseOf maker c.settings c.plan), All-nil (IsTableLease maker c.settings c.plan)) })
             refl refl refl refl;
         shape = (refl, (record { settled = rest.settled; no_memories = refl; no_tables = refl }, asking, both.0, refl, refl, both.1));
-        even = record { places = λ t. omega (arith, ap (leased_count t) none, ap (tables_count t) none_more); instances = omega arith; memories = omega (arith, ap (length {A = Lease}) none); tables = omega (arith, ap (length {A = LeasedTable}) none_more) };
+        even = record { places = λ t. omega (arith, ap (leased_count t) none, ap (tables_count t) none_more); instances = omega arith; memories = omega (arith, ap (length {A = Lease}) none); tables = omega (arith, ap (length {A = LeasedTable}) none_more); stacks = omega arith };
         fewer = omega arith;
         way = is;
         searched = λ s. tt;
       }
 
-  validated_ready : (o : Option Unsupported) (wants : Bool) (c : PoolCore P) (f : Frame P) → Can maker Validate c f → module_refused c.settings c.plan.totals.table (memories_wanted f.asked) (tables_wanted f.asked) ≡ o → Shows Validate c f (validated o wants c (in_phase Idle f))
+  validated_ready : (o : Option Unsupported) (wants : Bool) (c : PoolCore P) (f : Frame P) → Can maker Validate c f → module_refused c.settings c.plan.totals.table (info_wanted f.asked) ≡ o → Shows Validate c f (validated o wants c (in_phase Idle f))
   validated_ready (Some rule) wants c f can is = refused_ready (refusal.Unsupported rule) c f can (let U : Option Unsupported → Type 0 = λ o. IsUntested o (refusal.Unsupported rule) in subst U (sym is) refl)
   validated_ready None wants c f can is = reserved_ready wants c f can is
 
   pub validate_ready : (wants : Bool) (c : PoolCore P) (f : Frame P) → Can maker Validate c f → Shows Validate c f (validate_row wants c (in_phase Idle f))
-  validate_ready wants c f can = validated_ready (module_refused c.settings c.plan.totals.table (memories_wanted f.asked) (tables_wanted f.asked)) wants c f can refl
+  validate_ready wants c f can = validated_ready (module_refused c.settings c.plan.totals.table (info_wanted f.asked)) wants c f can refl
 
   -- The instance is counted.
   counted_ready : (b : Bool) (c : PoolCore P) (f : Frame P) → Can maker CountInstance c f → nat_lt c.counters.core_instances c.settings.max_core_instances ≡ b → Shows CountInstance c f (counted b c (in_phase Idle f))
@@ -139,10 +153,12 @@ module _ {P : Type 0} (maker : MakerTold) (old new : LimiterTold) where
       let none_more : f.objects.tables.items ≡ [] = rest.no_tables in
       let nothing : objects_in f.objects ≡ 0 = omega (arith, ap (length {A = Lease}) none, ap (length {A = LeasedTable}) none_more) in
       let now : PoolCore P = counting_instances (c.counters.core_instances + 1) c in
+      let unstacked : stacks_wanted f.asked ≡ 0 = module_no_stack f.asked asking.asked_for in
       let B : List Lease → List LeasedTable → Type 0 = λ ls ts. AreBegun {P = P} c.settings f.asked (record { memories = record f.objects.memories { items = ls }; tables = record f.objects.tables { items = ts } }) in
       let to_grant : IsToGrant c.settings c.plan f.asked f.queues f.objects = record {
         supported = can.frame.shape.2;
         tables = can.frame.shape.5;
+        enabled = module_enabled c.settings f.asked asking.asked_for;
         images = asking.images;
         room = can.frame.shape.3;
         table_room = can.frame.shape.4;
@@ -153,29 +169,78 @@ module _ {P : Type 0} (maker : MakerTold) (old new : LimiterTold) where
         taken = omega (arith, asking.none_taken);
       } in
       let S : Ending → Type 0 = λ x. IsSearchedBy x (AreEmpty f.queues now (in_phase Idle f)) in
-      let W : Ending → Type 0 = λ x. Goes maker old new c (in_phase CountInstance f) (asks uncounted) (stage_by x (objects_in f.objects)) None in
+      let W : Ending → Type 0 = λ x. Goes maker old new c (in_phase CountInstance f) (asks uncounted) (stage_by f.asked x (objects_in f.objects)) None in
+      let F : Progress → Type 0 = λ p. Follows old new c (in_phase CountInstance f) uncounted p in
       record {
-        kept = record { core = core_with_counters maker (record c.counters { core_instances = c.counters.core_instances + 1 }) c can.core; held = held_of maker c.settings c.plan (in_phase CountInstance f) can.frame; asked = refl; settings = refl; plan = refl; instances_by_one = omega arith; memories_by_one = omega arith; tables_by_one = omega arith };
+        kept = record { core = core_with_counters maker (record c.counters { core_instances = c.counters.core_instances + 1 }) c can.core; held = held_of maker c.settings c.plan (in_phase CountInstance f) can.frame; asked = refl; settings = refl; plan = refl; instances_by_one = omega arith; memories_by_one = omega arith; tables_by_one = omega arith; stacks_by_one = omega arith };
         shape = (rest.settled, aims_grant c.settings c.plan f.ending f.asked f.queues f.objects asking.ending to_grant);
-        even = record { places = λ t. omega arith; instances = omega arith; memories = omega arith; tables = omega arith };
-        fewer = first_object (sizes_of c.plan) f.ending f.queues f.asked f.objects asking.ending asking.none_taken nothing;
-        way = subst W (sym asking.ending) (nothing, ltb-true _ _ is);
+        even = record { places = λ t. omega arith; instances = omega (arith, counts_none f.asked, counts_one f.asked 1 unstacked); memories = omega arith; tables = omega arith; stacks = omega arith };
+        fewer = first_object (sizes_of c.settings c.plan) f.ending f.queues f.asked f.objects asking.ending asking.none_taken nothing unstacked;
+        way = subst W (sym asking.ending) (subst F (sym (is_admitted f.asked (objects_in f.objects) unstacked)) (nothing, ltb-true _ _ is));
         searched = λ s. subst S (sym asking.ending) (λ j below. absurd (omega (arith, below, asking.none_taken)));
       }
   counted_ready false c f can is =
       let rest = can.frame.shape.0 in
       let nothing : objects_in f.objects ≡ 0 = omega (arith, ap (length {A = Lease}) rest.no_memories, ap (length {A = LeasedTable}) rest.no_tables) in
       record {
-        kept = record { core = core_with_counters maker (record c.counters { core_instances = c.counters.core_instances + 1 }) c can.core; held = held_of maker c.settings c.plan (in_phase CountInstance f) can.frame; asked = refl; settings = refl; plan = refl; instances_by_one = omega arith; memories_by_one = omega arith; tables_by_one = omega arith };
+        kept = record { core = core_with_counters maker (record c.counters { core_instances = c.counters.core_instances + 1 }) c can.core; held = held_of maker c.settings c.plan (in_phase CountInstance f) can.frame; asked = refl; settings = refl; plan = refl; instances_by_one = omega arith; memories_by_one = omega arith; tables_by_one = omega arith; stacks_by_one = omega arith };
         shape = (rest.settled, tt);
-        even = record { places = λ t. omega arith; instances = omega arith; memories = omega arith; tables = omega arith };
-        fewer = omega (arith, same_times (objects_in f.objects) 0 (give_back_bound (sizes_of c.plan)) nothing);
+        even = record { places = λ t. omega arith; instances = omega (arith, counts_none f.asked, counts_one f.asked 1 (module_no_stack f.asked can.frame.shape.1.asked_for)); memories = omega arith; tables = omega arith; stacks = omega arith };
+        fewer = omega (arith, same_times (objects_in f.objects) 0 (give_back_bound (sizes_of c.settings c.plan)) nothing);
         way = (refl, ltb-false _ _ is);
         searched = λ s. tt;
       }
 
   pub count_instance_ready : (c : PoolCore P) (f : Frame P) → Can maker CountInstance c f → Shows CountInstance c f (count_instance_row c (in_phase Idle f))
   count_instance_ready c f can = counted_ready (nat_lt c.counters.core_instances c.settings.max_core_instances) c f can refl
+
+  -- Stacks are tested for being enabled.
+  stacks_tested_ready : (b : Bool) (c : PoolCore P) (f : Frame P) → Can maker TestStack c f → (c.settings.stack_size == 0) ≡ b → Shows TestStack c f (stacks_tested b c (in_phase Idle f))
+  stacks_tested_ready true c f can is = record {
+    kept = kept_part maker old new c (in_phase TestStack f) c (failing refusal.StacksDisabled (in_phase Idle f)) can.core (held_of maker c.settings c.plan (in_phase TestStack f) can.frame) refl refl refl refl;
+    shape = (can.frame.shape.0, tt);
+    even = record { places = λ t. omega arith; instances = omega arith; memories = omega arith; tables = omega arith; stacks = omega arith };
+    fewer = omega arith;
+    way = inl (refl, eqb-true c.settings.stack_size 0 is);
+    searched = λ s. tt;
+  }
+  stacks_tested_ready false c f can is =
+      let e : Frame P = in_phase TestStack f in
+      let rest = can.frame.shape.0 in
+      let stack : f.asked ≡ stack_asked = can.frame.shape.1.2 in
+      let has : Frame P = record f { phase = Idle; objects = no_objects } in
+      let S : Asked → Type 0 = λ a. IsToGrant {P = P} c.settings c.plan a f.queues no_objects in
+      let some : 0 < c.settings.stack_size = omega (arith, eqb-false c.settings.stack_size 0 is) in
+      let to_grant : S stack_asked = record {
+        supported = record { few = omega arith; each = λ k. tt };
+        tables = record { few = omega arith; each = λ k. tt };
+        enabled = some;
+        images = tt;
+        room = refl;
+        table_room = refl;
+        few = omega arith;
+        few_tables = omega arith;
+        order = λ less. refl;
+        begun = (λ k. tt, λ k. tt);
+        taken = omega (arith, can.frame.shape.1.1);
+      } in
+      let W : Asked → Type 0 = λ a. Goes maker old new c e (asks seeks_stack) (stage_by a f.ending 0) None in
+      let E : Ending → Type 0 = λ x. Goes maker old new c e (asks seeks_stack) (stage_by stack_asked x 0) None in
+      let one : stacks_wanted f.asked ≡ 1 = rw stack refl in
+      let none : objects_left {P = P} (sizes_of c.settings c.plan) f.asked no_objects ≡ 0 = ap (λ (a : Asked). objects_left {P = P} (sizes_of c.settings c.plan) a no_objects) stack in
+      record {
+        kept = kept_part maker old new c e c has can.core
+            (record { stripe = can.frame.stripe; queue = can.frame.queue; freed_room = can.frame.freed_room; freed_each = can.frame.freed_each; freed_order = can.frame.freed_order; objects = (All-nil (IsLeaseOf maker c.settings c.plan), All-nil (IsTableLease maker c.settings c.plan)) })
+            refl refl refl refl;
+        shape = (refl, (rest.settled, record { ending = can.frame.shape.1.0; to_grant = subst S (sym stack) to_grant; more = omega (arith, one) }, (allocator_is c.plan (length c.parts) (kind_next has) f.stripe can.core.plan can.frame.stripe).some));
+        even = record { places = λ t. omega (arith, ap (leased_count t) rest.no_memories, ap (tables_count t) rest.no_tables); instances = omega (arith, ap (λ (a : Asked). instances_for a 1) stack, ap (λ (a : Asked). instances_for a 0) stack); memories = omega (arith, ap (length {A = Lease}) rest.no_memories); tables = omega (arith, ap (length {A = LeasedTable}) rest.no_tables); stacks = omega arith };
+        fewer = omega (arith, none, can.frame.shape.1.1, same_times (sizes_of c.settings c.plan).queues ((sizes_of c.settings c.plan).queues - f.queues) (flush_bound (sizes_of c.settings c.plan) + (sizes_of c.settings c.plan).shards) (omega (arith, can.frame.shape.1.1)));
+        way = subst W (sym stack) (subst E (sym can.frame.shape.1.0) tt);
+        searched = λ s. (λ j below. absurd (omega (arith, below, can.frame.shape.1.1)), λ j below. absurd (omega (arith, below)));
+      }
+
+  pub test_stack_ready : (c : PoolCore P) (f : Frame P) → Can maker TestStack c f → Shows TestStack c f (test_stack_row c (in_phase Idle f))
+  test_stack_ready c f can = stacks_tested_ready (c.settings.stack_size == 0) c f can refl
 
   -- A slot is picked from a shard, of which this is left.
   picked_ready : (tried : ℕ) (o : Option (SlotId × ℕ)) (shard next_shard : ShardState) (c : PoolCore P) (f : Frame P) →
@@ -192,7 +257,7 @@ module _ {P : Type 0} (maker : MakerTold) (old new : LimiterTold) where
     shape = (refl, (can.frame.shape.0, can.frame.shape.1, inside, (allocator_holds c.plan (length c.parts) f can.core.plan can.frame.stripe).kind_is));
     even = even;
     fewer = omega (arith, can.frame.shape.2, allocator_most c.plan (length c.parts) (kind_next f) f.stripe can.core.plan can.frame.stripe);
-    way = same_way maker old new c (in_phase (Pick tried) f) f.ending (objects_in f.objects);
+    way = same_way maker old new c (in_phase (Pick tried) f) f.asked f.ending (objects_in f.objects);
     searched = λ s. tt;
   }
   picked_ready tried None shard next_shard c f can core inside even full =
@@ -203,7 +268,7 @@ module _ {P : Type 0} (maker : MakerTold) (old new : LimiterTold) where
       let tried_place = tried_is_shard tried c.plan (length c.parts) f can.core.plan can.frame.stripe in
       let empty = still_empty f.queues (shard_tried tried c.plan f) (part.Shard next_shard) c f can.core.plan (λ q queue e. apart_places c.plan (shard_tried tried c.plan f) q tried_place queue (sym e)) in
       let kept = kept_part maker old new c e d (in_phase Idle f) core (held_of maker c.settings c.plan e can.frame) refl refl refl refl in
-      let stays = same_way maker old new c e f.ending (objects_in f.objects) in
+      let stays = same_way maker old new c e f.asked f.ending (objects_in f.objects) in
       either_ready maker old new c e d (in_phase Idle f) (nat_lt (tried + 1) (allocator_for c.plan f).shards) (goes (Pick (tried + 1))) (slot_search c.plan f)
       (λ more. record {
         kept = kept;
@@ -222,13 +287,13 @@ module _ {P : Type 0} (maker : MakerTold) (old new : LimiterTold) where
         fewer = omega (arith, can.frame.shape.2, allocator_most c.plan (length c.parts) (kind_next f) f.stripe can.core.plan can.frame.stripe);
         way = (
           stays,
-          λ gone. fails_way maker old new c e f.ending (objects_in f.objects) (no_slot_left c.plan f) allocating.ending (inl (record {
+          λ gone. full_way maker old new c e f.asked f.ending (objects_in f.objects) (no_slot_left c.plan f) allocating.ending (none_for_stack c.settings c.plan f.asked f.queues f.objects allocating.to_grant) (record {
             is = refl;
             number = refl;
             allocating = can.frame.shape.1;
             has = λ name. omega (arith, ap (queued_count (right_to name)) settled.no_slots, ap (freed_count (right_to name)) settled.none_freed);
             none = λ s k number. nothing_left maker c f can.core can.frame.stripe (λ j below. s.0 j (omega (arith, below, gone))) (λ j below. (full refl s.1).0 j (omega (arith, below, round))) k number;
-          })),
+          }),
         );
         searched = λ s. (empty s.0, λ j below. (full refl s.1).1 j (omega (arith, below, round)));
       })
@@ -244,7 +309,7 @@ module _ {P : Type 0} (maker : MakerTold) (old new : LimiterTold) where
       picked_ready tried (pick_answer (wanted f) shard) shard (after_pick (wanted f) shard) c f can
       (core_with_shard maker j (after_pick (wanted f) shard) c can.core below (picked_sound (wanted f) shard sound) (picked_same (wanted f) shard))
       (told_weaker (λ p. p.0.0 < shard.capacity) (λ p. IsSlotName c.plan (picked_name a shard p.0.0)) (pick_answer (wanted f) shard) (λ p within. subst (λ (k : SlotKind). IsSlotName c.plan (record { kind = k; slot = slot_number shard p.0.0 })) kind (slot_of_shard maker j p.0.0 c can.core below within).named) (picked_inside (wanted f) shard sound))
-      (record { places = λ t. omega (arith, kept_shard t j (after_pick (wanted f) shard) c (shard_part maker j c can.core below), away_shard t j (after_pick (wanted f) shard) c (shard_part maker j c can.core below), pick_counts t (wanted f) shard sound, picked_as t a shard (pick_answer (wanted f) shard) kind); instances = omega arith; memories = omega arith; tables = omega arith })
+      (record { places = λ t. omega (arith, kept_shard t j (after_pick (wanted f) shard) c (shard_part maker j c can.core below), away_shard t j (after_pick (wanted f) shard) c (shard_part maker j c can.core below), pick_counts t (wanted f) shard sound, picked_as t a shard (pick_answer (wanted f) shard) kind); instances = omega arith; memories = omega arith; tables = omega arith; stacks = omega arith })
       (λ none full. let more = tried_full maker tried c f can.core can.frame.stripe none full in (more, still_full maker (tried + 1) tried c f can.core can.frame.stripe none more))
 
   -- A queue is taken.
@@ -259,10 +324,11 @@ module _ {P : Type 0} (maker : MakerTold) (old new : LimiterTold) where
       let has : Frame P = record f { phase = Idle; local = taken_into f.local q; queues = f.queues + 1 } in
       let settled = can.frame.shape.0 in
       let was = can.frame.shape.1.to_grant in
-      let z : PoolSizes = sizes_of c.plan in
+      let z : PoolSizes = sizes_of c.settings c.plan in
       let to_grant : IsToGrant c.settings c.plan f.asked (f.queues + 1) f.objects = record {
         supported = was.supported;
         tables = was.tables;
+        enabled = was.enabled;
         images = was.images;
         room = was.room;
         table_room = was.table_room;
@@ -279,13 +345,13 @@ module _ {P : Type 0} (maker : MakerTold) (old new : LimiterTold) where
         queue = taken_local maker c.settings f.local q can.frame.queue (local_of_shared maker c.settings q shared);
         freed_room = (can.frame.freed_room.0, omega (arith, shared.slots, shared.short, ap (length {A = FreedSlot}) settled.none_freed));
         freed_each = can.frame.freed_each;
-        freed_order = inl (let M : FreedSlot → Type 0 = λ x. x.name.kind ≡ memory_kind in All-same M f.freed.items [] settled.none_freed (All-nil M));
+        freed_order = none_waits f.freed.items settled.none_freed;
         objects = can.frame.objects;
       })
       refl refl refl refl in
-      let even : Even maker old new c e (hand {P = P} next) d has = record { places = λ t. omega (arith, kept_queue t i (after_take q) c (queue_part maker i c can.core below), away_queue t i (after_take q) c (queue_part maker i c can.core below), ap (queued_count t) settled.no_slots); instances = omega arith; memories = omega arith; tables = omega arith } in
-      let few = flush_few z (c.plan.totals.memory + c.plan.totals.table) has.local f.freed shared.grouped (few_in_queue maker i c e can below) in
-      let stays = same_way maker old new c e f.ending (objects_in f.objects) in
+      let even : Even maker old new c e (hand {P = P} next) d has = record { places = λ t. omega (arith, kept_queue t i (after_take q) c (queue_part maker i c can.core below), away_queue t i (after_take q) c (queue_part maker i c can.core below), ap (queued_count t) settled.no_slots); instances = omega arith; memories = omega arith; tables = omega arith; stacks = omega arith } in
+      let few = flush_few z (all_slots c.plan) has.local f.freed shared.grouped (few_in_queue maker i c e can below) in
+      let stays = same_way maker old new c e f.asked f.ending (objects_in f.objects) in
       either_ready maker old new c e d has (length q.slots == 0) (slot_search c.plan has) flush
       (λ none.
       let empty = empty_length q.slots none in
@@ -296,13 +362,13 @@ module _ {P : Type 0} (maker : MakerTold) (old new : LimiterTold) where
         fewer = omega (arith, next_queue z f.queues 0 (6 + objects_left z f.asked f.objects) can.frame.shape.2 (omega arith));
         way = (
           stays,
-          λ gone. fails_way maker old new c e f.ending (objects_in f.objects) (no_slot_left c.plan f) can.frame.shape.1.ending (inl (record {
+          λ gone. full_way maker old new c e f.asked f.ending (objects_in f.objects) (no_slot_left c.plan f) can.frame.shape.1.ending (none_for_stack c.settings c.plan f.asked f.queues f.objects was) (record {
             is = refl;
             number = refl;
             allocating = can.frame.shape.1;
             has = λ name. omega (arith, ap (queued_count (right_to name)) settled.no_slots, ap (freed_count (right_to name)) settled.none_freed);
             none = λ s k number. nothing_left maker c f can.core can.frame.stripe (λ j under. was_empty f.queues c f empty s.0 j (omega (arith, under, gone))) s.1 k number;
-          })),
+          }),
         );
         searched = λ s. (taken_empty maker f.queues (after_take q) c f can.core refl s.0, full_beside (allocator_for c.plan f).shards i (part.Queue (after_take q)) c f can.core.plan can.frame.stripe below s.1);
       })

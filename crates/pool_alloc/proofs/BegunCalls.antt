@@ -1,42 +1,58 @@
 -- A party's frame as it is made, and as a call begins in it.
 use Rattle.pool_slots.specs.declared.plan.Plan.{Plan}
-use Rattle.std.proofs.Common.{◌≡◌, ℕ, ◌+◌, ◌≤◌, false, List, [], ◌∷◌, length, refl, subst, ap, arith, inl}
+use Rattle.std.proofs.Common.{◌≡◌, ℕ, ◌+◌, ◌≤◌, false, List, [], ◌∷◌, length, refl, subst, ap, ◌∙◌, arith, ◌*◌, inl, Bool, true, ◌<◌}
 use Rattle.std.proofs.lemmas.List.Elements.{All-nil, All-head, All-tail}
 use Rattle.pool_pages.specs.MakerTold.{MakerTold}
 use Rattle.pool_alloc.specs.Bounds.{PoolSizes, return_bound, give_back_bound, bound_of, sizes_of, steps_at, steps_left}
 use Rattle.pool_alloc.specs.Leases.{Lease}
 use Rattle.pool_alloc.specs.PoolTables.{IsTableLease}
 use Rattle.pool_alloc.specs.TableLeases.{LeasedTable}
-use Rattle.pool_alloc.specs.Places.{Thing, leased_count, tables_count, queued_count, freed_count, phase_count, frame_count, phase_instances, phase_memories, frame_memories, phase_tables, frame_tables}
-use Rattle.pool_alloc.specs.Sound.{NothingWaits, IsCore, IsFrame, IsLeaseOf, IsQueuedOf, IsAtRest, IsShapedAt}
-use Rattle.pool_alloc.specs.Stepping.{IsSameSize, grant_count, grant_instances, grant_memories, grant_tables}
+use Rattle.pool_alloc.specs.Places.{Thing, leased_count, tables_count, queued_count, freed_count, phase_count, frame_count, phase_instances, frame_instances, instances_for, phase_memories, frame_memories, phase_tables, frame_tables, phase_stacks, phase_components}
+use Rattle.pool_alloc.specs.Sound.{NothingWaits, IsCore, IsFrame, IsLeaseOf, IsQueuedOf, MayBeRanged, IsAtRest, IsShapedAt}
+use Rattle.pool_alloc.specs.Stepping.{IsSameSize, grant_count, grant_instances, grant_memories, grant_tables, grant_stacks, grant_components}
 use Rattle.pool_alloc.specs.Calls.{frame_made, IsIdle, MayBegin, begun_call}
 use Rattle.pool_alloc.specs.Turns.{is_granting, returned_next}
 use Rattle.pool_alloc.specs.declared.pool_core.PoolCore.{PoolCore}
 use Rattle.pool_alloc.specs.declared.pool_core.Settings.{Settings}
 use Rattle.pool_alloc.specs.declared.frame.Ending.TheVariants.{Returned as returned}
+use Rattle.pool_alloc.specs.Objects.{objects_in}
+use Rattle.pool_alloc.specs.declared.frame.Asked.TheVariants.{Nothing as nothing_asked}
 use Rattle.pool_alloc.specs.declared.frame.Frame.{Frame}
 use Rattle.pool_alloc.specs.declared.frame.Phase.{Phase}
 use Rattle.pool_alloc.specs.declared.frame.Phase.TheVariants.{Idle, Key}
 use Rattle.pool_alloc.specs.declared.frame.Grant.{Grant}
-use Rattle.pool_alloc.specs.declared.frame.Grant.TheVariants.{Instance}
+use Rattle.pool_alloc.specs.declared.frame.Grant.TheVariants.{Instance, Stack, Component}
 use Rattle.pool_alloc.specs.declared.frame.Call.{Call}
 use Rattle.pool_alloc.specs.declared.frame.Call.TheVariants as call
-use Rattle.pool_alloc.proofs.Hands.{Held, held_of, frame_of, one_more}
+use Rattle.pool_alloc.proofs.FlushFinds.{none_waits}
+use Rattle.pool_alloc.proofs.Hands.{Held, held_of, frame_of, one_more, counts_none}
 use Rattle.pool_alloc.proofs.QueueCounts.{leased_first, tables_first}
+use Rattle.std.specs.Prelude.{nat_lt}
+use Rattle.std.proofs.lemmas.Bool.{ltb-true, and_parts}
+use Rattle.pool_pages.specs.declared.module_types.CompiledModuleId.{CompiledModuleId}
+use Rattle.pool_alloc.specs.Bounds.{purge_left, purge_bound}
+use Rattle.pool_alloc.specs.Purges.{has_turns, purge_begun}
+use Rattle.pool_alloc.specs.declared.purge.PurgeStep.TheVariants as purging_step
+use Rattle.pool_alloc.proofs.PurgeBounds.{picks_of, purge_begins}
 
 -- The frame as made has nothing.
 pub made_count : (P : Type 0) (t : Thing) (home : ℕ) (s : Settings) → frame_count {P = P} t (frame_made home s) ≡ 0
 made_count P t home s = refl
 
-pub made_instances : (P : Type 0) (home : ℕ) (s : Settings) → phase_instances {P = P} (frame_made home s).phase ≡ 0
+pub made_instances : (P : Type 0) (home : ℕ) (s : Settings) → frame_instances {P = P} (frame_made home s) ≡ 0
 made_instances P home s = refl
+
+pub made_components : (P : Type 0) (home : ℕ) (s : Settings) → phase_components {P = P} (frame_made home s).phase ≡ 0
+made_components P home s = refl
 
 pub made_memories : (P : Type 0) (home : ℕ) (s : Settings) → frame_memories {P = P} (frame_made home s) ≡ 0
 made_memories P home s = refl
 
 pub made_tables : (P : Type 0) (home : ℕ) (s : Settings) → frame_tables {P = P} (frame_made home s) ≡ 0
 made_tables P home s = refl
+
+pub made_stacks : (P : Type 0) (home : ℕ) (s : Settings) → phase_stacks {P = P} (frame_made home s).phase ≡ 0
+made_stacks P home s = refl
 
 module _ {P : Type 0} where
   -- The frame as made is sound over a pool whose parts are.
@@ -49,21 +65,26 @@ module _ {P : Type 0} where
           range_room = refl;
           slot_room = refl;
           regions = All-nil (IsQueuedOf maker c.settings);
+          ranged = All-nil (MayBeRanged c.settings);
           queue = record { range_room = omega arith; slot_room = omega arith; distinct = tt; each = tt };
           grouped = omega arith;
         };
         freed_room = (refl, omega arith);
         freed_each = All-nil _;
-        freed_order = inl (All-nil _);
+        freed_order = none_waits [] refl;
         objects = (All-nil (IsLeaseOf maker c.settings c.plan), All-nil (IsTableLease maker c.settings c.plan));
         shape = record { settled = record { no_ranges = refl; no_slots = refl; none_freed = refl }; no_memories = refl; no_tables = refl };
       }
 
-  -- how often a call brings a thing along, and how many instances, memories and tables that are counted
+  -- how often a call brings a thing along, and how many instances, components, memories, tables and stacks that are counted
   abbrev pub call_has : (Grant P → ℕ) → Call P → ℕ
   call_has of call.Key = 0
   call_has of (call.Module m) = 0
+  call_has of call.Stack = 0
+  call_has of (call.Component info) = 0
   call_has of (call.GiveBack grant) = of grant
+  call_has of (call.Purge id) = 0
+  call_has of call.Release = 0
 
   -- between calls the frame has nothing
   pub at_rest : (maker : MakerTold) (s : Settings) (plan : Plan) (f : Frame P) → IsFrame maker s plan f → IsIdle f → IsAtRest f
@@ -72,14 +93,18 @@ module _ {P : Type 0} where
   idle_of : (maker : MakerTold) (s : Settings) (plan : Plan) (asks : Call P) (f : Frame P) → MayBegin maker s plan asks f → IsIdle f
   idle_of maker s plan call.Key f may = may
   idle_of maker s plan (call.Module m) f may = may.0
+  idle_of maker s plan call.Stack f may = may
+  idle_of maker s plan (call.Component info) f may = may
   idle_of maker s plan (call.GiveBack grant) f may = may.0
+  idle_of maker s plan (call.Purge id) f may = may
+  idle_of maker s plan call.Release f may = may
 
   -- a frame that gives these back
   abbrev giving : List Lease → List LeasedTable → Frame P → Frame P
-  giving leases tables f = record f { objects = record { memories = record f.objects.memories { items = leases }; tables = record f.objects.tables { items = tables } } }
+  giving leases tables f = record f { asked = nothing_asked; objects = record { memories = record f.objects.memories { items = leases }; tables = record f.objects.tables { items = tables } } }
 
   begun_back : (maker : MakerTold) (leases : List Lease) (tables : List LeasedTable) (s : Settings) (plan : Plan) (f : Frame P) → Held maker s plan (giving leases tables f) → NothingWaits f.local f.freed → is_granting f.ending ≡ false → IsFrame maker s plan (record (returned_next leases tables (giving leases tables f)).frame { step_count = 0 })
-  begun_back maker [] [] s plan f held rest is = frame_of maker s plan (record (returned_next [] [] (giving [] [] f)).frame { step_count = 0 }) held (record { settled = rest; no_memories = refl; no_tables = refl }, is)
+  begun_back maker [] [] s plan f held rest is = frame_of maker s plan (record (returned_next [] [] (giving [] [] f)).frame { step_count = 0 }) held (record { settled = rest; no_memories = refl; no_tables = refl }, is, refl)
   begun_back maker (lease ∷ leases) tables s plan f held rest is =
       frame_of maker s plan (record (returned_next (lease ∷ leases) tables (giving (lease ∷ leases) tables f)).frame { step_count = 0 })
       (record { stripe = held.stripe; queue = held.queue; freed_room = held.freed_room; freed_each = held.freed_each; freed_order = held.freed_order; objects = (All-tail (IsLeaseOf maker s plan) lease leases held.objects.0, held.objects.1) })
@@ -91,8 +116,14 @@ module _ {P : Type 0} where
 
   begun_at : (maker : MakerTold) (asks : Call P) (s : Settings) (plan : Plan) (f : Frame P) → Held maker s plan f → IsAtRest f → MayBegin maker s plan asks f → IsFrame maker s plan (begun_call asks f)
   begun_at maker call.Key s plan f held rest may = frame_of maker s plan (record f { phase = Key; step_count = 0 }) held rest
-  begun_at maker (call.Module m) s plan f held rest may = frame_of maker s plan (begun_call (call.Module m) f) held (rest, record { ending = refl; none_taken = refl; asked_for = refl; images = may.2 }, may.1)
+  begun_at maker (call.Module m) s plan f held rest may = frame_of maker s plan (begun_call (call.Module m) f) held (rest, record { ending = refl; none_taken = refl; asked_for = tt; images = may.2 }, may.1)
+  begun_at maker call.Stack s plan f held rest may = frame_of maker s plan (begun_call call.Stack f) held (rest, (refl, refl, refl))
+  begun_at maker (call.GiveBack (Stack lease)) s plan f held rest may = frame_of maker s plan (begun_call (call.GiveBack (Stack lease)) f) held (rest.settled, refl, may.1)
+  begun_at maker (call.Component info) s plan f held rest may = frame_of maker s plan (begun_call (call.Component info) f) held rest
+  begun_at maker (call.GiveBack Component) s plan f held rest may = frame_of maker s plan (begun_call (call.GiveBack Component) f) held (rest, refl)
   begun_at maker (call.GiveBack (Instance lease)) s plan f held rest may = begun_back maker lease.memories.items lease.tables.items s plan (record f { objects = lease; ending = returned }) (record { stripe = held.stripe; queue = held.queue; freed_room = held.freed_room; freed_each = held.freed_each; freed_order = held.freed_order; objects = may.1 }) rest.settled refl
+  begun_at maker (call.Purge id) s plan f held rest may = frame_of maker s plan (begun_call (call.Purge id) f) held (rest, inl (record { stripe = refl; memory = refl; turn = refl; first = refl }))
+  begun_at maker call.Release s plan f held rest may = frame_of maker s plan (begun_call call.Release f) held (rest, tt)
 
   -- the frame is sound once a call began that may
   pub begun_frame : (maker : MakerTold) (asks : Call P) (s : Settings) (plan : Plan) (f : Frame P) → IsFrame maker s plan f → MayBegin maker s plan asks f → IsFrame maker s plan (begun_call asks f)
@@ -110,6 +141,12 @@ module _ {P : Type 0} where
   count_at : (t : Thing) (asks : Call P) (f : Frame P) → IsIdle f → IsAtRest f → frame_count t (begun_call asks f) ≡ frame_count t f + call_has (grant_count t) asks
   count_at t call.Key f idle rest = let before : phase_count t f.phase ≡ 0 = idle_nothing t f.phase idle in omega arith
   count_at t (call.Module m) f idle rest = let before : phase_count t f.phase ≡ 0 = idle_nothing t f.phase idle in omega arith
+  count_at t call.Stack f idle rest = let before : phase_count t f.phase ≡ 0 = idle_nothing t f.phase idle in omega arith
+  count_at t (call.GiveBack (Stack lease)) f idle rest = let before : phase_count t f.phase ≡ 0 = idle_nothing t f.phase idle in omega arith
+  count_at t (call.Component info) f idle rest = let before : phase_count t f.phase ≡ 0 = idle_nothing t f.phase idle in omega arith
+  count_at t (call.GiveBack Component) f idle rest = let before : phase_count t f.phase ≡ 0 = idle_nothing t f.phase idle in omega arith
+  count_at t (call.Purge id) f idle rest = let before : phase_count t f.phase ≡ 0 = idle_nothing t f.phase idle in omega arith
+  count_at t call.Release f idle rest = let before : phase_count t f.phase ≡ 0 = idle_nothing t f.phase idle in omega arith
   count_at t (call.GiveBack (Instance lease)) f idle rest =
       let none : leased_count t f.objects.memories.items ≡ 0 = rw rest.no_memories refl in
       let none_more : tables_count t f.objects.tables.items ≡ 0 = rw rest.no_tables refl in
@@ -119,20 +156,66 @@ module _ {P : Type 0} where
   pub begun_count : (maker : MakerTold) (t : Thing) (asks : Call P) (s : Settings) (plan : Plan) (f : Frame P) → IsFrame maker s plan f → MayBegin maker s plan asks f → frame_count t (begun_call asks f) ≡ frame_count t f + call_has (grant_count t) asks
   begun_count maker t asks s plan f frame may = let idle : IsIdle f = idle_of maker s plan asks f may in count_at t asks f idle (at_rest maker s plan f frame idle)
 
-  idle_instances : (p : Phase P) → p ≡ Idle → phase_instances p ≡ 0
-  idle_instances p idle = rw idle refl
+  idle_instances : (f : Frame P) → IsIdle f → frame_instances f ≡ 0
+  idle_instances f idle = ap (λ (p : Phase P). instances_for f.asked (phase_instances p)) idle ∙ counts_none f.asked
 
-  one_returned : (leases : List Lease) (tables : List LeasedTable) (f : Frame P) → phase_instances (returned_next leases tables f).frame.phase ≡ 1
+  one_returned : (leases : List Lease) (tables : List LeasedTable) (f : Frame P) → frame_instances (returned_next leases tables (giving leases tables f)).frame ≡ 1
   one_returned [] [] f = refl
   one_returned (lease ∷ leases) tables f = refl
   one_returned [] (lease ∷ tables) f = refl
 
-  pub begun_instances : (maker : MakerTold) (asks : Call P) (s : Settings) (plan : Plan) (f : Frame P) → MayBegin maker s plan asks f → phase_instances (begun_call asks f).phase ≡ phase_instances f.phase + call_has grant_instances asks
-  begun_instances maker call.Key s plan f may = let before : phase_instances f.phase ≡ 0 = idle_instances f.phase may in omega arith
-  begun_instances maker (call.Module m) s plan f may = let before : phase_instances f.phase ≡ 0 = idle_instances f.phase may.0 in omega arith
+  pub begun_instances : (maker : MakerTold) (asks : Call P) (s : Settings) (plan : Plan) (f : Frame P) → MayBegin maker s plan asks f → frame_instances (begun_call asks f) ≡ frame_instances f + call_has grant_instances asks
+  begun_instances maker call.Key s plan f may = omega (arith, idle_instances f may, counts_none f.asked)
+  begun_instances maker (call.Module m) s plan f may = omega (arith, idle_instances f may.0)
+  begun_instances maker call.Stack s plan f may = omega (arith, idle_instances f may)
+  begun_instances maker (call.GiveBack (Stack lease)) s plan f may = omega (arith, idle_instances f may.0)
+  begun_instances maker (call.Component info) s plan f may = omega (arith, idle_instances f may, counts_none f.asked)
+  begun_instances maker (call.GiveBack Component) s plan f may = omega (arith, idle_instances f may.0, counts_none f.asked)
+  begun_instances maker (call.Purge id) s plan f may = omega (arith, idle_instances f may, counts_none f.asked)
+  begun_instances maker call.Release s plan f may = omega (arith, idle_instances f may, counts_none f.asked)
   begun_instances maker (call.GiveBack (Instance lease)) s plan f may =
-      let before : phase_instances f.phase ≡ 0 = idle_instances f.phase may.0 in
-      omega (arith, one_returned lease.memories.items lease.tables.items (record f { objects = lease; ending = returned }))
+      omega (arith, idle_instances f may.0, one_returned lease.memories.items lease.tables.items (record f { objects = lease; ending = returned }))
+
+  idle_stacks : (p : Phase P) → p ≡ Idle → phase_stacks p ≡ 0
+  idle_stacks p idle = rw idle refl
+
+  none_returned : (leases : List Lease) (tables : List LeasedTable) (f : Frame P) → phase_stacks (returned_next leases tables (giving leases tables f)).frame.phase ≡ 0
+  none_returned [] [] f = refl
+  none_returned (lease ∷ leases) tables f = refl
+  none_returned [] (lease ∷ tables) f = refl
+
+  pub begun_stacks : (maker : MakerTold) (asks : Call P) (s : Settings) (plan : Plan) (f : Frame P) → MayBegin maker s plan asks f → phase_stacks (begun_call asks f).phase ≡ phase_stacks f.phase + call_has grant_stacks asks
+  begun_stacks maker call.Key s plan f may = omega (arith, idle_stacks f.phase may)
+  begun_stacks maker (call.Module m) s plan f may = omega (arith, idle_stacks f.phase may.0)
+  begun_stacks maker call.Stack s plan f may = omega (arith, idle_stacks f.phase may)
+  begun_stacks maker (call.Component info) s plan f may = omega (arith, idle_stacks f.phase may)
+  begun_stacks maker (call.Purge id) s plan f may = omega (arith, idle_stacks f.phase may)
+  begun_stacks maker call.Release s plan f may = omega (arith, idle_stacks f.phase may)
+  begun_stacks maker (call.GiveBack Component) s plan f may = omega (arith, idle_stacks f.phase may.0)
+  begun_stacks maker (call.GiveBack (Stack lease)) s plan f may = omega (arith, idle_stacks f.phase may.0)
+  begun_stacks maker (call.GiveBack (Instance lease)) s plan f may =
+      omega (arith, idle_stacks f.phase may.0, none_returned lease.memories.items lease.tables.items (record f { objects = lease; ending = returned }))
+
+  idle_components : (p : Phase P) → p ≡ Idle → phase_components p ≡ 0
+  idle_components p idle = rw idle refl
+
+  no_component_returned : (leases : List Lease) (tables : List LeasedTable) (f : Frame P) → phase_components (returned_next leases tables (giving leases tables f)).frame.phase ≡ 0
+  no_component_returned [] [] f = refl
+  no_component_returned (lease ∷ leases) tables f = refl
+  no_component_returned [] (lease ∷ tables) f = refl
+
+  pub begun_components : (maker : MakerTold) (asks : Call P) (s : Settings) (plan : Plan) (f : Frame P) → MayBegin maker s plan asks f → phase_components (begun_call asks f).phase ≡ phase_components f.phase + call_has grant_components asks
+  begun_components maker call.Key s plan f may = let before : phase_components f.phase ≡ 0 = idle_components f.phase may in omega arith
+  begun_components maker (call.Module m) s plan f may = let before : phase_components f.phase ≡ 0 = idle_components f.phase may.0 in omega arith
+  begun_components maker call.Stack s plan f may = omega (arith, idle_components f.phase may)
+  begun_components maker (call.Purge id) s plan f may = omega (arith, idle_components f.phase may)
+  begun_components maker call.Release s plan f may = omega (arith, idle_components f.phase may)
+  begun_components maker (call.GiveBack (Stack lease)) s plan f may = omega (arith, idle_components f.phase may.0)
+  begun_components maker (call.Component info) s plan f may = let before : phase_components f.phase ≡ 0 = idle_components f.phase may in omega arith
+  begun_components maker (call.GiveBack Component) s plan f may = let before : phase_components f.phase ≡ 0 = idle_components f.phase may.0 in omega arith
+  begun_components maker (call.GiveBack (Instance lease)) s plan f may =
+      let before : phase_components f.phase ≡ 0 = idle_components f.phase may.0 in
+      omega (arith, no_component_returned lease.memories.items lease.tables.items (record f { objects = lease; ending = returned }))
 
   objects_returned : (leases : List Lease) (tables : List LeasedTable) (f : Frame P) → (frame_memories (returned_next leases tables (giving leases tables f)).frame ≡ length leases) × (frame_tables (returned_next leases tables (giving leases tables f)).frame ≡ length tables)
   objects_returned [] [] f = (refl, refl)
@@ -145,6 +228,12 @@ module _ {P : Type 0} where
   objects_at : (asks : Call P) (f : Frame P) → IsIdle f → IsAtRest f → (frame_memories (begun_call asks f) ≡ frame_memories f + call_has grant_memories asks) × (frame_tables (begun_call asks f) ≡ frame_tables f + call_has grant_tables asks)
   objects_at call.Key f idle rest = let before = idle_objects f.phase idle in (omega (arith, before.0), omega (arith, before.1))
   objects_at (call.Module m) f idle rest = let before = idle_objects f.phase idle in (omega (arith, before.0), omega (arith, before.1))
+  objects_at call.Stack f idle rest = let before = idle_objects f.phase idle in (omega (arith, before.0), omega (arith, before.1))
+  objects_at (call.GiveBack (Stack lease)) f idle rest = let before = idle_objects f.phase idle in (omega (arith, before.0), omega (arith, before.1))
+  objects_at (call.Component info) f idle rest = let before = idle_objects f.phase idle in (omega (arith, before.0), omega (arith, before.1))
+  objects_at (call.GiveBack Component) f idle rest = let before = idle_objects f.phase idle in (omega (arith, before.0), omega (arith, before.1))
+  objects_at (call.Purge id) f idle rest = let before = idle_objects f.phase idle in (omega (arith, before.0), omega (arith, before.1))
+  objects_at call.Release f idle rest = let before = idle_objects f.phase idle in (omega (arith, before.0), omega (arith, before.1))
   objects_at (call.GiveBack (Instance lease)) f idle rest =
       let before = idle_objects f.phase idle in
       let back = objects_returned lease.memories.items lease.tables.items (record f { objects = lease; ending = returned }) in
@@ -158,11 +247,11 @@ module _ {P : Type 0} where
 
   -- How many steps are left is the same on every pool of the same sizes, so no step of another changes it.
   pub steps_left_same : (c d : PoolCore P) (f : Frame P) → IsSameSize c d → steps_left d f ≡ steps_left c f
-  steps_left_same c d f same = ap (λ (plan : Plan). steps_at (sizes_of plan) f.phase f) same.plan
+  steps_left_same c d f same = ap (λ (s : Settings). steps_at (sizes_of s d.plan) f.phase f) same.settings ∙ ap (λ (plan : Plan). steps_at (sizes_of c.settings plan) f.phase f) same.plan
 
   -- no call has no steps left,
   pub idle_left : (c : PoolCore P) (f : Frame P) → IsIdle f → steps_left c f ≡ 0
-  idle_left c f idle = ap (λ (p : Phase P). steps_at (sizes_of c.plan) p f) idle
+  idle_left c f idle = ap (λ (p : Phase P). steps_at (sizes_of c.settings c.plan) p f) idle
 
   -- and a call begins with no more than its bound.
   returned_bounded : (z : PoolSizes) (leases : List Lease) (tables : List LeasedTable) (f : Frame P) → steps_at z (returned_next leases tables (giving leases tables f)).frame.phase (record (returned_next leases tables (giving leases tables f)).frame { step_count = 0 }) ≤ return_bound z (length leases + length tables)
@@ -170,7 +259,26 @@ module _ {P : Type 0} where
   returned_bounded z (lease ∷ leases) tables f = omega (arith, one_more (length (lease ∷ leases) + length tables) (length leases + length tables) (give_back_bound z) (omega arith))
   returned_bounded z [] (lease ∷ tables) f = omega (arith, one_more (0 + length (lease ∷ tables)) (0 + length tables) (give_back_bound z) (omega arith))
 
-  pub begun_bounded : (c : PoolCore P) (asks : Call P) (f : Frame P) → steps_left c (begun_call asks f) ≤ bound_of c asks
-  begun_bounded c call.Key f = omega arith
-  begun_bounded c (call.Module m) f = omega arith
-  begun_bounded c (call.GiveBack (Instance lease)) f = returned_bounded (sizes_of c.plan) lease.memories.items lease.tables.items (record f { objects = lease; ending = returned })
+  purge_bounded : (b : Bool) (c : PoolCore P) (id : CompiledModuleId) → 0 < length c.plan.memories → has_turns c.settings.max_memories_per_module c.plan ≡ b → purge_left {P = P} (sizes_of c.settings c.plan) (purge_begun id) (purging_step.Pick 0) ≤ purge_bound (sizes_of c.settings c.plan)
+  purge_bounded true c id stripes has =
+      let z : PoolSizes = sizes_of c.settings c.plan in
+      let number : purge_left {P = P} z (purge_begun id) (purging_step.Pick 0) ≡ picks_of z (purge_begun id) 0 = rw has refl in
+      let memories : 0 < c.settings.max_memories_per_module = ltb-true _ _ (and_parts (nat_lt 0 c.plan.totals.memory) (nat_lt 0 c.settings.max_memories_per_module) has).1 in
+      omega (arith, number, purge_begins c.settings c.plan (purge_begun id) stripes refl refl refl memories)
+  purge_bounded false c id stripes none =
+      let number : purge_left {P = P} (sizes_of c.settings c.plan) (purge_begun id) (purging_step.Pick 0) ≡ 1 = rw none refl in
+      omega (arith, number)
+
+  pub begun_bounded : (c : PoolCore P) (asks : Call P) (f : Frame P) → IsAtRest f → 0 < length c.plan.memories → steps_left c (begun_call asks f) ≤ bound_of c asks
+  begun_bounded c call.Key f rest stripes = omega arith
+  begun_bounded c (call.Module m) f rest stripes = omega arith
+  begun_bounded c call.Stack f rest stripes = omega arith
+  begun_bounded c (call.GiveBack (Stack lease)) f rest stripes =
+      let none : objects_in f.objects ≡ 0 = omega (arith, ap (length {A = Lease}) rest.no_memories, ap (length {A = LeasedTable}) rest.no_tables) in
+      let no : objects_in f.objects * give_back_bound (sizes_of c.settings c.plan) ≡ 0 * give_back_bound (sizes_of c.settings c.plan) = ap (λ (n : ℕ). n * give_back_bound (sizes_of c.settings c.plan)) none in
+      omega (arith, no)
+  begun_bounded c (call.GiveBack (Instance lease)) f rest stripes = returned_bounded (sizes_of c.settings c.plan) lease.memories.items lease.tables.items (record f { objects = lease; ending = returned })
+  begun_bounded c (call.Component info) f rest stripes = omega arith
+  begun_bounded c (call.GiveBack Component) f rest stripes = omega arith
+  begun_bounded c (call.Purge id) f rest stripes = purge_bounded (has_turns c.settings.max_memories_per_module c.plan) c id stripes refl
+  begun_bounded c call.Release f rest stripes = omega arith

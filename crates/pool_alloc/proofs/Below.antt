@@ -8,8 +8,10 @@ use Rattle.pool_slots.specs.declared.slot_name.SlotName.{SlotName}
 use Rattle.pool_alloc.specs.Leases.{memory_slot}
 use Rattle.pool_alloc.specs.Places.{right_to, both_count, queued_count}
 use Rattle.pool_hall.specs.declared.unit_name.SlotKind.{SlotKind}
-use Rattle.pool_hall.specs.declared.unit_name.SlotKind.TheVariants.{Memory as memory_kind, Table as table_kind}
+use Rattle.pool_hall.specs.declared.unit_name.SlotKind.TheVariants.{Memory as memory_kind, Table as table_kind, Stack as stack_kind}
 use Rattle.pool_slots.specs.declared.slot_name.RegionNumbers.{RegionNumbers}
+use Rattle.pool_alloc.specs.Bounds.{all_slots}
+use Rattle.pool_alloc.specs.StackLeases.{stack_slot}
 use Rattle.pool_alloc.specs.TableLeases.{table_slot}
 use Rattle.pool_alloc.specs.Sound.{IsPooled, IsSlotName}
 use Rattle.pool_alloc.proofs.SlotCounts.{slot_once, region_rights}
@@ -35,9 +37,9 @@ below_one f i (suc n) inside one =
       | inr past ↦ let last : f n ≡ 1 = subst (λ (k : ℕ). f k ≡ 1) {x = i} {y = n} (omega (arith, inside, past)) one in omega arith
     ]
 
--- what is counted of memories' slots, and of tables', at their numbers
+-- what is counted of memories' slots, of tables' and of stacks', at their numbers
 abbrev counted : Plan → (SlotName → ℕ) → ℕ
-counted plan of = below (λ k. of (memory_slot k)) plan.totals.memory + below (λ k. of (table_slot k)) plan.totals.table
+counted plan of = below (λ k. of (memory_slot k)) plan.totals.memory + below (λ k. of (table_slot k)) plan.totals.table + below (λ k. of (stack_slot k)) plan.totals.stack
 
 -- a slot of the pool is counted once
 name_counted : (plan : Plan) (kind : SlotKind) (i : ℕ) (numbers : RegionNumbers) → IsPooled kind → i < of_kind kind plan.totals → 1 ≤ counted plan (λ name. both_count (right_to name) (record { kind = kind; slot = i }) numbers)
@@ -45,6 +47,8 @@ name_counted plan memory_kind i numbers pooled inside =
     omega (arith, below_one (λ k. both_count (right_to (memory_slot k)) (memory_slot i) numbers) i plan.totals.memory inside (omega (arith, slot_once (memory_slot i), region_rights (memory_slot i) (memory_slot i) numbers)))
 name_counted plan table_kind i numbers pooled inside =
     omega (arith, below_one (λ k. both_count (right_to (table_slot k)) (table_slot i) numbers) i plan.totals.table inside (omega (arith, slot_once (table_slot i), region_rights (table_slot i) (table_slot i) numbers)))
+name_counted plan stack_kind i numbers pooled inside =
+    omega (arith, below_one (λ k. both_count (right_to (stack_slot k)) (stack_slot i) numbers) i plan.totals.stack inside (omega (arith, slot_once (stack_slot i), region_rights (stack_slot i) (stack_slot i) numbers)))
 name_counted plan kind i numbers pooled inside = absurd pooled
 
 queued_below : (plan : Plan) (ms : List Queued) → ((name : SlotName) → 0 < queued_count (right_to name) ms → IsSlotName plan name) → length ms ≤ counted plan (λ name. queued_count (right_to name) ms)
@@ -57,16 +61,18 @@ queued_below plan (m ∷ ms) named =
       arith,
       below_sum (λ k. one (memory_slot k)) (λ k. more (memory_slot k)) (λ k. queued_count (right_to (memory_slot k)) (m ∷ ms)) (λ k. omega arith) plan.totals.memory,
       below_sum (λ k. one (table_slot k)) (λ k. more (table_slot k)) (λ k. queued_count (right_to (table_slot k)) (m ∷ ms)) (λ k. omega arith) plan.totals.table,
+      below_sum (λ k. one (stack_slot k)) (λ k. more (stack_slot k)) (λ k. queued_count (right_to (stack_slot k)) (m ∷ ms)) (λ k. omega arith) plan.totals.stack,
       name_counted plan m.name.kind m.name.slot m.numbers its.pooled its.inside,
       queued_below plan ms (λ name some. named name (omega (arith, some))),
     )
 
 -- A queue that has each slot of the pool once at most, and no other, has no more slots than the pool.
-pub few_queued : (plan : Plan) (ms : List Queued) → ((name : SlotName) → queued_count (right_to name) ms ≤ 1) → ((name : SlotName) → 0 < queued_count (right_to name) ms → IsSlotName plan name) → length ms ≤ plan.totals.memory + plan.totals.table
+pub few_queued : (plan : Plan) (ms : List Queued) → ((name : SlotName) → queued_count (right_to name) ms ≤ 1) → ((name : SlotName) → 0 < queued_count (right_to name) ms → IsSlotName plan name) → length ms ≤ all_slots plan
 few_queued plan ms once named =
     omega (
       arith,
       queued_below plan ms named,
       below_most (λ k. queued_count (right_to (memory_slot k)) ms) (λ k. once (memory_slot k)) plan.totals.memory,
       below_most (λ k. queued_count (right_to (table_slot k)) ms) (λ k. once (table_slot k)) plan.totals.table,
+      below_most (λ k. queued_count (right_to (stack_slot k)) ms) (λ k. once (stack_slot k)) plan.totals.stack,
     )

@@ -44,6 +44,7 @@ module _ {P : Type 0} where
         settings = core.settings;
         page = core.page;
         plan = subst H (sym (length-set c.parts p x)) core.plan;
+        stripes = core.stripes;
         parts = λ q below.
             let under : q < length c.parts = rw (length-set c.parts p x) at below in
             at_set (λ n y. IsPartAt maker c.settings c.plan n y) c.parts p q x _ under is (core.parts q under);
@@ -69,4 +70,4 @@ module _ {P : Type 0} where
 
   -- the counters are no part of it
   pub core_with_counters : (maker : MakerTold) (counters : Counters) (c : PoolCore P) → IsCore maker c → IsCore maker (record c { counters = counters })
-  core_with_counters maker counters c core = record { settings = core.settings; page = core.page; plan = core.plan; parts = core.parts }
+  core_with_counters maker counters c core = record { settings = core.settings; page = core.page; plan = core.plan; stripes = core.stripes; parts = core.parts }

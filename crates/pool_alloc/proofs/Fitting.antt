@@ -7,9 +7,11 @@ use Rattle.pool_alloc.specs.Turns.{After}
 use Rattle.pool_alloc.specs.Stepping.{Conserves, IsSameSize, count_granted, grant_count}
 use Rattle.pool_alloc.specs.declared.pool_core.PoolCore.{PoolCore}
 use Rattle.pool_alloc.specs.declared.frame.Frame.{Frame}
-use Rattle.pool_alloc.specs.declared.frame.Grant.TheVariants.{Instance}
+use Rattle.pool_alloc.specs.declared.frame.Grant.TheVariants.{Instance, Stack, Component}
 use Rattle.pool_alloc.specs.declared.frame.Outcome.{Outcome}
 use Rattle.pool_alloc.specs.declared.frame.Outcome.TheVariants as answer
+use Rattle.pool_alloc.specs.StackLeases.{stack_slot}
+use Rattle.pool_alloc.proofs.SlotCounts.{both_regions}
 use Rattle.pool_alloc.proofs.QueueCounts.{leased_regions, tables_regions}
 
 module _ {P : Type 0} where
@@ -18,7 +20,11 @@ module _ {P : Type 0} where
   granted_regions k None = refl
   granted_regions k (Some answer.Key) = refl
   granted_regions k (Some (answer.Granted (Instance lease))) = omega (arith, leased_regions k lease.memories.items, tables_regions k lease.tables.items)
+  granted_regions k (Some (answer.Granted (Stack lease))) = both_regions k (stack_slot lease.stack.index) lease.numbers
+  granted_regions k (Some (answer.Granted Component)) = refl
   granted_regions k (Some answer.Returned) = refl
+  granted_regions k (Some (answer.Purged n)) = refl
+  granted_regions k (Some (answer.Released n)) = refl
   granted_regions k (Some (answer.Refused e)) = refl
 
   -- Where a step conserves, what the frame has still fits.
@@ -27,6 +33,8 @@ module _ {P : Type 0} where
     once = λ t. omega (arith, fits.once t, b.places t);
     others = λ k. omega (arith, fits.others k, b.places (right_to k), b.places (region_of k), granted_regions k a.outcome);
     instances = omega (arith, fits.instances, b.instances);
+    components = omega (arith, fits.components, b.components);
     memories = omega (arith, fits.memories, b.memories);
     tables = omega (arith, fits.tables, b.tables);
+    stacks = omega (arith, fits.stacks, b.stacks);
   }

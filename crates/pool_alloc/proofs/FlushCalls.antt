@@ -8,7 +8,7 @@ use Rattle.pool_hall.specs.declared.unit_name.SlotKind.TheVariants.{Memory as me
 use Rattle.pool_slots.specs.SlotQueues.{Queue, Queued, is_to_zero, first_of_kind, others_of_kind, first_zeroed}
 use Rattle.pool_alloc.specs.Answers.{FlushTold, FlushPlanned}
 use Rattle.pool_alloc.specs.CanStep.{CanFlush}
-use Rattle.pool_alloc.specs.Rows.{FlushStep, run, zero, put, free, SettlesTo, some_queued, some_freed, put_step, tables_step, freed_step, settled_step, flush_step, flush_row}
+use Rattle.pool_alloc.specs.Rows.{FlushStep, run, zero, put, free, SettlesTo, some_queued, kind_settled, put_step, settled_step, flush_step, flush_row}
 use Rattle.pool_alloc.specs.Steps.{StepGiven}
 use Rattle.pool_alloc.specs.Turns.{After, stepped}
 use Rattle.pool_alloc.specs.declared.pool_core.PoolCore.{PoolCore}
@@ -27,17 +27,14 @@ no_ranges n none = eq-eqb n 0 (omega (arith, none))
 pub flush_runs : (local : Queue) (freed : List FreedSlot) → 0 < length local.ranges → flush_step local freed ≡ run
 flush_runs local freed some = rw (some_ranges (length local.ranges) some) refl
 
-pub flush_settles : (local : Queue) (freed : List FreedSlot) → length local.ranges ≤ 0 → flush_step local freed ≡ settled_step local.slots freed
+pub flush_settles : (local : Queue) (freed : List FreedSlot) → length local.ranges ≤ 0 → flush_step local freed ≡ settled_step (kind_settled local.slots freed) local.slots
 flush_settles local freed none = rw (no_ranges (length local.ranges) none) refl
 
-pub settled_frees : (slots : List Queued) (freed : List FreedSlot) → first_of_kind memory_kind slots ≡ None → settled_step slots freed ≡ freed_step slots freed
-settled_frees slots freed is = let none : some_queued memory_kind slots ≡ false = ap (λ (o : Option Queued). is_some o) is in rw none refl
+pub settled_puts : (kind : SlotKind) (slots : List Queued) → list_any (is_to_zero kind) slots ≡ false → settled_step kind slots ≡ put_step kind slots
+settled_puts kind slots none = rw none refl
 
-pub tables_puts : (slots : List Queued) → list_any (is_to_zero table_kind) slots ≡ false → tables_step slots ≡ put_step slots
-tables_puts slots none = rw none refl
-
-pub puts_none : (slots : List Queued) → first_of_kind table_kind slots ≡ None → put_step slots ≡ free
-puts_none slots is = let none : some_queued table_kind slots ≡ false = ap (λ (o : Option Queued). is_some o) is in rw none refl
+pub puts_none : (kind : SlotKind) (slots : List Queued) → first_of_kind kind slots ≡ None → put_step kind slots ≡ free
+puts_none kind slots is = let none : some_queued kind slots ≡ false = ap (λ (o : Option Queued). is_some o) is in rw none refl
 
 -- The queue stays where there is no slot of a kind, or none to be zeroed.
 pub popped_none : (kind : SlotKind) (q l : Queue) → l ≡ record q { slots = others_of_kind kind q.slots } → first_of_kind kind q.slots ≡ None → l ≡ q
@@ -46,14 +43,12 @@ popped_none kind q l is none = is ∙ ap (λ (ms : List Queued). record q { slot
 pub zeroed_none : (kind : SlotKind) (q l : Queue) → l ≡ record q { slots = first_zeroed kind q.slots } → list_any (is_to_zero kind) q.slots ≡ false → l ≡ q
 zeroed_none kind q l is none = is ∙ ap (λ (ms : List Queued). record q { slots = ms }) (none_zeroed kind q.slots none)
 
-told_by : (a b c d : Bool) (g : StepGiven) (local : Queue)
-    → FlushTold (if a then put memory_kind else (if b then free else (if c then zero table_kind else (if d then put table_kind else free)))) g local
-    × FlushPlanned (if a then put memory_kind else (if b then free else (if c then zero table_kind else (if d then put table_kind else free)))) g local
-told_by true b c d g local = (tt, tt)
-told_by false true c d g local = (tt, tt)
-told_by false false true d g local = (tt, tt)
-told_by false false false true g local = (tt, tt)
-told_by false false false false g local = (tt, tt)
+told_by : (a b : Bool) (kind : SlotKind) (g : StepGiven) (local : Queue)
+    → FlushTold (if a then zero kind else (if b then put kind else free)) g local
+    × FlushPlanned (if a then zero kind else (if b then put kind else free)) g local
+told_by true b kind g local = (tt, tt)
+told_by false true kind g local = (tt, tt)
+told_by false false kind g local = (tt, tt)
 
 module _ {P : Type 0} where
   abbrev pub FlushesTo : FlushStep → PoolCore P → Frame P → After P → Type 0
@@ -62,10 +57,11 @@ module _ {P : Type 0} where
   pub flushes_to : (step : FlushStep) (c : PoolCore P) (f : Frame P) (a : After P) → flush_step f.local f.freed.items ≡ step → FlushesTo step c f a → FlushesTo (flush_step f.local f.freed.items) c f a
   flushes_to step c f a is so = let F : FlushStep → Type 0 = λ x. FlushesTo x c f a in subst F (sym is) so
 
-  pub settles_to : (c : PoolCore P) (f : Frame P) (a : After P) → length f.local.ranges ≤ 0 → SettlesTo (settled_step f.local.slots f.freed.items) c f a → FlushesTo (flush_step f.local f.freed.items) c f a
+  pub settles_to : (c : PoolCore P) (f : Frame P) (a : After P) → length f.local.ranges ≤ 0 → SettlesTo (settled_step (kind_settled f.local.slots f.freed.items) f.local.slots) c f a → FlushesTo (flush_step f.local f.freed.items) c f a
   settles_to c f a none so =
-      let told = told_by (some_queued memory_kind f.local.slots) (some_freed memory_kind f.freed.items) (list_any (is_to_zero table_kind) f.local.slots) (some_queued table_kind f.local.slots) nothing_told f.local in
-      flushes_to (settled_step f.local.slots f.freed.items) c f a (flush_settles f.local f.freed.items none) (nothing_told, told.0, told.1, so nothing_told.queue)
+      let kind : SlotKind = kind_settled f.local.slots f.freed.items in
+      let told = told_by (list_any (is_to_zero kind) f.local.slots) (some_queued kind f.local.slots) kind nothing_told f.local in
+      flushes_to (settled_step kind f.local.slots) c f a (flush_settles f.local f.freed.items none) (nothing_told, told.0, told.1, so nothing_told.queue)
 
   -- What the code does with a queue that stayed as it was is that part of a flush which is next then.
   pub can_flush_as : (step other : List Queued → FlushStep) (c : PoolCore P) (f : Frame P) (l : Queue) → l ≡ f.local → step f.local.slots ≡ other f.local.slots → CanFlush (step f.local.slots) c f → CanFlush (other l.slots) c (record f { local = l })

@@ -2,7 +2,7 @@
 use Rattle.std.proofs.Common.{◌≡◌, ◌≢◌, ℕ, ◌<◌, Bool, true, false, List, [], ◌∷◌, ◌++◌, length, refl, sym, ap, ◌∙◌, subst, arith, inl, inr, ◌⊎◌, Option, None, Some, true≢false}
 use Rattle.std.specs.Prelude.{◌==◌, ◌&&◌, not, is_some, IsSome, IfSome, All, if◌then◌else◌}
 use Rattle.std.specs.List.{AllByRecursion, list_any}
-use Rattle.std.proofs.lemmas.Bool.{or_parts}
+use Rattle.std.proofs.lemmas.Bool.{cases_Bool, or_parts}
 use Rattle.std.proofs.lemmas.List.Elements.{All-nil, All-cons, All-head, All-tail, All-same, All-push}
 use Rattle.pool_hall.specs.declared.unit_name.SlotKind.{SlotKind}
 use Rattle.pool_hall.specs.declared.unit_name.SlotKind.TheVariants.{Memory as memory_kind, Table as table_kind, Stack as stack_kind, Heap as heap_kind}
@@ -11,11 +11,12 @@ use Rattle.pool_slots.specs.SlotQueues.{Queue, Queued, IsQueue, IsLeftBy, CanBeZ
 use Rattle.pool_slots.specs.declared.plan.Allocator.{Allocator}
 use Rattle.pool_slots.specs.declared.plan.Plan.{Plan}
 use Rattle.pool_slots.specs.declared.slot_name.SlotName.{SlotName}
+use Rattle.pool_slots.proofs.SlotNames.{kind_self}
 use Rattle.pool_slots.proofs.SlotPops.{can_zero}
 use Rattle.pool_alloc.specs.Answers.{Decommits}
 use Rattle.pool_alloc.specs.Places.{right_to, queued_count}
-use Rattle.pool_alloc.specs.Rows.{FlushStep, run, zero, put, free, some_queued, some_freed, settled_step, flush_step}
-use Rattle.pool_alloc.specs.Sound.{IsPoolPlan, IsPooled, IsSlotName, IsFreedOf, FreesInOrder, MustBeByHand}
+use Rattle.pool_alloc.specs.Rows.{FlushStep, run, zero, put, free, flush_kinds, some_queued, kind_queued, kind_settled, settled_step, flush_step}
+use Rattle.pool_alloc.specs.Sound.{IsPoolPlan, IsPooled, IsSlotName, IsFreedOf, AreOfOneKind}
 use Rattle.pool_alloc.specs.Steps.{no_allocator, first_shard}
 use Rattle.pool_alloc.specs.declared.frame.FreedSlot.{FreedSlot}
 use Rattle.pool_alloc.proofs.FreedSlots.{first_of}
@@ -24,20 +25,14 @@ use Rattle.pool_alloc.proofs.KindCounts.{first_has, first_kind, none_first, firs
 use Rattle.pool_alloc.proofs.PlanPlaces.{at_home}
 use Rattle.pool_alloc.proofs.SlotCounts.{slot_once}
 
--- no memory is queued or waits to be freed, and no table is to be zeroed
-pub record FindsTables (slots : List Queued) (freed : List FreedSlot) : Type 0 where
-  pub no_memory : some_queued memory_kind slots ≡ false
-  pub none_freed : some_freed memory_kind freed ≡ false
-  pub none_to_zero : list_any (is_to_zero table_kind) slots ≡ false
-
 -- a region of a kind is put back, and slots are freed
-abbrev pub FindsPut : SlotKind → List Queued → List FreedSlot → Type 0
-FindsPut memory_kind slots freed = some_queued memory_kind slots ≡ true
-FindsPut table_kind slots freed = FindsTables slots freed × (some_queued table_kind slots ≡ true)
-FindsPut _ slots freed = ⊥
+pub record FindsPut (kind : SlotKind) (slots : List Queued) (freed : List FreedSlot) : Type 0 where
+  pub is : kind_settled slots freed ≡ kind
+  pub none_to_zero : list_any (is_to_zero kind) slots ≡ false
+  pub queued : some_queued kind slots ≡ true
 
 abbrev pub FindsFreed : List Queued → List FreedSlot → Type 0
-FindsFreed slots freed = (some_queued memory_kind slots ≡ false) × ((some_freed memory_kind freed ≡ true) ⊎ (FindsTables slots freed × (some_queued table_kind slots ≡ false)))
+FindsFreed slots freed = some_queued (kind_settled slots freed) slots ≡ false
 
 abbrev pub Finds : FlushStep → Queue → List FreedSlot → Type 0
 Finds run local freed = 0 < length local.ranges
@@ -45,16 +40,16 @@ Finds (zero kind) local freed = (local.ranges ≡ []) × (list_any (is_to_zero k
 Finds (put kind) local freed = (local.ranges ≡ []) × FindsPut kind local.slots freed
 Finds free local freed = (local.ranges ≡ []) × FindsFreed local.slots freed
 
-settled_finds : (a b c d : Bool) (local : Queue) (freed : List FreedSlot) → local.ranges ≡ [] → some_queued memory_kind local.slots ≡ a → some_freed memory_kind freed ≡ b → list_any (is_to_zero table_kind) local.slots ≡ c → some_queued table_kind local.slots ≡ d
-    → Finds (if a then put memory_kind else (if b then free else (if c then zero table_kind else (if d then put table_kind else free)))) local freed
-settled_finds true b c d local freed none queued waits to_zero table = (none, queued)
-settled_finds false true c d local freed none queued waits to_zero table = (none, (queued, inl waits))
-settled_finds false false true d local freed none queued waits to_zero table = (none, to_zero)
-settled_finds false false false true local freed none queued waits to_zero table = (none, (record { no_memory = queued; none_freed = waits; none_to_zero = to_zero }, table))
-settled_finds false false false false local freed none queued waits to_zero table = (none, (queued, inr (record { no_memory = queued; none_freed = waits; none_to_zero = to_zero }, table)))
+settled_finds : (a b : Bool) (kind : SlotKind) (local : Queue) (freed : List FreedSlot) → local.ranges ≡ [] → kind_settled local.slots freed ≡ kind → list_any (is_to_zero kind) local.slots ≡ a → some_queued kind local.slots ≡ b
+    → Finds (if a then zero kind else (if b then put kind else free)) local freed
+settled_finds true b kind local freed none is to_zero queued = (none, to_zero)
+settled_finds false true kind local freed none is to_zero queued = (none, record { is = is; none_to_zero = to_zero; queued = queued })
+settled_finds false false kind local freed none is to_zero queued = (none, (let F : SlotKind → Type 0 = λ k. some_queued k local.slots ≡ false in subst F (sym is) queued))
 
-finds_by : (b : Bool) (local : Queue) (freed : List FreedSlot) → (length local.ranges == 0) ≡ b → Finds (if b then settled_step local.slots freed else run) local freed
-finds_by true local freed none = settled_finds (some_queued memory_kind local.slots) (some_freed memory_kind freed) (list_any (is_to_zero table_kind) local.slots) (some_queued table_kind local.slots) local freed (empty_length local.ranges none) refl refl refl refl
+finds_by : (b : Bool) (local : Queue) (freed : List FreedSlot) → (length local.ranges == 0) ≡ b → Finds (if b then settled_step (kind_settled local.slots freed) local.slots else run) local freed
+finds_by true local freed none =
+    let kind : SlotKind = kind_settled local.slots freed in
+    settled_finds (list_any (is_to_zero kind) local.slots) (some_queued kind local.slots) kind local freed (empty_length local.ranges none) refl refl refl
 finds_by false local freed some = some_length local.ranges some
 
 pub finds : (local : Queue) (freed : List FreedSlot) → Finds (flush_step local freed) local freed
@@ -68,42 +63,37 @@ none_any : {X : Type 0} (p : X → Bool) (xs : List X) → list_any p xs ≡ fal
 none_any p [] none = tt
 none_any p (x ∷ xs) none = let parts = or_parts (p x) (list_any p xs) none in (parts.0, none_any p xs parts.1)
 
-kind_self : (k : SlotKind) → same_kind k k ≡ true
-kind_self memory_kind = refl
-kind_self table_kind = refl
-kind_self stack_kind = refl
-kind_self heap_kind = refl
-
 -- Queued slots of the pool are of its kinds.
 pub names_of : (plan : Plan) (ms : List Queued) → ((name : SlotName) → 0 < queued_count (right_to name) ms → IsSlotName plan name) → AllByRecursion (λ m. IsSlotName plan m.name) ms
 names_of plan [] named = tt
 names_of plan (m ∷ ms) named = (named m.name (omega (arith, slot_once m.name)), names_of plan ms (λ name some. named name (omega (arith, some))))
 
-no_kind : (k : SlotKind) → IsPooled k → same_kind memory_kind k ≡ false → same_kind table_kind k ≡ false → ⊥
-no_kind memory_kind pooled no_memory no_table = true≢false no_memory
-no_kind table_kind pooled no_memory no_table = true≢false no_table
-no_kind k pooled no_memory no_table = pooled
+-- where the first kind that is queued isn't, none of the kinds is
+none_queued : (kinds : List SlotKind) (ms : List Queued) → some_queued (kind_queued kinds ms) ms ≡ false → AllByRecursion (λ k. some_queued k ms ≡ false) kinds
+none_queued [] ms none = tt
+none_queued (k ∷ later) ms none =
+    elim (cases_Bool (some_queued k ms)) [
+      | inl some ↦
+          let is : kind_queued (k ∷ later) ms ≡ k = rw some refl in
+          absurd (true≢false (sym some ∙ ap (λ (x : SlotKind). some_queued x ms) (sym is) ∙ none))
+      | inr other ↦
+          let is : kind_queued (k ∷ later) ms ≡ kind_queued later ms = rw other refl in
+          (other, none_queued later ms (ap (λ (x : SlotKind). some_queued x ms) (sym is) ∙ none))
+    ]
 
-none_left : (plan : Plan) (ms : List Queued) → AllByRecursion (λ m. IsSlotName plan m.name) ms → AllByRecursion (λ m. same_kind memory_kind m.name.kind ≡ false) ms → AllByRecursion (λ m. same_kind table_kind m.name.kind ≡ false) ms → ms ≡ []
-none_left plan [] named no_memory no_table = refl
-none_left plan (m ∷ ms) named no_memory no_table = absurd (no_kind m.name.kind named.0.pooled no_memory.0 no_table.0)
+-- and a slot of the pool is of one of them
+no_kind : (k : SlotKind) (ms : List Queued) → IsPooled k → AllByRecursion (λ x. some_queued x ms ≡ false) flush_kinds → some_queued k ms ≡ false
+no_kind memory_kind ms pooled none = none.0
+no_kind table_kind ms pooled none = none.1.0
+no_kind stack_kind ms pooled none = none.1.1.0
+no_kind k ms pooled none = absurd pooled
 
--- what waits to be freed is of one kind
-freed_other : (xs : List FreedSlot) → All (λ x. x.name.kind ≡ table_kind) xs → some_freed memory_kind xs ≡ false
-freed_other [] each = refl
-freed_other (x ∷ xs) each =
-    let K : FreedSlot → Type 0 = λ y. y.name.kind ≡ table_kind in
-    ap (same_kind memory_kind) (All-head K x xs each)
-
-freed_none : (Q : FreedSlot → Type 0) (xs : List FreedSlot) → All (λ x. x.name.kind ≡ memory_kind) xs → some_freed memory_kind xs ≡ false → All Q xs
-freed_none Q [] each none = All-nil Q
-freed_none Q (x ∷ xs) each none =
-    let K : FreedSlot → Type 0 = λ y. y.name.kind ≡ memory_kind in
-    absurd (true≢false (sym (ap (same_kind memory_kind) (All-head K x xs each)) ∙ none))
-
-freed_some : (kind : SlotKind) (xs : List FreedSlot) → some_freed kind xs ≡ true → 0 < length xs
-freed_some kind [] some = absurd (true≢false (sym some))
-freed_some kind (x ∷ xs) some = omega arith
+none_left : (plan : Plan) (ms : List Queued) → AllByRecursion (λ m. IsSlotName plan m.name) ms → AllByRecursion (λ k. some_queued k ms ≡ false) flush_kinds → ms ≡ []
+none_left plan [] named none = refl
+none_left plan (m ∷ ms) named none =
+    let kind : SlotKind = m.name.kind in
+    let first : first_of_kind kind (m ∷ ms) ≡ Some m = rw (kind_self kind) refl in
+    absurd (true≢false (sym (ap (λ (o : Option Queued). is_some o) first) ∙ no_kind kind (m ∷ ms) named.0.pooled none))
 
 -- A shard of a kind has no slot of another.
 record IsKindShard (plan : Plan) (k : SlotKind) (p : ℕ) : Type 0 where
@@ -141,82 +131,38 @@ pub record FreesFirst (plan : Plan) (ms : List Queued) (xs : List FreedSlot) : T
   pub some : 0 < length xs
   pub apart : All (λ m. (home_of plan m.name).place ≢ first_shard plan xs) ms
 
-pub frees_first : (plan : Plan) (places : ℕ) (ms : List Queued) (xs : List FreedSlot) → IsPoolPlan plan places → All (IsFreedOf plan) xs → AllByRecursion (λ m. IsSlotName plan m.name) ms → FreesInOrder ms xs → FindsFreed ms xs → (ms ≡ [] → 0 < length xs) → FreesFirst plan ms xs
-frees_first plan places ms xs is each named order found left =
-    let no_memory : AllByRecursion (λ m. same_kind memory_kind m.name.kind ≡ false) ms = none_first memory_kind ms (none_there (first_of_kind memory_kind ms) found.0) in
-    elim found.1 [
-      | inl memory ↦
-          let some : 0 < length xs = freed_some memory_kind xs memory in
-          elim order [
-            | inl kinds ↦ record { some = some; apart = apart_homes plan places memory_kind (first_shard plan xs) ms is (first_of (IsKindShard plan memory_kind) plan xs some (kind_homes plan places memory_kind xs is each kinds)) named no_memory }
-            | inr tables ↦ absurd (true≢false (sym memory ∙ freed_other xs tables.1))
-          ]
-      | inr none ↦
-          let empty : ms ≡ [] = none_left plan ms named no_memory (none_first table_kind ms (none_there (first_of_kind table_kind ms) none.1)) in
-          let A : Queued → Type 0 = λ m. (home_of plan m.name).place ≢ first_shard plan xs in
-          record { some = left empty; apart = All-same A ms [] empty (All-nil A) }
-    ]
+pub frees_first : (plan : Plan) (places : ℕ) (ms : List Queued) (xs : List FreedSlot) → IsPoolPlan plan places → All (IsFreedOf plan) xs → AllByRecursion (λ m. IsSlotName plan m.name) ms → AreOfOneKind xs → FindsFreed ms xs → (ms ≡ [] → 0 < length xs) → FreesFirst plan ms xs
+frees_first plan places ms [] is each named order found left =
+    let empty : ms ≡ [] = none_left plan ms named (none_queued flush_kinds ms found) in
+    let none : 0 < length {A = FreedSlot} [] = left empty in
+    absurd (omega (arith, none))
+frees_first plan places ms (x ∷ xs) is each named order found left =
+    let K : FreedSlot → Type 0 = λ y. y.name.kind ≡ order.0 in
+    let kind : x.name.kind ≡ order.0 = All-head K x xs order.1 in
+    let none : some_queued order.0 ms ≡ false = ap (λ (k : SlotKind). some_queued k ms) (sym kind) ∙ found in
+    let some : 0 < length (x ∷ xs) = omega arith in
+    record {
+      some = some;
+      apart = apart_homes plan places order.0 (first_shard plan (x ∷ xs)) ms is (first_of (IsKindShard plan order.0) plan (x ∷ xs) some (kind_homes plan places order.0 (x ∷ xs) is each order.1)) named (none_first order.0 ms (none_there (first_of_kind order.0 ms) none));
+    }
 
--- The order of frees stays, where no memory comes into the queue,
-pub order_kept : (ms ns : List Queued) (xs : List FreedSlot) → (first_of_kind memory_kind ms ≡ None → first_of_kind memory_kind ns ≡ None) → FreesInOrder ms xs → FreesInOrder ns xs
-order_kept ms ns xs stays order =
-    elim order [
-      | inl memories ↦ inl memories
-      | inr tables ↦ inr (stays tables.0, tables.1)
-    ]
+-- Those that wait stay of one kind as slots of a shard are freed,
+pub order_freed : (xs ys : List FreedSlot) → ((Q : FreedSlot → Type 0) → All Q xs → All Q ys) → AreOfOneKind xs → AreOfOneKind ys
+order_freed xs ys fewer order = (order.0, fewer (λ x. x.name.kind ≡ order.0) order.1)
 
-no_memory_zeroed : (kind : SlotKind) (ms : List Queued) → first_of_kind memory_kind ms ≡ None → first_of_kind memory_kind (first_zeroed kind ms) ≡ None
-no_memory_zeroed kind ms none = first_none memory_kind (first_zeroed kind ms) (zeroed_kinds (λ k. same_kind memory_kind k ≡ false) kind ms (none_first memory_kind ms none))
+-- as a region of their kind is put back,
+pub order_put : (kind : SlotKind) (ms : List Queued) (xs : List FreedSlot) (x : FreedSlot) → FindsPut kind ms xs → x.name.kind ≡ kind → AreOfOneKind xs → AreOfOneKind (xs ++ x ∷ [])
+order_put kind ms [] x found is order = let K : FreedSlot → Type 0 = λ y. y.name.kind ≡ kind in (kind, All-push K [] x (All-nil K) is)
+order_put kind ms (y ∷ ys) x found is order =
+    let K : FreedSlot → Type 0 = λ z. z.name.kind ≡ order.0 in
+    (order.0, All-push K (y ∷ ys) x order.1 (is ∙ sym found.is ∙ All-head K y ys order.1))
 
-pub order_zeroed : (kind : SlotKind) (ms : List Queued) (xs : List FreedSlot) → FreesInOrder ms xs → FreesInOrder (first_zeroed kind ms) xs
-order_zeroed kind ms xs order = order_kept ms (first_zeroed kind ms) xs (no_memory_zeroed kind ms) order
-
-changed_name : (b : Bool) (m n : Queued) → n.name ≡ m.name → (if b then n else m).name ≡ m.name
-changed_name true m n same = same
-changed_name false m n same = refl
-
-no_memory_left : (fault : Bool) (old new : Queue) → Decommits fault old new → first_of_kind memory_kind old.slots ≡ None → first_of_kind memory_kind new.slots ≡ None
-no_memory_left true old new told none = first_none memory_kind new.slots (kinds_zip (λ k. same_kind memory_kind k ≡ false) (IsLeftBy (first_slot old.ranges)) (λ m n left. ap (λ (x : Queued). x.name) left.same) old.slots new.slots told.slots (none_first memory_kind old.slots none))
-no_memory_left false old new told none =
-    let name : SlotName = first_slot old.ranges in
-    ap (λ (q : Queue). first_of_kind memory_kind q.slots) told
-    ∙ first_none memory_kind (after_run old).slots (kinds_map (λ k. same_kind memory_kind k ≡ false) _ (λ m. changed_name (same_slot name m.name) m _ refl) old.slots (none_first memory_kind old.slots none))
-
-pub order_decommitted : (fault : Bool) (old new : Queue) (xs : List FreedSlot) → Decommits fault old new → FreesInOrder old.slots xs → FreesInOrder new.slots xs
-order_decommitted fault old new xs told order = order_kept old.slots new.slots xs (no_memory_left fault old new told) order
-
--- as slots of a shard are freed,
-pub order_freed : (ms : List Queued) (xs ys : List FreedSlot) → ((Q : FreedSlot → Type 0) → All Q xs → All Q ys) → FreesInOrder ms xs → FreesInOrder ms ys
-order_freed ms xs ys fewer order =
-    elim order [
-      | inl memories ↦ inl (fewer (λ x. x.name.kind ≡ memory_kind) memories)
-      | inr tables ↦ inr (tables.0, fewer (λ x. x.name.kind ≡ table_kind) tables.1)
-    ]
-
--- and as a region of a kind is put back.
-pub order_put : (kind : SlotKind) (ms : List Queued) (xs : List FreedSlot) (x : FreedSlot) → FindsPut kind ms xs → x.name.kind ≡ kind → FreesInOrder ms xs → FreesInOrder (others_of_kind kind ms) (xs ++ x ∷ [])
-order_put memory_kind ms xs x found is order =
-    elim order [
-      | inl memories ↦ inl (All-push (λ (y : FreedSlot). y.name.kind ≡ memory_kind) xs x memories is)
-      | inr tables ↦ absurd (true≢false (sym found ∙ ap (λ (o : Option Queued). is_some o) tables.0))
-    ]
-order_put table_kind ms xs x found is order =
-    let K : FreedSlot → Type 0 = λ y. y.name.kind ≡ table_kind in
-    let Q : Queued → Type 0 = λ m. same_kind memory_kind m.name.kind ≡ false in
-    let none = none_first memory_kind ms (none_there (first_of_kind memory_kind ms) found.0.no_memory) in
-    inr (
-      first_none memory_kind (others_of_kind table_kind ms) (others_have Q table_kind ms none),
-      elim order [
-        | inl memories ↦ All-push K xs x (freed_none K xs memories found.0.none_freed) is
-        | inr tables ↦ All-push K xs x tables.1 is
-      ],
-    )
-order_put kind ms xs x found is order = absurd found
+-- and where none does.
+pub none_waits : (xs : List FreedSlot) → xs ≡ [] → AreOfOneKind xs
+none_waits xs none = let M : FreedSlot → Type 0 = λ x. x.name.kind ≡ memory_kind in (memory_kind, All-same M xs [] none (All-nil M))
 
 pub puts_some : (kind : SlotKind) (ms : List Queued) (xs : List FreedSlot) → FindsPut kind ms xs → first_of_kind kind ms ≡ None → ⊥
-puts_some memory_kind ms xs found none = true≢false (sym found ∙ ap (λ (o : Option Queued). is_some o) none)
-puts_some table_kind ms xs found none = true≢false (sym found.1 ∙ ap (λ (o : Option Queued). is_some o) none)
-puts_some kind ms xs found none = found
+puts_some kind ms xs found none = true≢false (sym found.queued ∙ ap (λ (o : Option Queued). is_some o) none)
 
 some_slots : (kind : SlotKind) (ms : List Queued) → (first_of_kind kind ms ≡ None → ⊥) → 0 < length ms
 some_slots kind [] some = absurd (some refl)
@@ -225,10 +171,9 @@ some_slots kind (m ∷ ms) some = omega arith
 pub put_some : (kind : SlotKind) (ms : List Queued) (xs : List FreedSlot) → FindsPut kind ms xs → 0 < length ms
 put_some kind ms xs found = some_slots kind ms (puts_some kind ms xs found)
 
--- A table that is put back is known, and all of it can be reached.
-abbrev pub IsBack : SlotKind → Queued → Type 0
-IsBack table_kind m = (n : ℕ) × CanBeZeroed n m.slot × (m.known ≡ true)
-IsBack _ m = Unit {0}
+-- A slot that is put back is known where it is zeroed by hand, and can be zeroed so.
+abbrev pub IsBack : Queued → Type 0
+IsBack m = IfSome m.by_hand (λ n. CanBeZeroed n m.slot × (m.known ≡ true))
 
 known_of : (a b k : Bool) → a ≡ true → b ≡ true → (a && (b && not k)) ≡ false → k ≡ true
 known_of true true true p q e = refl
@@ -236,16 +181,12 @@ known_of true true false p q e = absurd (true≢false e)
 known_of true false k p q e = absurd (true≢false (sym q))
 known_of false b k p q e = absurd (true≢false (sym p))
 
-back_by : (m : Queued) (o : Option ℕ) → IsSome o → IfSome o (λ n. CanBeZeroed n m.slot) → m.known ≡ true → IsBack table_kind m
-back_by m None some can known = absurd (true≢false (sym some))
-back_by m (Some n) some can known = (n, can, known)
+back_by : (m : Queued) (o : Option ℕ) → IfSome o (λ n. CanBeZeroed n m.slot) → (is_some o ≡ true → m.known ≡ true) → IfSome o (λ n. CanBeZeroed n m.slot × (m.known ≡ true))
+back_by m None can known = tt
+back_by m (Some n) can known = (can, known refl)
 
-pub is_back : (kind : SlotKind) (m : Queued) (q : Queue) (xs : List FreedSlot) → IsQueue q → FindsPut kind q.slots xs → first_of_kind kind q.slots ≡ Some m → MustBeByHand m.name.kind m.by_hand → IsBack m.name.kind m
-is_back memory_kind m q xs queue found is by_hand = subst (λ (k : SlotKind). IsBack k m) (first_kind memory_kind m q.slots is) tt
-is_back table_kind m q xs queue found is by_hand =
-    let kind : table_kind ≡ m.name.kind = first_kind table_kind m q.slots is in
-    let some : IsSome m.by_hand = subst (λ (k : SlotKind). MustBeByHand k m.by_hand) (sym kind) by_hand in
-    let to_zero : is_to_zero table_kind m ≡ false = first_has (λ (x : Queued). is_to_zero table_kind x ≡ false) table_kind m q.slots is (none_any (is_to_zero table_kind) q.slots found.0.none_to_zero) in
-    let can = first_has (λ (x : Queued). IfSome x.by_hand (λ n. CanBeZeroed n x.slot)) table_kind m q.slots is (can_zero q queue) in
-    subst (λ (k : SlotKind). IsBack k m) kind (back_by m m.by_hand some can (known_of (same_kind table_kind m.name.kind) (is_some m.by_hand) m.known (sym (ap (same_kind table_kind) kind)) some to_zero))
-is_back kind m q xs queue found is by_hand = absurd found
+pub is_back : (kind : SlotKind) (m : Queued) (q : Queue) (xs : List FreedSlot) → IsQueue q → FindsPut kind q.slots xs → first_of_kind kind q.slots ≡ Some m → IsBack m
+is_back kind m q xs queue found is =
+    let same : same_kind kind m.name.kind ≡ true = ap (same_kind kind) (sym (first_kind kind m q.slots is)) ∙ kind_self kind in
+    let to_zero : is_to_zero kind m ≡ false = first_has (λ (x : Queued). is_to_zero kind x ≡ false) kind m q.slots is (none_any (is_to_zero kind) q.slots found.none_to_zero) in
+    back_by m m.by_hand (first_has (λ (x : Queued). IfSome x.by_hand (λ n. CanBeZeroed n x.slot)) kind m q.slots is (can_zero q queue)) (λ some. known_of (same_kind kind m.name.kind) (is_some m.by_hand) m.known same some to_zero)

@@ -21,6 +21,7 @@ use Rattle.pool_index.specs.Shard.{one_if}
 use Rattle.pool_slots.specs.SlotQueues.{Queue, Queued, after_append, after_run, first_slot, IsLeftBy, first_of_kind, first_zeroed, is_to_zero, others_of_kind, same_kind, zeroed_by, change_at, is_of, front, same_slot, zeroed}
 use Rattle.pool_slots.specs.declared.queued_range.QueuedRange.{QueuedRange}
 use Rattle.pool_alloc.specs.Answers.{Decommits}
+use Rattle.pool_alloc.specs.declared.pool_core.Settings.{Settings}
 use Rattle.pool_alloc.specs.Bounds.{PoolSizes, sizes_of, all_shards, is_home, waiting_for, shards_waiting, all_waiting, flush_left, flushed_allocators, may_zero, zeroings}
 use Rattle.pool_alloc.specs.Places.{right_to, away_count, queued_count}
 use Rattle.pool_alloc.specs.RangeRuns.{runs, IsGrouped}
@@ -38,7 +39,7 @@ use Rattle.pool_alloc.proofs.Runs.{runs_fewer}
 use Rattle.pool_alloc.proofs.SlotIdentity.{length_after_run}
 use Rattle.std.specs.Prelude.{◌&&◌, ◌||◌, not}
 use Rattle.std.specs.List.{AllZip}
-use Rattle.pool_hall.specs.declared.unit_name.SlotKind.TheVariants.{Table as table_kind}
+use Rattle.pool_hall.specs.declared.unit_name.SlotKind.TheVariants.{Table as table_kind, Stack as stack_kind}
 use Rattle.pool_alloc.proofs.KindCounts.{others_long, sum_first, zeroed_long, zeroed_names}
 use Rattle.pool_images.specs.Slots.{decommitted_all}
 
@@ -172,8 +173,9 @@ among_more (a ∷ some) more p among = inr (among_more some more p among)
 
 -- so that of each slot of the pool is one of those that a flush frees
 flushed_at : (plan : Plan) (places : ℕ) (kind : SlotKind) (slot : ℕ) → IsPoolPlan plan places → IsPooled kind → 0 < have_number (allocators_of plan kind) slot → IsAmong (flushed_allocators plan) (home_among (allocators_of plan kind) slot).place
-flushed_at plan places memory_kind slot is pooled has = among_some plan.memories plan.tables _ (home_among_them plan.memories slot is.shards has)
-flushed_at plan places table_kind slot is pooled has = among_more plan.memories plan.tables _ (home_among_them plan.tables slot is.table_shards has)
+flushed_at plan places memory_kind slot is pooled has = among_some plan.memories (plan.tables ++ plan.stacks) _ (home_among_them plan.memories slot is.shards has)
+flushed_at plan places table_kind slot is pooled has = among_more plan.memories (plan.tables ++ plan.stacks) _ (among_some plan.tables plan.stacks _ (home_among_them plan.tables slot is.table_shards has))
+flushed_at plan places stack_kind slot is pooled has = among_more plan.memories (plan.tables ++ plan.stacks) _ (among_more plan.tables plan.stacks _ (home_among_them plan.stacks slot is.stack_shards has))
 flushed_at plan places kind slot is pooled has = absurd pooled
 
 flushed_home : (plan : Plan) (places : ℕ) (name : SlotName) → IsPoolPlan plan places → IsSlotName plan name → IsAmong (flushed_allocators plan) (home_of plan name).place
@@ -362,11 +364,11 @@ none_home z p (m ∷ ms) each =
     omega (arith, ap one_if (ne_eqb (home_of z.plan m.name).place p (All-head H m ms each)), sum_by-cons (λ (x : Queued). is_home z p x.name) m ms, none_home z p ms (All-tail H m ms each))
 
 -- a shard less waits once its slots are freed
-pub free_fewer : (plan : Plan) (places : ℕ) (ms : List Queued) (xs : List FreedSlot) → IsPoolPlan plan places → All (IsFreedOf plan) xs → All (λ m. (home_of plan m.name).place ≢ first_shard plan xs) ms → 0 < length xs
-    → all_waiting (sizes_of plan) (flushed_allocators plan) ms (freed_elsewhere plan (first_shard plan xs) xs) + 1 ≤ all_waiting (sizes_of plan) (flushed_allocators plan) ms xs
-free_fewer plan places ms xs is each apart some =
+pub free_fewer : (s : Settings) (plan : Plan) (places : ℕ) (ms : List Queued) (xs : List FreedSlot) → IsPoolPlan plan places → All (IsFreedOf plan) xs → All (λ m. (home_of plan m.name).place ≢ first_shard plan xs) ms → 0 < length xs
+    → all_waiting (sizes_of s plan) (flushed_allocators plan) ms (freed_elsewhere plan (first_shard plan xs) xs) + 1 ≤ all_waiting (sizes_of s plan) (flushed_allocators plan) ms xs
+free_fewer s plan places ms xs is each apart some =
     let p : ℕ = first_shard plan xs in
-    let z : PoolSizes = sizes_of plan in
+    let z : PoolSizes = sizes_of s plan in
     let A : ℕ → Type 0 = IsAmong (flushed_allocators plan) in
     let among : A p = first_of A plan xs some (All-weaker (IsFreedOf plan) (λ x. A (home_of plan x.name).place) (λ x of. flushed_home plan places x.name is of.named) xs each) in
     all_less z p (flushed_allocators plan) ms ms xs (freed_elsewhere plan p xs) among
@@ -377,17 +379,17 @@ free_fewer plan places ms xs is each apart some =
     })
 
 module _ {P : Type 0} where
-  few_of : (maker : MakerTold) (c : PoolCore P) (ms : List Queued) → IsCore maker c → ((name : SlotName) → queued_count (right_to name) ms ≤ away_count (right_to name) c) → length ms ≤ (sizes_of c.plan).slots
+  few_of : (maker : MakerTold) (c : PoolCore P) (ms : List Queued) → IsCore maker c → ((name : SlotName) → queued_count (right_to name) ms ≤ away_count (right_to name) c) → length ms ≤ (sizes_of c.settings c.plan).slots
   few_of maker c ms core out =
       few_queued c.plan ms
       (λ name. omega (arith, out name, (out_once maker name c core).0))
       (λ name some. (right_is_out maker name c core (omega (arith, some, out name))).named)
 
-  pub few_in_queue : (maker : MakerTold) (i : ℕ) (c : PoolCore P) (f : Frame P) → CanStep maker c f → IsQueuePlace c.plan i → length (queue_at i c).slots ≤ (sizes_of c.plan).slots
+  pub few_in_queue : (maker : MakerTold) (i : ℕ) (c : PoolCore P) (f : Frame P) → CanStep maker c f → IsQueuePlace c.plan i → length (queue_at i c).slots ≤ (sizes_of c.settings c.plan).slots
   few_in_queue maker i c f can place =
       few_of maker c (queue_at i c).slots can.core (λ name. omega (arith, can.fits.once (right_to name), queue_kept maker (right_to name) i c can.core place))
 
-  pub few_in_both : (maker : MakerTold) (i : ℕ) (c : PoolCore P) (f : Frame P) → CanStep maker c f → IsQueuePlace c.plan i → length (after_append (queue_at i c) f.local).slots ≤ (sizes_of c.plan).slots
+  pub few_in_both : (maker : MakerTold) (i : ℕ) (c : PoolCore P) (f : Frame P) → CanStep maker c f → IsQueuePlace c.plan i → length (after_append (queue_at i c) f.local).slots ≤ (sizes_of c.settings c.plan).slots
   few_in_both maker i c f can place =
       few_of maker c (after_append (queue_at i c) f.local).slots can.core
       (λ name. omega (arith, queued_joined (right_to name) (queue_at i c).slots f.local.slots, can.fits.once (right_to name), queue_kept maker (right_to name) i c can.core place))

@@ -11,23 +11,23 @@ use Rattle.pool_limits.specs.LimiterTold.{LimiterTold}
 use Rattle.pool_slots.specs.SlotQueues.{Queue}
 use Rattle.pool_slots.proofs.SlotRuns.{no_slots}
 use Rattle.pool_alloc.proofs.QueueCounts.{leased_first, tables_first}
-use Rattle.pool_alloc.specs.Bounds.{PoolSizes, give_back_bound, sizes_of, flush_left, returns_left, queues_left, next_left, steps_at, steps_left}
+use Rattle.pool_alloc.specs.Bounds.{PoolSizes, give_back_bound, sizes_of, flush_left, returns_left, objects_left, queues_left, next_left, steps_at, steps_left}
 use Rattle.pool_alloc.specs.Calls.{IsGrantOf, IfGranted}
 use Rattle.pool_alloc.specs.Leases.{Lease}
 use Rattle.pool_alloc.specs.PoolTables.{IsTableLease}
 use Rattle.pool_alloc.specs.TableLeases.{LeasedTable}
-use Rattle.pool_alloc.specs.Places.{Thing, leased_count, tables_count, instance_count, taken_count, memory_in, table_in, phase_tables, frame_tables, queued_count, freed_count, kept_count, phase_count, frame_count, phase_instances, phase_memories, frame_memories, away_count}
+use Rattle.pool_alloc.specs.Places.{Thing, leased_count, tables_count, instance_count, taken_count, memory_in, table_in, phase_tables, frame_tables, phase_stacks, stack_in, frame_instances, instances_for, queued_count, freed_count, kept_count, phase_count, frame_count, phase_instances, phase_memories, frame_memories, away_count}
 use Rattle.pool_alloc.specs.Objects.{objects_in, objects_wanted, no_objects, slot_of_object}
 use Rattle.pool_alloc.specs.Reserved.{Reserved}
 use Rattle.pool_alloc.specs.declared.frame.Object.{Object}
 use Rattle.pool_alloc.specs.declared.frame.Object.TheVariants.{Memory, Table}
 use Rattle.pool_alloc.specs.declared.lease.InstanceLease.{InstanceLease}
 use Rattle.pool_alloc.specs.Searches.{AreFull, AreEmpty, IsSearchedBy, IsSearchedAt, IsSearched}
-use Rattle.pool_alloc.specs.Sound.{AreSupported, AreTablesSupported, IsLocal, IsLeaseOf, IsObjectOf, AreLeasesOf, FreesInOrder, IsCore, IsFrame, IsToGrant, Aims, HasNoneWaiting, IsAtRest, IsAiming, IsAllocating, IsReturning, IsShapedAt, AreBegun, IsFreedOf}
-use Rattle.pool_alloc.specs.Stages.{admitted, Stage, no_call, keys, asks, returning, refusing, stage_by, stage_at, stage_of, Follows, Goes}
-use Rattle.pool_alloc.specs.Steps.{memories_wanted, images_wanted, tables_wanted, kind_next, allocator_for, queues_searched}
-use Rattle.pool_alloc.specs.Stepping.{count_granted, grant_count, grant_instances, grant_memories, grant_tables, is_idle}
-use Rattle.pool_alloc.specs.Turns.{Turn, goes, ends, next, flush, search, Row, Left, After, is_granting, failing, returned_next, next_by, is_flushed, after, finished, stepped, gone_to, stays}
+use Rattle.pool_alloc.specs.Sound.{AreSupported, AreTablesSupported, IsLocal, IsLeaseOf, IsObjectOf, AreLeasesOf, AreOfOneKind, IsCore, IsFrame, IsToGrant, Aims, HasNoneWaiting, IsAtRest, IsAiming, IsAllocating, IsReturning, IsShapedAt, AreBegun, IsFreedOf}
+use Rattle.pool_alloc.specs.Stages.{Progress, untested, uncounted, admitted, seeks_stack, Stage, no_call, keys, asks, returning, refusing, progress_by, stage_by, stage_at, stage_of, Follows, Goes, tests_component, counts_component, purging, reserving, releasing}
+use Rattle.pool_alloc.specs.Steps.{memories_wanted, images_wanted, tables_wanted, stacks_wanted, kind_next, allocator_for, queues_searched}
+use Rattle.pool_alloc.specs.Stepping.{count_granted, grant_count, grant_instances, grant_memories, grant_tables, grant_stacks, is_idle}
+use Rattle.pool_alloc.specs.Turns.{Turn, goes, ends, next, flush, search, Row, Left, After, is_granting, failing, returned_next, all_returned, answer_of, next_by, is_flushed, after, finished, stepped, gone_to, stays}
 use Rattle.pool_alloc.specs.declared.pool_core.PoolCore.{PoolCore}
 use Rattle.pool_alloc.specs.declared.pool_core.Settings.{Settings}
 use Rattle.pool_alloc.specs.declared.frame.Ending.{Ending}
@@ -35,8 +35,9 @@ use Rattle.pool_alloc.specs.declared.frame.Ending.TheVariants.{Granted as grante
 use Rattle.pool_alloc.specs.declared.frame.Frame.{Frame}
 use Rattle.pool_alloc.specs.declared.frame.FreedSlot.{FreedSlot}
 use Rattle.pool_alloc.specs.declared.frame.Grant.{Grant}
-use Rattle.pool_alloc.specs.declared.frame.Grant.TheVariants.{Instance}
-use Rattle.pool_alloc.specs.Asked.{ModuleAsked}
+use Rattle.pool_alloc.specs.declared.frame.Grant.TheVariants.{Instance, Stack, Component}
+use Rattle.pool_alloc.specs.declared.frame.Asked.{Asked}
+use Rattle.pool_alloc.specs.declared.frame.Asked.TheVariants.{Stack as stack_asked}
 use Rattle.pool_alloc.specs.declared.frame.Outcome.{Outcome}
 use Rattle.pool_alloc.specs.declared.frame.Outcome.TheVariants as answer
 use Rattle.pool_alloc.specs.declared.frame.Phase.{Phase}
@@ -59,21 +60,58 @@ pub record IsHeld {P : Type 0} (maker : MakerTold) (s : Settings) (plan : Plan) 
   pub queue : IsLocal maker s local
   pub freed_room : (freed.room ≡ 2 * s.batch) × (length freed.items + length local.slots ≤ 2 * s.batch)
   pub freed_each : All (IsFreedOf plan) freed.items
-  pub freed_order : FreesInOrder local.slots freed.items
+  pub freed_order : AreOfOneKind freed.items
   pub objects : AreLeasesOf maker s plan lease
 
--- what a step has in hand: things, and how many instances, memories and tables are counted
+-- what a step has in hand: things, and how many instances, memories, tables and stacks are counted
 pub record Hand : Type 0 where
   pub things : Thing → ℕ
   pub instances : ℕ
   pub memories : ℕ
   pub tables : ℕ
+  pub stacks : ℕ
 
 -- A call that gives back is at one stage, however much it has.
-pub stage_still : (e : Ending) (m n : ℕ) → is_granting e ≡ false → stage_by e m ≡ stage_by e n
-stage_still granted m n e = absurd cc
-stage_still returned m n e = refl
-stage_still (refused x) m n e = refl
+pub stage_still : (asked : Asked) (e : Ending) (m n : ℕ) → is_granting e ≡ false → stage_by asked e m ≡ stage_by asked e n
+stage_still asked granted m n e = absurd cc
+stage_still asked returned m n e = refl
+stage_still asked (refused x) m n e = refl
+
+-- a call that isn't for a stack counts its instance, and is admitted with it
+pub counts_one : (asked : Asked) (n : ℕ) → stacks_wanted asked ≡ 0 → instances_for asked n ≡ n
+counts_one stack_asked n none = absurd (omega (arith, none))
+counts_one asked n none = refl
+
+pub counts_none : (asked : Asked) → instances_for asked 0 ≡ 0
+counts_none stack_asked = refl
+counts_none asked = refl
+
+pub is_admitted : (asked : Asked) (n : ℕ) → stacks_wanted asked ≡ 0 → progress_by asked n ≡ admitted n
+is_admitted stack_asked n none = absurd (omega (arith, none))
+is_admitted asked n none = refl
+
+-- a call for a stack may end where its instance isn't asked for
+abbrev pub MayEnd : Stage → Type 0
+MayEnd (asks uncounted) = ⊥
+MayEnd (asks (admitted n)) = ⊥
+MayEnd counts_component = ⊥
+MayEnd _ = Unit {0}
+
+-- nothing is granted yet of a request for a stack
+pub none_for_stack : {P : Type 0} (s : Settings) (plan : Plan) (asked : Asked) (queues : ℕ) (objects : InstanceLease P) → IsToGrant s plan asked queues objects → asked ≡ stack_asked → objects_in objects ≡ 0
+none_for_stack s plan asked queues objects to_grant is =
+    let no_memory : length (memories_wanted asked) ≡ 0 = rw is refl in
+    let no_table : length (tables_wanted asked) ≡ 0 = rw is refl in
+    omega (arith, to_grant.few, to_grant.few_tables, no_memory, no_table)
+
+-- what a request gives back where it is refused is within what is left of it
+pub returns_less : {P : Type 0} (asked : Asked) (z : PoolSizes) (objects : InstanceLease P) → stacks_wanted asked ≡ 0 → returns_left z objects ≤ objects_left z asked objects
+returns_less stack_asked z objects none = absurd (omega (arith, none))
+returns_less asked z objects none = omega (arith, one_more (objects_in objects + 1) (objects_in objects) (give_back_bound z) refl)
+
+returns_few : {P : Type 0} (asked : Asked) (z : PoolSizes) (objects : InstanceLease P) → (asked ≡ stack_asked → objects_in objects ≡ 0) → returns_left z objects ≤ 1 + objects_left z asked objects
+returns_few stack_asked z objects none = let no : objects_in objects * give_back_bound z ≡ 0 * give_back_bound z = ap (λ (i : ℕ). i * give_back_bound z) (none refl) in omega (arith, no)
+returns_few asked z objects none = omega (arith, one_more (objects_in objects + 1) (objects_in objects) (give_back_bound z) refl)
 
 module _ {P : Type 0} where
   -- a frame in a phase
@@ -95,9 +133,31 @@ module _ {P : Type 0} where
 
   -- what a turn has in hand
   abbrev pub hand : Turn P → Hand
-  hand (goes p) = record { things = λ t. phase_count t p; instances = phase_instances p; memories = phase_memories p; tables = phase_tables p }
-  hand (ends o) = record { things = λ t. count_granted (grant_count t) (Some o); instances = count_granted grant_instances (Some o); memories = count_granted grant_memories (Some o); tables = count_granted grant_tables (Some o) }
-  hand _ = record { things = λ t. 0; instances = 1; memories = 0; tables = 0 }
+  hand (goes p) = record { things = λ t. phase_count t p; instances = phase_instances p; memories = phase_memories p; tables = phase_tables p; stacks = phase_stacks p }
+  hand (ends o) = record { things = λ t. count_granted (grant_count t) (Some o); instances = count_granted grant_instances (Some o); memories = count_granted grant_memories (Some o); tables = count_granted grant_tables (Some o); stacks = count_granted grant_stacks (Some o) }
+  hand _ = record { things = λ t. 0; instances = 1; memories = 0; tables = 0; stacks = 0 }
+
+  -- no grant is answered by an ending
+  pub none_granted : (Q : _) (e : Ending) → IfGranted {P = P} Q (Some (answer_of e))
+  none_granted Q granted = tt
+  none_granted Q returned = tt
+  none_granted Q (refused x) = tt
+
+  pub none_counted : (of : Grant P → ℕ) (e : Ending) → count_granted of (Some (answer_of e)) ≡ 0
+  none_counted of granted = refl
+  none_counted of returned = refl
+  none_counted of (refused x) = refl
+
+  -- what is granted is counted as it was asked for
+  ended_instances : (maker : MakerTold) (s : Settings) (plan : Plan) (asked : Asked) (o : Outcome P) → IfGranted (IsGrantOf maker s plan asked) (Some o) → instances_for asked (count_granted grant_instances (Some o)) ≡ count_granted grant_instances (Some o)
+  ended_instances maker s plan asked (answer.Granted (Instance lease)) is = counts_one asked 1 is.4
+  ended_instances maker s plan asked (answer.Granted (Stack lease)) is = counts_none asked
+  ended_instances maker s plan asked (answer.Granted Component) is = counts_none asked
+  ended_instances maker s plan asked answer.Key is = counts_none asked
+  ended_instances maker s plan asked answer.Returned is = counts_none asked
+  ended_instances maker s plan asked (answer.Purged n) is = counts_none asked
+  ended_instances maker s plan asked (answer.Released n) is = counts_none asked
+  ended_instances maker s plan asked (answer.Refused x) is = counts_none asked
 
   -- the steps that a turn leaves
   abbrev pub turn_steps : PoolSizes → Turn P → Frame P → ℕ
@@ -125,9 +185,10 @@ module _ {P : Type 0} (maker : MakerTold) (old new : LimiterTold) (d : PoolCore 
   -- The sums are those of the step's beginning, with what is in hand.
   pub record Even (h : Hand) (c : PoolCore P) (f : Frame P) : Type 0 where
     pub places : (t : Thing) → kept_count t c + (listed_count t f + h.things t) + away_count t d ≡ kept_count t d + frame_count t e + away_count t c
-    pub instances : c.counters.core_instances + phase_instances e.phase ≡ d.counters.core_instances + h.instances
+    pub instances : c.counters.core_instances + frame_instances e ≡ d.counters.core_instances + instances_for e.asked h.instances
     pub memories : c.counters.memories + frame_memories e ≡ d.counters.memories + (length f.objects.memories.items + h.memories)
     pub tables : c.counters.tables + frame_tables e ≡ d.counters.tables + (length f.objects.tables.items + h.tables)
+    pub stacks : c.counters.stacks + phase_stacks e.phase ≡ d.counters.stacks + h.stacks
 
   -- what is there, whatever comes next
   pub record Kept (c : PoolCore P) (f : Frame P) : Type 0 where
@@ -139,6 +200,7 @@ module _ {P : Type 0} (maker : MakerTold) (old new : LimiterTold) (d : PoolCore 
     pub instances_by_one : c.counters.core_instances ≤ d.counters.core_instances + 1
     pub memories_by_one : c.counters.memories ≤ d.counters.memories + 1
     pub tables_by_one : c.counters.tables ≤ d.counters.tables + 1
+    pub stacks_by_one : c.counters.stacks ≤ d.counters.stacks + 1
 
   -- what a turn wants of the frame
   abbrev pub TurnShape : PoolCore P → Frame P → Turn P → Type 0
@@ -151,19 +213,19 @@ module _ {P : Type 0} (maker : MakerTold) (old new : LimiterTold) (d : PoolCore 
 
   -- and takes the call on so
   abbrev pub TurnGoes : PoolCore P → Frame P → Turn P → Type 0
-  TurnGoes c f (goes p) = GoesNow (stage_at p f.ending (objects_in f.objects)) None
+  TurnGoes c f (goes p) = GoesNow (stage_at p f.asked f.ending (objects_in f.objects)) None
   TurnGoes c f (ends o) = GoesNow no_call (Some o)
   TurnGoes c f stays = Unit {0}
-  TurnGoes c f next = GoesNow (stage_by f.ending (objects_in f.objects)) None
-  TurnGoes c f flush = GoesNow (stage_by f.ending (objects_in f.objects)) None
-  TurnGoes c f (search queues x) = GoesNow (stage_by f.ending (objects_in f.objects)) None × (queues ≤ f.queues → GoesNow (refusing x) None)
+  TurnGoes c f next = GoesNow (stage_by f.asked f.ending (objects_in f.objects)) None
+  TurnGoes c f flush = GoesNow (stage_by f.asked f.ending (objects_in f.objects)) None
+  TurnGoes c f (search queues x) = GoesNow (stage_by f.asked f.ending (objects_in f.objects)) None × (queues ≤ f.queues → GoesNow (refusing x) None)
 
   -- what a row shows of what it leaves, before its turn
   pub record Ready (c : PoolCore P) (f : Frame P) (t : Turn P) : Type 0 where
     pub kept : Kept c f
     pub shape : TurnShape c f t
     pub even : Even (hand t) c f
-    pub fewer : turn_steps (sizes_of d.plan) t f + 1 ≤ steps_left d e
+    pub fewer : turn_steps (sizes_of d.settings d.plan) t f + 1 ≤ steps_left d e
     pub way : TurnGoes c f t
     pub searched : IsSearched d e → TurnSearched c f t
 
@@ -176,17 +238,19 @@ module _ {P : Type 0} (maker : MakerTold) (old new : LimiterTold) (d : PoolCore 
     pub frame : IsFrame maker a.core.settings a.core.plan a.frame
     pub granted_is : IfGranted (IsGrantOf maker a.core.settings a.core.plan e.asked) a.outcome
     pub places : (t : Thing) → kept_count t a.core + (frame_count t a.frame + count_granted (grant_count t) a.outcome) + away_count t d ≡ kept_count t d + frame_count t e + away_count t a.core
-    pub instances : a.core.counters.core_instances + phase_instances e.phase ≡ d.counters.core_instances + (phase_instances a.frame.phase + count_granted grant_instances a.outcome)
+    pub instances : a.core.counters.core_instances + frame_instances e ≡ d.counters.core_instances + (frame_instances a.frame + count_granted grant_instances a.outcome)
     pub memories : a.core.counters.memories + frame_memories e ≡ d.counters.memories + (frame_memories a.frame + count_granted grant_memories a.outcome)
     pub tables : a.core.counters.tables + frame_tables e ≡ d.counters.tables + (frame_tables a.frame + count_granted grant_tables a.outcome)
+    pub stacks : a.core.counters.stacks + phase_stacks e.phase ≡ d.counters.stacks + (phase_stacks a.frame.phase + count_granted grant_stacks a.outcome)
     pub settings : a.core.settings ≡ d.settings
     pub plan : a.core.plan ≡ d.plan
     pub answer : is_some a.outcome ≡ is_idle a.frame.phase
     pub instances_by_one : a.core.counters.core_instances ≤ d.counters.core_instances + 1
     pub memories_by_one : a.core.counters.memories ≤ d.counters.memories + 1
     pub tables_by_one : a.core.counters.tables ≤ d.counters.tables + 1
+    pub stacks_by_one : a.core.counters.stacks ≤ d.counters.stacks + 1
     pub asked : is_idle a.frame.phase ≡ false → a.frame.asked ≡ e.asked
-    pub fewer : steps_at (sizes_of d.plan) a.frame.phase a.frame + 1 ≤ steps_left d e
+    pub fewer : steps_at (sizes_of d.settings d.plan) a.frame.phase a.frame + 1 ≤ steps_left d e
     pub way : GoesNow (stage_of a.frame) a.outcome
     pub searched : IsSearched d e → IsSearched a.core a.frame
 
@@ -198,44 +262,48 @@ module _ {P : Type 0} (maker : MakerTold) (old new : LimiterTold) (d : PoolCore 
   either_ok c true x y one other = one refl
   either_ok c false x y one other = other refl
 
-  goes_ok : (c : PoolCore P) (f : Frame P) (p : Phase P) → Ready c f (goes p) → RowOk (finished c (after f (goes p)))
+  pub goes_ok : (c : PoolCore P) (f : Frame P) (p : Phase P) → Ready c f (goes p) → RowOk (finished c (after f (goes p)))
   goes_ok c f p r =
       record {
         core = r.kept.core;
         frame = frame_of maker c.settings c.plan (gone_to p f) r.kept.held r.shape.1;
         granted_is = tt;
         places = λ t. omega (arith, r.even.places t);
-        instances = omega (arith, r.even.instances);
+        instances = omega (arith, r.even.instances, ap (λ (x : Asked). instances_for x (phase_instances p)) r.kept.asked);
         memories = omega (arith, r.even.memories);
         tables = omega (arith, r.even.tables);
+        stacks = omega (arith, r.even.stacks);
         settings = r.kept.settings;
         plan = r.kept.plan;
         answer = sym r.shape.0;
         instances_by_one = r.kept.instances_by_one;
         memories_by_one = r.kept.memories_by_one;
         tables_by_one = r.kept.tables_by_one;
+        stacks_by_one = r.kept.stacks_by_one;
         asked = λ on. r.kept.asked;
         fewer = r.fewer;
         way = r.way;
         searched = r.searched;
       }
 
-  ends_ok : (c : PoolCore P) (f : Frame P) (o : Outcome P) → Ready c f (ends o) → RowOk (finished c (after f (ends o)))
+  pub ends_ok : (c : PoolCore P) (f : Frame P) (o : Outcome P) → Ready c f (ends o) → RowOk (finished c (after f (ends o)))
   ends_ok c f o r =
       record {
         core = r.kept.core;
         frame = frame_of maker c.settings c.plan (after f (ends o)).frame r.kept.held r.shape.0;
         granted_is = r.shape.1;
         places = λ t. omega (arith, r.even.places t);
-        instances = omega (arith, r.even.instances);
+        instances = omega (arith, r.even.instances, ended_instances maker c.settings c.plan e.asked o r.shape.1);
         memories = omega (arith, r.even.memories);
         tables = omega (arith, r.even.tables);
+        stacks = omega (arith, r.even.stacks);
         settings = r.kept.settings;
         plan = r.kept.plan;
         answer = refl;
         instances_by_one = r.kept.instances_by_one;
         memories_by_one = r.kept.memories_by_one;
         tables_by_one = r.kept.tables_by_one;
+        stacks_by_one = r.kept.stacks_by_one;
         asked = λ on. absurd cc;
         fewer = r.fewer;
         way = r.way;
@@ -244,13 +312,13 @@ module _ {P : Type 0} (maker : MakerTold) (old new : LimiterTold) (d : PoolCore 
 
   -- what was granted so far is given back, or is still to be
   abbrev GoesBack : PoolCore P → Frame P → Type 0
-  GoesBack c f = Kept c f × HasNoneWaiting f × IsReturning f × Even (hand {P = P} next) c f × (returns_left (sizes_of d.plan) f.objects + 1 ≤ steps_left d e) × GoesNow (stage_by f.ending (objects_in f.objects)) None
+  GoesBack c f = Kept c f × HasNoneWaiting f × IsReturning f × Even (hand {P = P} next) c f × (returns_left (sizes_of d.settings d.plan) f.objects + 1 ≤ steps_left d e) × GoesNow (stage_by f.asked f.ending (objects_in f.objects)) None
 
   -- with one object less
   less_ok : (c : PoolCore P) (f : Frame P) (objects : InstanceLease P) (object : Object P) → GoesBack c f → objects_in f.objects ≡ objects_in objects + 1 → AreLeasesOf maker c.settings c.plan objects → IsObjectOf maker c.settings c.plan object
-      → ((t : Thing) → instance_count t f.objects ≡ instance_count t objects + taken_count t (slot_of_object object)) → length f.objects.memories.items ≡ length objects.memories.items + memory_in object → length f.objects.tables.items ≡ length objects.tables.items + table_in object
+      → ((t : Thing) → instance_count t f.objects ≡ instance_count t objects + taken_count t (slot_of_object object)) → length f.objects.memories.items ≡ length objects.memories.items + memory_in object → length f.objects.tables.items ≡ length objects.tables.items + table_in object → stack_in object ≡ 0
       → RowOk (finished c (after (record f { objects = objects }) (goes (UncountObject object))))
-  less_ok c f objects object back long leases is counts memories tables =
+  less_ok c f objects object back long leases is counts memories tables stacks =
       let kept : Kept c f = back.0 in
       let returning : IsReturning f = back.2 in
       let even : Even (hand {P = P} next) c f = back.3 in
@@ -266,49 +334,107 @@ module _ {P : Type 0} (maker : MakerTold) (old new : LimiterTold) (d : PoolCore 
           instances_by_one = kept.instances_by_one;
           memories_by_one = kept.memories_by_one;
           tables_by_one = kept.tables_by_one;
+          stacks_by_one = kept.stacks_by_one;
         };
         shape = (refl, (back.1, returning, is));
-        even = record { places = λ t. omega (arith, even.places t, counts t); instances = even.instances; memories = omega (arith, even.memories, memories); tables = omega (arith, even.tables, tables) };
-        fewer = omega (arith, back.4, one_more (objects_in f.objects) (objects_in objects) (give_back_bound (sizes_of d.plan)) long);
-        way = subst W (stage_still f.ending (objects_in f.objects) (objects_in objects) returning) back.5;
+        even = record { places = λ t. omega (arith, even.places t, counts t); instances = even.instances; memories = omega (arith, even.memories, memories); tables = omega (arith, even.tables, tables); stacks = omega (arith, even.stacks, stacks) };
+        fewer = omega (arith, back.4, one_more (objects_in f.objects) (objects_in objects) (give_back_bound (sizes_of d.settings d.plan)) long);
+        way = subst W (stage_still f.asked f.ending (objects_in f.objects) (objects_in objects) returning) back.5;
         searched = λ s. tt;
       })
 
-  back_ok : (c : PoolCore P) (f : Frame P) (memories : List Lease) (tables : List LeasedTable) → f.objects.memories.items ≡ memories → f.objects.tables.items ≡ tables → GoesBack c f → RowOk (finished c (returned_next memories tables f))
-  back_ok c f [] [] none none_more back =
-      goes_ok c f UncountInstance (record { kept = back.0; shape = (refl, (record { settled = back.1; no_memories = none; no_tables = none_more }, back.2)); even = back.3; fewer = omega (arith, back.4); way = back.5; searched = λ s. tt })
-  back_ok c f (lease ∷ rest) tables is is_more back =
+  -- where none is left
+  ends_stack : (s : Stage) (ending : Ending) (n : ℕ) → is_granting ending ≡ false → MayEnd s → Goes maker old new d e s (stage_by stack_asked ending n) None → Goes maker old new d e s no_call (Some (answer_of ending))
+  ends_stack s granted n back may way = absurd cc
+  ends_stack returning returned n back may way = tt
+  ends_stack no_call returned n back may way = absurd way
+  ends_stack keys returned n back may way = absurd way
+  ends_stack (asks p) returned n back may way = absurd way
+  ends_stack (tests_component info) returned n back may way = absurd way
+  ends_stack counts_component returned n back may way = absurd way
+  ends_stack (refusing y) returned n back may way = absurd way
+  ends_stack purging returned n back may way = absurd way
+  ends_stack reserving returned n back may way = absurd way
+  ends_stack releasing returned n back may way = absurd way
+  ends_stack purging (refused x) n back may way = absurd way
+  ends_stack reserving (refused x) n back may way = absurd way
+  ends_stack releasing (refused x) n back may way = absurd way
+  ends_stack returning (refused x) n back may way = absurd way
+  ends_stack no_call (refused x) n back may way = absurd way
+  ends_stack keys (refused x) n back may way = absurd way
+  ends_stack (tests_component info) (refused x) n back may way = absurd way
+  ends_stack counts_component (refused x) n back may way = absurd may
+  ends_stack (asks untested) (refused x) n back may way = way
+  ends_stack (asks uncounted) (refused x) n back may way = absurd may
+  ends_stack (asks (admitted m)) (refused x) n back may way = absurd may
+  ends_stack (asks seeks_stack) (refused x) n back may way = way
+  ends_stack (refusing y) (refused x) n back may way = way
+
+  all_ok : (asked : Asked) (c : PoolCore P) (f : Frame P) → f.asked ≡ asked → IsAtRest f → GoesBack c f → (asked ≡ stack_asked → MayEnd (stage_of e)) → RowOk (finished c (all_returned asked f))
+  all_ok stack_asked c f is rest back may =
+      let kept : Kept c f = back.0 in
+      let asked : e.asked ≡ stack_asked = sym kept.asked ∙ is in
+      let W : Asked → Type 0 = λ a. GoesNow (stage_by a f.ending (objects_in f.objects)) None in
+      ends_ok c f (answer_of f.ending) (record {
+        kept = kept;
+        shape = (rest, none_granted (IsGrantOf maker c.settings c.plan e.asked) f.ending);
+        even = record {
+          places = λ t. omega (arith, back.3.places t, none_counted {P = P} (grant_count t) f.ending);
+          instances = omega (arith, back.3.instances, ap (λ (a : Asked). instances_for a 1) asked, ap (λ (a : Asked). instances_for a (count_granted {P = P} grant_instances (Some (answer_of f.ending)))) asked);
+          memories = omega (arith, back.3.memories, none_counted {P = P} grant_memories f.ending);
+          tables = omega (arith, back.3.tables, none_counted {P = P} grant_tables f.ending);
+          stacks = omega (arith, back.3.stacks, none_counted {P = P} grant_stacks f.ending);
+        };
+        fewer = omega (arith, back.4);
+        way = ends_stack (stage_of e) f.ending (objects_in f.objects) back.2 (may refl) (subst W is back.5);
+        searched = λ s. tt;
+      })
+  all_ok asked c f is rest back may =
+      goes_ok c f UncountInstance (record { kept = back.0; shape = (refl, (rest, back.2, rw is refl)); even = back.3; fewer = omega (arith, back.4); way = back.5; searched = λ s. tt })
+
+  back_ok : (c : PoolCore P) (f : Frame P) (memories : List Lease) (tables : List LeasedTable) → f.objects.memories.items ≡ memories → f.objects.tables.items ≡ tables → GoesBack c f → (e.asked ≡ stack_asked → MayEnd (stage_of e)) → RowOk (finished c (returned_next memories tables f))
+  back_ok c f [] [] none none_more back may =
+      all_ok f.asked c f refl (record { settled = back.1; no_memories = none; no_tables = none_more }) back (λ stack. may (sym back.0.asked ∙ stack))
+  back_ok c f (lease ∷ rest) tables is is_more back may =
       let L : Lease → Type 0 = IsLeaseOf maker c.settings c.plan in
       let kept : Kept c f = back.0 in
       let all : All L (lease ∷ rest) = All-same L (lease ∷ rest) f.objects.memories.items (sym is) kept.held.objects.0 in
       let long : length f.objects.memories.items ≡ length rest + 1 = ap (length {A = Lease}) is ∙ omega arith in
       less_ok c f (record f.objects { memories = record f.objects.memories { items = rest } }) (Memory lease) back (omega (arith, long)) (All-tail L lease rest all, kept.held.objects.1) (All-head L lease rest all)
-      (λ t. omega (arith, leased_first t lease rest, ap (leased_count t) is)) long (omega arith)
-  back_ok c f [] (lease ∷ rest) none is back =
+      (λ t. omega (arith, leased_first t lease rest, ap (leased_count t) is)) long (omega arith) refl
+  back_ok c f [] (lease ∷ rest) none is back may =
       let L : LeasedTable → Type 0 = IsTableLease maker c.settings c.plan in
       let kept : Kept c f = back.0 in
       let all : All L (lease ∷ rest) = All-same L (lease ∷ rest) f.objects.tables.items (sym is) kept.held.objects.1 in
       let long : length f.objects.tables.items ≡ length rest + 1 = ap (length {A = LeasedTable}) is ∙ omega arith in
       less_ok c f (record f.objects { tables = record f.objects.tables { items = rest } }) (Table lease) back (omega (arith, long)) (kept.held.objects.0, All-tail L lease rest all) (All-head L lease rest all)
-      (λ t. omega (arith, tables_first t lease rest, ap (tables_count t) is)) (omega arith) long
+      (λ t. omega (arith, tables_first t lease rest, ap (tables_count t) is)) (omega arith) long refl
 
   -- a request for which all is granted goes on to its answer
-  granted_way : (stage : Stage) (n : ℕ) (grant : Grant P) → Goes maker old new d e stage (asks (admitted n)) None → n ≡ objects_wanted e.asked → AreSupported d.settings (memories_wanted e.asked) (images_wanted e.asked) → AreTablesSupported d.settings d.plan.totals.table (tables_wanted e.asked) → Goes maker old new d e stage no_call (Some (answer.Granted grant))
-  granted_way no_call n grant way is supported tables = absurd way
-  granted_way keys n grant way is supported tables = absurd way
-  granted_way (asks p) n grant way is supported tables = let F : ℕ → Type 0 = λ m. Follows old new d e p (admitted m) in (subst F is way, supported, tables)
-  granted_way returning n grant way is supported tables = absurd way
-  granted_way (refusing x) n grant way is supported tables = absurd way
+  granted_way : (stage : Stage) (n : ℕ) (lease : InstanceLease P) → Goes maker old new d e stage (asks (admitted n)) None → n ≡ objects_wanted e.asked → AreSupported d.settings (memories_wanted e.asked) (images_wanted e.asked) → AreTablesSupported d.settings d.plan.totals.table (tables_wanted e.asked) → Goes maker old new d e stage no_call (Some (answer.Granted (Instance lease)))
+  granted_way no_call n lease way is supported tables = absurd way
+  granted_way keys n lease way is supported tables = absurd way
+  granted_way (asks p) n lease way is supported tables = let F : ℕ → Type 0 = λ m. Follows old new d e p (admitted m) in (subst F is way, supported, tables)
+  granted_way (tests_component info) n lease way is supported tables = absurd way
+  granted_way counts_component n lease way is supported tables = absurd way
+  granted_way returning n lease way is supported tables = absurd way
+  granted_way (refusing x) n lease way is supported tables = absurd way
+  granted_way purging n lease way is supported tables = absurd way
+  granted_way reserving n lease way is supported tables = absurd way
+  granted_way releasing n lease way is supported tables = absurd way
 
   -- the instance is whole: the call ends with it
-  whole_ready : (c : PoolCore P) (f : Frame P) → Kept c f → HasNoneWaiting f → IsToGrant c.settings c.plan f.asked f.queues f.objects → Even (hand {P = P} next) c f → 1 ≤ steps_left d e → GoesNow (asks (admitted (objects_in f.objects))) None → objects_wanted f.asked ≤ objects_in f.objects → Ready c (record f { objects = no_objects }) (ends (answer.Granted (Instance f.objects)))
+  whole_ready : (c : PoolCore P) (f : Frame P) → Kept c f → HasNoneWaiting f → IsToGrant c.settings c.plan f.asked f.queues f.objects → Even (hand {P = P} next) c f → 1 ≤ steps_left d e → GoesNow (asks (progress_by f.asked (objects_in f.objects))) None → objects_wanted f.asked ≤ objects_in f.objects → Ready c (record f { objects = no_objects }) (ends (answer.Granted (Instance f.objects)))
   whole_ready c f kept settled to_grant even fewer way all =
-      let W : Option ModuleAsked → Type 0 = λ a. (length f.objects.memories.items ≡ length (memories_wanted a)) × (length f.objects.tables.items ≡ length (tables_wanted a)) in
-      let B : Option ModuleAsked → Type 0 = λ a. AreBegun c.settings a f.objects in
-      let A : Settings → Option ModuleAsked → Type 0 = λ s a. AreSupported s (memories_wanted a) (images_wanted a) in
+      let W : Asked → Type 0 = λ a. (length f.objects.memories.items ≡ length (memories_wanted a)) × (length f.objects.tables.items ≡ length (tables_wanted a)) in
+      let B : Asked → Type 0 = λ a. AreBegun c.settings a f.objects in
+      let A : Settings → Asked → Type 0 = λ s a. AreSupported s (memories_wanted a) (images_wanted a) in
       let supported : A d.settings e.asked = subst (A d.settings) kept.asked (subst (λ (s : Settings). A s f.asked) kept.settings to_grant.supported) in
-      let T : Settings → Plan → Option ModuleAsked → Type 0 = λ s p a. AreTablesSupported s p.totals.table (tables_wanted a) in
+      let T : Settings → Plan → Asked → Type 0 = λ s p a. AreTablesSupported s p.totals.table (tables_wanted a) in
       let tables : T d.settings d.plan e.asked = subst (T d.settings d.plan) kept.asked (subst (λ (p : Plan). T d.settings p f.asked) kept.plan (subst (λ (s : Settings). T s c.plan f.asked) kept.settings to_grant.tables)) in
+      let unstacked : stacks_wanted f.asked ≡ 0 = omega (arith, all, to_grant.few, to_grant.few_tables) in
+      let M : Asked → Type 0 = λ a. stacks_wanted a ≡ 0 in
+      let G : Progress → Type 0 = λ p. GoesNow (asks p) None in
       let long : W e.asked = subst W kept.asked (omega (arith, all, to_grant.few, to_grant.few_tables), omega (arith, all, to_grant.few, to_grant.few_tables)) in
       record {
         kept = record {
@@ -320,23 +446,24 @@ module _ {P : Type 0} (maker : MakerTold) (old new : LimiterTold) (d : PoolCore 
           instances_by_one = kept.instances_by_one;
           memories_by_one = kept.memories_by_one;
           tables_by_one = kept.tables_by_one;
+          stacks_by_one = kept.stacks_by_one;
         };
-        shape = (record { settled = settled; no_memories = refl; no_tables = refl }, (kept.held.objects, long.0, subst B kept.asked to_grant.begun, long.1));
-        even = record { places = λ t. omega (arith, even.places t); instances = even.instances; memories = omega (arith, even.memories); tables = omega (arith, even.tables) };
+        shape = (record { settled = settled; no_memories = refl; no_tables = refl }, (kept.held.objects, long.0, subst B kept.asked to_grant.begun, long.1, subst M kept.asked unstacked));
+        even = record { places = λ t. omega (arith, even.places t); instances = even.instances; memories = omega (arith, even.memories); tables = omega (arith, even.tables); stacks = even.stacks };
         fewer = omega (arith, fewer);
-        way = granted_way (stage_of e) (objects_in f.objects) (Instance f.objects) way (omega (arith, long.0, long.1)) supported tables;
+        way = granted_way (stage_of e) (objects_in f.objects) f.objects (subst G (is_admitted f.asked (objects_in f.objects) unstacked) way) (omega (arith, long.0, long.1, subst M kept.asked unstacked)) supported tables;
         searched = λ s. tt;
       }
 
-  next_ok : (c : PoolCore P) (f : Frame P) (ending : Ending) → f.ending ≡ ending → Ready c f next → RowOk (finished c (next_by ending f))
-  next_ok c f granted is r =
-      let z : PoolSizes = sizes_of d.plan in
+  next_ok : (c : PoolCore P) (f : Frame P) (ending : Ending) → f.ending ≡ ending → Ready c f next → (e.asked ≡ stack_asked → MayEnd (stage_of e)) → RowOk (finished c (next_by ending f))
+  next_ok c f granted is r may =
+      let z : PoolSizes = sizes_of d.settings d.plan in
       let A : Ending → Type 0 = λ x. Aims c.settings c.plan x f.asked f.queues f.objects in
       let aim : IsToGrant c.settings c.plan f.asked f.queues f.objects = subst A is r.shape.1 in
       let N : Ending → Type 0 = λ x. next_left z x f.queues f.asked f.objects + 1 ≤ steps_left d e in
       let left = subst N is r.fewer in
       let S : Ending → Type 0 = λ x. IsSearchedBy x (AreEmpty f.queues c f) in
-      let W : Ending → Type 0 = λ x. GoesNow (stage_by x (objects_in f.objects)) None in
+      let W : Ending → Type 0 = λ x. GoesNow (stage_by f.asked x (objects_in f.objects)) None in
       either_ok c (nat_lt (objects_in f.objects) (objects_wanted f.asked)) _ _
       (λ more.
       let left_of_picks = rw more at left in
@@ -349,12 +476,12 @@ module _ {P : Type 0} (maker : MakerTold) (old new : LimiterTold) (d : PoolCore 
         searched = λ s. (subst S is (r.searched s), λ j below. absurd (omega (arith, below)));
       }))
       (λ last. ends_ok c (record f { objects = no_objects }) (answer.Granted (Instance f.objects)) (whole_ready c f r.kept r.shape.0 aim r.even (omega (arith, left)) (subst W is r.way) (ltb-false _ _ last)))
-  next_ok c f returned is r =
-      let N : Ending → Type 0 = λ x. next_left (sizes_of d.plan) x f.queues f.asked f.objects + 1 ≤ steps_left d e in
-      back_ok c f f.objects.memories.items f.objects.tables.items refl refl (r.kept, r.shape.0, ap is_granting is, r.even, subst N is r.fewer, r.way)
-  next_ok c f (refused x) is r =
-      let N : Ending → Type 0 = λ x. next_left (sizes_of d.plan) x f.queues f.asked f.objects + 1 ≤ steps_left d e in
-      back_ok c f f.objects.memories.items f.objects.tables.items refl refl (r.kept, r.shape.0, ap is_granting is, r.even, subst N is r.fewer, r.way)
+  next_ok c f returned is r may =
+      let N : Ending → Type 0 = λ x. next_left (sizes_of d.settings d.plan) x f.queues f.asked f.objects + 1 ≤ steps_left d e in
+      back_ok c f f.objects.memories.items f.objects.tables.items refl refl (r.kept, r.shape.0, ap is_granting is, r.even, subst N is r.fewer, r.way) may
+  next_ok c f (refused x) is r may =
+      let N : Ending → Type 0 = λ x. next_left (sizes_of d.settings d.plan) x f.queues f.asked f.objects + 1 ≤ steps_left d e in
+      back_ok c f f.objects.memories.items f.objects.tables.items refl refl (r.kept, r.shape.0, ap is_granting is, r.even, subst N is r.fewer, r.way) may
 
   flushed : (c : PoolCore P) (f : Frame P) → Kept c f → is_flushed f ≡ true → HasNoneWaiting f
   flushed c f kept done =
@@ -363,26 +490,28 @@ module _ {P : Type 0} (maker : MakerTold) (old new : LimiterTold) (d : PoolCore 
       record { no_ranges = no_slots f.local.ranges f.local.slots none kept.held.queue.owners; no_slots = none; none_freed = empty_length f.freed.items both.1 }
 
   -- What a turn leaves is as the row shows.
-  pub after_ok : (c : PoolCore P) (f : Frame P) (t : Turn P) → Ready c f t → RowOk (finished c (after f t))
-  after_ok c f (goes p) r = goes_ok c f p r
-  after_ok c f (ends o) r = ends_ok c f o r
-  after_ok c f stays r = absurd r.shape
-  after_ok c f next r = next_ok c f f.ending refl r
-  after_ok c f flush r =
+  pub after_ok : (c : PoolCore P) (f : Frame P) (t : Turn P) → Ready c f t → (e.asked ≡ stack_asked → MayEnd (stage_of e)) → RowOk (finished c (after f t))
+  after_ok c f (goes p) r may = goes_ok c f p r
+  after_ok c f (ends o) r may = ends_ok c f o r
+  after_ok c f stays r may = absurd r.shape
+  after_ok c f next r may = next_ok c f f.ending refl r may
+  after_ok c f flush r may =
       either_ok c (is_flushed f) _ _
-      (λ done. next_ok c f f.ending refl (record { kept = r.kept; shape = (flushed c f r.kept done, r.shape); even = r.even; fewer = omega (arith, r.fewer); way = r.way; searched = r.searched }))
+      (λ done. next_ok c f f.ending refl (record { kept = r.kept; shape = (flushed c f r.kept done, r.shape); even = r.even; fewer = omega (arith, r.fewer); way = r.way; searched = r.searched }) may)
       (λ more. goes_ok c f Flush (record { kept = r.kept; shape = (refl, (r.shape, more)); even = r.even; fewer = r.fewer; way = r.way; searched = r.searched }))
-  after_ok c f (search queues x) r =
+  after_ok c f (search queues x) r may =
       either_ok c (nat_lt f.queues queues) _ _
       (λ more. goes_ok c f TakeQueue (record { kept = r.kept; shape = (refl, (r.shape.1, r.shape.2, omega (arith, ltb-true _ _ more, r.shape.0))); even = r.even; fewer = r.fewer; way = r.way.0; searched = r.searched }))
-      (λ last. back_ok c (failing x f) f.objects.memories.items f.objects.tables.items refl refl (
-        record { core = r.kept.core; held = r.kept.held; asked = r.kept.asked; settings = r.kept.settings; plan = r.kept.plan; instances_by_one = r.kept.instances_by_one; memories_by_one = r.kept.memories_by_one; tables_by_one = r.kept.tables_by_one },
+      (λ last.
+      let few : returns_left (sizes_of d.settings d.plan) f.objects ≤ 1 + objects_left (sizes_of d.settings d.plan) f.asked f.objects = returns_few f.asked (sizes_of d.settings d.plan) f.objects (λ stack. none_for_stack c.settings c.plan f.asked f.queues f.objects r.shape.2.to_grant stack) in
+      back_ok c (failing x f) f.objects.memories.items f.objects.tables.items refl refl (
+        record { core = r.kept.core; held = r.kept.held; asked = r.kept.asked; settings = r.kept.settings; plan = r.kept.plan; instances_by_one = r.kept.instances_by_one; memories_by_one = r.kept.memories_by_one; tables_by_one = r.kept.tables_by_one; stacks_by_one = r.kept.stacks_by_one },
         r.shape.1,
         refl,
-        record { places = r.even.places; instances = r.even.instances; memories = r.even.memories; tables = r.even.tables },
-        omega (arith, r.fewer),
+        record { places = r.even.places; instances = r.even.instances; memories = r.even.memories; tables = r.even.tables; stacks = r.even.stacks },
+        omega (arith, r.fewer, few),
         r.way.1 (ltb-false _ _ last),
-      ))
+      ) may)
 
-  pub row_ok : (r : Row (PoolCore P) P) → IsReadyRow r → RowOk (stepped r)
-  row_ok r ready = after_ok r.part r.frame r.turn ready
+  pub row_ok : (r : Row (PoolCore P) P) → IsReadyRow r → (e.asked ≡ stack_asked → MayEnd (stage_of e)) → RowOk (stepped r)
+  row_ok r ready may = after_ok r.part r.frame r.turn ready may

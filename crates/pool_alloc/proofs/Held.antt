@@ -38,6 +38,13 @@ use Rattle.pool_alloc.proofs.PlanPlaces.{IsShardPlace, cell_below}
 use Rattle.pool_alloc.proofs.PoolParts.{HasPlace, place_of, name_in, sound_shard, sound_cell, slot_of_shard}
 use Rattle.pool_alloc.proofs.QueueCounts.{queued_regions, leased_regions, tables_regions, freed_regions}
 use Rattle.pool_alloc.proofs.SlotCounts.{IsUsedAs, used_as, region_rights, region_once, slot_regions, both_regions, one_true, no_units}
+use Rattle.pool_alloc.specs.declared.frame.Phase.TheVariants.{Purge, Release}
+use Rattle.pool_alloc.specs.Places.{release_count, purge_count}
+use Rattle.pool_alloc.specs.declared.purge.PurgeStep.{PurgeStep}
+use Rattle.pool_alloc.specs.declared.purge.PurgeStep.TheVariants as purging_step
+use Rattle.pool_alloc.specs.declared.release.ReleaseStep.{ReleaseStep}
+use Rattle.pool_alloc.specs.declared.release.ReleaseStep.TheVariants as releasing_step
+use Rattle.std.specs.Prelude.{remove}
 
 -- a number is that of one slot
 pub step_once : (first step m l k : ℕ) → 0 < step → first + m * step ≡ k → first + l * step ≡ k → m ≡ l
@@ -93,6 +100,7 @@ module _ {P : Type 0} where
       out_of_shard maker p name c core (record { allocator = a; index = j; role = role }) (subst (λ (y : PoolPart P). 0 < total (right_to name) (shard_units (shard_in y))) (sym is) some)
   out_by maker name p c core (cell_role own) (part.Memory cell) role is for some = absurd (omega (arith, some, out_rights name cell.name cell.out cell.holds))
   out_by maker name p c core (cell_role own) (part.Table cell) role is for some = absurd (omega (arith, some, out_rights name cell.name cell.out cell.holds))
+  out_by maker name p c core (cell_role own) (part.Stack cell) role is for some = absurd (omega (arith, some, out_rights name cell.name cell.out cell.holds))
   out_by maker name p c core queue_role (part.Queue q) role is for some = absurd (omega (arith, some))
   out_by maker name p c core r x role is for some = absurd for
 
@@ -135,6 +143,7 @@ module _ {P : Type 0} where
   gone_by maker name n p c core (shard_role a j) (part.Shard s) role is for some = absurd (omega (arith, some, no_units name n s.kind s.step s.first s.used))
   gone_by maker name n p c core (cell_role own) (part.Memory cell) role is for some = gone_in maker name n p own cell c role (ap cell_of_part is) for.1.named (subst IsPooled (sym for.0) tt) some
   gone_by maker name n p c core (cell_role own) (part.Table cell) role is for some = gone_in maker name n p own cell c role (ap cell_of_part is) for.1.named (subst IsPooled (sym for.0) tt) some
+  gone_by maker name n p c core (cell_role own) (part.Stack cell) role is for some = gone_in maker name n p own cell c role (ap cell_of_part is) for.1.named (subst IsPooled (sym for.0) tt) some
   gone_by maker name n p c core queue_role (part.Queue q) role is for some = absurd (omega (arith, some))
   gone_by maker name n p c core r x role is for some = absurd for
 
@@ -144,7 +153,22 @@ module _ {P : Type 0} where
       let is : part_at it.0 c.parts ≡ it.1 = read_at c.parts it.0 _ it.1 it.2 in
       gone_by maker name n it.0 c core (role_at c.plan it.0) it.1 refl is (subst (IsPartFor maker c.settings (role_at c.plan it.0)) is (core.parts it.0 (inside c.parts it.0 it.1 it.2))) it.3
 
-  -- A frame and queues have no region without its slot.
+  -- A purge and a release have no region without its slot, nor has a frame, nor have queues.
+  purge_regions : (name : SlotName) (step : PurgeStep P) → purge_count (region_of name) step ≤ purge_count (right_to name) step
+  purge_regions name (purging_step.Pick tried) = omega arith
+  purge_regions name (purging_step.TakeRegion other) = omega (arith, slot_regions name other)
+  purge_regions name (purging_step.Forget at held) = object_regions name at
+  purge_regions name (purging_step.PutRegion at held) = object_regions name at
+  purge_regions name (purging_step.Free other) = omega (arith, slot_regions name other)
+
+  release_regions : (name : SlotName) (step : ReleaseStep P) → release_count (region_of name) step ≤ release_count (right_to name) step
+  release_regions name releasing_step.Reserve = omega arith
+  release_regions name (releasing_step.TakeWarm r j) = omega (arith, freed_regions name r.taken.items)
+  release_regions name (releasing_step.TakeRegion r k) = omega (arith, freed_regions name r.taken.items)
+  release_regions name (releasing_step.Decommit r k at held) = omega (arith, freed_regions name (remove r.taken.items k), object_regions name at)
+  release_regions name (releasing_step.PutRegion r k at held) = omega (arith, freed_regions name (remove r.taken.items k), object_regions name at)
+  release_regions name (releasing_step.Free r x) = omega (arith, slot_regions name x.name, freed_regions name r.taken.items)
+
   phase_regions : (name : SlotName) (phase : Phase P) → phase_count (region_of name) phase ≤ phase_count (right_to name) phase
   phase_regions name (TakeRegion other) = omega (arith, slot_regions name other)
   phase_regions name (Empty at held) = object_regions name at
@@ -156,6 +180,8 @@ module _ {P : Type 0} where
   phase_regions name (FreeOne other) = omega (arith, slot_regions name other)
   phase_regions name (UncountObject object) = object_regions name (slot_of_object object)
   phase_regions name (Reset object) = object_regions name (slot_of_object object)
+  phase_regions name (Purge p step) = purge_regions name step
+  phase_regions name (Release step) = release_regions name step
   phase_regions name next = omega arith
 
   pub frame_regions : (name : SlotName) (f : Frame P) → frame_count (region_of name) f ≤ frame_count (right_to name) f

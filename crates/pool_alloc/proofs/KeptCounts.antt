@@ -127,6 +127,7 @@ module _ {P : Type 0} where
   stands maker s (shard_role a j) (part.Shard shard) is = is
   stands maker s (cell_role name) (part.Memory cell) is = (is.0, is.1.named)
   stands maker s (cell_role name) (part.Table cell) is = (is.0, is.1.named)
+  stands maker s (cell_role name) (part.Stack cell) is = (is.0, is.1.named)
   stands maker s queue_role (part.Queue q) is = tt
   stands maker s r x is = absurd is
 

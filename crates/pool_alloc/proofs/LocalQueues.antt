@@ -4,7 +4,7 @@ use Rattle.std.specs.Prelude.{map, IfSome}
 use Rattle.std.specs.List.{AllByRecursion}
 use Rattle.std.proofs.lemmas.List.{length-append, length-map}
 use Rattle.std.proofs.lemmas.Bool.{or_left, cases_Bool}
-use Rattle.std.proofs.lemmas.List.Elements.{All-nil, All-cons, All-append, length_all_zip, All-head, All-tail}
+use Rattle.std.proofs.lemmas.List.Elements.{All-nil, All-cons, All-append, All-same, length_all_zip, All-head, All-tail}
 use Rattle.pool_pages.specs.MakerTold.{MakerTold}
 use Rattle.pool_pages.specs.declared.pages.DecommitBehavior.{DecommitBehavior}
 use Rattle.pool_pages.specs.declared.pages.DecommitBehavior.TheVariants.{Zero, RestoreOriginalMapping}
@@ -15,21 +15,20 @@ use Rattle.pool_alloc.specs.Leases.{memory_slot}
 use Rattle.pool_slots.specs.declared.queued_range.QueueKind.TheVariants.{Memory}
 use Rattle.pool_slots.specs.declared.slot_name.SlotName.{SlotName}
 use Rattle.pool_slots.specs.declared.queued_range.QueuedRange.{QueuedRange}
-use Rattle.pool_slots.specs.SlotQueues.{Queue, Queued, empty_queue, AreDistinct, AreApart, LeavesClean, IsReset, IsLeftBy, holds, owner, with_slot, after_take, taken_into, drained, after_append, first_slot, after_run, CanBeZeroed, first_zeroed, is_to_zero, others_of_kind, same_kind, zeroed, zeroed_by, zeroed_slot}
+use Rattle.pool_slots.specs.SlotQueues.{Queue, Queued, behind, is_of, empty_queue, AreDistinct, AreApart, LeavesClean, IsReset, IsLeftBy, holds, owner, with_slot, after_take, taken_into, drained, after_append, first_slot, after_run, CanBeZeroed, first_zeroed, is_to_zero, others_of_kind, same_kind, zeroed, zeroed_by, zeroed_slot}
 use Rattle.pool_alloc.specs.Answers.{Decommits, Resets}
-use Rattle.pool_alloc.specs.Sound.{IsSettings, IsShared, IsLocal, IsQueuedOf}
+use Rattle.pool_alloc.specs.Sound.{IsSettings, IsShared, IsLocal, IsQueuedOf, MayBeRanged, MustBeByHand}
 use Rattle.pool_alloc.specs.RangeRuns.{runs}
 use Rattle.pool_alloc.proofs.Runs.{one_run, no_runs, grouped_joined, grouped_decommitted}
 use Rattle.pool_alloc.specs.declared.frame.TakenSlot.{TakenSlot}
 use Rattle.pool_alloc.specs.declared.pool_core.Settings.{Settings}
-use Rattle.pool_alloc.proofs.SlotIdentity.{IsOneSlot, queued_of_one, queued_after_run, length_after_run, queued_faulted}
+use Rattle.pool_alloc.proofs.SlotIdentity.{IsOneSlot, first_ranged, queued_of_one, queued_after_run, length_after_run, queued_faulted}
 use Rattle.pool_slots.proofs.SlotChanges.{leaves_clean, queue_joined, owned_joined}
 use Rattle.pool_slots.proofs.SlotNames.{slot_self}
 use Rattle.pool_slots.proofs.SlotRuns.{faulted_owned}
 use Rattle.pool_alloc.proofs.QueueRuns.{run_queue, run_owners}
 use Rattle.pool_hall.specs.declared.unit_name.SlotKind.{SlotKind}
-use Rattle.pool_slots.specs.declared.queued_range.QueueKind.{QueueKind}
-use Rattle.pool_hall.specs.declared.unit_name.SlotKind.{SlotKind}
+use Rattle.pool_hall.specs.declared.unit_name.SlotKind.TheVariants.{Stack as stack_kind}
 use Rattle.pool_slots.specs.declared.queued_range.QueueKind.{QueueKind}
 use Rattle.pool_slots.specs.SlotNames.{slot_kind}
 use Rattle.pool_slots.proofs.SlotPops.{can_zero, queue_popped, queue_zeroed}
@@ -47,6 +46,7 @@ drained_shared maker s q settings range_room slot_room =
       range_room = range_room;
       slot_room = slot_room;
       regions = All-nil (IsQueuedOf maker s);
+      ranged = All-nil (MayBeRanged s);
       queue = record { range_room = omega arith; slot_room = omega arith; distinct = tt; each = tt };
       grouped = omega arith;
     }
@@ -55,7 +55,7 @@ pub taken_shared : (maker : MakerTold) (s : Settings) (q : Queue) → IsSettings
 taken_shared maker s q settings range_room slot_room = drained_shared maker s (record q { takes = (after_take q).takes }) settings range_room slot_room
 
 pub local_of_shared : (maker : MakerTold) (s : Settings) (q : Queue) → IsShared maker s q → IsLocal maker s q
-local_of_shared maker s q shared = record { owners = shared.owners; range_room = shared.range_room; slot_room = shared.slot_room; regions = shared.regions; queue = shared.queue; grouped = shared.grouped }
+local_of_shared maker s q shared = record { owners = shared.owners; range_room = shared.range_room; slot_room = shared.slot_room; regions = shared.regions; ranged = shared.ranged; queue = shared.queue; grouped = shared.grouped }
 
 -- a local queue that a queue was taken into
 pub taken_local : (maker : MakerTold) (s : Settings) (spare q : Queue) → IsLocal maker s spare → IsLocal maker s q → IsLocal maker s (taken_into spare q)
@@ -65,6 +65,7 @@ taken_local maker s spare q had local =
       range_room = had.range_room;
       slot_room = had.slot_room;
       regions = local.regions;
+      ranged = local.ranged;
       queue = record {
         range_room = omega (arith, local.queue.range_room, local.range_room, had.range_room);
         slot_room = omega (arith, local.queue.slot_room, local.slot_room, had.slot_room);
@@ -81,6 +82,7 @@ drained_local maker s q range_room slot_room =
       range_room = range_room;
       slot_room = slot_room;
       regions = All-nil (IsQueuedOf maker s);
+      ranged = All-nil (MayBeRanged s);
       queue = record { range_room = omega arith; slot_room = omega arith; distinct = tt; each = tt };
       grouped = omega arith;
     }
@@ -93,6 +95,7 @@ joined_local maker s q more shared local apart one short =
       range_room = shared.range_room;
       slot_room = shared.slot_room;
       regions = All-append (IsQueuedOf maker s) q.slots more.slots shared.regions local.regions;
+      ranged = All-append (MayBeRanged s) q.ranges more.ranges shared.ranged local.ranged;
       queue = queue_joined q more shared.queue local.queue (omega (arith, shared.range_room, shared.short)) (omega (arith, shared.slot_room, shared.short, shared.slots)) shared.owners local.owners apart;
       grouped = grouped_joined q more shared.grouped local.grouped;
     }
@@ -106,6 +109,7 @@ joined_shared maker s q more shared local one some short =
       range_room = local.range_room;
       slot_room = local.slot_room;
       regions = local.regions;
+      ranged = local.ranged;
       queue = local.queue;
       grouped = local.grouped;
     }
@@ -115,27 +119,37 @@ pub record IsStillLocal (maker : MakerTold) (s : Settings) (old new : Queue) : T
   pub queue : IsLocal maker s new
   pub long : length new.slots ≡ length old.slots
 
-pub decommitted_local : (maker : MakerTold) (s : Settings) (fault : Bool) (old new : Queue) → Decommits fault old new → IsLocal maker s old → IsStillLocal maker s old new
-decommitted_local maker s true old new faulted local =
+all_behind : (Q : QueuedRange → Type 0) (p : QueuedRange → Bool) (rs : List QueuedRange) → All Q rs → All Q (behind p rs)
+all_behind Q p [] each = each
+all_behind Q p (r ∷ rs) each =
+    elim (cases_Bool (p r)) [
+      | inl is ↦ rw is (all_behind Q p rs (All-tail Q r rs each))
+      | inr other ↦ rw other each
+    ]
+
+pub decommitted_local : (maker : MakerTold) (s : Settings) (fault : Bool) (old new : Queue) → Decommits fault old new → 0 < length old.ranges → IsLocal maker s old → IsStillLocal maker s old new
+decommitted_local maker s true old new faulted some local =
     record {
       queue = record {
         owners = faulted_owned old new faulted;
         range_room = faulted.range_room ∙ local.range_room;
         slot_room = faulted.slot_room ∙ local.slot_room;
-        regions = queued_faulted maker s (first_slot old.ranges) old.slots new.slots faulted.slots local.regions;
+        regions = queued_faulted maker s (first_slot old.ranges) old.slots new.slots (first_ranged s old.ranges local.ranged some) faulted.slots local.regions;
+        ranged = All-same (MayBeRanged s) new.ranges [] faulted.ranges (All-nil (MayBeRanged s));
         queue = faulted.sound;
         grouped = grouped_decommitted true old new faulted local.grouped;
       };
       long = sym (length_all_zip (IsLeftBy (first_slot old.ranges)) old.slots new.slots faulted.slots);
     }
-decommitted_local maker s false old new run local =
+decommitted_local maker s false old new run some local =
     let after : IsStillLocal maker s old (after_run old) =
     record {
       queue = record {
         owners = run_owners old local.queue local.owners;
         range_room = local.range_room;
         slot_room = local.slot_room;
-        regions = queued_after_run maker s old local.regions;
+        regions = queued_after_run maker s old some local.ranged local.regions;
+        ranged = all_behind (MayBeRanged s) (is_of (first_slot old.ranges)) old.ranges local.ranged;
         queue = run_queue old local.owners local.queue;
         grouped = grouped_decommitted false old (after_run old) refl local.grouped;
       };
@@ -161,6 +175,7 @@ rest_local maker s kind q none local =
       range_room = local.range_room;
       slot_room = local.slot_room;
       regions = all_others (IsQueuedOf maker s) kind q.slots local.regions;
+      ranged = local.ranged;
       queue = queue_popped kind q local.queue;
       grouped = no_runs q.ranges (length (others_of_kind kind q.slots)) none;
     }
@@ -171,7 +186,9 @@ one_zeroed n s = ap (λ (b : Bool). record (identity s) { tells = b }) (told_sam
 
 zeroed_if : (maker : MakerTold) (s : Settings) (m : Queued) (o : Option ℕ) → m.by_hand ≡ o → IfSome o (λ n. CanBeZeroed n m.slot) → IsQueuedOf maker s m → IsQueuedOf maker s (zeroed_by o m)
 zeroed_if maker s m None is can of = of
-zeroed_if maker s m (Some n) is can of = record { slot = queued_of_one maker s m.name.kind m.name.slot m.slot (zeroed_slot n m.slot) (one_zeroed n m.slot) of.slot; by_hand = of.by_hand }
+zeroed_if maker s m (Some n) is can of =
+    let hand : m.name.kind ≡ stack_kind → s.stack_zeroing ≡ false → m.by_hand ≡ None = λ kind off. (let H : SlotKind → Type 0 = λ k. MustBeByHand s k m.by_hand in let by : H stack_kind = subst H kind of.by_hand in by.left off) in
+    record { slot = queued_of_one maker s m.name.kind m.name.slot m.slot (zeroed_slot n m.slot) (one_zeroed n m.slot) (λ kind off. absurd (cc (sym is ∙ hand kind off))) of.slot; by_hand = of.by_hand }
 
 all_zeroed : (maker : MakerTold) (s : Settings) (kind : SlotKind) (ms : List Queued) → AllByRecursion (λ m. IfSome m.by_hand (λ n. CanBeZeroed n m.slot)) ms → All (IsQueuedOf maker s) ms → All (IsQueuedOf maker s) (first_zeroed kind ms)
 all_zeroed maker s kind [] can each = each
@@ -190,6 +207,7 @@ zeroed_local maker s kind q none local =
       range_room = local.range_room;
       slot_room = local.slot_room;
       regions = all_zeroed maker s kind q.slots (can_zero q local.queue) local.regions;
+      ranged = local.ranged;
       queue = queue_zeroed kind q local.queue none;
       grouped = no_runs q.ranges (length (first_zeroed kind q.slots)) none;
     }
@@ -210,8 +228,8 @@ alone name m is =
     let H : SlotName → Type 0 = λ n. holds n (m ∷ []) ≡ true in
     subst H is (or_left _ _ (slot_self m.name))
 
-one_slot_local : (maker : MakerTold) (s : Settings) (kind : QueueKind) (ranges : List ByteRange) (i : ℕ) (m : Queued) (q : Queue) → m.name ≡ name_queued kind i → q.range_room ≡ 2 * s.batch → q.slot_room ≡ 2 * s.batch → 1 ≤ s.batch → length ranges ≤ 2 * s.batch → IsQueuedOf maker s m → q.ranges ≡ ranges_listed kind i ranges → q.slots ≡ m ∷ [] → LeavesClean q.ranges m → IsLocal maker s q
-one_slot_local maker s kind ranges i m q named range_room slot_room some few of is holds_it leaves =
+one_slot_local : (maker : MakerTold) (s : Settings) (kind : QueueKind) (ranges : List ByteRange) (i : ℕ) (m : Queued) (q : Queue) → m.name ≡ name_queued kind i → q.range_room ≡ 2 * s.batch → q.slot_room ≡ 2 * s.batch → 1 ≤ s.batch → length ranges ≤ 2 * s.batch → IsQueuedOf maker s m → All (MayBeRanged s) (ranges_listed kind i ranges) → q.ranges ≡ ranges_listed kind i ranges → q.slots ≡ m ∷ [] → LeavesClean q.ranges m → IsLocal maker s q
+one_slot_local maker s kind ranges i m q named range_room slot_room some few of ranged is holds_it leaves =
     let H : QueuedRange → Type 0 = λ r. holds (owner r) q.slots ≡ true in
     let held : holds (name_queued kind i) q.slots ≡ true = rw holds_it (alone (name_queued kind i) m named) in
     let long : length q.ranges ≡ length ranges = ap length is ∙ length-map ranges _ in
@@ -224,6 +242,7 @@ one_slot_local maker s kind ranges i m q named range_room slot_room some few of 
       range_room = range_room;
       slot_room = slot_room;
       regions = subst A (sym holds_it) (All-cons (IsQueuedOf maker s) m [] of (All-nil (IsQueuedOf maker s)));
+      ranged = All-same (MayBeRanged s) q.ranges (ranges_listed kind i ranges) is ranged;
       queue = record {
         range_room = omega arith;
         slot_room = omega arith;
@@ -233,21 +252,26 @@ one_slot_local maker s kind ranges i m q named range_room slot_room some few of 
       grouped = omega (arith, ap runs is, one_run kind i ranges, one);
     }
 
+-- ranges of a slot may be queued, unless it is a stack's where those aren't given back zeroed
+pub listed_may : (s : Settings) (kind : QueueKind) (slot : ℕ) (ranges : List ByteRange) → (slot_kind kind ≡ stack_kind → s.stack_zeroing ≡ true) → All (MayBeRanged s) (ranges_listed kind slot ranges)
+listed_may s kind slot [] may = All-nil (MayBeRanged s)
+listed_may s kind slot (r ∷ rs) may = All-cons (MayBeRanged s) (record { kind = kind; slot = record { 0 = slot }; range = r }) (ranges_listed kind slot rs) may (listed_may s kind slot rs may)
+
 -- the local queue once an object was reset into it: it has that slot alone
 pub record IsResetLocal (maker : MakerTold) (s : Settings) (q : Queue) : Type 0 where
   pub queue : IsLocal maker s q
   pub one : length q.slots ≡ 1
 
 -- The local queue after a reset of a slot that it is told of: the ranges are few, and all of that slot.
-pub reset_local : (maker : MakerTold) (s : Settings) (kind : QueueKind) (ranges : List ByteRange) (i : ℕ) (m : Queued) (q : Queue) → m.name ≡ name_queued kind i → IsSettings s → IsLocal maker s q → q.ranges ≡ [] → q.slots ≡ [] → length ranges ≤ 2 * s.batch → IsQueuedOf maker s m → LeavesClean (ranges_listed kind i ranges) m → IsResetLocal maker s (with_slot m (record q { ranges = q.ranges ++ ranges_listed kind i ranges }))
-reset_local maker s kind ranges i m q named settings local none no_slots few of leaves =
+pub reset_local : (maker : MakerTold) (s : Settings) (kind : QueueKind) (ranges : List ByteRange) (i : ℕ) (m : Queued) (q : Queue) → m.name ≡ name_queued kind i → IsSettings s → IsLocal maker s q → q.ranges ≡ [] → q.slots ≡ [] → length ranges ≤ 2 * s.batch → IsQueuedOf maker s m → All (MayBeRanged s) (ranges_listed kind i ranges) → LeavesClean (ranges_listed kind i ranges) m → IsResetLocal maker s (with_slot m (record q { ranges = q.ranges ++ ranges_listed kind i ranges }))
+reset_local maker s kind ranges i m q named settings local none no_slots few of ranged leaves =
     let listed : List QueuedRange = ranges_listed kind i ranges in
     let q' : Queue = with_slot m (record q { ranges = q.ranges ++ listed }) in
     let first : q.ranges ++ listed ≡ listed = ap (λ (rs : List QueuedRange). rs ++ listed) none in
     let only : q.slots ++ m ∷ [] ≡ m ∷ [] = ap (λ (ms : List Queued). ms ++ m ∷ []) no_slots in
     let L : List QueuedRange → Type 0 = λ rs. LeavesClean rs m in
     record {
-      queue = one_slot_local maker s kind ranges i m q' named local.range_room local.slot_room settings.batch.0 few of first only (subst L (sym first) leaves);
+      queue = one_slot_local maker s kind ranges i m q' named local.range_room local.slot_room settings.batch.0 few of ranged first only (subst L (sym first) leaves);
       one = ap length only;
     }
 

@@ -40,7 +40,7 @@ begins_of id k maker d (Some i) some ends =
       inside = omega (arith, all, zeros, rounded_up_above maker.page (length i.bytes) some, leb-true _ _ ends);
     }
 
-both_true : (a b : Bool) → (a && b) ≡ true → (a ≡ true) × (b ≡ true)
+pub both_true : (a b : Bool) → (a && b) ≡ true → (a ≡ true) × (b ≡ true)
 both_true true b is = (refl, is)
 both_true false b is = absurd (cc is)
 

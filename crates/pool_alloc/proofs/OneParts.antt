@@ -12,17 +12,24 @@ use Rattle.pool_slots.specs.declared.errors.AllocError.{AllocError}
 use Rattle.pool_alloc.specs.Leases.{Lease}
 use Rattle.pool_pages.specs.Told.{Told}
 use Rattle.pool_alloc.specs.TableLeases.{LeasedTable}
-use Rattle.pool_alloc.specs.Rows.{FlushStep, run, zero, put, free, flush_step, merged, in_queue, reserved, validated, counted, paged, was_made, was_made_table, was_reset, put_first, flush_row, row_of}
+use Rattle.pool_alloc.specs.Rows.{stacks_tested, FlushStep, run, zero, put, free, flush_step, merged, in_queue, reserved, validated, counted, paged, was_made, was_made_table, was_reset, put_first, flush_row, row_of, component_tested, component_counted}
 use Rattle.pool_alloc.specs.Steps.{StepGiven, queue_at, queue_tried, with_shard, with_cell, with_queue}
 use Rattle.pool_alloc.specs.Stepping.{StepsTo, ChangesOnePart}
 use Rattle.pool_alloc.specs.Turns.{After}
 use Rattle.pool_alloc.specs.declared.pool_core.PoolCore.{PoolCore}
 use Rattle.pool_alloc.specs.declared.frame.Frame.{Frame}
 use Rattle.pool_alloc.specs.declared.frame.Phase.{Phase}
-use Rattle.pool_alloc.specs.declared.frame.Object.TheVariants.{Memory, Table}
+use Rattle.pool_alloc.specs.declared.frame.Object.TheVariants.{Memory, Table, Stack}
 use Rattle.pool_alloc.specs.declared.frame.TakenSlot.{TakenSlot}
 use Rattle.pool_slots.specs.declared.slot_name.SlotName.{SlotName}
-use Rattle.pool_alloc.specs.declared.frame.Phase.TheVariants.{Idle, Key, Validate, CountInstance, Pick, TakeQueue, TakeRegion, Empty, Instantiate, MakeMemory, MakeTable, CountObject, PutBack, FreeOne, UncountObject, Reset, Merge, Flush, UncountInstance}
+use Rattle.pool_alloc.specs.declared.frame.Phase.TheVariants.{Idle, Key, Validate, TestStack, CountInstance, Pick, TakeQueue, TakeRegion, Empty, Instantiate, MakeMemory, MakeTable, CountObject, PutBack, FreeOne, UncountObject, Reset, Merge, Flush, UncountInstance, ValidateComponent, CountComponent, UncountComponent, Purge, Release}
+use Rattle.pool_alloc.specs.Purges.{has_turns, pick_affine_row, purge_row}
+use Rattle.pool_alloc.specs.Releases.{reserve_row, release_row}
+use Rattle.pool_alloc.specs.declared.purge.PurgeCursor.{PurgeCursor}
+use Rattle.pool_alloc.specs.declared.purge.PurgeStep.{PurgeStep}
+use Rattle.pool_alloc.specs.declared.purge.PurgeStep.TheVariants as purging_step
+use Rattle.pool_alloc.specs.declared.release.ReleaseStep.{ReleaseStep}
+use Rattle.pool_alloc.specs.declared.release.ReleaseStep.TheVariants as releasing_step
 
 module _ {P : Type 0} where
   one_shard : (j : ℕ) (shard : ShardState) (c : PoolCore P) → ChangesOnePart c (with_shard j shard c)
@@ -45,6 +52,18 @@ module _ {P : Type 0} where
   one_counted : (b : Bool) (c : PoolCore P) (f : Frame P) → ChangesOnePart c (counted b c f).part
   one_counted true c f = inr (inr (inr (inr (c.counters.core_instances + 1, inr (inl refl)))))
   one_counted false c f = inr (inr (inr (inr (c.counters.core_instances + 1, inr (inl refl)))))
+
+  one_stack_tested : (b : Bool) (c : PoolCore P) (f : Frame P) → ChangesOnePart c (stacks_tested b c f).part
+  one_stack_tested true c f = inl refl
+  one_stack_tested false c f = inl refl
+
+  one_tested : (o : Option Unsupported) (c : PoolCore P) (f : Frame P) → ChangesOnePart c (component_tested o c f).part
+  one_tested (Some rule) c f = inl refl
+  one_tested None c f = inl refl
+
+  one_component : (b : Bool) (c : PoolCore P) (f : Frame P) → ChangesOnePart c (component_counted b c f).part
+  one_component true c f = inr (inr (inr (inr (_, inr (inr (inr (inr (inr refl))))))))
+  one_component false c f = inr (inr (inr (inr (_, inr (inr (inr (inr (inr refl))))))))
 
   one_paged : (fault : Bool) (slot : TakenSlot) (held : Slot) (next : Phase P) (c : PoolCore P) (f : Frame P) → ChangesOnePart c (paged fault slot held next c f).part
   one_paged true slot held next c f = inl refl
@@ -76,10 +95,34 @@ module _ {P : Type 0} where
   one_flushed (put kind) queue c f = one_put (first_of_kind kind f.local.slots) (others_of_kind kind f.local.slots) c f
   one_flushed free queue c f = one_shard _ _ c
 
+  one_affine : (b : Bool) (p : PurgeCursor) (tried : ℕ) (c : PoolCore P) (f : Frame P) → ChangesOnePart c (pick_affine_row b p tried c f).part
+  one_affine true p tried c f = one_shard _ _ c
+  one_affine false p tried c f = inl refl
+
+  one_purged : (g : StepGiven) (p : PurgeCursor) (step : PurgeStep P) (c : PoolCore P) (f : Frame P) → ChangesOnePart c (purge_row g p step c f).part
+  one_purged g p (purging_step.Pick tried) c f = one_affine (has_turns c.settings.max_memories_per_module c.plan) p tried c f
+  one_purged g p (purging_step.TakeRegion name) c f = one_cell name _ c
+  one_purged g p (purging_step.Forget at held) c f = inl refl
+  one_purged g p (purging_step.PutRegion at held) c f = one_cell at.name _ c
+  one_purged g p (purging_step.Free name) c f = one_shard _ _ c
+
+  one_reserve : (wants : Bool) (c : PoolCore P) (f : Frame P) → ChangesOnePart c (reserve_row wants c f).part
+  one_reserve true c f = inl refl
+  one_reserve false c f = inl refl
+
+  one_released : (g : StepGiven) (step : ReleaseStep P) (c : PoolCore P) (f : Frame P) → ChangesOnePart c (release_row g step c f).part
+  one_released g releasing_step.Reserve c f = one_reserve g.wants c f
+  one_released g (releasing_step.TakeWarm r j) c f = one_shard _ _ c
+  one_released g (releasing_step.TakeRegion r k) c f = one_cell _ _ c
+  one_released g (releasing_step.Decommit r k at held) c f = inl refl
+  one_released g (releasing_step.PutRegion r k at held) c f = one_cell at.name _ c
+  one_released g (releasing_step.Free r x) c f = one_shard _ _ c
+
   one_part : (g : StepGiven) (p : Phase P) (c : PoolCore P) (f : Frame P) → ChangesOnePart c (row_of g p c f).part
   one_part g Idle c f = inl refl
   one_part g Key c f = inr (inr (inr (inr (_, inl refl))))
   one_part g Validate c f = one_validated _ g.wants c f
+  one_part g TestStack c f = one_stack_tested _ c f
   one_part g CountInstance c f = one_counted _ c f
   one_part g (Pick tried) c f = one_shard _ _ c
   one_part g TakeQueue c f = one_queue _ _ c
@@ -89,19 +132,27 @@ module _ {P : Type 0} where
   one_part g (MakeMemory slot held) c f = one_made slot held _ c f
   one_part g (MakeTable slot region) c f = one_made_table slot region _ c f
   one_part g (CountObject (Memory lease)) c f = inr (inr (inr (inr (_, inr (inr (inl refl))))))
-  one_part g (CountObject (Table lease)) c f = inr (inr (inr (inr (_, inr (inr (inr refl))))))
+  one_part g (CountObject (Table lease)) c f = inr (inr (inr (inr (_, inr (inr (inr (inl refl)))))))
+  one_part g (CountObject (Stack lease)) c f = inr (inr (inr (inr (_, inr (inr (inr (inr (inl refl))))))))
   one_part g (PutBack at held) c f = one_cell at.name _ c
   one_part g (FreeOne name) c f = one_shard _ _ c
   one_part g (UncountObject (Memory lease)) c f = inr (inr (inr (inr (_, inr (inr (inl refl))))))
-  one_part g (UncountObject (Table lease)) c f = inr (inr (inr (inr (_, inr (inr (inr refl))))))
+  one_part g (UncountObject (Table lease)) c f = inr (inr (inr (inr (_, inr (inr (inr (inl refl)))))))
+  one_part g (UncountObject (Stack lease)) c f = inr (inr (inr (inr (_, inr (inr (inr (inr (inl refl))))))))
   one_part g (Reset (Memory lease)) c f = one_reset g.fault g.slot lease c f
   one_part g (Reset (Table lease)) c f = inl refl
+  one_part g (Reset (Stack lease)) c f = inl refl
   one_part g Merge c f =
       let i : ℕ = queue_tried 0 c.plan f in
       let whole : Queue = after_append (queue_at i c) f.local in
       one_merged (nat_le c.settings.batch (length whole.ranges)) i whole c (record f { local = drained f.local })
   one_part g Flush c f = one_flushed (flush_step f.local f.freed.items) g.queue c f
   one_part g UncountInstance c f = inr (inr (inr (inr (_, inr (inl refl)))))
+  one_part g (ValidateComponent info) c f = one_tested _ c f
+  one_part g CountComponent c f = one_component _ c f
+  one_part g UncountComponent c f = inr (inr (inr (inr (_, inr (inr (inr (inr (inr refl))))))))
+  one_part g (Purge p step) c f = one_purged g p step c f
+  one_part g (Release step) c f = one_released g step c f
 
   -- A step changes one part of the pool, or none.
   pub step_changes : {old new : LimiterTold} (c : PoolCore P) (f : Frame P) (a : After P) → StepsTo old new c f a → ChangesOnePart c a.core

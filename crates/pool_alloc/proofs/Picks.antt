@@ -28,7 +28,7 @@ warm_taken : (s : ShardState) (r : Option ℕ) → IfSome r (λ i. i < length s.
 warm_taken s None h = h
 warm_taken s (Some i) h = h
 
-affine_taken : (want : Option MemoryInModule) (s : ShardState) → IfSome (affine_choice want s) (IsChoice s)
+pub affine_taken : (want : Option MemoryInModule) (s : ShardState) → IfSome (affine_choice want s) (IsChoice s)
 affine_taken None s = tt
 affine_taken (Some of) s = warm_taken s (last_position (is_affine of) s.warm) (last_inside (is_affine of) s.warm)
 

@@ -1,6 +1,6 @@
 -- What the places of a right plan are for, and where slots are at home.
 use Rattle.pool_slots.specs.declared.slot_name.SlotName.{SlotName}
-use Rattle.pool_alloc.specs.Bounds.{most_shards, sizes_of}
+use Rattle.pool_alloc.specs.Bounds.{most_shards, flushed_allocators}
 use Rattle.std.proofs.Common.{◌≡◌, ℕ, ◌+◌, ◌*◌, ◌-◌, ◌<◌, ◌≤◌, List, [], ◌∷◌, length, refl, sym, ap, subst, ◌∙◌, arith, get_or, inl, inr, true, false, min, Bool, map, ◌⊎◌, ◌++◌}
 use Rattle.std.specs.Prelude.{if◌then◌else◌, ◌%◌, nat_le, nat_lt, zero, suc}
 use Rattle.std.specs.List.{AllByRecursion}
@@ -15,7 +15,9 @@ use Rattle.pool_slots.specs.declared.plan.Plan.{Plan}
 use Rattle.pool_slots.proofs.Planning.{roles, HasShards, shards_of, slots_are_at_home}
 use Rattle.pool_slots.proofs.AwayOnce.{shard_of_kind, home_there}
 use Rattle.pool_alloc.specs.Sound.{IsStripe, IsPoolPlan, IsPooled, IsSlotName}
-use Rattle.pool_alloc.specs.Steps.{memories_wanted, memory_slots, no_allocator, stripe_allocator, allocator_of, allocator_for, kind_next, shard_tried, queue_tried, queues_searched}
+use Rattle.pool_alloc.specs.Steps.{memories_wanted, memory_slots, no_allocator, stripe_allocator, allocator_of, allocator_for, kind_next, kind_by, shard_tried, queue_tried, queues_searched}
+use Rattle.pool_alloc.specs.declared.frame.Asked.{Asked}
+use Rattle.pool_alloc.specs.declared.frame.Asked.TheVariants.{Stack as stack_asked}
 use Rattle.pool_alloc.specs.declared.frame.Frame.{Frame}
 
 -- what is so of each element is so of that at a place
@@ -71,6 +73,7 @@ IsCellPlace plan places kind slot = (role_at plan (of_kind kind plan.cells + slo
 cell_place_of : (plan : Plan) (places : ℕ) (kind : SlotKind) (slot : ℕ) → IsPoolPlan plan places → IsPooled kind → slot < of_kind kind plan.totals → IsCellPlace plan places kind slot
 cell_place_of plan places memory_kind slot is pooled below = ((roles (blocks plan) is.planned.separate).0 slot below, omega (arith, is.planned.inside.0, below))
 cell_place_of plan places table_kind slot is pooled below = ((roles (blocks plan) is.planned.separate).1.0 slot below, omega (arith, is.planned.inside.1.0, below))
+cell_place_of plan places stack_kind slot is pooled below = ((roles (blocks plan) is.planned.separate).1.1.0 slot below, omega (arith, is.planned.inside.1.1.0, below))
 cell_place_of plan places kind slot is pooled below = absurd pooled
 
 pub cell_role_at : (plan : Plan) (places : ℕ) (name : SlotName) → IsPoolPlan plan places → IsSlotName plan name → role_at plan (cell_place plan name) ≡ cell_role name
@@ -108,38 +111,43 @@ most_more (a ∷ some) more = let rest = most_more some more in (omega (arith, r
 pub allocator_is : (plan : Plan) (places : ℕ) (kind : SlotKind) (stripe : ℕ) → IsPoolPlan plan places → stripe < length plan.memories → IsStripe (allocator_of plan kind stripe)
 allocator_is plan places table_kind stripe is below = each_at IsStripe plan.tables 0 no_allocator is.tables is.table_shards
 allocator_is plan places memory_kind stripe is below = stripe_is plan places stripe is below
-allocator_is plan places stack_kind stripe is below = stripe_is plan places stripe is below
+allocator_is plan places stack_kind stripe is below = each_at IsStripe plan.stacks 0 no_allocator is.stacks is.stack_shards
 allocator_is plan places heap_kind stripe is below = stripe_is plan places stripe is below
 
 -- it holds slots of the kind, or of memories
 abbrev kind_held : SlotKind → SlotKind
 kind_held table_kind = table_kind
+kind_held stack_kind = stack_kind
 kind_held kind = memory_kind
 
 pub allocator_role : (plan : Plan) (places : ℕ) (kind : SlotKind) (stripe i : ℕ) → IsPoolPlan plan places → stripe < length plan.memories → i < (allocator_of plan kind stripe).shards → role_at plan ((allocator_of plan kind stripe).first_place + i) ≡ shard_role (allocator_of plan kind stripe) i
 allocator_role plan places table_kind stripe i is below inside = each_at (HasShards plan) plan.tables 0 no_allocator is.tables (shards_of plan table_kind is.planned.separate) i inside
 allocator_role plan places memory_kind stripe i is below inside = stripe_role plan places stripe i is below inside
-allocator_role plan places stack_kind stripe i is below inside = stripe_role plan places stripe i is below inside
+allocator_role plan places stack_kind stripe i is below inside = each_at (HasShards plan) plan.stacks 0 no_allocator is.stacks (shards_of plan stack_kind is.planned.separate) i inside
 allocator_role plan places heap_kind stripe i is below inside = stripe_role plan places stripe i is below inside
 
-pub allocator_most : (plan : Plan) (places : ℕ) (kind : SlotKind) (stripe : ℕ) → IsPoolPlan plan places → stripe < length plan.memories → (allocator_of plan kind stripe).shards ≤ (sizes_of plan).shards
-allocator_most plan places table_kind stripe is below = omega (arith, most_at plan.tables 0 no_allocator is.tables, (most_more plan.memories plan.tables).1)
-allocator_most plan places memory_kind stripe is below = omega (arith, most_at plan.memories stripe no_allocator below, (most_more plan.memories plan.tables).0)
-allocator_most plan places stack_kind stripe is below = omega (arith, most_at plan.memories stripe no_allocator below, (most_more plan.memories plan.tables).0)
-allocator_most plan places heap_kind stripe is below = omega (arith, most_at plan.memories stripe no_allocator below, (most_more plan.memories plan.tables).0)
+pub allocator_most : (plan : Plan) (places : ℕ) (kind : SlotKind) (stripe : ℕ) → IsPoolPlan plan places → stripe < length plan.memories → (allocator_of plan kind stripe).shards ≤ most_shards (flushed_allocators plan)
+allocator_most plan places table_kind stripe is below = omega (arith, most_at plan.tables 0 no_allocator is.tables, (most_more plan.tables plan.stacks).0, (most_more plan.memories (plan.tables ++ plan.stacks)).1)
+allocator_most plan places stack_kind stripe is below = omega (arith, most_at plan.stacks 0 no_allocator is.stacks, (most_more plan.tables plan.stacks).1, (most_more plan.memories (plan.tables ++ plan.stacks)).1)
+allocator_most plan places memory_kind stripe is below = omega (arith, most_at plan.memories stripe no_allocator below, (most_more plan.memories (plan.tables ++ plan.stacks)).0)
+allocator_most plan places heap_kind stripe is below = omega (arith, most_at plan.memories stripe no_allocator below, (most_more plan.memories (plan.tables ++ plan.stacks)).0)
 
--- what is allocated is a memory or a table, and the allocator holds slots of that kind
-pub next_is : {P : Type 0} (f : Frame P) → (kind_next f ≡ memory_kind) ⊎ (kind_next f ≡ table_kind)
-next_is f =
-    elim (cases_Bool (nat_lt (length f.objects.memories.items) (length (memories_wanted f.asked)))) [
-      | inl memory ↦ inl (rw memory refl)
-      | inr table ↦ inr (rw table refl)
-    ]
+-- what is allocated is a memory, a table or a stack, and the allocator holds slots of that kind
+if_kind : (b : Bool) → ((if b then memory_kind else table_kind) ≡ memory_kind) ⊎ (((if b then memory_kind else table_kind) ≡ table_kind) ⊎ ((if b then memory_kind else table_kind) ≡ stack_kind))
+if_kind true = inl refl
+if_kind false = inr (inl refl)
+
+kind_is_one : (asked : Asked) (n : ℕ) → (kind_by asked n ≡ memory_kind) ⊎ ((kind_by asked n ≡ table_kind) ⊎ (kind_by asked n ≡ stack_kind))
+kind_is_one stack_asked n = inr (inr refl)
+kind_is_one asked n = if_kind (nat_lt n (length (memories_wanted asked)))
+
+pub next_is : {P : Type 0} (f : Frame P) → (kind_next f ≡ memory_kind) ⊎ ((kind_next f ≡ table_kind) ⊎ (kind_next f ≡ stack_kind))
+next_is f = kind_is_one f.asked (length f.objects.memories.items)
 
 allocator_held : (plan : Plan) (places : ℕ) (kind : SlotKind) (stripe : ℕ) → IsPoolPlan plan places → stripe < length plan.memories → IsAllocator (kind_held kind) (of_kind (kind_held kind) plan.totals) (allocator_of plan kind stripe)
 allocator_held plan places table_kind stripe is below = each_at (IsAllocator table_kind plan.totals.table) plan.tables 0 no_allocator is.tables (is.planned.slots table_kind).each
 allocator_held plan places memory_kind stripe is below = stripe_holds plan places stripe is below
-allocator_held plan places stack_kind stripe is below = stripe_holds plan places stripe is below
+allocator_held plan places stack_kind stripe is below = each_at (IsAllocator stack_kind plan.totals.stack) plan.stacks 0 no_allocator is.stacks (is.planned.slots stack_kind).each
 allocator_held plan places heap_kind stripe is below = stripe_holds plan places stripe is below
 
 pub allocator_holds : {P : Type 0} (plan : Plan) (places : ℕ) (f : Frame P) → IsPoolPlan plan places → f.stripe < length plan.memories → IsAllocator (kind_next f) (of_kind (kind_next f) plan.totals) (allocator_for plan f)
@@ -147,7 +155,10 @@ allocator_holds plan places f is stripe =
     let H : SlotKind → Type 0 = λ k. IsAllocator k (of_kind k plan.totals) (allocator_of plan k f.stripe) in
     elim (next_is f) [
       | inl memory ↦ subst H (sym memory) (allocator_held plan places memory_kind f.stripe is stripe)
-      | inr table ↦ subst H (sym table) (allocator_held plan places table_kind f.stripe is stripe)
+      | inr rest ↦ elim rest [
+        | inl table ↦ subst H (sym table) (allocator_held plan places table_kind f.stripe is stripe)
+        | inr stack ↦ subst H (sym stack) (allocator_held plan places stack_kind f.stripe is stripe)
+      ]
     ]
 
 -- The home of a slot.

@@ -63,12 +63,13 @@ module _ {P : Type 0} where
   cell_for maker s name (part.Memory cell) is = (tt, is.1)
   cell_for maker s name (part.Queue q) is = absurd is
   cell_for maker s name (part.Table cell) is = (tt, is.1)
-  cell_for maker s name (part.Stack cell) is = absurd is
+  cell_for maker s name (part.Stack cell) is = (tt, is.1)
 
   -- a cell in another state is that of the same slot
   pub cell_again : (maker : MakerTold) (s : Settings) (name : SlotName) (cell : CellState) (x : PoolPart P) → IsPartFor maker s (cell_role name) x → IsCellOf maker s name cell → IsPartFor maker s (cell_role name) (part_holding cell x)
   cell_again maker s name cell (part.Memory old) is new = (is.0, new)
   cell_again maker s name cell (part.Table old) is new = (is.0, new)
+  cell_again maker s name cell (part.Stack old) is new = (is.0, new)
   cell_again maker s name cell x is new = absurd is
 
   queue_for : (maker : MakerTold) (s : Settings) (x : PoolPart P) → IsPartFor maker s queue_role x → IsQueuePart x × IsShared maker s (queue_in x)

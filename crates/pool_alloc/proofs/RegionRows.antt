@@ -3,6 +3,9 @@ use Rattle.pool_pages.specs.declared.table_type.TableType.{TableType}
 use Rattle.std.proofs.lemmas.Bool.{cases_Bool, ltb-true, ltb-false}
 use Rattle.pool_hall.specs.Unit.{kind_number}
 use Rattle.pool_alloc.specs.declared.pool_core.Counters.{Counters}
+use Rattle.pool_alloc.specs.PoolStacks.{stack_made}
+use Rattle.pool_alloc.specs.StackLeases.{stack_taken}
+use Rattle.pool_alloc.proofs.StackRegions.{lease_made, stack_begins}
 use Rattle.pool_alloc.proofs.TableRegions.{IsMadeTable, begun_table, table_made_is}
 use Rattle.pool_alloc.specs.TableSteps.{AsksForTable, table_made}
 use Rattle.pool_alloc.specs.TableLeases.{LeasedTable, table_slot, table_taken}
@@ -11,14 +14,14 @@ use Rattle.pool_slots.specs.declared.plan.Plan.{Plan}
 use Rattle.pool_alloc.proofs.PlanPlaces.{IsShardPlace, home_place, next_is}
 use Rattle.std.proofs.Common.{◌≡◌, ℕ, ◌+◌, ◌<◌, ◌≤◌, Bool, true, false, List, [], ◌∷◌, ◌++◌, length, refl, sym, ap, subst, inl, inr, arith, Option, Some, None, Result, Ok, Err, ◌∙◌}
 use Rattle.std.specs.Prelude.{◌^◌, nat_le, nat_lt, if◌then◌else◌, IfSome, IsSome, IfOk, slice_get, slice_index_or}
-use Rattle.std.proofs.lemmas.List.{length_push}
+use Rattle.std.proofs.lemmas.List.{length_push, nil_from_length}
 use Rattle.std.proofs.lemmas.List.Elements.{All-push}
 use Rattle.pool_pages.specs.Count.{count}
 use Rattle.pool_pages.specs.Told.{Told}
 use Rattle.pool_pages.specs.MemoryTypes.{minimum_byte_size}
 use Rattle.pool_pages.specs.declared.module_types.MemoryDecl.{MemoryDecl}
 use Rattle.pool_images.specs.Images.{Image}
-use Rattle.pool_images.specs.Slots.{Slot, IsFresh, forgotten, hides}
+use Rattle.pool_images.specs.Slots.{Slot, forgotten, hides}
 use Rattle.pool_index.specs.Shard.{ShardState, after_free}
 use Rattle.pool_pages.specs.MemoryTypes.{allow_growth_to}
 use Rattle.pool_pages.specs.declared.unsupported.Unsupported.TheVariants.{InitialSize, AddressSpace, MemoryMinimum}
@@ -40,6 +43,8 @@ use Rattle.pool_limits.specs.LimiterTold.{LimiterTold}
 use Rattle.pool_alloc.specs.declared.pool_core.PoolCore.{PoolCore}
 use Rattle.pool_alloc.specs.declared.pool_core.Settings.{Settings}
 use Rattle.pool_alloc.specs.declared.frame.Ending.{Ending}
+use Rattle.pool_alloc.specs.declared.frame.Asked.{Asked}
+use Rattle.pool_alloc.specs.declared.frame.Asked.TheVariants.{Stack as stack_asked}
 use Rattle.pool_alloc.specs.declared.frame.Frame.{Frame}
 use Rattle.pool_alloc.specs.declared.frame.Phase.{Phase}
 use Rattle.pool_alloc.specs.declared.frame.TakenSlot.{TakenSlot}
@@ -50,25 +55,26 @@ use Rattle.pool_images.specs.Slots.{IsClean, IsLeft}
 use Rattle.std.specs.Prelude.{is_some}
 use Rattle.pool_alloc.specs.Leases.{IsUsable, memory_slot}
 use Rattle.pool_alloc.specs.Own.{made_of, made_of_limits, made_for, memory_made, image_made}
-use Rattle.pool_alloc.specs.Places.{Thing, right_to, both_count, phase_count, phase_instances, phase_memories, region_count, taken_count, phase_tables}
+use Rattle.pool_alloc.specs.Places.{Thing, right_to, both_count, phase_count, phase_instances, phase_memories, region_count, taken_count, phase_tables, phase_stacks, instances_for}
 use Rattle.pool_alloc.specs.Rows.{in_cell, in_shard, region_next, take_region_on, paged, empty_row, instantiate_row, was_made, make_memory_row, count_object_row, put_back_on, free_one_on, unmapped_next, was_made_table, make_table_row}
 use Rattle.pool_alloc.specs.Searches.{AreEmpty, IsSearchedBy, IsSearchedAt, IsSearched}
-use Rattle.pool_alloc.specs.Sound.{IsCore, IsLeaseOf, IsToGrant, IsAllocating, HasNoneWaiting, IsShapedAt, IsSupported, HasSlot, HasBegun, IsMadeOf, IsNew, IsPoolSlot, MayHold, HasRegion, IsPooled, IsSlotName, IsTableSupported, HasTable, IsMemoryNext, IsTableNext, AreLeasesOf}
+use Rattle.pool_alloc.specs.Sound.{IsCore, IsLeaseOf, IsToGrant, IsAllocating, HasNoneWaiting, IsShapedAt, IsSupported, HasSlot, HasBegun, IsMadeOf, IsNew, IsPoolSlot, MayHold, HasRegion, IsPooled, IsSlotName, IsTableSupported, HasTable, IsMemoryNext, IsTableNext, IsStackNext, IsEnabled, AreLeasesOf}
 use Rattle.pool_alloc.specs.Stages.{Stage, refusing, stage_by, stage_at, Goes, stage_of}
 use Rattle.pool_alloc.specs.Stepping.{is_idle}
-use Rattle.pool_alloc.specs.Steps.{memories_wanted, images_wanted, image_wanted, shard_at, with_shard, with_cell, memory_slots, cell_named, tables_wanted, kind_next}
+use Rattle.pool_alloc.specs.Steps.{memories_wanted, images_wanted, image_wanted, shard_at, with_shard, with_cell, memory_slots, cell_named, tables_wanted, stacks_wanted, kind_next, kind_by}
 use Rattle.pool_alloc.specs.Turns.{Row, gone_to, next}
 use Rattle.pool_alloc.proofs.CoreChanges.{core_with_shard, core_with_cell, core_with_counters}
-use Rattle.pool_alloc.proofs.Hands.{in_phase, held_of, Even, Kept, Ready, IsReadyRow, hand}
+use Rattle.pool_alloc.proofs.Hands.{returns_less, none_for_stack, in_phase, held_of, Even, Kept, Ready, IsReadyRow, hand}
 use Rattle.pool_alloc.proofs.PoolParts.{place_of}
 use Rattle.pool_alloc.proofs.KeptCounts.{kept_shard, away_shard, region_leaves, region_returns}
 use Rattle.pool_alloc.proofs.QueueCounts.{leased_last, tables_last}
 use Rattle.pool_alloc.proofs.Frees.{freed_one}
+use Rattle.pool_alloc.specs.CanStep.{CanUnmap}
 use Rattle.pool_alloc.proofs.SlotIdentity.{IsOneSlot, one_wiped, slot_of_one, slot_made, clean_made, fresh_made}
 use Rattle.pool_alloc.proofs.ShardFrees.{IsShardOf, freed_shard}
 use Rattle.pool_alloc.proofs.Stages.{picked_is_home, back_is_away, back_is_used}
 use Rattle.pool_alloc.proofs.Telling.{told_both, told_weaker, told_there}
-use Rattle.pool_alloc.proofs.Ways.{Can, searched_back, push_at, aims_grant, aims_back, next_returns, kept_part, same_way, fails_way, made_way, next_object}
+use Rattle.pool_alloc.proofs.Ways.{Can, searched_back, push_at, aims_grant, aims_back, next_returns, kept_part, same_way, sought_way, granted_stack_way, admitted_way, made_way, next_object}
 use Rattle.pool_alloc.proofs.PoolParts.{sound_shard, sound_cell, shard_part}
 use Rattle.pool_slots.specs.declared.slot_name.SlotName.{SlotName}
 use Rattle.pool_hall.specs.declared.unit_name.SlotKind.{SlotKind}
@@ -77,8 +83,8 @@ use Rattle.pool_alloc.specs.declared.frame.Object.{Object}
 use Rattle.pool_slots.specs.declared.cells.ImageSlot.{ImageSlot}
 use Rattle.pool_slots.specs.Plans.{home_of}
 use Rattle.pool_slots.specs.CellOf.{cell_of}
-use Rattle.pool_hall.specs.declared.unit_name.SlotKind.TheVariants.{Memory as memory_kind, Table as table_kind}
-use Rattle.pool_alloc.specs.declared.frame.Object.TheVariants.{Memory, Table}
+use Rattle.pool_hall.specs.declared.unit_name.SlotKind.TheVariants.{Memory as memory_kind, Table as table_kind, Stack as stack_kind}
+use Rattle.pool_alloc.specs.declared.frame.Object.TheVariants.{Memory, Table, Stack}
 use Rattle.pool_slots.specs.CellOf.{cell_of}
 use Rattle.pool_alloc.specs.declared.lease.InstanceLease.{InstanceLease}
 use Rattle.pool_slots.specs.SlotNames.{of_kind}
@@ -128,13 +134,13 @@ made_in : (s : Settings) (decls : List MemoryDecl) (k : ℕ) (answer : Result Bo
 made_in s decls k answer held = made_in_of (memory_made s decls k answer held) s.max_memory_size decls k held (made_for_ok answer s.max_memory_size (slice_get decls k) held)
 
 has_of_one : (maker : MakerTold) (s : Settings) (plan : Plan) (name : SlotName) (old new : Slot) → IsOneSlot old new → HasSlot maker s plan name old → HasSlot maker s plan name new
-has_of_one maker s plan name old new one has = record { kind = has.kind; inside = has.inside; region = slot_of_one maker s.behaviour s.max_memory_size name.slot old new one has.region }
+has_of_one maker s plan name old new one has = record { kind = has.kind; inside = has.inside; region = slot_of_one maker s name.slot old new one has.region }
 
 memory_inside : (plan : Plan) (name : SlotName) → name.kind ≡ memory_kind → IsSlotName plan name → name.slot < memory_slots plan
 memory_inside plan name kind named = subst (λ (k : SlotKind). name.slot < of_kind k plan.totals) kind named.inside
 
 -- the slot of a memory that a call has is one of the pool, and so it goes back with nothing known of it
-may_hold : (maker : MakerTold) (s : Settings) (kind : SlotKind) (i : ℕ) (held : Slot) → kind ≡ memory_kind → IsPoolSlot maker s.behaviour s.max_memory_size i held → MayHold maker s kind i (unknown held)
+may_hold : (maker : MakerTold) (s : Settings) (kind : SlotKind) (i : ℕ) (held : Slot) → kind ≡ memory_kind → IsPoolSlot maker s i held → MayHold maker s kind i (unknown held)
 may_hold maker s kind i held is of = let M : SlotKind → Type 0 = λ k. MayHold maker s k i (unknown held) in subst M (sym is) of
 
 -- and its name is that of a memory's slot
@@ -148,7 +154,7 @@ goes_back maker s plan name held has = record {
   there = refl;
 }
 
-one_emptied : (fault : Bool) (had held : Slot) → Empties fault had held → IsOneSlot had held
+pub one_emptied : (fault : Bool) (had held : Slot) → Empties fault had held → IsOneSlot had held
 one_emptied true had held told = told.same
 one_emptied false had held told = subst (λ (s : Slot). IsOneSlot had s) (sym told.0) (one_wiped had)
 
@@ -156,7 +162,7 @@ left_emptied : (fault : Bool) (had held : Slot) → Empties fault had held → f
 left_emptied true had held told is = told
 left_emptied false had held told is = absurd cc
 
-clean_emptied : (fault : Bool) (had held : Slot) → Empties fault had held → fault ≡ false → IsClean held
+pub clean_emptied : (fault : Bool) (had held : Slot) → Empties fault had held → fault ≡ false → IsClean held
 clean_emptied true had held told is = absurd cc
 clean_emptied false had held told is = told.1
 
@@ -164,7 +170,7 @@ left_instantiated : (s : Settings) (decl : MemoryDecl) (fault : Bool) (image : O
 left_instantiated s decl true image had held tells is = tells
 left_instantiated s decl false image had held tells is = absurd cc
 
-some_used : {X : Type 0} (o : Option X) → is_some o ≡ true → IsSome o
+pub some_used : {X : Type 0} (o : Option X) → is_some o ≡ true → IsSome o
 some_used None e = absurd cc
 some_used (Some x) e = refl
 
@@ -172,36 +178,61 @@ some_used (Some x) e = refl
 pub emptied_holds : (maker : MakerTold) (s : Settings) (kind : SlotKind) (i : ℕ) → IsPooled kind → MayHold maker s kind i taken
 emptied_holds maker s memory_kind i pooled = tt
 emptied_holds maker s table_kind i pooled = tt
+emptied_holds maker s stack_kind i pooled = tt
 emptied_holds maker s kind i pooled = absurd pooled
 
+-- what is allocated is a memory, a table or a stack
+memory_if : (b : Bool) → (if b then memory_kind else table_kind) ≡ memory_kind → b ≡ true
+memory_if true is = refl
+memory_if false is = let no : ◌≡◌ {A = ℕ} 1 0 = ap kind_number is in absurd (omega arith)
+
+table_if : (b : Bool) → (if b then memory_kind else table_kind) ≡ table_kind → b ≡ false
+table_if true is = let no : ◌≡◌ {A = ℕ} 0 1 = ap kind_number is in absurd (omega arith)
+table_if false is = refl
+
+stack_if : (b : Bool) → (if b then memory_kind else table_kind) ≡ stack_kind → ⊥
+stack_if true is = let no : ◌≡◌ {A = ℕ} 0 2 = ap kind_number is in omega arith
+stack_if false is = let no : ◌≡◌ {A = ℕ} 1 2 = ap kind_number is in omega arith
+
+memory_by : (asked : Asked) (n : ℕ) → kind_by asked n ≡ memory_kind → n < length (memories_wanted asked)
+memory_by stack_asked n is = let no : ◌≡◌ {A = ℕ} 2 0 = ap kind_number is in absurd (omega arith)
+memory_by asked n is = ltb-true n (length (memories_wanted asked)) (memory_if (nat_lt n (length (memories_wanted asked))) is)
+
+table_by : (asked : Asked) (n : ℕ) → kind_by asked n ≡ table_kind → (length (memories_wanted asked) ≤ n) × (stacks_wanted asked ≡ 0)
+table_by stack_asked n is = let no : ◌≡◌ {A = ℕ} 2 1 = ap kind_number is in absurd (omega arith)
+table_by asked n is = (ltb-false n (length (memories_wanted asked)) (table_if (nat_lt n (length (memories_wanted asked))) is), refl)
+
+stack_by : (asked : Asked) (n : ℕ) → kind_by asked n ≡ stack_kind → asked ≡ stack_asked
+stack_by stack_asked n is = refl
+stack_by asked n is = absurd (stack_if (nat_lt n (length (memories_wanted asked))) is)
+
+-- a memory is none of a stack's call
+pub no_stack_by : (asked : Asked) (n : ℕ) → n < length (memories_wanted asked) → stacks_wanted asked ≡ 0
+no_stack_by stack_asked n more = absurd (omega (arith, more))
+no_stack_by asked n more = refl
+
 module _ {P : Type 0} where
-  -- what is allocated is a memory, or a table
   pub memory_next : (f : Frame P) → kind_next f ≡ memory_kind → IsMemoryNext f
-  memory_next f is =
-      elim (cases_Bool (nat_lt (length f.objects.memories.items) (length (memories_wanted f.asked)))) [
-        | inl more ↦ ltb-true _ _ more
-        | inr none ↦
-            let table : kind_next f ≡ table_kind = rw none refl in
-            let no : ◌≡◌ {A = ℕ} 1 0 = ap kind_number (sym table ∙ is) in
-            absurd (omega arith)
-      ]
+  memory_next f is = memory_by f.asked (length f.objects.memories.items) is
 
   pub table_next : (f : Frame P) → kind_next f ≡ table_kind → IsTableNext f
-  table_next f is =
-      elim (cases_Bool (nat_lt (length f.objects.memories.items) (length (memories_wanted f.asked)))) [
-        | inl more ↦
-            let memory : kind_next f ≡ memory_kind = rw more refl in
-            let no : ◌≡◌ {A = ℕ} 0 1 = ap kind_number (sym memory ∙ is) in
-            absurd (omega arith)
-        | inr none ↦ ltb-false _ _ none
-      ]
+  table_next f is = table_by f.asked (length f.objects.memories.items) is
 
-  -- A region of a memory that was never used can be made an image slot of.
-  pub region_is_fresh : (maker : MakerTold) (name : SlotName) (c : PoolCore P) → IsCore maker c → IsSlotName c.plan name → (region : Told) → name.kind ≡ memory_kind → (cell_named name c).holds ≡ unmapped region → IsFresh (count c.settings.page 0) (count c.settings.page 0) c.settings.max_memory_size None region
-  region_is_fresh maker name c core named region kind is =
+  pub stack_next : (f : Frame P) → kind_next f ≡ stack_kind → IsStackNext f
+  stack_next f is = stack_by f.asked (length f.objects.memories.items) is
+
+  pub no_stack : (f : Frame P) → IsMemoryNext f → stacks_wanted f.asked ≡ 0
+  no_stack f more = no_stack_by f.asked (length f.objects.memories.items) more
+
+  -- What is made of a region that lies in its cell can be made.
+  pub region_is_fresh : (maker : MakerTold) (name : SlotName) (c : PoolCore P) → IsCore maker c → IsSlotName c.plan name → (region : Told) → (cell_named name c).holds ≡ unmapped region → CanUnmap c.settings name region
+  region_is_fresh maker name c core named region is =
       let C : SlotKind → Cell → Type 0 = λ k held. MayHold maker c.settings k name.slot held in
-      let holds : C memory_kind (unmapped region) = subst (C memory_kind) is (subst (λ (k : SlotKind). C k (cell_named name c).holds) kind (sound_cell maker name c core named).holds) in
-      fresh_made maker c.settings.behaviour c.settings.page c.settings.max_memory_size name.slot region core.page core.settings.bounded holds
+      let holds : C name.kind (unmapped region) = subst (C name.kind) is (sound_cell maker name c core named).holds in
+      record {
+        image = λ kind. (let memory : C memory_kind (unmapped region) = subst (λ (k : SlotKind). C k (unmapped region)) kind holds in fresh_made maker c.settings name.slot region core.page core.settings memory);
+        plain = λ kind. (let stack : C stack_kind (unmapped region) = subst (λ (k : SlotKind). C k (unmapped region)) kind holds in stack.plain);
+      }
 
   one_told : (s : Settings) (fault : Bool) (new had : Slot) (f : Frame P) → IsMemoryNext f → IfAllocated f (λ decl. InstantiatesFor s decl fault (image_wanted f) had new) → IsOneSlot had new
   one_told s fault new had f more told =
@@ -242,8 +273,8 @@ module _ {P : Type 0} (maker : MakerTold) (old new : LimiterTold) where
       let was = sound_cell maker name c can.core named in
       kept_part maker old new c (in_phase (TakeRegion name) f) (emptied name c) (in_phase Idle f) (core_with_cell maker name (cell_emptied (cell_named name c)) c can.core named (record { named = was.named; holds = emptied_holds maker c.settings name.kind name.slot named.pooled })) (held_of maker c.settings c.plan (in_phase (TakeRegion name) f) can.frame) refl refl refl refl
 
-  taken_even : (at : TakenSlot) (c : PoolCore P) (f : Frame P) → Can maker (TakeRegion at.name) c f → at.numbers ≡ cell_numbers (cell_named at.name c) → Even maker old new c (in_phase (TakeRegion at.name) f) (record { things = λ t. taken_count t at; instances = 1; memories = 0; tables = 0 }) (emptied at.name c) (in_phase Idle f)
-  taken_even at c f can its = record { places = λ t. let leaves = region_leaves maker t at.name c can.core can.frame.shape.2 (picked_is_home maker at.name c f can.core can.fits) in omega (arith, leaves.0, leaves.1, ap (region_count t at.name) its); instances = omega arith; memories = omega arith; tables = omega arith }
+  taken_even : (at : TakenSlot) (c : PoolCore P) (f : Frame P) → Can maker (TakeRegion at.name) c f → at.numbers ≡ cell_numbers (cell_named at.name c) → Even maker old new c (in_phase (TakeRegion at.name) f) (record { things = λ t. taken_count t at; instances = 1; memories = 0; tables = 0; stacks = 0 }) (emptied at.name c) (in_phase Idle f)
+  taken_even at c f can its = record { places = λ t. let leaves = region_leaves maker t at.name c can.core can.frame.shape.2 (picked_is_home maker at.name c f can.core can.fits) in omega (arith, leaves.0, leaves.1, ap (region_count t at.name) its); instances = omega arith; memories = omega arith; tables = omega arith; stacks = omega arith }
 
   -- It is that of a slot of this kind.
   record HasLeft (kind : SlotKind) (at : TakenSlot) (c : PoolCore P) (f : Frame P) : Type 0 where
@@ -252,7 +283,7 @@ module _ {P : Type 0} (maker : MakerTold) (old new : LimiterTold) where
     kind_is : at.name.kind ≡ kind
     next : kind_next f ≡ kind
 
-  has_left : (at : TakenSlot) (held : Slot) (c : PoolCore P) (f : Frame P) → HasLeft memory_kind at c f → IsPoolSlot maker c.settings.behaviour c.settings.max_memory_size at.name.slot held → HasSlot maker c.settings c.plan at.name held
+  has_left : (at : TakenSlot) (held : Slot) (c : PoolCore P) (f : Frame P) → HasLeft memory_kind at c f → IsPoolSlot maker c.settings at.name.slot held → HasSlot maker c.settings c.plan at.name held
   has_left at held c f left of = record { kind = left.kind_is; inside = memory_inside c.plan at.name left.kind_is left.can.frame.shape.2; region = of }
 
   holds_ready : (at : TakenSlot) (held : Cell) (c : PoolCore P) (f : Frame P) → HasLeft memory_kind at c f → MayHold maker c.settings memory_kind at.name.slot held → is_taken held ≡ false → Ready maker old new c (in_phase (TakeRegion at.name) f) (emptied at.name c) (in_phase Idle f) (region_next c.settings at held)
@@ -262,10 +293,10 @@ module _ {P : Type 0} (maker : MakerTold) (old new : LimiterTold) where
       let T : SlotKind → Type 0 = λ k. Ready maker old new c (in_phase (TakeRegion at.name) f) (emptied at.name c) (in_phase Idle f) (unmapped_next s k at region) in
       let made : T memory_kind = record {
         kept = taken_kept at.name c f can;
-        shape = (refl, (can.frame.shape.0, can.frame.shape.1, has_left at (image_made s.page s.max_memory_size region) c f left (slot_made maker s.behaviour s.page s.max_memory_size at.name.slot region can.core.page holds), clean_made maker s.behaviour s.page s.max_memory_size at.name.slot region can.core.page holds, memory_next f left.next));
+        shape = (refl, (can.frame.shape.0, can.frame.shape.1, has_left at (image_made s at.name.slot region) c f left (slot_made maker s at.name.slot region can.core.page holds), clean_made maker s at.name.slot region can.core.page can.core.settings holds, memory_next f left.next));
         even = taken_even at c f can left.numbers;
         fewer = omega arith;
-        way = same_way maker old new c (in_phase (TakeRegion at.name) f) f.ending (objects_in f.objects);
+        way = same_way maker old new c (in_phase (TakeRegion at.name) f) f.asked f.ending (objects_in f.objects);
         searched = λ s. tt;
       } in
       subst T (sym left.kind_is) made
@@ -276,7 +307,7 @@ module _ {P : Type 0} (maker : MakerTold) (old new : LimiterTold) where
         shape = (refl, (can.frame.shape.0, can.frame.shape.1, has_left at had c f left holds, memory_next f left.next));
         even = taken_even at c f can left.numbers;
         fewer = omega arith;
-        way = same_way maker old new c (in_phase (TakeRegion at.name) f) f.ending (objects_in f.objects);
+        way = same_way maker old new c (in_phase (TakeRegion at.name) f) f.asked f.ending (objects_in f.objects);
         searched = λ s. tt;
       }
   holds_ready at (previously_used had) c f left holds there =
@@ -286,7 +317,7 @@ module _ {P : Type 0} (maker : MakerTold) (old new : LimiterTold) where
         shape = (refl, (can.frame.shape.0, can.frame.shape.1, has_left at had c f left holds.0, holds.1, memory_next f left.next));
         even = taken_even at c f can left.numbers;
         fewer = omega arith;
-        way = same_way maker old new c (in_phase (TakeRegion at.name) f) f.ending (objects_in f.objects);
+        way = same_way maker old new c (in_phase (TakeRegion at.name) f) f.asked f.ending (objects_in f.objects);
         searched = λ s. tt;
       }
   holds_ready at taken c f left holds there = absurd cc
@@ -301,13 +332,33 @@ module _ {P : Type 0} (maker : MakerTold) (old new : LimiterTold) where
         shape = (refl, (can.frame.shape.0, can.frame.shape.1, record { kind = left.kind_is; inside = inside; region = holds }, table_next f left.next));
         even = taken_even at c f can left.numbers;
         fewer = omega arith;
-        way = same_way maker old new c (in_phase (TakeRegion at.name) f) f.ending (objects_in f.objects);
+        way = same_way maker old new c (in_phase (TakeRegion at.name) f) f.asked f.ending (objects_in f.objects);
         searched = λ s. tt;
       } in
       subst T (sym left.kind_is) made
   table_holds_ready at (unknown had) c f left holds there = absurd holds
   table_holds_ready at (previously_used had) c f left holds there = absurd holds
   table_holds_ready at taken c f left holds there = absurd cc
+
+  stack_holds_ready : (at : TakenSlot) (held : Cell) (c : PoolCore P) (f : Frame P) → HasLeft stack_kind at c f → MayHold maker c.settings stack_kind at.name.slot held → is_taken held ≡ false → Ready maker old new c (in_phase (TakeRegion at.name) f) (emptied at.name c) (in_phase Idle f) (region_next c.settings at held)
+  stack_holds_ready at (unmapped region) c f left holds there =
+      let can = left.can in
+      let T : SlotKind → Type 0 = λ k. Ready maker old new c (in_phase (TakeRegion at.name) f) (emptied at.name c) (in_phase Idle f) (unmapped_next c.settings k at region) in
+      let inside : at.name.slot < c.plan.totals.stack = subst (λ (k : SlotKind). at.name.slot < of_kind k c.plan.totals) left.kind_is can.frame.shape.2.inside in
+      let taken : stack_taken (stack_made c.settings at region) ≡ at = (λ i. record { name = record { kind = sym left.kind_is i; slot = at.name.slot }; numbers = at.numbers }) in
+      let even = taken_even at c f can left.numbers in
+      let made : T stack_kind = record {
+        kept = taken_kept at.name c f can;
+        shape = (refl, (can.frame.shape.0, can.frame.shape.1, lease_made maker c.settings c.plan at region inside holds, stack_begins maker c.settings at region holds, stack_next f left.next));
+        even = record { places = λ t. omega (arith, even.places t, ap (taken_count t) taken); instances = even.instances; memories = even.memories; tables = even.tables; stacks = even.stacks };
+        fewer = omega arith;
+        way = sought_way maker old new c (in_phase (TakeRegion at.name) f) f.asked f.ending (objects_in f.objects) (stack_next f left.next);
+        searched = λ s. tt;
+      } in
+      subst T (sym left.kind_is) made
+  stack_holds_ready at (unknown had) c f left holds there = absurd holds
+  stack_holds_ready at (previously_used had) c f left holds there = absurd holds
+  stack_holds_ready at taken c f left holds there = absurd cc
 
   pub take_region_ready : (name : SlotName) (c : PoolCore P) (f : Frame P) → Can maker (TakeRegion name) c f → Shows (TakeRegion name) c f (in_cell name c (take_region_on c.settings name (cell_named name c) (in_phase Idle f)))
   take_region_ready name c f can =
@@ -318,7 +369,10 @@ module _ {P : Type 0} (maker : MakerTold) (old new : LimiterTold) where
       let holds : M name.kind = (sound_cell maker name c can.core can.frame.shape.2).holds in
       elim (next_is f) [
         | inl memory ↦ let kind : name.kind ≡ memory_kind = can.frame.shape.3 ∙ memory in holds_ready at cell.holds c f (record { can = can; numbers = refl; kind_is = kind; next = memory }) (subst M kind holds) there
-        | inr table ↦ let kind : name.kind ≡ table_kind = can.frame.shape.3 ∙ table in table_holds_ready at cell.holds c f (record { can = can; numbers = refl; kind_is = kind; next = table }) (subst M kind holds) there
+        | inr rest ↦ elim rest [
+          | inl table ↦ let kind : name.kind ≡ table_kind = can.frame.shape.3 ∙ table in table_holds_ready at cell.holds c f (record { can = can; numbers = refl; kind_is = kind; next = table }) (subst M kind holds) there
+          | inr stack ↦ let kind : name.kind ≡ stack_kind = can.frame.shape.3 ∙ stack in stack_holds_ready at cell.holds c f (record { can = can; numbers = refl; kind_is = kind; next = stack }) (subst M kind holds) there
+        ]
       ]
 
   -- A page call of the slot in hand failed, or the call goes on with it.
@@ -332,20 +386,20 @@ module _ {P : Type 0} (maker : MakerTold) (old new : LimiterTold) where
       ((t : Thing) → phase_count t p ≡ taken_count t at) →
       ((t : Thing) → phase_count t phase ≡ taken_count t at) →
       (phase_instances p ≡ 1) × (phase_instances phase ≡ 1) →
-      (phase_memories p ≡ 0) × (phase_memories phase ≡ 0) × (phase_tables p ≡ 0) × (phase_tables phase ≡ 0) →
-      (stage_at p f.ending (objects_in f.objects) ≡ stage_by f.ending (objects_in f.objects)) × (stage_at phase f.ending (objects_in f.objects) ≡ stage_by f.ending (objects_in f.objects)) →
+      (phase_memories p ≡ 0) × (phase_memories phase ≡ 0) × (phase_tables p ≡ 0) × (phase_tables phase ≡ 0) × (phase_stacks p ≡ 0) × (phase_stacks phase ≡ 0) →
+      (stage_at p f.asked f.ending (objects_in f.objects) ≡ stage_by f.asked f.ending (objects_in f.objects)) × (stage_at phase f.asked f.ending (objects_in f.objects) ≡ stage_by f.asked f.ending (objects_in f.objects)) →
       (fault ≡ true → IsLeft had held) →
       (fault ≡ false → (is_idle phase ≡ false) × IsShapedAt maker c.settings c.plan phase (gone_to phase f)) →
-      (steps_at (sizes_of c.plan) phase (gone_to phase f) + 1 ≤ steps_left c (in_phase p f)) × (3 + objects_left (sizes_of c.plan) f.asked f.objects ≤ steps_left c (in_phase p f)) →
+      (steps_at (sizes_of c.settings c.plan) phase (gone_to phase f) + 1 ≤ steps_left c (in_phase p f)) × (3 + objects_left (sizes_of c.settings c.plan) f.asked f.objects ≤ steps_left c (in_phase p f)) →
       (IsSearched c (in_phase p f) → IsSearchedAt phase c (gone_to phase f)) →
       IsReadyRow maker old new c (in_phase p f) (paged fault at held phase c (in_phase Idle f))
   paged_ready p phase true at had held c f can settled allocating more has one here there counted none stages left shape steps searched = record {
     kept = kept_part maker old new c (in_phase p f) c _ can.core (held_of maker c.settings c.plan (in_phase p f) can.frame) refl refl refl refl;
     shape = (refl, (settled, refl, goes_back maker c.settings c.plan at.name (forgotten held) (has_of_one maker c.settings c.plan at.name had (forgotten held) one has)));
-    even = record { places = λ t. omega (arith, here t); instances = omega (arith, counted.0); memories = omega (arith, none.0); tables = omega (arith, none.2) };
-    fewer = omega (arith, steps.1);
+    even = record { places = λ t. omega (arith, here t); instances = omega (arith, ap (instances_for f.asked) counted.0); memories = omega (arith, none.0); tables = omega (arith, none.2); stacks = omega (arith, none.4) };
+    fewer = omega (arith, steps.1, returns_less f.asked (sizes_of c.settings c.plan) f.objects (no_stack f more));
     way = subst (λ (x : Stage). Goes maker old new c (in_phase p f) x (refusing refusal.PageFault) None) (sym stages.0)
-        (fails_way maker old new c (in_phase p f) f.ending (objects_in f.objects) refusal.PageFault allocating.ending (inr (inl (record {
+        (admitted_way maker old new c (in_phase p f) f.asked f.ending (objects_in f.objects) refusal.PageFault allocating.ending (no_stack f more) (inr (inl (record {
           is = refl;
           number = refl;
           allocating = allocating;
@@ -362,10 +416,10 @@ module _ {P : Type 0} (maker : MakerTold) (old new : LimiterTold) where
   paged_ready p phase false at had held c f can settled allocating more has one here there counted none stages left shape steps searched = record {
     kept = kept_part maker old new c (in_phase p f) c _ can.core (held_of maker c.settings c.plan (in_phase p f) can.frame) refl refl refl refl;
     shape = shape refl;
-    even = record { places = λ t. omega (arith, here t, there t); instances = omega (arith, counted.0, counted.1); memories = omega (arith, none.0, none.1); tables = omega (arith, none.2, none.3) };
+    even = record { places = λ t. omega (arith, here t, there t); instances = omega (arith, ap (instances_for f.asked) counted.0, ap (instances_for f.asked) counted.1); memories = omega (arith, none.0, none.1); tables = omega (arith, none.2, none.3); stacks = omega (arith, none.4, none.5) };
     fewer = steps.0;
-    way = subst (λ (x : Stage). Goes maker old new c (in_phase p f) x (stage_at phase f.ending (objects_in f.objects)) None) (sym stages.0)
-        (subst (λ (x : Stage). Goes maker old new c (in_phase p f) (stage_by f.ending (objects_in f.objects)) x None) (sym stages.1) (same_way maker old new c (in_phase p f) f.ending (objects_in f.objects)));
+    way = subst (λ (x : Stage). Goes maker old new c (in_phase p f) x (stage_at phase f.asked f.ending (objects_in f.objects)) None) (sym stages.0)
+        (subst (λ (x : Stage). Goes maker old new c (in_phase p f) (stage_by f.asked f.ending (objects_in f.objects)) x None) (sym stages.1) (same_way maker old new c (in_phase p f) f.asked f.ending (objects_in f.objects)));
     searched = searched;
   }
 
@@ -374,7 +428,7 @@ module _ {P : Type 0} (maker : MakerTold) (old new : LimiterTold) where
   empty_ready fault held at had c f can told =
       let one = one_emptied fault had held told in
       paged_ready (Empty at had) (Instantiate at held) fault at had held c f can can.frame.shape.0 can.frame.shape.1 can.frame.shape.3 can.frame.shape.2 one
-      (λ t. refl) (λ t. refl) (refl, refl) (refl, refl, refl, refl) (refl, refl)
+      (λ t. refl) (λ t. refl) (refl, refl) (refl, refl, refl, refl, refl, refl) (refl, refl)
       (left_emptied fault had held told)
       (λ done. (refl, (can.frame.shape.0, can.frame.shape.1, has_of_one maker c.settings c.plan at.name had held one can.frame.shape.2, clean_emptied fault had held told done, can.frame.shape.3)))
       (omega arith, omega arith) (λ s. tt)
@@ -390,7 +444,7 @@ module _ {P : Type 0} (maker : MakerTold) (old new : LimiterTold) where
   instantiate_ready fault held at had c f can told =
       let one = one_told c.settings fault held had (in_phase (Instantiate at had) f) can.frame.shape.4 told in
       paged_ready (Instantiate at had) (MakeMemory at held) fault at had held c f can can.frame.shape.0 can.frame.shape.1 can.frame.shape.4 can.frame.shape.2 one
-      (λ t. refl) (λ t. refl) (refl, refl) (refl, refl, refl, refl) (refl, refl)
+      (λ t. refl) (λ t. refl) (refl, refl) (refl, refl, refl, refl, refl, refl) (refl, refl)
       (left_told c.settings fault had held f can.frame.shape.4 told)
       (λ done. (
         refl,
@@ -415,9 +469,9 @@ module _ {P : Type 0} (maker : MakerTold) (old new : LimiterTold) where
       record {
         kept = kept_part maker old new c e c _ can.core (held_of maker c.settings c.plan e can.frame) refl refl refl refl;
         shape = (refl, (can.frame.shape.0, can.frame.shape.1, record { inside = has.inside; slot = has.region; memory = memory_of c.settings c.plan e memory can.frame.shape.1 can.frame.shape.4 begins }, begins, can.frame.shape.4));
-        even = record { places = λ t. omega (arith, ap (λ (n : SlotName). both_count t n at.numbers) (name_of at.name has.kind)); instances = omega arith; memories = omega arith; tables = omega arith };
+        even = record { places = λ t. omega (arith, ap (λ (n : SlotName). both_count t n at.numbers) (name_of at.name has.kind)); instances = omega arith; memories = omega arith; tables = omega arith; stacks = omega arith };
         fewer = omega arith;
-        way = made_way maker old new c e f.ending (objects_in f.objects) can.frame.shape.1.ending (inr (refl, inl (memory, record { number = refl; allocating = can.frame.shape.1; next = can.frame.shape.4; given = given; held = had; asked = asked; is = is })));
+        way = made_way maker old new c e f.asked f.ending (objects_in f.objects) can.frame.shape.1.ending (no_stack f can.frame.shape.4) (inr (refl, inl (memory, record { number = refl; allocating = can.frame.shape.1; next = can.frame.shape.4; given = given; held = had; asked = asked; is = is })));
         searched = λ s. tt;
       }
   made_ready at had given (Err x) c f can asked is in_slot =
@@ -425,9 +479,9 @@ module _ {P : Type 0} (maker : MakerTold) (old new : LimiterTold) where
       record {
         kept = kept_part maker old new c e c _ can.core (held_of maker c.settings c.plan e can.frame) refl refl refl refl;
         shape = (refl, (can.frame.shape.0, refl, goes_back maker c.settings c.plan at.name (forgotten had) (has_of_one maker c.settings c.plan at.name had (forgotten had) refl can.frame.shape.2)));
-        even = record { places = λ t. omega arith; instances = omega arith; memories = omega arith; tables = omega arith };
-        fewer = omega arith;
-        way = fails_way maker old new c e f.ending (objects_in f.objects) x can.frame.shape.1.ending (inr (inr (inl (record { number = refl; allocating = can.frame.shape.1; next = can.frame.shape.4; given = given; held = had; asked = asked; is = is }))));
+        even = record { places = λ t. omega arith; instances = omega arith; memories = omega arith; tables = omega arith; stacks = omega arith };
+        fewer = omega (arith, returns_less f.asked (sizes_of c.settings c.plan) f.objects (no_stack f can.frame.shape.4));
+        way = admitted_way maker old new c e f.asked f.ending (objects_in f.objects) x can.frame.shape.1.ending (no_stack f can.frame.shape.4) (inr (inr (inl (record { number = refl; allocating = can.frame.shape.1; next = can.frame.shape.4; given = given; held = had; asked = asked; is = is }))));
         searched = λ s. tt;
       }
 
@@ -451,7 +505,7 @@ module _ {P : Type 0} (maker : MakerTold) (old new : LimiterTold) where
       let k : ℕ = length f.objects.tables.items in
       let has = can.frame.shape.2 in
       let allocating = can.frame.shape.1 in
-      let more : k < length (tables_wanted f.asked) = omega (arith, allocating.more, can.frame.shape.3, allocating.to_grant.few) in
+      let more : k < length (tables_wanted f.asked) = omega (arith, allocating.more, can.frame.shape.3.0, can.frame.shape.3.1, allocating.to_grant.few) in
       let B : TableType → Type 0 = λ ty. (IsTableLease maker c.settings c.plan lease × IsBegunTable c.settings lease ty) × IsMadeTable c.settings at region lease ty in
       let begun : IfTable f B = told_both (IsTableSupported c.settings) (IsMadeTable c.settings at region lease) B (slice_get (tables_wanted f.asked) k)
       (λ ty supports of. (begun_table maker c.settings c.plan at region lease ty can.core.page can.core.settings has.inside has.region supports of, of)) (allocating.to_grant.tables.each k) made in
@@ -461,9 +515,9 @@ module _ {P : Type 0} (maker : MakerTold) (old new : LimiterTold) where
       record {
         kept = kept_part maker old new c e c _ can.core (held_of maker c.settings c.plan e can.frame) refl refl refl refl;
         shape = (refl, (can.frame.shape.0, allocating, leased, told_weaker B (IsBegunTable c.settings lease) (slice_get (tables_wanted f.asked) k) (λ ty b. b.0.1) begun, can.frame.shape.3));
-        even = record { places = λ t. omega (arith, ap (taken_count t) (slot ∙ named)); instances = omega arith; memories = omega arith; tables = omega arith };
+        even = record { places = λ t. omega (arith, ap (taken_count t) (slot ∙ named)); instances = omega arith; memories = omega arith; tables = omega arith; stacks = omega arith };
         fewer = omega arith;
-        way = made_way maker old new c e f.ending (objects_in f.objects) allocating.ending (inr (refl, inr (lease, record { number = refl; allocating = allocating; next = can.frame.shape.3; given = given; at = at; region = region; asked = asked; is = is })));
+        way = made_way maker old new c e f.asked f.ending (objects_in f.objects) allocating.ending can.frame.shape.3.1 (inr (refl, inr (lease, record { number = refl; allocating = allocating; next = can.frame.shape.3; given = given; at = at; region = region; asked = asked; is = is })));
         searched = λ s. tt;
       }
   made_table_ready at region given (Err x) c f can asked is made =
@@ -471,9 +525,9 @@ module _ {P : Type 0} (maker : MakerTold) (old new : LimiterTold) where
       record {
         kept = kept_part maker old new c e c _ can.core (held_of maker c.settings c.plan e can.frame) refl refl refl refl;
         shape = (refl, (can.frame.shape.0, refl, table_goes_back at region c can.frame.shape.2));
-        even = record { places = λ t. omega arith; instances = omega arith; memories = omega arith; tables = omega arith };
-        fewer = omega arith;
-        way = fails_way maker old new c e f.ending (objects_in f.objects) x can.frame.shape.1.ending (inr (inr (inr (record { number = refl; allocating = can.frame.shape.1; next = can.frame.shape.3; given = given; at = at; region = region; asked = asked; is = is }))));
+        even = record { places = λ t. omega arith; instances = omega arith; memories = omega arith; tables = omega arith; stacks = omega arith };
+        fewer = omega (arith, returns_less f.asked (sizes_of c.settings c.plan) f.objects can.frame.shape.3.1);
+        way = admitted_way maker old new c e f.asked f.ending (objects_in f.objects) x can.frame.shape.1.ending can.frame.shape.3.1 (inr (inr (inr (record { number = refl; allocating = can.frame.shape.1; next = can.frame.shape.3; given = given; at = at; region = region; asked = asked; is = is }))));
         searched = λ s. tt;
       }
 
@@ -494,15 +548,16 @@ module _ {P : Type 0} (maker : MakerTold) (old new : LimiterTold) where
       IsToGrant c.settings c.plan f.asked 0 objects →
       objects_in objects ≡ objects_in f.objects + 1 →
       Even maker old new c e (hand {P = P} next) d has →
-      1 + objects_left (sizes_of c.plan) f.asked f.objects ≤ steps_left c e →
-      (counters.core_instances ≤ c.counters.core_instances + 1) × (counters.memories ≤ c.counters.memories + 1) × (counters.tables ≤ c.counters.tables + 1) →
-      stage_of e ≡ stage_by f.ending (objects_in f.objects + 1) →
+      1 + objects_left (sizes_of c.settings c.plan) f.asked f.objects ≤ steps_left c e →
+      (counters.core_instances ≤ c.counters.core_instances + 1) × (counters.memories ≤ c.counters.memories + 1) × (counters.tables ≤ c.counters.tables + 1) × (counters.stacks ≤ c.counters.stacks + 1) →
+      stacks_wanted f.asked ≡ 0 →
+      stage_of e ≡ stage_by f.asked f.ending (objects_in f.objects + 1) →
       Ready maker old new c e d has next)
-  counted_object_ready object counters objects c f can settled allocating leases to_grant long even steps by_one stage =
+  counted_object_ready object counters objects c f can settled allocating leases to_grant long even steps by_one unstacked stage =
       let e : Frame P = in_phase (CountObject object) f in
       let has : Frame P = record f { phase = Idle; objects = objects; queues = 0 } in
       let S : Ending → Type 0 = λ x. IsSearchedBy x (AreEmpty 0 (record c { counters = counters }) has) in
-      let W : Stage → ℕ → Type 0 = λ x n. Goes maker old new c e x (stage_by f.ending n) None in
+      let W : Stage → ℕ → Type 0 = λ x n. Goes maker old new c e x (stage_by f.asked f.ending n) None in
       record {
         kept = record {
           core = core_with_counters maker counters c can.core;
@@ -513,11 +568,12 @@ module _ {P : Type 0} (maker : MakerTold) (old new : LimiterTold) where
           instances_by_one = by_one.0;
           memories_by_one = by_one.1;
           tables_by_one = by_one.2;
+          stacks_by_one = by_one.3;
         };
         shape = (settled, aims_grant c.settings c.plan f.ending f.asked 0 objects allocating.ending to_grant);
         even = even;
-        fewer = omega (arith, steps, next_object (sizes_of c.plan) f.ending f.asked f.objects objects allocating.ending long);
-        way = subst (λ (x : Stage). W x (objects_in objects)) (sym stage) (subst (W (stage_by f.ending (objects_in f.objects + 1))) (sym long) (same_way maker old new c e f.ending (objects_in f.objects + 1)));
+        fewer = omega (arith, steps, next_object (sizes_of c.settings c.plan) f.ending f.asked f.objects objects allocating.ending long unstacked);
+        way = subst (λ (x : Stage). W x (objects_in objects)) (sym stage) (subst (W (stage_by f.asked f.ending (objects_in f.objects + 1))) (sym long) (same_way maker old new c e f.asked f.ending (objects_in f.objects + 1)));
         searched = λ s. subst S (sym allocating.ending) (λ j below. absurd (omega (arith, below)));
       }
 
@@ -533,6 +589,7 @@ module _ {P : Type 0} (maker : MakerTold) (old new : LimiterTold) where
       (record {
         supported = was.supported;
         tables = was.tables;
+        enabled = was.enabled;
         images = was.images;
         room = was.room;
         table_room = was.table_room;
@@ -542,7 +599,7 @@ module _ {P : Type 0} (maker : MakerTold) (old new : LimiterTold) where
         begun = (push_at (λ k l. IfSome (slice_get (memories_wanted f.asked) k) (IsNew c.settings.max_memory_size (slice_index_or (images_wanted f.asked) k None) l.memory)) f.objects.memories.items lease was.begun.0 can.frame.shape.3, was.begun.1);
         taken = omega arith;
       })
-      (omega (arith, long)) (record { places = λ t. omega (arith, leased_last t f.objects.memories.items lease); instances = omega arith; memories = omega (arith, long); tables = omega arith }) (omega arith) (omega arith, omega arith, omega arith) refl
+      (omega (arith, long)) (record { places = λ t. omega (arith, leased_last t f.objects.memories.items lease); instances = omega arith; memories = omega (arith, long); tables = omega arith; stacks = omega arith }) (omega arith) (omega arith, omega arith, omega arith, omega arith) (no_stack f can.frame.shape.4) refl
   count_object_ready (Table lease) c f can =
       let allocating = can.frame.shape.1 in
       let was = allocating.to_grant in
@@ -553,16 +610,44 @@ module _ {P : Type 0} (maker : MakerTold) (old new : LimiterTold) where
       (record {
         supported = was.supported;
         tables = was.tables;
+        enabled = was.enabled;
         images = was.images;
         room = was.room;
         table_room = was.table_room;
         few = was.few;
-        few_tables = omega (arith, allocating.more, can.frame.shape.4, was.few, long);
-        order = λ less. absurd (omega (arith, less, can.frame.shape.4));
+        few_tables = omega (arith, allocating.more, can.frame.shape.4.0, can.frame.shape.4.1, was.few, long);
+        order = λ less. absurd (omega (arith, less, can.frame.shape.4.0));
         begun = (was.begun.0, push_at (λ k l. IfSome (slice_get (tables_wanted f.asked) k) (IsBegunTable c.settings l)) f.objects.tables.items lease was.begun.1 can.frame.shape.3);
         taken = omega arith;
       })
-      (omega (arith, long)) (record { places = λ t. omega (arith, tables_last t f.objects.tables.items lease); instances = omega arith; memories = omega arith; tables = omega (arith, long) }) (omega arith) (omega arith, omega arith, omega arith) refl
+      (omega (arith, long)) (record { places = λ t. omega (arith, tables_last t f.objects.tables.items lease); instances = omega arith; memories = omega arith; tables = omega (arith, long); stacks = omega arith }) (omega arith) (omega arith, omega arith, omega arith, omega arith) can.frame.shape.4.1 refl
+  count_object_ready (Stack lease) c f can =
+      let e : Frame P = in_phase (CountObject (Stack lease)) f in
+      let allocating = can.frame.shape.1 in
+      let stack : f.asked ≡ stack_asked = can.frame.shape.4 in
+      let none : objects_in f.objects ≡ 0 = none_for_stack c.settings c.plan f.asked f.queues f.objects allocating.to_grant stack in
+      let no_memories : f.objects.memories.items ≡ [] = nil_from_length f.objects.memories.items (omega (arith, none)) in
+      let no_tables : f.objects.tables.items ≡ [] = nil_from_length f.objects.tables.items (omega (arith, none)) in
+      let E : Asked → Type 0 = λ a. IsEnabled c.settings a in
+      let enabled : 0 < c.settings.stack_size = subst E stack allocating.to_grant.enabled in
+      record {
+        kept = record {
+          core = core_with_counters maker (record c.counters { stacks = c.counters.stacks + 1 }) c can.core;
+          held = held_of maker c.settings c.plan e can.frame;
+          asked = refl;
+          settings = refl;
+          plan = refl;
+          instances_by_one = omega arith;
+          memories_by_one = omega arith;
+          tables_by_one = omega arith;
+          stacks_by_one = omega arith;
+        };
+        shape = (record { settled = can.frame.shape.0; no_memories = no_memories; no_tables = no_tables }, (can.frame.shape.2, can.frame.shape.3, stack));
+        even = record { places = λ t. omega arith; instances = omega (arith, ap (λ (a : Asked). instances_for a 1) stack, ap (λ (a : Asked). instances_for a 0) stack); memories = omega arith; tables = omega arith; stacks = omega arith };
+        fewer = omega arith;
+        way = granted_stack_way maker old new c e f.asked f.ending (objects_in f.objects) lease stack allocating.ending enabled;
+        searched = λ s. tt;
+      }
 
   -- The region of a slot is put back,
   pub put_back_ready : (at : TakenSlot) (held : ImageSlot P) (c : PoolCore P) (f : Frame P) → Can maker (PutBack at held) c f → Shows (PutBack at held) c f (in_cell at.name c (put_back_on at.name (cell_of held) (cell_named at.name c) (in_phase Idle f)))
@@ -574,9 +659,9 @@ module _ {P : Type 0} (maker : MakerTold) (old new : LimiterTold) where
       record {
         kept = kept_part maker old new c e (with_cell at.name cell c) (in_phase Idle f) (core_with_cell maker at.name cell c can.core region.named (record { named = (sound_cell maker at.name c can.core region.named).named; holds = region.holds })) (held_of maker c.settings c.plan e can.frame) refl refl refl refl;
         shape = (refl, (can.frame.shape.0, can.frame.shape.1, region.named));
-        even = record { places = λ t. let back = region_returns maker t at.name (cell_of held) c can.core region.named gone.away region.there in omega (arith, back.0, back.1, ap (region_count t at.name) gone.out); instances = omega arith; memories = omega arith; tables = omega arith };
+        even = record { places = λ t. let back = region_returns maker t at.name (cell_of held) c can.core region.named gone.away region.there in omega (arith, back.0, back.1, ap (region_count t at.name) gone.out); instances = omega arith; memories = omega arith; tables = omega arith; stacks = omega arith };
         fewer = omega arith;
-        way = same_way maker old new c e f.ending (objects_in f.objects);
+        way = same_way maker old new c e f.asked f.ending (objects_in f.objects);
         searched = λ s. tt;
       }
 
@@ -595,8 +680,8 @@ module _ {P : Type 0} (maker : MakerTold) (old new : LimiterTold) where
       record {
         kept = kept_part maker old new c e (with_shard j freed c) (in_phase Idle f) (core_with_shard maker j freed c can.core there next_shard.sound next_shard.same) (held_of maker c.settings c.plan e can.frame) refl refl refl refl;
         shape = (can.frame.shape.0, aims_back c.settings c.plan f.ending f.asked f.queues f.objects can.frame.shape.1);
-        even = record { places = λ t. omega (arith, kept_shard t j freed c (shard_part maker j c can.core there), away_shard t j freed c (shard_part maker j c can.core there), freed_one t c.plan shard name 0 place used); instances = omega arith; memories = omega arith; tables = omega arith };
-        fewer = omega (arith, next_returns (sizes_of c.plan) f.ending f.queues f.asked f.objects can.frame.shape.1);
-        way = same_way maker old new c e f.ending (objects_in f.objects);
+        even = record { places = λ t. omega (arith, kept_shard t j freed c (shard_part maker j c can.core there), away_shard t j freed c (shard_part maker j c can.core there), freed_one t c.plan shard name 0 place used); instances = omega arith; memories = omega arith; tables = omega arith; stacks = omega arith };
+        fewer = omega (arith, next_returns (sizes_of c.settings c.plan) f.ending f.queues f.asked f.objects can.frame.shape.1);
+        way = same_way maker old new c e f.asked f.ending (objects_in f.objects);
         searched = λ s. searched_back f.ending _ can.frame.shape.1;
       }

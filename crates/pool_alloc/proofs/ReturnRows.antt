@@ -1,11 +1,11 @@
 -- The rows of a give-back, and of a flush.
 use Rattle.pool_alloc.proofs.PlanPlaces.{IsShardPlace, IsQueuePlace, apart_places, queue_no_cell, tried_is_queue}
 use Rattle.pool_slots.specs.declared.plan.Plan.{Plan}
-use Rattle.std.proofs.Common.{◌≡◌, ℕ, ◌+◌, ◌-◌, ◌^◌, ◌<◌, ◌≤◌, Bool, true, false, List, [], ◌∷◌, ◌++◌, length, refl, sym, ap, subst, ◌∙◌, arith, All, inl, Option, None, Some}
+use Rattle.std.proofs.Common.{map, ◌≡◌, ℕ, ◌+◌, ◌-◌, ◌%◌, ◌^◌, ◌<◌, ◌≤◌, Bool, true, false, List, [], ◌∷◌, ◌++◌, length, refl, sym, ap, subst, ◌∙◌, arith, All, inl, Option, None, Some}
 use Rattle.std.specs.Prelude.{◌==◌, ◌||◌, ◌&&◌, not, nat_le, nat_lt, filter, if◌then◌else◌, IfSome}
 use Rattle.std.proofs.lemmas.Bool.{leb-false, or_parts}
 use Rattle.std.proofs.lemmas.List.{length_push, length-append}
-use Rattle.std.proofs.lemmas.List.Elements.{All-head, All-same, All-push, All-filter, All-weaker, All-nil, All-tail}
+use Rattle.std.proofs.lemmas.List.Elements.{All-head, All-nil, All-push, All-filter, All-weaker, All-tail}
 use Rattle.std.proofs.lemmas.List.Filters.{length-filter_both}
 use Rattle.pool_pages.specs.MakerTold.{MakerTold}
 use Rattle.pool_limits.specs.LimiterTold.{LimiterTold}
@@ -21,51 +21,57 @@ use Rattle.pool_images.specs.declared.ranges.ByteRange.{ByteRange}
 use Rattle.pool_index.specs.Shard.{ShardState}
 use Rattle.pool_memory.specs.Memories.{slot_of as image_slot_of}
 use Rattle.pool_slots.specs.RegionCells.{CellState, cell_filled}
-use Rattle.pool_slots.specs.SlotQueues.{Queue, Queued, taken_into, drained, after_append, IsSettled, first_of_kind, first_zeroed, is_to_zero, others_of_kind, plain_slot}
+use Rattle.pool_slots.specs.SlotQueues.{Queue, Queued, LeavesClean, empty_queue, taken_into, drained, after_append, IsSettled, first_of_kind, first_zeroed, is_to_zero, others_of_kind, plain_slot}
 use Rattle.pool_alloc.specs.Answers.{Decommits, Resets, FlushTold, ResetTold}
-use Rattle.pool_alloc.specs.Bounds.{sizes_of}
+use Rattle.pool_alloc.specs.Bounds.{all_slots, sizes_of}
 use Rattle.pool_alloc.specs.Freeing.{AreUsedInTurn}
 use Rattle.pool_alloc.specs.Leases.{Lease, memory_slot, slot_taken}
 use Rattle.pool_alloc.specs.Own.{slot_ended, reset_into}
-use Rattle.pool_alloc.specs.Places.{Thing, queued_count, region_count, right_to, taken_count}
+use Rattle.pool_alloc.specs.Places.{Thing, both_count, queued_count, region_count, right_to, taken_count}
 use Rattle.pool_alloc.specs.Reserved.{with_item}
-use Rattle.pool_alloc.specs.Rows.{FlushStep, run, zero, put, free, flush_step, merged, merge_on, in_queue, uncount_object_row, was_reset, reset_turn, reset_row, uncount_instance_row, decommit_row, zero_row, put_first, free_row, flush_row}
+use Rattle.pool_alloc.specs.Rows.{stack_reset_row, FlushStep, run, zero, put, free, flush_step, merged, merge_on, in_queue, uncount_object_row, was_reset, reset_turn, reset_row, uncount_instance_row, decommit_row, zero_row, put_first, free_row, flush_row}
 use Rattle.pool_hall.specs.declared.unit_name.SlotKind.{SlotKind}
 use Rattle.pool_hall.specs.declared.unit_name.SlotKind.TheVariants.{Memory as memory_kind}
 use Rattle.pool_slots.specs.declared.queued_range.QueueKind.TheVariants as queued
 use Rattle.pool_slots.specs.Plans.{home_of, cell_place}
 use Rattle.pool_alloc.specs.declared.frame.Object.{Object}
-use Rattle.pool_alloc.specs.declared.frame.Object.TheVariants.{Memory, Table}
+use Rattle.pool_alloc.specs.declared.frame.Object.TheVariants.{Memory, Table, Stack}
 use Rattle.pool_alloc.specs.Objects.{objects_in, slot_of_object}
-use Rattle.pool_alloc.specs.Sound.{IsPoolSlot, IsCore, IsShared, IsLocal, IsQueuedOf, IsFreedOf, IsSlotName}
+use Rattle.pool_alloc.specs.Sound.{IsPoolSlot, IsCore, IsShared, IsLocal, IsByHand, IsQueuedOf, MayBeRanged, IsFreedOf, IsSlotName}
 use Rattle.pool_alloc.specs.Steps.{StepGiven, shard_at, cell_named, queue_at, freed_of, freed_elsewhere, first_shard, after_frees, cell_returned, queue_tried, with_shard, with_cell, with_queue}
-use Rattle.pool_alloc.specs.Turns.{goes, next, flush, Row, is_flushed}
+use Rattle.pool_alloc.specs.Turns.{goes, next, flush, Row, is_flushed, answer_of}
 use Rattle.pool_alloc.proofs.CoreChanges.{core_with_shard, core_with_cell, core_with_queue, core_with_counters}
 use Rattle.pool_alloc.proofs.FlushSteps.{few_in_both, flush_few, decommit_fewer, put_fewer, free_fewer, zero_fewer}
 use Rattle.pool_alloc.proofs.FreedSlots.{freed_counts}
-use Rattle.pool_alloc.proofs.Hands.{some_length, in_phase, hand, held_of, Even, Kept, IsReadyRow, either_ready}
+use Rattle.pool_alloc.proofs.Hands.{some_length, counts_one, none_granted, none_counted, in_phase, hand, held_of, Even, Kept, IsReadyRow, either_ready}
 use Rattle.pool_alloc.proofs.KeptCounts.{kept_shard, kept_queue, away_shard, away_queue, region_returns}
-use Rattle.pool_alloc.proofs.LocalQueues.{IsStillLocal, reset_local, drained_shared, taken_local, drained_local, joined_local, joined_shared, decommitted_local, rest_local, IsResetLocal, zeroed_local}
+use Rattle.pool_alloc.proofs.LocalQueues.{IsStillLocal, listed_may, reset_local, drained_shared, taken_local, drained_local, joined_local, joined_shared, decommitted_local, rest_local, IsResetLocal, zeroed_local}
 use Rattle.pool_alloc.proofs.QueueCounts.{queued_last, queued_joined, freed_last, freed_parted, run_counts, faulted_counts}
 use Rattle.pool_alloc.proofs.RegionRows.{goes_back}
 use Rattle.pool_alloc.proofs.ShardFrees.{IsShardOf, frees_shard}
 use Rattle.pool_alloc.proofs.SlotIdentity.{one_reset, slot_of_one}
 use Rattle.pool_alloc.proofs.Stages.{local_is_apart, first_can_be_put, first_can_be_freed}
-use Rattle.pool_alloc.specs.Stepping.{grant_count, grant_instances, grant_memories, grant_tables}
-use Rattle.pool_alloc.proofs.Ways.{Can, searched_back, none_granted, none_counted, aims_back, next_returns, kept_part, same_way, ends_way, searched_still}
+use Rattle.pool_alloc.specs.Stepping.{grant_count, count_granted, grant_instances, grant_memories, grant_tables, grant_stacks}
+use Rattle.pool_alloc.proofs.Ways.{Can, searched_back, aims_back, next_returns, kept_part, same_way, ends_way, searched_still}
 use Rattle.pool_alloc.proofs.PoolParts.{sound_shard, sound_cell, sound_queue, shard_part, queue_part}
 use Rattle.pool_alloc.proofs.Searching.{still_empty}
 use Rattle.pool_alloc.specs.Searches.{AreEmpty}
 use Rattle.pool_slots.specs.declared.part.PoolPart.TheVariants as part
 use Rattle.std.specs.List.{AllByRecursion, list_any}
-use Rattle.pool_alloc.proofs.FlushFinds.{finds, Finds, FindsFreed, FindsPut, FreesFirst, IsBack, frees_first, is_back, names_of, order_decommitted, order_freed, order_put, order_zeroed, puts_some}
+use Rattle.pool_alloc.proofs.FlushFinds.{finds, Finds, FindsFreed, FindsPut, FreesFirst, IsBack, frees_first, is_back, names_of, none_waits, order_freed, order_put, puts_some}
 use Rattle.pool_alloc.specs.TableSteps.{IsInRegion, bytes_used, reset_in, table_queued, table_reset}
 use Rattle.pool_alloc.specs.PoolTables.{IsPoolTable, IsTableLease}
 use Rattle.pool_alloc.specs.TableLeases.{LeasedTable}
 use Rattle.pool_slots.specs.declared.slot_name.SlotName.{SlotName}
 use Rattle.pool_pages.specs.Told.{Told}
-use Rattle.pool_slots.specs.PlainSlots.{above_bottom}
+use Rattle.pool_slots.specs.PlainSlots.{StackState, above_bottom, stack_kept, stack_ranges, stack_zeroed}
 use Rattle.pool_alloc.proofs.KindCounts.{counts_first, first_has, first_kind, others_long, zeroed_counts, zeroed_long}
+use Rattle.pool_alloc.specs.StackLeases.{LeasedStack}
+use Rattle.pool_alloc.specs.PoolStacks.{IsStackLease, stack_reset}
+use Rattle.pool_slots.specs.HeldSlots.{stack_item}
+use Rattle.pool_slots.proofs.SlotChanges.{leaves_clean}
+use Rattle.pool_alloc.specs.declared.pool_core.Settings.{Settings}
+use Rattle.pool_alloc.proofs.StackRegions.{few_ranges, stack_by_hand, stack_leaves, stack_name, stack_page, stack_queued_of, stack_small}
 use Rattle.pool_alloc.proofs.TableReturns.{few_above, returned_has, returned_may, table_leaves, table_still}
 use Rattle.pool_slots.proofs.SlotPops.{first_settled}
 use Rattle.pool_alloc.proofs.Held.{right_is_out}
@@ -82,10 +88,6 @@ one_range Zero keep accessible = omega arith
 fewer_left : (p : FreedSlot → Bool) (xs : List FreedSlot) → length (filter (λ x. not (p x)) xs) ≤ length xs
 fewer_left p xs = omega (arith, length-filter_both p (λ (x : FreedSlot). not (p x)) (λ x. refl) xs)
 
--- nothing waits to be freed
-none_waits : (xs : List FreedSlot) → xs ≡ [] → All (λ x. x.name.kind ≡ memory_kind) xs
-none_waits xs none = let M : FreedSlot → Type 0 = λ x. x.name.kind ≡ memory_kind in All-same M xs [] none (All-nil M)
-
 -- what is so of all is so of the first of a kind
 each_of : (Q : Queued → Type 0) (ms : List Queued) → All Q ms → AllByRecursion Q ms
 each_of Q [] each = tt
@@ -100,6 +102,11 @@ decommit_counts t false old new told = ap (λ (q : Queue). queued_count t q.slot
 
 bytes_of : (plan : Plan) (xs : List FreedSlot) → All (IsFreedOf plan) xs → All (λ x. x.bytes ≤ 2 ^ 32) xs
 bytes_of plan xs each = All-weaker (IsFreedOf plan) (λ x. x.bytes ≤ 2 ^ 32) (λ x of. of.bytes) xs each
+
+-- ranges of a stack that is reset may be queued
+stack_ranged : (b : Bool) (s : Settings) (keep : ℕ) (x : StackState) → b ≡ s.stack_zeroing → All (MayBeRanged s) (map (λ r. record { kind = queued.Stack; slot = record { 0 = x.index }; range = r }) (stack_ranges b keep x))
+stack_ranged true s keep x is = listed_may s queued.Stack x.index (stack_ranges true keep x) (λ e. sym is)
+stack_ranged false s keep x is = All-nil (MayBeRanged s)
 
 module _ {P : Type 0} where
   core_after_frees : (maker : MakerTold) (j : ℕ) (slots : List FreedSlot) (c : PoolCore P) → IsCore maker c → IsShardPlace c.plan j → AreUsedInTurn c.plan slots (shard_at j c) → All (λ x. x.bytes ≤ 2 ^ 32) slots → IsCore maker (with_shard j (after_frees c.plan slots (shard_at j c)) c)
@@ -129,52 +136,61 @@ module _ {P : Type 0} (maker : MakerTold) (old new : LimiterTold) where
   uncount_object_ready (Memory lease) c f can =
       let e : Frame P = in_phase (UncountObject (Memory lease)) f in
       record {
-        kept = record { core = core_with_counters maker (record c.counters { memories = c.counters.memories - 1 }) c can.core; held = held_of maker c.settings c.plan e can.frame; asked = refl; settings = refl; plan = refl; instances_by_one = omega arith; memories_by_one = omega arith; tables_by_one = omega arith };
+        kept = record { core = core_with_counters maker (record c.counters { memories = c.counters.memories - 1 }) c can.core; held = held_of maker c.settings c.plan e can.frame; asked = refl; settings = refl; plan = refl; instances_by_one = omega arith; memories_by_one = omega arith; tables_by_one = omega arith; stacks_by_one = omega arith };
         shape = (refl, can.frame.shape);
-        even = record { places = λ t. omega arith; instances = omega arith; memories = omega (arith, can.fits.memories); tables = omega arith };
+        even = record { places = λ t. omega arith; instances = omega arith; memories = omega (arith, can.fits.memories); tables = omega arith; stacks = omega arith };
         fewer = omega arith;
-        way = same_way maker old new c e f.ending (objects_in f.objects);
+        way = same_way maker old new c e f.asked f.ending (objects_in f.objects);
         searched = λ s. tt;
       }
   uncount_object_ready (Table lease) c f can =
       let e : Frame P = in_phase (UncountObject (Table lease)) f in
       record {
-        kept = record { core = core_with_counters maker (record c.counters { tables = c.counters.tables - 1 }) c can.core; held = held_of maker c.settings c.plan e can.frame; asked = refl; settings = refl; plan = refl; instances_by_one = omega arith; memories_by_one = omega arith; tables_by_one = omega arith };
+        kept = record { core = core_with_counters maker (record c.counters { tables = c.counters.tables - 1 }) c can.core; held = held_of maker c.settings c.plan e can.frame; asked = refl; settings = refl; plan = refl; instances_by_one = omega arith; memories_by_one = omega arith; tables_by_one = omega arith; stacks_by_one = omega arith };
         shape = (refl, can.frame.shape);
-        even = record { places = λ t. omega arith; instances = omega arith; memories = omega arith; tables = omega (arith, can.fits.tables) };
+        even = record { places = λ t. omega arith; instances = omega arith; memories = omega arith; tables = omega (arith, can.fits.tables); stacks = omega arith };
         fewer = omega arith;
-        way = same_way maker old new c e f.ending (objects_in f.objects);
+        way = same_way maker old new c e f.asked f.ending (objects_in f.objects);
+        searched = λ s. tt;
+      }
+  uncount_object_ready (Stack lease) c f can =
+      let e : Frame P = in_phase (UncountObject (Stack lease)) f in
+      record {
+        kept = record { core = core_with_counters maker (record c.counters { stacks = c.counters.stacks - 1 }) c can.core; held = held_of maker c.settings c.plan e can.frame; asked = refl; settings = refl; plan = refl; instances_by_one = omega arith; memories_by_one = omega arith; tables_by_one = omega arith; stacks_by_one = omega arith };
+        shape = (refl, can.frame.shape);
+        even = record { places = λ t. omega arith; instances = omega arith; memories = omega arith; tables = omega arith; stacks = omega (arith, can.fits.stacks) };
+        fewer = omega arith;
+        way = same_way maker old new c e f.asked f.ending (objects_in f.objects);
         searched = λ s. tt;
       }
 
   -- An object is reset into the local queue, which has it alone then.
-  reset_on_ready : (object : Object P) (q : Queue) (c : PoolCore P) (f : Frame P) → Can maker (Reset object) c f → IsResetLocal maker c.settings q → ((t : Thing) → queued_count t q.slots ≡ queued_count t f.local.slots + taken_count t (slot_of_object object)) → 0 < c.plan.totals.memory + c.plan.totals.table
+  reset_on_ready : (object : Object P) (q : Queue) (c : PoolCore P) (f : Frame P) → Can maker (Reset object) c f → IsResetLocal maker c.settings q → ((t : Thing) → queued_count t q.slots ≡ queued_count t f.local.slots + taken_count t (slot_of_object object)) → 0 < all_slots c.plan
       → Shows (Reset object) c f (record { part = c; frame = record f { phase = Idle; local = q }; turn = reset_turn c.settings.batch q })
   reset_on_ready object q c f can is counts slots =
       let e : Frame P = in_phase (Reset object) f in
       let settled = can.frame.shape.0 in
       let back = can.frame.shape.1 in
       let has : Frame P = record f { phase = Idle; local = q } in
-      let M : FreedSlot → Type 0 = λ x. x.name.kind ≡ memory_kind in
       let kept : Kept maker old new c e c has = kept_part maker old new c e c has can.core
       (record {
         stripe = can.frame.stripe;
         queue = is.queue;
         freed_room = (can.frame.freed_room.0, omega (arith, is.one, can.core.settings.batch.0, ap (length {A = FreedSlot}) settled.none_freed));
         freed_each = can.frame.freed_each;
-        freed_order = inl (All-same M f.freed.items [] settled.none_freed (All-nil M));
+        freed_order = none_waits f.freed.items settled.none_freed;
         objects = can.frame.objects;
       })
       refl refl refl refl in
-      let even : Even maker old new c e (hand {P = P} next) c has = record { places = λ t. omega (arith, counts t); instances = omega arith; memories = omega arith; tables = omega arith } in
-      let few = flush_few (sizes_of c.plan) (c.plan.totals.memory + c.plan.totals.table) q f.freed is.queue.grouped (omega (arith, is.one, slots)) in
-      let stays = same_way maker old new c e f.ending (objects_in f.objects) in
+      let even : Even maker old new c e (hand {P = P} next) c has = record { places = λ t. omega (arith, counts t); instances = omega arith; memories = omega arith; tables = omega arith; stacks = omega arith } in
+      let few = flush_few (sizes_of c.settings c.plan) (all_slots c.plan) q f.freed is.queue.grouped (omega (arith, is.one, slots)) in
+      let stays = same_way maker old new c e f.asked f.ending (objects_in f.objects) in
       either_ready maker old new c e c has ((length q.ranges == 0) || nat_le c.settings.batch (length q.ranges)) flush (goes Merge)
       (λ full. record {
         kept = kept;
         shape = aims_back c.settings c.plan f.ending f.asked f.queues f.objects back;
         even = even;
-        fewer = omega (arith, few, next_returns (sizes_of c.plan) f.ending f.queues f.asked f.objects back);
+        fewer = omega (arith, few, next_returns (sizes_of c.settings c.plan) f.ending f.queues f.asked f.objects back);
         way = stays;
         searched = λ s. searched_back f.ending _ back;
       })
@@ -196,10 +212,10 @@ module _ {P : Type 0} (maker : MakerTold) (old new : LimiterTold) where
       let of = can.frame.shape.2 in
       record {
         kept = kept_part maker old new c e c (in_phase Idle f) can.core (held_of maker c.settings c.plan e can.frame) refl refl refl refl;
-        shape = (refl, (can.frame.shape.0, can.frame.shape.1, goes_back maker c.settings c.plan (memory_slot lease.index) (forgotten held) (record { kind = refl; inside = of.inside; region = slot_of_one maker c.settings.behaviour c.settings.max_memory_size lease.index (image_slot_of lease.memory) (forgotten held) told.1.same of.slot })));
-        even = record { places = λ t. omega arith; instances = omega arith; memories = omega arith; tables = omega arith };
+        shape = (refl, (can.frame.shape.0, can.frame.shape.1, goes_back maker c.settings c.plan (memory_slot lease.index) (forgotten held) (record { kind = refl; inside = of.inside; region = slot_of_one maker c.settings lease.index (image_slot_of lease.memory) (forgotten held) told.1.same of.slot })));
+        even = record { places = λ t. omega arith; instances = omega arith; memories = omega arith; tables = omega arith; stacks = omega arith };
         fewer = omega arith;
-        way = same_way maker old new c e f.ending (objects_in f.objects);
+        way = same_way maker old new c e f.asked f.ending (objects_in f.objects);
         searched = λ s. tt;
       }
   memory_reset_ready false held lease c f can told =
@@ -208,9 +224,9 @@ module _ {P : Type 0} (maker : MakerTold) (old new : LimiterTold) where
       let keep : ℕ = c.settings.keep_resident.bytes in
       let slot : Slot = image_slot_of lease.memory in
       let m : Queued = slot_ended keep (slot_taken lease) slot in
-      let still : IsPoolSlot maker c.settings.behaviour c.settings.max_memory_size lease.index (reset_slot slot.region.behaviour keep slot) = slot_of_one maker c.settings.behaviour c.settings.max_memory_size lease.index slot (reset_slot slot.region.behaviour keep slot) (one_reset slot.region.behaviour keep slot) of.slot in
+      let still : IsPoolSlot maker c.settings lease.index (reset_slot slot.region.behaviour keep slot) = slot_of_one maker c.settings lease.index slot (reset_slot slot.region.behaviour keep slot) (one_reset slot.region.behaviour keep slot) of.slot in
       let ranges : List ByteRange = left_ranges slot.region.behaviour keep slot.accessible.bytes in
-      let is = reset_local maker c.settings queued.Memory ranges lease.index m f.local refl can.core.settings can.frame.queue settled.no_ranges settled.no_slots (omega (arith, one_range slot.region.behaviour keep slot.accessible.bytes, can.core.settings.batch.0)) (record { slot = still; by_hand = tt }) told.1 in
+      let is = reset_local maker c.settings queued.Memory ranges lease.index m f.local refl can.core.settings can.frame.queue settled.no_ranges settled.no_slots (omega (arith, one_range slot.region.behaviour keep slot.accessible.bytes, can.core.settings.batch.0)) (record { slot = still; by_hand = tt }) (listed_may c.settings queued.Memory lease.index ranges (λ e. absurd cc)) told.1 in
       reset_on_ready (Memory lease) (reset_into keep (slot_taken lease) slot f.local) c f can is (λ t. queued_last t f.local.slots m) (omega (arith, of.inside))
 
   -- The table is.
@@ -223,8 +239,27 @@ module _ {P : Type 0} (maker : MakerTold) (old new : LimiterTold) where
       let m : Queued = table_queued page keep lease region in
       let ranges : List ByteRange = above_bottom keep (bytes_used page lease) in
       let leaves = table_leaves page keep lease region lies can.core.settings.table_kept in
-      let is = reset_local maker c.settings queued.Table ranges lease.index m f.local refl can.core.settings can.frame.queue settled.no_ranges settled.no_slots (omega (arith, few_above keep (bytes_used page lease), can.core.settings.batch.0)) (record { slot = table_still maker c.settings page keep lease region of; by_hand = refl }) leaves in
+      let is = reset_local maker c.settings queued.Table ranges lease.index m f.local refl can.core.settings can.frame.queue settled.no_ranges settled.no_slots (omega (arith, few_above keep (bytes_used page lease), can.core.settings.batch.0)) (record { slot = table_still maker c.settings page keep lease region of; by_hand = refl }) (listed_may c.settings queued.Table lease.index ranges (λ e. absurd cc)) leaves in
       reset_on_ready (Table lease) (table_reset page keep lease region f.local) c f can is (λ t. queued_last t f.local.slots m) (omega (arith, can.frame.shape.2.inside))
+
+  -- The stack is.
+  stack_reset_ready : (lease : LeasedStack) (c : PoolCore P) (f : Frame P) → Can maker (Reset (Stack lease)) c f → Shows (Reset (Stack lease)) c f (stack_reset_row lease c (in_phase Idle f))
+  stack_reset_ready lease c f can =
+      let settled = can.frame.shape.0 in
+      let of : IsStackLease maker c.settings c.plan lease = can.frame.shape.2 in
+      let s : Settings = c.settings in
+      let x : StackState = lease.stack in
+      let keep : ℕ = s.stack_keep_resident.bytes in
+      let z : Bool = x.zeroing in
+      let m : Queued = stack_item (stack_zeroed z keep x) (stack_kept z keep x) lease.numbers in
+      let ranges : List ByteRange = stack_ranges z keep x in
+      let whole : keep % x.slot.region.page ≡ 0 = rw (stack_page maker s x.index x.slot can.core.page of.slot) can.core.settings.stack_kept in
+      let L : ℕ → Type 0 = λ n. LeavesClean (map (λ r. record { kind = queued.Stack; slot = record { 0 = n }; range = r }) ranges) m in
+      let leaves : L x.index = subst L (ap (λ (n : SlotName). n.slot) (stack_name z keep x lease.numbers)) (leaves_clean queued.Stack m ranges (empty_queue 0 0) (ap (λ (n : SlotName). n.kind) (stack_name z keep x lease.numbers)) tt refl (stack_leaves keep x lease.numbers of.plain whole (stack_small maker s x.index x.slot can.core.settings of.slot))) in
+      let hand : IsByHand s.stack_zeroing m.by_hand = stack_by_hand z s.stack_zeroing keep x lease.numbers refl of.zeroing in
+      let queues : IsQueuedOf maker s m = stack_queued_of z maker s keep lease c.plan of hand in
+      let is = reset_local maker s queued.Stack ranges x.index m f.local (stack_name z keep x lease.numbers) can.core.settings can.frame.queue settled.no_ranges settled.no_slots (omega (arith, few_ranges z keep x, can.core.settings.batch.0)) queues (stack_ranged z s keep x of.zeroing) leaves in
+      reset_on_ready (Stack lease) (stack_reset keep lease f.local) c f can is (λ t. omega (arith, queued_last t f.local.slots m, ap (λ (n : SlotName). both_count t n lease.numbers) (stack_name z keep x lease.numbers))) (omega (arith, of.inside))
 
   pub reset_ready : (g : StepGiven) (object : Object P) (c : PoolCore P) (f : Frame P) → Can maker (Reset object) c f → ResetTold c.settings g object → Shows (Reset object) c f (reset_row g object c (in_phase Idle f))
   reset_ready g (Memory lease) c f can told = memory_reset_ready g.fault g.slot lease c f can told
@@ -232,6 +267,7 @@ module _ {P : Type 0} (maker : MakerTold) (old new : LimiterTold) where
       let held : IsTableLease maker c.settings c.plan lease = can.frame.shape.2 in
       let S : Option Told → Type 0 = λ o. Shows (Reset (Table lease)) c f (record { part = c; frame = record f { phase = Idle; local = reset_in c.settings.page c.settings.table_keep_resident.bytes lease o f.local }; turn = reset_turn c.settings.batch (reset_in c.settings.page c.settings.table_keep_resident.bytes lease o f.local) }) in
       subst S (sym held.lies.is) (table_reset_ready held.region lease c f can held.slot held.lies)
+  reset_ready g (Stack lease) c f can told = stack_reset_ready lease c f can
 
   -- The local queue is appended.
   merged_ready : (b : Bool) (c : PoolCore P) (f : Frame P) → Can maker Merge c f → nat_le c.settings.batch (length (after_append (queue_at (queue_tried 0 c.plan f) c) f.local).ranges) ≡ b → Shows Merge c f (in_queue (queue_tried 0 c.plan f) c (merged b (after_append (queue_at (queue_tried 0 c.plan f) c) f.local) (record f { phase = Idle; local = drained f.local })))
@@ -254,14 +290,14 @@ module _ {P : Type 0} (maker : MakerTold) (old new : LimiterTold) where
               queue = taken_local maker c.settings (drained f.local) whole (drained_local maker c.settings f.local can.frame.queue.range_room can.frame.queue.slot_room) both;
               freed_room = (can.frame.freed_room.0, omega (arith, shared.short, shared.slots, slots, shape.2, ap (length {A = FreedSlot}) shape.1));
               freed_each = can.frame.freed_each;
-              freed_order = inl (none_waits f.freed.items shape.1);
+              freed_order = none_waits f.freed.items shape.1;
               objects = can.frame.objects;
             })
             refl refl refl refl;
         shape = aims_back c.settings c.plan f.ending f.asked f.queues f.objects shape.0;
-        even = record { places = λ t. omega (arith, kept_queue t i (drained whole) c (queue_part maker i c can.core below), away_queue t i (drained whole) c (queue_part maker i c can.core below), queued_joined t q.slots f.local.slots); instances = omega arith; memories = omega arith; tables = omega arith };
-        fewer = omega (arith, flush_few (sizes_of c.plan) (c.plan.totals.memory + c.plan.totals.table) (taken_into (drained f.local) whole) f.freed both.grouped (few_in_both maker i c e can below), next_returns (sizes_of c.plan) f.ending f.queues f.asked f.objects shape.0);
-        way = same_way maker old new c e f.ending (objects_in f.objects);
+        even = record { places = λ t. omega (arith, kept_queue t i (drained whole) c (queue_part maker i c can.core below), away_queue t i (drained whole) c (queue_part maker i c can.core below), queued_joined t q.slots f.local.slots); instances = omega arith; memories = omega arith; tables = omega arith; stacks = omega arith };
+        fewer = omega (arith, flush_few (sizes_of c.settings c.plan) (all_slots c.plan) (taken_into (drained f.local) whole) f.freed both.grouped (few_in_both maker i c e can below), next_returns (sizes_of c.settings c.plan) f.ending f.queues f.asked f.objects shape.0);
+        way = same_way maker old new c e f.asked f.ending (objects_in f.objects);
         searched = λ s. searched_back f.ending _ shape.0;
       }
   merged_ready false c f can is =
@@ -282,14 +318,14 @@ module _ {P : Type 0} (maker : MakerTold) (old new : LimiterTold) where
               queue = drained_local maker c.settings f.local can.frame.queue.range_room can.frame.queue.slot_room;
               freed_room = (can.frame.freed_room.0, omega (arith, can.frame.freed_room.1));
               freed_each = can.frame.freed_each;
-              freed_order = inl (none_waits f.freed.items shape.1);
+              freed_order = none_waits f.freed.items shape.1;
               objects = can.frame.objects;
             })
             refl refl refl refl;
         shape = (record { no_ranges = refl; no_slots = refl; none_freed = shape.1 }, aims_back c.settings c.plan f.ending f.asked f.queues f.objects shape.0);
-        even = record { places = λ t. omega (arith, kept_queue t i whole c (queue_part maker i c can.core below), away_queue t i whole c (queue_part maker i c can.core below), queued_joined t q.slots f.local.slots); instances = omega arith; memories = omega arith; tables = omega arith };
-        fewer = omega (arith, next_returns (sizes_of c.plan) f.ending f.queues f.asked f.objects shape.0);
-        way = same_way maker old new c e f.ending (objects_in f.objects);
+        even = record { places = λ t. omega (arith, kept_queue t i whole c (queue_part maker i c can.core below), away_queue t i whole c (queue_part maker i c can.core below), queued_joined t q.slots f.local.slots); instances = omega arith; memories = omega arith; tables = omega arith; stacks = omega arith };
+        fewer = omega (arith, next_returns (sizes_of c.settings c.plan) f.ending f.queues f.asked f.objects shape.0);
+        way = same_way maker old new c e f.asked f.ending (objects_in f.objects);
         searched = λ s. searched_back f.ending _ shape.0;
       }
 
@@ -301,11 +337,11 @@ module _ {P : Type 0} (maker : MakerTold) (old new : LimiterTold) where
   uncount_instance_ready c f can =
       let e : Frame P = in_phase UncountInstance f in
       record {
-        kept = record { core = core_with_counters maker (record c.counters { core_instances = c.counters.core_instances - 1 }) c can.core; held = held_of maker c.settings c.plan e can.frame; asked = refl; settings = refl; plan = refl; instances_by_one = omega arith; memories_by_one = omega arith; tables_by_one = omega arith };
+        kept = record { core = core_with_counters maker (record c.counters { core_instances = c.counters.core_instances - 1 }) c can.core; held = held_of maker c.settings c.plan e can.frame; asked = refl; settings = refl; plan = refl; instances_by_one = omega arith; memories_by_one = omega arith; tables_by_one = omega arith; stacks_by_one = omega arith };
         shape = (can.frame.shape.0, none_granted _ f.ending);
-        even = record { places = λ t. omega (arith, none_counted {P = P} (grant_count t) f.ending); instances = omega (arith, can.fits.instances, none_counted {P = P} grant_instances f.ending); memories = omega (arith, none_counted {P = P} grant_memories f.ending); tables = omega (arith, none_counted {P = P} grant_tables f.ending) };
+        even = record { places = λ t. omega (arith, none_counted {P = P} (grant_count t) f.ending); instances = omega (arith, can.fits.instances, counts_one f.asked 1 can.frame.shape.2, counts_one f.asked (count_granted {P = P} grant_instances (Some (answer_of f.ending))) can.frame.shape.2, none_counted {P = P} grant_instances f.ending); memories = omega (arith, none_counted {P = P} grant_memories f.ending); tables = omega (arith, none_counted {P = P} grant_tables f.ending); stacks = omega (arith, none_counted {P = P} grant_stacks f.ending) };
         fewer = omega arith;
-        way = ends_way maker old new c e f.ending (objects_in f.objects) can.frame.shape.1;
+        way = ends_way maker old new c e f.asked f.ending (objects_in f.objects) can.frame.shape.1;
         searched = λ s. tt;
       }
 
@@ -313,16 +349,16 @@ module _ {P : Type 0} (maker : MakerTold) (old new : LimiterTold) where
   decommit_ready : (fault : Bool) (queue : Queue) (c : PoolCore P) (f : Frame P) → Can maker Flush c f → Decommits fault f.local queue → 0 < length f.local.ranges → Shows Flush c f (decommit_row queue c (in_phase Idle f))
   decommit_ready fault queue c f can told some =
       let e : Frame P = in_phase Flush f in
-      let still : IsStillLocal maker c.settings f.local queue = decommitted_local maker c.settings fault f.local queue told can.frame.queue in
+      let still : IsStillLocal maker c.settings f.local queue = decommitted_local maker c.settings fault f.local queue told some can.frame.queue in
       let has : Frame P = record f { phase = Idle; local = queue } in
       record {
         kept = kept_part maker old new c e c has can.core
-            (record { stripe = can.frame.stripe; queue = still.queue; freed_room = (can.frame.freed_room.0, rw still.long can.frame.freed_room.1); freed_each = can.frame.freed_each; freed_order = order_decommitted fault f.local queue f.freed.items told can.frame.freed_order; objects = can.frame.objects })
+            (record { stripe = can.frame.stripe; queue = still.queue; freed_room = (can.frame.freed_room.0, rw still.long can.frame.freed_room.1); freed_each = can.frame.freed_each; freed_order = can.frame.freed_order; objects = can.frame.objects })
             refl refl refl refl;
         shape = can.frame.shape.0;
-        even = record { places = λ t. omega (arith, decommit_counts t fault f.local queue told); instances = omega arith; memories = omega arith; tables = omega arith };
-        fewer = omega (arith, decommit_fewer (sizes_of c.plan) fault f.local queue f.freed told some);
-        way = same_way maker old new c e f.ending (objects_in f.objects);
+        even = record { places = λ t. omega (arith, decommit_counts t fault f.local queue told); instances = omega arith; memories = omega arith; tables = omega arith; stacks = omega arith };
+        fewer = omega (arith, decommit_fewer (sizes_of c.settings c.plan) fault f.local queue f.freed told some);
+        way = same_way maker old new c e f.asked f.ending (objects_in f.objects);
         searched = λ s. s;
       }
 
@@ -340,14 +376,14 @@ module _ {P : Type 0} (maker : MakerTold) (old new : LimiterTold) where
               queue = zeroed_local maker c.settings kind f.local none can.frame.queue;
               freed_room = (can.frame.freed_room.0, omega (arith, can.frame.freed_room.1, long));
               freed_each = can.frame.freed_each;
-              freed_order = order_zeroed kind f.local.slots f.freed.items can.frame.freed_order;
+              freed_order = can.frame.freed_order;
               objects = can.frame.objects;
             })
             refl refl refl refl;
         shape = can.frame.shape.0;
-        even = record { places = λ t. omega (arith, zeroed_counts t kind f.local.slots); instances = omega arith; memories = omega arith; tables = omega arith };
-        fewer = omega (arith, zero_fewer (sizes_of c.plan) kind f.local f.freed none some);
-        way = same_way maker old new c e f.ending (objects_in f.objects);
+        even = record { places = λ t. omega (arith, zeroed_counts t kind f.local.slots); instances = omega arith; memories = omega arith; tables = omega arith; stacks = omega arith };
+        fewer = omega (arith, zero_fewer (sizes_of c.settings c.plan) kind f.local f.freed none some);
+        way = same_way maker old new c e f.asked f.ending (objects_in f.objects);
         searched = λ s. s;
       }
 
@@ -364,10 +400,10 @@ module _ {P : Type 0} (maker : MakerTold) (old new : LimiterTold) where
       let long : length f.local.slots ≡ length (others_of_kind kind f.local.slots) + 1 = others_long kind m f.local.slots is in
       let more : length (f.freed.items ++ x ∷ []) ≡ length f.freed.items + 1 = length_push f.freed.items x in
       let can_put = first_can_be_put maker c f kind m can.core can.fits is in
-      let back : IsBack m.name.kind m = is_back kind m f.local f.freed.items can.frame.queue.queue found is of.by_hand in
+      let back : IsBack m = is_back kind m f.local f.freed.items can.frame.queue.queue found is in
       record {
         kept = kept_part maker old new c e d has
-            (core_with_cell maker m.name cell c can.core can_put.named (record { named = (sound_cell maker m.name c can.core can_put.named).named; holds = returned_may maker c.settings m.name.kind m.name.slot m can.core.page can.core.settings of.slot settled.clean back }))
+            (core_with_cell maker m.name cell c can.core can_put.named (record { named = (sound_cell maker m.name c can.core can_put.named).named; holds = returned_may maker c.settings m.name.kind m.name.slot m can.core.page can.core.settings of.slot of.by_hand settled.clean back }))
             (record {
               stripe = can.frame.stripe;
               queue = rest_local maker c.settings kind f.local none can.frame.queue;
@@ -378,9 +414,9 @@ module _ {P : Type 0} (maker : MakerTold) (old new : LimiterTold) where
             })
             refl refl refl refl;
         shape = can.frame.shape.0;
-        even = record { places = λ t. omega (arith, counts_first t kind m f.local.slots is, (region_returns maker t m.name (cell_returned m) c can.core can_put.named can_put.away (returned_has m.name.kind m)).0, (region_returns maker t m.name (cell_returned m) c can.core can_put.named can_put.away (returned_has m.name.kind m)).1, ap (region_count t m.name) can_put.out, freed_last t f.freed.items x); instances = omega arith; memories = omega arith; tables = omega arith };
-        fewer = omega (arith, put_fewer (sizes_of c.plan) kind m f.local f.freed is);
-        way = same_way maker old new c e f.ending (objects_in f.objects);
+        even = record { places = λ t. omega (arith, counts_first t kind m f.local.slots is, (region_returns maker t m.name (cell_returned m) c can.core can_put.named can_put.away (returned_has m.name.kind m)).0, (region_returns maker t m.name (cell_returned m) c can.core can_put.named can_put.away (returned_has m.name.kind m)).1, ap (region_count t m.name) can_put.out, freed_last t f.freed.items x); instances = omega arith; memories = omega arith; tables = omega arith; stacks = omega arith };
+        fewer = omega (arith, put_fewer (sizes_of c.settings c.plan) kind m f.local f.freed is);
+        way = same_way maker old new c e f.asked f.ending (objects_in f.objects);
         searched = searched_still f.ending (AreEmpty f.queues c f) (AreEmpty f.queues d f) (still_empty f.queues (cell_place c.plan m.name) _ c f can.core.plan (λ q queue. queue_no_cell c.plan (length c.parts) q m.name can.core.plan can_put.named queue));
       }
 
@@ -407,14 +443,14 @@ module _ {P : Type 0} (maker : MakerTold) (old new : LimiterTold) where
               queue = can.frame.queue;
               freed_room = (can.frame.freed_room.0, omega (arith, can.frame.freed_room.1, less));
               freed_each = All-filter (λ x. not ((home_of c.plan x.name).place == j)) (IsFreedOf c.plan) f.freed.items can.frame.freed_each;
-              freed_order = order_freed f.local.slots f.freed.items (freed_elsewhere c.plan j f.freed.items) (λ Q each. All-filter (λ x. not ((home_of c.plan x.name).place == j)) Q f.freed.items each) can.frame.freed_order;
+              freed_order = order_freed f.freed.items (freed_elsewhere c.plan j f.freed.items) (λ Q each. All-filter (λ x. not ((home_of c.plan x.name).place == j)) Q f.freed.items each) can.frame.freed_order;
               objects = can.frame.objects;
             })
             refl refl refl refl;
         shape = can.frame.shape.0;
-        even = record { places = λ t. omega (arith, kept_shard t j shard c (shard_part maker j c can.core first.shard), away_shard t j shard c (shard_part maker j c can.core first.shard), freed_counts t maker j c e can.core can.fits can.frame.freed_each first.shard, freed_parted t (λ x. (home_of c.plan x.name).place == j) f.freed.items); instances = omega arith; memories = omega arith; tables = omega arith };
-        fewer = omega (arith, free_fewer c.plan (length c.parts) f.local.slots f.freed.items can.core.plan can.frame.freed_each frees.apart frees.some);
-        way = same_way maker old new c e f.ending (objects_in f.objects);
+        even = record { places = λ t. omega (arith, kept_shard t j shard c (shard_part maker j c can.core first.shard), away_shard t j shard c (shard_part maker j c can.core first.shard), freed_counts t maker j c e can.core can.fits can.frame.freed_each first.shard, freed_parted t (λ x. (home_of c.plan x.name).place == j) f.freed.items); instances = omega arith; memories = omega arith; tables = omega arith; stacks = omega arith };
+        fewer = omega (arith, free_fewer c.settings c.plan (length c.parts) f.local.slots f.freed.items can.core.plan can.frame.freed_each frees.apart frees.some);
+        way = same_way maker old new c e f.asked f.ending (objects_in f.objects);
         searched = searched_still f.ending (AreEmpty f.queues c f) (AreEmpty f.queues d f) (still_empty f.queues j (part.Shard shard) c f can.core.plan (λ q queue e. apart_places c.plan j q first.shard queue (sym e)));
       }
 

@@ -124,7 +124,7 @@ no_units name n kind step first [] = refl
 no_units name n kind step first (None ∷ uses) = no_units name n kind step (first + step) uses
 no_units name n kind step first (Some u ∷ uses) = omega (arith, none_of (kind_number name.kind == kind_number kind) (name.slot == first), no_units name n kind step (first + step) uses)
 
-choice_more : (t : Thing) (want : Option MemoryInModule) (s : ShardState) (c : Choice) → IsShard s → IsChoice s c → total t (shard_units (after_choice want s c)) ≡ total t (shard_units s) + t (slot_unit s (slot_and_bytes s c).0.0)
+pub choice_more : (t : Thing) (want : Option MemoryInModule) (s : ShardState) (c : Choice) → IsShard s → IsChoice s c → total t (shard_units (after_choice want s c)) ≡ total t (shard_units s) + t (slot_unit s (slot_and_bytes s c).0.0)
 choice_more t want s (warm_at i) sound is =
     let free = warm_slot_free s i sound is in
     used_more t s.kind s.step s.first s.used (entry_at s i).slot.0 want free.within (ap is_some free.unused)

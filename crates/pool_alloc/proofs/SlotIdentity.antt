@@ -1,34 +1,45 @@
 -- A slot stays that of its region, whatever calls were made on it.
-use Rattle.std.proofs.Common.{◌≡◌, ℕ, ◌+◌, ◌-◌, ◌/◌, ◌^◌, ◌≤◌, Bool, true, false, List, [], ◌∷◌, length, refl, ap, ◌∙◌, sym, subst, arith, Option, Some, None, All, replicate, slice_range}
-use Rattle.std.specs.Prelude.{IfSome, map, if◌then◌else◌}
+use Rattle.std.proofs.Common.{◌≡◌, ℕ, ◌+◌, ◌/◌, ◌%◌, ◌^◌, ◌<◌, ◌≤◌, Bool, true, false, List, [], ◌∷◌, length, refl, ap, ◌∙◌, sym, subst, arith, Option, Some, None, All, replicate}
+use Rattle.std.specs.Prelude.{map, if◌then◌else◌}
 use Rattle.std.specs.List.{AllZip}
+use Rattle.std.proofs.Math.Nat.{zero-div}
 use Rattle.std.proofs.lemmas.List.{length-map, length-replicate}
 use Rattle.std.proofs.lemmas.List.Elements.{All-nil, All-cons, All-head, All-tail}
 use Rattle.pool_pages.specs.Count.{count, rounded_up}
-use Rattle.pool_pages.specs.Contents.{Contents, CanReach}
-use Rattle.pool_pages.specs.Told.{Told, PageCall, erasing, recolouring, decommitting}
-use Rattle.pool_pages.specs.MakerTold.{MakerTold, fresh}
+use Rattle.pool_pages.specs.Contents.{IsShaped, put_all, recoloured}
+use Rattle.pool_pages.specs.Told.{Told, PageCall, TellsShaped, erasing, recolouring, decommitting}
+use Rattle.pool_pages.specs.MakerTold.{MakerTold, fresh, made_region}
 use Rattle.pool_pages.specs.declared.pages.DecommitBehavior.{DecommitBehavior}
 use Rattle.pool_pages.specs.declared.pages.DecommitBehavior.TheVariants.{Zero, RestoreOriginalMapping}
+use Rattle.pool_pages.specs.declared.pages.RegionName.TheVariants as of_region
+use Rattle.pool_pages.proofs.DenseCalls.{fresh_shaped}
+use Rattle.pool_pages.proofs.Puts.{length-put}
 use Rattle.pool_images.specs.declared.ranges.ByteRange.{ByteRange}
-use Rattle.pool_images.specs.Slots.{Slot, IsFresh, IsClean, IsReady, Holds, HasColour, identity, size_of, called, coloured, wiped, reset_slot, decommitted_all}
+use Rattle.pool_images.specs.Slots.{Slot, IsFresh, IsClean, identity, size_of, called, coloured, wiped, reset_slot, decommitted_all}
 use Rattle.pool_images.proofs.Identity.{told_same, same_called}
-use Rattle.pool_images.proofs.Marks.{range-zeros}
-use Rattle.pool_slots.specs.Cells.{region_made}
+use Rattle.pool_images.proofs.Making.{fresh_clean}
+use Rattle.pool_slots.specs.Cells.{identity_made}
+use Rattle.pool_slots.specs.Colourings.{stripe_colour}
+use Rattle.pool_slots.proofs.FreshColours.{regions_fresh}
 use Rattle.pool_hall.specs.declared.unit_name.SlotKind.{SlotKind}
 use Rattle.pool_hall.specs.declared.unit_name.SlotKind.TheVariants.{Memory, Table, Stack, Heap}
 use Rattle.pool_slots.specs.declared.slot_name.SlotName.{SlotName}
-use Rattle.pool_slots.specs.SlotQueues.{IsSlotLeft, front, Queue, Queued, IsLeftBy, forgotten_slot, is_of, first_slot, change_at, after_run}
+use Rattle.pool_slots.specs.SlotQueues.{IsSlotLeft, same_slot, front, Queue, Queued, IsLeftBy, forgotten_slot, is_of, first_slot, change_at, after_run}
+use Rattle.pool_alloc.specs.CanStep.{CanBeImage}
 use Rattle.pool_alloc.specs.Own.{image_made}
-use Rattle.pool_alloc.specs.Sound.{IsPoolSlot, MayQueue, IsQueuedOf}
+use Rattle.pool_alloc.specs.Sound.{IsPoolSlot, IsSettings, MayQueue, MayBeRanged, IsQueuedOf, memory_region}
+use Rattle.pool_alloc.specs.PoolTables.{IsPoolTable}
+use Rattle.pool_slots.specs.PlainSlots.{IsPlain}
+use Rattle.pool_slots.specs.declared.queued_range.QueuedRange.{QueuedRange}
+use Rattle.pool_slots.proofs.SlotNames.{slot_is}
 use Rattle.pool_alloc.specs.declared.pool_core.Settings.{Settings}
-use Rattle.pool_alloc.proofs.Telling.{replicated, told_weaker}
+use Rattle.pool_alloc.proofs.Rounding.{rounded_is_whole}
 
 -- it is the slot of the same region
 abbrev pub IsOneSlot : Slot → Slot → Type 0
 IsOneSlot old new = identity new ≡ identity old
 
-one_coloured : (colour : Option ℕ) (start len : ℕ) (s : Slot) → IsOneSlot s (record s { region = coloured colour start len s.region })
+pub one_coloured : (colour : Option ℕ) (start len : ℕ) (s : Slot) → IsOneSlot s (record s { region = coloured colour start len s.region })
 one_coloured None start len s = refl
 one_coloured (Some number) start len s = same_called (recolouring start len number) s
 
@@ -48,94 +59,90 @@ one_reset RestoreOriginalMapping keep s = ap (λ (b : Bool). record (identity s)
 one_reset Zero keep s = one_wiped s
 
 -- the slot of one region stays that
-pub slot_of_one : (maker : MakerTold) (behaviour : DecommitBehavior) (static_size i : ℕ) (old new : Slot) → IsOneSlot old new → IsPoolSlot maker behaviour static_size i old → IsPoolSlot maker behaviour static_size i new
-slot_of_one maker behaviour static_size i old new one of = record { same = one ∙ of.same }
+pub slot_of_one : (maker : MakerTold) (s : Settings) (i : ℕ) (old new : Slot) → IsOneSlot old new → IsPoolSlot maker s i old → IsPoolSlot maker s i new
+slot_of_one maker s i old new one of = record { same = one ∙ of.same }
 
--- A region as it was made, and the image slot that is made of it: it is clean.
-pub slot_made : (maker : MakerTold) (behaviour : DecommitBehavior) (page static_size i : ℕ) (region : Told) → page ≡ maker.page → region ≡ region_made maker behaviour static_size i → IsPoolSlot maker behaviour static_size i (image_made page static_size region)
-slot_made maker behaviour page static_size i region paged is =
-    let P : ℕ → Told → Type 0 = λ n t. IsPoolSlot maker behaviour static_size i (image_made n static_size t) in
-    let made : P maker.page (region_made maker behaviour static_size i) = record { same = refl } in
-    subst (λ (n : ℕ). P n region) (sym paged) (subst (P maker.page) (sym is) made)
+-- A region in its colour keeps its page.
+coloured_page : (colour : Option ℕ) (start len : ℕ) (t : Told) → (coloured colour start len t).page ≡ t.page
+coloured_page None start len t = refl
+coloured_page (Some number) start len t = refl
 
-made_told : (page static_size len : ℕ) (tells : Bool) (region : Told) → IfSome (if tells then Some (fresh page 0 len) else None) (λ c. IsReady (image_made page static_size region) c × Holds (image_made page static_size region) 0 (size_of (image_made page static_size region)) c)
-made_told page static_size len true region =
-    let all : length (replicate {A = ℕ} len 0) ≡ len = length-replicate {A = ℕ} len 0 in (
-      record {
-        reach = λ k from below. absurd (omega arith);
-        origin = rw all refl;
-        beyond = refl;
-        colour = λ k inside. replicated (len / page) k 0;
-      },
-      refl,
-    )
-made_told page static_size len false region = tt
+pub region_page : (maker : MakerTold) (s : Settings) (i : ℕ) → (memory_region maker s i).page ≡ maker.page
+region_page maker s i = coloured_page (stripe_colour s.num_stripes i) 0 (rounded_up maker.page s.max_memory_size) (made_region (of_region.Memory i) s.behaviour (count maker.page 0) (count maker.page (rounded_up maker.page s.max_memory_size)) maker)
 
-pub clean_made : (maker : MakerTold) (behaviour : DecommitBehavior) (page static_size i : ℕ) (region : Told) → page ≡ maker.page → region ≡ region_made maker behaviour static_size i → IsClean (image_made page static_size region)
-clean_made maker behaviour page static_size i region paged is =
-    let P : ℕ → Told → Type 0 = λ n t. IsClean (image_made n static_size t) in
-    let fresh_region : Told = region_made maker behaviour static_size i in
-    let s : Slot = image_made maker.page static_size fresh_region in
-    let T : Contents → Type 0 = λ c. IsReady s c × Holds s 0 (size_of s) c in
-    let told : IfSome fresh_region.contents T = made_told maker.page static_size (rounded_up maker.page static_size) maker.tells fresh_region in
-    let made : P maker.page (region_made maker behaviour static_size i) = record {
-      not_dirty = refl;
-      image = refl;
-      ready = told_weaker T (IsReady s) fresh_region.contents (λ c h. h.0) told;
-      holds = told_weaker T (Holds s 0 (size_of s)) fresh_region.contents (λ c h. h.1) told;
+-- A region as it was made, and the image slot that is made of it: it can be made, and is clean.
+pub slot_made : (maker : MakerTold) (s : Settings) (i : ℕ) (region : Told) → s.page ≡ maker.page → region ≡ memory_region maker s i → IsPoolSlot maker s i (image_made s i region)
+slot_made maker s i region paged is =
+    let t : Told = memory_region maker s i in
+    let colour : Option ℕ = stripe_colour s.num_stripes i in
+    let made : IsPoolSlot maker s i (image_made s i t) = record { same = ap (λ (n : ℕ). record (identity_made t colour s.max_memory_size) { base = count n 0 }) (paged ∙ sym (region_page maker s i)) } in
+    subst (λ (r : Told). IsPoolSlot maker s i (image_made s i r)) (sym is) made
+
+pub fresh_made : (maker : MakerTold) (s : Settings) (i : ℕ) (region : Told) → s.page ≡ maker.page → IsSettings s → region ≡ memory_region maker s i → CanBeImage s i region
+fresh_made maker s i region paged sound is =
+    let F : ℕ → Told → Type 0 = λ n r. IsFresh (count n 0) (count n 0) s.max_memory_size (stripe_colour s.num_stripes i) r in
+    let B : ℕ → Type 0 = λ n. s.max_memory_size + n ≤ 2 ^ 64 in
+    let some : 0 < maker.page = omega (arith, paged, sound.page.at_least) in
+    let made : F maker.page (memory_region maker s i) = regions_fresh s.num_stripes i maker s.behaviour maker.page s.max_memory_size some (subst B paged sound.bounded) in
+    record { stripes = sound.stripes; fresh = subst (λ (n : ℕ). F n region) (sym paged) (subst (F maker.page) (sym is) made) }
+
+made_shaped : (page len : ℕ) (tells : Bool) (colour : Option ℕ) (behaviour : DecommitBehavior) (i : ℕ) (maker : MakerTold) → len % page ≡ 0 → maker.tells ≡ tells → TellsShaped (coloured colour 0 len (made_region (of_region.Memory i) behaviour (count page 0) (count page len) maker))
+made_shaped page len true None behaviour i maker whole is = rw is (fresh_shaped page 0 len (omega (arith, zero-div page)) whole)
+made_shaped page len true (Some number) behaviour i maker whole is =
+    let made = fresh_shaped page 0 len (omega (arith, zero-div page)) whole in
+    let room : 0 / page + len / page ≤ len / page = omega (arith, zero-div page) in
+    let long : length (put_all (0 / page) (len / page) number (replicate {A = ℕ} (len / page) 0)) ≡ len / page =
+    length-put (0 / page) (replicate (len / page) number) (replicate {A = ℕ} (len / page) 0) (omega (arith, room, length-replicate {A = ℕ} (len / page) number, length-replicate {A = ℕ} (len / page) 0)) ∙ length-replicate {A = ℕ} (len / page) 0 in
+    let all : IsShaped page len (recoloured 0 len number (fresh page 0 len)) = record {
+      same_page = made.same_page;
+      whole = made.whole;
+      bytes = made.bytes;
+      origin = made.origin;
+      accessible = made.accessible;
+      dirty = made.dirty;
+      colour = long;
+      clean = made.clean;
     } in
-    subst (λ (n : ℕ). P n region) (sym paged) (subst (P maker.page) (sym is) made)
+    rw is all
+made_shaped page len false None behaviour i maker whole is = rw is tt
+made_shaped page len false (Some number) behaviour i maker whole is = rw is tt
 
--- and the image slot can be made of it
-fresh_told : (page len : ℕ) (tells : Bool) → IfSome (if tells then Some (fresh page 0 len) else None) (λ c. (c.origin ≡ replicate len 0) × (slice_range c.bytes 0 (0 + len) ≡ replicate len 0) × CanReach 0 0 c × HasColour 0 len None c)
-fresh_told page len true =
-    let all : 0 + len - 0 ≡ len = omega arith in
-    (refl, range-zeros len 0 (0 + len) (omega arith) ∙ ap (λ (n : ℕ). replicate {A = ℕ} n 0) all, λ k from below. absurd (omega arith), λ k inside. replicated (len / page) k 0)
-fresh_told page len false = tt
+pub clean_made : (maker : MakerTold) (s : Settings) (i : ℕ) (region : Told) → s.page ≡ maker.page → IsSettings s → region ≡ memory_region maker s i → IsClean (image_made s i region)
+clean_made maker s i region paged sound is =
+    let fresh = (fresh_made maker s i region paged sound is).fresh in
+    let size : ℕ = rounded_up maker.page s.max_memory_size in
+    let shaped : TellsShaped (memory_region maker s i) = made_shaped maker.page size maker.tells (stripe_colour s.num_stripes i) s.behaviour i maker (rounded_is_whole maker.page s.max_memory_size) refl in
+    fresh_clean region (count s.page 0) (count s.page 0) s.max_memory_size (stripe_colour s.num_stripes i) fresh (subst (λ (r : Told). TellsShaped r) (sym is) shaped)
 
-pub fresh_made : (maker : MakerTold) (behaviour : DecommitBehavior) (page static_size i : ℕ) (region : Told) → page ≡ maker.page → static_size + page ≤ 2 ^ 64 → region ≡ region_made maker behaviour static_size i → IsFresh (count page 0) (count page 0) static_size None region
-fresh_made maker behaviour page static_size i region paged bounded is =
-    let P : ℕ → Told → Type 0 = λ n t. IsFresh (count n 0) (count n 0) static_size None t in
-    let B : ℕ → Type 0 = λ n. static_size + n ≤ 2 ^ 64 in
-    let t : Told = region_made maker behaviour static_size i in
-    let len : ℕ = rounded_up maker.page static_size in
-    let T : Contents → Type 0 = λ c. (c.origin ≡ replicate len 0) × (slice_range c.bytes 0 (0 + len) ≡ replicate len 0) × CanReach 0 0 c × HasColour 0 len None c in
-    let told : IfSome t.contents T = fresh_told maker.page len maker.tells in
-    let made : P maker.page t =
-    record {
-      base_page = refl;
-      accessible_page = refl;
-      inside = omega arith;
-      bounded = subst B paged bounded;
-      within = omega arith;
-      origin = told_weaker T (λ c. c.origin ≡ replicate len 0) t.contents (λ c h. h.0) told;
-      zeros = told_weaker T (λ c. slice_range c.bytes 0 (0 + len) ≡ replicate len 0) t.contents (λ c h. h.1) told;
-      reach = told_weaker T (CanReach 0 0) t.contents (λ c h. h.2) told;
-      has_colour = told_weaker T (HasColour 0 len None) t.contents (λ c h. h.3) told;
-    } in
-    subst (λ (n : ℕ). P n region) (sym paged) (subst (P maker.page) (sym is) made)
+-- Queued slots stay those of their regions as ranges of one are decommitted. Of a stack that isn't given back zeroed none is.
+pub table_of_one : (maker : MakerTold) (s : Settings) (i : ℕ) (old new : Slot) → IsOneSlot old new → IsPoolTable maker s i old → IsPoolTable maker s i new
+table_of_one maker s i old new one of = record { same = one ∙ of.same }
 
--- Queued slots stay those of their regions as ranges of one are decommitted.
-pub queued_of_one : (maker : MakerTold) (s : Settings) (kind : SlotKind) (i : ℕ) (old new : Slot) → IsOneSlot old new → MayQueue maker s kind i old → MayQueue maker s kind i new
-queued_of_one maker s Memory i old new one of = record { same = one ∙ of.same }
-queued_of_one maker s Table i old new one of = record { same = one ∙ of.same }
-queued_of_one maker s Stack i old new one of = absurd of
-queued_of_one maker s Heap i old new one of = absurd of
+pub queued_of_one : (maker : MakerTold) (s : Settings) (kind : SlotKind) (i : ℕ) (old new : Slot) → IsOneSlot old new → (kind ≡ Stack → s.stack_zeroing ≡ false → new ≡ old) → MayQueue maker s kind i old → MayQueue maker s kind i new
+queued_of_one maker s Memory i old new one still of = record { same = one ∙ of.same }
+queued_of_one maker s Table i old new one still of = record { same = one ∙ of.same }
+queued_of_one maker s Stack i old new one still of = record { slot_is = record { same = one ∙ of.slot_is.same }; plain = λ left. subst IsPlain (sym (still refl left)) (of.plain left) }
+queued_of_one maker s Heap i old new one still of = absurd of
 
-changed_if : (maker : MakerTold) (s : Settings) (change : Slot → Slot) (m : Queued) (b : Bool) → ((x : Slot) → IsOneSlot x (change x)) → IsQueuedOf maker s m → IsQueuedOf maker s (if b then record m { slot = change m.slot } else m)
-changed_if maker s change m true one of = record { slot = queued_of_one maker s m.name.kind m.name.slot m.slot (change m.slot) (one m.slot) of.slot; by_hand = of.by_hand }
-changed_if maker s change m false one of = of
+-- the first range is of a stack only where stacks are given back zeroed
+pub first_ranged : (s : Settings) (ranges : List QueuedRange) → All (MayBeRanged s) ranges → 0 < length ranges → (first_slot ranges).kind ≡ Stack → s.stack_zeroing ≡ true
+first_ranged s [] each some is = absurd (omega (arith, some))
+first_ranged s (r ∷ rs) each some is = All-head (MayBeRanged s) r rs each is
 
-queued_changed : (maker : MakerTold) (s : Settings) (slot : SlotName) (ranges : List ByteRange) (ms : List Queued) → All (IsQueuedOf maker s) ms → All (IsQueuedOf maker s) (map (change_at slot (decommitted_all ranges)) ms)
-queued_changed maker s slot ranges [] of = All-nil (IsQueuedOf maker s)
-queued_changed maker s slot ranges (m ∷ ms) of =
+changed_if : (maker : MakerTold) (s : Settings) (change : Slot → Slot) (m : Queued) (b : Bool) → ((x : Slot) → IsOneSlot x (change x)) → (b ≡ true → m.name.kind ≡ Stack → s.stack_zeroing ≡ true) → IsQueuedOf maker s m → IsQueuedOf maker s (if b then record m { slot = change m.slot } else m)
+changed_if maker s change m true one ranged of = record { slot = queued_of_one maker s m.name.kind m.name.slot m.slot (change m.slot) (one m.slot) (λ kind left. absurd (cc (sym (ranged refl kind) ∙ left))) of.slot; by_hand = of.by_hand }
+changed_if maker s change m false one ranged of = of
+
+queued_changed : (maker : MakerTold) (s : Settings) (slot : SlotName) (ranges : List ByteRange) (ms : List Queued) → (slot.kind ≡ Stack → s.stack_zeroing ≡ true) → All (IsQueuedOf maker s) ms → All (IsQueuedOf maker s) (map (change_at slot (decommitted_all ranges)) ms)
+queued_changed maker s slot ranges [] ranged of = All-nil (IsQueuedOf maker s)
+queued_changed maker s slot ranges (m ∷ ms) ranged of =
     let P : Queued → Type 0 = IsQueuedOf maker s in
     All-cons P (change_at slot (decommitted_all ranges) m) (map (change_at slot (decommitted_all ranges)) ms)
-    (changed_if maker s (decommitted_all ranges) m _ (λ x. one_decommitted x ranges) (All-head P m ms of))
-    (queued_changed maker s slot ranges ms (All-tail P m ms of))
+    (changed_if maker s (decommitted_all ranges) m _ (λ x. one_decommitted x ranges) (λ same kind. ranged (ap (λ (x : SlotName). x.kind) (slot_is slot m.name same) ∙ kind)) (All-head P m ms of))
+    (queued_changed maker s slot ranges ms ranged (All-tail P m ms of))
 
-pub queued_after_run : (maker : MakerTold) (s : Settings) (q : Queue) → All (IsQueuedOf maker s) q.slots → All (IsQueuedOf maker s) (after_run q).slots
-queued_after_run maker s q of = queued_changed maker s (first_slot q.ranges) (map (λ r. r.range) (front (is_of (first_slot q.ranges)) q.ranges)) q.slots of
+pub queued_after_run : (maker : MakerTold) (s : Settings) (q : Queue) → 0 < length q.ranges → All (MayBeRanged s) q.ranges → All (IsQueuedOf maker s) q.slots → All (IsQueuedOf maker s) (after_run q).slots
+queued_after_run maker s q some each of = queued_changed maker s (first_slot q.ranges) (map (λ r. r.range) (front (is_of (first_slot q.ranges)) q.ranges)) q.slots (first_ranged s q.ranges each some) of
 
 pub length_after_run : (q : Queue) → length (after_run q).slots ≡ length q.slots
 length_after_run q = length-map q.slots (change_at (first_slot q.ranges) (decommitted_all (map (λ r. r.range) (front (is_of (first_slot q.ranges)) q.ranges))))
@@ -151,15 +158,28 @@ left_if : (b : Bool) (old new : Slot) → IsSlotLeft b old new → IsOneSlot old
 left_if true old new left = left.same
 left_if false old new same = ap (λ (s : Slot). identity s) same
 
-queued_left : (maker : MakerTold) (s : Settings) (faulted : SlotName) (old new : Queued) → IsLeftBy faulted old new → IsQueuedOf maker s old → IsQueuedOf maker s new
-queued_left maker s faulted old new left of =
-    let one : IsOneSlot old.slot (forgotten_slot old.name.kind new.slot) = one_unknown old.name.kind new.slot ∙ left_if _ (forgotten_slot old.name.kind old.slot) new.slot left.slot ∙ one_unknown old.name.kind old.slot in
-    subst (IsQueuedOf maker s) (sym left.same) (record { slot = queued_of_one maker s old.name.kind old.name.slot old.slot _ one of.slot; by_hand = of.by_hand })
+same_if : (b : Bool) (old new : Slot) → IsSlotLeft b old new → b ≡ false → new ≡ old
+same_if true old new left e = absurd cc
+same_if false old new same e = same
 
-pub queued_faulted : (maker : MakerTold) (s : Settings) (faulted : SlotName) (olds news : List Queued) → AllZip (IsLeftBy faulted) olds news → All (IsQueuedOf maker s) olds → All (IsQueuedOf maker s) news
-queued_faulted maker s faulted [] [] left of = of
-queued_faulted maker s faulted [] (n ∷ ns) left of = absurd left
-queued_faulted maker s faulted (m ∷ ms) [] left of = absurd left
-queued_faulted maker s faulted (m ∷ ms) (n ∷ ns) left of =
+left_still : (s : Settings) (faulted : SlotName) (old : Queued) (new : Slot) (b : Bool) → same_slot faulted old.name ≡ b → (faulted.kind ≡ Stack → s.stack_zeroing ≡ true) → IsSlotLeft (same_slot faulted old.name) old.slot new → old.name.kind ≡ Stack → s.stack_zeroing ≡ false → new ≡ old.slot
+left_still s faulted old new true is ranged left kind off = absurd (cc (sym (ranged (ap (λ (x : SlotName). x.kind) (slot_is faulted old.name is) ∙ kind)) ∙ off))
+left_still s faulted old new false is ranged left kind off = same_if (same_slot faulted old.name) old.slot new left is
+
+queued_left : (maker : MakerTold) (s : Settings) (faulted : SlotName) (old new : Queued) → (faulted.kind ≡ Stack → s.stack_zeroing ≡ true) → IsLeftBy faulted old new → IsQueuedOf maker s old → IsQueuedOf maker s new
+queued_left maker s faulted old new ranged left of =
+    let one : IsOneSlot old.slot (forgotten_slot old.name.kind new.slot) = one_unknown old.name.kind new.slot ∙ left_if _ (forgotten_slot old.name.kind old.slot) new.slot left.slot ∙ one_unknown old.name.kind old.slot in
+    let U : SlotKind → Slot → Slot → Type 0 = λ k x y. forgotten_slot k x ≡ y in
+    let forgets : (x : Slot) → old.name.kind ≡ Stack → forgotten_slot old.name.kind x ≡ x = λ x kind. subst (λ (k : SlotKind). U k x x) (sym kind) refl in
+    let L : Slot → Type 0 = λ x. IsSlotLeft (same_slot faulted old.name) x new.slot in
+    let still : old.name.kind ≡ Stack → s.stack_zeroing ≡ false → forgotten_slot old.name.kind new.slot ≡ old.slot = λ kind off.
+    forgets new.slot kind ∙ left_still s faulted old new.slot (same_slot faulted old.name) refl ranged (subst L (forgets old.slot kind) left.slot) kind off in
+    subst (IsQueuedOf maker s) (sym left.same) (record { slot = queued_of_one maker s old.name.kind old.name.slot old.slot _ one still of.slot; by_hand = of.by_hand })
+
+pub queued_faulted : (maker : MakerTold) (s : Settings) (faulted : SlotName) (olds news : List Queued) → (faulted.kind ≡ Stack → s.stack_zeroing ≡ true) → AllZip (IsLeftBy faulted) olds news → All (IsQueuedOf maker s) olds → All (IsQueuedOf maker s) news
+queued_faulted maker s faulted [] [] ranged left of = of
+queued_faulted maker s faulted [] (n ∷ ns) ranged left of = absurd left
+queued_faulted maker s faulted (m ∷ ms) [] ranged left of = absurd left
+queued_faulted maker s faulted (m ∷ ms) (n ∷ ns) ranged left of =
     let P : Queued → Type 0 = IsQueuedOf maker s in
-    All-cons P n ns (queued_left maker s faulted m n left.0 (All-head P m ms of)) (queued_faulted maker s faulted ms ns left.1 (All-tail P m ms of))
+    All-cons P n ns (queued_left maker s faulted m n ranged left.0 (All-head P m ms of)) (queued_faulted maker s faulted ms ns ranged left.1 (All-tail P m ms of))

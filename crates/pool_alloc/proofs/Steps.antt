@@ -10,16 +10,16 @@ use Rattle.pool_slots.proofs.Lists.{each_weaker}
 use Rattle.pool_alloc.specs.Freeing.{HasHome, CanBeFreed}
 use Rattle.std.specs.List.{AllByRecursion}
 use Rattle.pool_hall.specs.declared.unit_name.SlotKind.{SlotKind}
-use Rattle.pool_hall.specs.declared.unit_name.SlotKind.TheVariants.{Memory as memory_kind, Table as table_kind}
+use Rattle.pool_hall.specs.declared.unit_name.SlotKind.TheVariants.{Memory as memory_kind, Table as table_kind, Stack as stack_kind}
 use Rattle.pool_slots.specs.CellOf.{cell_of}
 use Rattle.pool_slots.specs.Cells.{Cell, unmapped, unknown, previously_used, taken, IsCleanOnceUsed}
 use Rattle.pool_slots.specs.Plans.{IsPlacedAllocator, allocators_of, home_of}
 use Rattle.pool_slots.specs.declared.slot_name.SlotName.{SlotName}
-use Rattle.pool_alloc.specs.declared.frame.Object.TheVariants.{Memory, Table}
+use Rattle.pool_alloc.specs.declared.frame.Object.TheVariants.{Memory, Table, Stack}
 use Rattle.pool_slots.specs.declared.plan.Plan.{Plan}
 use Rattle.pool_alloc.proofs.PlanPlaces.{tried_is_shard, tried_is_queue, cell_inside, has_home, home_place, IsQueuePlace, queues_all, allocator_is}
 use Rattle.std.proofs.Common.{◌≡◌, ℕ, ◌+◌, ◌<◌, ◌≤◌, true, false, length, get_or, refl, sym, ap, subst, ◌∙◌, arith, Option, Some, None, true≢false}
-use Rattle.std.specs.Prelude.{IfSome, IsSome, is_some, slice_get}
+use Rattle.std.specs.Prelude.{Bool, IfSome, IsSome, is_some, nat_lt, slice_get}
 use Rattle.pool_pages.specs.MakerTold.{MakerTold}
 use Rattle.pool_pages.specs.MemoryTypes.{minimum_byte_size}
 use Rattle.pool_images.specs.Images.{Image}
@@ -30,23 +30,34 @@ use Rattle.pool_alloc.specs.Answers.{MayBeTold, AsksOf}
 use Rattle.pool_alloc.specs.Bounds.{sizes_of, steps_at, steps_left}
 use Rattle.pool_alloc.specs.Calls.{IsGrantOf, IfGranted}
 use Rattle.pool_alloc.specs.CanStep.{CanStepAt, CanFlush, HasNext, CanBegin, CanMake, CanPlace, CanTryQueue, HasTableNext, CanMakeTable}
-use Rattle.pool_alloc.specs.Rows.{FlushStep, run, zero, put, free, flush_step, row_of}
+use Rattle.pool_alloc.specs.Rows.{FlushStep, run, zero, put, free, flush_step, component_counted, row_of}
 use Rattle.pool_alloc.specs.Searches.{IsSearched}
 use Rattle.std.proofs.lemmas.List.Elements.{All-weaker}
-use Rattle.pool_alloc.specs.Sound.{IsPoolSlot, IsPoolPlan, IsPooled, IsSlotName, MayHold, IsCore, IsFrame, IsSettings, IsAllocating, IsSupported, HasSlot, HasBegun, IsStripe, IsFreedOf, IsTableSupported, HasTable, IsMemoryNext, IsTableNext}
-use Rattle.pool_alloc.specs.Stages.{GoesOn}
-use Rattle.pool_alloc.specs.Steps.{StepGiven, memories_wanted, images_wanted, image_wanted, queue_tried, first_shard, shard_tried, tables_wanted, kind_next}
+use Rattle.pool_alloc.specs.Sound.{IsPoolSlot, IsPoolPlan, IsPooled, IsSlotName, MayHold, IsCore, IsFrame, IsSettings, IsAllocating, IsSupported, HasSlot, HasBegun, IsStripe, IsFreedOf, IsTableSupported, HasTable, IsMemoryNext, IsTableNext, IsShapedAt}
+use Rattle.pool_alloc.specs.Objects.{objects_in}
+use Rattle.pool_alloc.specs.declared.frame.Ending.{Ending}
+use Rattle.pool_alloc.specs.declared.frame.Ending.TheVariants.{Granted as granted, Returned as returned, Refused as refused}
+use Rattle.pool_alloc.specs.Stages.{GoesOn, stage_by, stage_back, stage_of_release, stage_at}
+use Rattle.pool_alloc.specs.declared.release.ReleaseStep.{ReleaseStep}
+use Rattle.pool_alloc.specs.declared.release.ReleaseStep.TheVariants as releasing_step
+use Rattle.pool_alloc.specs.Steps.{StepGiven, memories_wanted, images_wanted, image_wanted, queue_tried, first_shard, shard_tried, tables_wanted, kind_next, IsModule}
 use Rattle.pool_alloc.specs.Stepping.{CanStep, CanCount, StepsTo, Conserves, EndsWith, IsSameSize, is_idle}
 use Rattle.pool_alloc.specs.Turns.{After, stepped}
 use Rattle.pool_alloc.specs.declared.pool_core.PoolCore.{PoolCore}
 use Rattle.pool_alloc.specs.declared.pool_core.Settings.{Settings}
 use Rattle.pool_alloc.specs.declared.frame.Frame.{Frame}
-use Rattle.pool_alloc.specs.Asked.{ModuleAsked}
+use Rattle.pool_alloc.specs.declared.frame.Asked.{Asked}
+use Rattle.pool_alloc.specs.declared.frame.Asked.TheVariants.{Module as module_asked, Stack as stack_asked}
+use Rattle.pool_alloc.specs.PoolStacks.{IsStackLease}
+use Rattle.pool_alloc.proofs.StackRegions.{stack_page, stack_small}
 use Rattle.pool_alloc.specs.declared.frame.Phase.{Phase}
-use Rattle.pool_alloc.specs.declared.frame.Phase.TheVariants.{Idle, Key, Validate, CountInstance, Pick, TakeQueue, TakeRegion, Empty, Instantiate, MakeMemory, MakeTable, CountObject, PutBack, FreeOne, UncountObject, Reset, Merge, Flush, UncountInstance}
-use Rattle.pool_alloc.proofs.AskingRows.{key_ready, validate_ready, count_instance_ready, pick_ready, take_queue_ready}
+use Rattle.pool_alloc.specs.declared.frame.Phase.TheVariants.{Idle, Key, Validate, TestStack, CountInstance, Pick, TakeQueue, TakeRegion, Empty, Instantiate, MakeMemory, MakeTable, CountObject, PutBack, FreeOne, UncountObject, Reset, Merge, Flush, UncountInstance, ValidateComponent, CountComponent, UncountComponent}
+use Rattle.pool_alloc.proofs.AskingRows.{key_ready, validate_ready, test_stack_ready, count_instance_ready, pick_ready, take_queue_ready}
+use Rattle.pool_alloc.proofs.ComponentRows.{validate_component_ready, count_component_ready, uncount_component_ready}
+use Rattle.pool_alloc.proofs.Components.{CountsComponents, counts_components}
 use Rattle.pool_alloc.proofs.Fitting.{fits_after}
-use Rattle.pool_alloc.proofs.Hands.{in_phase, RowOk, row_ok}
+use Rattle.pool_alloc.proofs.Hands.{MayEnd, counts_one, in_phase, IsReadyRow, RowOk, goes_ok, ends_ok, row_ok}
+use Rattle.pool_alloc.proofs.SlotIdentity.{region_page}
 use Rattle.pool_alloc.proofs.RegionRows.{region_is_fresh, take_region_ready, empty_ready, instantiate_ready, make_memory_ready, count_object_ready, put_back_ready, free_one_ready, make_table_ready}
 use Rattle.pool_alloc.proofs.FlushFinds.{Finds, finds, put_some}
 use Rattle.pool_alloc.proofs.ReturnRows.{first_freed, uncount_object_ready, reset_ready, merge_ready, uncount_instance_ready, flush_ready}
@@ -54,18 +65,22 @@ use Rattle.pool_alloc.proofs.Rounding.{rounded_whole}
 use Rattle.pool_alloc.proofs.Stages.{local_is_spare, picked_is_home, back_is_used, local_is_apart, home_has_room, first_can_be_put, first_can_be_freed}
 use Rattle.pool_alloc.proofs.Telling.{told_both, told_weaker}
 use Rattle.pool_alloc.proofs.PoolParts.{shard_part, cell_part, queue_part, sound_queue}
+use Rattle.pool_alloc.specs.declared.frame.Phase.TheVariants.{Purge, Release}
+use Rattle.pool_alloc.proofs.PurgeRows.{purge_ready}
+use Rattle.pool_alloc.proofs.ReleaseRows.{release_ready}
+use Rattle.pool_alloc.proofs.SweepSteps.{placed_of, can_purge, can_release}
 
 some_of : {X : Type 0} (o : Option X) → is_some o ≡ true → IsSome o
 some_of None e = absurd cc
 some_of (Some x) e = refl
 
-some_asked : (o : Option ModuleAsked) (n : ℕ) → n < length (memories_wanted o) → IsSome o
-some_asked None n below = absurd (omega arith)
-some_asked (Some m) n below = refl
+some_asked : (o : Asked) (n : ℕ) → n < length (memories_wanted o) → IsModule o
+some_asked (module_asked m) n below = tt
+some_asked o n below = absurd (omega (arith, below))
 
-some_table : (o : Option ModuleAsked) (n : ℕ) → n < length (tables_wanted o) → IsSome o
-some_table None n below = absurd (omega arith)
-some_table (Some m) n below = refl
+some_table : (o : Asked) (n : ℕ) → n < length (tables_wanted o) → IsModule o
+some_table (module_asked m) n below = tt
+some_table o n below = absurd (omega (arith, below))
 
 fits_region : (page other initial : ℕ) (o : Option Image) → other ≡ page → IfSome o (FitsInto page initial) → IfSome o (FitsInto other initial)
 fits_region page other initial o e fits =
@@ -73,11 +88,11 @@ fits_region page other initial o e fits =
     subst F (sym e) fits
 
 -- the page of a slot of the pool
-page_of_slot : (maker : MakerTold) (s : Settings) (i : ℕ) (held : Slot) → s.page ≡ maker.page → IsPoolSlot maker s.behaviour s.max_memory_size i held → held.region.page ≡ s.page
-page_of_slot maker s i held page of = ap (λ (z : SlotIdentity). z.page) of.same ∙ sym page
+page_of_slot : (maker : MakerTold) (s : Settings) (i : ℕ) (held : Slot) → s.page ≡ maker.page → IsPoolSlot maker s i held → held.region.page ≡ s.page
+page_of_slot maker s i held page of = ap (λ (z : SlotIdentity). z.page) of.same ∙ region_page maker s i ∙ sym page
 
 -- and its size
-size_of_slot : (maker : MakerTold) (s : Settings) (i : ℕ) (held : Slot) → IsPoolSlot maker s.behaviour s.max_memory_size i held → held.static_size ≡ s.max_memory_size
+size_of_slot : (maker : MakerTold) (s : Settings) (i : ℕ) (held : Slot) → IsPoolSlot maker s i held → held.static_size ≡ s.max_memory_size
 size_of_slot maker s i held of = ap (λ (z : SlotIdentity). z.static_size) of.same
 
 -- what a cell may hold is clean where it was used before
@@ -93,15 +108,17 @@ clean_in_table maker s i (unknown slot) holds = tt
 clean_in_table maker s i (previously_used slot) holds = absurd holds
 clean_in_table maker s i taken holds = tt
 
+clean_in_stack : (maker : MakerTold) (s : Settings) (i : ℕ) (held : Cell) → MayHold maker s stack_kind i held → IsCleanOnceUsed held
+clean_in_stack maker s i (unmapped region) holds = tt
+clean_in_stack maker s i (unknown slot) holds = tt
+clean_in_stack maker s i (previously_used slot) holds = absurd holds
+clean_in_stack maker s i taken holds = tt
+
 clean_held : (maker : MakerTold) (s : Settings) (kind : SlotKind) (i : ℕ) (held : Cell) → IsPooled kind → MayHold maker s kind i held → IsCleanOnceUsed held
 clean_held maker s memory_kind i held pooled holds = clean_in maker s i held holds
 clean_held maker s table_kind i held pooled holds = clean_in_table maker s i held holds
+clean_held maker s stack_kind i held pooled holds = clean_in_stack maker s i held holds
 clean_held maker s kind i held pooled holds = absurd pooled
-
-placed_of : (plan : Plan) (places : ℕ) (kind : SlotKind) → IsPoolPlan plan places → IsPooled kind → AllByRecursion IsPlacedAllocator (allocators_of plan kind)
-placed_of plan places memory_kind is pooled = each_weaker IsStripe IsPlacedAllocator plan.memories (λ a stripe. stripe.placed) is.shards
-placed_of plan places table_kind is pooled = each_weaker IsStripe IsPlacedAllocator plan.tables (λ a shards. shards.placed) is.table_shards
-placed_of plan places kind is pooled = absurd pooled
 
 module _ {P : Type 0} where
   has_next : (s : Settings) (plan : Plan) (f : Frame P) → IsAllocating s plan f → IsMemoryNext f → HasNext f.asked (length f.objects.memories.items)
@@ -114,7 +131,7 @@ module _ {P : Type 0} where
 
   has_table_next : (s : Settings) (plan : Plan) (f : Frame P) → IsAllocating s plan f → IsTableNext f → HasTableNext f.asked (length f.objects.tables.items)
   has_table_next s plan f allocating table =
-      let more : length f.objects.tables.items < length (tables_wanted f.asked) = omega (arith, allocating.more, allocating.to_grant.few, table) in
+      let more : length f.objects.tables.items < length (tables_wanted f.asked) = omega (arith, allocating.more, allocating.to_grant.few, table.0, table.1) in
       record { asked = some_table f.asked (length f.objects.tables.items) more; more = more }
 
   can_make_table : (maker : MakerTold) (s : Settings) (plan : Plan) (name : SlotName) (region : Told) (f : Frame P) → IsSettings s → IsAllocating s plan f → HasTable maker s plan name region → IfTable f (CanMakeTable s region)
@@ -182,15 +199,16 @@ module _ {P : Type 0} where
   can_at maker Key c f can counts = (can.core.plan.stripes, can.core.plan.few)
   can_at maker Validate c f can counts =
       λ k. told_weaker (λ decl. (decl.ty.page_size_log2 < 64) × IfSome (get_or (images_wanted f.asked) k None) (FitsInto c.settings.page (minimum_byte_size decl.ty))) (λ decl. decl.ty.page_size_log2 < 64) (slice_get (memories_wanted f.asked) k) (λ decl of. of.0) (can.frame.shape.2.each k)
+  can_at maker TestStack c f can counts = tt
   can_at maker CountInstance c f can counts = counts.instances
-  can_at maker (Pick tried) c f can counts = (record { memories = can.frame.stripe; tables = can.core.plan.tables }, record { inside = can.frame.shape.2; placed = (allocator_is c.plan (length c.parts) (kind_next f) f.stripe can.core.plan can.frame.stripe).placed }, shard_part maker (shard_tried tried c.plan f) c can.core (tried_is_shard tried c.plan (length c.parts) f can.core.plan can.frame.stripe), omega (arith, can.frame.shape.1.to_grant.few, can.frame.shape.1.to_grant.supported.few))
+  can_at maker (Pick tried) c f can counts = (record { memories = can.frame.stripe; tables = can.core.plan.tables; stacks = can.core.plan.stacks }, record { inside = can.frame.shape.2; placed = (allocator_is c.plan (length c.parts) (kind_next f) f.stripe can.core.plan can.frame.stripe).placed }, shard_part maker (shard_tried tried c.plan f) c can.core (tried_is_shard tried c.plan (length c.parts) f can.core.plan can.frame.stripe), omega (arith, can.frame.shape.1.to_grant.few, can.frame.shape.1.to_grant.supported.few))
   can_at maker TakeQueue c f can counts =
       let settled = can.frame.shape.0 in
       let i : ℕ = queue_tried f.queues c.plan f in
-      (can.frame.shape.2, record { memories = can.frame.stripe; tables = can.core.plan.tables }, can_try_queue maker f.home c can.core, queue_part maker i c can.core (tried_is_queue f.queues c.plan (length c.parts) f can.core.plan), local_is_spare maker i c (in_phase TakeQueue f) can.core can.frame (tried_is_queue f.queues c.plan (length c.parts) f can.core.plan) settled.no_ranges settled.no_slots)
+      (can.frame.shape.2, record { memories = can.frame.stripe; tables = can.core.plan.tables; stacks = can.core.plan.stacks }, can_try_queue maker f.home c can.core, queue_part maker i c can.core (tried_is_queue f.queues c.plan (length c.parts) f can.core.plan), local_is_spare maker i c (in_phase TakeQueue f) can.core can.frame (tried_is_queue f.queues c.plan (length c.parts) f can.core.plan) settled.no_ranges settled.no_slots)
   can_at maker (TakeRegion name) c f can counts =
       let named : IsSlotName c.plan name = can.frame.shape.2 in
-      (can_place maker name c can.core named, cell_part maker name c can.core named, record { there = picked_is_home maker name c f can.core can.fits; fresh = λ region. region_is_fresh maker name c can.core named region })
+      (can_place maker name c can.core named, cell_part maker name c can.core named, record { there = picked_is_home maker name c f can.core can.fits; fresh = region_is_fresh maker name c can.core named })
   can_at maker (Empty slot held) c f can counts = tt
   can_at maker (Instantiate slot held) c f can counts =
       (has_next c.settings c.plan (in_phase (Instantiate slot held) f) can.frame.shape.1 can.frame.shape.4, can.frame.shape.3, can_begin maker c.settings c.plan slot.name held (in_phase (Instantiate slot held) f) can.core.page can.core.settings can.frame.shape.1 can.frame.shape.2)
@@ -199,7 +217,8 @@ module _ {P : Type 0} where
   can_at maker (MakeTable slot region) c f can counts =
       (has_table_next c.settings c.plan (in_phase (MakeTable slot region) f) can.frame.shape.1 can.frame.shape.3, can_make_table maker c.settings c.plan slot.name region (in_phase (MakeTable slot region) f) can.core.settings can.frame.shape.1 can.frame.shape.2)
   can_at maker (CountObject (Memory lease)) c f can counts = (counts.memories, omega (arith, can.frame.shape.4, can.frame.shape.1.to_grant.room))
-  can_at maker (CountObject (Table lease)) c f can counts = (counts.tables, omega (arith, can.frame.shape.1.more, can.frame.shape.4, can.frame.shape.1.to_grant.few, can.frame.shape.1.to_grant.table_room))
+  can_at maker (CountObject (Table lease)) c f can counts = (counts.tables, omega (arith, can.frame.shape.1.more, can.frame.shape.4.0, can.frame.shape.4.1, can.frame.shape.1.to_grant.few, can.frame.shape.1.to_grant.table_room))
+  can_at maker (CountObject (Stack lease)) c f can counts = counts.stacks
   can_at maker (PutBack at held) c f can counts =
       let region = can.frame.shape.2 in
       (can_place maker at.name c can.core region.named, cell_part maker at.name c can.core region.named, clean_held maker c.settings at.name.kind at.name.slot (cell_of held) region.named.pooled region.holds)
@@ -212,6 +231,7 @@ module _ {P : Type 0} where
   )
   can_at maker (UncountObject (Memory lease)) c f can counts = omega (arith, can.fits.memories)
   can_at maker (UncountObject (Table lease)) c f can counts = omega (arith, can.fits.tables)
+  can_at maker (UncountObject (Stack lease)) c f can counts = omega (arith, can.fits.stacks)
   can_at maker (Reset (Memory lease)) c f can counts =
       let settled = can.frame.shape.0 in
       record {
@@ -229,6 +249,20 @@ module _ {P : Type 0} where
       record {
         page = can.core.settings.table_keep_page;
         region = (held.region, held.lies);
+        room = record {
+          ranges = omega (arith, can.frame.queue.range_room, can.core.settings.batch.0, ap (length {A = QueuedRange}) settled.no_ranges);
+          slots = omega (arith, can.frame.queue.slot_room, can.core.settings.batch.0, ap (length {A = Queued}) settled.no_slots);
+          owners = can.frame.queue.owners;
+          not_held = rw settled.no_slots refl;
+        };
+      }
+  can_at maker (Reset (Stack lease)) c f can counts =
+      let settled = can.frame.shape.0 in
+      let held : IsStackLease maker c.settings c.plan lease = can.frame.shape.2 in
+      record {
+        page = can.core.settings.stack_keep_page ∙ sym (stack_page maker c.settings lease.stack.index lease.stack.slot can.core.page held.slot);
+        plain = held.plain;
+        few = stack_small maker c.settings lease.stack.index lease.stack.slot can.core.settings held.slot;
         room = record {
           ranges = omega (arith, can.frame.queue.range_room, can.core.settings.batch.0, ap (length {A = QueuedRange}) settled.no_ranges);
           slots = omega (arith, can.frame.queue.slot_room, can.core.settings.batch.0, ap (length {A = Queued}) settled.no_slots);
@@ -254,34 +288,94 @@ module _ {P : Type 0} where
         },
       )
   can_at maker Flush c f can counts = can_flush maker (flush_step f.local f.freed.items) c f can (finds f.local f.freed.items)
-  can_at maker UncountInstance c f can counts = (omega (arith, can.fits.instances), can.frame.shape.1)
+  can_at maker UncountInstance c f can counts = omega (arith, can.fits.instances, counts_one f.asked 1 can.frame.shape.2)
+  can_at maker (ValidateComponent info) c f can counts = tt
+  can_at maker CountComponent c f can counts = counts.components
+  can_at maker UncountComponent c f can counts = omega (arith, can.fits.components)
+  can_at maker (Purge p step) c f can counts = can_purge maker p step c f can
+  can_at maker (Release step) c f can counts = can_release maker step c f can
 
   pub can_step_at : (maker : MakerTold) (c : PoolCore P) (f : Frame P) → CanStep maker c f → CanCount c → CanStepAt f.phase c f
   can_step_at maker c f can counts = can_at maker f.phase c f can counts
 
+-- a call for a stack may end wherever it stands
+may_by : (asked : Asked) (ending : Ending) (n : ℕ) → asked ≡ stack_asked → MayEnd (stage_by asked ending n)
+may_by asked ending n is = subst (λ (a : Asked). MayEnd (stage_by a ending n)) (sym is) (ends_by ending)
+  where
+    ends_by : (x : Ending) → MayEnd (stage_by stack_asked x n)
+    ends_by granted = tt
+    ends_by returned = tt
+    ends_by (refused e) = tt
+
+no_module : (asked : Asked) → IsModule asked → asked ≡ stack_asked → ⊥
+no_module asked unstacked is = let no : IsModule stack_asked = subst (λ (a : Asked). IsModule a) is unstacked in no
+
+module _ {P : Type 0} where
+  -- (no row of the counting of a component ends a call that way)
+  abbrev MayEndAt : Phase P → Frame P → Type 0
+  MayEndAt CountComponent f = Unit {0}
+  MayEndAt p f = MayEnd (stage_at p f.asked f.ending (objects_in f.objects))
+
+  may_end : (maker : MakerTold) (s : Settings) (plan : Plan) (p : Phase P) (f : Frame P) → IsShapedAt maker s plan p (in_phase p f) → f.asked ≡ stack_asked → MayEndAt p f
+  may_end maker s plan Idle f shape is = tt
+  may_end maker s plan Key f shape is = tt
+  may_end maker s plan Validate f shape is = tt
+  may_end maker s plan TestStack f shape is = tt
+  may_end maker s plan CountInstance f shape is = no_module f.asked shape.1.asked_for is
+  may_end maker s plan (CountObject object) f shape is = may_by f.asked f.ending (objects_in f.objects + 1) is
+  may_end maker s plan (ValidateComponent info) f shape is = tt
+  may_end maker s plan CountComponent f shape is = tt
+  may_end maker s plan (Purge p step) f shape is = tt
+  may_end maker s plan (Release step) f shape is = release_ends step
+    where
+      release_ends : (x : ReleaseStep P) → MayEnd (stage_of_release x)
+      release_ends releasing_step.Reserve = tt
+      release_ends (releasing_step.TakeWarm r j) = tt
+      release_ends (releasing_step.TakeRegion r k) = tt
+      release_ends (releasing_step.Decommit r k at held) = tt
+      release_ends (releasing_step.PutRegion r k at held) = tt
+      release_ends (releasing_step.Free r x) = tt
+  may_end maker s plan UncountComponent f shape is = back_by f.ending
+    where
+      back_by : (x : Ending) → MayEnd (stage_back x)
+      back_by granted = tt
+      back_by returned = tt
+      back_by (refused e) = tt
+  may_end maker s plan p f shape is = may_by f.asked f.ending (objects_in f.objects) is
+
 -- a step by a row of the table, over a limiter
 module _ {P : Type 0} (maker : MakerTold) (old new : LimiterTold) where
+  counted_ok : (d : PoolCore P) (e : Frame P) (b : Bool) (c : PoolCore P) (f : Frame P) → IsReadyRow maker old new d e (component_counted b c f) → RowOk maker old new d e (stepped (component_counted b c f))
+  counted_ok d e true c f ready = ends_ok maker old new d e _ _ _ ready
+  counted_ok d e false c f ready = goes_ok maker old new d e _ _ _ ready
+
   -- Each row is as it shows.
   rows_ok : (g : StepGiven) (p : Phase P) (c : PoolCore P) (f : Frame P) → is_idle p ≡ false → CanStep maker c (in_phase p f) → MayBeTold c.settings g p (in_phase p f) → AsksOf old new g p (in_phase p f) → RowOk maker old new c (in_phase p f) (stepped (row_of g p c (in_phase Idle f)))
   rows_ok g Idle c f on can told asks = absurd cc
-  rows_ok g Key c f on can told asks = row_ok maker old new c _ _ (key_ready maker old new c f can)
-  rows_ok g Validate c f on can told asks = row_ok maker old new c _ _ (validate_ready maker old new g.wants c f can)
-  rows_ok g CountInstance c f on can told asks = row_ok maker old new c _ _ (count_instance_ready maker old new c f can)
-  rows_ok g (Pick tried) c f on can told asks = row_ok maker old new c _ _ (pick_ready maker old new tried c f can)
-  rows_ok g TakeQueue c f on can told asks = row_ok maker old new c _ _ (take_queue_ready maker old new c f can)
-  rows_ok g (TakeRegion slot) c f on can told asks = row_ok maker old new c _ _ (take_region_ready maker old new slot c f can)
-  rows_ok g (Empty slot had) c f on can told asks = row_ok maker old new c _ _ (empty_ready maker old new g.fault g.slot slot had c f can told)
-  rows_ok g (Instantiate slot had) c f on can told asks = row_ok maker old new c _ _ (instantiate_ready maker old new g.fault g.slot slot had c f can told)
-  rows_ok g (MakeMemory slot had) c f on can told asks = row_ok maker old new c _ _ (make_memory_ready maker old new g.limiter slot had c f can asks)
-  rows_ok g (MakeTable slot region) c f on can told asks = row_ok maker old new c _ _ (make_table_ready maker old new g.limiter slot region c f can asks)
-  rows_ok g (CountObject object) c f on can told asks = row_ok maker old new c _ _ (count_object_ready maker old new object c f can)
-  rows_ok g (PutBack at had) c f on can told asks = row_ok maker old new c _ _ (put_back_ready maker old new at had c f can)
-  rows_ok g (FreeOne name) c f on can told asks = row_ok maker old new c _ _ (free_one_ready maker old new name c f can)
-  rows_ok g (UncountObject object) c f on can told asks = row_ok maker old new c _ _ (uncount_object_ready maker old new object c f can)
-  rows_ok g (Reset object) c f on can told asks = row_ok maker old new c _ _ (reset_ready maker old new g object c f can told)
-  rows_ok g Merge c f on can told asks = row_ok maker old new c _ _ (merge_ready maker old new c f can)
-  rows_ok g Flush c f on can told asks = row_ok maker old new c _ _ (flush_ready maker old new g c f can told)
-  rows_ok g UncountInstance c f on can told asks = row_ok maker old new c _ _ (uncount_instance_ready maker old new c f can)
+  rows_ok g Key c f on can told asks = row_ok maker old new c _ _ (key_ready maker old new c f can) (may_end maker c.settings c.plan Key f (can.frame.shape))
+  rows_ok g Validate c f on can told asks = row_ok maker old new c _ _ (validate_ready maker old new g.wants c f can) (may_end maker c.settings c.plan Validate f (can.frame.shape))
+  rows_ok g TestStack c f on can told asks = row_ok maker old new c _ _ (test_stack_ready maker old new c f can) (may_end maker c.settings c.plan TestStack f (can.frame.shape))
+  rows_ok g CountInstance c f on can told asks = row_ok maker old new c _ _ (count_instance_ready maker old new c f can) (may_end maker c.settings c.plan CountInstance f (can.frame.shape))
+  rows_ok g (Pick tried) c f on can told asks = row_ok maker old new c _ _ (pick_ready maker old new tried c f can) (may_end maker c.settings c.plan (Pick tried) f (can.frame.shape))
+  rows_ok g TakeQueue c f on can told asks = row_ok maker old new c _ _ (take_queue_ready maker old new c f can) (may_end maker c.settings c.plan TakeQueue f (can.frame.shape))
+  rows_ok g (TakeRegion slot) c f on can told asks = row_ok maker old new c _ _ (take_region_ready maker old new slot c f can) (may_end maker c.settings c.plan (TakeRegion slot) f (can.frame.shape))
+  rows_ok g (Empty slot had) c f on can told asks = row_ok maker old new c _ _ (empty_ready maker old new g.fault g.slot slot had c f can told) (may_end maker c.settings c.plan (Empty slot had) f (can.frame.shape))
+  rows_ok g (Instantiate slot had) c f on can told asks = row_ok maker old new c _ _ (instantiate_ready maker old new g.fault g.slot slot had c f can told) (may_end maker c.settings c.plan (Instantiate slot had) f (can.frame.shape))
+  rows_ok g (MakeMemory slot had) c f on can told asks = row_ok maker old new c _ _ (make_memory_ready maker old new g.limiter slot had c f can asks) (may_end maker c.settings c.plan (MakeMemory slot had) f (can.frame.shape))
+  rows_ok g (MakeTable slot region) c f on can told asks = row_ok maker old new c _ _ (make_table_ready maker old new g.limiter slot region c f can asks) (may_end maker c.settings c.plan (MakeTable slot region) f (can.frame.shape))
+  rows_ok g (CountObject object) c f on can told asks = row_ok maker old new c _ _ (count_object_ready maker old new object c f can) (may_end maker c.settings c.plan (CountObject object) f (can.frame.shape))
+  rows_ok g (PutBack at had) c f on can told asks = row_ok maker old new c _ _ (put_back_ready maker old new at had c f can) (may_end maker c.settings c.plan (PutBack at had) f (can.frame.shape))
+  rows_ok g (FreeOne name) c f on can told asks = row_ok maker old new c _ _ (free_one_ready maker old new name c f can) (may_end maker c.settings c.plan (FreeOne name) f (can.frame.shape))
+  rows_ok g (UncountObject object) c f on can told asks = row_ok maker old new c _ _ (uncount_object_ready maker old new object c f can) (may_end maker c.settings c.plan (UncountObject object) f (can.frame.shape))
+  rows_ok g (Reset object) c f on can told asks = row_ok maker old new c _ _ (reset_ready maker old new g object c f can told) (may_end maker c.settings c.plan (Reset object) f (can.frame.shape))
+  rows_ok g Merge c f on can told asks = row_ok maker old new c _ _ (merge_ready maker old new c f can) (may_end maker c.settings c.plan Merge f (can.frame.shape))
+  rows_ok g Flush c f on can told asks = row_ok maker old new c _ _ (flush_ready maker old new g c f can told) (may_end maker c.settings c.plan Flush f (can.frame.shape))
+  rows_ok g UncountInstance c f on can told asks = row_ok maker old new c _ _ (uncount_instance_ready maker old new c f can) (may_end maker c.settings c.plan UncountInstance f (can.frame.shape))
+  rows_ok g (ValidateComponent info) c f on can told asks = row_ok maker old new c _ _ (validate_component_ready maker old new info c f can) (may_end maker c.settings c.plan (ValidateComponent info) f (can.frame.shape))
+  rows_ok g CountComponent c f on can told asks = counted_ok c (in_phase CountComponent f) (nat_lt c.counters.component_instances c.settings.max_component_instances) c (in_phase Idle f) (count_component_ready maker old new c f can)
+  rows_ok g UncountComponent c f on can told asks = row_ok maker old new c _ _ (uncount_component_ready maker old new c f can) (may_end maker c.settings c.plan UncountComponent f (can.frame.shape))
+  rows_ok g (Purge p step) c f on can told asks = row_ok maker old new c _ _ (purge_ready maker old new g p step c f can told) (may_end maker c.settings c.plan (Purge p step) f (can.frame.shape))
+  rows_ok g (Release step) c f on can told asks = row_ok maker old new c _ _ (release_ready maker old new g step c f can told) (may_end maker c.settings c.plan (Release step) f (can.frame.shape))
 
   -- what is told of a step that was made
   pub record StepOk (c : PoolCore P) (f : Frame P) (a : After P) : Type 0 where
@@ -293,18 +387,18 @@ module _ {P : Type 0} (maker : MakerTold) (old new : LimiterTold) where
     pub plan : a.core.plan ≡ c.plan
     pub ends : EndsWith c f a
     pub goes : GoesOn maker old new c f a
-    pub fewer : is_idle f.phase ≡ false → steps_at (sizes_of c.plan) a.frame.phase a.frame + 1 ≤ steps_left c f
+    pub fewer : is_idle f.phase ≡ false → steps_at (sizes_of c.settings c.plan) a.frame.phase a.frame + 1 ≤ steps_left c f
     pub searched : IsSearched c f → IsSearched a.core a.frame
 
-  told_ok : (p : Phase P) (c : PoolCore P) (f : Frame P) (a : After P) → is_idle p ≡ false → RowOk maker old new c (in_phase p f) a → StepOk c (in_phase p f) a
-  told_ok p c f a on ok = record {
+  told_ok : (p : Phase P) (c : PoolCore P) (f : Frame P) (a : After P) → is_idle p ≡ false → CountsComponents c p a → RowOk maker old new c (in_phase p f) a → StepOk c (in_phase p f) a
+  told_ok p c f a on components ok = record {
     core = ok.core;
     frame = ok.frame;
     granted = ok.granted_is;
-    conserves = record { places = ok.places; instances = ok.instances; memories = ok.memories; tables = ok.tables };
+    conserves = record { places = ok.places; instances = ok.instances; components = components.same; memories = ok.memories; tables = ok.tables; stacks = ok.stacks };
     settings = ok.settings;
     plan = ok.plan;
-    ends = record { answer = rw on ok.answer; instances = ok.instances_by_one; memories = ok.memories_by_one; tables = ok.tables_by_one };
+    ends = record { answer = rw on ok.answer; instances = ok.instances_by_one; components = components.by_one; memories = ok.memories_by_one; tables = ok.tables_by_one; stacks = ok.stacks_by_one };
     goes = record { asked = ok.asked; way = ok.way };
     fewer = λ busy. ok.fewer;
     searched = ok.searched;
@@ -315,15 +409,15 @@ module _ {P : Type 0} (maker : MakerTold) (old new : LimiterTold) where
     core = can.core;
     frame = can.frame;
     granted = tt;
-    conserves = record { places = λ t. omega arith; instances = omega arith; memories = omega arith; tables = omega arith };
+    conserves = record { places = λ t. omega arith; instances = omega arith; components = omega arith; memories = omega arith; tables = omega arith; stacks = omega arith };
     settings = refl;
     plan = refl;
-    ends = record { answer = refl; instances = omega arith; memories = omega arith; tables = omega arith };
+    ends = record { answer = refl; instances = omega arith; components = omega arith; memories = omega arith; tables = omega arith; stacks = omega arith };
     goes = record { asked = λ on. absurd cc; way = tt };
     fewer = λ busy. absurd cc;
     searched = λ s. tt;
   }
-  steps_at_ok g p c f can told asks = told_ok p c f _ refl (rows_ok g p c f refl can told asks)
+  steps_at_ok g p c f can told asks = told_ok p c f _ refl (counts_components g p c f can.fits.components) (rows_ok g p c f refl can told asks)
 
   pub step_ok : (c : PoolCore P) (f : Frame P) (a : After P) → CanStep maker c f → StepsTo old new c f a → StepOk c f a
   step_ok c f a can steps =
@@ -351,5 +445,5 @@ module _ {P : Type 0} (maker : MakerTold) (old new : LimiterTold) where
   pub step_fewer : (c : PoolCore P) (f : Frame P) (a : After P) → CanStep maker c f → StepsTo old new c f a → is_idle f.phase ≡ false → steps_left a.core a.frame + 1 ≤ steps_left c f
   step_fewer c f a can steps busy =
       let ok = step_ok c f a can steps in
-      let same : steps_left a.core a.frame ≡ steps_at (sizes_of c.plan) a.frame.phase a.frame = ap (λ (plan : Plan). steps_at (sizes_of plan) a.frame.phase a.frame) ok.plan in
+      let same : steps_left a.core a.frame ≡ steps_at (sizes_of c.settings c.plan) a.frame.phase a.frame = ap (λ (s : Settings). steps_at (sizes_of s a.core.plan) a.frame.phase a.frame) ok.settings ∙ ap (λ (plan : Plan). steps_at (sizes_of c.settings plan) a.frame.phase a.frame) ok.plan in
       omega (arith, same, ok.fewer busy)

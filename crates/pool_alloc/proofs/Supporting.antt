@@ -5,12 +5,16 @@ use Rattle.std.proofs.lemmas.Bool.{ltb-false}
 use Rattle.pool_pages.specs.MemoryTypes.{minimum_byte_size, refused_limits}
 use Rattle.pool_pages.specs.declared.module_types.MemoryDecl.{MemoryDecl}
 use Rattle.pool_pages.specs.declared.module_types.MemoryType.{MemoryType}
+use Rattle.pool_pages.specs.declared.module_types.ModuleInfo.{ModuleInfo}
 use Rattle.pool_pages.specs.declared.table_type.TableType.{TableType}
 use Rattle.pool_pages.specs.declared.unsupported.Unsupported.{Unsupported}
 use Rattle.pool_images.specs.Images.{Image}
 use Rattle.pool_images.specs.Slots.{FitsInto}
 use Rattle.std.specs.Option.{option_or}
-use Rattle.pool_alloc.specs.Refusals.{first_refused, offset_refused, number_refused, memory_refused, tables_refused, long_table, module_refused}
+use Rattle.pool_alloc.specs.Refusals.{first_refused, offset_refused, number_refused, memory_refused, tables_refused, long_table, size_refused, objects_refused, module_refused}
+use Rattle.pool_alloc.specs.declared.frame.Asked.{Asked}
+use Rattle.pool_alloc.specs.declared.frame.Asked.TheVariants.{Module as module_asked}
+use Rattle.pool_alloc.specs.Steps.{no_module, info_wanted, memories_wanted, images_wanted, tables_wanted}
 use Rattle.pool_alloc.specs.Sound.{IsSupported, AreSupported, IsTableSupported, AreTablesSupported, AreImagesOf}
 use Rattle.pool_alloc.specs.declared.pool_core.Settings.{Settings}
 use Rattle.pool_alloc.proofs.Telling.{told_both}
@@ -48,8 +52,10 @@ long_each s i (ty ∷ tys) e (suc k) = long_each s (i + 1) tys (no_refusal _ (lo
 few_tables : (s : Settings) (total n : ℕ) → tables_refused s total n ≡ None → n ≤ total
 few_tables s total n e = ltb-false total n (not_above (nat_lt total n) _ _ (not_above (nat_lt s.max_tables_per_module n) _ _ e).1).0
 
-pub supported : (s : Settings) (total : ℕ) (decls : List MemoryDecl) (tables : List TableType) (images : List (Option Image)) → s.max_memories_per_module < 2 ^ 32 → AreImagesOf s decls images → module_refused s total decls tables ≡ None → AreSupported s decls images × AreTablesSupported s total tables
-supported s total decls tables images small of e =
+supported : (s : Settings) (total : ℕ) (info : ModuleInfo) (images : List (Option Image)) → s.max_memories_per_module < 2 ^ 32 → AreImagesOf s info.memories images → module_refused s total info ≡ None → AreSupported s info.memories images × AreTablesSupported s total info.tables
+supported s total info images small of e =
+    let decls : List MemoryDecl = info.memories in
+    let tables : List TableType = info.tables in
     let limits : Option Unsupported = first_refused (λ d. refused_limits d.ty.limits) decls in
     let table_limits : Option Unsupported = first_refused (λ ty. refused_limits ty.limits) tables in
     let number : Option Unsupported = number_refused s (length decls) in
@@ -58,7 +64,7 @@ supported s total decls tables images small of e =
     let long : Option Unsupported = long_table s 0 tables in
     let from_slots : Option Unsupported = option_or slots (option_or many long) in
     let from_limits : Option Unsupported = option_or limits (option_or table_limits (option_or number from_slots)) in
-    let after_offsets = (no_refusal (first_refused (λ d. offset_refused s.page d.image) decls) from_limits e).1 in
+    let after_offsets = (no_refusal (first_refused (λ d. offset_refused s.page d.image) decls) from_limits (no_refusal (objects_refused s total decls tables) (size_refused s info) e).0).1 in
     let by_limits = no_refusal limits (option_or table_limits (option_or number from_slots)) after_offsets in
     let by_table_limits = no_refusal table_limits (option_or number from_slots) by_limits.1 in
     let by_number = no_refusal number from_slots by_table_limits.1 in
@@ -81,3 +87,8 @@ supported s total decls tables images small of e =
             (each_passes (λ ty. refused_limits ty.limits) tables by_table_limits.0 k) (long_each s 0 tables by_many.1 k);
       },
     )
+
+-- the same of a module that is asked for
+pub asked_supported : (s : Settings) (total : ℕ) (asked : Asked) → s.max_memories_per_module < 2 ^ 32 → AreImagesOf s (memories_wanted asked) (images_wanted asked) → module_refused s total (info_wanted asked) ≡ None → AreSupported s (memories_wanted asked) (images_wanted asked) × AreTablesSupported s total (tables_wanted asked)
+asked_supported s total (module_asked m) small of e = supported s total m.info (images_wanted (module_asked m)) small of e
+asked_supported s total asked small of e = supported s total no_module [] small of e

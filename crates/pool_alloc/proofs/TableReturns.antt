@@ -1,6 +1,6 @@
 -- Slots on their way back: a table's as it is reset, and any as it goes back into its cell.
-use Rattle.std.proofs.Common.{◌≡◌, ℕ, ◌*◌, ◌-◌, ◌%◌, ◌≤◌, Bool, true, false, List, [], ◌∷◌, length, refl, ap, arith, replicate, min}
-use Rattle.std.specs.Prelude.{nat_lt, if◌then◌else◌}
+use Rattle.std.proofs.Common.{◌≡◌, ℕ, ◌*◌, ◌-◌, ◌%◌, ◌≤◌, Bool, true, false, List, [], ◌∷◌, length, refl, ap, arith, replicate, min, Option, Some, None}
+use Rattle.std.specs.Prelude.{nat_lt, if◌then◌else◌, IsSome, IfSome}
 use Rattle.pool_hall.specs.declared.unit_name.SlotKind.{SlotKind}
 use Rattle.pool_hall.specs.declared.unit_name.SlotKind.TheVariants.{Memory as memory_kind, Table as table_kind, Stack as stack_kind, Heap as heap_kind}
 use Rattle.pool_pages.specs.MakerTold.{MakerTold}
@@ -10,20 +10,21 @@ use Rattle.pool_images.specs.Slots.{Slot, IsClean, identity}
 use Rattle.pool_images.proofs.Identity.{told_same}
 use Rattle.pool_slots.specs.Cells.{previously_used, unknown, is_taken}
 use Rattle.pool_slots.specs.PlainSlots.{above_bottom, bottom_reset, plain_written}
-use Rattle.pool_slots.specs.SlotQueues.{Queued, LeavesClean, empty_queue, plain_slot, with_ranges}
+use Rattle.pool_slots.specs.SlotQueues.{Queued, CanBeZeroed, LeavesClean, empty_queue, plain_slot, with_ranges}
 use Rattle.pool_slots.specs.declared.queued_range.QueueKind.TheVariants as queued
 use Rattle.pool_slots.proofs.PlainSlots.{bottom_plain, bottom_unused, bottom_reset_done}
 use Rattle.pool_slots.proofs.SlotChanges.{leaves_clean}
 use Rattle.pool_table.specs.Elements.{width}
 use Rattle.pool_alloc.specs.PoolTables.{IsPoolTable}
-use Rattle.pool_alloc.specs.Sound.{IsSettings, MayHold, MayQueue}
+use Rattle.pool_alloc.specs.Sound.{IsSettings, MayHold, MayQueue, MustBeByHand}
 use Rattle.pool_alloc.specs.Steps.{returned_as}
 use Rattle.pool_alloc.specs.TableLeases.{LeasedTable}
 use Rattle.pool_alloc.specs.TableSteps.{IsInRegion, bytes_used, table_queued}
 use Rattle.pool_alloc.specs.declared.pool_core.Settings.{Settings}
 use Rattle.pool_alloc.proofs.FlushFinds.{IsBack}
 use Rattle.pool_alloc.proofs.Rounding.{rounded_is_whole}
-use Rattle.pool_alloc.proofs.SlotIdentity.{IsOneSlot, queued_of_one}
+use Rattle.pool_alloc.proofs.SlotIdentity.{IsOneSlot, table_of_one}
+use Rattle.pool_alloc.proofs.StackRegions.{stack_back}
 use Rattle.pool_alloc.proofs.TableRegions.{table_back}
 use Rattle.pool_alloc.proofs.TableResets.{table_is_reset}
 
@@ -51,17 +52,22 @@ one_written : (at : ℕ) (new : List ℕ) (s : Slot) → IsOneSlot s (plain_writ
 one_written at new s = ap (λ (b : Bool). record (identity s) { tells = b }) (told_same _ s.region.contents)
 
 pub table_still : (maker : MakerTold) (s : Settings) (page keep : ℕ) (l : LeasedTable) (region : Told) → IsPoolTable maker s l.index (plain_slot 0 region) → IsPoolTable maker s l.index (table_queued page keep l region).slot
-table_still maker s page keep l region of = queued_of_one maker s table_kind l.index (plain_slot 0 region) (bottom_reset keep (bytes_used page l) (plain_slot 0 region)) (one_written 0 (replicate (min keep (bytes_used page l)) 0) (plain_slot 0 region)) of
+table_still maker s page keep l region of = table_of_one maker s l.index (plain_slot 0 region) (bottom_reset keep (bytes_used page l) (plain_slot 0 region)) (one_written 0 (replicate (min keep (bytes_used page l)) 0) (plain_slot 0 region)) of
 
 -- what goes back into a cell is right there, and fills it
 returned_if : (maker : MakerTold) (s : Settings) (i : ℕ) (known : Bool) (held : Slot) → MayQueue maker s memory_kind i held → (known ≡ true → IsClean held) → MayHold maker s memory_kind i (if known then previously_used held else unknown held)
 returned_if maker s i true held of clean = (of, clean refl)
 returned_if maker s i false held of clean = of
 
-pub returned_may : (maker : MakerTold) (s : Settings) (kind : SlotKind) (i : ℕ) (m : Queued) → s.page ≡ maker.page → IsSettings s → MayQueue maker s kind i m.slot → (m.known ≡ true → IsClean m.slot) → IsBack kind m → MayHold maker s kind i (returned_as kind m)
-returned_may maker s memory_kind i m paged sound of clean back = returned_if maker s i m.known m.slot of clean
-returned_may maker s table_kind i m paged sound of clean back = table_back maker s i back.0 m paged sound of back.1 (clean back.2)
-returned_may maker s kind i m paged sound of clean back = absurd of
+table_by : (maker : MakerTold) (s : Settings) (i : ℕ) (m : Queued) (o : Option ℕ) → s.page ≡ maker.page → IsSettings s → IsPoolTable maker s i m.slot → (m.known ≡ true → IsClean m.slot) → IsSome o → IfSome o (λ n. CanBeZeroed n m.slot × (m.known ≡ true)) → MayHold maker s table_kind i (returned_as table_kind m)
+table_by maker s i m None paged sound of clean some back = absurd cc
+table_by maker s i m (Some n) paged sound of clean some back = table_back maker s i n m paged sound of back.0 (clean back.1)
+
+pub returned_may : (maker : MakerTold) (s : Settings) (kind : SlotKind) (i : ℕ) (m : Queued) → s.page ≡ maker.page → IsSettings s → MayQueue maker s kind i m.slot → MustBeByHand s kind m.by_hand → (m.known ≡ true → IsClean m.slot) → IsBack m → MayHold maker s kind i (returned_as kind m)
+returned_may maker s memory_kind i m paged sound of by_hand clean back = returned_if maker s i m.known m.slot of clean
+returned_may maker s table_kind i m paged sound of by_hand clean back = table_by maker s i m m.by_hand paged sound of clean by_hand back
+returned_may maker s stack_kind i m paged sound of by_hand clean back = stack_back maker s i m paged sound of by_hand clean back
+returned_may maker s kind i m paged sound of by_hand clean back = absurd of
 
 returned_there : (known : Bool) (slot : Slot) → is_taken (if known then previously_used slot else unknown slot) ≡ false
 returned_there true slot = refl

@@ -13,8 +13,10 @@ use Rattle.pool_alloc.specs.declared.pool_core.PoolCore.{PoolCore}
 pub record HasNothing (h : Holding) : Type 0 where
   pub places : (t : Thing) → h.places t ≡ 0
   pub instances : h.instances ≡ 0
+  pub components : h.components ≡ 0
   pub memories : h.memories ≡ 0
   pub tables : h.tables ≡ 0
+  pub stacks : h.stacks ≡ 0
 
 sum_each_none : {X : Type 0} (f : X → ℕ) (xs : List X) → AllByRecursion (λ x. f x ≡ 0) xs → sum_by f xs ≡ 0
 sum_each_none f [] none = refl
@@ -32,6 +34,8 @@ module _ {P : Type 0} where
   untouched_is_whole has c xs untouched nothing = record {
     places = λ t. omega (arith, none_away t c untouched, none_kept t c untouched, sum_each_none (λ x. (has x).places t) xs (each_weaker (λ x. HasNothing (has x)) (λ x. (has x).places t ≡ 0) xs (λ x none. none.places t) nothing));
     instances = untouched.instances ∙ sym (sum_each_none (λ x. (has x).instances) xs (each_weaker (λ x. HasNothing (has x)) (λ x. (has x).instances ≡ 0) xs (λ x none. none.instances) nothing));
+    components = untouched.components ∙ sym (sum_each_none (λ x. (has x).components) xs (each_weaker (λ x. HasNothing (has x)) (λ x. (has x).components ≡ 0) xs (λ x none. none.components) nothing));
     memories = untouched.memories ∙ sym (sum_each_none (λ x. (has x).memories) xs (each_weaker (λ x. HasNothing (has x)) (λ x. (has x).memories ≡ 0) xs (λ x none. none.memories) nothing));
     tables = untouched.tables ∙ sym (sum_each_none (λ x. (has x).tables) xs (each_weaker (λ x. HasNothing (has x)) (λ x. (has x).tables ≡ 0) xs (λ x none. none.tables) nothing));
+    stacks = untouched.stacks ∙ sym (sum_each_none (λ x. (has x).stacks) xs (each_weaker (λ x. HasNothing (has x)) (λ x. (has x).stacks ≡ 0) xs (λ x none. none.stacks) nothing));
   }

@@ -1,7 +1,7 @@
 -- What all rows share: the pool and the frame with one part changed, how a call goes on at its stage, and the steps that are
 -- left of a request.
 use Rattle.pool_slots.specs.declared.plan.Plan.{Plan}
-use Rattle.std.proofs.Common.{◌≡◌, ℕ, ◌+◌, ◌*◌, ◌-◌, ◌<◌, ◌≤◌, Bool, true, false, List, [], ◌∷◌, ◌++◌, length, zero, suc, refl, sym, ap, subst, inl, arith, Option, Some, None}
+use Rattle.std.proofs.Common.{◌≡◌, ℕ, ◌+◌, ◌*◌, ◌-◌, ◌<◌, ◌≤◌, Bool, true, false, List, [], ◌∷◌, ◌++◌, length, zero, suc, refl, sym, ap, subst, inl, inr, arith, Some, None}
 use Rattle.std.specs.Prelude.{nat_lt, if◌then◌else◌, slice_get, IfSome}
 use Rattle.std.proofs.lemmas.Bool.{ltb-true}
 use Rattle.pool_pages.specs.MakerTold.{MakerTold}
@@ -10,23 +10,25 @@ use Rattle.pool_alloc.specs.Bounds.{PoolSizes, allocation_bound, give_back_bound
 use Rattle.pool_alloc.specs.Objects.{objects_in, objects_wanted}
 use Rattle.pool_alloc.specs.declared.lease.InstanceLease.{InstanceLease}
 use Rattle.pool_slots.specs.declared.errors.AllocError.{AllocError}
-use Rattle.pool_alloc.specs.Calls.{IfGranted}
-use Rattle.pool_alloc.specs.Rows.{answer_of}
 use Rattle.pool_alloc.specs.Searches.{IsSearchedBy}
 use Rattle.pool_alloc.specs.Sound.{IsCore, Aims, IsToGrant}
-use Rattle.pool_alloc.specs.Stages.{admitted, no_call, refusing, stage_by, Follows, Raises, Goes}
-use Rattle.pool_alloc.specs.Stepping.{CanStep, count_granted}
-use Rattle.pool_alloc.specs.declared.frame.Grant.{Grant}
-use Rattle.pool_alloc.specs.Turns.{is_granting}
+use Rattle.pool_alloc.specs.Stages.{Progress, admitted, no_call, refusing, progress_by, stage_by, FindsNone, Follows, Raises, Goes}
+use Rattle.pool_alloc.specs.Steps.{stacks_wanted}
+use Rattle.pool_alloc.specs.Stepping.{CanStep}
+use Rattle.pool_alloc.specs.Turns.{is_granting, answer_of}
 use Rattle.pool_alloc.specs.declared.pool_core.Counters.{Counters}
 use Rattle.pool_alloc.specs.declared.pool_core.PoolCore.{PoolCore}
 use Rattle.pool_alloc.specs.declared.pool_core.Settings.{Settings}
 use Rattle.pool_alloc.specs.declared.frame.Ending.{Ending}
 use Rattle.pool_alloc.specs.declared.frame.Ending.TheVariants.{Granted as granted, Returned as returned, Refused as refused}
+use Rattle.pool_alloc.specs.StackLeases.{LeasedStack}
+use Rattle.pool_alloc.specs.declared.frame.Grant.TheVariants.{Stack}
+use Rattle.pool_alloc.specs.declared.frame.Outcome.TheVariants as answer
 use Rattle.pool_alloc.specs.declared.frame.Frame.{Frame}
-use Rattle.pool_alloc.specs.Asked.{ModuleAsked}
+use Rattle.pool_alloc.specs.declared.frame.Asked.{Asked}
+use Rattle.pool_alloc.specs.declared.frame.Asked.TheVariants.{Stack as stack_asked}
 use Rattle.pool_alloc.specs.declared.frame.Phase.{Phase}
-use Rattle.pool_alloc.proofs.Hands.{one_more, in_phase, Held, Kept}
+use Rattle.pool_alloc.proofs.Hands.{one_more, in_phase, is_admitted, Held, Kept}
 
 -- what holds of each element by its place, with one more at the end
 pub push_at : {X : Type 0} (Q : ℕ → X → Type 0) (xs : List X) (x : X) → ((k : ℕ) → IfSome (slice_get xs k) (Q k)) → Q (length xs) x → (k : ℕ) → IfSome (slice_get (xs ++ x ∷ []) k) (Q k)
@@ -47,12 +49,12 @@ searched_back returned known back = tt
 searched_back (refused x) known back = tt
 
 -- a call that gives back aims at nothing else
-pub aims_back : {P : Type 0} (s : Settings) (plan : Plan) (e : Ending) (asked : Option ModuleAsked) (queues : ℕ) (objects : InstanceLease P) → is_granting e ≡ false → Aims s plan e asked queues objects
+pub aims_back : {P : Type 0} (s : Settings) (plan : Plan) (e : Ending) (asked : Asked) (queues : ℕ) (objects : InstanceLease P) → is_granting e ≡ false → Aims s plan e asked queues objects
 aims_back s plan granted asked queues objects back = absurd cc
 aims_back s plan returned asked queues objects back = tt
 aims_back s plan (refused x) asked queues objects back = tt
 
-pub aims_grant : {P : Type 0} (s : Settings) (plan : Plan) (e : Ending) (asked : Option ModuleAsked) (queues : ℕ) (objects : InstanceLease P) → e ≡ granted → IsToGrant s plan asked queues objects → Aims s plan e asked queues objects
+pub aims_grant : {P : Type 0} (s : Settings) (plan : Plan) (e : Ending) (asked : Asked) (queues : ℕ) (objects : InstanceLease P) → e ≡ granted → IsToGrant s plan asked queues objects → Aims s plan e asked queues objects
 aims_grant s plan e asked queues objects is to_grant = let A : Ending → Type 0 = λ x. Aims s plan x asked queues objects in subst A (sym is) to_grant
 
 pub same_times : (m n x : ℕ) → m ≡ n → m * x ≡ n * x
@@ -87,8 +89,9 @@ at_most_if true m n most = most refl
 at_most_if false m n most = omega arith
 
 -- another object is granted, and there is a next one, or none
-pub next_object : {P : Type 0} (z : PoolSizes) (e : Ending) (asked : Option ModuleAsked) (before after : InstanceLease P) → e ≡ granted → objects_in after ≡ objects_in before + 1 → next_left z e 0 asked after ≤ objects_left z asked before
-next_object z e asked before after is long =
+pub next_object : {P : Type 0} (z : PoolSizes) (e : Ending) (asked : Asked) (before after : InstanceLease P) → e ≡ granted → objects_in after ≡ objects_in before + 1 → stacks_wanted asked ≡ 0 → next_left z e 0 asked after ≤ objects_left z asked before
+next_object z e stack_asked before after is long none = absurd (omega (arith, none))
+next_object z e asked before after is long none =
     let k : ℕ = objects_wanted asked in
     let n : ℕ = objects_in before in
     let E : Ending → Type 0 = λ x. next_left z x 0 asked after ≤ objects_left z asked before in
@@ -98,8 +101,9 @@ next_object z e asked before after is long =
     (λ more. let there : M (objects_in after) = subst M (sym long) (following_left z k n (omega (arith, ltb-true _ _ more, long))) in omega (arith, there)))
 
 -- the first object is allocated, or there is none
-pub first_object : {P : Type 0} (z : PoolSizes) (e : Ending) (queues : ℕ) (asked : Option ModuleAsked) (objects : InstanceLease P) → e ≡ granted → queues ≡ 0 → objects_in objects ≡ 0 → next_left z e queues asked objects + 1 ≤ 2 + objects_wanted asked * (allocation_bound z + give_back_bound z)
-first_object z e queues asked objects is none_taken none =
+pub first_object : {P : Type 0} (z : PoolSizes) (e : Ending) (queues : ℕ) (asked : Asked) (objects : InstanceLease P) → e ≡ granted → queues ≡ 0 → objects_in objects ≡ 0 → stacks_wanted asked ≡ 0 → next_left z e queues asked objects + 1 ≤ 2 + objects_wanted asked * (allocation_bound z + give_back_bound z)
+first_object z e queues stack_asked objects is none_taken none unstacked = absurd (omega (arith, unstacked))
+first_object z e queues asked objects is none_taken none unstacked =
     let k : ℕ = objects_wanted asked in
     let most : ℕ = 1 + k * (allocation_bound z + give_back_bound z) in
     let E : Ending → Type 0 = λ x. next_left z x queues asked objects ≤ most in
@@ -112,12 +116,12 @@ first_object z e queues asked objects is none_taken none =
     omega (arith, few)
 
 -- the search goes on with a round of picks
-pub next_round : {P : Type 0} (z : PoolSizes) (e : Ending) (queues : ℕ) (asked : Option ModuleAsked) (objects : InstanceLease P) → e ≡ granted → next_left z e queues asked objects ≤ picks_left z queues 0 asked objects
+pub next_round : {P : Type 0} (z : PoolSizes) (e : Ending) (queues : ℕ) (asked : Asked) (objects : InstanceLease P) → e ≡ granted → next_left z e queues asked objects ≤ picks_left z queues 0 asked objects
 next_round z e queues asked objects is =
     let E : Ending → Type 0 = λ x. next_left z x queues asked objects ≤ picks_left z queues 0 asked objects in
     subst E (sym is) (at_most_if (nat_lt (objects_in objects) (objects_wanted asked)) (picks_left z queues 0 asked objects) (picks_left z queues 0 asked objects) (λ more. omega arith))
 
-pub next_returns : {P : Type 0} (z : PoolSizes) (e : Ending) (queues : ℕ) (asked : Option ModuleAsked) (objects : InstanceLease P) → is_granting e ≡ false → next_left z e queues asked objects ≡ returns_left z objects
+pub next_returns : {P : Type 0} (z : PoolSizes) (e : Ending) (queues : ℕ) (asked : Asked) (objects : InstanceLease P) → is_granting e ≡ false → next_left z e queues asked objects ≡ returns_left z objects
 next_returns z granted queues asked objects back = absurd cc
 next_returns z returned queues asked objects back = refl
 next_returns z (refused x) queues asked objects back = refl
@@ -131,17 +135,6 @@ module _ {P : Type 0} where
   abbrev pub Can : MakerTold → Phase P → PoolCore P → Frame P → Type 0
   Can maker p c f = CanStep maker c (in_phase p f)
 
-  -- no grant is answered by an ending
-  pub none_granted : (Q : _) (e : Ending) → IfGranted {P = P} Q (Some (answer_of e))
-  none_granted Q granted = tt
-  none_granted Q returned = tt
-  none_granted Q (refused x) = tt
-
-  pub none_counted : (of : Grant P → ℕ) (e : Ending) → count_granted of (Some (answer_of e)) ≡ 0
-  none_counted of granted = refl
-  none_counted of returned = refl
-  none_counted of (refused x) = refl
-
 module _ {P : Type 0} (maker : MakerTold) (old new : LimiterTold) (d : PoolCore P) (e : Frame P) where
   -- a part was changed
   pub kept_part : (c : PoolCore P) (f : Frame P) → IsCore maker c → Held maker c.settings c.plan f → f.asked ≡ e.asked → c.settings ≡ d.settings → c.plan ≡ d.plan → c.counters ≡ d.counters → Kept maker old new d e c f
@@ -154,24 +147,52 @@ module _ {P : Type 0} (maker : MakerTold) (old new : LimiterTold) (d : PoolCore 
     instances_by_one = omega (arith, ap (λ (n : Counters). n.core_instances) counters);
     memories_by_one = omega (arith, ap (λ (n : Counters). n.memories) counters);
     tables_by_one = omega (arith, ap (λ (n : Counters). n.tables) counters);
+    stacks_by_one = omega (arith, ap (λ (n : Counters). n.stacks) counters);
   }
 
   -- a call stays at its stage,
-  pub same_way : (ending : Ending) (n : ℕ) → Goes maker old new d e (stage_by ending n) (stage_by ending n) None
-  same_way granted n = inl refl
-  same_way returned n = tt
-  same_way (refused x) n = refl
+  pub same_way : (asked : Asked) (ending : Ending) (n : ℕ) → Goes maker old new d e (stage_by asked ending n) (stage_by asked ending n) None
+  same_way stack_asked granted n = tt
+  same_way asked granted n = inl refl
+  same_way asked returned n = tt
+  same_way asked (refused x) n = refl
 
   -- it fails for a cause,
-  pub fails_way : (ending : Ending) (n : ℕ) (x : AllocError) → ending ≡ granted → Raises maker old new d e (admitted n) x → Goes maker old new d e (stage_by ending n) (refusing x) None
-  fails_way ending n x is raised = let W : Ending → Type 0 = λ y. Goes maker old new d e (stage_by y n) (refusing x) None in subst W (sym is) raised
+  pub fails_way : (asked : Asked) (ending : Ending) (n : ℕ) (x : AllocError) → ending ≡ granted → Raises maker old new d e (progress_by asked n) x → Goes maker old new d e (stage_by asked ending n) (refusing x) None
+  fails_way asked ending n x is raised = let W : Ending → Type 0 = λ y. Goes maker old new d e (stage_by asked y n) (refusing x) None in subst W (sym is) raised
+
+  -- as one for a module that is tested,
+  pub admitted_way : (asked : Asked) (ending : Ending) (n : ℕ) (x : AllocError) → ending ≡ granted → stacks_wanted asked ≡ 0 → Raises maker old new d e (admitted n) x → Goes maker old new d e (stage_by asked ending n) (refusing x) None
+  admitted_way asked ending n x is none raised = fails_way asked ending n x is (let R : Progress → Type 0 = λ p. Raises maker old new d e p x in subst R (sym (is_admitted asked n none)) raised)
+
+  -- or for want of a slot,
+  pub full_way : (asked : Asked) (ending : Ending) (n : ℕ) (x : AllocError) → ending ≡ granted → (asked ≡ stack_asked → n ≡ 0) → FindsNone d e n x → Goes maker old new d e (stage_by asked ending n) (refusing x) None
+  full_way stack_asked ending n x is none found = fails_way stack_asked ending n x is (inr (let F : ℕ → Type 0 = λ m. FindsNone d e m x in subst F (none refl) found))
+  full_way asked ending n x is none found = fails_way asked ending n x is (inl found)
 
   -- an object more is made,
-  pub made_way : (ending : Ending) (n : ℕ) → ending ≡ granted → Follows old new d e (admitted n) (admitted (n + 1)) → Goes maker old new d e (stage_by ending n) (stage_by ending (n + 1)) None
-  made_way ending n is follows = let W : Ending → Type 0 = λ y. Goes maker old new d e (stage_by y n) (stage_by y (n + 1)) None in subst W (sym is) follows
+  pub made_way : (asked : Asked) (ending : Ending) (n : ℕ) → ending ≡ granted → stacks_wanted asked ≡ 0 → Follows old new d e (admitted n) (admitted (n + 1)) → Goes maker old new d e (stage_by asked ending n) (stage_by asked ending (n + 1)) None
+  made_way asked ending n is none follows =
+      let W : Ending → Type 0 = λ y. Goes maker old new d e (stage_by asked y n) (stage_by asked y (n + 1)) None in
+      let F : Progress → Progress → Type 0 = λ p q. Follows old new d e p q in
+      subst W (sym is) (subst (λ (p : Progress). F p (progress_by asked (n + 1))) (sym (is_admitted asked n none)) (subst (F (admitted n)) (sym (is_admitted asked (n + 1) none)) follows))
 
   -- and one that gives back ends as it is to end.
-  pub ends_way : (ending : Ending) (n : ℕ) → is_granting ending ≡ false → Goes maker old new d e (stage_by ending n) no_call (Some (answer_of ending))
-  ends_way granted n back = absurd cc
-  ends_way returned n back = tt
-  ends_way (refused x) n back = refl
+  pub ends_way : (asked : Asked) (ending : Ending) (n : ℕ) → is_granting ending ≡ false → Goes maker old new d e (stage_by asked ending n) no_call (Some (answer_of ending))
+  ends_way asked granted n back = absurd cc
+  ends_way asked returned n back = tt
+  ends_way asked (refused x) n back = refl
+
+  -- A call for a stack that has its slot is still one for a stack, and is granted with it.
+  pub sought_way : (asked : Asked) (ending : Ending) (n : ℕ) → asked ≡ stack_asked → Goes maker old new d e (stage_by asked ending n) (stage_by asked ending (n + 1)) None
+  sought_way asked ending n is = let W : Asked → Type 0 = λ a. Goes maker old new d e (stage_by a ending n) (stage_by a ending (n + 1)) None in subst W (sym is) (stays_so ending)
+    where
+      stays_so : (x : Ending) → Goes maker old new d e (stage_by stack_asked x n) (stage_by stack_asked x (n + 1)) None
+      stays_so granted = tt
+      stays_so returned = tt
+      stays_so (refused y) = refl
+
+  pub granted_stack_way : (asked : Asked) (ending : Ending) (n : ℕ) (lease : LeasedStack) → asked ≡ stack_asked → ending ≡ granted → 0 < d.settings.stack_size → Goes maker old new d e (stage_by asked ending (n + 1)) no_call (Some (answer.Granted (Stack lease)))
+  granted_stack_way asked ending n lease is aim enabled =
+      let W : Asked → Ending → Type 0 = λ a x. Goes maker old new d e (stage_by a x (n + 1)) no_call (Some (answer.Granted (Stack lease))) in
+      subst (λ (a : Asked). W a ending) (sym is) (subst (W stack_asked) (sym aim) (tt, enabled))

@@ -50,8 +50,10 @@ module _ {P : Type 0} where
     once = λ t. omega (arith, whole.places t, is.places t, get_or-le-sum_by (λ (h : Holding). h.places t) hs i d below);
     others = λ k. omega (arith, whole.places (right_to k), whole.places (region_of k), is.places (right_to k), is.places (region_of k), slots k, others_have_slots k hs i d each below, kept_regions k c);
     instances = omega (arith, whole.instances, is.instances, get_or-le-sum_by (λ (h : Holding). h.instances) hs i d below);
+    components = omega (arith, whole.components, is.components, get_or-le-sum_by (λ (h : Holding). h.components) hs i d below);
     memories = omega (arith, whole.memories, is.memories, get_or-le-sum_by (λ (h : Holding). h.memories) hs i d below);
     tables = omega (arith, whole.tables, is.tables, get_or-le-sum_by (λ (h : Holding). h.tables) hs i d below);
+    stacks = omega (arith, whole.stacks, is.stacks, get_or-le-sum_by (λ (h : Holding). h.stacks) hs i d below);
   }
 
   -- No slot is with two of them.

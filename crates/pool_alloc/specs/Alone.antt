@@ -18,10 +18,13 @@ module _ {P : Type 0} where
   AreSteps c f [] a = IsStep c f a
   AreSteps c f (b ∷ rest) a = IsStep c f b × ((b.outcome ≡ None) × AreSteps b.core b.frame rest a)
 
-  -- Every count is as it was: how many instances, memories and tables there are, and what is given out less what queues
+  -- Every count is as it was: how many instances, components, memories, tables and stacks there are, and what is given out less
+  -- what queues
   -- keep of it.
   pub record HasSameCounts (old new : PoolCore P) : Type 0 where
     pub given : (t : Thing) → away_count t new + kept_count t old ≡ away_count t old + kept_count t new
     pub instances : new.counters.core_instances ≡ old.counters.core_instances
+    pub components : new.counters.component_instances ≡ old.counters.component_instances
     pub memories : new.counters.memories ≡ old.counters.memories
     pub tables : new.counters.tables ≡ old.counters.tables
+    pub stacks : new.counters.stacks ≡ old.counters.stacks

@@ -27,9 +27,19 @@ use Rattle.pool_alloc.specs.declared.pool_core.Settings.{Settings}
 use Rattle.pool_alloc.specs.declared.frame.Frame.{Frame}
 use Rattle.pool_alloc.specs.declared.frame.Phase.{Phase}
 use Rattle.pool_alloc.specs.declared.frame.Object.{Object}
-use Rattle.pool_alloc.specs.declared.frame.Object.TheVariants.{Memory, Table}
+use Rattle.pool_alloc.specs.declared.frame.Object.TheVariants.{Memory}
 use Rattle.pool_alloc.specs.declared.frame.TakenSlot.{TakenSlot}
 use Rattle.pool_alloc.specs.declared.frame.Phase.TheVariants.{Empty, Instantiate, MakeMemory, MakeTable, Reset, Flush}
+use Rattle.pool_alloc.specs.declared.frame.Phase.TheVariants.{Purge, Release}
+use Rattle.pool_pages.specs.Told.{decommitting}
+use Rattle.pool_images.specs.Orders.{removing}
+use Rattle.pool_images.specs.Slots.{CallFaulted, called, without_image}
+use Rattle.pool_slots.specs.declared.cells.ImageSlot.{ImageSlot}
+use Rattle.pool_slots.specs.declared.cells.ImageSlot.TheVariants.{Unmapped, Unknown, PreviouslyUsed, Taken}
+use Rattle.pool_alloc.specs.declared.purge.PurgeStep.{PurgeStep}
+use Rattle.pool_alloc.specs.declared.purge.PurgeStep.TheVariants as purging_step
+use Rattle.pool_alloc.specs.declared.release.ReleaseStep.{ReleaseStep}
+use Rattle.pool_alloc.specs.declared.release.ReleaseStep.TheVariants as releasing_step
 
 -- a slot is emptied, and clean then, or a call on its region failed
 abbrev pub Empties : Bool → Slot → Slot → Type 0
@@ -104,15 +114,68 @@ abbrev pub FlushPlanned : FlushStep → StepGiven → Queue → Type 0
 FlushPlanned run g local = FollowsRun g.fault local g.queue
 FlushPlanned _ g local = Unit {0}
 
+-- a slot's image is removed, and the slot is clean then, or a call on its region failed
+abbrev pub RemovesImage : Bool → Slot → Slot → Type 0
+RemovesImage true old new = IsLeft old new
+RemovesImage false old new = (new ≡ without_image old) × IsClean new
+
+-- the whole region of a slot is decommitted, or the call failed
+abbrev pub DecommitsWhole : Settings → Bool → Slot → Slot → Type 0
+DecommitsWhole s true old new = CallFaulted (decommitting old.base.bytes s.max_memory_size) old new
+DecommitsWhole s false old new = new ≡ called (decommitting old.base.bytes s.max_memory_size) old
+
 module _ {P : Type 0} where
+  -- A slot is forgotten: one of which nothing is known is emptied, and else its image is removed.
+  abbrev pub Forgets : Bool → ImageSlot P → Slot → Type 0
+  Forgets fault (Unmapped region) new = fault ≡ false
+  Forgets fault (Unknown old) new = Empties fault old new
+  Forgets fault (PreviouslyUsed old) new = RemovesImage fault old new
+  Forgets fault Taken new = fault ≡ false
+
+  abbrev pub FollowsForget : Bool → ImageSlot P → Slot → Type 0
+  FollowsForget fault (Unmapped region) new = Unit {0}
+  FollowsForget fault (Unknown old) new = Follows (wiping old) (not fault) old.region new.region
+  FollowsForget fault (PreviouslyUsed old) new = Follows (removing old) (not fault) old.region new.region
+  FollowsForget fault Taken new = Unit {0}
+
+  -- A slot's region is decommitted. A clean slot stays clean, also where the call failed.
+  abbrev pub Drains : Settings → Bool → ImageSlot P → Slot → Type 0
+  Drains s fault (Unmapped region) new = fault ≡ false
+  Drains s fault (Unknown old) new = DecommitsWhole s fault old new
+  Drains s fault (PreviouslyUsed old) new = DecommitsWhole s fault old new × IsClean new
+  Drains s fault Taken new = fault ≡ false
+
+  abbrev pub FollowsDrain : Settings → Bool → ImageSlot P → Slot → Type 0
+  FollowsDrain s fault (Unmapped region) new = Unit {0}
+  FollowsDrain s fault (Unknown old) new = Follows (decommitting old.base.bytes s.max_memory_size ∷ []) (not fault) old.region new.region
+  FollowsDrain s fault (PreviouslyUsed old) new = Follows (decommitting old.base.bytes s.max_memory_size ∷ []) (not fault) old.region new.region
+  FollowsDrain s fault Taken new = Unit {0}
+
+  -- by the step of a purge, and of a release
+  abbrev pub PurgeTold : StepGiven → PurgeStep P → Type 0
+  PurgeTold g (purging_step.Forget at held) = Forgets g.fault held g.slot
+  PurgeTold g _ = Unit {0}
+
+  abbrev pub PurgePlanned : StepGiven → PurgeStep P → Type 0
+  PurgePlanned g (purging_step.Forget at held) = FollowsForget g.fault held g.slot
+  PurgePlanned g _ = Unit {0}
+
+  abbrev pub ReleaseTold : Settings → StepGiven → ReleaseStep P → Type 0
+  ReleaseTold s g (releasing_step.Decommit r k at held) = Drains s g.fault held g.slot
+  ReleaseTold s g _ = Unit {0}
+
+  abbrev pub ReleasePlanned : Settings → StepGiven → ReleaseStep P → Type 0
+  ReleasePlanned s g (releasing_step.Decommit r k at held) = FollowsDrain s g.fault held g.slot
+  ReleasePlanned s g _ = Unit {0}
+
   -- an object is reset
   abbrev pub ResetTold : Settings → StepGiven → Object P → Type 0
   ResetTold s g (Memory lease) = Resets g.fault s.keep_resident.bytes (slot_taken lease) (slot_of lease.memory) g.slot
-  ResetTold s g (Table lease) = Unit {0}
+  ResetTold s g _ = Unit {0}
 
   abbrev pub ResetPlanned : Settings → StepGiven → Object P → Type 0
   ResetPlanned s g (Memory lease) = FollowsReset s.keep_resident.bytes g.fault (slot_of lease.memory) g.slot
-  ResetPlanned s g (Table lease) = Unit {0}
+  ResetPlanned s g _ = Unit {0}
 
   -- the given answers may come in this phase
   abbrev pub MayBeTold : Settings → StepGiven → Phase P → Frame P → Type 0
@@ -120,6 +183,8 @@ module _ {P : Type 0} where
   MayBeTold s g (Instantiate at held) f = IfAllocated f (λ decl. InstantiatesFor s decl g.fault (image_wanted f) held g.slot)
   MayBeTold s g (Reset object) f = ResetTold s g object
   MayBeTold s g Flush f = FlushTold (flush_step f.local f.freed.items) g f.local
+  MayBeTold s g (Purge p step) f = PurgeTold g step
+  MayBeTold s g (Release step) f = ReleaseTold s g step
   MayBeTold s g _ f = Unit {0}
 
   -- what the step makes of the limiter: only the making of a memory or a table asks it
@@ -141,4 +206,6 @@ module _ {P : Type 0} where
   IsPlanned s g (Instantiate at held) f = IfAllocated f (λ decl. FollowsPlanFor s decl g.fault (image_wanted f) held g.slot)
   IsPlanned s g (Reset object) f = ResetPlanned s g object
   IsPlanned s g Flush f = FlushPlanned (flush_step f.local f.freed.items) g f.local
+  IsPlanned s g (Purge p step) f = PurgePlanned g step
+  IsPlanned s g (Release step) f = ReleasePlanned s g step
   IsPlanned s g _ f = Unit {0}

@@ -11,7 +11,7 @@ use Rattle.pool_slots.specs.declared.slot_name.SlotName.{SlotName}
 use Rattle.pool_slots.specs.declared.plan.Allocator.{Allocator}
 use Rattle.pool_slots.specs.declared.plan.Plan.{Plan}
 use Rattle.pool_alloc.specs.Steps.{queues_searched}
-use Rattle.pool_alloc.specs.declared.frame.Grant.TheVariants.{Instance}
+use Rattle.pool_alloc.specs.declared.frame.Grant.TheVariants.{Instance, Stack, Component}
 use Rattle.pool_alloc.specs.declared.pool_core.PoolCore.{PoolCore}
 use Rattle.pool_alloc.specs.declared.frame.Call.{Call}
 use Rattle.pool_alloc.specs.declared.frame.Call.TheVariants as call
@@ -19,15 +19,28 @@ use Rattle.pool_alloc.specs.declared.frame.Ending.{Ending}
 use Rattle.pool_alloc.specs.declared.frame.Ending.TheVariants.{Granted as granted, Returned as returned, Refused as refused}
 use Rattle.pool_alloc.specs.declared.frame.Frame.{Frame}
 use Rattle.pool_alloc.specs.declared.frame.FreedSlot.{FreedSlot}
-use Rattle.pool_alloc.specs.Asked.{ModuleAsked}
+use Rattle.pool_alloc.specs.declared.frame.Asked.{Asked}
+use Rattle.pool_alloc.specs.declared.frame.Asked.TheVariants.{Module as module_asked, Stack as stack_asked}
 use Rattle.pool_alloc.specs.declared.frame.Phase.{Phase}
-use Rattle.pool_alloc.specs.declared.frame.Phase.TheVariants.{Idle, Key, Validate, CountInstance, Pick, TakeQueue, TakeRegion, Empty, Instantiate, MakeMemory, MakeTable, CountObject, PutBack, FreeOne, UncountObject, Reset, Merge, Flush, UncountInstance}
+use Rattle.pool_alloc.specs.declared.frame.Phase.TheVariants.{Idle, Key, Validate, TestStack, CountInstance, Pick, TakeQueue, TakeRegion, Empty, Instantiate, MakeMemory, MakeTable, CountObject, PutBack, FreeOne, UncountObject, Reset, Merge, Flush, UncountInstance, ValidateComponent, CountComponent, UncountComponent, Purge, Release}
+use Rattle.std.specs.Prelude.{drop}
+use Rattle.pool_alloc.specs.Purges.{has_turns, purged_stripe}
+use Rattle.pool_alloc.specs.Releases.{released_stripe}
+use Rattle.pool_alloc.specs.declared.pool_core.Settings.{Settings}
+use Rattle.pool_alloc.specs.declared.purge.PurgeCursor.{PurgeCursor}
+use Rattle.pool_alloc.specs.declared.purge.PurgeStep.{PurgeStep}
+use Rattle.pool_alloc.specs.declared.purge.PurgeStep.TheVariants as purging_step
+use Rattle.pool_alloc.specs.declared.release.ReleaseCursor.{ReleaseCursor}
+use Rattle.pool_alloc.specs.declared.release.ReleaseStep.{ReleaseStep}
+use Rattle.pool_alloc.specs.declared.release.ReleaseStep.TheVariants as releasing_step
 
--- The sizes on which bounds rest: the most shards of one allocator, the queues, the slots, and where the plan has each.
+-- The sizes on which bounds rest: the most shards of one allocator, the queues, the slots, how many memories a module may have,
+-- and where the plan has each slot.
 pub record PoolSizes : Type 0 where
   pub shards : ℕ
   pub queues : ℕ
   pub slots : ℕ
+  pub per_module : ℕ
   pub plan : Plan
 
 -- the most shards of one of these allocators, and the shards of all of them
@@ -41,13 +54,17 @@ all_shards (a ∷ more) = a.shards + all_shards more
 
 -- the allocators of slots that a flush frees
 abbrev pub flushed_allocators : Plan → List Allocator
-flushed_allocators plan = plan.memories ++ plan.tables
+flushed_allocators plan = plan.memories ++ (plan.tables ++ plan.stacks)
+
+-- the slots of the pool
+abbrev pub all_slots : Plan → ℕ
+all_slots plan = plan.totals.memory + plan.totals.table + plan.totals.stack
 
 -- the sizes of a pool
-abbrev pub sizes_of : Plan → PoolSizes
-sizes_of plan = record { shards = most_shards (flushed_allocators plan); queues = queues_searched plan; slots = plan.totals.memory + plan.totals.table; plan = plan }
+abbrev pub sizes_of : Settings → Plan → PoolSizes
+sizes_of s plan = record { shards = most_shards (flushed_allocators plan); queues = queues_searched plan; slots = all_slots plan; per_module = s.max_memories_per_module; plan = plan }
 
--- A flush, with the step that begins it: three steps for each slot, and one for each shard. (Without tables it makes fewer.)
+-- A flush, with the step that begins it: three steps for each slot, and one for each shard. (Without tables and stacks it makes fewer.)
 abbrev pub flush_bound : PoolSizes → ℕ
 flush_bound z = 1 + 3 * z.slots + all_shards (flushed_allocators z.plan)
 
@@ -66,6 +83,39 @@ instance_bound z objects = 3 + objects * (allocation_bound z + give_back_bound z
 -- the end of an instance with so many objects
 abbrev pub return_bound : PoolSizes → ℕ → ℕ
 return_bound z objects = 1 + objects * give_back_bound z
+
+-- A purge: for each memory that a module may have, and each stripe, as many turns as the stripe has slots, and the last round
+-- of picks. A turn is a round of picks and four steps with the slot.
+abbrev pub turns_bound : PoolSizes → Allocator → ℕ
+turns_bound z a = a.capacity * (z.shards + 4) + z.shards
+
+abbrev pub purge_bound : PoolSizes → ℕ
+purge_bound z = 1 + z.per_module * sum_by (turns_bound z) z.plan.memories
+
+-- A release: a stripe's shards are taken, and each of its slots may be decommitted in three steps and is freed.
+abbrev pub stripe_bound : PoolSizes → Allocator → ℕ
+stripe_bound z a = z.shards + 4 * a.capacity
+
+abbrev pub release_bound : PoolSizes → ℕ
+release_bound z = 1 + sum_by (stripe_bound z) z.plan.memories
+
+-- what is left of a purge behind a memory, and behind a turn for it
+abbrev pub memories_left : PoolSizes → PurgeCursor → ℕ
+memories_left z p = (z.per_module - (p.memory + 1)) * turns_bound z (purged_stripe z.plan p) + z.per_module * sum_by (turns_bound z) (drop (p.stripe + 1) z.plan.memories)
+
+abbrev pub turns_left : PoolSizes → PurgeCursor → ℕ
+turns_left z p = ((purged_stripe z.plan p).capacity - (p.turn + 1)) * (z.shards + 4) + z.shards + memories_left z p
+
+-- how many slots keep bytes resident, and what is left of a release behind its stripe
+abbrev pub residents : List FreedSlot → ℕ
+residents slots = sum_by (λ x. one_if (not (x.bytes == 0))) slots
+
+abbrev pub stripes_left : PoolSizes → ReleaseCursor → ℕ
+stripes_left z r = sum_by (stripe_bound z) (drop (r.stripe + 1) z.plan.memories)
+
+-- what is left where the slots from a place on may still be decommitted
+abbrev pub drains_left : PoolSizes → ReleaseCursor → ℕ → ℕ
+drains_left z r k = 3 * residents (drop k r.taken.items) + length r.taken.items + stripes_left z r
 
 -- 1 for a slot that is at home in the shard at this place, and how many such slots wait: those that are queued, and those
 -- that are to be freed
@@ -102,20 +152,22 @@ returns_left z objects = return_bound z (objects_in objects)
 
 -- What is left once the object that is allocated is granted or refused: the module's other objects, and that all which
 -- are granted until then may be given back.
-abbrev pub objects_left : {P : Type 0} → PoolSizes → Option ModuleAsked → InstanceLease P → ℕ
+-- Nothing is left of a request for a stack.
+abbrev pub objects_left : {P : Type 0} → PoolSizes → Asked → InstanceLease P → ℕ
+objects_left z stack_asked objects = 0
 objects_left z asked objects = (objects_wanted asked - (objects_in objects + 1)) * (allocation_bound z + give_back_bound z) + return_bound z (objects_in objects + 1)
 
 -- what is left of an allocation where so many queues were gone through: their flushes with the rounds of picks after them,
 -- and six steps with the slot
-abbrev pub queues_left : {P : Type 0} → PoolSizes → ℕ → Option ModuleAsked → InstanceLease P → ℕ
+abbrev pub queues_left : {P : Type 0} → PoolSizes → ℕ → Asked → InstanceLease P → ℕ
 queues_left z queues asked objects = (z.queues - queues) * (flush_bound z + z.shards) + (6 + objects_left z asked objects)
 
 -- and where so many shards were tried then
-abbrev pub picks_left : {P : Type 0} → PoolSizes → ℕ → ℕ → Option ModuleAsked → InstanceLease P → ℕ
+abbrev pub picks_left : {P : Type 0} → PoolSizes → ℕ → ℕ → Asked → InstanceLease P → ℕ
 picks_left z queues tried asked objects = (z.shards - tried) + queues_left z queues asked objects
 
 -- what is left of a call where its ending says what is next
-abbrev pub next_left : {P : Type 0} → PoolSizes → Ending → ℕ → Option ModuleAsked → InstanceLease P → ℕ
+abbrev pub next_left : {P : Type 0} → PoolSizes → Ending → ℕ → Asked → InstanceLease P → ℕ
 next_left z granted queues asked objects = if nat_lt (objects_in objects) (objects_wanted asked) then picks_left z queues 0 asked objects else 0
 next_left z returned queues asked objects = returns_left z objects
 next_left z (refused e) queues asked objects = returns_left z objects
@@ -124,17 +176,40 @@ module _ {P : Type 0} where
   -- at most how many steps a call makes, on a pool of these sizes and on this one
   abbrev pub bound_of_call : PoolSizes → Call P → ℕ
   bound_of_call z call.Key = 1
-  bound_of_call z (call.Module m) = instance_bound z (objects_wanted (Some m))
+  bound_of_call z (call.Module m) = instance_bound z (objects_wanted (module_asked m))
+  bound_of_call z (call.Component info) = 3
+  bound_of_call z call.Stack = 1 + allocation_bound z
   bound_of_call z (call.GiveBack (Instance lease)) = return_bound z (objects_in lease)
+  bound_of_call z (call.GiveBack Component) = 1
+  bound_of_call z (call.GiveBack (Stack lease)) = return_bound z 1
+  bound_of_call z (call.Purge id) = purge_bound z
+  bound_of_call z call.Release = release_bound z
 
   abbrev pub bound_of : PoolCore P → Call P → ℕ
-  bound_of c call = bound_of_call (sizes_of c.plan) call
+  bound_of c call = bound_of_call (sizes_of c.settings c.plan) call
+
+  -- at most how many steps a purge still makes, and a release
+  abbrev pub purge_left : PoolSizes → PurgeCursor → PurgeStep P → ℕ
+  purge_left z p (purging_step.Pick tried) = if has_turns z.per_module z.plan then ((purged_stripe z.plan p).capacity - p.turn) * (z.shards + 4) + (z.shards - tried) + memories_left z p else 1
+  purge_left z p (purging_step.TakeRegion name) = 4 + turns_left z p
+  purge_left z p (purging_step.Forget at held) = 3 + turns_left z p
+  purge_left z p (purging_step.PutRegion at held) = 2 + turns_left z p
+  purge_left z p (purging_step.Free name) = 1 + turns_left z p
+
+  abbrev pub release_left : PoolSizes → ReleaseStep P → ℕ
+  release_left z releasing_step.Reserve = release_bound z
+  release_left z (releasing_step.TakeWarm r j) = (z.shards - j) + 4 * (released_stripe z.plan r).capacity + stripes_left z r
+  release_left z (releasing_step.TakeRegion r k) = 3 + drains_left z r (k + 1)
+  release_left z (releasing_step.Decommit r k at held) = 2 + drains_left z r (k + 1)
+  release_left z (releasing_step.PutRegion r k at held) = 1 + drains_left z r (k + 1)
+  release_left z (releasing_step.Free r x) = 1 + length r.taken.items + stripes_left z r
 
   -- at most how many steps the frame's call still makes, on a pool of these sizes, in each phase
   abbrev pub steps_at : PoolSizes → Phase P → Frame P → ℕ
   steps_at z Idle f = 0
   steps_at z Key f = 1
   steps_at z Validate f = instance_bound z (objects_wanted f.asked)
+  steps_at z TestStack f = 1 + allocation_bound z
   steps_at z CountInstance f = 2 + objects_wanted f.asked * (allocation_bound z + give_back_bound z)
   steps_at z (Pick tried) f = picks_left z f.queues tried f.asked f.objects
   steps_at z TakeQueue f = queues_left z f.queues f.asked f.objects
@@ -151,7 +226,12 @@ module _ {P : Type 0} where
   steps_at z Merge f = flush_bound z + returns_left z f.objects
   steps_at z Flush f = flush_left z f.local f.freed + next_left z f.ending f.queues f.asked f.objects
   steps_at z UncountInstance f = 1
+  steps_at z (ValidateComponent info) f = 3
+  steps_at z CountComponent f = 2
+  steps_at z UncountComponent f = 1
+  steps_at z (Purge p step) f = purge_left z p step
+  steps_at z (Release step) f = release_left z step
 
   -- at most how many steps the frame's call still makes
   abbrev pub steps_left : PoolCore P → Frame P → ℕ
-  steps_left c f = steps_at (sizes_of c.plan) f.phase f
+  steps_left c f = steps_at (sizes_of c.settings c.plan) f.phase f

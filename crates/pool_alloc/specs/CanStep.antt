@@ -1,5 +1,5 @@
 -- Just what the code of each step needs of the pool's parts and of the frame.
-use Rattle.std.specs.Prelude.{◌≡◌, ℕ, ◌+◌, ◌^◌, ◌<◌, ◌≤◌, List, [], length, slice_get, All, false, Option, None, IsSome, IfSome, true, Some}
+use Rattle.std.specs.Prelude.{◌≡◌, ℕ, ◌+◌, ◌^◌, ◌<◌, ◌≤◌, ◌%◌, List, [], length, slice_get, All, false, Option, None, IsSome, IfSome, true, Some}
 use Rattle.pool_pages.specs.Count.{count, rounded_up}
 use Rattle.pool_pages.specs.Told.{Told}
 use Rattle.pool_pages.specs.MemoryTypes.{minimum_byte_size, refused_limits}
@@ -7,12 +7,13 @@ use Rattle.pool_pages.specs.declared.module_types.MemoryDecl.{MemoryDecl}
 use Rattle.pool_images.specs.Images.{Image}
 use Rattle.pool_images.specs.Slots.{Slot, IsClean, IsFresh, FitsInto}
 use Rattle.pool_index.specs.Shard.{ShardState, use_of}
-use Rattle.pool_hall.specs.declared.unit_name.SlotKind.TheVariants.{Memory as memory_kind}
+use Rattle.pool_hall.specs.declared.unit_name.SlotKind.TheVariants.{Memory as memory_kind, Stack as stack_kind}
 use Rattle.pool_memory.specs.Memories.{slot_of}
 use Rattle.pool_memory.specs.Static.{CanHold}
 use Rattle.pool_slots.specs.Cells.{is_taken, unmapped, IsCleanOnceUsed}
+use Rattle.pool_slots.specs.Colourings.{stripe_colour}
 use Rattle.pool_slots.specs.RegionCells.{CellState}
-use Rattle.pool_slots.specs.SlotQueues.{Queue, Queued, first_of_kind, HasOwners, IsSpareOf}
+use Rattle.pool_slots.specs.SlotQueues.{plain_slot, Queue, Queued, first_of_kind, HasOwners, IsSpareOf}
 use Rattle.pool_slots.specs.declared.plan.Plan.{Plan}
 use Rattle.pool_slots.specs.CellOf.{cell_of}
 use Rattle.pool_slots.specs.Plans.{cell_place, home_of, IsPlacedAllocator}
@@ -28,27 +29,40 @@ use Rattle.pool_alloc.specs.TableSteps.{IsInRegion, CanQueue, table_bytes}
 use Rattle.pool_alloc.specs.Modules.{HasImages, IfAllocated, IfTable}
 use Rattle.pool_alloc.specs.Reserved.{Reserved}
 use Rattle.pool_alloc.specs.Rows.{FlushStep, run, zero, put, free, flush_step}
-use Rattle.pool_alloc.specs.Turns.{is_granting}
 use Rattle.pool_slots.specs.QueueMerges.{CanMerge}
 use Rattle.pool_slots.specs.Parts.{IsAt, IsShardPart, IsCellPart}
-use Rattle.pool_alloc.specs.Steps.{memories_wanted, tables_wanted, image_wanted, IsQueuePart, allocator_for, queues_searched, shard_at, cell_named, queue_at, freed_of, first_shard, shard_tried, queue_tried}
+use Rattle.pool_alloc.specs.Steps.{IsModule, memories_wanted, tables_wanted, image_wanted, IsQueuePart, allocator_for, queues_searched, shard_at, cell_named, queue_at, freed_of, first_shard, shard_tried, queue_tried}
 use Rattle.pool_alloc.specs.declared.pool_core.PoolCore.{PoolCore}
 use Rattle.pool_alloc.specs.declared.pool_core.Settings.{Settings}
 use Rattle.pool_alloc.specs.declared.frame.Frame.{Frame}
 use Rattle.pool_alloc.specs.declared.frame.FreedSlot.{FreedSlot}
-use Rattle.pool_alloc.specs.declared.frame.Object.TheVariants.{Memory, Table}
-use Rattle.pool_alloc.specs.Asked.{ModuleAsked}
+use Rattle.pool_alloc.specs.declared.frame.Object.TheVariants.{Memory, Table, Stack}
+use Rattle.pool_slots.specs.PlainSlots.{IsPlain}
+use Rattle.pool_alloc.specs.StackLeases.{LeasedStack, stack_slot}
+use Rattle.pool_alloc.specs.declared.frame.Asked.{Asked}
 use Rattle.pool_alloc.specs.declared.frame.Phase.{Phase}
-use Rattle.pool_alloc.specs.declared.frame.Phase.TheVariants.{Idle, Key, Validate, CountInstance, Pick, TakeQueue, TakeRegion, Empty, Instantiate, MakeMemory, MakeTable, CountObject, PutBack, FreeOne, UncountObject, Reset, Merge, Flush, UncountInstance}
+use Rattle.pool_alloc.specs.declared.frame.Phase.TheVariants.{Idle, Key, Validate, TestStack, CountInstance, Pick, TakeQueue, TakeRegion, Empty, Instantiate, MakeMemory, MakeTable, CountObject, PutBack, FreeOne, UncountObject, Reset, Merge, Flush, UncountInstance, ValidateComponent, CountComponent, UncountComponent, Purge, Release}
+use Rattle.pool_images.specs.Slots.{IsRangeOf}
+use Rattle.pool_slots.specs.declared.cells.ImageSlot.{ImageSlot}
+use Rattle.pool_slots.specs.declared.cells.ImageSlot.TheVariants.{Unmapped, Unknown, PreviouslyUsed, Taken}
+use Rattle.pool_alloc.specs.Purges.{has_turns, purged_stripe}
+use Rattle.pool_alloc.specs.Releases.{released_stripe, nth_taken}
+use Rattle.pool_alloc.specs.declared.purge.PurgeCursor.{PurgeCursor}
+use Rattle.pool_alloc.specs.declared.purge.PurgeStep.{PurgeStep}
+use Rattle.pool_alloc.specs.declared.purge.PurgeStep.TheVariants as purging_step
+use Rattle.pool_alloc.specs.declared.release.ReleaseCursor.{ReleaseCursor}
+use Rattle.pool_alloc.specs.declared.release.ReleaseStep.{ReleaseStep}
+use Rattle.pool_alloc.specs.declared.release.ReleaseStep.TheVariants as releasing_step
 
 -- the place of a slot's cell, that of a shard that is tried, and that of a queue are numbers that the code can compute
 abbrev pub CanPlace : Plan → SlotName → Type 0
 CanPlace plan name = cell_place plan name < 2 ^ 32
 
--- the plan has the allocators of a stripe's memories and of tables
+-- the plan has the allocators of a stripe's memories, of tables and of stacks
 pub record HasAllocators (plan : Plan) (stripe : ℕ) : Type 0 where
   pub memories : stripe < length plan.memories
   pub tables : 0 < length plan.tables
+  pub stacks : 0 < length plan.stacks
 
 pub record CanTryShard (plan : Plan) (a : Allocator) (tried : ℕ) : Type 0 where
   pub inside : tried < a.shards
@@ -64,14 +78,25 @@ pub record CanTryQueue (plan : Plan) (home : ℕ) : Type 0 where
 abbrev pub CanValidate : List MemoryDecl → Type 0
 CanValidate decls = (k : ℕ) → IfSome (slice_get decls k) (λ decl. decl.ty.page_size_log2 < 64)
 
--- the region of a slot of this kind lies in the cell; a memory's that was never used is as it was made
-pub record CanTakeRegion (s : Settings) (kind : SlotKind) (cell : CellState) : Type 0 where
+-- an image slot of memory slot i, in the colour of its stripe, can be made of the region
+pub record CanBeImage (s : Settings) (i : ℕ) (region : Told) : Type 0 where
+  pub stripes : (0 < s.num_stripes) × (s.num_stripes < 256)
+  pub fresh : IsFresh (count s.page 0) (count s.page 0) s.max_memory_size (stripe_colour s.num_stripes i) region
+
+-- What is made of a region that lies in its cell as it was made, or that is a table's or a stack's, can be made: an image slot
+-- of a memory's, and a stack of a stack's.
+pub record CanUnmap (s : Settings) (name : SlotName) (region : Told) : Type 0 where
+  pub image : name.kind ≡ memory_kind → CanBeImage s name.slot region
+  pub plain : name.kind ≡ stack_kind → IsPlain (plain_slot s.page region)
+
+-- the region of a slot lies in the cell
+pub record CanTakeRegion (s : Settings) (name : SlotName) (cell : CellState) : Type 0 where
   pub there : is_taken cell.holds ≡ false
-  pub fresh : (region : Told) → kind ≡ memory_kind → cell.holds ≡ unmapped region → IsFresh (count s.page 0) (count s.page 0) s.max_memory_size None region
+  pub fresh : (region : Told) → cell.holds ≡ unmapped region → CanUnmap s name region
 
 -- a memory of the module is the next one
-pub record HasNext (call : Option ModuleAsked) (granted : ℕ) : Type 0 where
-  pub asked : IsSome call
+pub record HasNext (call : Asked) (granted : ℕ) : Type 0 where
+  pub asked : IsModule call
   pub images : HasImages call
   pub small : granted < 2 ^ 32
   pub more : granted < length (memories_wanted call)
@@ -91,8 +116,8 @@ pub record CanMake (s : Settings) (held : Slot) (decl : MemoryDecl) : Type 0 whe
   pub room : rounded_up held.region.page s.max_memory_size ≤ held.static_size
 
 -- a table of the module is the next one
-pub record HasTableNext (call : Option ModuleAsked) (granted : ℕ) : Type 0 where
-  pub asked : IsSome call
+pub record HasTableNext (call : Asked) (granted : ℕ) : Type 0 where
+  pub asked : IsModule call
   pub more : granted < length (tables_wanted call)
 
 -- the region has room for the table
@@ -122,6 +147,13 @@ pub record CanResetTable (s : Settings) (lease : LeasedTable) (local : Queue) : 
   pub region : (region : Told) × IsInRegion s.page lease region
   pub room : CanQueue (table_slot lease.index) local
 
+-- The stack keeps whole pages resident, and the local queue has room for its slot.
+pub record CanResetStack (s : Settings) (lease : LeasedStack) (local : Queue) : Type 0 where
+  pub page : s.stack_keep_resident.page ≡ lease.stack.slot.region.page
+  pub plain : IsPlain lease.stack.slot
+  pub few : lease.stack.slot.static_size ≤ 2 ^ 32
+  pub room : CanQueue (stack_slot lease.stack.index) local
+
 -- the queue has no ranges, and there is room among the slots to be freed
 pub record CanPutNext (local : Queue) (freed : Reserved FreedSlot) : Type 0 where
   pub no_ranges : local.ranges ≡ []
@@ -132,6 +164,24 @@ pub record CanFree (plan : Plan) (freed : List FreedSlot) (shard : ShardState) :
   pub used : AreUsedInTurn plan (freed_of plan (first_shard plan freed) freed) shard
   pub each : All (CanBeFreed plan) freed
 
+-- a purge can go on behind a memory, and behind a turn
+pub record CanGoOn (s : Settings) (plan : Plan) (p : PurgeCursor) : Type 0 where
+  pub stripe : p.stripe < length plan.memories
+  pub few : length plan.memories < 2 ^ 32
+  pub memory : p.memory < s.max_memories_per_module
+  pub turn : p.turn < (purged_stripe plan p).capacity
+
+-- a release can go on behind a stripe
+pub record CanEndStripe (plan : Plan) (r : ReleaseCursor) : Type 0 where
+  pub stripe : r.stripe < length plan.memories
+  pub few : length plan.memories < 2 ^ 32
+
+-- the whole region of a slot can be decommitted
+pub record CanDecommit (s : Settings) (held : Slot) : Type 0 where
+  pub whole : s.max_memory_size % s.page ≡ 0
+  pub bounded : s.max_memory_size < 2 ^ 64
+  pub range : IsRangeOf (count s.page 0) (count s.page s.max_memory_size) held
+
 module _ {P : Type 0} where
   -- just the next part of a flush
   abbrev pub CanFlush : FlushStep → PoolCore P → Frame P → Type 0
@@ -140,27 +190,88 @@ module _ {P : Type 0} where
   CanFlush (put kind) c f = ((m : Queued) → first_of_kind kind f.local.slots ≡ Some m → CanPlace c.plan m.name × IsAt IsCellPart (cell_place c.plan m.name) c.parts) × CanPutNext f.local f.freed
   CanFlush free c f = IsAt IsShardPart (first_shard c.plan f.freed.items) c.parts × CanFree c.plan f.freed.items (shard_at (first_shard c.plan f.freed.items) c)
 
+  -- a slot's cell is there, and a region lies in it; and likewise one that the region comes back into
+  abbrev pub CanTakeOf : SlotName → PoolCore P → Type 0
+  CanTakeOf name c = CanPlace c.plan name × IsAt IsCellPart (cell_place c.plan name) c.parts × (is_taken (cell_named name c).holds ≡ false)
+
+  abbrev pub CanPutOf : SlotName → ImageSlot P → PoolCore P → Type 0
+  CanPutOf name held c = CanPlace c.plan name × IsAt IsCellPart (cell_place c.plan name) c.parts × IsCleanOnceUsed (cell_of held)
+
+  abbrev pub CanFreeOf : SlotName → PoolCore P → Type 0
+  CanFreeOf name c = IsAt IsShardPart (home_of c.plan name).place c.parts × CanFreeOne name c.plan (shard_at (home_of c.plan name).place c)
+
+  -- a purge can pick from the shard of its stripe with this number
+  pub record CanPickAffine (c : PoolCore P) (p : PurgeCursor) (j : ℕ) : Type 0 where
+    pub going : CanGoOn c.settings c.plan p
+    pub tried : j < (purged_stripe c.plan p).shards
+    pub placed : IsPlacedAllocator (purged_stripe c.plan p)
+    pub shard : IsAt IsShardPart ((purged_stripe c.plan p).first_place + j) c.parts
+
+  -- what a slot holds can be forgotten
+  abbrev pub CanForget : ImageSlot P → Type 0
+  CanForget (PreviouslyUsed held) = IsClean held
+  CanForget _ = Unit {0}
+
+  abbrev pub CanPurge : PurgeCursor → PurgeStep P → PoolCore P → Type 0
+  CanPurge p (purging_step.Pick tried) c = has_turns c.settings.max_memories_per_module c.plan ≡ true → CanPickAffine c p tried
+  CanPurge p (purging_step.TakeRegion name) c = CanTakeOf name c
+  CanPurge p (purging_step.Forget at held) c = CanForget held × (is_taken (cell_of held) ≡ false)
+  CanPurge p (purging_step.PutRegion at held) c = CanPutOf at.name held c
+  CanPurge p (purging_step.Free name) c = CanGoOn c.settings c.plan p × CanFreeOf name c
+
+  -- a release can take the warm slots of a shard
+  pub record CanTakeWarm (c : PoolCore P) (r : ReleaseCursor) (j : ℕ) : Type 0 where
+    pub going : CanEndStripe c.plan r
+    pub inside : j < (released_stripe c.plan r).shards
+    pub placed : IsPlacedAllocator (released_stripe c.plan r)
+    pub shard : IsAt IsShardPart ((released_stripe c.plan r).first_place + j) c.parts
+    pub local : length r.local.items + length (shard_at ((released_stripe c.plan r).first_place + j) c).warm ≤ r.local.room
+    pub taken : length r.taken.items + length (shard_at ((released_stripe c.plan r).first_place + j) c).warm ≤ r.taken.room
+
+  -- what a slot holds can be decommitted
+  abbrev pub CanDrain : Settings → ImageSlot P → Type 0
+  CanDrain s (Unknown held) = CanDecommit s held
+  CanDrain s (PreviouslyUsed held) = CanDecommit s held × IsClean held
+  CanDrain s _ = Unit {0}
+
+  abbrev pub CanRelease : ReleaseStep P → PoolCore P → Type 0
+  CanRelease releasing_step.Reserve c = length c.plan.memories < 2 ^ 32
+  CanRelease (releasing_step.TakeWarm r j) c = CanTakeWarm c r j
+  CanRelease (releasing_step.TakeRegion r k) c = (k < length r.taken.items) × CanTakeOf (nth_taken r k).name c
+  CanRelease (releasing_step.Decommit r k at held) c = CanDrain c.settings held × (is_taken (cell_of held) ≡ false)
+  CanRelease (releasing_step.PutRegion r k at held) c = CanEndStripe c.plan r × (k < length r.taken.items) × CanPutOf at.name held c
+  CanRelease (releasing_step.Free r x) c = CanEndStripe c.plan r × (x.bytes ≤ 2 ^ 32) × CanFreeOf x.name c
+
   -- in each phase
   abbrev pub CanStepAt : Phase P → PoolCore P → Frame P → Type 0
   CanStepAt Idle c f = Unit {0}
   CanStepAt Key c f = (0 < length c.plan.memories) × (length c.plan.memories < 2 ^ 32)
   CanStepAt Validate c f = CanValidate (memories_wanted f.asked)
+  CanStepAt TestStack c f = Unit {0}
   CanStepAt CountInstance c f = c.counters.core_instances + 1 < 2 ^ 64
   CanStepAt (Pick tried) c f = HasAllocators c.plan f.stripe × CanTryShard c.plan (allocator_for c.plan f) tried × IsAt IsShardPart (shard_tried tried c.plan f) c.parts × (length f.objects.memories.items < 2 ^ 32)
   CanStepAt TakeQueue c f = (f.queues < queues_searched c.plan) × HasAllocators c.plan f.stripe × CanTryQueue c.plan f.home × IsAt IsQueuePart (queue_tried f.queues c.plan f) c.parts × IsSpareOf (queue_at (queue_tried f.queues c.plan f) c) f.local
-  CanStepAt (TakeRegion name) c f = CanPlace c.plan name × IsAt IsCellPart (cell_place c.plan name) c.parts × CanTakeRegion c.settings name.kind (cell_named name c)
+  CanStepAt (TakeRegion name) c f = CanPlace c.plan name × IsAt IsCellPart (cell_place c.plan name) c.parts × CanTakeRegion c.settings name (cell_named name c)
   CanStepAt (Empty at held) c f = Unit {0}
   CanStepAt (Instantiate at held) c f = HasNext f.asked (length f.objects.memories.items) × IsClean held × IfAllocated f (CanBegin held (image_wanted f))
   CanStepAt (MakeMemory at held) c f = HasNext f.asked (length f.objects.memories.items) × IfAllocated f (CanMake c.settings held)
   CanStepAt (MakeTable at region) c f = HasTableNext f.asked (length f.objects.tables.items) × IfTable f (CanMakeTable c.settings region)
   CanStepAt (CountObject (Memory lease)) c f = (c.counters.memories + 1 < 2 ^ 64) × (length f.objects.memories.items < f.objects.memories.room)
   CanStepAt (CountObject (Table lease)) c f = (c.counters.tables + 1 < 2 ^ 64) × (length f.objects.tables.items < f.objects.tables.room)
+  CanStepAt (CountObject (Stack lease)) c f = c.counters.stacks + 1 < 2 ^ 64
   CanStepAt (PutBack at held) c f = CanPlace c.plan at.name × IsAt IsCellPart (cell_place c.plan at.name) c.parts × IsCleanOnceUsed (cell_of held)
   CanStepAt (FreeOne name) c f = IsAt IsShardPart (home_of c.plan name).place c.parts × CanFreeOne name c.plan (shard_at (home_of c.plan name).place c)
   CanStepAt (UncountObject (Memory lease)) c f = 0 < c.counters.memories
   CanStepAt (UncountObject (Table lease)) c f = 0 < c.counters.tables
+  CanStepAt (UncountObject (Stack lease)) c f = 0 < c.counters.stacks
   CanStepAt (Reset (Memory lease)) c f = CanReset c.settings (slot_of lease.memory) f.local
   CanStepAt (Reset (Table lease)) c f = CanResetTable c.settings lease f.local
+  CanStepAt (Reset (Stack lease)) c f = CanResetStack c.settings lease f.local
   CanStepAt Merge c f = CanTryQueue c.plan f.home × IsAt IsQueuePart (queue_tried 0 c.plan f) c.parts × CanMerge (queue_at (queue_tried 0 c.plan f) c) f.local
   CanStepAt Flush c f = CanFlush (flush_step f.local f.freed.items) c f
-  CanStepAt UncountInstance c f = (0 < c.counters.core_instances) × (is_granting f.ending ≡ false)
+  CanStepAt UncountInstance c f = 0 < c.counters.core_instances
+  CanStepAt (ValidateComponent info) c f = Unit {0}
+  CanStepAt CountComponent c f = c.counters.component_instances + 1 < 2 ^ 64
+  CanStepAt UncountComponent c f = 0 < c.counters.component_instances
+  CanStepAt (Purge p step) c f = CanPurge p step c
+  CanStepAt (Release step) c f = CanRelease step c

@@ -5,6 +5,7 @@ pub mod Bounds
 pub mod Calls
 pub mod CanStep
 pub mod Freeing
+pub mod Guards
 pub mod InTurn
 pub mod Leases
 pub mod Made
@@ -18,14 +19,18 @@ pub mod OnDemandStacks
 pub mod Own
 pub mod PartFlows
 pub mod Places
+pub mod PoolStacks
 pub mod PoolTables
+pub mod Purges
 pub mod RangeRuns
 pub mod Refusals
+pub mod Releases
 pub mod Requests
 pub mod Reserved
 pub mod Rows
 pub mod Searches
 pub mod Sound
+pub mod StackLeases
 pub mod Stages
 pub mod Stepping
 pub mod Steps

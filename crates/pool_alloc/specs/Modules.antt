@@ -4,11 +4,13 @@ use Rattle.pool_pages.specs.declared.module_types.MemoryDecl.{MemoryDecl}
 use Rattle.pool_pages.specs.declared.table_type.TableType.{TableType}
 use Rattle.pool_alloc.specs.Steps.{memories_wanted, tables_wanted}
 use Rattle.pool_alloc.specs.declared.frame.Frame.{Frame}
-use Rattle.pool_alloc.specs.Asked.{ModuleAsked}
+use Rattle.pool_alloc.specs.declared.frame.Asked.{Asked}
+use Rattle.pool_alloc.specs.declared.frame.Asked.TheVariants.{Module as module_asked}
 
 -- where images are given, there is a place for each memory
-abbrev pub HasImages : Option ModuleAsked → Type 0
-HasImages asked = IfSome asked (λ m. IfSome m.images (λ images. length images ≡ length m.info.memories))
+abbrev pub HasImages : Asked → Type 0
+HasImages (module_asked m) = IfSome m.images (λ images. length images ≡ length m.info.memories)
+HasImages _ = Unit {0}
 
 module _ {P : Type 0} where
   -- the memory that is allocated

@@ -1,18 +1,19 @@
--- What is allocated for an instance: its objects, one after the other.
+-- What is allocated for a request: its objects, one after the other.
 use Rattle.std.specs.Prelude.{ℕ, ◌+◌, length, Option}
-use Rattle.pool_alloc.specs.Asked.{ModuleAsked}
+use Rattle.pool_alloc.specs.declared.frame.Asked.{Asked}
 use Rattle.pool_alloc.specs.Leases.{slot_taken}
 use Rattle.pool_alloc.specs.Reserved.{no_room}
-use Rattle.pool_alloc.specs.Steps.{memories_wanted, tables_wanted}
+use Rattle.pool_alloc.specs.Steps.{memories_wanted, tables_wanted, stacks_wanted}
+use Rattle.pool_alloc.specs.StackLeases.{stack_taken}
 use Rattle.pool_alloc.specs.TableLeases.{table_taken}
 use Rattle.pool_alloc.specs.declared.frame.Object.{Object}
-use Rattle.pool_alloc.specs.declared.frame.Object.TheVariants.{Memory, Table}
+use Rattle.pool_alloc.specs.declared.frame.Object.TheVariants.{Memory, Table, Stack}
 use Rattle.pool_alloc.specs.declared.frame.TakenSlot.{TakenSlot}
 use Rattle.pool_alloc.specs.declared.lease.InstanceLease.{InstanceLease}
 
 -- how many objects a request is for
-abbrev pub objects_wanted : Option ModuleAsked → ℕ
-objects_wanted asked = length (memories_wanted asked) + length (tables_wanted asked)
+abbrev pub objects_wanted : Asked → ℕ
+objects_wanted asked = length (memories_wanted asked) + length (tables_wanted asked) + stacks_wanted asked
 
 module _ {P : Type 0} where
   -- how many of them are there, and nothing of them
@@ -26,3 +27,4 @@ module _ {P : Type 0} where
   abbrev pub slot_of_object : Object P → TakenSlot
   slot_of_object (Memory lease) = slot_taken lease
   slot_of_object (Table lease) = table_taken lease
+  slot_of_object (Stack lease) = stack_taken lease

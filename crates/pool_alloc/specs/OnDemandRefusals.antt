@@ -11,12 +11,8 @@ use Rattle.pool_limits.specs.declared.errors.LimiterError.{LimiterError}
 use Rattle.pool_memory.specs.Making.{maximum_asked}
 use Rattle.pool_slots.specs.declared.errors.AllocError.{AllocError}
 use Rattle.pool_slots.specs.declared.errors.AllocError.TheVariants as refusal
+use Rattle.pool_alloc.specs.Refusals.{first_refused}
 use Rattle.pool_table.specs.Elements.{element_size}
-
--- the refusal of the first thing of which a rule is broken
-abbrev pub first_broken : {X : Type 0} → (X → Option Unsupported) → List X → Option Unsupported
-first_broken rule [] = None
-first_broken rule (x ∷ xs) = option_or (rule x) (first_broken rule xs)
 
 -- shared memories are made elsewhere
 abbrev pub shared_refused : MemoryType → Option Unsupported
@@ -26,9 +22,9 @@ shared_refused ty = if ty.shared then Some SharedOnDemand else None
 -- that is shared.
 abbrev pub module_refused : ModuleInfo → Option Unsupported
 module_refused m =
-    option_or (first_broken (λ d. refused_limits d.ty.limits) m.memories)
-    (option_or (first_broken (λ ty. refused_limits ty.limits) m.tables)
-    (first_broken (λ d. shared_refused d.ty) m.memories))
+    option_or (first_refused (λ d. refused_limits d.ty.limits) m.memories)
+    (option_or (first_refused (λ ty. refused_limits ty.limits) m.tables)
+    (first_refused (λ d. shared_refused d.ty) m.memories))
 
 -- the same for a memory alone
 abbrev pub type_refused : MemoryType → Option Unsupported

@@ -1,8 +1,8 @@
 -- Stacks on demand: each lies behind a guard page, in a region of its own.
-use Rattle.std.specs.Prelude.{◌≡◌, ℕ, ◌+◌, ◌^◌, ◌≤◌, ◌%◌, Bool, Option, Some, None, IfSome, Result, Err, ◌⊎◌, if◌then◌else◌, replicate}
+use Rattle.std.specs.Prelude.{◌≡◌, ℕ, ◌+◌, ◌^◌, ◌≤◌, Bool, Option, Some, None, IfSome, Result, Err, ◌⊎◌, if◌then◌else◌, replicate}
 use Rattle.pool_pages.specs.Count.{Count, count, rounded_up}
-use Rattle.pool_pages.specs.MakerTold.{MakerTold, fresh, made_region}
-use Rattle.pool_pages.specs.Told.{Told, PageCall, succeeded, hiding}
+use Rattle.pool_pages.specs.MakerTold.{MakerTold, made_region}
+use Rattle.pool_pages.specs.Told.{Told, succeeded}
 use Rattle.pool_pages.specs.declared.pages.DecommitBehavior.{DecommitBehavior}
 use Rattle.pool_pages.specs.declared.pages.DecommitBehavior.TheVariants.{Zero, RestoreOriginalMapping}
 use Rattle.pool_memory.specs.Moving.{IsAsked, next_name}
@@ -10,6 +10,7 @@ use Rattle.pool_slots.specs.PlainSlots.{StackState}
 use Rattle.pool_slots.specs.SlotQueues.{plain_slot}
 use Rattle.pool_slots.specs.declared.errors.AllocError.{AllocError}
 use Rattle.pool_slots.specs.declared.errors.AllocError.TheVariants as refusal
+use Rattle.pool_alloc.specs.Guards.{guarding}
 use Rattle.pool_alloc.specs.OnDemandAnswers.{no_slot}
 use Rattle.pool_alloc.specs.declared.on_demand_lease.OnDemandStack.{OnDemandStack}
 
@@ -25,10 +26,6 @@ stack_behaviour zeroing = if zeroing then Zero else RestoreOriginalMapping
 abbrev pub stack_region : ℕ → Bool → MakerTold → Told
 stack_region stack_size zeroing maker = made_region (next_name maker) (stack_behaviour zeroing) (stack_room maker.page stack_size) (stack_room maker.page stack_size) maker
 
--- the first page is hidden, which is the first call on the region
-abbrev pub guarding : ℕ → PageCall
-guarding page = hiding 0 page
-
 -- the stack behind it
 abbrev pub stack_in : Told → Bool → StackState
 stack_in region zeroing = record {
@@ -41,12 +38,6 @@ stack_in region zeroing = record {
 pub record IsStackMade {P : Type 0} (stack_size : ℕ) (zeroing : Bool) (maker : MakerTold) (lease : OnDemandStack P) : Type 0 where
   pub stack : lease.stack ≡ stack_in (stack_region stack_size zeroing maker) zeroing
   pub zeros : IfSome lease.stack.slot.region.contents (λ c. c.bytes ≡ replicate lease.stack.slot.region.len 0)
-
--- a region that was just made, longer than one page, all of which can be reached
-pub record IsOpen (t : Told) : Type 0 where
-  pub contents : IfSome t.contents (λ c. c ≡ fresh t.page t.len t.len)
-  pub longer : t.page ≤ t.len
-  pub whole : t.len % t.page ≡ 0
 
 -- One region is asked for, or, where addresses don't reach the end of it, none: then memory is wanting.
 abbrev pub AsksForStack : {X : Type 0} → Option AllocError → ℕ → Result X AllocError → MakerTold → MakerTold → Type 0

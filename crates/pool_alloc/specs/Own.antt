@@ -12,6 +12,7 @@ use Rattle.pool_memory.specs.Static.{Static, made_static}
 use Rattle.pool_memory.specs.Making.{limits_answer, fixed_in}
 use Rattle.pool_memory.specs.declared.memory_error.MemoryError.{MemoryError}
 use Rattle.pool_memory.specs.declared.memory_error.MemoryError.TheVariants as unmade
+use Rattle.pool_slots.specs.Colourings.{stripe_colour}
 use Rattle.pool_slots.specs.SlotQueues.{Queue, Queued, with_slot}
 use Rattle.pool_slots.specs.declared.queued_range.QueuedRange.{QueuedRange}
 use Rattle.pool_slots.specs.declared.queued_range.QueueKind.TheVariants as queued
@@ -21,16 +22,16 @@ use Rattle.pool_alloc.specs.Leases.{memory_slot}
 use Rattle.pool_alloc.specs.declared.frame.TakenSlot.{TakenSlot}
 use Rattle.pool_alloc.specs.declared.pool_core.Settings.{Settings}
 
--- the image slot that is made of a region that was never used
-abbrev pub image_made : ℕ → ℕ → Told → Slot
-image_made page static_size region = record {
+-- the image slot that is made of the region of memory slot i, which was never used: in the colour of its stripe
+abbrev pub image_made : Settings → ℕ → Told → Slot
+image_made s i region = record {
   region = region;
-  base = count page 0;
-  accessible = count page 0;
-  static_size = static_size;
+  base = count s.page 0;
+  accessible = count s.page 0;
+  static_size = s.max_memory_size;
   image = None;
   dirty = false;
-  colour = None;
+  colour = stripe_colour s.num_stripes i;
 }
 
 -- the slot of a memory that has ended, once it was reset so that as many of its bytes as are wanted stay resident

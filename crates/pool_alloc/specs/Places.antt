@@ -7,7 +7,7 @@ use Rattle.pool_alloc.specs.declared.pool_core.PoolCore.{PoolCore}
 use Rattle.pool_alloc.specs.declared.frame.Frame.{Frame}
 use Rattle.pool_alloc.specs.declared.frame.FreedSlot.{FreedSlot}
 use Rattle.pool_alloc.specs.declared.frame.Phase.{Phase}
-use Rattle.pool_alloc.specs.declared.frame.Phase.TheVariants.{Idle, Key, Validate, CountInstance, TakeRegion, Empty, Instantiate, MakeMemory, MakeTable, CountObject, PutBack, FreeOne, UncountObject, Reset}
+use Rattle.pool_alloc.specs.declared.frame.Phase.TheVariants.{Idle, Key, Validate, TestStack, CountInstance, TakeRegion, Empty, Instantiate, MakeMemory, MakeTable, CountObject, PutBack, FreeOne, UncountObject, Reset, ValidateComponent, CountComponent, UncountComponent}
 use Rattle.pool_hall.specs.Sum.{total}
 use Rattle.pool_hall.specs.declared.unit_name.UnitName.{UnitName}
 use Rattle.pool_slots.specs.RegionCells.{right_to as unit_right, region_of as unit_region}
@@ -17,10 +17,18 @@ use Rattle.pool_slots.specs.declared.slot_name.RegionNumbers.{RegionNumbers}
 use Rattle.pool_slots.specs.declared.slot_name.SlotName.{SlotName}
 use Rattle.pool_alloc.specs.Objects.{slot_of_object}
 use Rattle.pool_alloc.specs.TableLeases.{LeasedTable, table_slot}
+use Rattle.pool_alloc.specs.declared.frame.Asked.{Asked}
+use Rattle.pool_alloc.specs.declared.frame.Asked.TheVariants.{Stack as stack_asked}
 use Rattle.pool_alloc.specs.declared.frame.Object.{Object}
-use Rattle.pool_alloc.specs.declared.frame.Object.TheVariants.{Memory, Table}
+use Rattle.pool_alloc.specs.declared.frame.Object.TheVariants.{Memory, Table, Stack}
 use Rattle.pool_alloc.specs.declared.frame.TakenSlot.{TakenSlot}
 use Rattle.pool_alloc.specs.declared.lease.InstanceLease.{InstanceLease}
+use Rattle.pool_alloc.specs.declared.frame.Phase.TheVariants.{Purge, Release}
+use Rattle.pool_alloc.specs.declared.purge.PurgeStep.{PurgeStep}
+use Rattle.pool_alloc.specs.declared.purge.PurgeStep.TheVariants as purging_step
+use Rattle.pool_alloc.specs.declared.release.ReleaseStep.{ReleaseStep}
+use Rattle.pool_alloc.specs.declared.release.ReleaseStep.TheVariants as releasing_step
+use Rattle.std.specs.Prelude.{remove}
 
 -- What is counted: a weight for each unit. The right to use a slot is one, and so is its region, whatever numbers its unit
 -- tells.
@@ -60,6 +68,11 @@ tables_count t leases = sum_by (λ l. both_count t (table_slot l.index) l.number
 abbrev pub freed_count : Thing → List FreedSlot → ℕ
 freed_count t slots = sum_by (λ x. slot_count t x.name) slots
 
+-- a call for a stack counts no instance
+abbrev pub instances_for : Asked → ℕ → ℕ
+instances_for stack_asked n = 0
+instances_for _ n = n
+
 module _ {P : Type 0} where
   -- what the pool's parts have given out, and what its queues keep of that
   abbrev pub away_count : Thing → PoolCore P → ℕ
@@ -71,6 +84,22 @@ module _ {P : Type 0} where
   -- what an instance has
   abbrev pub instance_count : Thing → InstanceLease P → ℕ
   instance_count t lease = leased_count t lease.memories.items + tables_count t lease.tables.items
+
+  -- what a purge has taken for its next step, and what a release
+  abbrev pub purge_count : Thing → PurgeStep P → ℕ
+  purge_count t (purging_step.Pick tried) = 0
+  purge_count t (purging_step.TakeRegion name) = slot_count t name
+  purge_count t (purging_step.Forget at held) = taken_count t at
+  purge_count t (purging_step.PutRegion at held) = taken_count t at
+  purge_count t (purging_step.Free name) = slot_count t name
+
+  abbrev pub release_count : Thing → ReleaseStep P → ℕ
+  release_count t releasing_step.Reserve = 0
+  release_count t (releasing_step.TakeWarm r j) = freed_count t r.taken.items
+  release_count t (releasing_step.TakeRegion r k) = freed_count t r.taken.items
+  release_count t (releasing_step.Decommit r k at held) = taken_count t at + freed_count t (remove r.taken.items k)
+  release_count t (releasing_step.PutRegion r k at held) = taken_count t at + freed_count t (remove r.taken.items k)
+  release_count t (releasing_step.Free r x) = slot_count t x.name + freed_count t r.taken.items
 
   -- what a call has taken for its next step
   abbrev pub phase_count : Thing → Phase P → ℕ
@@ -84,27 +113,46 @@ module _ {P : Type 0} where
   phase_count t (FreeOne name) = slot_count t name
   phase_count t (UncountObject object) = taken_count t (slot_of_object object)
   phase_count t (Reset object) = taken_count t (slot_of_object object)
+  phase_count t (Purge p step) = purge_count t step
+  phase_count t (Release step) = release_count t step
   phase_count t _ = 0
 
   -- what a party's call has
   abbrev pub frame_count : Thing → Frame P → ℕ
   frame_count t f = instance_count t f.objects + queued_count t f.local.slots + freed_count t f.freed.items + phase_count t f.phase
 
-  -- how many instances a call has counted, how many memories, and how many tables
+  -- how many instances a call has counted, how many components, how many memories, how many tables, and how many stacks
   abbrev pub phase_instances : Phase P → ℕ
   phase_instances Idle = 0
   phase_instances Key = 0
   phase_instances Validate = 0
+  phase_instances TestStack = 0
   phase_instances CountInstance = 0
+  phase_instances (ValidateComponent info) = 0
+  phase_instances CountComponent = 0
+  phase_instances UncountComponent = 0
+  phase_instances (Purge p step) = 0
+  phase_instances (Release step) = 0
   phase_instances _ = 1
+
+  abbrev pub phase_components : Phase P → ℕ
+  phase_components UncountComponent = 1
+  phase_components _ = 0
+
+  abbrev pub frame_instances : Frame P → ℕ
+  frame_instances f = instances_for f.asked (phase_instances f.phase)
 
   abbrev pub memory_in : Object P → ℕ
   memory_in (Memory lease) = 1
-  memory_in (Table lease) = 0
+  memory_in _ = 0
 
   abbrev pub table_in : Object P → ℕ
-  table_in (Memory lease) = 0
   table_in (Table lease) = 1
+  table_in _ = 0
+
+  abbrev pub stack_in : Object P → ℕ
+  stack_in (Stack lease) = 1
+  stack_in _ = 0
 
   abbrev pub phase_memories : Phase P → ℕ
   phase_memories (UncountObject object) = memory_in object
@@ -119,3 +167,7 @@ module _ {P : Type 0} where
 
   abbrev pub frame_tables : Frame P → ℕ
   frame_tables f = length f.objects.tables.items + phase_tables f.phase
+
+  abbrev pub phase_stacks : Phase P → ℕ
+  phase_stacks (UncountObject object) = stack_in object
+  phase_stacks _ = 0

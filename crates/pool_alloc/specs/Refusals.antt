@@ -1,13 +1,16 @@
--- Which modules the pool refuses, and for which of the rules that they break.
-use Rattle.std.specs.Prelude.{ℕ, ◌%◌, ◌^◌, ◌+◌, ◌==◌, List, [], ◌∷◌, length, nat_le, nat_lt, if◌then◌else◌, Option, Some, None}
+-- Which modules and components the pool refuses, and for which of the rules that they break.
+use Rattle.std.specs.Prelude.{ℕ, ◌%◌, ◌^◌, ◌+◌, ◌==◌, ◌-◌, List, [], ◌∷◌, length, min, nat_le, nat_lt, sum_by, if◌then◌else◌, Option, Some, None}
 use Rattle.std.specs.Option.{option_or}
 use Rattle.pool_pages.specs.MemoryTypes.{minimum_byte_size, refused_limits}
+use Rattle.pool_pages.specs.declared.module_types.ComponentInfo.{ComponentInfo}
 use Rattle.pool_pages.specs.declared.module_types.ImageDecl.{ImageDecl}
 use Rattle.pool_pages.specs.declared.module_types.MemoryDecl.{MemoryDecl}
 use Rattle.pool_pages.specs.declared.module_types.MemoryType.{MemoryType}
+use Rattle.pool_pages.specs.declared.module_types.ModuleInfo.{ModuleInfo}
+use Rattle.pool_pages.specs.declared.module_types.Part.{Part}
 use Rattle.pool_pages.specs.declared.table_type.TableType.{TableType}
 use Rattle.pool_pages.specs.declared.unsupported.Unsupported.{Unsupported}
-use Rattle.pool_pages.specs.declared.unsupported.Unsupported.TheVariants.{ImageOffset, MemoriesPerModule, MemoryUnrepresentable, MemoryExceedsSlot, MemoryShared, TablesPerModule, TotalTables, TableExceedsSlot}
+use Rattle.pool_pages.specs.declared.unsupported.Unsupported.TheVariants.{ImageOffset, MemoriesPerModule, MemoryUnrepresentable, MemoryExceedsSlot, MemoryShared, TablesPerModule, TotalTables, TableExceedsSlot, InstanceSize, ComponentInstances, ComponentMemories, ComponentTables, ComponentSize}
 use Rattle.pool_alloc.specs.declared.pool_core.Settings.{Settings}
 
 -- the refusal of the first memory or table of which a rule is broken
@@ -47,10 +50,19 @@ abbrev pub long_table : Settings → ℕ → List TableType → Option Unsupport
 long_table s i [] = None
 long_table s i (ty ∷ tys) = option_or (if nat_lt s.table_elements ty.limits.min then Some (TableExceedsSlot i ty.limits.min s.table_elements) else None) (long_table s (i + 1) tys)
 
--- The first rule that a module with these memories and tables breaks, in a pool with so many slots for tables: each rule is
--- tested for all memories or tables before the next is.
-abbrev pub module_refused : Settings → ℕ → List MemoryDecl → List TableType → Option Unsupported
-module_refused s total memories tables =
+-- how many bytes the state of an instance of the module takes, as far as 64 bits tell it: what the runtime keeps of it, and
+-- all its parts
+abbrev pub instance_size : ModuleInfo → ℕ
+instance_size info = min (info.state_bytes + sum_by (λ (part : Part). part.bytes) info.parts) (2 ^ 64 - 1)
+
+-- it may take so many
+abbrev pub size_refused : Settings → ModuleInfo → Option Unsupported
+size_refused s info = if nat_lt s.core_instance_size (instance_size info) then Some (InstanceSize (instance_size info) s.core_instance_size) else None
+
+-- The first rule that memories and tables of a module break, in a pool with so many slots for tables: each rule is tested
+-- for all memories or tables before the next is.
+abbrev pub objects_refused : Settings → ℕ → List MemoryDecl → List TableType → Option Unsupported
+objects_refused s total memories tables =
     option_or (first_refused (λ (d : MemoryDecl). offset_refused s.page d.image) memories)
     (option_or (first_refused (λ (d : MemoryDecl). refused_limits d.ty.limits) memories)
     (option_or (first_refused (λ (ty : TableType). refused_limits ty.limits) tables)
@@ -58,3 +70,26 @@ module_refused s total memories tables =
     (option_or (first_refused (λ (d : MemoryDecl). memory_refused s d.ty) memories)
     (option_or (tables_refused s total (length tables))
     (long_table s 0 tables))))))
+
+-- The first rule that a module breaks: those on its memories and tables come before that on its size.
+abbrev pub module_refused : Settings → ℕ → ModuleInfo → Option Unsupported
+module_refused s total info = option_or (objects_refused s total info.memories info.tables) (size_refused s info)
+
+-- The first rule that a memory breaks that is asked for by itself: its minimum is within its maximum, and it fits a slot.
+abbrev pub type_refused : Settings → MemoryType → Option Unsupported
+type_refused s ty = option_or (refused_limits ty.limits) (memory_refused s ty)
+
+-- how many bytes a component takes, as far as 64 bits tell it: its own and those of its instances
+abbrev pub component_size : ComponentInfo → ℕ
+component_size info = min (info.own_bytes + info.core_bytes) (2 ^ 64 - 1)
+
+abbrev pub component_size_refused : Settings → ComponentInfo → Option Unsupported
+component_size_refused s info = if nat_lt s.component_instance_size (component_size info) then Some (ComponentSize (component_size info) s.component_instance_size info.own_bytes info.core_bytes) else None
+
+-- The first rule that a component breaks: how many instances, memories and tables it may have, and how many bytes it may take.
+abbrev pub component_refused : Settings → ComponentInfo → Option Unsupported
+component_refused s info =
+    option_or (if nat_lt s.max_core_instances_per_component info.core_instances then Some (ComponentInstances info.core_instances s.max_core_instances_per_component) else None)
+    (option_or (if nat_lt s.max_memories_per_component info.memories then Some (ComponentMemories info.memories s.max_memories_per_component) else None)
+    (option_or (if nat_lt s.max_tables_per_component info.tables then Some (ComponentTables info.tables s.max_tables_per_component) else None)
+    (component_size_refused s info)))

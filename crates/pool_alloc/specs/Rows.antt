@@ -1,6 +1,7 @@
 -- The step table: what each step of a call does to the pool, of which it changes one part, and to the party's frame, and
 -- with which turn it ends.
 use Rattle.std.specs.Prelude.{◌≡◌, ℕ, ◌+◌, ◌-◌, ◌%◌, ◌^◌, ◌==◌, ◌||◌, List, [], ◌∷◌, length, Bool, true, false, nat_lt, nat_le, if◌then◌else◌, Option, Some, None, Result, Ok, Err, is_some}
+use Rattle.pool_pages.specs.declared.module_types.ComponentInfo.{ComponentInfo}
 use Rattle.pool_pages.specs.declared.unsupported.Unsupported.{Unsupported}
 use Rattle.pool_images.specs.Slots.{Slot, forgotten}
 use Rattle.pool_index.specs.Shard.{ShardState, pick_answer, after_pick, after_free, slot_number}
@@ -16,36 +17,44 @@ use Rattle.pool_slots.specs.Plans.{home_of}
 use Rattle.pool_slots.specs.declared.cells.ImageSlot.TheVariants.{Unmapped, Unknown}
 use Rattle.pool_slots.specs.declared.slot_name.SlotName.{SlotName}
 use Rattle.pool_slots.specs.RegionCells.{CellState, cell_numbers, cell_emptied, cell_filled}
-use Rattle.pool_slots.specs.SlotQueues.{Queue, Queued, same_kind, is_to_zero, first_of_kind, others_of_kind, first_zeroed, after_append, after_take, taken_into, drained}
+use Rattle.pool_slots.specs.SlotQueues.{Queue, Queued, is_to_zero, first_of_kind, others_of_kind, first_zeroed, after_append, after_take, taken_into, drained}
 use Rattle.pool_slots.specs.declared.plan.Plan.{Plan}
 use Rattle.pool_hall.specs.declared.unit_name.SlotKind.{SlotKind}
-use Rattle.pool_hall.specs.declared.unit_name.SlotKind.TheVariants.{Memory as memory_kind, Table as table_kind}
+use Rattle.pool_hall.specs.declared.unit_name.SlotKind.TheVariants.{Memory as memory_kind, Table as table_kind, Stack as stack_kind}
 use Rattle.pool_pages.specs.Told.{Told}
 use Rattle.std.specs.List.{list_any}
+use Rattle.pool_alloc.specs.Objects.{no_objects}
+use Rattle.pool_alloc.specs.PoolStacks.{stack_made, stack_reset}
+use Rattle.pool_alloc.specs.StackLeases.{LeasedStack}
 use Rattle.pool_alloc.specs.TableLeases.{LeasedTable}
 use Rattle.pool_alloc.specs.TableSteps.{table_made, table_reset_into}
 use Rattle.pool_alloc.specs.declared.frame.FreedSlot.{FreedSlot}
 use Rattle.pool_slots.specs.declared.errors.AllocError.{AllocError}
 use Rattle.pool_slots.specs.declared.errors.AllocError.TheVariants as refusal
-use Rattle.pool_slots.specs.declared.errors.ConcurrencyKind.TheVariants.{CoreInstances}
+use Rattle.pool_slots.specs.declared.errors.ConcurrencyKind.TheVariants.{CoreInstances, ComponentInstances}
 use Rattle.pool_alloc.specs.Reserved.{with_item}
 use Rattle.pool_alloc.specs.Leases.{Lease, slot_taken}
 use Rattle.pool_alloc.specs.Own.{image_made, reset_into, refusal_of, memory_made}
-use Rattle.pool_alloc.specs.Refusals.{module_refused}
-use Rattle.pool_alloc.specs.Steps.{StepGiven, memories_wanted, tables_wanted, shard_at, cell_named, queue_at, freed_of, freed_elsewhere, first_shard, after_frees, allocator_for, with_shard, with_cell, with_queue, counting_keys, counting_instances, counting_memories, counting_tables, wanted, cell_returned, shard_tried, queue_tried}
-use Rattle.pool_alloc.specs.Turns.{Turn, goes, ends, next, flush, stays, Row, lifted, After, failing, slot_search, stepped}
+use Rattle.pool_alloc.specs.Refusals.{module_refused, component_refused}
+use Rattle.pool_alloc.specs.Steps.{StepGiven, memories_wanted, tables_wanted, shard_at, cell_named, queue_at, freed_of, freed_elsewhere, first_shard, after_frees, allocator_for, with_shard, with_cell, with_queue, counting_keys, counting_instances, counting_memories, counting_tables, counting_stacks, wanted, cell_returned, shard_tried, queue_tried, info_wanted, counting_components}
+use Rattle.pool_alloc.specs.Turns.{Turn, goes, ends, next, flush, stays, Row, lifted, After, failing, slot_search, stepped, answer_of}
 use Rattle.pool_alloc.specs.declared.pool_core.PoolCore.{PoolCore}
 use Rattle.pool_alloc.specs.declared.pool_core.Settings.{Settings}
 use Rattle.pool_alloc.specs.declared.frame.Frame.{Frame}
 use Rattle.pool_alloc.specs.declared.frame.Phase.{Phase}
 use Rattle.pool_alloc.specs.declared.frame.TakenSlot.{TakenSlot}
-use Rattle.pool_alloc.specs.declared.frame.Phase.TheVariants.{Idle, Key, Validate, CountInstance, Pick, TakeQueue, TakeRegion, Empty, Instantiate, MakeMemory, MakeTable, CountObject, PutBack, FreeOne, UncountObject, Reset, Merge, Flush, UncountInstance}
+use Rattle.pool_alloc.specs.declared.frame.Phase.TheVariants.{Idle, Key, Validate, TestStack, CountInstance, Pick, TakeQueue, TakeRegion, Empty, Instantiate, MakeMemory, MakeTable, CountObject, PutBack, FreeOne, UncountObject, Reset, Merge, Flush, UncountInstance, ValidateComponent, CountComponent, UncountComponent}
+use Rattle.pool_alloc.specs.declared.frame.Grant.TheVariants.{Component}
 use Rattle.pool_alloc.specs.declared.frame.Ending.{Ending}
 use Rattle.pool_alloc.specs.declared.frame.Ending.TheVariants.{Refused as refused}
 use Rattle.pool_alloc.specs.declared.frame.Object.{Object}
 use Rattle.pool_alloc.specs.declared.frame.Object.TheVariants as object
+use Rattle.pool_alloc.specs.declared.frame.Grant.TheVariants.{Stack}
 use Rattle.pool_alloc.specs.declared.frame.Outcome.{Outcome}
 use Rattle.pool_alloc.specs.declared.frame.Outcome.TheVariants as answer
+use Rattle.pool_alloc.specs.declared.frame.Phase.TheVariants.{Purge, Release}
+use Rattle.pool_alloc.specs.Purges.{purge_row}
+use Rattle.pool_alloc.specs.Releases.{release_row}
 
 -- Which part of a flush is next: ranges of one slot are decommitted, a slot of a kind is zeroed by hand, the region of one
 -- is put back, or slots are freed.
@@ -55,30 +64,35 @@ pub data FlushStep : Type 0 where
   put : SlotKind → FlushStep
   free : FlushStep
 
--- Some slot of a kind is queued, or such slots are still to be freed: those that wait are all of the kind of the first.
+-- The slots of a flush go back kind by kind, in this order.
+abbrev pub flush_kinds : List SlotKind
+flush_kinds = memory_kind ∷ table_kind ∷ stack_kind ∷ []
+
+-- Some slot of a kind is queued.
 abbrev pub some_queued : SlotKind → List Queued → Bool
 some_queued kind slots = is_some (first_of_kind kind slots)
 
-abbrev pub some_freed : SlotKind → List FreedSlot → Bool
-some_freed kind [] = false
-some_freed kind (x ∷ rest) = same_kind kind x.name.kind
+-- the first of these kinds of which a slot is queued; where there is none, it doesn't matter which
+abbrev pub kind_queued : List SlotKind → List Queued → SlotKind
+kind_queued [] slots = memory_kind
+kind_queued (kind ∷ later) slots = if some_queued kind slots then kind else kind_queued later slots
 
--- Where no ranges are left, memories are put back one by one and then freed, and after them tables, of which those are
--- zeroed first that have to be.
-abbrev pub put_step : List Queued → FlushStep
-put_step slots = if some_queued table_kind slots then put table_kind else free
+-- The kind that goes back: that of the slots which wait to be freed, and which are all of one kind; or where none waits, the
+-- first that is queued.
+abbrev pub kind_settled : List Queued → List FreedSlot → SlotKind
+kind_settled slots [] = kind_queued flush_kinds slots
+kind_settled slots (x ∷ freed) = x.name.kind
 
-abbrev pub tables_step : List Queued → FlushStep
-tables_step slots = if list_any (is_to_zero table_kind) slots then zero table_kind else put_step slots
+-- Where no ranges are left, the slots of a kind are zeroed by hand that have to be, one by one, then put back one by one, and
+-- then freed.
+abbrev pub put_step : SlotKind → List Queued → FlushStep
+put_step kind slots = if some_queued kind slots then put kind else free
 
-abbrev pub freed_step : List Queued → List FreedSlot → FlushStep
-freed_step slots freed = if some_freed memory_kind freed then free else tables_step slots
-
-abbrev pub settled_step : List Queued → List FreedSlot → FlushStep
-settled_step slots freed = if some_queued memory_kind slots then put memory_kind else freed_step slots freed
+abbrev pub settled_step : SlotKind → List Queued → FlushStep
+settled_step kind slots = if list_any (is_to_zero kind) slots then zero kind else put_step kind slots
 
 abbrev pub flush_step : Queue → List FreedSlot → FlushStep
-flush_step local freed = if length local.ranges == 0 then settled_step local.slots freed else run
+flush_step local freed = if length local.ranges == 0 then settled_step (kind_settled local.slots freed) local.slots else run
 
 -- The rows that change one part: what each leaves of the part, of the frame, and its turn.
 module _ {P : Type 0} where
@@ -106,10 +120,12 @@ module _ {P : Type 0} where
     turn = flush;
   }
 
-  -- A region leaves its cell. An image slot is made of one that was never used, and a table in one of a table.
+  -- A region leaves its cell. An image slot is made of one that was never used, a table in one of a table, and one of a
+  -- stack is a stack at once.
   abbrev pub unmapped_next : Settings → SlotKind → TakenSlot → Told → Turn P
-  unmapped_next s memory_kind at region = goes (Instantiate at (image_made s.page s.max_memory_size region))
+  unmapped_next s memory_kind at region = goes (Instantiate at (image_made s at.name.slot region))
   unmapped_next s table_kind at region = goes (MakeTable at region)
+  unmapped_next s stack_kind at region = goes (CountObject (object.Stack (stack_made s at region)))
   unmapped_next s _ at region = goes Idle
 
   abbrev pub region_next : Settings → TakenSlot → Cell → Turn P
@@ -165,9 +181,12 @@ module _ {P : Type 0} where
   abbrev pub in_queue : ℕ → PoolCore P → Row Queue P → Row (PoolCore P) P
   in_queue place c r = lifted (λ queue. with_queue place queue c) r
 
--- the refusal of an instance
+-- the refusal of an instance, and of a component
 abbrev pub no_instance_left : Settings → AllocError
 no_instance_left s = refusal.Limit (record { limit = s.max_core_instances; kind = CoreInstances })
+
+abbrev pub no_component_left : Settings → AllocError
+no_component_left s = refusal.Limit (record { limit = s.max_component_instances; kind = ComponentInstances })
 
 -- The rows that change a counter, or no part.
 module _ {P : Type 0} where
@@ -198,7 +217,15 @@ module _ {P : Type 0} where
 
   -- The module is tested, and the lists of its objects reserved.
   abbrev pub validate_row : Bool → PoolCore P → Frame P → Row (PoolCore P) P
-  validate_row wants c f = validated (module_refused c.settings c.plan.totals.table (memories_wanted f.asked) (tables_wanted f.asked)) wants c f
+  validate_row wants c f = validated (module_refused c.settings c.plan.totals.table (info_wanted f.asked)) wants c f
+
+  -- Stacks are tested for being enabled.
+  abbrev pub stacks_tested : Bool → PoolCore P → Frame P → Row (PoolCore P) P
+  stacks_tested true c f = refused_at_once refusal.StacksDisabled c f
+  stacks_tested false c f = record { part = c; frame = record f { objects = no_objects }; turn = goes (Pick 0) }
+
+  abbrev pub test_stack_row : PoolCore P → Frame P → Row (PoolCore P) P
+  test_stack_row c f = stacks_tested (c.settings.stack_size == 0) c f
 
   -- The instance is counted, also where there are too many.
   abbrev pub counted : Bool → PoolCore P → Frame P → Row (PoolCore P) P
@@ -245,7 +272,7 @@ module _ {P : Type 0} where
   abbrev pub make_table_row : Result Bool LimiterError → TakenSlot → Told → PoolCore P → Frame P → Row (PoolCore P) P
   make_table_row given at region c f = was_made_table at region (table_made c.settings (tables_wanted f.asked) (length f.objects.tables.items) given at region) c f
 
-  -- The object is granted. The search for the next one's slot begins anew.
+  -- The object is granted. The search for the next one's slot begins anew; a stack is all that its call asks for.
   abbrev pub count_object_row : Object P → PoolCore P → Frame P → Row (PoolCore P) P
   count_object_row (object.Memory lease) c f = record {
     part = counting_memories (c.counters.memories + 1) c;
@@ -257,11 +284,13 @@ module _ {P : Type 0} where
     frame = record f { objects = record f.objects { tables = with_item lease f.objects.tables }; queues = 0 };
     turn = next;
   }
+  count_object_row (object.Stack lease) c f = record { part = counting_stacks (c.counters.stacks + 1) c; frame = f; turn = ends (answer.Granted (Stack lease)) }
 
   -- The object is no grant any more.
   abbrev pub uncount_object_row : Object P → PoolCore P → Frame P → Row (PoolCore P) P
   uncount_object_row (object.Memory lease) c f = record { part = counting_memories (c.counters.memories - 1) c; frame = f; turn = goes (Reset (object.Memory lease)) }
   uncount_object_row (object.Table lease) c f = record { part = counting_tables (c.counters.tables - 1) c; frame = f; turn = goes (Reset (object.Table lease)) }
+  uncount_object_row (object.Stack lease) c f = record { part = counting_stacks (c.counters.stacks - 1) c; frame = f; turn = goes (Reset (object.Stack lease)) }
 
   -- The object is reset into the local queue. That is flushed where it has no range or as many as a batch, and else
   -- appended to the home queue. Where a page call of a memory's reset failed, nothing is known of the slot.
@@ -279,17 +308,37 @@ module _ {P : Type 0} where
       let local : Queue = table_reset_into c.settings lease f.local in
       record { part = c; frame = record f { local = local }; turn = reset_turn c.settings.batch local }
 
+  abbrev pub stack_reset_row : LeasedStack → PoolCore P → Frame P → Row (PoolCore P) P
+  stack_reset_row lease c f =
+      let local : Queue = stack_reset c.settings.stack_keep_resident.bytes lease f.local in
+      record { part = c; frame = record f { local = local }; turn = reset_turn c.settings.batch local }
+
   abbrev pub reset_row : StepGiven → Object P → PoolCore P → Frame P → Row (PoolCore P) P
   reset_row g (object.Memory lease) c f = was_reset g.fault g.slot lease c f
   reset_row g (object.Table lease) c f = table_reset_row lease c f
-
-  -- the answer that a call ends with once all is given back
-  abbrev pub answer_of : Ending → Outcome P
-  answer_of (refused e) = answer.Refused e
-  answer_of _ = answer.Returned
+  reset_row g (object.Stack lease) c f = stack_reset_row lease c f
 
   abbrev pub uncount_instance_row : PoolCore P → Frame P → Row (PoolCore P) P
   uncount_instance_row c f = record { part = counting_instances (c.counters.core_instances - 1) c; frame = f; turn = ends (answer_of f.ending) }
+
+  -- A component is tested.
+  abbrev pub component_tested : Option Unsupported → PoolCore P → Frame P → Row (PoolCore P) P
+  component_tested (Some rule) c f = refused_at_once (refusal.Unsupported rule) c f
+  component_tested None c f = record { part = c; frame = f; turn = goes CountComponent }
+
+  abbrev pub validate_component_row : ComponentInfo → PoolCore P → Frame P → Row (PoolCore P) P
+  validate_component_row info c f = component_tested (component_refused c.settings info) c f
+
+  -- It is counted, also where there are too many. A grant of one is that it is counted.
+  abbrev pub component_counted : Bool → PoolCore P → Frame P → Row (PoolCore P) P
+  component_counted true c f = record { part = counting_components (c.counters.component_instances + 1) c; frame = f; turn = ends (answer.Granted Component) }
+  component_counted false c f = record { part = counting_components (c.counters.component_instances + 1) c; frame = failing (no_component_left c.settings) f; turn = goes UncountComponent }
+
+  abbrev pub count_component_row : PoolCore P → Frame P → Row (PoolCore P) P
+  count_component_row c f = component_counted (nat_lt c.counters.component_instances c.settings.max_component_instances) c f
+
+  abbrev pub uncount_component_row : PoolCore P → Frame P → Row (PoolCore P) P
+  uncount_component_row c f = record { part = counting_components (c.counters.component_instances - 1) c; frame = f; turn = ends (answer_of f.ending) }
 
   -- The rows of a flush. The ranges of one slot are decommitted, which leaves this queue.
   abbrev pub decommit_row : Queue → PoolCore P → Frame P → Row (PoolCore P) P
@@ -324,6 +373,7 @@ module _ {P : Type 0} where
   row_of g Idle c f = record { part = c; frame = f; turn = stays }
   row_of g Key c f = key_row c f
   row_of g Validate c f = validate_row g.wants c f
+  row_of g TestStack c f = test_stack_row c f
   row_of g CountInstance c f = count_instance_row c f
   row_of g (Pick tried) c f = let place : ℕ = shard_tried tried c.plan f in in_shard place c (pick_on c.plan tried (shard_at place c) f)
   row_of g TakeQueue c f = let place : ℕ = queue_tried f.queues c.plan f in in_queue place c (take_queue_on c.plan (queue_at place c) f)
@@ -340,6 +390,11 @@ module _ {P : Type 0} where
   row_of g Merge c f = let place : ℕ = queue_tried 0 c.plan f in in_queue place c (merge_on c.settings (queue_at place c) f)
   row_of g Flush c f = flush_row (flush_step f.local f.freed.items) g.queue c f
   row_of g UncountInstance c f = uncount_instance_row c f
+  row_of g (ValidateComponent info) c f = validate_component_row info c f
+  row_of g CountComponent c f = count_component_row c f
+  row_of g UncountComponent c f = uncount_component_row c f
+  row_of g (Purge p step) c f = purge_row g p step c f
+  row_of g (Release step) c f = release_row g step c f
 
   -- A step takes the phase out of the frame, and makes its row with what the phase has.
   abbrev pub row : StepGiven → PoolCore P → Frame P → After P

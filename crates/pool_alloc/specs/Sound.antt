@@ -1,25 +1,25 @@
 -- What holds of the pool's parts, and of a party's frame, between steps.
 use Rattle.std.specs.List.{AllByRecursion}
-use Rattle.std.specs.Prelude.{◌≡◌, ℕ, ◌+◌, ◌*◌, ◌%◌, ◌^◌, ◌<◌, ◌≤◌, List, [], length, slice_get, slice_index_or, All, false, Option, None, IsSome, IfSome, ◌⊎◌}
-use Rattle.pool_pages.specs.Count.{IsPageSize}
+use Rattle.std.specs.Prelude.{◌≡◌, ℕ, ◌+◌, ◌*◌, ◌%◌, ◌^◌, ◌<◌, ◌≤◌, List, [], length, slice_get, slice_index_or, All, Bool, false, true, Option, None, IsSome, IfSome, ◌⊎◌}
+use Rattle.pool_pages.specs.Count.{IsPageSize, count, rounded_up}
 use Rattle.pool_pages.specs.MakerTold.{MakerTold}
 use Rattle.pool_pages.specs.MemoryTypes.{minimum_byte_size, refused_limits}
 use Rattle.pool_pages.specs.declared.module_types.MemoryDecl.{MemoryDecl}
-use Rattle.pool_pages.specs.declared.pages.DecommitBehavior.{DecommitBehavior}
 use Rattle.pool_images.specs.Images.{Image}
 use Rattle.pool_images.specs.Slots.{Slot, IsClean, IsBegun, FitsInto}
-use Rattle.pool_hall.specs.declared.unit_name.SlotKind.TheVariants.{Memory as memory_kind, Table as table_kind}
+use Rattle.pool_hall.specs.declared.unit_name.SlotKind.TheVariants.{Memory as memory_kind, Table as table_kind, Stack as stack_kind}
 use Rattle.pool_memory.specs.Memories.{MemoryState, slot_of as image_slot_of}
 use Rattle.pool_memory.specs.Making.{maximum_asked}
 use Rattle.pool_memory.specs.Static.{CanHold, static_capacity}
-use Rattle.pool_slots.specs.Cells.{Cell, IsCell, IsSlotOf, region_made, is_taken}
+use Rattle.pool_slots.specs.Cells.{Cell, IsCell, IsSlotOf, is_taken}
+use Rattle.pool_slots.specs.Colourings.{coloured_region, stripe_colour}
 use Rattle.pool_slots.specs.CellOf.{cell_of}
 use Rattle.pool_slots.specs.SlotNames.{of_kind}
 use Rattle.pool_slots.specs.declared.slot_name.SlotName.{SlotName}
 use Rattle.pool_hall.specs.declared.unit_name.SlotKind.{SlotKind}
 use Rattle.pool_alloc.specs.Objects.{objects_in, objects_wanted}
 use Rattle.pool_alloc.specs.declared.frame.Object.{Object}
-use Rattle.pool_alloc.specs.declared.frame.Object.TheVariants.{Memory, Table}
+use Rattle.pool_alloc.specs.declared.frame.Object.TheVariants.{Memory, Table, Stack}
 use Rattle.pool_alloc.specs.declared.lease.InstanceLease.{InstanceLease}
 use Rattle.pool_slots.specs.RegionCells.{CellState}
 use Rattle.pool_slots.specs.ListUnits.{IsShardOf}
@@ -29,30 +29,43 @@ use Rattle.pool_slots.specs.declared.plan.Allocator.{Allocator}
 use Rattle.pool_slots.specs.declared.plan.Plan.{Plan}
 use Rattle.pool_slots.specs.declared.part.PoolPart.{PoolPart}
 use Rattle.pool_slots.specs.declared.part.PoolPart.TheVariants as part
-use Rattle.pool_slots.specs.SlotQueues.{Queue, Queued, first_of_kind, HasOwners, IsQueue}
+use Rattle.pool_slots.specs.SlotQueues.{Queue, Queued, HasOwners, IsQueue, owner}
 use Rattle.pool_alloc.specs.Reserved.{Reserved}
 use Rattle.pool_alloc.specs.Leases.{Lease, IsUsable}
 use Rattle.pool_pages.specs.Told.{Told}
 use Rattle.pool_pages.specs.declared.table_type.TableType.{TableType}
+use Rattle.pool_slots.specs.declared.queued_range.QueuedRange.{QueuedRange}
+use Rattle.pool_alloc.specs.PoolStacks.{IsInStackCell, IsNewStack, IsQueuedStack, IsStackLease}
 use Rattle.pool_alloc.specs.PoolTables.{IsPoolTable, IsInTableCell, IsTableRegion, IsTableLease, IsBegunTable}
 use Rattle.pool_alloc.specs.Modules.{HasImages, IfAllocated, IfTable}
 use Rattle.pool_alloc.specs.RangeRuns.{IsGrouped}
 use Rattle.pool_alloc.specs.Turns.{is_granting, is_flushed}
-use Rattle.pool_alloc.specs.Steps.{memories_wanted, images_wanted, image_wanted, memory_slots, queues_searched, allocator_for, tables_wanted, kind_next}
-use Rattle.pool_alloc.specs.Places.{Thing, right_to, region_of, kept_count, away_count, frame_count, phase_instances, frame_memories, frame_tables}
+use Rattle.pool_alloc.specs.Steps.{memories_wanted, images_wanted, image_wanted, memory_slots, queues_searched, allocator_for, tables_wanted, stacks_wanted, kind_next, IsModule}
+use Rattle.pool_alloc.specs.Places.{Thing, right_to, region_of, kept_count, away_count, frame_count, frame_instances, frame_memories, frame_tables, phase_stacks, phase_instances, phase_components}
 use Rattle.pool_alloc.specs.declared.pool_core.PoolCore.{PoolCore}
 use Rattle.pool_alloc.specs.declared.pool_core.Settings.{Settings}
 use Rattle.pool_alloc.specs.declared.frame.Ending.{Ending}
 use Rattle.pool_alloc.specs.declared.frame.Ending.TheVariants.{Granted as granted, Returned as returned, Refused as refused}
 use Rattle.pool_alloc.specs.declared.frame.Frame.{Frame}
-use Rattle.pool_alloc.specs.Asked.{ModuleAsked}
+use Rattle.pool_alloc.specs.declared.frame.Asked.{Asked}
+use Rattle.pool_alloc.specs.declared.frame.Asked.TheVariants.{Stack as stack_asked}
 use Rattle.pool_alloc.specs.declared.frame.FreedSlot.{FreedSlot}
 use Rattle.pool_alloc.specs.declared.frame.Phase.{Phase}
-use Rattle.pool_alloc.specs.declared.frame.Phase.TheVariants.{Idle, Key, Validate, CountInstance, Pick, TakeQueue, TakeRegion, Empty, Instantiate, MakeMemory, MakeTable, CountObject, PutBack, FreeOne, UncountObject, Reset, Merge, Flush, UncountInstance}
+use Rattle.pool_alloc.specs.declared.frame.Phase.TheVariants.{Idle, Key, Validate, TestStack, CountInstance, Pick, TakeQueue, TakeRegion, Empty, Instantiate, MakeMemory, MakeTable, CountObject, PutBack, FreeOne, UncountObject, Reset, Merge, Flush, UncountInstance, ValidateComponent, CountComponent, UncountComponent, Purge, Release}
+use Rattle.std.specs.Prelude.{◌-◌, drop}
+use Rattle.pool_alloc.specs.Purges.{purged_stripe}
+use Rattle.pool_alloc.specs.Releases.{slots_in, released_stripe, nth_taken}
+use Rattle.pool_alloc.specs.declared.purge.PurgeCursor.{PurgeCursor}
+use Rattle.pool_alloc.specs.declared.purge.PurgeStep.{PurgeStep}
+use Rattle.pool_alloc.specs.declared.purge.PurgeStep.TheVariants as purging_step
+use Rattle.pool_alloc.specs.declared.release.ReleaseCursor.{ReleaseCursor}
+use Rattle.pool_alloc.specs.declared.release.ReleaseStep.{ReleaseStep}
+use Rattle.pool_alloc.specs.declared.release.ReleaseStep.TheVariants as releasing_step
 
 -- the settings make sense
 pub record IsSettings (s : Settings) : Type 0 where
   pub page : IsPageSize s.page
+  pub stripes : (0 < s.num_stripes) × (s.num_stripes < 256)
   pub keep_page : s.keep_resident.page ≡ s.page
   pub kept : s.keep_resident.bytes ≤ 2 ^ 32
   pub whole : s.max_memory_size % s.page ≡ 0
@@ -64,35 +77,47 @@ pub record IsSettings (s : Settings) : Type 0 where
   pub table_kept : s.table_keep_resident.bytes % s.page ≡ 0
   pub table_whole : s.table_slot % s.page ≡ 0
   pub table_few : s.table_slot ≤ 2 ^ 32
+  pub stack_keep_page : s.stack_keep_resident.page ≡ s.page
+  pub stack_kept : s.stack_keep_resident.bytes % s.page ≡ 0
+  pub stack_whole : s.stack_size % s.page ≡ 0
+  pub stack_few : s.stack_size ≤ 2 ^ 32
 
 -- the kinds of slots that the pool has
 abbrev pub IsPooled : SlotKind → Type 0
 IsPooled memory_kind = Unit {0}
 IsPooled table_kind = Unit {0}
+IsPooled stack_kind = Unit {0}
 IsPooled _ = ⊥
 
--- the allocator of a stripe, or of tables, has shards, whose places are numbers of 32 bits
+-- the allocator of a stripe, of tables or of stacks has shards, whose places are numbers of 32 bits
 pub record IsStripe (a : Allocator) : Type 0 where
   pub some : 0 < a.shards
   pub placed : IsPlacedAllocator a
 
--- The plan is right for a pool with so many places. It has stripes, each with shards, shards of tables, queues that all parties
--- share, and slots of no other kinds.
+-- The plan is right for a pool with so many places. It has stripes, each with shards, and with slots where there are any; shards
+-- of tables and of stacks; queues that all parties share; and slots of no other kinds.
 pub record IsPoolPlan (plan : Plan) (places : ℕ) : Type 0 where
   pub planned : IsPlanned plan places
   pub small : places < 2 ^ 32
   pub stripes : 0 < length plan.memories
   pub few : length plan.memories < 2 ^ 32
+  pub filled : 0 < plan.totals.memory → AllByRecursion (λ a. 0 < a.capacity) plan.memories
   pub shards : AllByRecursion IsStripe plan.memories
   pub tables : 0 < length plan.tables
   pub table_shards : AllByRecursion IsStripe plan.tables
+  pub stacks : 0 < length plan.stacks
+  pub stack_shards : AllByRecursion IsStripe plan.stacks
   pub queues : 0 < plan.queues
   pub shared : plan.owned ≡ false
   pub pooled : (kind : SlotKind) → 0 < of_kind kind plan.totals → IsPooled kind
 
--- the image slot of memory slot i of the pool: the one that was made of its region, without a colour
-abbrev pub IsPoolSlot : MakerTold → DecommitBehavior → ℕ → ℕ → Slot → Type 0
-IsPoolSlot maker behaviour static_size i slot = IsSlotOf (region_made maker behaviour static_size i) None static_size slot
+-- the region of memory slot i of the pool as it is made, in the colour of its stripe where there are two or more
+abbrev pub memory_region : MakerTold → Settings → ℕ → Told
+memory_region maker s i = coloured_region s.num_stripes maker s.behaviour (count maker.page (rounded_up maker.page s.max_memory_size)) i
+
+-- the image slot of memory slot i of the pool: the one that was made of its region, in that colour
+abbrev pub IsPoolSlot : MakerTold → Settings → ℕ → Slot → Type 0
+IsPoolSlot maker s i slot = IsSlotOf (memory_region maker s i) (stripe_colour s.num_stripes i) s.max_memory_size slot
 
 -- the name of one of the pool's slots
 pub record IsSlotName (plan : Plan) (name : SlotName) : Type 0 where
@@ -101,8 +126,9 @@ pub record IsSlotName (plan : Plan) (name : SlotName) : Type 0 where
 
 -- by its kind, what the cell of a slot may hold, and its cell
 abbrev pub MayHold : MakerTold → Settings → SlotKind → ℕ → Cell → Type 0
-MayHold maker s memory_kind i held = IsCell (region_made maker s.behaviour s.max_memory_size i) None s.max_memory_size held
+MayHold maker s memory_kind i held = IsCell (memory_region maker s i) (stripe_colour s.num_stripes i) s.max_memory_size held
 MayHold maker s table_kind i held = IsInTableCell maker s i held
+MayHold maker s stack_kind i held = IsInStackCell maker s i held
 MayHold maker s _ i held = ⊥
 
 pub record IsCellOf (maker : MakerTold) (s : Settings) (name : SlotName) (cell : CellState) : Type 0 where
@@ -111,18 +137,28 @@ pub record IsCellOf (maker : MakerTold) (s : Settings) (name : SlotName) (cell :
 
 -- and as what it lies in a queue
 abbrev pub MayQueue : MakerTold → Settings → SlotKind → ℕ → Slot → Type 0
-MayQueue maker s memory_kind i slot = IsPoolSlot maker s.behaviour s.max_memory_size i slot
+MayQueue maker s memory_kind i slot = IsPoolSlot maker s i slot
 MayQueue maker s table_kind i slot = IsPoolTable maker s i slot
+MayQueue maker s stack_kind i slot = IsQueuedStack maker s i slot
 MayQueue maker s _ i slot = ⊥
 
--- a table is zeroed by hand where a decommit fails
-abbrev pub MustBeByHand : SlotKind → Option ℕ → Type 0
-MustBeByHand table_kind by_hand = IsSome by_hand
-MustBeByHand _ by_hand = Unit {0}
+-- A table is zeroed by hand where a decommit fails, and so is a stack where stacks are given back zeroed, and not otherwise.
+pub record IsByHand (zeroing : Bool) (by_hand : Option ℕ) : Type 0 where
+  pub zeroed : zeroing ≡ true → IsSome by_hand
+  pub left : zeroing ≡ false → by_hand ≡ None
+
+abbrev pub MustBeByHand : Settings → SlotKind → Option ℕ → Type 0
+MustBeByHand s table_kind by_hand = IsSome by_hand
+MustBeByHand s stack_kind by_hand = IsByHand s.stack_zeroing by_hand
+MustBeByHand s _ by_hand = Unit {0}
 
 pub record IsQueuedOf (maker : MakerTold) (s : Settings) (m : Queued) : Type 0 where
   pub slot : MayQueue maker s m.name.kind m.name.slot m.slot
-  pub by_hand : MustBeByHand m.name.kind m.by_hand
+  pub by_hand : MustBeByHand s m.name.kind m.by_hand
+
+-- Where stacks aren't given back zeroed, nothing of them is decommitted.
+abbrev pub MayBeRanged : Settings → QueuedRange → Type 0
+MayBeRanged s r = (owner r).kind ≡ stack_kind → s.stack_zeroing ≡ true
 
 -- A shared queue has fewer ranges than a batch, no more slots than ranges, and room for twice the batch. The ranges of each
 -- slot lie together.
@@ -133,6 +169,7 @@ pub record IsShared (maker : MakerTold) (s : Settings) (q : Queue) : Type 0 wher
   pub range_room : q.range_room ≡ 2 * s.batch
   pub slot_room : q.slot_room ≡ 2 * s.batch
   pub regions : All (IsQueuedOf maker s) q.slots
+  pub ranged : All (MayBeRanged s) q.ranges
   pub queue : IsQueue q
   pub grouped : IsGrouped q
 
@@ -141,6 +178,7 @@ abbrev pub IsPartFor : {P : Type 0} → MakerTold → Settings → Role → Pool
 IsPartFor maker s (shard_role a j) (part.Shard shard) = IsShardOf a j shard
 IsPartFor maker s (cell_role name) (part.Memory cell) = (name.kind ≡ memory_kind) × IsCellOf maker s name cell
 IsPartFor maker s (cell_role name) (part.Table cell) = (name.kind ≡ table_kind) × IsCellOf maker s name cell
+IsPartFor maker s (cell_role name) (part.Stack cell) = (name.kind ≡ stack_kind) × IsCellOf maker s name cell
 IsPartFor maker s queue_role (part.Queue queue) = IsShared maker s queue
 IsPartFor maker s _ _ = ⊥
 
@@ -153,18 +191,20 @@ pub record IsCore {P : Type 0} (maker : MakerTold) (c : PoolCore P) : Type 0 whe
   pub settings : IsSettings c.settings
   pub page : c.settings.page ≡ maker.page
   pub plan : IsPoolPlan c.plan (length c.parts)
+  pub stripes : length c.plan.memories ≡ c.settings.num_stripes
   pub parts : (p : ℕ) → p < length c.parts → IsPartAt maker c.settings c.plan p (part_at p c.parts)
 
 -- a lease of the pool: its memory lies in the region of its slot
 pub record IsLeaseOf (maker : MakerTold) (s : Settings) (plan : Plan) (l : Lease) : Type 0 where
   pub inside : l.index < memory_slots plan
-  pub slot : IsPoolSlot maker s.behaviour s.max_memory_size l.index (image_slot_of l.memory)
+  pub slot : IsPoolSlot maker s l.index (image_slot_of l.memory)
   pub memory : IsUsable l.memory
 
 -- an object is a lease of the pool, and so is each of an instance
 abbrev pub IsObjectOf : {P : Type 0} → MakerTold → Settings → Plan → Object P → Type 0
 IsObjectOf maker s plan (Memory lease) = IsLeaseOf maker s plan lease
 IsObjectOf maker s plan (Table lease) = IsTableLease maker s plan lease
+IsObjectOf maker s plan (Stack lease) = IsStackLease maker s plan lease
 
 abbrev pub AreLeasesOf : {P : Type 0} → MakerTold → Settings → Plan → InstanceLease P → Type 0
 AreLeasesOf maker s plan lease = All (IsLeaseOf maker s plan) lease.memories.items × All (IsTableLease maker s plan) lease.tables.items
@@ -174,10 +214,9 @@ pub record IsFreedOf (plan : Plan) (x : FreedSlot) : Type 0 where
   pub named : IsSlotName plan x.name
   pub bytes : x.bytes ≤ 2 ^ 32
 
--- Memories are freed before tables are put back: as long as memories wait to be freed no table does, and once tables do no
--- memory is queued.
-abbrev pub FreesInOrder : List Queued → List FreedSlot → Type 0
-FreesInOrder slots freed = All (λ x. x.name.kind ≡ memory_kind) freed ⊎ ((first_of_kind memory_kind slots ≡ None) × All (λ x. x.name.kind ≡ table_kind) freed)
+-- The slots of one kind are freed before those of the next are put back: those that wait to be freed are of one kind.
+abbrev pub AreOfOneKind : List FreedSlot → Type 0
+AreOfOneKind freed = (kind : SlotKind) × All (λ x. x.name.kind ≡ kind) freed
 
 -- the slots that a party has on their way back
 pub record IsLocal (maker : MakerTold) (s : Settings) (q : Queue) : Type 0 where
@@ -185,6 +224,7 @@ pub record IsLocal (maker : MakerTold) (s : Settings) (q : Queue) : Type 0 where
   pub range_room : q.range_room ≡ 2 * s.batch
   pub slot_room : q.slot_room ≡ 2 * s.batch
   pub regions : All (IsQueuedOf maker s) q.slots
+  pub ranged : All (MayBeRanged s) q.ranges
   pub queue : IsQueue q
   pub grouped : IsGrouped q
 
@@ -218,7 +258,7 @@ pub record AreImagesOf (s : Settings) (memories : List MemoryDecl) (images : Lis
 pub record HasSlot (maker : MakerTold) (s : Settings) (plan : Plan) (name : SlotName) (held : Slot) : Type 0 where
   pub kind : name.kind ≡ memory_kind
   pub inside : name.slot < memory_slots plan
-  pub region : IsPoolSlot maker s.behaviour s.max_memory_size name.slot held
+  pub region : IsPoolSlot maker s name.slot held
 
 -- the region of a table's slot, likewise
 pub record HasTable (maker : MakerTold) (s : Settings) (plan : Plan) (name : SlotName) (held : Told) : Type 0 where
@@ -262,16 +302,22 @@ pub record NothingHeld {P : Type 0} (local : Queue) (freed : Reserved FreedSlot)
   pub no_tables : objects.tables.items ≡ []
 
 -- the objects that were granted so far begin as asked
-abbrev pub AreBegun : {P : Type 0} → Settings → Option ModuleAsked → InstanceLease P → Type 0
+abbrev pub AreBegun : {P : Type 0} → Settings → Asked → InstanceLease P → Type 0
 AreBegun s asked lease =
     ((k : ℕ) → IfSome (slice_get lease.memories.items k) (λ lease. IfSome (slice_get (memories_wanted asked) k) (IsNew s.max_memory_size (slice_index_or (images_wanted asked) k None) lease.memory)))
     × ((k : ℕ) → IfSome (slice_get lease.tables.items k) (λ lease. IfSome (slice_get (tables_wanted asked) k) (IsBegunTable s lease)))
 
--- A call that is to be granted an instance: its module is supported, what it was granted so far begins as asked, memories
+-- stacks are enabled, where one is asked for
+abbrev pub IsEnabled : Settings → Asked → Type 0
+IsEnabled s stack_asked = 0 < s.stack_size
+IsEnabled s _ = Unit {0}
+
+-- A call that is to be granted an instance or a stack: its module is supported, what it was granted so far begins as asked, memories
 -- first, and it has taken no more queues than there are.
-pub record IsToGrant {P : Type 0} (s : Settings) (plan : Plan) (asked : Option ModuleAsked) (queues : ℕ) (objects : InstanceLease P) : Type 0 where
+pub record IsToGrant {P : Type 0} (s : Settings) (plan : Plan) (asked : Asked) (queues : ℕ) (objects : InstanceLease P) : Type 0 where
   pub supported : AreSupported s (memories_wanted asked) (images_wanted asked)
   pub tables : AreTablesSupported s plan.totals.table (tables_wanted asked)
+  pub enabled : IsEnabled s asked
   pub images : HasImages asked
   pub room : objects.memories.room ≡ length (memories_wanted asked)
   pub table_room : objects.tables.room ≡ length (tables_wanted asked)
@@ -282,23 +328,81 @@ pub record IsToGrant {P : Type 0} (s : Settings) (plan : Plan) (asked : Option M
   pub taken : queues ≤ queues_searched plan
 
 -- a request is to be granted, and there is a next object
-pub record GrantsMore {P : Type 0} (s : Settings) (plan : Plan) (aim : Ending) (asked : Option ModuleAsked) (queues : ℕ) (objects : InstanceLease P) : Type 0 where
+pub record GrantsMore {P : Type 0} (s : Settings) (plan : Plan) (aim : Ending) (asked : Asked) (queues : ℕ) (objects : InstanceLease P) : Type 0 where
   pub ending : aim ≡ granted
   pub to_grant : IsToGrant s plan asked queues objects
   pub more : objects_in objects < objects_wanted asked
 
 -- a request as it begins, and once its module was tested
-pub record IsRequest (aim : Ending) (asked : Option ModuleAsked) (queues : ℕ) : Type 0 where
+pub record IsRequest (aim : Ending) (asked : Asked) (queues : ℕ) : Type 0 where
   pub ending : aim ≡ granted
   pub none_taken : queues ≡ 0
-  pub asked_for : IsSome asked
+  pub asked_for : IsModule asked
   pub images : HasImages asked
 
 -- by its ending, what a call has beside its next step
-abbrev pub Aims : {P : Type 0} → Settings → Plan → Ending → Option ModuleAsked → ℕ → InstanceLease P → Type 0
+abbrev pub Aims : {P : Type 0} → Settings → Plan → Ending → Asked → ℕ → InstanceLease P → Type 0
 Aims s plan granted asked queues objects = IsToGrant s plan asked queues objects
 Aims s plan returned asked queues objects = Unit {0}
 Aims s plan (refused e) asked queues objects = Unit {0}
+
+-- A purge stands at a memory that a module may have, in a turn for which the stripe has slots.
+pub record IsPurging (s : Settings) (plan : Plan) (p : PurgeCursor) : Type 0 where
+  pub stripe : p.stripe < length plan.memories
+  pub memory : p.memory < s.max_memories_per_module
+  pub turn : p.turn < (purged_stripe plan p).capacity
+  pub some : 0 < plan.totals.memory
+
+-- it begins
+pub record IsFirstPick (p : PurgeCursor) (j : ℕ) : Type 0 where
+  pub stripe : p.stripe ≡ 0
+  pub memory : p.memory ≡ 0
+  pub turn : p.turn ≡ 0
+  pub first : j ≡ 0
+
+-- or it picks from this shard of the stripe
+pub record IsPicking (s : Settings) (plan : Plan) (p : PurgeCursor) (j : ℕ) : Type 0 where
+  pub purging : IsPurging s plan p
+  pub tried : j < (purged_stripe plan p).shards
+
+-- What a purge has for its next step.
+abbrev pub IsPurgeAt : {P : Type 0} → MakerTold → Settings → Plan → PurgeCursor → PurgeStep P → Type 0
+IsPurgeAt maker s plan p (purging_step.Pick tried) = IsFirstPick p tried ⊎ IsPicking s plan p tried
+IsPurgeAt maker s plan p (purging_step.TakeRegion name) = IsPurging s plan p × IsSlotName plan name × (name.kind ≡ memory_kind)
+IsPurgeAt maker s plan p (purging_step.Forget at held) = IsPurging s plan p × HasRegion maker s plan at.name (cell_of held) × (at.name.kind ≡ memory_kind)
+IsPurgeAt maker s plan p (purging_step.PutRegion at held) = IsPurging s plan p × HasRegion maker s plan at.name (cell_of held) × (at.name.kind ≡ memory_kind)
+IsPurgeAt maker s plan p (purging_step.Free name) = IsPurging s plan p × IsSlotName plan name
+
+-- how many slots of an allocator its shards from this one on have
+abbrev pub slots_left : Allocator → ℕ → ℕ
+slots_left a j = a.capacity - j * a.slots_per_shard
+
+-- A release stands at a stripe. The slots that it took are memories, no more than the stripe has but for so many that may still
+-- come, and there is room for those and for the slots of the later stripes.
+pub record IsReleasing (plan : Plan) (r : ReleaseCursor) (left : ℕ) : Type 0 where
+  pub stripe : r.stripe < length plan.memories
+  pub taken : All (IsFreedOf plan) r.taken.items
+  pub memories : All (λ x. x.name.kind ≡ memory_kind) r.taken.items
+  pub few : length r.taken.items + left ≤ (released_stripe plan r).capacity
+  pub all : length r.taken.items ≤ length r.local.items
+  pub room : length r.local.items + (left + slots_in (drop (r.stripe + 1) plan.memories)) ≤ r.local.room
+  pub taken_room : r.taken.room ≡ r.local.room
+
+-- it has the region of one of them
+pub record IsDraining (maker : MakerTold) (s : Settings) (plan : Plan) (r : ReleaseCursor) (k : ℕ) (name : SlotName) (held : Cell) : Type 0 where
+  pub releasing : IsReleasing plan r 0
+  pub place : k < length r.taken.items
+  pub named : (nth_taken r k).name ≡ name
+  pub region : HasRegion maker s plan name held
+
+-- What a release has for its next step.
+abbrev pub IsReleaseAt : {P : Type 0} → MakerTold → Settings → Plan → ReleaseStep P → Type 0
+IsReleaseAt maker s plan releasing_step.Reserve = Unit {0}
+IsReleaseAt maker s plan (releasing_step.TakeWarm r j) = IsReleasing plan r (slots_left (released_stripe plan r) j) × (j < (released_stripe plan r).shards)
+IsReleaseAt maker s plan (releasing_step.TakeRegion r k) = IsReleasing plan r 0 × (k < length r.taken.items)
+IsReleaseAt maker s plan (releasing_step.Decommit r k at held) = IsDraining maker s plan r k at.name (cell_of held)
+IsReleaseAt maker s plan (releasing_step.PutRegion r k at held) = IsDraining maker s plan r k at.name (cell_of held)
+IsReleaseAt maker s plan (releasing_step.Free r x) = IsReleasing plan r 0 × IsFreedOf plan x × (x.name.kind ≡ memory_kind)
 
 module _ {P : Type 0} where
   abbrev pub HasNoneWaiting : Frame P → Type 0
@@ -313,12 +417,15 @@ module _ {P : Type 0} where
   abbrev pub IsAllocating : Settings → Plan → Frame P → Type 0
   IsAllocating s plan f = GrantsMore s plan f.ending f.asked f.queues f.objects
 
-  -- a memory is allocated, or a table
+  -- a memory is allocated, a table, or a stack
   abbrev pub IsMemoryNext : Frame P → Type 0
   IsMemoryNext f = length f.objects.memories.items < length (memories_wanted f.asked)
 
   abbrev pub IsTableNext : Frame P → Type 0
-  IsTableNext f = length (memories_wanted f.asked) ≤ length f.objects.memories.items
+  IsTableNext f = (length (memories_wanted f.asked) ≤ length f.objects.memories.items) × (stacks_wanted f.asked ≡ 0)
+
+  abbrev pub IsStackNext : Frame P → Type 0
+  IsStackNext f = f.asked ≡ stack_asked
 
   -- something is given back
   abbrev pub IsReturning : Frame P → Type 0
@@ -331,11 +438,16 @@ module _ {P : Type 0} where
   abbrev pub IsRequested : Frame P → Type 0
   IsRequested f = IsRequest f.ending f.asked f.queues
 
+  -- a stack is asked for, from the first shard on
+  abbrev pub IsStackRequested : Frame P → Type 0
+  IsStackRequested f = (f.ending ≡ granted) × (f.queues ≡ 0) × (f.asked ≡ stack_asked)
+
   -- What a frame has in each phase.
   abbrev pub IsShapedAt : MakerTold → Settings → Plan → Phase P → Frame P → Type 0
   IsShapedAt maker s plan Idle f = IsAtRest f
   IsShapedAt maker s plan Key f = IsAtRest f
   IsShapedAt maker s plan Validate f = IsAtRest f × IsRequested f × AreImagesOf s (memories_wanted f.asked) (images_wanted f.asked)
+  IsShapedAt maker s plan TestStack f = IsAtRest f × IsStackRequested f
   IsShapedAt maker s plan CountInstance f = IsAtRest f × IsRequested f × AreSupported s (memories_wanted f.asked) (images_wanted f.asked) × (f.objects.memories.room ≡ length (memories_wanted f.asked)) × (f.objects.tables.room ≡ length (tables_wanted f.asked)) × AreTablesSupported s plan.totals.table (tables_wanted f.asked)
   IsShapedAt maker s plan (Pick tried) f = HasNoneWaiting f × IsAllocating s plan f × (tried < (allocator_for plan f).shards)
   IsShapedAt maker s plan TakeQueue f = HasNoneWaiting f × IsAllocating s plan f × (f.queues < queues_searched plan)
@@ -346,13 +458,19 @@ module _ {P : Type 0} where
   IsShapedAt maker s plan (MakeTable at region) f = HasNoneWaiting f × IsAllocating s plan f × HasTable maker s plan at.name region × IsTableNext f
   IsShapedAt maker s plan (CountObject (Memory lease)) f = HasNoneWaiting f × IsAllocating s plan f × IsLeaseOf maker s plan lease × IfAllocated f (IsNew s.max_memory_size (image_wanted f) lease.memory) × IsMemoryNext f
   IsShapedAt maker s plan (CountObject (Table lease)) f = HasNoneWaiting f × IsAllocating s plan f × IsTableLease maker s plan lease × IfTable f (IsBegunTable s lease) × IsTableNext f
+  IsShapedAt maker s plan (CountObject (Stack lease)) f = HasNoneWaiting f × IsAllocating s plan f × IsStackLease maker s plan lease × IsNewStack s lease × IsStackNext f
   IsShapedAt maker s plan (PutBack at held) f = HasNoneWaiting f × IsReturning f × HasRegion maker s plan at.name (cell_of held)
   IsShapedAt maker s plan (FreeOne name) f = HasNoneWaiting f × IsReturning f × IsSlotName plan name
   IsShapedAt maker s plan (UncountObject object) f = HasNoneWaiting f × IsReturning f × IsObjectOf maker s plan object
   IsShapedAt maker s plan (Reset object) f = HasNoneWaiting f × IsReturning f × IsObjectOf maker s plan object
   IsShapedAt maker s plan Merge f = IsReturning f × (f.freed.items ≡ []) × (length f.local.slots ≡ 1) × (0 < length f.local.ranges) × (length f.local.ranges + 1 ≤ s.batch)
   IsShapedAt maker s plan Flush f = IsAiming s plan f × (is_flushed f ≡ false)
-  IsShapedAt maker s plan UncountInstance f = IsAtRest f × IsReturning f
+  IsShapedAt maker s plan UncountInstance f = IsAtRest f × IsReturning f × (stacks_wanted f.asked ≡ 0)
+  IsShapedAt maker s plan (ValidateComponent info) f = IsAtRest f
+  IsShapedAt maker s plan CountComponent f = IsAtRest f
+  IsShapedAt maker s plan UncountComponent f = IsAtRest f × IsReturning f
+  IsShapedAt maker s plan (Purge p step) f = IsAtRest f × IsPurgeAt maker s plan p step
+  IsShapedAt maker s plan (Release step) f = IsAtRest f × IsReleaseAt maker s plan step
 
   -- What holds of a party's frame between steps, over a pool with these settings and this plan.
   pub record IsFrame (maker : MakerTold) (s : Settings) (plan : Plan) (f : Frame P) : Type 0 where
@@ -360,7 +478,7 @@ module _ {P : Type 0} where
     pub queue : IsLocal maker s f.local
     pub freed_room : HasFreedRoom s f
     pub freed_each : All (IsFreedOf plan) f.freed.items
-    pub freed_order : FreesInOrder f.local.slots f.freed.items
+    pub freed_order : AreOfOneKind f.freed.items
     pub objects : AreLeasesOf maker s plan f.objects
     pub shape : IsShapedAt maker s plan f.phase f
 
@@ -369,6 +487,8 @@ module _ {P : Type 0} where
   pub record FitsCore (c : PoolCore P) (f : Frame P) : Type 0 where
     pub once : (t : Thing) → kept_count t c + frame_count t f ≤ away_count t c
     pub others : (name : SlotName) → away_count (region_of name) c + (kept_count (right_to name) c + frame_count (right_to name) f) ≤ away_count (right_to name) c + (kept_count (region_of name) c + frame_count (region_of name) f)
-    pub instances : phase_instances f.phase ≤ c.counters.core_instances
+    pub instances : frame_instances f ≤ c.counters.core_instances
+    pub components : phase_components f.phase ≤ c.counters.component_instances
     pub memories : frame_memories f ≤ c.counters.memories
     pub tables : frame_tables f ≤ c.counters.tables
+    pub stacks : phase_stacks f.phase ≤ c.counters.stacks

@@ -2,6 +2,7 @@
 -- known then.
 use Rattle.std.specs.Prelude.{◌≡◌, ◌⊎◌, ℕ, ◌+◌, ◌<◌, ◌≤◌, length, Bool, false, Option, Some, None, Result, Ok, Err, true}
 use Rattle.pool_pages.specs.MakerTold.{MakerTold}
+use Rattle.pool_pages.specs.declared.module_types.ComponentInfo.{ComponentInfo}
 use Rattle.pool_pages.specs.declared.unsupported.Unsupported.{Unsupported}
 use Rattle.pool_images.specs.Slots.{Slot, IsLeft}
 use Rattle.pool_limits.specs.LimiterTold.{LimiterTold}
@@ -19,44 +20,71 @@ use Rattle.pool_pages.specs.Told.{Told}
 use Rattle.pool_alloc.specs.declared.frame.TakenSlot.{TakenSlot}
 use Rattle.pool_slots.specs.declared.slot_name.SlotName.{SlotName}
 use Rattle.pool_alloc.specs.Places.{right_to, slot_count, instance_count, kept_count, away_count, frame_count}
-use Rattle.pool_alloc.specs.Refusals.{module_refused}
-use Rattle.pool_alloc.specs.Rows.{no_instance_left}
+use Rattle.pool_alloc.specs.Refusals.{module_refused, component_refused}
+use Rattle.pool_alloc.specs.Rows.{no_instance_left, no_component_left}
 use Rattle.pool_alloc.specs.Searches.{IsSearched}
 use Rattle.pool_alloc.specs.Sound.{AreSupported, AreTablesSupported, IsAllocating, IsMemoryNext, IsTableNext, HasSlot}
 use Rattle.pool_slots.specs.Plans.{has_number}
-use Rattle.pool_alloc.specs.Steps.{memories_wanted, images_wanted, tables_wanted, allocator_for, slot_next}
+use Rattle.pool_alloc.specs.Steps.{info_wanted, memories_wanted, images_wanted, tables_wanted, allocator_for, slot_next}
 use Rattle.pool_alloc.specs.Stepping.{is_idle}
 use Rattle.pool_alloc.specs.Turns.{After, no_slot_left}
 use Rattle.pool_alloc.specs.declared.pool_core.PoolCore.{PoolCore}
 use Rattle.pool_alloc.specs.declared.frame.Ending.{Ending}
 use Rattle.pool_alloc.specs.declared.frame.Ending.TheVariants.{Granted as granted, Returned as returned, Refused as refused}
+use Rattle.pool_alloc.specs.declared.frame.Asked.{Asked}
+use Rattle.pool_alloc.specs.declared.frame.Asked.TheVariants.{Stack as stack_asked}
+use Rattle.pool_alloc.specs.declared.frame.Grant.TheVariants.{Instance, Stack}
 use Rattle.pool_alloc.specs.declared.frame.Frame.{Frame}
 use Rattle.pool_alloc.specs.declared.frame.Outcome.{Outcome}
 use Rattle.pool_alloc.specs.declared.frame.Outcome.TheVariants as answer
 use Rattle.pool_alloc.specs.declared.frame.Phase.{Phase}
-use Rattle.pool_alloc.specs.declared.frame.Phase.TheVariants.{Idle, Key, Validate, CountInstance, CountObject}
+use Rattle.pool_alloc.specs.declared.frame.Phase.TheVariants.{Idle, Key, Validate, TestStack, CountInstance, CountObject, ValidateComponent, CountComponent, UncountComponent, Purge, Release}
+use Rattle.pool_alloc.specs.declared.frame.Grant.TheVariants.{Instance, Component}
+use Rattle.pool_alloc.specs.declared.release.ReleaseStep.{ReleaseStep}
+use Rattle.pool_alloc.specs.declared.release.ReleaseStep.TheVariants.{Reserve}
 
 -- how far a request is: its module isn't tested yet; its instance isn't counted yet; it is, and so many of its objects
--- are made
+-- are made; or it is for a stack
 pub data Progress : Type 0 where
   untested : Progress
   uncounted : Progress
   admitted : ℕ → Progress
+  seeks_stack : Progress
 
--- what a party's call is about: nothing; its stripe; a request; a grant that is given back; and a request that is refused
--- once all is given back that it got
+-- what a party's call is about: nothing; its stripe; a request for an instance; a component that isn't tested yet, or that
+-- isn't counted yet; a grant that is given back; and a request that is refused once all is given back that it got. It may
+-- also be a purge, a release that has no room reserved yet, or one that has.
 pub data Stage : Type 0 where
   no_call : Stage
   keys : Stage
   asks : Progress → Stage
+  tests_component : ComponentInfo → Stage
+  counts_component : Stage
   returning : Stage
   refusing : AllocError → Stage
+  purging : Stage
+  reserving : Stage
+  releasing : Stage
 
--- the stage by the ending, where so many memories are made
-abbrev pub stage_by : Ending → ℕ → Stage
-stage_by granted made = asks (admitted made)
-stage_by returned made = returning
-stage_by (refused e) made = refusing e
+-- how the test of a component ends it at once
+abbrev pub IsBroken : Option Unsupported → AllocError → Type 0
+IsBroken (Some rule) e = e ≡ refusal.Unsupported rule
+IsBroken None e = ⊥
+
+-- the stage by the ending, where so many objects are made
+abbrev pub progress_by : Asked → ℕ → Progress
+progress_by stack_asked made = seeks_stack
+progress_by _ made = admitted made
+
+abbrev pub stage_by : Asked → Ending → ℕ → Stage
+stage_by asked granted made = asks (progress_by asked made)
+stage_by asked returned made = returning
+stage_by asked (refused e) made = refusing e
+
+-- the stage of what is counted off
+abbrev pub stage_back : Ending → Stage
+stage_back (refused e) = refusing e
+stage_back _ = returning
 
 -- what the test of a module ends with, where it isn't passed
 abbrev pub IsUntested : Option Unsupported → AllocError → Type 0
@@ -64,16 +92,26 @@ IsUntested (Some rule) e = e ≡ refusal.Unsupported rule
 IsUntested None e = e ≡ refusal.Memory
 
 module _ {P : Type 0} where
-  abbrev pub stage_at : Phase P → Ending → ℕ → Stage
-  stage_at Idle ending granted_so_far = no_call
-  stage_at Key ending granted_so_far = keys
-  stage_at Validate ending granted_so_far = asks untested
-  stage_at CountInstance ending granted_so_far = asks uncounted
-  stage_at (CountObject object) ending granted_so_far = stage_by ending (granted_so_far + 1)
-  stage_at _ ending granted_so_far = stage_by ending granted_so_far
+  abbrev pub stage_of_release : ReleaseStep P → Stage
+  stage_of_release Reserve = reserving
+  stage_of_release _ = releasing
+
+  abbrev pub stage_at : Phase P → Asked → Ending → ℕ → Stage
+  stage_at Idle asked ending granted_so_far = no_call
+  stage_at Key asked ending granted_so_far = keys
+  stage_at Validate asked ending granted_so_far = asks untested
+  stage_at TestStack asked ending granted_so_far = asks seeks_stack
+  stage_at CountInstance asked ending granted_so_far = asks uncounted
+  stage_at (ValidateComponent info) asked ending granted_so_far = tests_component info
+  stage_at CountComponent asked ending granted_so_far = counts_component
+  stage_at UncountComponent asked ending granted_so_far = stage_back ending
+  stage_at (CountObject object) asked ending granted_so_far = stage_by asked ending (granted_so_far + 1)
+  stage_at (Purge p step) asked ending granted_so_far = purging
+  stage_at (Release step) asked ending granted_so_far = stage_of_release step
+  stage_at _ asked ending granted_so_far = stage_by asked ending granted_so_far
 
   abbrev pub stage_of : Frame P → Stage
-  stage_of f = stage_at f.phase f.ending (objects_in f.objects)
+  stage_of f = stage_at f.phase f.asked f.ending (objects_in f.objects)
 
   -- No slot is found for the next object. The call has no slots but those of its objects, and where nobody freed one
   -- meanwhile, each of the allocator is given out, and none lies in a queue.
@@ -120,30 +158,45 @@ module _ {P : Type 0} where
 
   -- Why a step fails a request that is so far.
   abbrev pub Raises : MakerTold → LimiterTold → LimiterTold → PoolCore P → Frame P → Progress → AllocError → Type 0
-  Raises maker old new c f untested e = IsUntested (module_refused c.settings c.plan.totals.table (memories_wanted f.asked) (tables_wanted f.asked)) e
+  Raises maker old new c f untested e = IsUntested (module_refused c.settings c.plan.totals.table (info_wanted f.asked)) e
   Raises maker old new c f uncounted e = (e ≡ no_instance_left c.settings) × (c.settings.max_core_instances ≤ c.counters.core_instances)
+  Raises maker old new c f seeks_stack e = ((e ≡ refusal.StacksDisabled) × (c.settings.stack_size ≡ 0)) ⊎ FindsNone c f 0 e
   Raises maker old new c f (admitted n) e = FindsNone c f n e ⊎ (IsPageFaulted maker c f n e ⊎ (Makes old new c f n (Err e) ⊎ MakesTable old new c f n (Err e)))
 
   -- What is known where a step takes a request on.
   abbrev pub Follows : LimiterTold → LimiterTold → PoolCore P → Frame P → Progress → Progress → Type 0
-  Follows old new c f untested uncounted = module_refused c.settings c.plan.totals.table (memories_wanted f.asked) (tables_wanted f.asked) ≡ None
+  Follows old new c f untested uncounted = module_refused c.settings c.plan.totals.table (info_wanted f.asked) ≡ None
   Follows old new c f uncounted (admitted n) = (n ≡ 0) × (c.counters.core_instances < c.settings.max_core_instances)
   Follows old new c f (admitted n) (admitted m) = (m ≡ n) ⊎ ((m ≡ n + 1) × (((memory : MemoryState) × Makes old new c f n (Ok memory)) ⊎ ((lease : LeasedTable) × MakesTable old new c f n (Ok lease))))
+  Follows old new c f seeks_stack seeks_stack = Unit {0}
   Follows old new c f _ _ = ⊥
 
-  -- How a step may take a call on from one stage to another, with this answer. Only the test of its module ends a request
-  -- at once with a refusal. A grant is of all objects that are asked for, which are supported.
+  -- How a step may take a call on from one stage to another, with this answer. Only the test of its module or its component
+  -- ends a request at once with a refusal; one for a stack has nothing to give back. The grant of an instance is of all objects
+  -- that are asked for, which are supported. A purge is never refused, and a release only for want of memory for its room.
   abbrev pub Goes : MakerTold → LimiterTold → LimiterTold → PoolCore P → Frame P → Stage → Stage → Option (Outcome P) → Type 0
   Goes maker old new c f no_call no_call None = Unit {0}
   Goes maker old new c f keys no_call (Some answer.Key) = Unit {0}
   Goes maker old new c f (asks p) (asks q) None = Follows old new c f p q
   Goes maker old new c f (asks p) (refusing e) None = Raises maker old new c f p e
-  Goes maker old new c f (asks p) no_call (Some (answer.Granted grant)) = Follows old new c f p (admitted (objects_wanted f.asked)) × AreSupported c.settings (memories_wanted f.asked) (images_wanted f.asked) × AreTablesSupported c.settings c.plan.totals.table (tables_wanted f.asked)
+  Goes maker old new c f (asks p) no_call (Some (answer.Granted (Stack lease))) = Follows old new c f p seeks_stack × (0 < c.settings.stack_size)
+  Goes maker old new c f (asks p) no_call (Some (answer.Granted (Instance lease))) = Follows old new c f p (admitted (objects_wanted f.asked)) × AreSupported c.settings (memories_wanted f.asked) (images_wanted f.asked) × AreTablesSupported c.settings c.plan.totals.table (tables_wanted f.asked)
   Goes maker old new c f (asks untested) no_call (Some (answer.Refused e)) = Raises maker old new c f untested e
+  Goes maker old new c f (asks seeks_stack) no_call (Some (answer.Refused e)) = Raises maker old new c f seeks_stack e
+  Goes maker old new c f (tests_component info) counts_component None = component_refused c.settings info ≡ None
+  Goes maker old new c f (tests_component info) no_call (Some (answer.Refused e)) = IsBroken (component_refused c.settings info) e
+  Goes maker old new c f counts_component no_call (Some (answer.Granted Component)) = c.counters.component_instances < c.settings.max_component_instances
+  Goes maker old new c f counts_component (refusing e) None = (e ≡ no_component_left c.settings) × (c.settings.max_component_instances ≤ c.counters.component_instances)
   Goes maker old new c f returning returning None = Unit {0}
   Goes maker old new c f returning no_call (Some answer.Returned) = Unit {0}
   Goes maker old new c f (refusing e) (refusing d) None = d ≡ e
   Goes maker old new c f (refusing e) no_call (Some (answer.Refused d)) = d ≡ e
+  Goes maker old new c f purging purging None = Unit {0}
+  Goes maker old new c f purging no_call (Some (answer.Purged n)) = Unit {0}
+  Goes maker old new c f reserving releasing None = Unit {0}
+  Goes maker old new c f reserving no_call (Some (answer.Refused e)) = e ≡ refusal.Memory
+  Goes maker old new c f releasing releasing None = Unit {0}
+  Goes maker old new c f releasing no_call (Some (answer.Released n)) = Unit {0}
   Goes maker old new c f _ _ _ = ⊥
 
   -- A step takes its call on so. What is asked for stays while it is under way.

@@ -2,12 +2,13 @@
 use Rattle.std.specs.Prelude.{ℕ, ◌==◌, List, [], ◌∷◌, length, filter, min, slice_index_or, slice_set, Bool, not, Option, Some, None, Result, if◌then◌else◌, nat_lt}
 use Rattle.pool_pages.specs.declared.table_type.TableType.{TableType}
 use Rattle.pool_pages.specs.declared.module_types.MemoryDecl.{MemoryDecl}
+use Rattle.pool_pages.specs.declared.module_types.ModuleInfo.{ModuleInfo}
 use Rattle.pool_images.specs.Images.{Image}
 use Rattle.pool_images.specs.Slots.{Slot}
 use Rattle.pool_index.specs.Shard.{ShardState, fresh_shard, after_free}
 use Rattle.pool_index.specs.declared.ids.MemoryInModule.{MemoryInModule}
 use Rattle.pool_hall.specs.declared.unit_name.SlotKind.{SlotKind}
-use Rattle.pool_hall.specs.declared.unit_name.SlotKind.TheVariants.{Memory as memory_kind, Table as table_kind}
+use Rattle.pool_hall.specs.declared.unit_name.SlotKind.TheVariants.{Memory as memory_kind, Table as table_kind, Stack as stack_kind}
 use Rattle.pool_limits.specs.declared.errors.LimiterError.{LimiterError}
 use Rattle.pool_slots.specs.Cells.{Cell, unmapped, unknown, previously_used}
 use Rattle.pool_slots.specs.RegionCells.{CellState}
@@ -21,7 +22,8 @@ use Rattle.pool_slots.specs.declared.part.PoolPart.TheVariants as part
 use Rattle.pool_slots.specs.SlotQueues.{Queue, Queued, empty_queue}
 use Rattle.pool_alloc.specs.declared.pool_core.PoolCore.{PoolCore}
 use Rattle.pool_alloc.specs.declared.frame.Frame.{Frame}
-use Rattle.pool_alloc.specs.Asked.{ModuleAsked}
+use Rattle.pool_alloc.specs.declared.frame.Asked.{Asked}
+use Rattle.pool_alloc.specs.declared.frame.Asked.TheVariants.{Nothing as nothing_asked, Module as module_asked, Stack as stack_asked}
 use Rattle.pool_alloc.specs.declared.frame.FreedSlot.{FreedSlot}
 
 -- What a step is told from outside the table: whether memory was wanting, whether a page call of the step failed, what
@@ -33,24 +35,42 @@ pub record StepGiven : Type 0 where
   pub queue : Queue
   pub limiter : Result Bool LimiterError
 
--- the memories of the module that is asked for, with their images, and its tables
-abbrev pub memories_wanted : Option ModuleAsked → List MemoryDecl
-memories_wanted None = []
-memories_wanted (Some m) = m.info.memories
+-- the module that is asked for; one of nothing, where none is
+abbrev pub no_module : ModuleInfo
+no_module = record { memories = []; tables = []; state_bytes = 0; parts = [] }
+
+abbrev pub info_wanted : Asked → ModuleInfo
+info_wanted (module_asked m) = m.info
+info_wanted _ = no_module
+
+-- its memories, with their images, and its tables
+abbrev pub memories_wanted : Asked → List MemoryDecl
+memories_wanted (module_asked m) = m.info.memories
+memories_wanted _ = []
 
 abbrev pub images_made : Option (List (Option Image)) → List (Option Image)
 images_made None = []
 images_made (Some images) = images
 
-abbrev pub images_wanted : Option ModuleAsked → List (Option Image)
-images_wanted None = []
-images_wanted (Some m) = images_made m.images
+abbrev pub images_wanted : Asked → List (Option Image)
+images_wanted (module_asked m) = images_made m.images
+images_wanted _ = []
 
-abbrev pub tables_wanted : Option ModuleAsked → List TableType
-tables_wanted None = []
-tables_wanted (Some m) = m.info.tables
+abbrev pub tables_wanted : Asked → List TableType
+tables_wanted (module_asked m) = m.info.tables
+tables_wanted _ = []
 
--- how many memory slots there are, and through how many queues a search for a slot goes, a memory's or a table's
+-- whether it is a stack that is asked for, as a number of stacks
+abbrev pub stacks_wanted : Asked → ℕ
+stacks_wanted stack_asked = 1
+stacks_wanted _ = 0
+
+-- a module is asked for
+abbrev pub IsModule : Asked → Type 0
+IsModule (module_asked m) = Unit {0}
+IsModule _ = ⊥
+
+-- how many memory slots there are, and through how many queues a search for a slot goes, a memory's, a table's or a stack's
 abbrev pub memory_slots : Plan → ℕ
 memory_slots plan = plan.totals.memory
 
@@ -64,9 +84,10 @@ no_allocator = record { kind = memory_kind; first_place = 0; shards = 0; slots_p
 abbrev pub stripe_allocator : Plan → ℕ → Allocator
 stripe_allocator plan stripe = slice_index_or plan.memories stripe no_allocator
 
--- and that of the pool's tables
+-- and those of the pool's tables and stacks
 abbrev pub allocator_of : Plan → SlotKind → ℕ → Allocator
 allocator_of plan table_kind stripe = slice_index_or plan.tables 0 no_allocator
+allocator_of plan stack_kind stripe = slice_index_or plan.stacks 0 no_allocator
 allocator_of plan _ stripe = stripe_allocator plan stripe
 
 -- of slots that are to be freed: those of the shard at a place, and the others
@@ -88,15 +109,20 @@ after_frees plan [] shard = shard
 after_frees plan (x ∷ rest) shard = after_frees plan rest (after_free (home_of plan x.name).local x.bytes shard)
 
 -- which memory of the module that is asked for has this number; no slot is affine to a table
-abbrev pub wanted_of : Option ModuleAsked → ℕ → Option MemoryInModule
-wanted_of None index = None
-wanted_of (Some m) index = Some (record { 0 = m.id; 1 = record { 0 = index } })
+abbrev pub wanted_of : Asked → ℕ → Option MemoryInModule
+wanted_of (module_asked m) index = Some (record { 0 = m.id; 1 = record { 0 = index } })
+wanted_of _ index = None
 
-abbrev pub affine_of : SlotKind → Option ModuleAsked → ℕ → Option MemoryInModule
+abbrev pub affine_of : SlotKind → Asked → ℕ → Option MemoryInModule
 affine_of memory_kind asked index = wanted_of asked index
 affine_of _ asked index = None
 
--- what a region's cell holds once its memory or its table is given back
+-- what is allocated: a stack, or for a module a memory until there are so many as it has, and then a table
+abbrev pub kind_by : Asked → ℕ → SlotKind
+kind_by stack_asked granted_so_far = stack_kind
+kind_by asked granted_so_far = if nat_lt granted_so_far (length (memories_wanted asked)) then memory_kind else table_kind
+
+-- what a region's cell holds once its memory, its table or its stack is given back
 abbrev pub returned_as : SlotKind → Queued → Cell
 returned_as memory_kind m = if m.known then previously_used m.slot else unknown m.slot
 returned_as _ m = unmapped m.slot.region
@@ -149,12 +175,16 @@ module _ {P : Type 0} where
   abbrev pub with_queue : ℕ → Queue → PoolCore P → PoolCore P
   with_queue place queue c = with_part place (part.Queue queue) c
 
-  -- the pool with another number of its key counter, another count of instances, of memories, or of tables
+  -- the pool with another number of its key counter, another count of instances, of components, of memories, of tables, or of
+  -- stacks
   abbrev pub counting_keys : ℕ → PoolCore P → PoolCore P
   counting_keys n c = record c { counters = record c.counters { key = n } }
 
   abbrev pub counting_instances : ℕ → PoolCore P → PoolCore P
   counting_instances n c = record c { counters = record c.counters { core_instances = n } }
+
+  abbrev pub counting_components : ℕ → PoolCore P → PoolCore P
+  counting_components n c = record c { counters = record c.counters { component_instances = n } }
 
   abbrev pub counting_memories : ℕ → PoolCore P → PoolCore P
   counting_memories n c = record c { counters = record c.counters { memories = n } }
@@ -162,9 +192,12 @@ module _ {P : Type 0} where
   abbrev pub counting_tables : ℕ → PoolCore P → PoolCore P
   counting_tables n c = record c { counters = record c.counters { tables = n } }
 
-  -- what is allocated: a memory until there are all, and then a table
+  abbrev pub counting_stacks : ℕ → PoolCore P → PoolCore P
+  counting_stacks n c = record c { counters = record c.counters { stacks = n } }
+
+  -- what is allocated next
   abbrev pub kind_next : Frame P → SlotKind
-  kind_next f = if nat_lt (length f.objects.memories.items) (length (memories_wanted f.asked)) then memory_kind else table_kind
+  kind_next f = kind_by f.asked (length f.objects.memories.items)
 
   -- a slot of that kind
   abbrev pub slot_next : ℕ → Frame P → SlotName

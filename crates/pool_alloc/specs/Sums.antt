@@ -1,5 +1,5 @@
 -- What the parts of the pool have together, for its numbers.
-use Rattle.std.specs.Prelude.{ℕ, ◌-◌, ◌^◌, List, length, min, sum_by, map, None, if◌then◌else◌}
+use Rattle.std.specs.Prelude.{ℕ, ◌-◌, ◌^◌, List, length, min, sum_by, map, None, Some, if◌then◌else◌}
 use Rattle.pool_pages.specs.declared.pages.PageCalls.{PageCalls}
 use Rattle.pool_index.specs.Shard.{resident_bytes}
 use Rattle.pool_memory.specs.Memories.{slot_of}
@@ -8,7 +8,7 @@ use Rattle.pool_pages.specs.CallSums.{added}
 use Rattle.pool_slots.specs.Cells.{all_calls, calls_in}
 use Rattle.pool_slots.specs.CellOf.{cell_of}
 use Rattle.pool_alloc.specs.declared.frame.Object.{Object}
-use Rattle.pool_alloc.specs.declared.frame.Object.TheVariants.{Memory, Table}
+use Rattle.pool_alloc.specs.declared.frame.Object.TheVariants.{Memory, Table, Stack}
 use Rattle.pool_alloc.specs.declared.lease.InstanceLease.{InstanceLease}
 use Rattle.pool_slots.specs.declared.part.PoolPart.{PoolPart}
 use Rattle.pool_slots.specs.declared.part.PoolPart.TheVariants as part
@@ -16,7 +16,7 @@ use Rattle.pool_slots.specs.SlotQueues.{calls_held, same_kind}
 use Rattle.std.specs.Option.{option_map_or}
 use Rattle.pool_pages.specs.Told.{Told}
 use Rattle.pool_hall.specs.declared.unit_name.SlotKind.{SlotKind}
-use Rattle.pool_hall.specs.declared.unit_name.SlotKind.TheVariants.{Memory as memory_kind, Table as table_kind}
+use Rattle.pool_hall.specs.declared.unit_name.SlotKind.TheVariants.{Memory as memory_kind, Table as table_kind, Stack as stack_kind}
 use Rattle.pool_alloc.specs.Leases.{Lease}
 use Rattle.pool_alloc.specs.TableLeases.{LeasedTable}
 use Rattle.pool_alloc.specs.declared.pool_core.PoolCore.{PoolCore}
@@ -24,6 +24,11 @@ use Rattle.pool_alloc.specs.declared.metrics.Metrics.{Metrics}
 use Rattle.pool_alloc.specs.declared.frame.Frame.{Frame}
 use Rattle.pool_alloc.specs.declared.frame.Phase.{Phase}
 use Rattle.pool_alloc.specs.declared.frame.Phase.TheVariants.{Empty, Instantiate, MakeMemory, MakeTable, CountObject, PutBack, UncountObject, Reset}
+use Rattle.pool_alloc.specs.declared.frame.Phase.TheVariants.{Purge, Release}
+use Rattle.pool_alloc.specs.declared.purge.PurgeStep.{PurgeStep}
+use Rattle.pool_alloc.specs.declared.purge.PurgeStep.TheVariants as purging_step
+use Rattle.pool_alloc.specs.declared.release.ReleaseStep.{ReleaseStep}
+use Rattle.pool_alloc.specs.declared.release.ReleaseStep.TheVariants as releasing_step
 
 -- how many slots of a kind are warm in the shards, and how many bytes those keep resident, up to the ends of their types
 abbrev pub warm_in : {P : Type 0} → SlotKind → PoolPart P → ℕ
@@ -44,6 +49,7 @@ resident_sum kind parts = min (sum_by (resident_in kind) parts) (2 ^ 64 - 1)
 abbrev pub part_calls : {P : Type 0} → PoolPart P → PageCalls
 part_calls (part.Memory cell) = calls_in cell.holds
 part_calls (part.Table cell) = calls_in cell.holds
+part_calls (part.Stack cell) = calls_in cell.holds
 part_calls (part.Queue q) = calls_held q.slots
 part_calls _ = no_calls
 
@@ -58,6 +64,7 @@ table_calls l = option_map_or (λ (region : Told). region.calls) l.table.region 
 abbrev pub calls_of_object : {P : Type 0} → Object P → PageCalls
 calls_of_object (Memory lease) = (slot_of lease.memory).region.calls
 calls_of_object (Table lease) = table_calls lease
+calls_of_object (Stack lease) = lease.stack.slot.region.calls
 
 abbrev pub calls_of_leases : List Lease → PageCalls
 calls_of_leases leases = all_calls (map (λ l. (slot_of l.memory).region.calls) leases)
@@ -73,6 +80,17 @@ module _ {P : Type 0} where
   abbrev pub calls_kept : PoolCore P → PageCalls
   calls_kept c = calls_of_parts c.parts
 
+  -- the calls on the region that a purge has taken for its next step, and a release
+  abbrev pub calls_in_purge : PurgeStep P → PageCalls
+  calls_in_purge (purging_step.Forget at held) = calls_in (cell_of held)
+  calls_in_purge (purging_step.PutRegion at held) = calls_in (cell_of held)
+  calls_in_purge _ = no_calls
+
+  abbrev pub calls_in_release : ReleaseStep P → PageCalls
+  calls_in_release (releasing_step.Decommit r k at held) = calls_in (cell_of held)
+  calls_in_release (releasing_step.PutRegion r k at held) = calls_in (cell_of held)
+  calls_in_release _ = no_calls
+
   -- the calls on the region that a call has taken for its next step, and on all that it has
   abbrev pub calls_in_phase : Phase P → PageCalls
   calls_in_phase (Empty at held) = held.region.calls
@@ -83,6 +101,8 @@ module _ {P : Type 0} where
   calls_in_phase (PutBack at held) = calls_in (cell_of held)
   calls_in_phase (UncountObject object) = calls_of_object object
   calls_in_phase (Reset object) = calls_of_object object
+  calls_in_phase (Purge p step) = calls_in_purge step
+  calls_in_phase (Release step) = calls_in_release step
   calls_in_phase _ = no_calls
 
   abbrev pub calls_in_frame : Frame P → PageCalls
@@ -92,15 +112,15 @@ module _ {P : Type 0} where
   abbrev pub metrics_of : PoolCore P → Metrics
   metrics_of c = record {
     core_instances = c.counters.core_instances;
-    component_instances = 0;
+    component_instances = c.counters.component_instances;
     memories = c.counters.memories;
     tables = c.counters.tables;
-    stacks = 0;
+    stacks = c.counters.stacks;
     gc_heaps = 0;
     unused_warm_memories = warm_slots memory_kind c.parts;
     unused_memory_bytes_resident = resident_sum memory_kind c.parts;
     unused_warm_tables = warm_slots table_kind c.parts;
     unused_table_bytes_resident = resident_sum table_kind c.parts;
-    unused_warm_stacks = 0;
-    unused_stack_bytes_resident = None;
+    unused_warm_stacks = warm_slots stack_kind c.parts;
+    unused_stack_bytes_resident = if c.settings.stack_zeroing then Some (resident_sum stack_kind c.parts) else None;
   }

@@ -4,15 +4,17 @@ use Rattle.std.specs.Prelude.{◌&&◌, ◌==◌, List, [], ◌∷◌, length, B
 use Rattle.pool_slots.specs.declared.errors.AllocError.{AllocError}
 use Rattle.pool_slots.specs.declared.errors.AllocError.TheVariants as refusal
 use Rattle.pool_slots.specs.declared.errors.ConcurrencyKind.{ConcurrencyKind}
-use Rattle.pool_slots.specs.declared.errors.ConcurrencyKind.TheVariants.{MemoryStripe, Tables}
+use Rattle.pool_slots.specs.declared.errors.ConcurrencyKind.TheVariants.{MemoryStripe, Tables, Fibers}
 use Rattle.pool_alloc.specs.Objects.{objects_in, objects_wanted, no_objects}
 use Rattle.pool_hall.specs.declared.unit_name.SlotKind.{SlotKind}
-use Rattle.pool_hall.specs.declared.unit_name.SlotKind.TheVariants.{Table as table_kind}
+use Rattle.pool_hall.specs.declared.unit_name.SlotKind.TheVariants.{Table as table_kind, Stack as stack_kind}
 use Rattle.pool_alloc.specs.Leases.{Lease}
 use Rattle.pool_alloc.specs.TableLeases.{LeasedTable}
 use Rattle.pool_alloc.specs.Steps.{queues_searched, allocator_for, kind_next}
 use Rattle.pool_alloc.specs.declared.pool_core.PoolCore.{PoolCore}
 use Rattle.pool_slots.specs.declared.plan.Plan.{Plan}
+use Rattle.pool_alloc.specs.declared.frame.Asked.{Asked}
+use Rattle.pool_alloc.specs.declared.frame.Asked.TheVariants.{Nothing as nothing_asked, Stack as stack_asked}
 use Rattle.pool_alloc.specs.declared.frame.Frame.{Frame}
 use Rattle.pool_alloc.specs.declared.frame.Phase.{Phase}
 use Rattle.pool_alloc.specs.declared.frame.Phase.TheVariants.{Idle, Pick, TakeQueue, UncountObject, Flush, UncountInstance}
@@ -63,6 +65,7 @@ pub record After (P : Type 0) : Type 0 where
 -- what it is that the pool has no more of
 abbrev pub limit_of : SlotKind → ℕ → ConcurrencyKind
 limit_of table_kind stripe = Tables
+limit_of stack_kind stripe = Fibers
 limit_of _ stripe = MemoryStripe stripe
 
 -- the call is to end with a grant
@@ -84,13 +87,23 @@ module _ {P : Type 0} where
 
   -- a call that ends leaves nothing of itself but the number of its steps
   abbrev pub ends_with : Frame P → Outcome P → Left P
-  ends_with f outcome = record { frame = record f { phase = Idle; asked = None; ending = returned; queues = 0; step_count = (f.step_count + 1) % 2 ^ 64 }; outcome = Some outcome }
+  ends_with f outcome = record { frame = record f { phase = Idle; asked = nothing_asked; ending = returned; queues = 0; step_count = (f.step_count + 1) % 2 ^ 64 }; outcome = Some outcome }
 
-  -- the next of these memories is given back, or of these tables, or else the instance
+  -- the answer that a call ends with once all is given back
+  abbrev pub answer_of : Ending → Outcome P
+  answer_of (refused e) = answer.Refused e
+  answer_of _ = answer.Returned
+
+  -- Where no object is left, the instance is given back; a call for a stack counts none, and ends.
+  abbrev pub all_returned : Asked → Frame P → Left P
+  all_returned stack_asked f = ends_with f (answer_of f.ending)
+  all_returned _ f = goes_to f UncountInstance
+
+  -- the next of these memories is given back, or of these tables, or else all of them are
   abbrev pub returned_next : List Lease → List LeasedTable → Frame P → Left P
   returned_next (lease ∷ rest) tables f = goes_to (record f { objects = record f.objects { memories = record f.objects.memories { items = rest } } }) (UncountObject (Memory lease))
   returned_next [] (lease ∷ rest) f = goes_to (record f { objects = record f.objects { tables = record f.objects.tables { items = rest } } }) (UncountObject (Table lease))
-  returned_next [] [] f = goes_to f UncountInstance
+  returned_next [] [] f = all_returned f.asked f
 
   -- a slot is picked for the next object of the instance, or the instance is whole
   abbrev pub granted_next : Frame P → Left P

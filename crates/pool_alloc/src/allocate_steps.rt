@@ -1,6 +1,4 @@
 ghost use Rattle.std.specs.Prelude.{◌≡◌, ◌+◌, ◌<◌, ◌≤◌, ◌^◌, length, false, IsSome, None};
-ghost use Rattle.pool_pages.specs.Count.{count};
-ghost use Rattle.pool_images.specs.Slots.{IsFresh};
 ghost use Rattle.pool_index.specs.Shard.{use_of};
 ghost use Rattle.pool_slots.specs.Cells.{is_taken, unmapped, IsCleanOnceUsed};
 ghost use Rattle.pool_slots.specs.CellOf.{cell_of};
@@ -88,7 +86,7 @@ impl<P: Pages> PoolCore<P> {
     pub(crate) fn take_region(&mut self, frame: &mut Frame<P>, name: SlotName) -> Option<Outcome<P>>
         requires place { CanPlace self.old.plan name }
         requires cell { IsAt IsCellPart (cell_place self.old.plan name) self.old.parts }
-        requires can { CanTakeRegion self.old.settings name.kind (cell_named name self.old) }
+        requires can { CanTakeRegion self.old.settings name (cell_named name self.old) }
         ensures { ◌≡◌ {A = After P} (record { core = self.new; frame = frame.new; outcome = result }) (stepped (in_cell name self.old (take_region_on self.old.settings name (cell_named name self.old) frame.old))) }
     {
         let place = self.plan.cell_place(name);
@@ -109,6 +107,7 @@ impl<P: Pages> PoolCore<P> {
         match object {
             Object::Memory(lease) => self.count_memory(alloc, frame, lease),
             Object::Table(lease) => self.count_table(alloc, frame, lease),
+            Object::Stack(lease) => self.count_stack(frame, lease),
         }
     }
 

@@ -1,21 +1,22 @@
 ghost use Rattle.std.specs.Prelude.{◌≡◌, ◌<◌, length, true, false, List, if◌then◌else◌};
-ghost use Rattle.pool_pages.specs.Count.{count};
-ghost use Rattle.pool_images.specs.Slots.{IsClean, IsFresh};
+ghost use Rattle.pool_images.specs.Slots.{IsClean};
 ghost use Rattle.pool_slots.specs.Cells.{is_taken, unmapped, unknown, previously_used, IsCleanOnceUsed};
 ghost use Rattle.pool_slots.specs.RegionCells.{CellState};
 ghost use Rattle.pool_slots.specs.CellOf.{cell_of};
 ghost use Rattle.pool_slots.specs.SlotQueues.{Queued, IsSettled};
+ghost use Rattle.pool_alloc.specs.CanStep.{CanBeImage, CanUnmap};
 ghost use Rattle.pool_alloc.specs.Own.{image_made};
 ghost use Rattle.pool_alloc.specs.Rows.{take_region_on, put_back_on, region_put, unmapped_next};
 ghost use Rattle.pool_alloc.specs.Steps.{cell_returned};
 ghost use Rattle.pool_alloc.specs.Turns.{PartAfter, part_after, goes};
 
-use crate::frame::{Frame, FreedSlot, Outcome, Phase, TakenSlot};
+use crate::frame::{Frame, FreedSlot, Object, Outcome, Phase, TakenSlot};
 use crate::pool_core::Settings;
+use crate::stack_steps::stack_made;
 use pool_images::MemoryImageSlot;
 use pool_index::SlotKind;
 use pool_pages::{PageRegion, Pages};
-use pool_slots::{HeldSlot, ImageSlot, QueuedSlot, RegionCell, SlotName};
+use pool_slots::{HeldSlot, ImageSlot, QueuedSlot, RegionCell, SlotName, stripe_colour};
 use std::alloc::Global;
 
 // Takes the region of a slot out of its cell. An image slot is made of a region that was never used.
@@ -26,7 +27,7 @@ pub(crate) fn take_region<P: Pages>(
     name: SlotName,
 ) -> Option<Outcome<P>>
     requires there { is_taken cell.old.holds ≡ false }
-    requires fresh { (region : _) → name.kind ≡ SlotKind.Memory → cell.old.holds ≡ unmapped region → IsFresh (count settings.now.page 0) (count settings.now.page 0) settings.now.max_memory_size None region }
+    requires fresh { (region : _) → cell.old.holds ≡ unmapped region → CanUnmap settings.now name region }
     ensures { ◌≡◌ {A = PartAfter CellState P} (record { part = cell.new; frame = frame.new; outcome = result }) (part_after (take_region_on settings.now name cell.old frame.old)) }
 {
     let (held, numbers) = cell.take();
@@ -40,31 +41,36 @@ pub(crate) fn take_region<P: Pages>(
     frame.go(phase)
 }
 
-// What comes next with a region that lies in its cell as it was made, or that is a table's. The other kinds have no cells
-// yet.
+// What comes next with a region that lies in its cell as it was made, or that is a table's or a stack's. Heaps have no cells.
 fn unmapped_next<P: Pages>(settings: &Settings, at: TakenSlot, region: PageRegion<P>) -> Phase<P>
-    requires { at.name.kind ≡ SlotKind.Memory → IsFresh (count settings.now.page 0) (count settings.now.page 0) settings.now.max_memory_size None region }
+    requires { CanUnmap settings.now at.name region }
     ensures { goes result ≡ unmapped_next settings.now at.name.kind at region }
 {
     match at.name.kind {
-        SlotKind::Memory => Phase::Instantiate(at, image_slot_of(settings, region)),
+        SlotKind::Memory => Phase::Instantiate(at, image_slot_of(settings, at.name.slot, region)),
         SlotKind::Table => Phase::MakeTable(at, region),
-        _ => Phase::Idle,
+        SlotKind::Stack => Phase::CountObject(Object::Stack(stack_made(settings, at, region))),
+        SlotKind::Heap => Phase::Idle,
     }
 }
 
-// The image slot of a region that was never used.
-fn image_slot_of<P: Pages>(settings: &Settings, region: PageRegion<P>) -> MemoryImageSlot<P>
-    requires { IsFresh (count settings.now.page 0) (count settings.now.page 0) settings.now.max_memory_size None region }
-    ensures { result ≡ image_made settings.now.page settings.now.max_memory_size region }
+// The image slot of a region that was never used, in the colour of its stripe.
+fn image_slot_of<P: Pages>(
+    settings: &Settings,
+    slot: u32,
+    region: PageRegion<P>,
+) -> MemoryImageSlot<P>
+    requires { CanBeImage settings.now slot region }
+    ensures { result ≡ image_made settings.now slot region }
 {
     let none = settings.page.zero();
+    let colour = stripe_colour(slot, settings.num_stripes);
     MemoryImageSlot::create(
         region.into_pages(),
         none,
         none,
         settings.max_memory_size,
-        None,
+        colour,
     )
 }
 
@@ -100,7 +106,7 @@ pub(crate) fn put_region<P: Pages>(
     frame.flush(alloc)
 }
 
-// What a region's cell holds once its memory or its table is given back.
+// What a region's cell holds once its memory, its table or its stack is given back.
 fn cell_returned<P: Pages>(item: QueuedSlot<P>) -> ImageSlot<P>
     requires settled { IsSettled item }
     ensures value { cell_of result ≡ cell_returned item }

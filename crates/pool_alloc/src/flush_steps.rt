@@ -2,7 +2,7 @@ ghost use Rattle.std.specs.Prelude.{◌≡◌, ◌<◌, ◌≤◌, ◌^◌, [], 
 ghost use Rattle.pool_slots.specs.SlotQueues.{Queue, HasOwners, IsSettled};
 ghost use Rattle.pool_alloc.specs.Answers.{FlushTold, FlushPlanned, Decommits, FollowsRun};
 ghost use Rattle.pool_alloc.specs.CanStep.{CanPlace, CanTryQueue, CanFree, CanFlush};
-ghost use Rattle.pool_alloc.specs.Rows.{SettlesTo, flush_step, settled_step, freed_step, tables_step, put_step, some_freed, in_queue, in_cell, region_put, merge_on, decommit_row, free_row, flush_row};
+ghost use Rattle.pool_alloc.specs.Rows.{SettlesTo, flush_kinds, kind_queued, kind_settled, flush_step, settled_step, put_step, in_queue, in_cell, region_put, merge_on, decommit_row, free_row, flush_row};
 ghost use Rattle.pool_slots.specs.Plans.{cell_place};
 ghost use Rattle.pool_slots.specs.QueueMerges.{CanMerge};
 ghost use Rattle.pool_slots.specs.Parts.{IsAt, IsShardPart, IsCellPart};
@@ -16,7 +16,7 @@ use crate::pool_core::PoolCore;
 use crate::reserved::ReservedList;
 use pool_index::SlotKind;
 use pool_pages::Pages;
-use pool_slots::QueuedSlot;
+use pool_slots::{DecommitQueue, QueuedSlot};
 use std::alloc::Global;
 
 impl<P: Pages> PoolCore<P> {
@@ -40,51 +40,34 @@ impl<P: Pages> PoolCore<P> {
         if frame.local.raw_len() > 0 {
             return self.decommit(alloc, frame);
         }
-        self.settle(alloc, frame)
+        let kind = kind_settled(&frame.local, &frame.freed);
+        self.settle(alloc, frame, kind)
     }
 
-    // The same where no ranges are left: memories are put back and freed, and then tables.
-    fn settle(&mut self, alloc: Global, frame: &mut Frame<P>) -> Option<Outcome<P>>
+    // The same where no ranges are left: the slots of one kind are zeroed where that has to be, put back and freed.
+    fn settle(&mut self, alloc: Global, frame: &mut Frame<P>, kind: SlotKind) -> Option<Outcome<P>>
         requires none { frame.old.local.ranges ≡ [] }
-        requires can { CanFlush (settled_step frame.old.local.slots frame.old.freed.items) self.old frame.old }
-        ensures { SettlesTo (settled_step frame.old.local.slots frame.old.freed.items) self.old frame.old (record { core = self.new; frame = frame.new; outcome = result }) }
+        requires can { CanFlush (settled_step kind frame.old.local.slots) self.old frame.old }
+        ensures { SettlesTo (settled_step kind frame.old.local.slots) self.old frame.old (record { core = self.new; frame = frame.new; outcome = result }) }
     {
-        match frame.local.pop(SlotKind::Memory) {
-            Some(item) => self.put_region(alloc, frame, item),
-            None => self.settle_freed(alloc, frame),
-        }
-    }
-
-    // Where no memory is queued.
-    fn settle_freed(&mut self, alloc: Global, frame: &mut Frame<P>) -> Option<Outcome<P>>
-        requires none { frame.old.local.ranges ≡ [] }
-        requires can { CanFlush (freed_step frame.old.local.slots frame.old.freed.items) self.old frame.old }
-        ensures { SettlesTo (freed_step frame.old.local.slots frame.old.freed.items) self.old frame.old (record { core = self.new; frame = frame.new; outcome = result }) }
-    {
-        if some_freed(SlotKind::Memory, &frame.freed) {
-            return self.free(alloc, frame);
-        }
-        self.settle_tables(alloc, frame)
-    }
-
-    // Where none waits to be freed either: tables are zeroed where that has to be, put back and freed.
-    fn settle_tables(&mut self, alloc: Global, frame: &mut Frame<P>) -> Option<Outcome<P>>
-        requires none { frame.old.local.ranges ≡ [] }
-        requires can { CanFlush (tables_step frame.old.local.slots) self.old frame.old }
-        ensures { SettlesTo (tables_step frame.old.local.slots) self.old frame.old (record { core = self.new; frame = frame.new; outcome = result }) }
-    {
-        if frame.local.zero_next(SlotKind::Table) {
+        if frame.local.zero_next(kind) {
             return frame.flush(alloc);
         }
-        self.put_table(alloc, frame)
+        self.put_next(alloc, frame, kind)
     }
 
-    fn put_table(&mut self, alloc: Global, frame: &mut Frame<P>) -> Option<Outcome<P>>
+    // Where none of them is to be zeroed.
+    fn put_next(
+        &mut self,
+        alloc: Global,
+        frame: &mut Frame<P>,
+        kind: SlotKind,
+    ) -> Option<Outcome<P>>
         requires none { frame.old.local.ranges ≡ [] }
-        requires can { CanFlush (put_step frame.old.local.slots) self.old frame.old }
-        ensures { SettlesTo (put_step frame.old.local.slots) self.old frame.old (record { core = self.new; frame = frame.new; outcome = result }) }
+        requires can { CanFlush (put_step kind frame.old.local.slots) self.old frame.old }
+        ensures { SettlesTo (put_step kind frame.old.local.slots) self.old frame.old (record { core = self.new; frame = frame.new; outcome = result }) }
     {
-        match frame.local.pop(SlotKind::Table) {
+        match frame.local.pop(kind) {
             Some(item) => self.put_region(alloc, frame, item),
             None => self.free(alloc, frame),
         }
@@ -130,12 +113,28 @@ impl<P: Pages> PoolCore<P> {
     }
 }
 
-// Whether slots of a kind are still to be freed: those that wait are all of one kind.
-fn some_freed(kind: SlotKind, freed: &ReservedList<FreedSlot>) -> bool
-    ensures { result ≡ some_freed kind freed.now.items }
+// The kind of the slots that go back: of those that wait to be freed, or else the first that is queued.
+fn kind_settled<P: Pages>(local: &DecommitQueue<P>, freed: &ReservedList<FreedSlot>) -> SlotKind
+    ensures { result ≡ kind_settled local.now.slots freed.now.items }
 {
     if freed.is_empty() {
-        return false;
+        return kind_queued(local);
     }
-    kind == freed.get(0).name.kind
+    freed.get(0).name.kind
+}
+
+// Memories go back before tables, and tables before stacks.
+fn kind_queued<P: Pages>(local: &DecommitQueue<P>) -> SlotKind
+    ensures { result ≡ kind_queued flush_kinds local.now.slots }
+{
+    if local.holds_kind(SlotKind::Memory) {
+        return SlotKind::Memory;
+    }
+    if local.holds_kind(SlotKind::Table) {
+        return SlotKind::Table;
+    }
+    if local.holds_kind(SlotKind::Stack) {
+        return SlotKind::Stack;
+    }
+    SlotKind::Memory
 }

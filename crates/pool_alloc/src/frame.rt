@@ -1,8 +1,11 @@
 use crate::lease::{InstanceLease, MemoryLease};
+use crate::purge::{PurgeCursor, PurgeStep};
+use crate::release::ReleaseStep;
 use crate::reserved::ReservedList;
+use crate::stack_lease::StackLease;
 use crate::table_lease::TableLease;
 use pool_images::{MemoryImageSlot, ModuleMemoryImages};
-use pool_pages::{CompiledModuleId, ModuleInfo, PageRegion, Pages};
+use pool_pages::{CompiledModuleId, ComponentInfo, ModuleInfo, PageRegion, Pages};
 use pool_slots::{AllocError, DecommitQueue, ImageSlot, RegionNumbers, SlotName};
 use std::marker::Model;
 use std::sync::Arc;
@@ -31,6 +34,9 @@ impl Model for ModuleCall {
 #[derive(Drop)]
 pub enum Grant<P: Pages> {
     Instance(InstanceLease<P>),
+    /// It holds nothing, and counts.
+    Component,
+    Stack(StackLease<P>),
 }
 
 /// A call of a party on the core.
@@ -38,8 +44,17 @@ pub enum Grant<P: Pages> {
 pub enum Call<P: Pages> {
     /// Gives the party its stripe.
     Key,
+    /// Asks for an instance.
     Module(ModuleCall),
+    /// Counts a component, where it breaks no rule.
+    Component(ComponentInfo),
+    /// Asks for a fiber's stack.
+    Stack,
     GiveBack(Grant<P>),
+    /// Forgets what warm slots hold of a compiled module.
+    Purge(CompiledModuleId),
+    /// Gives the memory back that warm slots keep resident.
+    Release,
 }
 
 /// The answer to a call, which comes with its last step.
@@ -48,7 +63,20 @@ pub enum Outcome<P: Pages> {
     Key,
     Granted(Grant<P>),
     Returned,
+    /// How many slots were purged.
+    Purged(u64),
+    /// How many bytes were released.
+    Released(u64),
     Refused(AllocError),
+}
+
+/// What a call is about: what it asks for, or the stack that it gives back.
+#[derive(Drop)]
+pub enum Asked {
+    /// An instance is given back, or nothing is asked for.
+    Nothing,
+    Module(ModuleCall),
+    Stack,
 }
 
 /// What a call is to end with, as far as it went. A step that fails sets it.
@@ -73,11 +101,12 @@ pub struct TakenSlot {
     pub numbers: RegionNumbers,
 }
 
-/// What is allocated for an instance, one after the other.
+/// What is allocated for a request, one after the other.
 #[derive(Drop)]
 pub enum Object<P: Pages> {
     Memory(MemoryLease<P>),
     Table(TableLease<P>),
+    Stack(StackLease<P>),
 }
 
 /// The step that a party makes next, with what it has taken for it.
@@ -89,6 +118,8 @@ pub enum Phase<P: Pages> {
     Key,
     /// Test the module, and reserve the lists of what it will be granted.
     Validate,
+    /// Test whether stacks are enabled.
+    TestStack,
     CountInstance,
     /// Pick a slot from the shard that is so many after the home shard.
     Pick(u32),
@@ -112,11 +143,19 @@ pub enum Phase<P: Pages> {
     Reset(Object<P>),
     /// Append the local queue to the home queue.
     Merge,
-    /// The next part of a flush of the local queue: decommit the next ranges of one slot; where there are none, put the
-    /// region of a memory back; where there is none, free the slots of one shard; then the same of tables, each of which is
-    /// zeroed by hand first where a decommit failed.
+    /// The next part of a flush of the local queue: decommit the next ranges of one slot; where there are none, of the
+    /// memories first, then of the tables and then of the stacks: zero one by hand, where a decommit failed; put the region
+    /// of one back; or free the slots of one shard.
     Flush,
     UncountInstance,
+    /// Test the component that is asked for.
+    ValidateComponent(ComponentInfo),
+    CountComponent,
+    UncountComponent,
+    /// A step of a purge.
+    Purge(PurgeCursor, PurgeStep<P>),
+    /// A step of a release.
+    Release(ReleaseStep<P>),
 }
 
 /// A party's place in the core: its home, its stripe, a queue of its own, and what its call has picked or taken.
@@ -126,8 +165,8 @@ pub struct Frame<P: Pages> {
     pub home: u32,
     /// The stripe in which the party's memories lie.
     pub stripe: u32,
-    /// The module of which an instance is asked for.
-    pub asked: Option<ModuleCall>,
+    /// What the call is about.
+    pub asked: Asked,
     /// What the call is to end with.
     pub ending: Ending,
     /// What was granted so far, in order, or what is still to be given back: the ending says which.

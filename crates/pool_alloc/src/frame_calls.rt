@@ -1,14 +1,16 @@
-ghost use Rattle.std.specs.Prelude.{◌≡◌, ◌<◌, ◌^◌, length};
+ghost use Rattle.std.specs.Prelude.{◌≡◌, ◌<◌, ◌^◌, length, nat_lt, if◌then◌else◌};
 ghost use Rattle.pool_pages.specs.MakerTold.{MakerTold};
 ghost use Rattle.pool_alloc.specs.Calls.{IsIdle, MayBegin, begun_call, gives_back};
 ghost use Rattle.pool_alloc.specs.Sound.{IsFrame};
 ghost use Rattle.pool_slots.specs.declared.plan.Plan.{Plan};
 ghost use Rattle.pool_alloc.specs.declared.pool_core.Settings.{Settings};
 ghost use Rattle.pool_alloc.specs.Sums.{calls_in_frame, calls_in_phase, calls_of_object};
-ghost use Rattle.pool_alloc.specs.Steps.{memories_wanted, wanted, tables_wanted, kind_next, wanted_of};
+ghost use Rattle.pool_alloc.specs.Steps.{memories_wanted, wanted, tables_wanted, stacks_wanted, kind_next, wanted_of};
 ghost use Rattle.pool_alloc.specs.Objects.{objects_wanted};
 
-use crate::frame::{Call, Ending, Frame, Grant, Object, Phase};
+use crate::frame::{Asked, Call, Ending, Frame, Grant, Object, Phase};
+use crate::purge::{PurgeCursor, PurgeStep};
+use crate::release::ReleaseStep;
 use pool_index::{MemoryInModule, SlotKind};
 use pool_pages::{DefinedMemoryIndex, PageCalls, Pages};
 
@@ -25,25 +27,58 @@ impl<P: Pages> Frame<P> {
                 self.step_count = 0;
             }
             Call::Module(module) => {
-                self.asked = Some(module);
+                self.asked = Asked::Module(module);
                 self.ending = Ending::Granted;
                 self.queues = 0;
                 self.enter(Phase::Validate);
                 self.step_count = 0;
             }
+            Call::Component(info) => {
+                self.ending = Ending::Granted;
+                self.enter(Phase::ValidateComponent(info));
+                self.step_count = 0;
+            }
+            Call::Stack => {
+                self.asked = Asked::Stack;
+                self.ending = Ending::Granted;
+                self.queues = 0;
+                self.enter(Phase::TestStack);
+                self.step_count = 0;
+            }
             Call::GiveBack(grant) => self.give_back(grant),
+            Call::Purge(id) => {
+                self.enter(Phase::Purge(PurgeCursor::new(id), PurgeStep::Pick(0)));
+                self.step_count = 0;
+            }
+            Call::Release => {
+                self.enter(Phase::Release(ReleaseStep::Reserve));
+                self.step_count = 0;
+            }
         }
     }
 
-    // The objects of an instance are given back in order, and then the instance.
+    // The objects of an instance are given back in order, and then the instance. A component is counted off, and a stack is given
+    // back at once.
     fn give_back(&mut self, grant: Grant<P>)
         ensures { self.new ≡ gives_back grant self.old }
     {
         match grant {
             Grant::Instance(lease) => {
+                self.asked = Asked::Nothing;
                 self.objects = lease;
                 self.ending = Ending::Returned;
                 let _none = self.return_next();
+                self.step_count = 0;
+            }
+            Grant::Component => {
+                self.ending = Ending::Returned;
+                self.enter(Phase::UncountComponent);
+                self.step_count = 0;
+            }
+            Grant::Stack(lease) => {
+                self.asked = Asked::Stack;
+                self.ending = Ending::Returned;
+                self.enter(Phase::UncountObject(Object::Stack(lease)));
                 self.step_count = 0;
             }
         }
@@ -69,8 +104,8 @@ impl<P: Pages> Frame<P> {
         ensures { result ≡ length (memories_wanted self.now.asked) }
     {
         match &self.asked {
-            None => 0,
-            Some(call) => call.info.memories.len(),
+            Asked::Module(call) => call.info.memories.len(),
+            _ => 0,
         }
     }
 
@@ -78,8 +113,18 @@ impl<P: Pages> Frame<P> {
         ensures { result ≡ length (tables_wanted self.now.asked) }
     {
         match &self.asked {
-            None => 0,
-            Some(call) => call.info.tables.len(),
+            Asked::Module(call) => call.info.tables.len(),
+            _ => 0,
+        }
+    }
+
+    // Whether a stack is asked for, as a number of stacks.
+    fn stacks_wanted(&self) -> u128
+        ensures { result ≡ stacks_wanted self.now.asked }
+    {
+        match &self.asked {
+            Asked::Stack => 1,
+            _ => 0,
         }
     }
 
@@ -87,12 +132,21 @@ impl<P: Pages> Frame<P> {
     pub(crate) fn objects_wanted(&self) -> u128
         ensures { result ≡ objects_wanted self.now.asked }
     {
-        self.memories_wanted() as u128 + self.tables_wanted() as u128
+        self.memories_wanted() as u128 + self.tables_wanted() as u128 + self.stacks_wanted()
     }
 
-    // What is allocated: a memory until there are all, and then a table.
+    // What is allocated: a stack, or for a module a memory until there are all, and then a table.
     pub(crate) fn kind_next(&self) -> SlotKind
         ensures { result ≡ kind_next self.now }
+    {
+        match &self.asked {
+            Asked::Stack => SlotKind::Stack,
+            _ => self.object_next(),
+        }
+    }
+
+    fn object_next(&self) -> SlotKind
+        ensures { result ≡ (if nat_lt (length self.now.objects.memories.items) (length (memories_wanted self.now.asked)) then SlotKind.Memory else SlotKind.Table) }
     {
         if self.objects.memories.len() < self.memories_wanted() {
             SlotKind::Memory
@@ -118,8 +172,8 @@ impl<P: Pages> Frame<P> {
     {
         let index = DefinedMemoryIndex(self.objects.memories.len() as u32);
         match &self.asked {
-            None => None,
-            Some(call) => Some(MemoryInModule(call.id, index)),
+            Asked::Module(call) => Some(MemoryInModule(call.id, index)),
+            _ => None,
         }
     }
 }
@@ -138,6 +192,8 @@ impl<P: Pages> Phase<P> {
             Phase::CountObject(object) => object.page_calls(),
             Phase::UncountObject(object) => object.page_calls(),
             Phase::Reset(object) => object.page_calls(),
+            Phase::Purge(_, step) => step.page_calls(),
+            Phase::Release(step) => step.page_calls(),
             _ => PageCalls::none(),
         }
     }
@@ -151,6 +207,7 @@ impl<P: Pages> Object<P> {
         match self {
             Object::Memory(lease) => lease.page_calls(),
             Object::Table(lease) => lease.page_calls(),
+            Object::Stack(lease) => lease.page_calls(),
         }
     }
 }

@@ -1,9 +1,9 @@
 ghost use Rattle.std.specs.Prelude.{◌≡◌, ◌<◌, length, []};
 ghost use Rattle.pool_alloc.specs.Steps.{allocator_for};
-ghost use Rattle.pool_alloc.specs.Turns.{Left, next, flush, search, slot_search, limit_of, after, goes_to, ends_with, failing, granted_next, returned_next, next_by, is_flushed};
+ghost use Rattle.pool_alloc.specs.Turns.{Left, next, flush, search, slot_search, limit_of, after, goes_to, ends_with, failing, granted_next, returned_next, all_returned, answer_of, next_by, is_flushed};
 ghost use Rattle.pool_alloc.specs.CanStep.{HasAllocators};
 
-use crate::frame::{Ending, Frame, Grant, Object, Outcome, Phase};
+use crate::frame::{Asked, Ending, Frame, Grant, Object, Outcome, Phase};
 use crate::lease::InstanceLease;
 use pool_index::SlotKind;
 use pool_pages::Pages;
@@ -46,7 +46,7 @@ impl<P: Pages> Frame<P> {
     {
         self.step_count = self.step_count.wrapping_add(1);
         self.enter(Phase::Idle);
-        self.asked = None;
+        self.asked = Asked::Nothing;
         self.ending = Ending::Returned;
         self.queues = 0;
         Some(outcome)
@@ -89,11 +89,20 @@ impl<P: Pages> Frame<P> {
     fn return_table(&mut self) -> Option<Outcome<P>>
         ensures { ◌≡◌ {A = Left P} (record { frame = self.new; outcome = result }) (returned_next [] self.old.objects.tables.items self.old) }
     {
-        let phase = match self.objects.tables.pop_first() {
-            Some(lease) => Phase::UncountObject(Object::Table(lease)),
-            None => Phase::UncountInstance,
-        };
-        self.go(phase)
+        match self.objects.tables.pop_first() {
+            Some(lease) => self.go(Phase::UncountObject(Object::Table(lease))),
+            None => self.return_all(),
+        }
+    }
+
+    // Where no object is left, the instance is given back. A call for a stack counts none, and ends.
+    fn return_all(&mut self) -> Option<Outcome<P>>
+        ensures { ◌≡◌ {A = Left P} (record { frame = self.new; outcome = result }) (all_returned self.old.asked self.old) }
+    {
+        match &self.asked {
+            Asked::Stack => self.end(answer_of(self.ending)),
+            _ => self.go(Phase::UncountInstance),
+        }
     }
 
     // The next part of a flush, or what is next once it is done.
@@ -142,8 +151,19 @@ impl<P: Pages> Frame<P> {
     {
         match self.kind_next() {
             SlotKind::Table => plan.tables.as_slice()[0],
+            SlotKind::Stack => plan.stacks.as_slice()[0],
             _ => plan.memories.as_slice()[self.stripe as usize],
         }
+    }
+}
+
+// The answer that a call ends with once all is given back.
+pub(crate) fn answer_of<P: Pages>(ending: Ending) -> Outcome<P>
+    ensures { result ≡ answer_of ending }
+{
+    match ending {
+        Ending::Refused(error) => Outcome::Refused(error),
+        _ => Outcome::Returned,
     }
 }
 
@@ -153,6 +173,7 @@ fn limit_of(kind: SlotKind, stripe: u32) -> ConcurrencyKind
 {
     match kind {
         SlotKind::Table => ConcurrencyKind::Tables,
+        SlotKind::Stack => ConcurrencyKind::Fibers,
         _ => ConcurrencyKind::MemoryStripe(stripe),
     }
 }

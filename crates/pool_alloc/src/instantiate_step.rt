@@ -10,7 +10,7 @@ ghost use Rattle.pool_alloc.specs.CanStep.{HasNext, CanBegin};
 ghost use Rattle.pool_alloc.specs.Modules.{IfAllocated};
 ghost use Rattle.pool_alloc.specs.declared.pool_core.PoolCore.{PoolCore};
 
-use crate::frame::{Frame, ModuleCall, Outcome, Phase, TakenSlot};
+use crate::frame::{Asked, Frame, ModuleCall, Outcome, Phase, TakenSlot};
 use crate::pool_core::PoolCore;
 use pool_images::{MemoryImage, MemoryImageSlot};
 use pool_pages::{DefinedMemoryIndex, MemoryTunables, MemoryType, Pages};
@@ -22,7 +22,7 @@ impl ModuleCall {
     fn image(&self, memory: usize) -> Option<&Arc<MemoryImage>>
         requires small { memory < 2 ^ 32 }
         requires inside { IfSome self.now.images (λ images. memory < length images) }
-        ensures { option_map (λ image. arc_value image.now) result ≡ slice_index_or (images_wanted (Some self.now)) memory None }
+        ensures { option_map (λ image. arc_value image.now) result ≡ slice_index_or (images_wanted (Asked.Module self.now)) memory None }
     {
         match &self.images {
             None => None,
@@ -59,8 +59,8 @@ impl<P: Pages> PoolCore<P> {
     {
         let memory = frame.objects.memories.len();
         match &frame.asked {
-            None => unreachable!(),
-            Some(call) => {
+            Asked::Nothing | Asked::Stack => unreachable!(),
+            Asked::Module(call) => {
                 let decl = &call.info.memories.as_slice()[memory];
                 let image = call.image(memory);
                 begin_memory(&decl.ty, &self.settings.tunables, image, held)

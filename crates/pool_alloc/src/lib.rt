@@ -3,6 +3,7 @@
 
 mod allocate_steps;
 mod cell_steps;
+mod component_steps;
 mod flush_steps;
 mod frame;
 mod frame_calls;
@@ -26,24 +27,35 @@ mod on_demand_table;
 mod on_demand_turns;
 mod on_demand_validate;
 mod part_at;
+mod part_calls;
 mod part_steps;
 mod parts;
 mod pool_core;
+mod purge;
+mod purge_steps;
 mod queue_steps;
 mod refused;
 mod region_steps;
+mod release;
+mod release_steps;
 mod request;
 mod reserved;
 mod reset_step;
 mod shard_steps;
+mod size_rules;
+mod stack_lease;
+mod stack_steps;
 mod step;
+mod stripes;
 mod table_element;
 mod table_lease;
 mod table_rules;
 mod table_steps;
 mod validate_step;
+mod validations;
+mod warm_slots;
 
-pub use frame::{Call, Frame, Grant, ModuleCall, Object, Outcome, Phase, TakenSlot};
+pub use frame::{Asked, Call, Frame, Grant, ModuleCall, Object, Outcome, Phase, TakenSlot};
 pub use instance_allocator::InstanceAllocator;
 pub use lease::{InstanceLease, MemoryLease};
 pub use metrics::Metrics;
@@ -53,7 +65,11 @@ pub use on_demand_lease::{
     OnDemandHeap, OnDemandInstance, OnDemandMemory, OnDemandStack, OnDemandTable,
 };
 pub use pool_core::{Counters, PoolCore, Settings};
+pub use purge::{PurgeCursor, PurgeStep};
+pub use release::{ReleaseCursor, ReleaseStep};
 pub use request::InstanceAllocationRequest;
 pub use reserved::ReservedList;
+pub use size_rules::instance_size;
+pub use stack_lease::StackLease;
 pub use table_element::Element;
 pub use table_lease::TableLease;

@@ -15,7 +15,7 @@ ghost use Rattle.pool_alloc.specs.Rows.{made_by, make_memory_row};
 ghost use Rattle.pool_alloc.specs.Turns.{After, stepped};
 ghost use Rattle.pool_alloc.specs.declared.pool_core.PoolCore.{PoolCore};
 
-use crate::frame::{Frame, Object, Outcome, Phase, TakenSlot};
+use crate::frame::{Asked, Frame, Object, Outcome, Phase, TakenSlot};
 use crate::lease::MemoryLease;
 use crate::pool_core::{PoolCore, Settings};
 use pool_images::MemoryImageSlot;
@@ -59,8 +59,8 @@ impl<P: Pages> PoolCore<P> {
     {
         let memory = frame.objects.memories.len();
         match &frame.asked {
-            None => unreachable!(),
-            Some(call) => {
+            Asked::Nothing | Asked::Stack => unreachable!(),
+            Asked::Module(call) => {
                 let decl = &call.info.memories.as_slice()[memory];
                 make_memory(&decl.ty, &self.settings, held, limiter)
             }

@@ -1,18 +1,20 @@
 ghost use Rattle.std.specs.Prelude.{◌≡◌, ◌+◌, ◌^◌, ◌≤◌, false, None, IfOk, IfErr, IfSome, OnOk, MatchResult};
-ghost use Rattle.pool_pages.specs.ConfigLimits.{IsWithinLimits};
+ghost use Rattle.pool_pages.specs.Count.{count, rounded_up};
 ghost use Rattle.pool_pages.specs.MakerTold.{MakerTold};
-ghost use Rattle.pool_pages.specs.SettingsRules.{first_broken_rule};
-ghost use Rattle.pool_slots.specs.Makings.{RaisesPoolFaults, RaisesPoolBehind, IsListedPoolFault};
+ghost use Rattle.pool_pages.specs.SettingsRules.{first_broken_rule, slab_stripes, IsWithinRules};
+ghost use Rattle.pool_slots.specs.Colourings.{RaisesUnlessGivenUp, RaisesBehindUnlessGivenUp};
+ghost use Rattle.pool_slots.specs.Makings.{IsListedPoolFault};
 ghost use Rattle.pool_alloc.specs.Calls.{frame_made};
-ghost use Rattle.pool_alloc.specs.Made.{settings_of, plan_settings, part_settings, lists_making, IsMadeCore, IsRefusedFor, CountsFault, NeedsFault, NeedsListed};
+ghost use Rattle.pool_alloc.specs.Made.{settings_of, slots_of, part_settings, lists_making, fails_slots, GivesUpRegion, IsMadeCore, IsRefusedFor, CountsFault, NeedsFault, NeedsListed};
 ghost use Rattle.pool_alloc.specs.Sound.{IsCore, IsFrame};
 ghost use Rattle.pool_alloc.specs.Whole.{IsUntouched};
 
-use crate::frame::{Ending, Frame, Phase};
+use crate::frame::{Asked, Ending, Frame, Phase};
 use crate::lease::InstanceLease;
 use crate::parts::Parts;
 use crate::pool_core::{Counters, PoolCore, Settings};
 use crate::reserved::ReservedList;
+use crate::stripes::num_stripes;
 use pool_pages::{
     HostAlignedByteCount, MemoryKind, MemoryTunables, Offered, PageMaker, PageSize, Pages,
     PoolingAllocationConfig, Tunables,
@@ -24,12 +26,12 @@ use pool_slots::{
 use std::alloc::{AllocError, Global};
 
 impl<P: Pages> PoolCore<P> {
-    /// Makes a pool with the regions of its memory slots, none of which is accessible, and of its table slots, all of which
-    /// are, of the behaviour that is offered.
+    /// Makes a pool with the regions of its memory slots, none of which is accessible, of its table slots, all of which are, and
+    /// of its stack slots, of which the first page is hidden, of the behaviour that is offered. Where the pool uses two
+    /// protection keys or more, memories lie in stripes, and each region is given the colour of its stripe.
     /// The page is the maker's. Tests the rules of the settings first, so that nothing is made where one is broken. As
-    /// yet every pool has one shard, one queue, one stripe and plain resets: also where 2 to 16 shards are asked for, and
-    /// where protection keys or dirty pages are offered. All memory that its steps need is taken now, but for the list of
-    /// what an instance is granted.
+    /// yet resets are plain, also where dirty pages are offered. All memory that its steps need is taken now, but for the
+    /// lists of what an instance is granted and of what a release takes.
     pub fn new<M: PageMaker<Region = P>>(
         alloc: Global,
         config: &PoolingAllocationConfig,
@@ -40,22 +42,22 @@ impl<P: Pages> PoolCore<P> {
         maker: &mut M,
     ) -> Result<Self, PoolNewError>
         requires page { page ≡ (M.told maker.old).page }
-        ensures made { IfOk result (IsMadeCore (M.told maker.old) config.now tunables.now offered.now) }
+        ensures made { IfOk result (IsMadeCore (M.told maker.old) config.now tunables.now offered.now shards) }
         ensures core { IfOk result (IsCore (M.told maker.old)) }
         ensures untouched { IfOk result IsUntouched }
         ensures rules { OnOk result (first_broken_rule config.now tunables.now page shards offered.now ≡ None) }
         ensures refused { IfErr result (IsRefusedFor (first_broken_rule config.now tunables.now page shards offered.now)) }
         ensures maker { M.told maker.new ≡ record (M.told maker.old) { behind = (M.told maker.new).behind; faults = (M.told maker.new).faults } }
         ensures borrows { M.borrows maker.new ≡ M.borrows maker.old }
-        ensures faults { MatchResult result (λ _. (M.told maker.new).faults ≡ (M.told maker.old).faults) (CountsFault (M.told maker.old).faults (M.told maker.new).faults) }
+        ensures faults { MatchResult result (λ _. (M.told maker.new).faults ≡ (M.told maker.old).faults) (CountsFault (GivesUpRegion config.now tunables.now offered.now shards (M.told maker.old)) (M.told maker.old).faults (M.told maker.new).faults) }
         ensures listed { IfOk result (λ _. lists_making config.now (M.told maker.old).listed ≡ false) }
-        ensures behind { MatchResult result (λ _. (M.told maker.new).behind ≡ (M.told maker.old).behind) (NeedsFault (lists_making config.now (M.told maker.old).listed) (M.told maker.old).behind (M.told maker.new).behind) }
-        ensures planned { MatchResult result (λ _. IfSome (M.told maker.old).plan (λ plan. lists_making config.now plan ≡ false)) (λ e. IfSome (M.told maker.old).plan (λ plan. NeedsListed (lists_making config.now plan) e)) }
+        ensures behind { MatchResult result (λ _. (M.told maker.new).behind ≡ (M.told maker.old).behind) (NeedsFault (GivesUpRegion config.now tunables.now offered.now shards (M.told maker.old)) (lists_making config.now (M.told maker.old).listed) (M.told maker.old).behind (M.told maker.new).behind) }
+        ensures planned { MatchResult result (λ _. IfSome (M.told maker.old).plan (λ plan. fails_slots page config.now tunables.now offered.now shards plan ≡ false)) (λ e. IfSome (M.told maker.old).plan (λ plan. NeedsListed (fails_slots page config.now tunables.now offered.now shards plan) e)) }
     {
         if let Err(rule) = config.check_rules(tunables, page.get(), shards, offered) {
             return Err(PoolNewError::BadConfig(rule));
         }
-        PoolCore::within_rules(alloc, config, tunables, page, offered, maker)
+        PoolCore::within_rules(alloc, config, tunables, page, shards, offered, maker)
     }
 
     // The same, where no rule is broken.
@@ -64,25 +66,27 @@ impl<P: Pages> PoolCore<P> {
         config: &PoolingAllocationConfig,
         tunables: &Tunables,
         page: PageSize,
+        shards: u32,
         offered: &Offered,
         maker: &mut M,
     ) -> Result<Self, PoolNewError>
         requires page { page ≡ (M.told maker.old).page }
-        requires within { IsWithinLimits config.now }
-        requires size { config.now.limits.max_memory_size + page ≤ 2 ^ 64 }
-        ensures made { IfOk result (IsMadeCore (M.told maker.old) config.now tunables.now offered.now) }
+        requires rules { first_broken_rule config.now tunables.now page shards offered.now ≡ None }
+        requires within { IsWithinRules config.now tunables.now page shards offered.now }
+        ensures made { IfOk result (IsMadeCore (M.told maker.old) config.now tunables.now offered.now shards) }
         ensures core { IfOk result (IsCore (M.told maker.old)) }
         ensures untouched { IfOk result IsUntouched }
         ensures maker { M.told maker.new ≡ record (M.told maker.old) { behind = (M.told maker.new).behind; faults = (M.told maker.new).faults } }
         ensures borrows { M.borrows maker.new ≡ M.borrows maker.old }
-        ensures faults { MatchResult result (λ _. (M.told maker.new).faults ≡ (M.told maker.old).faults) (RaisesPoolFaults (M.told maker.old).faults (M.told maker.new).faults) }
+        ensures faults { MatchResult result (λ _. (M.told maker.new).faults ≡ (M.told maker.old).faults) (RaisesUnlessGivenUp (GivesUpRegion config.now tunables.now offered.now shards (M.told maker.old)) (M.told maker.old).faults (M.told maker.new).faults) }
         ensures listed { IfOk result (λ _. lists_making config.now (M.told maker.old).listed ≡ false) }
-        ensures behind { MatchResult result (λ _. (M.told maker.new).behind ≡ (M.told maker.old).behind) (RaisesPoolBehind (lists_making config.now (M.told maker.old).listed) (M.told maker.old).behind (M.told maker.new).behind) }
-        ensures planned { MatchResult result (λ _. IfSome (M.told maker.old).plan (λ plan. lists_making config.now plan ≡ false)) (λ e. IfSome (M.told maker.old).plan (λ plan. IsListedPoolFault (lists_making config.now plan) e)) }
+        ensures behind { MatchResult result (λ _. (M.told maker.new).behind ≡ (M.told maker.old).behind) (RaisesBehindUnlessGivenUp (GivesUpRegion config.now tunables.now offered.now shards (M.told maker.old)) (lists_making config.now (M.told maker.old).listed) (M.told maker.old).behind (M.told maker.new).behind) }
+        ensures planned { MatchResult result (λ _. IfSome (M.told maker.old).plan (λ plan. fails_slots page config.now tunables.now offered.now shards plan ≡ false)) (λ e. IfSome (M.told maker.old).plan (λ plan. IsListedPoolFault (fails_slots page config.now tunables.now offered.now shards plan) e)) }
     {
         let _bytes = page.get();
-        let settings = settings_of(page, config, tunables, offered);
-        let numbers = plan_settings(config);
+        let stripes = num_stripes(config, tunables, page, offered);
+        let settings = settings_of(page, config, tunables, offered, stripes);
+        let numbers = plan_settings(config, stripes, shards);
         let Ok(plan) = make_striped_plan(alloc, &numbers) else {
             return Err(PoolNewError::Memory);
         };
@@ -96,8 +100,10 @@ impl<P: Pages> PoolCore<P> {
             counters: Counters {
                 key: 0,
                 core_instances: 0,
+                component_instances: 0,
                 memories: 0,
                 tables: 0,
+                stacks: 0,
             },
             settings,
             plan,
@@ -116,7 +122,7 @@ impl<P: Pages> PoolCore<P> {
         Ok(Frame {
             home,
             stripe: 0,
-            asked: None,
+            asked: Asked::Nothing,
             ending: Ending::Returned,
             objects: InstanceLease::none(alloc),
             queues: 0,
@@ -133,11 +139,16 @@ fn settings_of(
     config: &PoolingAllocationConfig,
     tunables: &Tunables,
     offered: &Offered,
+    num_stripes: u32,
 ) -> Settings
+    requires stripes { num_stripes ≡ slab_stripes config.now tunables.now page offered.now }
     requires size { config.now.limits.max_memory_size + page ≤ 2 ^ 64 }
     requires kept { config.now.linear_memory_keep_resident ≤ 2 ^ 32 }
     requires elements { config.now.limits.table_elements ≤ 100000000 }
     requires table_kept { config.now.table_keep_resident ≤ 2 ^ 32 }
+    requires instance { config.now.limits.core_instance_size ≤ 2 ^ 32 }
+    requires stack { config.now.stack_size ≤ 2 ^ 32 }
+    requires stack_kept { config.now.async_stack_keep_resident ≤ 2 ^ 32 }
     ensures { result ≡ settings_of page config.now tunables.now offered.now }
 {
     let _bytes = page.get();
@@ -146,6 +157,7 @@ fn settings_of(
     Settings {
         page,
         behaviour: offered.behaviour,
+        num_stripes,
         max_memory_size: HostAlignedByteCount::rounded_up_unchecked(
             page,
             limits.max_memory_size,
@@ -153,6 +165,12 @@ fn settings_of(
         keep_resident: HostAlignedByteCount::rounded_up_unchecked(page, keep),
         batch: config.decommit_batch_size,
         max_core_instances: limits.total_core_instances as u64,
+        max_component_instances: limits.total_component_instances as u64,
+        core_instance_size: rounded_to_16(limits.core_instance_size),
+        component_instance_size: limits.component_instance_size,
+        max_core_instances_per_component: limits.max_core_instances_per_component,
+        max_memories_per_component: limits.max_memories_per_component,
+        max_tables_per_component: limits.max_tables_per_component,
         max_memories_per_module: limits.max_memories_per_module,
         max_tables_per_module: limits.max_tables_per_module,
         table_elements: limits.table_elements,
@@ -164,24 +182,45 @@ fn settings_of(
             page,
             config.table_keep_resident,
         ),
+        stack_size: HostAlignedByteCount::rounded_up_unchecked(
+            page,
+            config.stack_size,
+        ).byte_count(),
+        stack_zeroing: config.async_stack_zeroing,
+        stack_keep_resident: HostAlignedByteCount::rounded_up_unchecked(
+            page,
+            config.async_stack_keep_resident,
+        ),
         tunables: MemoryTunables::new(tunables, MemoryKind::LinearMemory),
     }
 }
 
-// How many slots of each kind there are. Stacks and heaps have none as yet.
-fn plan_settings(config: &PoolingAllocationConfig) -> StripedPlanSettings
-    ensures { result ≡ plan_settings config.now }
+// The next multiple of 16 at or above so many bytes.
+fn rounded_to_16(bytes: usize) -> usize
+    requires { bytes ≤ 2 ^ 32 }
+    ensures { result ≡ rounded_up 16 bytes }
+{
+    bytes.div_ceil(16) * 16
+}
+
+// How many slots of each kind there are, shards and queues. Heaps have no slots as yet.
+fn plan_settings(
+    config: &PoolingAllocationConfig,
+    num_stripes: u32,
+    shards: u32,
+) -> StripedPlanSettings
+    ensures { result ≡ record { totals = slots_of config.now; num_stripes = num_stripes; requested_shards = shards; queues = shards } }
 {
     StripedPlanSettings {
         totals: OfKinds {
             memory: config.limits.total_memories,
             table: config.limits.total_tables,
-            stack: 0,
+            stack: config.limits.total_stacks,
             heap: 0,
         },
-        num_stripes: 1,
-        requested_shards: 1,
-        queues: 1,
+        num_stripes,
+        requested_shards: shards,
+        queues: shards,
     }
 }
 
@@ -192,6 +231,7 @@ fn part_settings(
 ) -> PartSettings
     requires size { config.now.limits.max_memory_size + page ≤ 2 ^ 64 }
     requires elements { config.now.limits.table_elements ≤ 100000000 }
+    requires stack { config.now.stack_size ≤ 2 ^ 32 }
     requires batch { config.now.decommit_batch_size ≤ 4096 }
     ensures { result ≡ part_settings page config.now offered.now }
 {
@@ -202,8 +242,17 @@ fn part_settings(
         behaviour: offered.behaviour,
         memory_len: HostAlignedByteCount::rounded_up_unchecked(page, size),
         table_len: HostAlignedByteCount::rounded_up_unchecked(page, 8 * elements),
-        stack_len: page.zero(),
+        stack_len: stack_len(page, config.stack_size),
         max_unused_warm_slots: config.max_unused_warm_slots,
         queue_room: 2 * config.decommit_batch_size,
     }
+}
+
+// The length of a stack's region: its guard page and its usable bytes.
+fn stack_len(page: PageSize, stack_size: usize) -> HostAlignedByteCount
+    requires { stack_size ≤ 2 ^ 32 }
+    ensures { result ≡ count page (page + rounded_up page stack_size) }
+{
+    let size = HostAlignedByteCount::rounded_up_unchecked(page, stack_size).byte_count();
+    HostAlignedByteCount::new_unchecked(page, page.get() + size)
 }

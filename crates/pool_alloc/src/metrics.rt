@@ -1,5 +1,5 @@
-ghost use Rattle.std.specs.Prelude.{◌≡◌};
-ghost use Rattle.pool_alloc.specs.Sums.{metrics_of, calls_kept};
+ghost use Rattle.std.specs.Prelude.{◌≡◌, Some, None, if◌then◌else◌};
+ghost use Rattle.pool_alloc.specs.Sums.{metrics_of, calls_kept, resident_sum};
 
 use crate::pool_core::PoolCore;
 use pool_index::SlotKind;
@@ -25,23 +25,33 @@ pub struct Metrics {
 }
 
 impl<P: Pages> PoolCore<P> {
-    /// The pool's numbers. It has no components, stacks and heaps yet.
+    /// The pool's numbers. It has no heaps yet.
     pub fn metrics(&self) -> Metrics
         ensures { result ≡ metrics_of self.now }
     {
         Metrics {
             core_instances: self.counters.core_instances,
-            component_instances: 0,
+            component_instances: self.counters.component_instances,
             memories: self.counters.memories as usize,
             tables: self.counters.tables as usize,
-            stacks: 0,
+            stacks: self.counters.stacks as usize,
             gc_heaps: 0,
             unused_warm_memories: self.parts.unused_warm_slots(SlotKind::Memory),
             unused_memory_bytes_resident: self.parts.unused_bytes_resident(SlotKind::Memory),
             unused_warm_tables: self.parts.unused_warm_slots(SlotKind::Table),
             unused_table_bytes_resident: self.parts.unused_bytes_resident(SlotKind::Table),
-            unused_warm_stacks: 0,
-            unused_stack_bytes_resident: None,
+            unused_warm_stacks: self.parts.unused_warm_slots(SlotKind::Stack),
+            unused_stack_bytes_resident: self.stack_bytes_resident(),
+        }
+    }
+
+    fn stack_bytes_resident(&self) -> Option<usize>
+        ensures { result ≡ (if self.now.settings.stack_zeroing then Some (resident_sum SlotKind.Stack self.now.parts) else None) }
+    {
+        if self.settings.stack_zeroing {
+            Some(self.parts.unused_bytes_resident(SlotKind::Stack))
+        } else {
+            None
         }
     }
 

@@ -257,7 +257,7 @@ impl<M: PageMaker, C: RuntimeMemoryCreator<M>, R: ResourceLimiter, K: HeapMaker>
     }
 }
 
-fn refused_by(rule: Option<Unsupported>) -> Result<(), AllocError>
+pub(crate) fn refused_by(rule: Option<Unsupported>) -> Result<(), AllocError>
     ensures { result ≡ refused_by rule }
 {
     match rule {

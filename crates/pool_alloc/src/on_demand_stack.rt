@@ -7,7 +7,8 @@ ghost use Rattle.pool_memory.specs.Creators.{IsSameMaker};
 ghost use Rattle.pool_memory.specs.Moving.{IsAsked, IsMadeRegion, IsRegionRefused, next_name};
 ghost use Rattle.pool_alloc.specs.OnDemandAnswers.{Allocates, GrantsOrGives};
 ghost use Rattle.pool_alloc.specs.OnDemandRefusals.{stack_refused};
-ghost use Rattle.pool_alloc.specs.OnDemandStacks.{IsOpen, IsStackMade, AsksForStack, stack_room, stack_behaviour, stack_in, guarding};
+ghost use Rattle.pool_alloc.specs.Guards.{IsOpen, guarding};
+ghost use Rattle.pool_alloc.specs.OnDemandStacks.{IsStackMade, AsksForStack, stack_room, stack_behaviour, stack_in};
 
 use crate::on_demand::OnDemandInstanceAllocator;
 use crate::on_demand_lease::OnDemandStack;

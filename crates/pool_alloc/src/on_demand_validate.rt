@@ -1,15 +1,17 @@
 ghost use Rattle.std.specs.Prelude.{◌≡◌};
-ghost use Rattle.pool_pages.specs.MemoryTypes.{refused_limits};
-ghost use Rattle.pool_alloc.specs.OnDemandRefusals.{first_broken, module_refused, shared_refused, type_refused};
+ghost use Rattle.pool_alloc.specs.Refusals.{first_refused};
+ghost use Rattle.pool_alloc.specs.OnDemandRefusals.{module_refused, shared_refused, type_refused};
 
-use pool_pages::{MemoryDecl, MemoryType, ModuleInfo, TableType, Unsupported};
+use crate::table_rules::table_limits_refused;
+use crate::validate_step::limits_refused;
+use pool_pages::{MemoryDecl, MemoryType, ModuleInfo, Unsupported};
 
 // The first rule that the module breaks.
 pub(crate) fn module_refused(info: &ModuleInfo) -> Option<Unsupported>
     ensures { result ≡ module_refused info.now }
 {
     let memories = info.memories.as_slice();
-    if let Some(rule) = memory_limits_refused(memories) {
+    if let Some(rule) = limits_refused(memories) {
         return Some(rule);
     }
     if let Some(rule) = table_limits_refused(info.tables.as_slice()) {
@@ -38,33 +40,9 @@ fn shared_refused(ty: &MemoryType) -> Option<Unsupported>
     }
 }
 
-#[tactic(auto, using(crate::proofs::OnDemandBroken::broken_here, crate::proofs::OnDemandBroken::broken_later, crate::proofs::OnDemandBroken::broken_nowhere))]
-fn memory_limits_refused(decls: &[MemoryDecl]) -> Option<Unsupported>
-    ensures { result ≡ first_broken (λ d. refused_limits d.ty.limits) decls.now }
-{
-    for decl in decls {
-        if let Err(rule) = decl.ty.check() {
-            return Some(rule);
-        }
-    }
-    None
-}
-
-#[tactic(auto, using(crate::proofs::OnDemandBroken::broken_here, crate::proofs::OnDemandBroken::broken_later, crate::proofs::OnDemandBroken::broken_nowhere))]
-fn table_limits_refused(types: &[TableType]) -> Option<Unsupported>
-    ensures { result ≡ first_broken (λ ty. refused_limits ty.limits) types.now }
-{
-    for ty in types {
-        if let Err(rule) = ty.check() {
-            return Some(rule);
-        }
-    }
-    None
-}
-
-#[tactic(auto, using(crate::proofs::OnDemandBroken::broken_here, crate::proofs::OnDemandBroken::broken_later, crate::proofs::OnDemandBroken::broken_nowhere))]
+#[tactic(auto, using(crate::proofs::Refusing::refused_here, crate::proofs::Refusing::refused_later, crate::proofs::Refusing::refused_nowhere))]
 fn sharing_refused(decls: &[MemoryDecl]) -> Option<Unsupported>
-    ensures { result ≡ first_broken (λ d. shared_refused d.ty) decls.now }
+    ensures { result ≡ first_refused (λ d. shared_refused d.ty) decls.now }
 {
     for decl in decls {
         if let Some(rule) = shared_refused(&decl.ty) {

@@ -1,6 +1,4 @@
-ghost use Rattle.std.specs.Prelude.{◌≡◌, ◌+◌, ◌<◌, ◌≤◌, ◌^◌, false, All, length, IsSome, None, if◌then◌else◌};
-ghost use Rattle.pool_pages.specs.Count.{count};
-ghost use Rattle.pool_images.specs.Slots.{IsFresh};
+ghost use Rattle.std.specs.Prelude.{◌≡◌, ◌+◌, ◌<◌, ◌≤◌, ◌^◌, false, All, length, IsSome, if◌then◌else◌};
 ghost use Rattle.pool_index.specs.Shard.{use_of, resident_bytes};
 ghost use Rattle.pool_slots.specs.Cells.{is_taken, unmapped, IsCleanOnceUsed};
 ghost use Rattle.pool_slots.specs.CellOf.{cell_of};
@@ -9,7 +7,7 @@ ghost use Rattle.pool_slots.specs.QueueMerges.{CanMerge};
 ghost use Rattle.pool_slots.specs.Parts.{IsShardPart, IsCellPart, cell_of_part};
 ghost use Rattle.pool_slots.specs.SlotQueues.{IsSpareOf, IsSettled, same_kind};
 ghost use Rattle.pool_slots.specs.declared.part.PoolPart.{PoolPart};
-ghost use Rattle.pool_alloc.specs.CanStep.{CanTryShard, HasAllocators};
+ghost use Rattle.pool_alloc.specs.CanStep.{CanTryShard, CanUnmap, HasAllocators};
 ghost use Rattle.pool_alloc.specs.Freeing.{AreUsedInTurn, HasHome, CanBeFreed};
 ghost use Rattle.pool_alloc.specs.Rows.{pick_on, free_one_on, free_on, take_region_on, put_back_on, region_put, take_queue_on, merge_on};
 ghost use Rattle.pool_alloc.specs.Sums.{warm_in, resident_in, part_calls};
@@ -88,7 +86,7 @@ pub(crate) fn take_region<P: Pages>(
 ) -> Option<Outcome<P>>
     requires cell { IsCellPart part.old }
     requires there { is_taken (cell_of_part part.old).holds ≡ false }
-    requires fresh { (region : _) → name.kind ≡ SlotKind.Memory → (cell_of_part part.old).holds ≡ unmapped region → IsFresh (count settings.now.page 0) (count settings.now.page 0) settings.now.max_memory_size None region }
+    requires fresh { (region : _) → (cell_of_part part.old).holds ≡ unmapped region → CanUnmap settings.now name region }
     ensures { ◌≡◌ {A = PartAfter (PoolPart P) P} (record { part = part.new; frame = frame.new; outcome = result }) (part_after (lifted (λ x. part_holding x part.old) (take_region_on settings.now name (cell_of_part part.old) frame.old))) }
 {
     match part {
@@ -217,6 +215,7 @@ pub(crate) fn part_calls<P: Pages>(part: &PoolPart<P>) -> PageCalls
     match part {
         PoolPart::Memory(cell) => cell.page_calls(),
         PoolPart::Table(cell) => cell.page_calls(),
+        PoolPart::Stack(cell) => cell.page_calls(),
         PoolPart::Queue(queue) => queue.page_calls(),
         _ => PageCalls::none(),
     }

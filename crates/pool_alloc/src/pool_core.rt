@@ -8,8 +8,10 @@ pub struct Counters {
     /// Counts modulo 2^64.
     pub key: u64,
     pub core_instances: u64,
+    pub component_instances: u64,
     pub memories: u64,
     pub tables: u64,
+    pub stacks: u64,
 }
 
 /// What is the same for the whole life of a core.
@@ -19,6 +21,9 @@ pub struct Settings {
     pub page: PageSize,
     /// What a decommit leaves on a page of them.
     pub behaviour: DecommitBehavior,
+    /// In how many stripes the memory slots lie: slot `i` is of stripe `i % num_stripes`. From two on, the pages of a slot
+    /// have the colour of its stripe.
+    pub num_stripes: u32,
     /// The greatest size of a memory, in bytes.
     pub max_memory_size: usize,
     /// How many bytes of a memory a reset keeps resident.
@@ -26,6 +31,14 @@ pub struct Settings {
     /// At how many ranges a queue is flushed.
     pub batch: usize,
     pub max_core_instances: u64,
+    pub max_component_instances: u64,
+    /// How many bytes the state of an instance may take, a multiple of 16.
+    pub core_instance_size: usize,
+    /// How many bytes the state of a component may take, with that of all its instances.
+    pub component_instance_size: usize,
+    pub max_core_instances_per_component: u32,
+    pub max_memories_per_component: u32,
+    pub max_tables_per_component: u32,
     pub max_memories_per_module: u32,
     pub max_tables_per_module: u32,
     /// How many elements a table may have.
@@ -34,6 +47,12 @@ pub struct Settings {
     pub table_slot: usize,
     /// How many bytes of a table a reset keeps resident.
     pub table_keep_resident: HostAlignedByteCount,
+    /// How many usable bytes a stack has, 0 where there are no stacks.
+    pub stack_size: usize,
+    /// Whether stacks are given back zeroed.
+    pub stack_zeroing: bool,
+    /// How many bytes of a stack stay resident where it is given back zeroed.
+    pub stack_keep_resident: HostAlignedByteCount,
     pub tunables: MemoryTunables,
 }
 

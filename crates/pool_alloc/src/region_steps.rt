@@ -1,12 +1,13 @@
-ghost use Rattle.std.specs.Prelude.{◌≡◌, ◌<◌, not, false, Bool};
+ghost use Rattle.std.specs.Prelude.{◌≡◌, ◌<◌, not, Bool};
 ghost use Rattle.pool_images.specs.Orders.{Follows, wiping};
 ghost use Rattle.pool_images.specs.Slots.{Slot};
 ghost use Rattle.pool_alloc.specs.Answers.{Empties};
 ghost use Rattle.pool_alloc.specs.CanStep.{CanStepAt};
-ghost use Rattle.pool_alloc.specs.Rows.{empty_row, uncount_object_row, uncount_instance_row, answer_of};
-ghost use Rattle.pool_alloc.specs.Turns.{After, stepped, is_granting};
+ghost use Rattle.pool_alloc.specs.Rows.{empty_row, uncount_object_row, uncount_instance_row};
+ghost use Rattle.pool_alloc.specs.Turns.{After, stepped};
 
-use crate::frame::{Ending, Frame, Object, Outcome, Phase, TakenSlot};
+use crate::frame::{Frame, Object, Outcome, Phase, TakenSlot};
+use crate::frame_turns::answer_of;
 use crate::lease::MemoryLease;
 use crate::pool_core::PoolCore;
 use crate::table_lease::TableLease;
@@ -48,6 +49,7 @@ impl<P: Pages> PoolCore<P> {
         match object {
             Object::Memory(lease) => self.uncount_memory(frame, lease),
             Object::Table(lease) => self.uncount_table(frame, lease),
+            Object::Stack(lease) => self.uncount_stack(frame, lease),
         }
     }
 
@@ -68,22 +70,10 @@ impl<P: Pages> PoolCore<P> {
     }
 
     pub(crate) fn uncount_instance(&mut self, frame: &mut Frame<P>) -> Option<Outcome<P>>
-        requires counted { 0 < self.old.counters.core_instances }
-        requires returning { is_granting frame.old.ending ≡ false }
+        requires { 0 < self.old.counters.core_instances }
         ensures { ◌≡◌ {A = After P} (record { core = self.new; frame = frame.new; outcome = result }) (stepped (uncount_instance_row self.old frame.old)) }
     {
         self.counters.core_instances -= 1;
         frame.end(answer_of(frame.ending))
-    }
-}
-
-fn answer_of<P: Pages>(ending: Ending) -> Outcome<P>
-    requires { is_granting ending ≡ false }
-    ensures { result ≡ answer_of ending }
-{
-    match ending {
-        Ending::Granted => unreachable!(),
-        Ending::Returned => Outcome::Returned,
-        Ending::Refused(error) => Outcome::Refused(error),
     }
 }

@@ -33,6 +33,7 @@ impl<P: Pages> PoolCore<P> {
         match object {
             Object::Memory(lease) => self.reset_memory(alloc, frame, lease),
             Object::Table(lease) => self.reset_table(alloc, frame, lease),
+            Object::Stack(lease) => self.reset_stack(alloc, frame, lease),
         }
     }
 
@@ -101,7 +102,11 @@ fn slot_taken<P: Pages>(lease: &MemoryLease<P>) -> TakenSlot
 }
 
 // What comes after a reset.
-fn was_reset<P: Pages>(alloc: Global, batch: usize, frame: &mut Frame<P>) -> Option<Outcome<P>>
+pub(crate) fn was_reset<P: Pages>(
+    alloc: Global,
+    batch: usize,
+    frame: &mut Frame<P>,
+) -> Option<Outcome<P>>
     ensures { ◌≡◌ {A = Left P} (record { frame = frame.new; outcome = result }) (after frame.old (reset_turn batch frame.old.local)) }
 {
     let ranges = frame.local.raw_len();

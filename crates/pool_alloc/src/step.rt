@@ -65,6 +65,7 @@ impl<P: Pages> PoolCore<P> {
             Phase::Idle => None,
             Phase::Key => self.draw_key(frame),
             Phase::Validate => self.validate(alloc, frame),
+            Phase::TestStack => self.test_stack(alloc, frame),
             Phase::CountInstance => self.count_instance(alloc, frame),
             Phase::Pick(tried) => self.pick(frame, tried),
             Phase::TakeQueue => self.take_queue(alloc, frame),
@@ -81,6 +82,11 @@ impl<P: Pages> PoolCore<P> {
             Phase::Merge => self.merge(alloc, frame),
             Phase::Flush => self.flush(alloc, frame),
             Phase::UncountInstance => self.uncount_instance(frame),
+            Phase::ValidateComponent(info) => self.test_component(frame, &info),
+            Phase::CountComponent => self.count_component(frame),
+            Phase::UncountComponent => self.uncount_component(frame),
+            Phase::Purge(cursor, step) => self.purge(frame, cursor, step),
+            Phase::Release(step) => self.release(alloc, frame, step),
         }
     }
 }

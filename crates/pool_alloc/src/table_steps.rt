@@ -12,7 +12,7 @@ ghost use Rattle.pool_alloc.specs.Turns.{After, stepped};
 ghost use Rattle.pool_alloc.specs.declared.pool_core.PoolCore.{PoolCore};
 ghost use Rattle.pool_alloc.specs.TableLeases.{table_slot};
 
-use crate::frame::{Frame, Object, Outcome, Phase, TakenSlot};
+use crate::frame::{Asked, Frame, Object, Outcome, Phase, TakenSlot};
 use crate::pool_core::{PoolCore, Settings};
 use crate::table_lease::TableLease;
 use pool_images::Ranges;
@@ -58,8 +58,8 @@ impl<P: Pages> PoolCore<P> {
     {
         let table = frame.objects.tables.len();
         match &frame.asked {
-            None => unreachable!(),
-            Some(call) => {
+            Asked::Nothing | Asked::Stack => unreachable!(),
+            Asked::Module(call) => {
                 let ty = &call.info.tables.as_slice()[table];
                 make_table_of(ty, &self.settings, at, region, limiter)
             }

@@ -2,18 +2,21 @@ ghost use Rattle.std.specs.Prelude.{◌≡◌, ◌<◌, ◌%◌, ◌==◌, Bool,
 ghost use Rattle.pool_pages.specs.MemoryTypes.{refused_limits};
 ghost use Rattle.pool_slots.specs.declared.errors.AllocError.TheVariants as refusal;
 ghost use Rattle.pool_alloc.specs.CanStep.{CanValidate};
-ghost use Rattle.pool_alloc.specs.Refusals.{first_refused, offset_refused, number_refused, memory_refused, tables_refused, long_table, module_refused};
+ghost use Rattle.pool_alloc.specs.Refusals.{first_refused, offset_refused, number_refused, memory_refused, tables_refused, long_table, objects_refused, module_refused};
 ghost use Rattle.pool_alloc.specs.Rows.{refused_at_once, validated, validate_row};
-ghost use Rattle.pool_alloc.specs.Steps.{memories_wanted, tables_wanted};
+ghost use Rattle.pool_alloc.specs.Steps.{info_wanted, memories_wanted};
 ghost use Rattle.pool_alloc.specs.Turns.{After, stepped};
 ghost use Rattle.std.specs.Option.{option_or};
 
-use crate::frame::{Frame, Outcome, Phase};
+use crate::frame::{Asked, Frame, Outcome, Phase};
 use crate::lease::InstanceLease;
 use crate::pool_core::{PoolCore, Settings};
 use crate::reserved::ReservedList;
+use crate::size_rules::size_refused;
 use crate::table_rules::{long_table, table_limits_refused, tables_refused};
-use pool_pages::{ImageDecl, MemoryDecl, MemoryType, PageSize, Pages, TableType, Unsupported};
+use pool_pages::{
+    ImageDecl, MemoryDecl, MemoryType, ModuleInfo, PageSize, Pages, TableType, Unsupported,
+};
 use pool_slots::AllocError;
 use std::alloc::Global;
 
@@ -30,7 +33,11 @@ impl<P: Pages> PoolCore<P> {
     }
 
     // The call ends with a refusal before anything is granted.
-    fn refuse_at_once(&mut self, frame: &mut Frame<P>, error: AllocError) -> Option<Outcome<P>>
+    pub(crate) fn refuse_at_once(
+        &mut self,
+        frame: &mut Frame<P>,
+        error: AllocError,
+    ) -> Option<Outcome<P>>
         ensures { ◌≡◌ {A = After P} (record { core = self.new; frame = frame.new; outcome = result }) (stepped (refused_at_once error self.old frame.old)) }
     {
         frame.end(Outcome::Refused(error))
@@ -51,17 +58,12 @@ impl<P: Pages> PoolCore<P> {
     // The first rule that the module breaks.
     fn module_refused(&self, frame: &Frame<P>) -> Option<Unsupported>
         requires { CanValidate (memories_wanted frame.now.asked) }
-        ensures { result ≡ module_refused self.now.settings self.now.plan.totals.table (memories_wanted frame.now.asked) (tables_wanted frame.now.asked) }
+        ensures { result ≡ module_refused self.now.settings self.now.plan.totals.table (info_wanted frame.now.asked) }
     {
         let total = self.plan.totals.table;
         match &frame.asked {
-            None => module_refused(&self.settings, total, &[], &[]),
-            Some(call) => module_refused(
-                &self.settings,
-                total,
-                call.info.memories.as_slice(),
-                call.info.tables.as_slice(),
-            ),
+            Asked::Nothing | Asked::Stack => None,
+            Asked::Module(call) => module_refused(&self.settings, total, &call.info),
         }
     }
 }
@@ -79,14 +81,30 @@ fn room_for<P: Pages>(
     Ok(InstanceLease { memories, tables })
 }
 
-fn module_refused(
+// The first rule that the module breaks, in a pool with so many slots for tables.
+pub(crate) fn module_refused(
+    settings: &Settings,
+    total: u32,
+    info: &ModuleInfo,
+) -> Option<Unsupported>
+    requires { CanValidate info.now.memories }
+    ensures { result ≡ module_refused settings.now total info.now }
+{
+    let (memories, tables) = (info.memories.as_slice(), info.tables.as_slice());
+    match objects_refused(settings, total, memories, tables) {
+        Some(rule) => Some(rule),
+        None => size_refused(settings, info),
+    }
+}
+
+fn objects_refused(
     settings: &Settings,
     total: u32,
     decls: &[MemoryDecl],
     tables: &[TableType],
 ) -> Option<Unsupported>
     requires { CanValidate decls.now }
-    ensures { result ≡ module_refused settings.now total decls.now tables.now }
+    ensures { result ≡ objects_refused settings.now total decls.now tables.now }
 {
     if let Some(rule) = offsets_refused(settings.page, decls) {
         return Some(rule);
@@ -148,7 +166,7 @@ fn offset_of(page: PageSize, offset: u64) -> Option<Unsupported>
 }
 
 #[tactic(auto, using(crate::proofs::Refusing::refused_here, crate::proofs::Refusing::refused_later, crate::proofs::Refusing::refused_nowhere))]
-fn limits_refused(decls: &[MemoryDecl]) -> Option<Unsupported>
+pub(crate) fn limits_refused(decls: &[MemoryDecl]) -> Option<Unsupported>
     ensures { result ≡ first_refused (λ d. refused_limits d.ty.limits) decls.now }
 {
     for decl in decls {
@@ -183,7 +201,7 @@ fn slots_refused(settings: &Settings, decls: &[MemoryDecl]) -> Option<Unsupporte
     None
 }
 
-fn memory_refused(settings: &Settings, ty: &MemoryType) -> Option<Unsupported>
+pub(crate) fn memory_refused(settings: &Settings, ty: &MemoryType) -> Option<Unsupported>
     requires { ty.now.page_size_log2 < 64 }
     ensures { result ≡ memory_refused settings.now ty.now }
 {

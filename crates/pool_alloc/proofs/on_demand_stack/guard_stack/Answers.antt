@@ -1,7 +1,8 @@
 use Rattle.std.proofs.Common.{◌≡◌, ℕ, ◌<◌, ◌^◌, ap, ◌∙◌, subst}
 use Rattle.pool_pages.specs.Count.{Count, IsPageSize}
 use Rattle.pool_pages.specs.Told.{Told}
-use Rattle.pool_alloc.proofs.OnDemandGuarded.{guarded, guarded_region, region_plain}
+use Rattle.pool_alloc.proofs.Guarded.{guarded}
+use Rattle.pool_alloc.proofs.OnDemandGuarded.{guarded_region, region_plain}
 use Rattle.pool_alloc.proofs.on_demand_stack.guard_stack.Goals as goal
 
 pub new-requires : goal.new-requires

@@ -1,6 +1,6 @@
 use Rattle.std.proofs.Common.{refl, sym, ◌∙◌}
 use Rattle.pool_limits.specs.Exchanges.{Exchanged}
-use Rattle.pool_alloc.specs.declared.frame.Phase.TheVariants.{Idle, Key, Validate, CountInstance, Pick, TakeQueue, TakeRegion, Empty, Instantiate, MakeMemory, MakeTable, CountObject, PutBack, FreeOne, UncountObject, Reset, Merge, Flush, UncountInstance}
+use Rattle.pool_alloc.specs.declared.frame.Phase.TheVariants.{Idle, Key, Validate, TestStack, CountInstance, Pick, TakeQueue, TakeRegion, Empty, Instantiate, MakeMemory, MakeTable, CountObject, PutBack, FreeOne, UncountObject, Reset, Merge, Flush, UncountInstance, ValidateComponent, CountComponent, UncountComponent, Purge, Release}
 use Rattle.pool_alloc.proofs.Advancing.{nothing_told, by_row, quiet, idle_row}
 use Rattle.pool_alloc.proofs.pool_core.PoolCore.advance.Goals as goal
 
@@ -27,6 +27,9 @@ returns-in-Key g c = quiet g.L.ResourceLimiter.leads c.args.limiter.now _ nothin
 
 pub returns-in-CountInstance : goal.returns-in-CountInstance
 returns-in-CountInstance g c = quiet g.L.ResourceLimiter.leads c.args.limiter.now _ nothing_told (CountInstance) c.args.self.now c.args.frame.now _ c.replace.new.dest (sym c.replace.ensures.value ∙ c.in-CountInstance.is) c.replace.ensures.after tt tt refl refl c.count_instance.ensures
+
+pub returns-in-TestStack : goal.returns-in-TestStack
+returns-in-TestStack g c = quiet g.L.ResourceLimiter.leads c.args.limiter.now _ nothing_told (TestStack) c.args.self.now c.args.frame.now _ c.replace.new.dest (sym c.replace.ensures.value ∙ c.in-TestStack.is) c.replace.ensures.after tt tt refl refl c.test_stack.ensures
 
 pub returns-in-Pick : goal.returns-in-Pick
 returns-in-Pick g c = quiet g.L.ResourceLimiter.leads c.args.limiter.now _ nothing_told (Pick c.in-Pick.tried) c.args.self.now c.args.frame.now _ c.replace.new.dest (sym c.replace.ensures.value ∙ c.in-Pick.is) c.replace.ensures.after tt tt refl refl c.pick.ensures
@@ -60,3 +63,18 @@ returns-in-MakeMemory g c = by_row (λ passed. Exchanged g.L.ResourceLimiter.lea
 
 pub returns-in-MakeTable : goal.returns-in-MakeTable
 returns-in-MakeTable g c = by_row (λ passed. Exchanged g.L.ResourceLimiter.leads passed c.args.limiter.now c.make_table.new.limiter) _ _ (record nothing_told { limiter = c.make_table.ensures.0 }) (MakeTable c.in-MakeTable.at c.in-MakeTable.region) c.args.self.now c.args.frame.now _ c.replace.new.dest (sym c.replace.ensures.value ∙ c.in-MakeTable.is) c.replace.ensures.after tt tt c.make_table.ensures.1 c.make_table.ensures.2 c.make_table.ensures.3
+
+pub returns-in-ValidateComponent : goal.returns-in-ValidateComponent
+returns-in-ValidateComponent g c = quiet g.L.ResourceLimiter.leads c.args.limiter.now _ nothing_told (ValidateComponent c.in-ValidateComponent.info) c.args.self.now c.args.frame.now _ c.replace.new.dest (sym c.replace.ensures.value ∙ c.in-ValidateComponent.is) c.replace.ensures.after tt tt refl refl c.test_component.ensures
+
+pub returns-in-CountComponent : goal.returns-in-CountComponent
+returns-in-CountComponent g c = quiet g.L.ResourceLimiter.leads c.args.limiter.now _ nothing_told (CountComponent) c.args.self.now c.args.frame.now _ c.replace.new.dest (sym c.replace.ensures.value ∙ c.in-CountComponent.is) c.replace.ensures.after tt tt refl refl c.count_component.ensures
+
+pub returns-in-UncountComponent : goal.returns-in-UncountComponent
+returns-in-UncountComponent g c = quiet g.L.ResourceLimiter.leads c.args.limiter.now _ nothing_told (UncountComponent) c.args.self.now c.args.frame.now _ c.replace.new.dest (sym c.replace.ensures.value ∙ c.in-UncountComponent.is) c.replace.ensures.after tt tt refl refl c.uncount_component.ensures
+
+pub returns-in-Purge : goal.returns-in-Purge
+returns-in-Purge g c = quiet g.L.ResourceLimiter.leads c.args.limiter.now _ c.purge.ensures.0 (Purge c.in-Purge.cursor c.in-Purge.step) c.args.self.now c.args.frame.now _ c.replace.new.dest (sym c.replace.ensures.value ∙ c.in-Purge.is) c.replace.ensures.after c.purge.ensures.1 c.purge.ensures.2 refl refl c.purge.ensures.3
+
+pub returns-in-Release : goal.returns-in-Release
+returns-in-Release g c = quiet g.L.ResourceLimiter.leads c.args.limiter.now _ c.release.ensures.0 (Release c.in-Release.step) c.args.self.now c.args.frame.now _ c.replace.new.dest (sym c.replace.ensures.value ∙ c.in-Release.is) c.replace.ensures.after c.release.ensures.1 c.release.ensures.2 refl refl c.release.ensures.3

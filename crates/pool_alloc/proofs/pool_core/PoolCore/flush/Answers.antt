@@ -12,4 +12,4 @@ returns-then-raw_len-gt0 g c =
 pub returns : goal.returns
 returns g c =
     let none : length c.args.frame.now.local.ranges ≤ 0 = rw (← c.raw_len.ensures.value) c.if-raw_len-gt0.false in
-    settles_to c.args.self.now c.args.frame.now _ none c.settle.ensures
+    settles_to c.args.self.now c.args.frame.now _ none (rw (← c.kind_settled-kind.ensures) c.settle.ensures)

@@ -7,3 +7,6 @@ returns-in-Memory g c = (record nothing_told { fault = c.reset_memory.ensures.0;
 
 pub returns-in-Table : goal.returns-in-Table
 returns-in-Table g c = (nothing_told, search rules, search rules, search rules)
+
+pub returns-in-Stack : goal.returns-in-Stack
+returns-in-Stack g c = (nothing_told, search rules, search rules, search rules)

@@ -1,21 +1,18 @@
-use Rattle.std.proofs.Common.{◌≡◌, None, List, sym, ◌∙◌}
-use Rattle.pool_hall.specs.declared.unit_name.SlotKind.TheVariants.{Memory as memory_kind}
-use Rattle.pool_slots.specs.SlotQueues.{Queue, first_of_kind}
-use Rattle.pool_alloc.specs.Rows.{settled_step, freed_step}
-use Rattle.pool_alloc.specs.declared.frame.FreedSlot.{FreedSlot}
-use Rattle.pool_alloc.proofs.FlushCalls.{settled_frees, popped_none, can_flush_as, settles_as}
+use Rattle.std.proofs.Common.{◌≡◌, false, sym, ◌∙◌}
+use Rattle.std.specs.List.{list_any}
+use Rattle.pool_slots.specs.SlotQueues.{Queue, is_to_zero}
+use Rattle.pool_alloc.specs.Rows.{settled_step, put_step}
+use Rattle.pool_alloc.proofs.FlushCalls.{settled_puts, zeroed_none, can_flush_as, settles_as}
 use Rattle.pool_alloc.proofs.pool_core.PoolCore.settle.Goals as goal
 
-pub settle_freed-requires-clause-can : goal.settle_freed-requires-clause-can
-settle_freed-requires-clause-can g c =
+pub put_next-requires-clause-can : goal.put_next-requires-clause-can
+put_next-requires-clause-can g c =
     let q : Queue = c.args.frame.now.local in
-    let freed : List FreedSlot = c.args.frame.now.freed.items in
-    let none : first_of_kind memory_kind q.slots ≡ None = sym c.pop.ensures.value ∙ c.in-None.is in
-    can_flush_as (λ slots. settled_step slots freed) (λ slots. freed_step slots freed) c.args.self.now c.args.frame.now c.pop.new.self (popped_none memory_kind q c.pop.new.self c.pop.ensures.others none) (settled_frees q.slots freed none) c.requires.can
+    let none : list_any (is_to_zero c.args.kind) q.slots ≡ false = sym c.zero_next.ensures.value ∙ c.if-zero_next.false in
+    can_flush_as (settled_step c.args.kind) (put_step c.args.kind) c.args.self.now c.args.frame.now c.zero_next.new.self (zeroed_none c.args.kind q c.zero_next.new.self c.zero_next.ensures.zeroed none) (settled_puts c.args.kind q.slots none) c.requires.can
 
-pub returns-in-None : goal.returns-in-None
-returns-in-None g c =
+pub returns : goal.returns
+returns g c =
     let q : Queue = c.args.frame.now.local in
-    let freed : List FreedSlot = c.args.frame.now.freed.items in
-    let none : first_of_kind memory_kind q.slots ≡ None = sym c.pop.ensures.value ∙ c.in-None.is in
-    settles_as (λ slots. settled_step slots freed) (λ slots. freed_step slots freed) c.args.self.now c.args.frame.now c.pop.new.self _ (popped_none memory_kind q c.pop.new.self c.pop.ensures.others none) (settled_frees q.slots freed none) c.settle_freed.ensures
+    let none : list_any (is_to_zero c.args.kind) q.slots ≡ false = sym c.zero_next.ensures.value ∙ c.if-zero_next.false in
+    settles_as (settled_step c.args.kind) (put_step c.args.kind) c.args.self.now c.args.frame.now c.zero_next.new.self _ (zeroed_none c.args.kind q c.zero_next.new.self c.zero_next.ensures.zeroed none) (settled_puts c.args.kind q.slots none) c.put_next.ensures

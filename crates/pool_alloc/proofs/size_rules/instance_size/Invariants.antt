@@ -1,0 +1,8 @@
+use Rattle.std.proofs.Common.{◌≡◌, ◌+◌, ◌-◌, ◌^◌, take}
+use Rattle.std.specs.Prelude.{min, sum_by}
+use Rattle.pool_pages.specs.declared.module_types.Part.{Part}
+use Rattle.pool_alloc.proofs.size_rules.instance_size.Given as goal
+
+-- that of the parts so far
+abbrev pub invariant-loop-part : goal.invariant-loop-part
+invariant-loop-part l = l.size ≡ min (l.info.state_bytes + sum_by (λ (part : Part). part.bytes) (take l.part-index l.info.parts)) (2 ^ 64 - 1)

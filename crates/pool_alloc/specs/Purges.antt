@@ -1,0 +1,128 @@
+-- A purge: it goes through the stripes, and in each through the memories that a module may have. In turns it picks a warm slot
+-- that was used for the memory last, forgets what the slot holds, and frees it.
+use Rattle.std.specs.Prelude.{◌≡◌, ℕ, ◌+◌, ◌-◌, ◌*◌, ◌^◌, ◌<◌, ◌&&◌, List, length, min, sum_by, drop, nat_lt, if◌then◌else◌, Bool, true, false, Option, Some, None}
+use Rattle.pool_pages.specs.declared.module_types.CompiledModuleId.{CompiledModuleId}
+use Rattle.pool_images.specs.Slots.{Slot, forgotten}
+use Rattle.pool_index.specs.Shard.{ShardState, affine_answer, after_affine_pick, after_free, slot_number}
+use Rattle.pool_index.specs.declared.ids.MemoryInModule.{MemoryInModule}
+use Rattle.pool_index.specs.declared.ids.SlotId.{SlotId}
+use Rattle.pool_slots.specs.Cells.{Cell, unmapped, unknown, previously_used, taken}
+use Rattle.pool_slots.specs.CellOf.{cell_of}
+use Rattle.pool_slots.specs.Plans.{home_of}
+use Rattle.pool_slots.specs.RegionCells.{CellState, cell_numbers, cell_emptied, cell_filled}
+use Rattle.pool_slots.specs.declared.cells.ImageSlot.{ImageSlot}
+use Rattle.pool_slots.specs.declared.cells.ImageSlot.TheVariants.{Unmapped, Unknown, PreviouslyUsed, Taken}
+use Rattle.pool_slots.specs.declared.plan.Allocator.{Allocator}
+use Rattle.pool_slots.specs.declared.plan.Plan.{Plan}
+use Rattle.pool_slots.specs.declared.slot_name.SlotName.{SlotName}
+use Rattle.pool_alloc.specs.Leases.{memory_slot}
+use Rattle.pool_alloc.specs.Steps.{StepGiven, stripe_allocator, shard_at, cell_named, with_shard, with_cell}
+use Rattle.pool_alloc.specs.Turns.{Turn, goes, ends, Row, lifted}
+use Rattle.pool_alloc.specs.declared.frame.Frame.{Frame}
+use Rattle.pool_alloc.specs.declared.frame.Outcome.TheVariants as answer
+use Rattle.pool_alloc.specs.declared.frame.Phase.{Phase}
+use Rattle.pool_alloc.specs.declared.frame.Phase.TheVariants.{Purge}
+use Rattle.pool_alloc.specs.declared.frame.TakenSlot.{TakenSlot}
+use Rattle.pool_alloc.specs.declared.pool_core.PoolCore.{PoolCore}
+use Rattle.pool_alloc.specs.declared.pool_core.Settings.{Settings}
+use Rattle.pool_alloc.specs.declared.purge.PurgeCursor.{PurgeCursor}
+use Rattle.pool_alloc.specs.declared.purge.PurgeStep.{PurgeStep}
+use Rattle.pool_alloc.specs.declared.purge.PurgeStep.TheVariants.{Pick, TakeRegion, Forget, PutRegion, Free}
+
+-- there are turns where a module may have so many memories, and where there are slots
+abbrev pub has_turns : ℕ → Plan → Bool
+has_turns per_module plan = nat_lt 0 plan.totals.memory && nat_lt 0 per_module
+
+-- the purge of a module, as it begins
+abbrev pub purge_begun : CompiledModuleId → PurgeCursor
+purge_begun id = record { id = id; stripe = 0; memory = 0; turn = 0; purged = 0 }
+
+-- the memory that slots are looked for, and the allocator of the stripe
+abbrev pub purged_memory : PurgeCursor → MemoryInModule
+purged_memory p = record { 0 = p.id; 1 = record { 0 = p.memory } }
+
+abbrev pub purged_stripe : Plan → PurgeCursor → Allocator
+purged_stripe plan p = stripe_allocator plan p.stripe
+
+-- one more is found
+abbrev pub found_one : PurgeCursor → PurgeCursor
+found_one p = record p { purged = min (p.purged + 1) (2 ^ 64 - 1) }
+
+-- Where a purge goes on behind a stripe, behind a memory in it, and behind a turn, if it does. Each memory has at most as many
+-- turns in a stripe as that has slots.
+abbrev pub behind_stripe : Plan → PurgeCursor → Option PurgeCursor
+behind_stripe plan p = if nat_lt (p.stripe + 1) (length plan.memories) then Some (record p { stripe = p.stripe + 1; memory = 0; turn = 0 }) else None
+
+abbrev pub behind_memory : ℕ → Plan → PurgeCursor → Option PurgeCursor
+behind_memory per_module plan p = if nat_lt (p.memory + 1) per_module then Some (record p { memory = p.memory + 1; turn = 0 }) else behind_stripe plan p
+
+abbrev pub behind_turn : ℕ → Plan → PurgeCursor → Option PurgeCursor
+behind_turn per_module plan p = if nat_lt (p.turn + 1) (purged_stripe plan p).capacity then Some (record p { turn = p.turn + 1 }) else behind_memory per_module plan p
+
+module _ {P : Type 0} where
+  -- what a cell holds, as the code has it
+  abbrev pub image_in : Cell → ImageSlot P
+  image_in (unmapped region) = Unmapped region
+  image_in (unknown slot) = Unknown slot
+  image_in (previously_used slot) = PreviouslyUsed slot
+  image_in taken = Taken
+
+  -- What goes back of a slot once it is forgotten: nothing is known of it where a page call failed, and else it is clean. A
+  -- region that was never used has nothing to forget.
+  abbrev pub known_after : Bool → Slot → ImageSlot P
+  known_after true slot = Unknown (forgotten slot)
+  known_after false slot = PreviouslyUsed slot
+
+  abbrev pub after_forgetting : Bool → ImageSlot P → Slot → ImageSlot P
+  after_forgetting fault (Unmapped region) slot = Unmapped region
+  after_forgetting fault (Unknown old) slot = known_after fault slot
+  after_forgetting fault (PreviouslyUsed old) slot = known_after fault slot
+  after_forgetting fault Taken slot = Taken
+
+  -- A purge goes on there, or ends.
+  abbrev pub purge_to : PurgeCursor → Option PurgeCursor → Turn P
+  purge_to p (Some next) = goes (Purge next (Pick 0))
+  purge_to p None = ends (answer.Purged p.purged)
+
+  -- A slot is picked from a shard: it gave one, the next is tried, or after the last there is none.
+  abbrev pub affine_picked : ℕ → Plan → PurgeCursor → Option SlotId → ShardState → ℕ → Turn P
+  affine_picked per_module plan p (Some slot) shard tried = goes (Purge (found_one p) (TakeRegion (memory_slot (slot_number shard slot.0))))
+  affine_picked per_module plan p None shard tried = if nat_lt (tried + 1) (purged_stripe plan p).shards then goes (Purge p (Pick (tried + 1))) else purge_to p (behind_memory per_module plan p)
+
+  abbrev pub pick_affine_on : ℕ → Plan → PurgeCursor → ℕ → ShardState → Frame P → Row ShardState P
+  pick_affine_on per_module plan p tried shard f = record {
+    part = after_affine_pick (purged_memory p) shard;
+    frame = f;
+    turn = affine_picked per_module plan p (affine_answer (purged_memory p) shard) shard tried;
+  }
+
+  -- A purge without turns is one step, that changes nothing.
+  abbrev pub pick_affine_row : Bool → PurgeCursor → ℕ → PoolCore P → Frame P → Row (PoolCore P) P
+  pick_affine_row true p tried c f =
+      let place : ℕ = (purged_stripe c.plan p).first_place + tried in
+      lifted (λ shard. with_shard place shard c) (pick_affine_on c.settings.max_memories_per_module c.plan p tried (shard_at place c) f)
+  pick_affine_row false p tried c f = record { part = c; frame = f; turn = ends (answer.Purged p.purged) }
+
+  -- The region of the slot leaves its cell, and comes back.
+  abbrev pub take_affine_on : PurgeCursor → SlotName → CellState → Frame P → Row CellState P
+  take_affine_on p name cell f = record { part = cell_emptied cell; frame = f; turn = goes (Purge p (Forget (record { name = name; numbers = cell_numbers cell }) (image_in cell.holds))) }
+
+  abbrev pub put_affine_on : PurgeCursor → SlotName → Cell → CellState → Frame P → Row CellState P
+  put_affine_on p name held cell f = record { part = cell_filled held cell; frame = f; turn = goes (Purge p (Free name)) }
+
+  -- The slot is freed. Nothing of it is resident.
+  abbrev pub free_affine_on : ℕ → Plan → PurgeCursor → SlotName → ShardState → Frame P → Row ShardState P
+  free_affine_on per_module plan p name shard f = record {
+    part = after_free (home_of plan name).local 0 shard;
+    frame = f;
+    turn = purge_to p (behind_turn per_module plan p);
+  }
+
+  abbrev pub purge_row : StepGiven → PurgeCursor → PurgeStep P → PoolCore P → Frame P → Row (PoolCore P) P
+  purge_row g p (Pick tried) c f = pick_affine_row (has_turns c.settings.max_memories_per_module c.plan) p tried c f
+  purge_row g p (TakeRegion name) c f = lifted (λ cell. with_cell name cell c) (take_affine_on p name (cell_named name c) f)
+  purge_row g p (Forget at held) c f = record { part = c; frame = f; turn = goes (Purge p (PutRegion at (after_forgetting g.fault held g.slot))) }
+  purge_row g p (PutRegion at held) c f = lifted (λ cell. with_cell at.name cell c) (put_affine_on p at.name (cell_of held) (cell_named at.name c) f)
+  purge_row g p (Free name) c f =
+      let place : ℕ = (home_of c.plan name).place in
+      lifted (λ shard. with_shard place shard c) (free_affine_on c.settings.max_memories_per_module c.plan p name (shard_at place c) f)

@@ -1,0 +1,53 @@
+ghost use Rattle.std.specs.Prelude.{◌≡◌, ◌+◌, ◌<◌, ◌^◌};
+ghost use Rattle.pool_pages.specs.declared.unsupported.Unsupported.{Unsupported};
+ghost use Rattle.pool_alloc.specs.Rows.{validate_component_row, count_component_row, uncount_component_row};
+ghost use Rattle.pool_alloc.specs.Turns.{After, stepped};
+
+use crate::frame::{Frame, Grant, Outcome, Phase};
+use crate::frame_turns::answer_of;
+use crate::pool_core::PoolCore;
+use crate::size_rules::component_refused;
+use pool_pages::{ComponentInfo, Pages};
+use pool_slots::{AllocError, ConcurrencyKind, PoolConcurrencyLimitError};
+
+// A component has nothing of the pool. It is tested, and counted while it is granted.
+impl<P: Pages> PoolCore<P> {
+    pub(crate) fn test_component(
+        &mut self,
+        frame: &mut Frame<P>,
+        info: &ComponentInfo,
+    ) -> Option<Outcome<P>>
+        ensures { ◌≡◌ {A = After P} (record { core = self.new; frame = frame.new; outcome = result }) (stepped (validate_component_row info.now self.old frame.old)) }
+    {
+        match component_refused(&self.settings, info) {
+            Some(rule) => self.refuse_at_once(frame, AllocError::Unsupported(rule)),
+            None => frame.go(Phase::CountComponent),
+        }
+    }
+
+    // Counts the component, also where there are too many.
+    pub(crate) fn count_component(&mut self, frame: &mut Frame<P>) -> Option<Outcome<P>>
+        requires { self.old.counters.component_instances + 1 < 2 ^ 64 }
+        ensures { ◌≡◌ {A = After P} (record { core = self.new; frame = frame.new; outcome = result }) (stepped (count_component_row self.old frame.old)) }
+    {
+        let count = self.counters.component_instances;
+        let limit = self.settings.max_component_instances;
+        self.counters.component_instances = count + 1;
+        if count < limit {
+            return frame.end(Outcome::Granted(Grant::Component));
+        }
+        frame.fail(AllocError::Limit(PoolConcurrencyLimitError {
+            limit: limit as usize,
+            kind: ConcurrencyKind::ComponentInstances,
+        }));
+        frame.go(Phase::UncountComponent)
+    }
+
+    pub(crate) fn uncount_component(&mut self, frame: &mut Frame<P>) -> Option<Outcome<P>>
+        requires { 0 < self.old.counters.component_instances }
+        ensures { ◌≡◌ {A = After P} (record { core = self.new; frame = frame.new; outcome = result }) (stepped (uncount_component_row self.old frame.old)) }
+    {
+        self.counters.component_instances -= 1;
+        frame.end(answer_of(frame.ending))
+    }
+}

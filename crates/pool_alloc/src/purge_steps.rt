@@ -1,0 +1,222 @@
+ghost use Rattle.std.specs.Prelude.{◌≡◌, ◌+◌, ◌<◌, nat_lt, not, false, Bool, if◌then◌else◌};
+ghost use Rattle.pool_images.specs.Orders.{Follows, wiping, removing};
+ghost use Rattle.pool_images.specs.Slots.{Slot, IsClean};
+ghost use Rattle.pool_slots.specs.Cells.{is_taken};
+ghost use Rattle.pool_slots.specs.CellOf.{cell_of};
+ghost use Rattle.pool_alloc.specs.Answers.{Empties, Forgets, FollowsForget, RemovesImage, PurgeTold, PurgePlanned};
+ghost use Rattle.pool_alloc.specs.Leases.{memory_slot};
+ghost use Rattle.pool_alloc.specs.CanStep.{CanForget, CanGoOn, CanPurge, CanTakeOf, CanPutOf, CanFreeOf};
+ghost use Rattle.pool_alloc.specs.Purges.{has_turns, purged_stripe, found_one, behind_memory, after_forgetting, known_after, purge_to, purge_row};
+ghost use Rattle.pool_alloc.specs.Steps.{StepGiven};
+ghost use Rattle.pool_alloc.specs.Turns.{After, Left, after, goes, stepped};
+
+use crate::frame::{Frame, Outcome, Phase, TakenSlot};
+use crate::freeing::{home, memory_slot};
+use crate::part_calls;
+use crate::pool_core::{PoolCore, Settings};
+use crate::purge::{PurgeCursor, PurgeStep};
+use pool_images::MemoryImageSlot;
+use pool_pages::Pages;
+use pool_slots::{ImageSlot, Plan, SlotName};
+
+impl<P: Pages> PoolCore<P> {
+    // A step of a purge.
+    pub(crate) fn purge(
+        &mut self,
+        frame: &mut Frame<P>,
+        cursor: PurgeCursor,
+        step: PurgeStep<P>,
+    ) -> Option<Outcome<P>>
+        requires { CanPurge cursor step self.old }
+        ensures { (g : StepGiven) × PurgeTold g step × PurgePlanned g step × (◌≡◌ {A = After P} (record { core = self.new; frame = frame.new; outcome = result }) (stepped (purge_row g cursor step self.old frame.old))) }
+    {
+        match step {
+            PurgeStep::Pick(tried) => self.pick_affine(frame, cursor, tried),
+            PurgeStep::TakeRegion(name) => self.take_affine(frame, cursor, name),
+            PurgeStep::Forget(at, held) => forget(frame, cursor, at, held),
+            PurgeStep::PutRegion(at, held) => self.put_affine(frame, cursor, at, held),
+            PurgeStep::Free(name) => self.free_affine(frame, cursor, name),
+        }
+    }
+
+    // Picks a warm slot that was used for the memory last, from the shard of the stripe with this number.
+    fn pick_affine(
+        &mut self,
+        frame: &mut Frame<P>,
+        cursor: PurgeCursor,
+        tried: u32,
+    ) -> Option<Outcome<P>>
+        requires { CanPurge cursor (PurgeStep.Pick tried) self.old }
+        ensures { (g : StepGiven) → ◌≡◌ {A = After P} (record { core = self.new; frame = frame.new; outcome = result }) (stepped (purge_row g cursor (PurgeStep.Pick tried) self.old frame.old)) }
+    {
+        if !self.has_turns() {
+            return frame.end(Outcome::Purged(cursor.purged));
+        }
+        let place = cursor.allocator(&self.plan).first_place + tried;
+        let part = self.parts.at(place);
+        match part_calls::pick_affine_in(part, cursor.wanted()) {
+            Some(slot) => found(frame, cursor, slot),
+            None => missed(&self.settings, &self.plan, frame, cursor, tried),
+        }
+    }
+
+    // Whether a purge has turns.
+    fn has_turns(&self) -> bool
+        ensures { result ≡ has_turns self.now.settings.max_memories_per_module self.now.plan }
+    {
+        self.plan.totals.memory > 0 && self.settings.max_memories_per_module > 0
+    }
+
+    // Takes the region of the slot that was found.
+    fn take_affine(
+        &mut self,
+        frame: &mut Frame<P>,
+        cursor: PurgeCursor,
+        name: SlotName,
+    ) -> Option<Outcome<P>>
+        requires { CanTakeOf name self.old }
+        ensures { (g : StepGiven) → ◌≡◌ {A = After P} (record { core = self.new; frame = frame.new; outcome = result }) (stepped (purge_row g cursor (PurgeStep.TakeRegion name) self.old frame.old)) }
+    {
+        let place = self.plan.cell_place(name);
+        let part = self.parts.at(place);
+        let (held, numbers) = part_calls::take_image_in(part);
+        let at = TakenSlot { name, numbers };
+        frame.go(Phase::Purge(cursor, PurgeStep::Forget(at, held)))
+    }
+
+    // Puts it back.
+    fn put_affine(
+        &mut self,
+        frame: &mut Frame<P>,
+        cursor: PurgeCursor,
+        at: TakenSlot,
+        held: ImageSlot<P>,
+    ) -> Option<Outcome<P>>
+        requires { CanPutOf at.name held self.old }
+        ensures { (g : StepGiven) → ◌≡◌ {A = After P} (record { core = self.new; frame = frame.new; outcome = result }) (stepped (purge_row g cursor (PurgeStep.PutRegion at held) self.old frame.old)) }
+    {
+        let place = self.plan.cell_place(at.name);
+        let part = self.parts.at(place);
+        part_calls::put_image_in(part, held);
+        frame.go(Phase::Purge(cursor, PurgeStep::Free(at.name)))
+    }
+
+    // Frees the slot. Nothing of it is resident.
+    fn free_affine(
+        &mut self,
+        frame: &mut Frame<P>,
+        cursor: PurgeCursor,
+        name: SlotName,
+    ) -> Option<Outcome<P>>
+        requires going { CanGoOn self.old.settings self.old.plan cursor }
+        requires slot { CanFreeOf name self.old }
+        ensures { (g : StepGiven) → ◌≡◌ {A = After P} (record { core = self.new; frame = frame.new; outcome = result }) (stepped (purge_row g cursor (PurgeStep.Free name) self.old frame.old)) }
+    {
+        let home = home(&self.plan, name);
+        let part = self.parts.at(home.place);
+        part_calls::free_in(part, home.local, 0);
+        purge_to(
+            frame,
+            cursor,
+            cursor.behind_turn(&self.settings, &self.plan),
+        )
+    }
+}
+
+// A slot was found.
+fn found<P: Pages>(frame: &mut Frame<P>, cursor: PurgeCursor, slot: u32) -> Option<Outcome<P>>
+    ensures { ◌≡◌ {A = Left P} (record { frame = frame.new; outcome = result }) (after frame.old (goes (Phase.Purge (found_one cursor) (PurgeStep.TakeRegion (memory_slot slot))))) }
+{
+    let step = PurgeStep::TakeRegion(memory_slot(slot));
+    frame.go(Phase::Purge(cursor.found_one(), step))
+}
+
+// The shard had none: the next is tried, or after the last the purge goes on behind the memory.
+fn missed<P: Pages>(
+    settings: &Settings,
+    plan: &Plan,
+    frame: &mut Frame<P>,
+    cursor: PurgeCursor,
+    tried: u32,
+) -> Option<Outcome<P>>
+    requires going { CanGoOn settings.now plan.now cursor }
+    requires tried { tried < (purged_stripe plan.now cursor).shards }
+    ensures { ◌≡◌ {A = Left P} (record { frame = frame.new; outcome = result }) (after frame.old (if nat_lt (tried + 1) (purged_stripe plan.now cursor).shards then goes (Phase.Purge cursor (PurgeStep.Pick (tried + 1))) else purge_to cursor (behind_memory settings.now.max_memories_per_module plan.now cursor))) }
+{
+    let shards = cursor.allocator(plan).shards;
+    if tried + 1 < shards {
+        return frame.go(Phase::Purge(cursor, PurgeStep::Pick(tried + 1)));
+    }
+    purge_to(frame, cursor, cursor.behind_memory(settings, plan))
+}
+
+// The purge goes on there, or ends.
+fn purge_to<P: Pages>(
+    frame: &mut Frame<P>,
+    cursor: PurgeCursor,
+    next: Option<PurgeCursor>,
+) -> Option<Outcome<P>>
+    ensures { ◌≡◌ {A = Left P} (record { frame = frame.new; outcome = result }) (after frame.old (purge_to cursor next)) }
+{
+    match next {
+        Some(next) => frame.go(Phase::Purge(next, PurgeStep::Pick(0))),
+        None => frame.end(Outcome::Purged(cursor.purged)),
+    }
+}
+
+// What the slot holds is forgotten.
+fn forget<P: Pages>(
+    frame: &mut Frame<P>,
+    cursor: PurgeCursor,
+    at: TakenSlot,
+    held: ImageSlot<P>,
+) -> Option<Outcome<P>>
+    requires can { CanForget held }
+    requires there { is_taken (cell_of held) ≡ false }
+    ensures { (fault : Bool) × (slot : Slot) × Forgets fault held slot × FollowsForget fault held slot × (◌≡◌ {A = Left P} (record { frame = frame.new; outcome = result }) (after frame.old (goes (Phase.Purge cursor (PurgeStep.PutRegion at (after_forgetting fault held slot)))))) }
+{
+    let left = forgotten(held);
+    frame.go(Phase::Purge(cursor, PurgeStep::PutRegion(at, left)))
+}
+
+fn forgotten<P: Pages>(held: ImageSlot<P>) -> ImageSlot<P>
+    requires can { CanForget held }
+    requires there { is_taken (cell_of held) ≡ false }
+    ensures { (fault : Bool) × (slot : Slot) × Forgets fault held slot × FollowsForget fault held slot × (result ≡ after_forgetting fault held slot) }
+{
+    match held {
+        ImageSlot::Unmapped(region) => ImageSlot::Unmapped(region),
+        ImageSlot::Unknown(slot) => emptied(slot),
+        ImageSlot::PreviouslyUsed(slot) => without_image(slot),
+        ImageSlot::Taken => unreachable!(),
+    }
+}
+
+// A slot of which nothing is known is emptied.
+fn emptied<P: Pages>(held: MemoryImageSlot<P>) -> ImageSlot<P>
+    ensures { (fault : Bool) × (slot : Slot) × Empties fault held slot × Follows (wiping held) (not fault) held.region slot.region × (result ≡ known_after fault slot) }
+{
+    let mut held = held;
+    match held.reset_with_anon_memory() {
+        Ok(()) => ImageSlot::PreviouslyUsed(held),
+        Err(_) => {
+            held.forget();
+            ImageSlot::Unknown(held)
+        }
+    }
+}
+
+// The image of a clean slot is removed.
+fn without_image<P: Pages>(held: MemoryImageSlot<P>) -> ImageSlot<P>
+    requires { IsClean held }
+    ensures { (fault : Bool) × (slot : Slot) × RemovesImage fault held slot × Follows (removing held) (not fault) held.region slot.region × (result ≡ known_after fault slot) }
+{
+    let mut held = held;
+    match held.remove_image() {
+        Ok(()) => ImageSlot::PreviouslyUsed(held),
+        Err(_) => {
+            held.forget();
+            ImageSlot::Unknown(held)
+        }
+    }
+}

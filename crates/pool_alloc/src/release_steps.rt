@@ -1,0 +1,272 @@
+ghost use Rattle.std.specs.Prelude.{◌≡◌, ◌+◌, ◌<◌, ◌≤◌, ◌^◌, ◌∷◌, ◌||◌, [], length, not, false, Bool};
+ghost use Rattle.pool_pages.specs.Told.{decommitting};
+ghost use Rattle.pool_images.specs.Orders.{Follows};
+ghost use Rattle.pool_images.specs.Slots.{Slot, IsClean};
+ghost use Rattle.pool_slots.specs.Cells.{is_taken};
+ghost use Rattle.pool_slots.specs.CellOf.{cell_of};
+ghost use Rattle.pool_alloc.specs.Answers.{DecommitsWhole, Drains, FollowsDrain, ReleaseTold, ReleasePlanned};
+ghost use Rattle.pool_alloc.specs.CanStep.{CanDecommit, CanDrain, CanEndStripe, CanFreeOf, CanPutOf, CanRelease, CanTakeOf, CanTakeWarm};
+ghost use Rattle.pool_alloc.specs.Releases.{slots_in, nth_taken, after_decommit, behind_stripe, free_first, drain_from, reserve_row, release_row};
+ghost use Rattle.pool_alloc.specs.Steps.{StepGiven};
+ghost use Rattle.pool_alloc.specs.Turns.{After, Left, after, goes, stepped};
+
+use crate::frame::{Frame, FreedSlot, Outcome, Phase, TakenSlot};
+use crate::freeing::home;
+use crate::part_calls;
+use crate::pool_core::{PoolCore, Settings};
+use crate::release::{ReleaseCursor, ReleaseStep};
+use crate::reserved::ReservedList;
+use pool_images::MemoryImageSlot;
+use pool_index::Taken;
+use pool_pages::{HostAlignedByteCount, Pages};
+use pool_slots::{AllocError, Allocator, ImageSlot, Plan};
+use std::alloc::Global;
+
+impl<P: Pages> PoolCore<P> {
+    // A step of a release.
+    pub(crate) fn release(
+        &mut self,
+        alloc: Global,
+        frame: &mut Frame<P>,
+        step: ReleaseStep<P>,
+    ) -> Option<Outcome<P>>
+        requires { CanRelease step self.old }
+        ensures { (g : StepGiven) × ReleaseTold self.old.settings g step × ReleasePlanned self.old.settings g step × (◌≡◌ {A = After P} (record { core = self.new; frame = frame.new; outcome = result }) (stepped (release_row g step self.old frame.old))) }
+    {
+        match step {
+            ReleaseStep::Reserve => self.reserve(alloc, frame),
+            ReleaseStep::TakeWarm(cursor, shard) => self.take_warm(frame, cursor, shard),
+            ReleaseStep::TakeRegion(cursor, at) => self.take_resident(frame, cursor, at),
+            ReleaseStep::Decommit(cursor, at, slot, held) => {
+                decommit(&self.settings, frame, cursor, at, slot, held)
+            }
+            ReleaseStep::PutRegion(cursor, at, slot, held) => {
+                self.put_resident(frame, cursor, at, slot, held)
+            }
+            ReleaseStep::Free(cursor, slot) => self.free_taken(frame, cursor, slot),
+        }
+    }
+
+    // Reserves room for the slots of all stripes.
+    fn reserve(&mut self, alloc: Global, frame: &mut Frame<P>) -> Option<Outcome<P>>
+        requires { length self.old.plan.memories < 2 ^ 32 }
+        ensures { (wants : Bool) × (◌≡◌ {A = After P} (record { core = self.new; frame = frame.new; outcome = result }) (stepped (reserve_row wants self.old frame.old))) }
+    {
+        let room = slots_in(self.plan.memories.as_slice());
+        let Ok(local) = Taken::new(alloc, room) else {
+            return frame.end(Outcome::Refused(AllocError::Memory));
+        };
+        let Ok(taken) = ReservedList::with_room(alloc, room) else {
+            return frame.end(Outcome::Refused(AllocError::Memory));
+        };
+        let cursor = ReleaseCursor {
+            stripe: 0,
+            local,
+            taken,
+            failed: false,
+            released: 0,
+        };
+        frame.go(Phase::Release(ReleaseStep::TakeWarm(cursor, 0)))
+    }
+
+    // Takes all warm slots of the shard of the stripe with this number.
+    fn take_warm(
+        &mut self,
+        frame: &mut Frame<P>,
+        cursor: ReleaseCursor,
+        shard: u32,
+    ) -> Option<Outcome<P>>
+        requires { CanTakeWarm self.old cursor shard }
+        ensures { (g : StepGiven) → ◌≡◌ {A = After P} (record { core = self.new; frame = frame.new; outcome = result }) (stepped (release_row g (ReleaseStep.TakeWarm cursor shard) self.old frame.old)) }
+    {
+        let mut cursor = cursor;
+        let allocator = cursor.allocator(&self.plan);
+        let part = self.parts.at(allocator.first_place + shard);
+        part_calls::take_warm_in(part, &mut cursor);
+        if shard + 1 < allocator.shards {
+            return frame.go(Phase::Release(ReleaseStep::TakeWarm(cursor, shard + 1)));
+        }
+        drain_from(&self.plan, frame, cursor, 0)
+    }
+
+    // Takes the region of the slot at this place of those that were taken.
+    fn take_resident(
+        &mut self,
+        frame: &mut Frame<P>,
+        cursor: ReleaseCursor,
+        at: usize,
+    ) -> Option<Outcome<P>>
+        requires inside { at < length cursor.taken.items }
+        requires can { CanTakeOf (nth_taken cursor at).name self.old }
+        ensures { (g : StepGiven) → ◌≡◌ {A = After P} (record { core = self.new; frame = frame.new; outcome = result }) (stepped (release_row g (ReleaseStep.TakeRegion cursor at) self.old frame.old)) }
+    {
+        let name = cursor.slot(at).name;
+        let place = self.plan.cell_place(name);
+        let part = self.parts.at(place);
+        let (held, numbers) = part_calls::take_image_in(part);
+        let slot = TakenSlot { name, numbers };
+        frame.go(Phase::Release(ReleaseStep::Decommit(cursor, at, slot, held)))
+    }
+
+    // Puts it back, in the state that it had. The next slot with resident bytes follows.
+    fn put_resident(
+        &mut self,
+        frame: &mut Frame<P>,
+        cursor: ReleaseCursor,
+        at: usize,
+        slot: TakenSlot,
+        held: ImageSlot<P>,
+    ) -> Option<Outcome<P>>
+        requires going { CanEndStripe self.old.plan cursor }
+        requires inside { at < length cursor.taken.items }
+        requires can { CanPutOf slot.name held self.old }
+        ensures { (g : StepGiven) → ◌≡◌ {A = After P} (record { core = self.new; frame = frame.new; outcome = result }) (stepped (release_row g (ReleaseStep.PutRegion cursor at slot held) self.old frame.old)) }
+    {
+        let place = self.plan.cell_place(slot.name);
+        let part = self.parts.at(place);
+        part_calls::put_image_in(part, held);
+        drain_from(&self.plan, frame, cursor, at + 1)
+    }
+
+    // Frees a slot. It keeps nothing resident where all decommits of the stripe succeeded.
+    fn free_taken(
+        &mut self,
+        frame: &mut Frame<P>,
+        cursor: ReleaseCursor,
+        slot: FreedSlot,
+    ) -> Option<Outcome<P>>
+        requires going { CanEndStripe self.old.plan cursor }
+        requires bytes { slot.bytes ≤ 2 ^ 32 }
+        requires can { CanFreeOf slot.name self.old }
+        ensures { (g : StepGiven) → ◌≡◌ {A = After P} (record { core = self.new; frame = frame.new; outcome = result }) (stepped (release_row g (ReleaseStep.Free cursor slot) self.old frame.old)) }
+    {
+        let mut cursor = cursor;
+        let home = home(&self.plan, slot.name);
+        let part = self.parts.at(home.place);
+        part_calls::free_in(part, home.local, cursor.bytes_kept(slot));
+        cursor.releasing(slot);
+        free_first(&self.plan, frame, cursor)
+    }
+}
+
+// How many slots these allocators have.
+fn slots_in(allocators: &[Allocator]) -> usize
+    requires { length allocators.now < 2 ^ 32 }
+    ensures { result ≡ slots_in allocators.now }
+{
+    let mut slots = 0usize;
+    for allocator in allocators {
+        slots += allocator.capacity as usize;
+    }
+    slots
+}
+
+// The next slot with resident bytes is decommitted, from this place on, or else all are freed.
+fn drain_from<P: Pages>(
+    plan: &Plan,
+    frame: &mut Frame<P>,
+    cursor: ReleaseCursor,
+    from: usize,
+) -> Option<Outcome<P>>
+    requires going { CanEndStripe plan.now cursor }
+    requires inside { from ≤ length cursor.taken.items }
+    ensures { ◌≡◌ {A = Left P} (record { frame = frame.new; outcome = result }) (after frame.old (drain_from plan.now cursor from)) }
+{
+    let next = cursor.next_resident(from);
+    if next < cursor.taken.len() {
+        return frame.go(Phase::Release(ReleaseStep::TakeRegion(cursor, next)));
+    }
+    free_first(plan, frame, cursor)
+}
+
+// The first slot is freed, or the stripe is done.
+fn free_first<P: Pages>(
+    plan: &Plan,
+    frame: &mut Frame<P>,
+    cursor: ReleaseCursor,
+) -> Option<Outcome<P>>
+    requires { CanEndStripe plan.now cursor }
+    ensures { ◌≡◌ {A = Left P} (record { frame = frame.new; outcome = result }) (after frame.old (free_first plan.now cursor.taken.items cursor)) }
+{
+    let mut cursor = cursor;
+    match cursor.taken.pop_first() {
+        Some(slot) => frame.go(Phase::Release(ReleaseStep::Free(cursor, slot))),
+        None => behind_stripe(plan, frame, cursor),
+    }
+}
+
+// The next stripe follows, or the release ends.
+fn behind_stripe<P: Pages>(
+    plan: &Plan,
+    frame: &mut Frame<P>,
+    cursor: ReleaseCursor,
+) -> Option<Outcome<P>>
+    requires going { CanEndStripe plan.now cursor }
+    requires none { cursor.taken.items ≡ [] }
+    ensures { ◌≡◌ {A = Left P} (record { frame = frame.new; outcome = result }) (after frame.old (behind_stripe plan.now cursor)) }
+{
+    let mut cursor = cursor;
+    if cursor.stripe + 1 < plan.memories.len() as u32 {
+        cursor.stripe += 1;
+        cursor.failed = false;
+        return frame.go(Phase::Release(ReleaseStep::TakeWarm(cursor, 0)));
+    }
+    frame.end(Outcome::Released(cursor.released))
+}
+
+// The whole region of a slot is decommitted.
+fn decommit<P: Pages>(
+    settings: &Settings,
+    frame: &mut Frame<P>,
+    cursor: ReleaseCursor,
+    at: usize,
+    slot: TakenSlot,
+    held: ImageSlot<P>,
+) -> Option<Outcome<P>>
+    requires can { CanDrain settings.now held }
+    requires there { is_taken (cell_of held) ≡ false }
+    ensures { (fault : Bool) × (left : Slot) × Drains settings.now fault held left × FollowsDrain settings.now fault held left × (◌≡◌ {A = Left P} (record { frame = frame.new; outcome = result }) (after frame.old (goes (Phase.Release (ReleaseStep.PutRegion (record cursor { failed = cursor.failed || fault }) at slot (after_decommit held left)))))) }
+{
+    let mut cursor = cursor;
+    let (fault, left) = drained(settings, held);
+    cursor.failed = cursor.failed || fault;
+    frame.go(Phase::Release(ReleaseStep::PutRegion(cursor, at, slot, left)))
+}
+
+// Whether the decommit failed, and the slot in the state that it had.
+fn drained<P: Pages>(settings: &Settings, held: ImageSlot<P>) -> (bool, ImageSlot<P>)
+    requires can { CanDrain settings.now held }
+    requires there { is_taken (cell_of held) ≡ false }
+    ensures { (left : Slot) × Drains settings.now result.0 held left × FollowsDrain settings.now result.0 held left × (result.1 ≡ after_decommit held left) }
+{
+    match held {
+        ImageSlot::Unmapped(region) => (false, ImageSlot::Unmapped(region)),
+        ImageSlot::Unknown(slot) => {
+            let (fault, slot) = drained_slot(settings, slot);
+            (fault, ImageSlot::Unknown(slot))
+        }
+        ImageSlot::PreviouslyUsed(slot) => {
+            let (fault, slot) = drained_slot(settings, slot);
+            (fault, ImageSlot::PreviouslyUsed(slot))
+        }
+        ImageSlot::Taken => unreachable!(),
+    }
+}
+
+fn drained_slot<P: Pages>(
+    settings: &Settings,
+    held: MemoryImageSlot<P>,
+) -> (bool, MemoryImageSlot<P>)
+    requires { CanDecommit settings.now held }
+    ensures told { DecommitsWhole settings.now result.0 held result.1 }
+    ensures order { Follows (decommitting held.base.bytes settings.now.max_memory_size ∷ []) (not result.0) held.region result.1.region }
+    ensures clean { IsClean held → IsClean result.1 }
+{
+    let mut held = held;
+    let page = settings.page;
+    let whole = HostAlignedByteCount::new_unchecked(page, settings.max_memory_size);
+    match held.decommit(page.zero(), whole) {
+        Ok(()) => (false, held),
+        Err(_) => (true, held),
+    }
+}

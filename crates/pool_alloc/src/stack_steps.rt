@@ -1,0 +1,114 @@
+ghost use Rattle.std.specs.Prelude.{◌≡◌, ◌≤◌, ◌^◌, ◌<◌, ◌+◌, false};
+ghost use Rattle.pool_pages.specs.Count.{count};
+ghost use Rattle.pool_slots.specs.PlainSlots.{IsPlain};
+ghost use Rattle.pool_slots.specs.SlotQueues.{plain_slot};
+ghost use Rattle.pool_slots.specs.declared.errors.AllocError.TheVariants as refusal;
+ghost use Rattle.pool_alloc.specs.CanStep.{CanResetStack};
+ghost use Rattle.pool_alloc.specs.PoolStacks.{stack_made, stack_reset};
+ghost use Rattle.pool_alloc.specs.Rows.{count_object_row, stack_reset_row, test_stack_row, uncount_object_row};
+ghost use Rattle.pool_alloc.specs.StackLeases.{stack_slot};
+ghost use Rattle.pool_alloc.specs.TableSteps.{CanQueue};
+ghost use Rattle.pool_alloc.specs.Turns.{After, stepped};
+
+use crate::frame::{Frame, Grant, Object, Outcome, Phase, TakenSlot};
+use crate::lease::InstanceLease;
+use crate::pool_core::{PoolCore, Settings};
+use crate::reset_step::was_reset;
+use crate::stack_lease::StackLease;
+use pool_images::Ranges;
+use pool_pages::{HostAlignedByteCount, PageRegion, Pages};
+use pool_slots::{AllocError, DecommitQueue, QueueKind, Stack};
+use std::alloc::Global;
+
+impl<P: Pages> PoolCore<P> {
+    // Tests whether stacks are enabled.
+    pub(crate) fn test_stack(&mut self, alloc: Global, frame: &mut Frame<P>) -> Option<Outcome<P>>
+        ensures { ◌≡◌ {A = After P} (record { core = self.new; frame = frame.new; outcome = result }) (stepped (test_stack_row self.old frame.old)) }
+    {
+        if self.settings.stack_size == 0 {
+            return self.refuse_at_once(frame, AllocError::StacksDisabled);
+        }
+        frame.objects = InstanceLease::none(alloc);
+        frame.go(Phase::Pick(0))
+    }
+
+    // Grants a stack, with which its call ends.
+    pub(crate) fn count_stack(
+        &mut self,
+        frame: &mut Frame<P>,
+        lease: StackLease<P>,
+    ) -> Option<Outcome<P>>
+        requires { self.old.counters.stacks + 1 < 2 ^ 64 }
+        ensures { ◌≡◌ {A = After P} (record { core = self.new; frame = frame.new; outcome = result }) (stepped (count_object_row (Object.Stack lease) self.old frame.old)) }
+    {
+        self.counters.stacks += 1;
+        frame.end(Outcome::Granted(Grant::Stack(lease)))
+    }
+
+    pub(crate) fn uncount_stack(
+        &mut self,
+        frame: &mut Frame<P>,
+        lease: StackLease<P>,
+    ) -> Option<Outcome<P>>
+        requires { 0 < self.old.counters.stacks }
+        ensures { ◌≡◌ {A = After P} (record { core = self.new; frame = frame.new; outcome = result }) (stepped (uncount_object_row (Object.Stack lease) self.old frame.old)) }
+    {
+        self.counters.stacks -= 1;
+        frame.go(Phase::Reset(Object::Stack(lease)))
+    }
+
+    // Resets a stack into the local queue. That makes no page call.
+    pub(crate) fn reset_stack(
+        &mut self,
+        alloc: Global,
+        frame: &mut Frame<P>,
+        lease: StackLease<P>,
+    ) -> Option<Outcome<P>>
+        requires { CanResetStack self.old.settings lease frame.old.local }
+        ensures { ◌≡◌ {A = After P} (record { core = self.new; frame = frame.new; outcome = result }) (stepped (stack_reset_row lease self.old frame.old)) }
+    {
+        let keep = self.settings.stack_keep_resident;
+        reset_stack(keep, lease, &mut frame.local);
+        was_reset(alloc, self.settings.batch, frame)
+    }
+}
+
+// The stack in the region of a slot, whose first page is the guard.
+pub(crate) fn stack_made<P: Pages>(
+    settings: &Settings,
+    at: TakenSlot,
+    region: PageRegion<P>,
+) -> StackLease<P>
+    requires { IsPlain (plain_slot settings.now.page region) }
+    ensures { result ≡ stack_made settings.now at region }
+{
+    let guard = HostAlignedByteCount::new_unchecked(settings.page, settings.page.get());
+    StackLease {
+        stack: Stack::new(
+            at.name.slot,
+            region.into_pages(),
+            guard,
+            settings.stack_zeroing,
+        ),
+        numbers: at.numbers,
+    }
+}
+
+// Resets a stack into a queue.
+fn reset_stack<P: Pages>(
+    keep_resident: HostAlignedByteCount,
+    lease: StackLease<P>,
+    local: &mut DecommitQueue<P>,
+)
+    requires page { keep_resident.page ≡ lease.stack.slot.region.page }
+    requires few { lease.stack.slot.static_size ≤ 2 ^ 32 }
+    requires room { CanQueue (stack_slot lease.stack.index) local.old }
+    ensures { local.new ≡ stack_reset keep_resident.bytes lease local.old }
+{
+    let mut stack = lease.stack;
+    let mut ranges = Ranges::new();
+    let kept = stack.zero(keep_resident, &mut ranges);
+    let _len = stack.len();
+    let item = stack.into_queued(kept, lease.numbers);
+    local.push_reset(QueueKind::Stack, item, ranges.as_slice());
+}

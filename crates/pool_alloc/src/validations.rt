@@ -1,0 +1,47 @@
+ghost use Rattle.std.specs.Prelude.{◌≡◌, ◌<◌};
+ghost use Rattle.pool_alloc.specs.CanStep.{CanValidate};
+ghost use Rattle.pool_alloc.specs.OnDemandRefusals.{refused_by};
+ghost use Rattle.pool_alloc.specs.Refusals.{module_refused, type_refused, component_refused};
+
+use crate::on_demand_allocator::refused_by;
+use crate::pool_core::{PoolCore, Settings};
+use crate::size_rules::component_refused;
+use crate::validate_step::{memory_refused, module_refused};
+use pool_pages::{ComponentInfo, MemoryType, ModuleInfo, Pages, Unsupported};
+use pool_slots::AllocError;
+
+// What the pool refuses whatever is live. The refusals tell the first rule that is broken. No call takes memory.
+impl<P: Pages> PoolCore<P> {
+    /// Tests a component: how many core instances, memories and tables it has, and how many bytes it takes.
+    pub fn validate_component(&self, info: &ComponentInfo) -> Result<(), AllocError>
+        ensures { result ≡ refused_by (component_refused self.now.settings info.now) }
+    {
+        refused_by(component_refused(&self.settings, info))
+    }
+
+    /// Tests a module: its memories with their images, its tables, and how many bytes an instance takes.
+    pub fn validate_module(&self, info: &ModuleInfo) -> Result<(), AllocError>
+        requires { CanValidate info.now.memories }
+        ensures { result ≡ refused_by (module_refused self.now.settings self.now.plan.totals.table info.now) }
+    {
+        refused_by(module_refused(&self.settings, self.plan.totals.table, info))
+    }
+
+    /// Tests the type of a memory.
+    pub fn validate_memory(&self, ty: &MemoryType) -> Result<(), AllocError>
+        requires { ty.now.page_size_log2 < 64 }
+        ensures { result ≡ refused_by (type_refused self.now.settings ty.now) }
+    {
+        refused_by(type_refused(&self.settings, ty))
+    }
+}
+
+fn type_refused(settings: &Settings, ty: &MemoryType) -> Option<Unsupported>
+    requires { ty.now.page_size_log2 < 64 }
+    ensures { result ≡ type_refused settings.now ty.now }
+{
+    match ty.check() {
+        Err(rule) => Some(rule),
+        Ok(()) => memory_refused(settings, ty),
+    }
+}
