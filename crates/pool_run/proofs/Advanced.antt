@@ -18,12 +18,12 @@ use Rattle.pool_alloc.specs.declared.frame.Grant.{Grant}
 use Rattle.pool_alloc.specs.Asked.{ModuleAsked}
 use Rattle.pool_alloc.specs.declared.frame.Outcome.{Outcome}
 use Rattle.pool_alloc.specs.declared.frame.Outcome.TheVariants as answer
-use Rattle.pool_alloc.proofs.BegunCalls.{idle_left, begun_bounded}
+use Rattle.pool_alloc.proofs.BegunCalls.{idle_left, at_rest, begun_bounded}
 use Rattle.pool_table.specs.declared.gc_store.ListedStore.{ListedStore}
 use Rattle.pool_run.specs.Rooms.{World}
-use Rattle.pool_run.specs.Progress.{begun_by, begins_by, bound_asked, bound_returned, bound_begun, bound_keyed, bound_by}
+use Rattle.pool_run.specs.Progress.{begun_by, begins_by, bound_asked, bound_returned, bound_purged, bound_begun, bound_keyed, bound_by}
 use Rattle.pool_run.specs.Ties.{CanTurn}
-use Rattle.pool_run.specs.Turns.{Turned, one_step, answered, Steps, Turns, Opening, replies, makes_step, drop_opening, OpensRequest, OpensAct, OpensNext, OpensAt, Leaves}
+use Rattle.pool_run.specs.Turns.{Turned, one_step, answered, Steps, Turns, Opening, replies, makes_step, drop_opening, OpensRequest, OpensPurge, OpensAct, OpensNext, OpensAt, Leaves, OpensWanted}
 use Rattle.pool_run.specs.Worlds.{IsCallFor, AreCallsFor}
 use Rattle.pool_run.specs.declared.command.Command.{Command}
 use Rattle.pool_run.specs.declared.command.Command.TheVariants as command
@@ -31,9 +31,9 @@ use Rattle.pool_run.specs.declared.reply.Reply.{Reply}
 use Rattle.pool_run.specs.declared.reply.Reply.TheVariants.{Refused}
 use Rattle.pool_run.specs.declared.reply.Refusal.TheVariants.{NoSuchGrant, Alloc}
 use Rattle.pool_run.specs.declared.running_party.RunningParty.{RunningParty}
-use Rattle.pool_run.proofs.Parties.{can_step, called_key, returned_stage}
-use Rattle.pool_run.specs.Acts.{Act, requests, on_memory, on_table, drops, act_of}
-use Rattle.pool_run.proofs.Opened.{idle_is, IsStep, drops_opened, module_opened}
+use Rattle.pool_run.proofs.Parties.{can_step, called_plain, returned_stage}
+use Rattle.pool_run.specs.Acts.{Act, requests, on_memory, on_table, drops, purges, releases, act_of, Wanted, an_instance, a_component, a_stack}
+use Rattle.pool_run.proofs.Opened.{idle_is, IsStep, drops_opened, module_opened, plain_opened, component_opened, stack_asked_opened}
 use Rattle.pool_run.proofs.StageSteps.{is_none, none_idle, is_key}
 use Rattle.pool_run.proofs.Stepped.{IsStepped, stepped}
 use Rattle.pool_alloc.specs.Stages.{stage_of}
@@ -69,6 +69,8 @@ module _ {P : Type 0} where
   answered_ready (Some answer.Key) c p ready = ready
   answered_ready (Some (answer.Granted grant)) c p ready = ready
   answered_ready (Some answer.Returned) c p ready = ready
+  answered_ready (Some (answer.Purged n)) c p ready = ready
+  answered_ready (Some (answer.Released n)) c p ready = ready
   answered_ready (Some (answer.Refused e)) c p ready = ready
 
   answered_left : (o : Option (Outcome P)) (c : PoolCore P) (p : RunningParty P) → steps_left (answered o c p).core (answered o c p).party.frame ≡ steps_left c p.frame
@@ -76,6 +78,8 @@ module _ {P : Type 0} where
   answered_left (Some answer.Key) c p = refl
   answered_left (Some (answer.Granted grant)) c p = refl
   answered_left (Some answer.Returned) c p = refl
+  answered_left (Some (answer.Purged n)) c p = refl
+  answered_left (Some (answer.Released n)) c p = refl
   answered_left (Some (answer.Refused e)) c p = refl
 
   -- and the call that ended with it, if one did, counts on as its command.
@@ -84,6 +88,8 @@ module _ {P : Type 0} where
   answered_begun d p f (Some answer.Key) busy ends keyless = absurd cc
   answered_begun d p f (Some (answer.Granted grant)) busy ends keyless = omega (arith, busy_count false (is_idle p.frame.phase) busy, busy_count true (is_idle f.phase) (sym ends))
   answered_begun d p f (Some answer.Returned) busy ends keyless = omega (arith, busy_count false (is_idle p.frame.phase) busy, busy_count true (is_idle f.phase) (sym ends))
+  answered_begun d p f (Some (answer.Purged n)) busy ends keyless = omega (arith, busy_count false (is_idle p.frame.phase) busy, busy_count true (is_idle f.phase) (sym ends))
+  answered_begun d p f (Some (answer.Released n)) busy ends keyless = omega (arith, busy_count false (is_idle p.frame.phase) busy, busy_count true (is_idle f.phase) (sym ends))
   answered_begun d p f (Some (answer.Refused e)) busy ends keyless = omega (arith, busy_count false (is_idle p.frame.phase) busy, busy_count true (is_idle f.phase) (sym ends))
 
   -- it ends exactly where the step answers
@@ -92,7 +98,7 @@ module _ {P : Type 0} where
   ends_where false none o is busy = is
 
   is_none_of : (f : Frame P) → is_none (stage_of f) ≡ is_idle f.phase
-  is_none_of f = none_idle f.phase f.ending (objects_in f.objects)
+  is_none_of f = none_idle f.phase f.asked f.ending (objects_in f.objects)
 
   -- A step of the call under way.
   step_advanced : (maker : MakerTold) (bound : ℕ) (c : PoolCore P) (p : RunningParty P) (t : Turned P) → CanTurn maker c p → IsReady p.frame → is_idle p.frame.phase ≡ false → Steps c p t → HasAdvanced 0 bound c p t
@@ -143,7 +149,7 @@ module _ {P : Type 0} (maker : MakerTold) (c : PoolCore P) (p : RunningParty P) 
   drops_on of (Some grant) t has leaves =
       begins_step (bound_of c (call.GiveBack grant)) (begun_call (call.GiveBack grant) p.frame) (slice_set p.live of None) t (drops_opened maker c p can idle of (Some grant) has)
       (ap is_drawing (returned_stage grant p.frame))
-      (begun_bounded c (call.GiveBack grant) p.frame) leaves
+      (begun_bounded c (call.GiveBack grant) p.frame (at_rest maker c.settings c.plan p.frame can.party.sound.frame idle) can.core.plan.stripes) leaves
 
   -- a request for an instance
   requests_on : (w : World) (number : ℕ) (kept : Option ModuleAsked) (o : Opening P) (t : Turned P) → IfSome kept (IsCallFor w.terms c.settings number) → OpensRequest kept p o → Leaves o c p t → p.done < length p.live → HasAdvanced 1 (bound_asked c kept) c p t
@@ -155,11 +161,28 @@ module _ {P : Type 0} (maker : MakerTold) (c : PoolCore P) (p : RunningParty P) 
         | inr is ↦
             begins_step (bound_of c (call.Module kept)) (begun_call (call.Module kept) p.frame) p.live t (module_opened maker c p can idle kept for.fit room)
             refl
-            (omega (arith, begun_bounded c (call.Module kept) p.frame)) (subst L is leaves)
+            (omega (arith, begun_bounded c (call.Module kept) p.frame (at_rest maker c.settings c.plan p.frame can.party.sound.frame idle) can.core.plan.stripes)) (subst L is leaves)
       ]
 
+  -- a purge
+  purges_on : (kept : Option ModuleAsked) (o : Opening P) (t : Turned P) → OpensPurge kept p o → Leaves o c p t → HasAdvanced 1 (bound_purged c kept) c p t
+  purges_on None o t opens leaves = absurd opens
+  purges_on (Some kept) o t opens leaves =
+      let L : Opening P → Type 0 = λ x. Leaves x c p t in
+      begins_step (bound_of c (call.Purge kept.id)) (begun_call (call.Purge kept.id) p.frame) p.live t (plain_opened maker c p can idle (call.Purge kept.id) tt) refl (begun_bounded c (call.Purge kept.id) p.frame (at_rest maker c.settings c.plan p.frame can.party.sound.frame idle) can.core.plan.stripes) (subst L opens leaves)
+
+  -- a request for whatever it is
+  wanted_on : (w : World) (modules : List ModuleAsked) (wanted : Wanted) (o : Opening P) (t : Turned P) → AreCallsFor w.terms c.settings modules → OpensWanted modules wanted p o → Leaves o c p t → p.done < length p.live → HasAdvanced 1 (bound_begun modules (requests wanted) c p) c p t
+  wanted_on w modules (an_instance number) o t calls opens leaves room = requests_on w number (slice_get modules number) o t (calls number) opens leaves room
+  wanted_on w modules (a_component info) o t calls opens leaves room =
+      let L : Opening P → Type 0 = λ x. Leaves x c p t in
+      begins_step (bound_of c (call.Component info)) (begun_call (call.Component info) p.frame) p.live t (component_opened maker c p can idle info room) refl (begun_bounded c (call.Component info) p.frame (at_rest maker c.settings c.plan p.frame can.party.sound.frame idle) can.core.plan.stripes) (subst L opens leaves)
+  wanted_on w modules a_stack o t calls opens leaves room =
+      let L : Opening P → Type 0 = λ x. Leaves x c p t in
+      begins_step (bound_of c call.Stack) (begun_call call.Stack p.frame) p.live t (stack_asked_opened maker c p can idle room) refl (begun_bounded c call.Stack p.frame (at_rest maker c.settings c.plan p.frame can.party.sound.frame idle) can.core.plan.stripes) (subst L opens leaves)
+
   act_on : (w : World) (modules : List ModuleAsked) (act : Act) (o : Opening P) (t : Turned P) → AreCallsFor w.terms c.settings modules → OpensAct modules act p o → Leaves o c p t → p.done < length p.live → HasAdvanced 1 (bound_begun modules act c p) c p t
-  act_on w modules (requests number) o t calls opens leaves room = requests_on w number (slice_get modules number) o t (calls number) opens leaves room
+  act_on w modules (requests wanted) o t calls opens leaves room = wanted_on w modules wanted o t calls opens leaves room
   act_on w modules (on_memory of k op) o t calls opens leaves room =
       let L : Opening P → Type 0 = λ x. Leaves x c p t in
       replies_on opens.1 p.store opens.0 t (subst L opens.3 leaves)
@@ -169,6 +192,10 @@ module _ {P : Type 0} (maker : MakerTold) (c : PoolCore P) (p : RunningParty P) 
   act_on w modules (drops of) o t calls opens leaves room =
       let L : Opening P → Type 0 = λ x. Leaves x c p t in
       drops_on of (slice_index_or p.live of None) t refl (subst L opens leaves)
+  act_on w modules (purges number) o t calls opens leaves room = purges_on (slice_get modules number) o t opens leaves
+  act_on w modules releases o t calls opens leaves room =
+      let L : Opening P → Type 0 = λ x. Leaves x c p t in
+      begins_step (bound_of c call.Release) (begun_call call.Release p.frame) p.live t (plain_opened maker c p can idle call.Release tt) refl (begun_bounded c call.Release p.frame (at_rest maker c.settings c.plan p.frame can.party.sound.frame idle) can.core.plan.stripes) (subst L opens leaves)
 
   -- The stripe is drawn in one turn.
   drawn_by : (o : Option (Outcome P)) (d : PoolCore P) (f : Frame P) → p.keyed ≡ false → is_key o ≡ true → is_idle f.phase ≡ true → IsReady f → HasAdvanced 1 1 c p (answered o d (record p { frame = f }))
@@ -183,7 +210,7 @@ module _ {P : Type 0} (maker : MakerTold) (c : PoolCore P) (p : RunningParty P) 
   drawn_on t keyed steps =
       let q : RunningParty P = record p { frame = begun_call call.Key p.frame } in
       let a : After P = steps.0 in
-      let on : IsStepped maker steps.1.0 steps.1.1 c q.frame a = stepped maker steps.1.0 steps.1.1 c q.frame a (can_step maker c q (called_key maker c p can idle)) steps.1.3 in
+      let on : IsStepped maker steps.1.0 steps.1.1 c q.frame a = stepped maker steps.1.0 steps.1.1 c q.frame a (can_step maker c q (called_plain maker call.Key c p tt can idle)) steps.1.3 in
       let some : is_some a.outcome ≡ true = key_some a.outcome on.staged.key in
       let idles : is_idle a.frame.phase ≡ true = sym (is_none_of a.frame) ∙ ap is_none (on.staged.settled some) in
       subst (HasAdvanced 1 1 c p) (sym steps.2) (drawn_by a.outcome a.core a.frame keyed on.staged.key idles on.staged.drawn)

@@ -15,13 +15,13 @@ use Rattle.pool_alloc.specs.declared.frame.Grant.{Grant}
 use Rattle.pool_alloc.specs.declared.frame.Phase.{Phase}
 use Rattle.pool_alloc.specs.Stages.{Stage, no_call, stage_at, stage_of}
 use Rattle.pool_run.specs.PartyRules.{rule_of}
-use Rattle.pool_run.specs.Private.{PrivateState, PrivateInstance, Grants, grant_at, request_of, Moves, Drops, private_memories, private_tables, with_table}
+use Rattle.pool_run.specs.Private.{private_stacks, PrivateMemory, PrivateState, PrivateGrant, instance_grant, Grants, grant_at, request_of, MovesBytes, Moves, Drops, private_memories, private_tables, with_table}
 use Rattle.pool_run.specs.PrivateTables.{Host, PrivateTable, TableMoves}
 use Rattle.pool_alloc.specs.TableLeases.{LeasedTable}
-use Rattle.pool_alloc.specs.declared.frame.Grant.TheVariants.{Instance as instance}
+use Rattle.pool_alloc.specs.declared.frame.Grant.TheVariants.{Instance as instance, Component as component, Stack as stack}
 use Rattle.pool_table.specs.declared.gc_store.ListedStore.{ListedStore}
-use Rattle.pool_run.specs.Rooms.{World, TellsOfPool}
-use Rattle.pool_run.specs.Turns.{Turned, one_step, with_reply, private_memory, private_table, LeaseMoves, MovesTable, private_grant, grants_of, host_of_party, Turns, memory_leases, table_leases, Opening, replies, makes_step, drop_opening, OpensRequest, OpensAct, OpensNext, OpensAt, Leaves}
+use Rattle.pool_run.specs.Rooms.{World, TellsOfPool, TellsMove}
+use Rattle.pool_run.specs.Turns.{Turned, one_step, with_reply, private_memory, private_table, LeaseMoves, MovesTable, private_grant, grants_of, host_of_party, Turns, memory_leases, table_leases, Opening, replies, makes_step, drop_opening, OpensRequest, OpensPurge, OpensAct, OpensNext, OpensAt, Leaves, private_stack, StackLeaseMoves, MovesLeasedBytes, stack_leases, OpensWanted}
 use Rattle.pool_run.specs.Ties.{TiedAs, IsPrivate, CanTurn, IsAlone}
 use Rattle.pool_run.proofs.Parties.{returned_stage}
 use Rattle.pool_run.specs.Worlds.{IsWorldOf, IsCallFor, AreCallsFor}
@@ -33,12 +33,17 @@ use Rattle.pool_run.specs.declared.running_party.RunningParty.{RunningParty}
 use Rattle.pool_run.proofs.Grants.{state_of, grants_set, told_at}
 use Rattle.pool_run.proofs.Causes.{memory_cause}
 use Rattle.pool_run.proofs.Turning.{SeesTurn, replied, step_private}
-use Rattle.pool_run.specs.Acts.{MemoryOp, TableOp, Act, requests, on_memory, on_table, drops, act_of, act_at}
+use Rattle.pool_run.specs.Acts.{MemoryOp, TableOp, Act, requests, on_memory, on_table, drops, purges, releases, act_of, act_at, Wanted, an_instance, a_component, a_stack}
 use Rattle.pool_run.specs.Objects.{object_at, with_object, MovesNamed, MovesObject}
-use Rattle.pool_run.proofs.Opened.{idle_is, IsStep, still_alone, drops_opened, module_opened, key_opened, step_opened}
+use Rattle.pool_run.proofs.Opened.{idle_is, IsStep, still_alone, drops_opened, module_opened, plain_opened, step_opened, component_opened, stack_asked_opened}
+use Rattle.pool_run.proofs.SlotKinds.{tables_seen_of, stacks_seen_of}
+use Rattle.pool_run.proofs.StackMoves.{stack_op_seen}
+use Rattle.pool_run.specs.PrivateStacks.{StackMoves}
+use Rattle.pool_alloc.specs.StackLeases.{LeasedStack}
+use Rattle.std.specs.Option.{option_and_then}
 use Rattle.pool_run.proofs.Operations.{SeesMove, op_seen, named_moves, named_tells, memories_seen}
 use Rattle.pool_run.proofs.Named.{AreSeen, none_seen, on_seen}
-use Rattle.pool_run.proofs.Sounds.{lease_held}
+use Rattle.pool_run.proofs.Sounds.{lease_held, stack_held}
 
 -- a grant that is given back is one of those told
 is_told : {A B : Type 0} (f : A → B) (o : Option B) (x : A) → o ≡ option_map f (Some x) → IsSome o
@@ -55,26 +60,34 @@ stored_moves op host before after of k grants new reply None is none = (is.0, ap
 stored_moves op host before after of k grants new reply (Some t) is none = (record { table = is.0; calls = after }, is.1, ap (λ (g : Grants). state_of g after) is.2)
 
 -- The party sees its tables by their leases.
-same_tables : {P : Type 0} (g : Grant P) → private_tables.in_grant (private_grant g) ≡ map private_table (table_leases.in_grant g)
-same_tables (instance lease) = refl
-
 changed_table : {P : Type 0} (k : ℕ) (l : LeasedTable) (g : Grant P) → private_grant (table_leases.put_in k l g) ≡ private_tables.put_in k (private_table l) (private_grant g)
-changed_table k l (instance lease) = ap (λ (ts : List PrivateTable). record (private_grant (instance lease)) { tables = ts }) (map-set private_table lease.tables.items k l)
+changed_table k l (instance lease) = ap (λ (ts : List PrivateTable). instance_grant (record { memories = map private_memory lease.memories.items; tables = ts })) (map-set private_table lease.tables.items k l)
+changed_table k l component = refl
+changed_table k l (stack lease) = refl
 
 tables_seen_by : (P : Type 0) → AreSeen (table_leases {P = P}) private_tables private_grant private_table
-tables_seen_by P = record { same = same_tables; changed = changed_table }
+tables_seen_by P = record { same = tables_seen_of; changed = changed_table }
+
+-- The party sees its stacks by their leases.
+changed_stack : {P : Type 0} (k : ℕ) (l : LeasedStack) (g : Grant P) → private_grant (stack_leases.put_in k l g) ≡ private_stacks.put_in k (private_stack l) (private_grant g)
+changed_stack k l (instance lease) = refl
+changed_stack k l component = refl
+changed_stack k l (stack lease) = refl
+
+stacks_seen : (P : Type 0) → AreSeen (stack_leases {P = P}) private_stacks private_grant private_stack
+stacks_seen P = record { same = stacks_seen_of; changed = changed_stack }
 
 -- a party of this world: what it was told, and that it may turn
-module _ {P : Type 0} (w : World) (start : Grants) (commands : List Command) (before : List Reply) (c : PoolCore P) (p : RunningParty P) (private : IsPrivate w start commands before p) (world : IsWorldOf w c) (can : CanTurn w.maker c p) (alone : w.alone ≡ true → IsAlone c p.frame p.live) (ruled : host_of_party p ≡ w.terms.host) where
+module _ {P : Type 0} (w : World) (start : Grants) (commands : List Command) (before : List Reply) (c : PoolCore P) (p : RunningParty P) (private : IsPrivate w start commands before p) (world : IsWorldOf w c) (can : CanTurn w.maker c p) (alone : w.alone ≡ true → IsAlone c p.frame p.live) (ruled : host_of_party p ≡ w.terms.host) (striped : p.frame.stripe ≡ w.terms.stripe) where
   -- a call makes its next step
   steps_seen : (frame : Frame P) (live : List (Option (Grant P))) (t : Turned P) → IsStep w.maker c p frame live → TiedAs w (stage_of frame) commands p.done frame.asked (grants_of live) private.grants → Leaves (makes_step frame live) c p t → SeesTurn w start commands before t
   steps_seen frame live t step tied follows =
       step_private w start commands before c (record p { frame = frame; live = live }) t (record { grants = private.grants; run = private.run; count = private.count; tied = tied })
-      world step.can (λ e. still_alone w.maker c p frame live step (alone e)) (ap (λ (h : Host). h.rule) ruled) follows
+      world step.can (λ e. still_alone w.maker c p frame live step (alone e)) (ap (λ (h : Host). h.rule) ruled) (step.stripe ∙ striped) follows
 
   module _ (idle : IsIdle p.frame) where
     none : stage_of p.frame ≡ no_call
-    none = ap (λ (phase : Phase P). stage_at phase p.frame.ending (objects_in p.frame.objects)) idle
+    none = ap (λ (phase : Phase P). stage_at phase p.frame.asked p.frame.ending (objects_in p.frame.objects)) idle
 
     told_now : grants_of p.live ≡ private.grants
     told_now =
@@ -93,7 +106,7 @@ module _ {P : Type 0} (w : World) (start : Grants) (commands : List Command) (be
     -- a give-back
     drops_seen : (of : ℕ) (x : Option (Grant P)) (t : Turned P) → slice_index_or p.live of None ≡ x → Leaves (drop_opening x of p) c p t → act_at commands p.done ≡ Some (drops of) → SeesTurn w start commands before t
     drops_seen of None t has follows next =
-        let Back : Option PrivateInstance → Type 0 = λ o. Drops o private.grants of (Refused NoSuchGrant) (grants_of p.live) in
+        let Back : Option PrivateGrant → Type 0 = λ o. Drops o private.grants of (Refused NoSuchGrant) (grants_of p.live) in
         ends_seen (drops of) p.live p.store (Refused NoSuchGrant) t next (grants_of p.live, subst Back (sym (told_at p.live private.grants of None told_now has)) (refl, told_now), refl) tt follows
     drops_seen of (Some grant) t has follows next =
         let new : List (Option (Grant P)) = slice_set p.live of None in
@@ -103,27 +116,63 @@ module _ {P : Type 0} (w : World) (start : Grants) (commands : List Command) (be
         steps_seen (begun_call (call.GiveBack grant) p.frame) new t (drops_opened w.maker c p can idle of (Some grant) has) (subst Tied (sym (returned_stage grant p.frame)) (record { of = of; act = next; there = there; ended = emptied })) follows
 
     -- a request for an instance
-    requests_seen : (number : ℕ) (kept : Option ModuleAsked) (o : Opening P) (t : Turned P) → IfSome kept (IsCallFor w.terms c.settings number) → OpensRequest kept p o → Leaves o c p t → act_at commands p.done ≡ Some (requests number) → p.done < length p.live → SeesTurn w start commands before t
+    requests_seen : (number : ℕ) (kept : Option ModuleAsked) (o : Opening P) (t : Turned P) → IfSome kept (IsCallFor w.terms c.settings number) → OpensRequest kept p o → Leaves o c p t → act_at commands p.done ≡ Some (requests (an_instance number)) → p.done < length p.live → SeesTurn w start commands before t
     requests_seen number None o t for opens follows next room = absurd opens
     requests_seen number (Some kept) o t for opens follows next room =
         let F : Opening P → Type 0 = λ x. Leaves x c p t in
         elim opens [
-          | inl is ↦ ends_seen (requests number) p.live p.store (Refused (Alloc alloc.Memory)) t next (grants_of p.live, ((memory_cause w (request_of w.terms number) private.grants).0, told_now), refl) tt (subst F is follows)
+          | inl is ↦ ends_seen (requests (an_instance number)) p.live p.store (Refused (Alloc alloc.Memory)) t next (grants_of p.live, ((memory_cause w (request_of w.terms number) private.grants).0, told_now), refl) tt (subst F is follows)
           | inr is ↦
               steps_seen (begun_call (call.Module kept) p.frame) p.live t (module_opened w.maker c p can idle kept for.fit room) (told_now, record { number = number; act = next; asked_for = for.asked; so_far = tt }) (subst F is follows)
         ]
 
-    -- a command on a memory
-    moves_seen : (op : MemoryOp) (of k : ℕ) (live : List (Option (Grant P))) (reply : Reply) (t : Turned P) → MovesObject memory_leases (LeaseMoves op (rule_of p.limits)) of k p.live reply live → act_at commands p.done ≡ Some (on_memory of k op) → Leaves (replies reply live p.store) c p t → SeesTurn w start commands before t
-    moves_seen op of k live reply t is next follows =
+    -- an operation on a memory, and on a stack
+    memory_moves : (op : MemoryOp) (of k : ℕ) (live : List (Option (Grant P))) (reply : Reply) → MovesObject memory_leases (LeaseMoves op (rule_of p.limits)) of k p.live reply live → MovesObject private_memories (SeesMove w op) of k private.grants reply (grants_of live)
+    memory_moves op of k live reply is =
         let seen : MovesObject private_memories (SeesMove w op) of k (grants_of p.live) reply (grants_of live) =
         on_seen memory_leases private_memories private_grant private_memory (memories_seen P) (LeaseMoves op (rule_of p.limits)) (SeesMove w op) of k p.live live reply
         (λ m. op_seen w c.settings c.plan (rule_of p.limits) op m.old m.changed reply (ap (λ (h : Host). h.rule) ruled) (lease_held w.maker c p of k m.grant m.old can.party.sound m.granted m.there) m.move) is in
         let On : Grants → Type 0 = λ g. MovesObject private_memories (SeesMove w op) of k g reply (grants_of live) in
-        let on : On private.grants = subst On told_now seen in
+        subst On told_now seen
+
+    stack_moves : (op : MemoryOp) (of k : ℕ) (live : List (Option (Grant P))) (reply : Reply) → MovesObject stack_leases (StackLeaseMoves op) of k p.live reply live → MovesObject private_stacks (StackMoves op) of k private.grants reply (grants_of live)
+    stack_moves op of k live reply is =
+        let seen : MovesObject private_stacks (StackMoves op) of k (grants_of p.live) reply (grants_of live) =
+        on_seen stack_leases private_stacks private_grant private_stack (stacks_seen P) (StackLeaseMoves op) (StackMoves op) of k p.live live reply
+        (λ m. stack_op_seen op m.old m.changed reply (stack_held w.maker c p of k m.grant m.old can.party.sound m.granted m.there).plain m.move) is in
+        let On : Grants → Type 0 = λ g. MovesObject private_stacks (StackMoves op) of k g reply (grants_of live) in
+        subst On told_now seen
+
+    -- so it is of the grant that is named
+    abbrev Moved : MemoryOp → ℕ → ℕ → Reply → List (Option (Grant P)) → Option PrivateGrant → Type 0
+    Moved op of k reply live x = MovesBytes op w.terms.host.rule x of k private.grants reply (grants_of live)
+
+    bytes_move : (x : Option (Grant P)) (op : MemoryOp) (of k : ℕ) (live : List (Option (Grant P))) (reply : Reply) → MovesLeasedBytes op (rule_of p.limits) x of k p.live reply live → Moved op of k reply live (option_map private_grant x)
+    bytes_move None op of k live reply is = named_moves w op (object_at private_memories of k private.grants) (with_object private_memories of k) private.grants (grants_of live) reply (memory_moves op of k live reply is)
+    bytes_move (Some (instance lease)) op of k live reply is = named_moves w op (object_at private_memories of k private.grants) (with_object private_memories of k) private.grants (grants_of live) reply (memory_moves op of k live reply is)
+    bytes_move (Some component) op of k live reply is = named_moves w op (object_at private_memories of k private.grants) (with_object private_memories of k) private.grants (grants_of live) reply (memory_moves op of k live reply is)
+    bytes_move (Some (stack lease)) op of k live reply is = stack_moves op of k live reply is
+
+    -- and no memory of a stack's grant tells of the pool
+    abbrev Told : MemoryOp → Reply → Option PrivateMemory → Type 0
+    Told op reply x = IfSome x (λ m. TellsMove w op m reply)
+
+    bytes_tell : (x : Option (Grant P)) (op : MemoryOp) (of k : ℕ) (live : List (Option (Grant P))) (reply : Reply) → grant_at private.grants of ≡ option_map private_grant x → MovesLeasedBytes op (rule_of p.limits) x of k p.live reply live → Told op reply (object_at private_memories of k private.grants)
+    bytes_tell None op of k live reply there is = named_tells w op (object_at private_memories of k private.grants) (with_object private_memories of k) private.grants (grants_of live) reply (memory_moves op of k live reply is)
+    bytes_tell (Some (instance lease)) op of k live reply there is = named_tells w op (object_at private_memories of k private.grants) (with_object private_memories of k) private.grants (grants_of live) reply (memory_moves op of k live reply is)
+    bytes_tell (Some component) op of k live reply there is = named_tells w op (object_at private_memories of k private.grants) (with_object private_memories of k) private.grants (grants_of live) reply (memory_moves op of k live reply is)
+    bytes_tell (Some (stack lease)) op of k live reply there is =
+        let none : object_at private_memories of k private.grants ≡ None = ap (λ (x : Option PrivateGrant). option_and_then (λ g. slice_get (private_memories.in_grant g) k) x) there in
+        subst (Told op reply) (sym none) tt
+
+    -- a command on bytes
+    moves_seen : (op : MemoryOp) (of k : ℕ) (live : List (Option (Grant P))) (reply : Reply) (t : Turned P) → MovesLeasedBytes op (rule_of p.limits) (slice_index_or p.live of None) of k p.live reply live → act_at commands p.done ≡ Some (on_memory of k op) → Leaves (replies reply live p.store) c p t → SeesTurn w start commands before t
+    moves_seen op of k live reply t is next follows =
+        let x : Option (Grant P) = slice_index_or p.live of None in
+        let there : grant_at private.grants of ≡ option_map private_grant x = told_at p.live private.grants of x told_now refl in
         ends_seen (on_memory of k op) live p.store reply t next
-        (grants_of live, named_moves w op (object_at private_memories of k private.grants) (with_object private_memories of k) private.grants (grants_of live) reply on, refl)
-        (named_tells w op (object_at private_memories of k private.grants) (with_object private_memories of k) private.grants (grants_of live) reply on) follows
+        (grants_of live, subst (Moved op of k reply live) (sym there) (bytes_move x op of k live reply is), refl)
+        (bytes_tell x op of k live reply there is) follows
 
     -- a command on a table
     tables_seen : (op : TableOp) (of k : ℕ) (live : List (Option (Grant P))) (store : ListedStore) (reply : Reply) (t : Turned P) → MovesObject table_leases (MovesTable op (rule_of p.limits) p.store store) of k p.live reply live → (object_at table_leases of k p.live ≡ None → store ≡ p.store) → act_at commands p.done ≡ Some (on_table of k op) → Leaves (replies reply live store) c p t → SeesTurn w start commands before t
@@ -139,8 +188,25 @@ module _ {P : Type 0} (w : World) (start : Grants) (commands : List Command) (be
         ends_seen (on_table of k op) live store reply t next
         (stored_moves op w.terms.host p.store.made store.made of k private.grants (grants_of live) reply (object_at private_tables of k private.grants) (subst On told_now seen) none) tt follows
 
+    -- a purge
+    purges_seen : (number : ℕ) (kept : Option ModuleAsked) (o : Opening P) (t : Turned P) → OpensPurge kept p o → Leaves o c p t → act_at commands p.done ≡ Some (purges number) → SeesTurn w start commands before t
+    purges_seen number None o t opens follows next = absurd opens
+    purges_seen number (Some kept) o t opens follows next =
+        let F : Opening P → Type 0 = λ x. Leaves x c p t in
+        steps_seen (begun_call (call.Purge kept.id) p.frame) p.live t (plain_opened w.maker c p can idle (call.Purge kept.id) tt) (told_now, record { number = number; act = next }) (subst F opens follows)
+
+    -- a request for whatever it is
+    wanted_seen : (modules : List ModuleAsked) (wanted : Wanted) (o : Opening P) (t : Turned P) → AreCallsFor w.terms c.settings modules → OpensWanted modules wanted p o → Leaves o c p t → act_at commands p.done ≡ Some (requests wanted) → p.done < length p.live → SeesTurn w start commands before t
+    wanted_seen modules (an_instance number) o t calls opens follows next room = requests_seen number (slice_get modules number) o t (calls number) opens follows next room
+    wanted_seen modules (a_component info) o t calls opens follows next room =
+        let F : Opening P → Type 0 = λ x. Leaves x c p t in
+        steps_seen (begun_call (call.Component info) p.frame) p.live t (component_opened w.maker c p can idle info room) (told_now, next) (subst F opens follows)
+    wanted_seen modules a_stack o t calls opens follows next room =
+        let F : Opening P → Type 0 = λ x. Leaves x c p t in
+        steps_seen (begun_call call.Stack p.frame) p.live t (stack_asked_opened w.maker c p can idle room) (told_now, next) (subst F opens follows)
+
     act_seen : (modules : List ModuleAsked) (act : Act) (o : Opening P) (t : Turned P) → AreCallsFor w.terms c.settings modules → OpensAct modules act p o → Leaves o c p t → act_at commands p.done ≡ Some act → p.done < length p.live → SeesTurn w start commands before t
-    act_seen modules (requests number) o t calls opens follows next room = requests_seen number (slice_get modules number) o t (calls number) opens follows next room
+    act_seen modules (requests wanted) o t calls opens follows next room = wanted_seen modules wanted o t calls opens follows next room
     act_seen modules (on_memory of k op) o t calls opens follows next room =
         let F : Opening P → Type 0 = λ x. Leaves x c p t in
         moves_seen op of k opens.1 opens.0 t opens.2 next (subst F opens.3 follows)
@@ -150,6 +216,10 @@ module _ {P : Type 0} (w : World) (start : Grants) (commands : List Command) (be
     act_seen modules (drops of) o t calls opens follows next room =
         let F : Opening P → Type 0 = λ x. Leaves x c p t in
         drops_seen of (slice_index_or p.live of None) t refl (subst F opens follows) next
+    act_seen modules (purges number) o t calls opens follows next room = purges_seen number (slice_get modules number) o t opens follows next
+    act_seen modules releases o t calls opens follows next room =
+        let F : Opening P → Type 0 = λ x. Leaves x c p t in
+        steps_seen (begun_call call.Release p.frame) p.live t (plain_opened w.maker c p can idle call.Release tt) (told_now, next) (subst F opens follows)
 
     next_seen : (modules : List ModuleAsked) (next : Option Command) (keyed : Bool) (o : Opening P) (t : Turned P) → AreCallsFor w.terms c.settings modules → slice_get commands p.done ≡ next → length commands ≤ length p.live → OpensNext modules next keyed p o → Leaves o c p t → SeesTurn w start commands before t
     next_seen modules None keyed o t calls next room opens follows =
@@ -157,7 +227,7 @@ module _ {P : Type 0} (w : World) (start : Grants) (commands : List Command) (be
         subst (SeesTurn w start commands before) (sym (subst F opens follows)) private
     next_seen modules (Some command) false o t calls next room opens follows =
         let F : Opening P → Type 0 = λ x. Leaves x c p t in
-        steps_seen (begun_call call.Key p.frame) p.live t (key_opened w.maker c p can idle) told_now (subst F opens follows)
+        steps_seen (begun_call call.Key p.frame) p.live t (plain_opened w.maker c p can idle call.Key tt) told_now (subst F opens follows)
     next_seen modules (Some command) true o t calls next room opens follows =
         act_seen modules (act_of command) o t calls opens follows (ap (option_map act_of) next) (omega (arith, room, slice_get_within commands p.done command next))
 
@@ -169,5 +239,5 @@ module _ {P : Type 0} (w : World) (start : Grants) (commands : List Command) (be
 
 module _ {P : Type 0} where
   -- After a turn of a party its replies are still a private run.
-  pub turn_private : (w : World) (modules : List ModuleAsked) (start : Grants) (commands : List Command) (before : List Reply) (c : PoolCore P) (p : RunningParty P) (t : Turned P) → IsWorldOf w c → AreCallsFor w.terms c.settings modules → CanTurn w.maker c p → (w.alone ≡ true → IsAlone c p.frame p.live) → host_of_party p ≡ w.terms.host → length commands ≤ length p.live → IsPrivate w start commands before p → Turns modules commands c p t → IsPrivate w start commands (with_reply t.reply before) t.party
-  turn_private w modules start commands before c p t world calls can alone ruled room private turns = seen_at w start commands before c p private world can alone ruled (is_idle p.frame.phase) modules turns.0 t refl calls room turns.1 turns.2
+  pub turn_private : (w : World) (modules : List ModuleAsked) (start : Grants) (commands : List Command) (before : List Reply) (c : PoolCore P) (p : RunningParty P) (t : Turned P) → IsWorldOf w c → AreCallsFor w.terms c.settings modules → CanTurn w.maker c p → (w.alone ≡ true → IsAlone c p.frame p.live) → host_of_party p ≡ w.terms.host → p.frame.stripe ≡ w.terms.stripe → length commands ≤ length p.live → IsPrivate w start commands before p → Turns modules commands c p t → IsPrivate w start commands (with_reply t.reply before) t.party
+  turn_private w modules start commands before c p t world calls can alone ruled striped room private turns = seen_at w start commands before c p private world can alone ruled striped (is_idle p.frame.phase) modules turns.0 t refl calls room turns.1 turns.2

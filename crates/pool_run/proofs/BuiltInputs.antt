@@ -5,15 +5,15 @@ use Rattle.std.specs.Prelude.{◌==◌}
 use Rattle.std.proofs.lemmas.Bool.{leb-true}
 use Rattle.pool_pages.specs.declared.module_types.MemoryDecl.{MemoryDecl}
 use Rattle.pool_pages.specs.declared.module_types.ModuleInfo.{ModuleInfo}
-use Rattle.pool_run.specs.Built.{is_built, is_built_offer, is_built_config, is_built_fault, is_built_memory, is_built_module}
+use Rattle.pool_run.specs.Built.{is_built, is_built_offer, is_built_memory, is_built_module}
 use Rattle.pool_run.specs.declared.input.Input.{Input}
-use Rattle.pool_run.proofs.Tests.{first, second}
+use Rattle.pool_run.proofs.Tests.{second}
 
 pub built_modules : (input : Input) → is_built input ≡ true → list_all is_built_module input.modules ≡ true
-built_modules input built = second (list_all is_built_fault input.faults) _ (second (is_built_config input.config) _ (second (is_built_offer input.offered) _ (second (input.shards == 1) _ built)))
+built_modules input built = second (is_built_offer input.offered) _ built
 
 pub built_memories : (m : ModuleInfo) → is_built_module m ≡ true → list_all is_built_memory m.memories ≡ true
-built_memories m built = first (list_all is_built_memory m.memories) _ built
+built_memories m built = built
 
 pub small_pages : (d : MemoryDecl) → is_built_memory d ≡ true → d.ty.page_size_log2 ≤ 16
 small_pages d built = leb-true d.ty.page_size_log2 16 built

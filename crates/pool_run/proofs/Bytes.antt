@@ -15,6 +15,7 @@ use Rattle.pool_memory.specs.Making.{maximum_asked}
 use Rattle.pool_memory.specs.Memories.{slot_of as image_slot_of, memory_written as state_written}
 use Rattle.pool_memory.specs.Static.{static_capacity}
 use Rattle.pool_alloc.specs.Leases.{Lease}
+use Rattle.pool_run.proofs.HeldSlots.{held_name, held_tells}
 use Rattle.pool_alloc.specs.Sound.{IsNew, IsPoolSlot}
 use Rattle.pool_alloc.specs.declared.pool_core.Settings.{Settings}
 use Rattle.pool_pages.specs.MakerTold.{MakerTold}
@@ -71,22 +72,18 @@ fits_of : (page m : ℕ) (image : Option Image) → IfSome image (FitsInto page 
 fits_of page m None fits = fits
 fits_of page m (Some i) fits = fits.inside
 
-pub told_if : {X : Type 0} (b : Bool) (x : X) → is_some (if b then Some x else None) ≡ b
-told_if true x = refl
-told_if false x = refl
-
 -- the bytes of one that began in a slot of the pool
-storage_begun : (maker : MakerTold) (behaviour : DecommitBehavior) (static_size i least : ℕ) (image : Option Image) (s : Storage) → IsPoolSlot maker behaviour static_size i (slot_in s) → IsBegun image (slot_in s) → least ≤ static_size → IfSome image (λ m. m.offset + length m.bytes ≤ least) → first_bytes least s ≡ (if maker.tells then Some (start image least) else None)
-storage_begun maker behaviour static_size i least image (stored len bytes) of begun le fits = let wrong : OnDemand 0 ≡ memory_region i = ap (λ (z : SlotIdentity). z.name) of.same in absurd cc
-storage_begun maker behaviour static_size i least image (in_slot s) of begun le fits =
-    begun_bytes s.region.contents image least s.static_size s.base.bytes maker.tells (ap (λ (z : SlotIdentity). z.tells) of.same ∙ told_if maker.tells _) (ap (λ (z : SlotIdentity). z.base.bytes) of.same) (omega (arith, le, ap (λ (z : SlotIdentity). z.static_size) of.same)) fits begun.reads
+storage_begun : (maker : MakerTold) (settings : Settings) (i least : ℕ) (image : Option Image) (s : Storage) → IsPoolSlot maker settings i (slot_in s) → IsBegun image (slot_in s) → least ≤ settings.max_memory_size → IfSome image (λ m. m.offset + length m.bytes ≤ least) → first_bytes least s ≡ (if maker.tells then Some (start image least) else None)
+storage_begun maker settings i least image (stored len bytes) of begun le fits = let wrong : OnDemand 0 ≡ memory_region i = held_name maker settings i (slot_in (stored len bytes)) of in absurd cc
+storage_begun maker settings i least image (in_slot s) of begun le fits =
+    begun_bytes s.region.contents image least s.static_size s.base.bytes maker.tells (held_tells maker settings i s of) (ap (λ (z : SlotIdentity). z.base.bytes) of.same) (omega (arith, le, ap (λ (z : SlotIdentity). z.static_size) of.same)) fits begun.reads
 
 -- a memory that is new is to the party as private ones begin
-pub begun_seen : (t : Terms) (maker : MakerTold) (s : Settings) (image : Option Image) (decl : MemoryDecl) (l : Lease) → t.tells ≡ maker.tells → t.settings ≡ s → IsPoolSlot maker s.behaviour s.max_memory_size l.index (image_slot_of l.memory) → IsNew s.max_memory_size image l.memory decl → IfSome image (FitsInto s.page (minimum_byte_size decl.ty)) → private_memory l ≡ begun_memory t l.index (record { decl = decl; image = image })
+pub begun_seen : (t : Terms) (maker : MakerTold) (s : Settings) (image : Option Image) (decl : MemoryDecl) (l : Lease) → t.tells ≡ maker.tells → t.settings ≡ s → IsPoolSlot maker s l.index (image_slot_of l.memory) → IsNew s.max_memory_size image l.memory decl → IfSome image (FitsInto s.page (minimum_byte_size decl.ty)) → private_memory l ≡ begun_memory t l.index (record { decl = decl; image = image })
 begun_seen t maker s image decl l tells same of new fits =
     let least : ℕ = minimum_byte_size decl.ty in
     let Tells : Bool → Type 0 = λ b. first_bytes least l.memory.linear.storage ≡ (if b then Some (start image least) else None) in
-    let bytes : Tells t.tells = subst Tells (sym tells) (storage_begun maker s.behaviour s.max_memory_size l.index least image l.memory.linear.storage of new.slot.begun (omega (arith, new.slot.holds.inside, ap (λ (z : SlotIdentity). z.static_size) of.same)) (fits_of s.page least image fits)) in
+    let bytes : Tells t.tells = subst Tells (sym tells) (storage_begun maker s l.index least image l.memory.linear.storage of new.slot.begun (omega (arith, new.slot.holds.inside, ap (λ (z : SlotIdentity). z.static_size) of.same)) (fits_of s.page least image fits)) in
     let started : Option (List ℕ) = if t.tells then Some (start image least) else None in
     let roomy : ℕ = static_capacity t.settings.max_memory_size (maximum_asked decl.ty) in
     let Parts : MemoryType → ℕ → Option (List ℕ) → PrivateMemory = λ ty n b. record { slot = l.index; ty = ty; size = least; capacity = n; bytes = b } in

@@ -5,7 +5,7 @@ use Rattle.std.specs.Option.{option_or}
 use Rattle.std.proofs.lemmas.Bool.{le-leb}
 use Rattle.std.proofs.lemmas.Option.{same_Some, slice_get_within}
 use Rattle.pool_pages.specs.MemoryTypes.{minimum_byte_size, allow_growth_to}
-use Rattle.pool_alloc.specs.Wants.{MemoryWant, Want, new_memory, new_table}
+use Rattle.pool_alloc.specs.Wants.{MemoryWant, Want, new_memory, new_table, new_stack}
 use Rattle.pool_pages.specs.declared.module_types.MemoryType.{MemoryType}
 use Rattle.pool_pages.specs.declared.unsupported.Unsupported.{Unsupported}
 use Rattle.pool_pages.specs.declared.unsupported.Unsupported.TheVariants.{InitialSize, AddressSpace, MemoryMinimum, TableSize}
@@ -27,7 +27,9 @@ use Rattle.pool_alloc.specs.TableSteps.{table_refused, made_unless}
 use Rattle.pool_table.specs.Tables.{type_maximum}
 use Rattle.pool_pages.specs.declared.table_type.TableType.{TableType}
 use Rattle.pool_run.proofs.Wants.{memory_at, table_at}
-use Rattle.pool_run.specs.Private.{Grants, Terms, Request, wants_of, refused_by, own_refusal, first_refusal, slots_asked, limit_for, is_memory, no_memory, no_instance, no_slot, page_fault, IsGiven, IsRefused, table_room}
+use Rattle.pool_run.proofs.HeldSlots.{held_plan}
+use Rattle.pool_alloc.specs.declared.pool_core.Settings.{Settings}
+use Rattle.pool_run.specs.Private.{Grants, Terms, stripe_slots, Request, wants_of, refused_by, own_refusal, first_refusal, slots_asked, limit_for, is_memory, no_memory, no_instance, no_slot, page_fault, IsGiven, IsRefused, table_room}
 use Rattle.pool_run.specs.Rooms.{World, live_count, table_count, instance_count, SomeMayFault, IsForRoom}
 use Rattle.pool_run.specs.Ties.{HasNoRefusal, HasCause}
 
@@ -36,11 +38,11 @@ abbrev pub ComesFor : World → Request → Grants → AllocError → Type 0
 ComesFor w request told e = IsGiven w.terms (wants_of request) e × IsForRoom w request told e
 
 -- no slot is free for memory k
-pub slots_given : (w : World) (request : Request) (told : Grants) (total stripe k : ℕ) (want : MemoryWant) → w.terms.slots ≡ total → stripe ≡ 0 → slice_get request.memories k ≡ Some want → k < slots_asked w.terms (wants_of request) → (w.alone ≡ true → w.terms.slots ≤ live_count told + k) → ComesFor w request told (alloc.Limit (record { limit = total; kind = MemoryStripe stripe }))
+pub slots_given : (w : World) (request : Request) (told : Grants) (total stripe k : ℕ) (want : MemoryWant) → stripe_slots w.terms ≡ total → stripe ≡ w.terms.stripe → slice_get request.memories k ≡ Some want → k < slots_asked w.terms (wants_of request) → (w.alone ≡ true → stripe_slots w.terms ≤ live_count told + k) → ComesFor w request told (alloc.Limit (record { limit = total; kind = MemoryStripe stripe }))
 slots_given w request told total stripe k want is first there asked full =
     let E : ℕ → ℕ → AllocError = λ n i. alloc.Limit (record { limit = n; kind = MemoryStripe i }) in
-    let which : limit_for w.terms (slice_get (wants_of request) k) ≡ E w.terms.slots 0 = ap (limit_for w.terms) (memory_at request k want there) in
-    ((no_slot k, ap (λ (i : ℕ). E total i) first ∙ ap (λ (n : ℕ). E n 0) (sym is) ∙ sym which, asked), λ alone. (k, slice_get_within request.memories k want there, asked, full alone))
+    let which : limit_for w.terms (slice_get (wants_of request) k) ≡ E (stripe_slots w.terms) w.terms.stripe = ap (limit_for w.terms) (memory_at request k want there) in
+    ((no_slot k, ap (λ (i : ℕ). E total i) first ∙ ap (λ (n : ℕ). E n w.terms.stripe) (sym is) ∙ sym which, asked), λ alone. (k, slice_get_within request.memories k want there, asked, full alone))
 
 -- nor for table k
 pub tables_given : (w : World) (request : Request) (told : Grants) (total k : ℕ) (ty : TableType) → w.terms.table_slots ≡ total → slice_get request.tables k ≡ Some ty → length request.memories + k < slots_asked w.terms (wants_of request) → (w.alone ≡ true → w.terms.table_slots ≤ table_count told + k) → ComesFor w request told (alloc.Limit (record { limit = total; kind = Tables }))
@@ -60,10 +62,10 @@ pub fault_given : (w : World) (request : Request) (told : Grants) (k : ℕ) (wan
 fault_given w request told k want there asked some free = ((page_fault k, refl, (asked, ap is_memory (memory_at request k want there))), (some, free))
 
 -- it was one on the region of a slot of the pool
-pub fault_of_slot : (w : World) (behaviour : DecommitBehavior) (static_size total slot : ℕ) (held new : Slot) → w.terms.slots ≡ total → slot < total → IsPoolSlot w.maker behaviour static_size slot held → IsLeft held new → SomeMayFault w
-fault_of_slot w behaviour static_size total slot held new is inside of left =
+pub fault_of_slot : (w : World) (settings : Settings) (total slot : ℕ) (held new : Slot) → w.terms.slots ≡ total → slot < total → IsPoolSlot w.maker settings slot held → IsLeft held new → SomeMayFault w
+fault_of_slot w settings total slot held new is inside of left =
     let Q : Option (List ℕ) → Type 0 = λ t. IfSome t (λ p. 0 < length p) in
-    (slot, omega (arith, is, inside), subst Q (ap (λ (z : SlotIdentity). z.plan) of.same) left.listed)
+    (slot, omega (arith, is, inside), subst Q (held_plan w.maker settings slot held of) left.listed)
 
 -- A refusal that is given, of a module that breaks no rule.
 pub given_cause : (w : World) (request : Request) (told : Grants) (e : AllocError) → request.broken ≡ None → ComesFor w request told e → HasCause w request told e
@@ -93,6 +95,7 @@ table_for_room w request told (Ok true) least room e is = table_past w request t
 want_for_room : (w : World) (request : Request) (told : Grants) (want : Want) (e : AllocError) → own_refusal w.terms want ≡ Some e → IsForRoom w request told e
 want_for_room w request told (new_memory want) e own = own_for_room w request told (memory_answer (Some w.terms.host.rule) (Ok true) (minimum_asked want.decl.ty) (maximum_asked want.decl.ty)) want.decl.ty e own
 want_for_room w request told (new_table ty) e own = table_for_room w request told (table_answer (Some w.terms.host.rule) (Ok true) ty.limits.min (Some (type_maximum ty))) ty.limits.min (table_room w.terms.settings ty) e own
+want_for_room w request told new_stack e own = absurd cc
 
 -- Its first own refusal, which is that of this memory or table.
 pub own_cause : (w : World) (request : Request) (told : Grants) (want : Want) (e : AllocError) → request.broken ≡ None → own_refusal w.terms want ≡ Some e → first_refusal w.terms (wants_of request) ≡ Some e → HasCause w request told e

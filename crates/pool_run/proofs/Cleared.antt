@@ -2,11 +2,12 @@
 use Rattle.std.proofs.Common.{◌≡◌, ℕ, Bool, true, false, List, [], ◌∷◌, Option, None, refl, sym, ap, ◌∙◌, is_some}
 use Rattle.std.specs.Prelude.{nat_lt, if◌then◌else◌}
 use Rattle.pool_alloc.specs.Objects.{objects_in, objects_wanted}
-use Rattle.pool_alloc.specs.Asked.{ModuleAsked}
+use Rattle.pool_alloc.specs.declared.frame.Asked.{Asked}
+use Rattle.pool_alloc.specs.declared.frame.Asked.TheVariants.{Nothing as nothing_asked, Module as module_asked, Stack as stack_asked}
 use Rattle.pool_alloc.specs.Leases.{Lease}
 use Rattle.pool_alloc.specs.TableLeases.{LeasedTable}
 use Rattle.pool_alloc.specs.Stepping.{is_idle}
-use Rattle.pool_alloc.specs.Turns.{Turn, goes, ends, next, flush, search, stays, Row, Left, failing, returned_next, granted_next, next_by, is_flushed, after, stepped}
+use Rattle.pool_alloc.specs.Turns.{Turn, goes, ends, next, flush, search, stays, Row, Left, failing, all_returned, returned_next, granted_next, next_by, is_flushed, after, stepped}
 use Rattle.pool_alloc.specs.declared.frame.Ending.{Ending}
 use Rattle.pool_alloc.specs.declared.frame.Ending.TheVariants.{Granted as granted, Returned as returned, Refused as refused}
 use Rattle.pool_alloc.specs.declared.frame.Frame.{Frame}
@@ -15,8 +16,8 @@ use Rattle.pool_alloc.specs.declared.frame.Phase.TheVariants.{Idle}
 use Rattle.pool_alloc.specs.declared.pool_core.PoolCore.{PoolCore}
 
 -- nothing is left of a call
-pub record IsClear (asked : Option ModuleAsked) (ending : Ending) (queues : ℕ) : Type 0 where
-  pub asked_for : asked ≡ None
+pub record IsClear (asked : Asked) (ending : Ending) (queues : ℕ) : Type 0 where
+  pub asked_for : asked ≡ nothing_asked
   pub aim : ending ≡ returned
   pub none_taken : queues ≡ 0
 
@@ -33,8 +34,13 @@ module _ {P : Type 0} where
   either_clear true x y one other = one
   either_clear false x y one other = other
 
+  all_clear : (asked : Asked) (f : Frame P) → IsClearLeft (all_returned asked f)
+  all_clear stack_asked f = λ e. record { asked_for = refl; aim = refl; none_taken = refl }
+  all_clear nothing_asked f = λ e. absurd cc
+  all_clear (module_asked m) f = λ e. absurd cc
+
   returned_clear : (items : List Lease) (tables : List LeasedTable) (f : Frame P) → IsClearLeft (returned_next items tables f)
-  returned_clear [] [] f = λ e. absurd cc
+  returned_clear [] [] f = all_clear f.asked f
   returned_clear [] (lease ∷ rest) f = λ e. absurd cc
   returned_clear (lease ∷ rest) tables f = λ e. absurd cc
 
@@ -59,7 +65,7 @@ module _ {P : Type 0} where
   stepped_clear r some = after_clear r.frame r.turn some
 
   -- Such a frame is what the end of a request leaves of it.
-  pub clear_is : (f : Frame P) → f.phase ≡ Idle → IsClear f.asked f.ending f.queues → record f { phase = Idle; asked = None; ending = returned; queues = 0 } ≡ f
+  pub clear_is : (f : Frame P) → f.phase ≡ Idle → IsClear f.asked f.ending f.queues → record f { phase = Idle; asked = nothing_asked; ending = returned; queues = 0 } ≡ f
   clear_is f idle clear =
-      ap (λ (x : Phase P). record f { phase = x; asked = None; ending = returned; queues = 0 }) (sym idle) ∙ ap (λ (o : Option ModuleAsked). record f { asked = o; ending = returned; queues = 0 }) (sym clear.asked_for)
+      ap (λ (x : Phase P). record f { phase = x; asked = nothing_asked; ending = returned; queues = 0 }) (sym idle) ∙ ap (λ (o : Asked). record f { asked = o; ending = returned; queues = 0 }) (sym clear.asked_for)
       ∙ ap (λ (e : Ending). record f { ending = e; queues = 0 }) (sym clear.aim) ∙ ap (λ (n : ℕ). record f { queues = n }) (sym clear.none_taken)

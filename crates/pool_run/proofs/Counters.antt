@@ -1,4 +1,5 @@
--- No counter of a run comes to its end: there are no more instances than commands, and no more memories than slots.
+-- No counter of a run comes to its end: there are no more instances and components than commands, and no more memories than
+-- slots.
 use Rattle.std.proofs.Common.{◌≡◌, ℕ, ◌+◌, ◌^◌, ◌<◌, ◌≤◌, List, length, Option, Some, None, refl, inl, inr, arith}
 use Rattle.std.specs.Prelude.{sum_by, ◌-◌}
 use Rattle.std.proofs.lemmas.Bool.{cases_eq}
@@ -9,24 +10,28 @@ use Rattle.pool_slots.specs.Plans.{cell_place}
 use Rattle.pool_slots.specs.declared.plan.Plan.{Plan}
 use Rattle.pool_slots.specs.declared.slot_name.SlotName.{SlotName}
 use Rattle.pool_alloc.specs.Leases.{Lease, memory_slot}
-use Rattle.pool_alloc.specs.Places.{right_to, instance_count, phase_count, phase_instances, phase_memories, phase_tables}
+use Rattle.pool_alloc.specs.Places.{instances_for, phase_stacks, right_to, instance_count, phase_count, phase_instances, phase_components, phase_memories, phase_tables}
 use Rattle.pool_alloc.specs.Sound.{IsPoolPlan, IsSlotName}
-use Rattle.pool_alloc.specs.Stepping.{CanCount, grant_count, grant_instances, grant_memories, grant_tables}
+use Rattle.pool_alloc.specs.Stepping.{grant_stacks, CanCount, grant_count, grant_instances, grant_components, grant_memories, grant_tables}
 use Rattle.pool_alloc.specs.Steps.{memory_slots}
+use Rattle.pool_alloc.specs.StackLeases.{LeasedStack, stack_slot}
+use Rattle.pool_alloc.specs.declared.frame.Asked.{Asked}
+use Rattle.pool_alloc.specs.declared.frame.Asked.TheVariants.{Stack as stack_asked}
 use Rattle.pool_alloc.specs.TableLeases.{LeasedTable, table_slot}
 use Rattle.pool_alloc.specs.declared.pool_core.PoolCore.{PoolCore}
 use Rattle.pool_alloc.specs.declared.frame.Grant.{Grant}
-use Rattle.pool_alloc.specs.declared.frame.Grant.TheVariants.{Instance as instance}
+use Rattle.pool_alloc.specs.declared.frame.Grant.TheVariants.{Instance as instance, Component as component, Stack as stack}
 use Rattle.pool_alloc.specs.declared.frame.Object.TheVariants as object
 use Rattle.pool_alloc.specs.declared.frame.Phase.{Phase}
-use Rattle.pool_alloc.specs.declared.frame.Phase.TheVariants.{Idle, UncountObject}
+use Rattle.pool_alloc.specs.declared.frame.Phase.TheVariants.{Idle, UncountObject, UncountComponent}
 use Rattle.pool_alloc.specs.declared.lease.InstanceLease.{InstanceLease}
 use Rattle.pool_alloc.proofs.Below.{below, below_sum, below_most}
 use Rattle.pool_alloc.proofs.PlanPlaces.{cell_inside}
 use Rattle.pool_run.specs.Ties.{granted_to, held_by_party, IsRunning}
+use Rattle.pool_run.specs.Turns.{stack_of, leases_of, tables_of}
 use Rattle.pool_run.specs.declared.running_party.RunningParty.{RunningParty}
 use Rattle.pool_run.proofs.Exhausted.{lease_below, live_below}
-use Rattle.pool_run.proofs.SlotKinds.{memory_one, table_one, memories_counted, tables_counted}
+use Rattle.pool_run.proofs.SlotKinds.{stack_one, stacks_counted, stacks_sized, memory_one, table_one, memories_counted, tables_counted, memories_sized, tables_sized}
 use Rattle.pool_run.proofs.SlotsBelow.{below_le, sum_below, ones, one_below, none_made}
 use Rattle.pool_run.proofs.SlotsMade.{made_slot, made_once, away_made}
 
@@ -38,6 +43,10 @@ few_slots plan places total named is names past =
       | inr some ↦ omega (arith, some, is.small, cell_inside plan places (named (total - 1)) is (names (total - 1) (omega (arith, some))), past (total - 1))
     ]
 
+few_for : (asked : Asked) (n : ℕ) → instances_for asked n ≤ n
+few_for stack_asked n = omega arith
+few_for _ n = omega arith
+
 module _ {P : Type 0} where
   -- what is uncounted has a slot
   memory_below : (n : ℕ) (phase : Phase P) → ((k : ℕ) → n ≤ k → phase_count (right_to (memory_slot k)) phase ≡ 0) → phase_memories phase ≤ below (λ k. phase_count (right_to (memory_slot k)) phase) n
@@ -47,6 +56,10 @@ module _ {P : Type 0} where
   table_below : (n : ℕ) (phase : Phase P) → ((k : ℕ) → n ≤ k → phase_count (right_to (table_slot k)) phase ≡ 0) → phase_tables phase ≤ below (λ k. phase_count (right_to (table_slot k)) phase) n
   table_below n (UncountObject (object.Table lease)) none = one_below table_slot table_one (λ (l : LeasedTable). l.index) (λ l. l.numbers) n lease none
   table_below n _ none = omega arith
+
+  stack_below : (n : ℕ) (phase : Phase P) → ((k : ℕ) → n ≤ k → phase_count (right_to (stack_slot k)) phase ≡ 0) → phase_stacks phase ≤ below (λ k. phase_count (right_to (stack_slot k)) phase) n
+  stack_below n (UncountObject (object.Stack lease)) none = one_below stack_slot stack_one (λ (l : LeasedStack). l.stack.index) (λ l. l.numbers) n lease none
+  stack_below n _ none = omega arith
 
   -- of a kind, a party has no more objects than slots
   module _ (named : ℕ → SlotName) (objects : InstanceLease P → ℕ) (uncounted : Phase P → ℕ) (of : Grant P → ℕ) (total : ℕ)
@@ -88,8 +101,8 @@ module _ {P : Type 0} where
         arith,
         running.whole.memories,
         few_held memory_slot (λ lease. length lease.memories.items) phase_memories grant_memories n
-            (λ lease none. lease_below memory_slot memory_one (λ (l : Lease). l.index) (λ l. l.numbers) (λ l. l.memories.items) memories_counted grant_memories (λ l. refl) n lease none) (memory_below n)
-            (λ live none. live_below memory_slot memory_one (λ (l : Lease). l.index) (λ l. l.numbers) (λ l. l.memories.items) memories_counted grant_memories (λ l. refl) n live none) maker c parties running (λ k. refl),
+            (λ lease none. lease_below memory_slot memory_one (λ (l : Lease). l.index) (λ l. l.numbers) leases_of memories_counted grant_memories memories_sized n (instance lease) none) (memory_below n)
+            (λ live none. live_below memory_slot memory_one (λ (l : Lease). l.index) (λ l. l.numbers) leases_of memories_counted grant_memories memories_sized n live none) maker c parties running (λ k. refl),
       )
 
   few_tables : (maker : MakerTold) (c : PoolCore P) (parties : List (RunningParty P)) → IsRunning maker c parties → c.counters.tables ≤ c.plan.totals.table
@@ -99,26 +112,58 @@ module _ {P : Type 0} where
         arith,
         running.whole.tables,
         few_held table_slot (λ lease. length lease.tables.items) phase_tables grant_tables n
-            (λ lease none. lease_below table_slot table_one (λ (l : LeasedTable). l.index) (λ l. l.numbers) (λ l. l.tables.items) tables_counted grant_tables (λ l. refl) n lease none) (table_below n)
-            (λ live none. live_below table_slot table_one (λ (l : LeasedTable). l.index) (λ l. l.numbers) (λ l. l.tables.items) tables_counted grant_tables (λ l. refl) n live none) maker c parties running (λ k. refl),
+            (λ lease none. lease_below table_slot table_one (λ (l : LeasedTable). l.index) (λ l. l.numbers) tables_of tables_counted grant_tables tables_sized n (instance lease) none) (table_below n)
+            (λ live none. live_below table_slot table_one (λ (l : LeasedTable). l.index) (λ l. l.numbers) tables_of tables_counted grant_tables tables_sized n live none) maker c parties running (λ k. refl),
+      )
+
+  few_stacks : (maker : MakerTold) (c : PoolCore P) (parties : List (RunningParty P)) → IsRunning maker c parties → c.counters.stacks ≤ c.plan.totals.stack
+  few_stacks maker c parties running =
+      let n : ℕ = c.plan.totals.stack in
+      let of : RunningParty P → ℕ = λ p. 0 + phase_stacks p.frame.phase + sum_by (granted_to grant_stacks) p.live in
+      omega (
+        arith,
+        running.whole.stacks,
+        sum_by-le-sum_by (λ p. (held_by_party p).stacks) of parties (λ p. omega arith),
+        few_held stack_slot (λ lease. 0) phase_stacks grant_stacks n (λ lease none. omega arith) (stack_below n)
+            (λ live none. live_below stack_slot stack_one (λ (l : LeasedStack). l.stack.index) (λ l. l.numbers) stack_of stacks_counted grant_stacks stacks_sized n live none) maker c parties running (λ k. refl),
       )
 
   phase_counts_one : (phase : Phase P) → phase_instances phase ≤ 1
   phase_counts_one Idle = omega arith
   phase_counts_one _ = omega arith
 
+  phase_components_one : (phase : Phase P) → phase_components phase ≤ 1
+  phase_components_one UncountComponent = omega arith
+  phase_components_one _ = omega arith
+
   one_instance : (o : Option (Grant P)) → granted_to grant_instances o ≤ 1
   one_instance None = omega arith
   one_instance (Some (instance lease)) = omega arith
+  one_instance (Some component) = omega arith
+  one_instance (Some (stack lease)) = omega arith
 
-  -- A party has no more instances than places, and one more.
+  one_component : (o : Option (Grant P)) → granted_to grant_components o ≤ 1
+  one_component None = omega arith
+  one_component (Some (instance lease)) = omega arith
+  one_component (Some component) = omega arith
+  one_component (Some (stack lease)) = omega arith
+
+  -- A party has no more instances than places, and one more, and so it is of components.
+  few_live : (of : Grant P → ℕ) (live : List (Option (Grant P))) → ((o : Option (Grant P)) → granted_to of o ≤ 1) → sum_by (granted_to of) live ≤ length live
+  few_live of live one = omega (arith, sum_by-le-sum_by (granted_to of) (λ o. 1) live one, ones live)
+
   few_instances : (p : RunningParty P) → (held_by_party p).instances ≤ 1 + length p.live
-  few_instances p = omega (arith, phase_counts_one p.frame.phase, sum_by-le-sum_by (granted_to grant_instances) (λ o. 1) p.live one_instance, ones p.live)
+  few_instances p = omega (arith, few_for p.frame.asked (phase_instances p.frame.phase), phase_counts_one p.frame.phase, few_live grant_instances p.live one_instance)
 
-  -- So both counters can count on.
+  few_components : (p : RunningParty P) → (held_by_party p).components ≤ 1 + length p.live
+  few_components p = omega (arith, phase_components_one p.frame.phase, few_live grant_components p.live one_component)
+
+  -- So all counters can count on.
   pub can_count : (maker : MakerTold) (c : PoolCore P) (parties : List (RunningParty P)) → IsRunning maker c parties → sum_by (λ p. 1 + length p.live) parties + 1 < 2 ^ 64 → CanCount c
   can_count maker c parties running few = record {
     instances = omega (arith, running.whole.instances, sum_by-le-sum_by (λ p. (held_by_party p).instances) (λ p. 1 + length p.live) parties few_instances);
+    components = omega (arith, running.whole.components, sum_by-le-sum_by (λ p. (held_by_party p).components) (λ p. 1 + length p.live) parties few_components);
     memories = omega (arith, few_memories maker c parties running, few_slots c.plan (length c.parts) (memory_slots c.plan) memory_slot running.core.plan (λ k inside. record { pooled = tt; inside = inside }) (λ k. omega arith));
+    stacks = omega (arith, few_stacks maker c parties running, few_slots c.plan (length c.parts) c.plan.totals.stack stack_slot running.core.plan (λ k inside. record { pooled = tt; inside = inside }) (λ k. omega arith));
     tables = omega (arith, few_tables maker c parties running, few_slots c.plan (length c.parts) c.plan.totals.table table_slot running.core.plan (λ k inside. record { pooled = tt; inside = inside }) (λ k. omega arith));
   }

@@ -4,10 +4,9 @@ use Rattle.std.specs.Prelude.{IfSome, slice_get, slice_index_or}
 use Rattle.std.proofs.lemmas.List.{length-set}
 use Rattle.std.proofs.lemmas.Option.{slice_get-get_or}
 use Rattle.pool_alloc.specs.Asked.{ModuleAsked}
-use Rattle.pool_run.specs.Turns.{host_of_party}
 use Rattle.pool_run.specs.Private.{PrivateState, StepsBy, with_grants, no_grants}
-use Rattle.pool_run.specs.Rooms.{World, PooledStep, under}
-use Rattle.pool_run.specs.Folds.{RunState, commands_of, replies_to, party_by_party, TurnsIf, Folds, HasNothingLeft, IsFinished, Runs, IsRunTo, IsUnderWay}
+use Rattle.pool_run.specs.Rooms.{World, PooledStep}
+use Rattle.pool_run.specs.Folds.{RunState, commands_of, replies_to, party_by_party, TurnsIf, Folds, HasNothingLeft, IsFinished, Runs, seen_by, IsRunTo, IsUnderWay}
 use Rattle.pool_run.specs.declared.command.Command.{Command}
 use Rattle.pool_run.specs.declared.reply.Reply.{Reply}
 use Rattle.pool_run.specs.declared.running_party.RunningParty.{RunningParty}
@@ -22,7 +21,7 @@ no_more_replies Step n (c ∷ commands) (r ∷ replies) start end run = omega (a
 module _ {P : Type 0} where
   -- so that they have places
   pub few_told : (w : World) (commands : List Command) (replies : List Reply) (p : RunningParty P) → IsRunTo w commands replies p → length replies ≤ length p.live
-  few_told w commands replies p to = omega (arith, no_more_replies (PooledStep (under (host_of_party p) w)) 0 commands replies (with_grants (no_grants commands)) (state_of to.private.grants p.store.made) to.private.run, to.room)
+  few_told w commands replies p to = omega (arith, no_more_replies (PooledStep (seen_by p w)) 0 commands replies (with_grants (no_grants commands)) (state_of to.private.grants p.store.made) to.private.run, to.room)
 
   turned_count : (modules : List ModuleAsked) (commands : List Command) (i : ℕ) (o : Option (RunningParty P)) (s new : RunState P) → TurnsIf modules commands i o s new → length new.parties ≡ length s.parties
   turned_count modules commands i None s new turns = ap (λ (x : RunState P). length x.parties) turns

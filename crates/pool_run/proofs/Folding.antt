@@ -9,17 +9,24 @@ use Rattle.pool_alloc.specs.declared.pool_core.PoolCore.{PoolCore}
 use Rattle.pool_alloc.specs.declared.pool_core.Settings.{Settings}
 use Rattle.pool_alloc.specs.Asked.{ModuleAsked}
 use Rattle.pool_alloc.proofs.Telling.{told_weaker}
+use Rattle.pool_run.specs.PrivateStacks.{StackTerms}
 use Rattle.pool_run.specs.PrivateTables.{Host}
+use Rattle.pool_hall.specs.declared.unit_name.SlotKind.TheVariants.{Stack as stack_kind}
+use Rattle.pool_alloc.specs.Steps.{allocator_of}
+use Rattle.pool_slots.specs.Plans.{has_number}
+use Rattle.pool_slots.specs.declared.plan.Plan.{Plan}
 use Rattle.pool_run.specs.Private.{IsPrivateRun, no_grants}
-use Rattle.pool_run.specs.Rooms.{World, open_host, under, world_at, IsPooledRun}
+use Rattle.pool_run.specs.Rooms.{World, open_host, under, in_stripe, world_at, IsPooledRun}
 use Rattle.pool_run.specs.Turns.{Turned, Turns, with_reply, host_of_party}
 use Rattle.pool_run.specs.Ties.{IsAlone, IsPrivate, CanTurn}
-use Rattle.pool_run.specs.Worlds.{IsWorldOf, IsCallFor, AreCallsFor, HasOneStripe, HasTables}
-use Rattle.pool_run.specs.Folds.{RunState, commands_of, replies_to, party_by_party, with_turn, TurnsIf, TurnsOf, Folds, Runs, IsRunTo, IsUnderWay}
+use Rattle.pool_run.specs.Worlds.{HasStacks, IsWorldOf, IsCallFor, AreCallsFor, HasStripes, HasTables}
+use Rattle.pool_run.specs.Folds.{RunState, commands_of, replies_to, party_by_party, with_turn, TurnsIf, TurnsOf, Folds, Runs, seen_by, IsRunTo, IsUnderWay}
 use Rattle.pool_run.specs.declared.command.Command.{Command}
 use Rattle.pool_run.specs.declared.reply.Reply.{Reply}
 use Rattle.pool_run.specs.declared.running_party.RunningParty.{RunningParty}
 use Rattle.pool_run.proofs.Beginning.{turn_private}
+use Rattle.pool_run.proofs.Drawn.{turn_stripe, still_private}
+use Rattle.pool_run.proofs.Turning.{SeesTurn}
 use Rattle.pool_run.proofs.Grants.{state_of, pooled_private}
 use Rattle.pool_run.proofs.Running.{can_turn, turned_running}
 use Rattle.pool_run.proofs.Turned.{HasTurned, has_turned, turn_sound}
@@ -27,18 +34,30 @@ use Rattle.pool_run.proofs.LimitsOfRuns.{turn_within, live_within}
 use Rattle.pool_run.specs.Limits.{IsWithinCounts}
 
 module _ {P : Type 0} where
+  stacks_over : (t : StackTerms) (c d : PoolCore P) → IsSameSize c d → HasStacks t c → HasStacks t d
+  stacks_over t c d size has =
+      let Room : Plan → Type 0 = λ plan. (allocator_of plan stack_kind 0).capacity ≡ t.slots in
+      let Each : Plan → Type 0 = λ plan. (slot : ℕ) → slot < t.slots → has_number (allocator_of plan stack_kind 0) slot ≡ true in
+      record {
+        total = has.total ∙ sym (ap (λ (plan : Plan). plan.totals.stack) size.plan);
+        room = subst Room (sym size.plan) has.room;
+        each = subst Each (sym size.plan) has.each;
+        size = has.size ∙ sym (ap (λ (s : Settings). s.stack_size) size.settings);
+        zeroing = has.zeroing ∙ sym (ap (λ (s : Settings). s.stack_zeroing) size.settings);
+      }
+
   -- The world stays that of the pool.
   world_over : (w : World) (c d : PoolCore P) → IsSameSize c d → IsWorldOf w c → IsWorldOf w d
-  world_over w c d size world = record { tells = world.tells; settings = world.settings ∙ sym size.settings; plan = subst (HasOneStripe w.terms.slots) (sym size.plan) world.plan; tables = subst (HasTables w.terms.table_slots) (sym size.plan) world.tables }
+  world_over w c d size world = record { tells = world.tells; settings = world.settings ∙ sym size.settings; plan = subst (HasStripes w.terms.slots w.terms.settings.num_stripes) (sym size.plan) world.plan; tables = subst (HasTables w.terms.table_slots) (sym size.plan) world.tables; stacks = stacks_over w.terms.stacks c d size world.stacks }
 
-  -- The world is the pool's whatever the host of a party.
-  world_under : (host : Host) (w : World) (c : PoolCore P) → IsWorldOf w c → IsWorldOf (under host w) c
-  world_under host w c world = record { tells = world.tells; settings = world.settings; plan = world.plan; tables = world.tables }
+  -- The world is the pool's as each party sees it.
+  world_seen : (p : RunningParty P) (w : World) (c : PoolCore P) → IsWorldOf w c → IsWorldOf (seen_by p w) c
+  world_seen p w c world = record { tells = world.tells; settings = world.settings; plan = world.plan; tables = world.tables; stacks = world.stacks }
 
-calls_under : (host : Host) (w : World) (s : Settings) (modules : List ModuleAsked) → AreCallsFor w.terms s modules → AreCallsFor (under host w).terms s modules
-calls_under host w s modules calls number =
-    told_weaker (IsCallFor w.terms s number) (IsCallFor (under host w).terms s number) (slice_get modules number)
-    (λ m for. record { asked = for.asked; fit = for.fit }) (calls number)
+  calls_seen : (p : RunningParty P) (w : World) (s : Settings) (modules : List ModuleAsked) → AreCallsFor w.terms s modules → AreCallsFor (seen_by p w).terms s modules
+  calls_seen p w s modules calls number =
+      told_weaker (IsCallFor w.terms s number) (IsCallFor (seen_by p w).terms s number) (slice_get modules number)
+      (λ m for. record { asked = record { of_module = for.asked.of_module; info = for.asked.info; memories = for.asked.memories }; fit = for.fit }) (calls number)
 
 module _ {P : Type 0} where
   calls_over : (w : World) (modules : List ModuleAsked) (c d : PoolCore P) → IsSameSize c d → AreCallsFor w.terms c.settings modules → AreCallsFor w.terms d.settings modules
@@ -51,9 +70,19 @@ module _ {P : Type 0} where
   run_to w modules commands replies c p t world calls can alone to turns turned = record {
     room = turned.room ∙ to.room;
     private =
-        let u : World = under (host_of_party p) w in
-        let By : Host → Type 0 = λ host. IsPrivate (under host w) (no_grants commands) commands (with_reply t.reply replies) t.party in
-        subst By (sym turned.host) (turn_private u modules (no_grants commands) commands replies c p t (world_under (host_of_party p) w c world) (calls_under (host_of_party p) w c.settings modules calls) can alone refl (omega (arith, to.room)) to.private turns);
+        let u : World = seen_by p w in
+        let sees : SeesTurn u (no_grants commands) commands replies t = turn_private u modules (no_grants commands) commands replies c p t (world_seen p w c world) (calls_seen p w c.settings modules calls) can alone refl refl (omega (arith, to.room)) to.private turns in
+        let By : Host → World = λ host. in_stripe t.party.frame.stripe (under host w) in
+        let Is : World → Type 0 = λ x. IsPrivate x (no_grants commands) commands (with_reply t.reply replies) t.party in
+        let left = turn_stripe w modules commands c p t calls can (omega (arith, to.room)) to.drawn to.fresh turns in
+        let now : Is (By (host_of_party p)) =
+        elim left.stripe [
+          | inl same ↦ subst (λ (n : ℕ). Is (in_stripe n (under (host_of_party p) w))) (sym same) sees
+          | inr drew ↦ still_private u (By (host_of_party p)) (no_grants commands) commands replies t sees (omega (arith, to.private.count, (to.fresh drew.keyed).0)) drew.silent drew.settled
+        ] in
+        subst (λ (host : Host). Is (By host)) (sym turned.host) now;
+    fresh = λ keyed. (turn_stripe w modules commands c p t calls can (omega (arith, to.room)) to.drawn to.fresh turns).fresh keyed;
+    drawn = (turn_stripe w modules commands c p t calls can (omega (arith, to.room)) to.drawn to.fresh turns).drawn;
   }
 
   -- A party that is alone stays so.
@@ -61,6 +90,7 @@ module _ {P : Type 0} where
   alone_turned c p t turned alone = record {
     places = λ x. omega (arith, turned.places x, alone.places x);
     instances = omega (arith, turned.instances, alone.instances);
+    components = omega (arith, turned.components, alone.components);
     searched = turned.searched alone.searched;
   }
 
@@ -89,6 +119,7 @@ module _ {P : Type 0} where
         holds = record {
           running = turned_running w.maker s.core s.parties i p t way.holds.running below (subst Has (sym here) turned) (turn_sound w modules (commands_of inputs i) s.core p t way.calls can (omega (arith, to.room)) turns);
           instances = live_within t.core (slice_set s.parties i t.party) within;
+          components = within.components;
         };
         within = within;
         given = way.given;
@@ -146,16 +177,16 @@ module _ {P : Type 0} where
       runs.finishes.folds
 
   -- The replies to each party are a private run of its commands, and tell of the pool.
-  pub replies_pooled : (w : World) (modules : List ModuleAsked) (inputs : List (List Command)) (s : RunState P) (i : ℕ) (d : RunningParty P) → IsUnderWay w modules inputs s → i < length s.parties → IsPooledRun (world_at w i) (commands_of inputs i) (replies_to i s.replies)
+  pub replies_pooled : (w : World) (modules : List ModuleAsked) (inputs : List (List Command)) (s : RunState P) (i : ℕ) (d : RunningParty P) → IsUnderWay w modules inputs s → i < length s.parties → IsPooledRun (world_at w i (slice_index_or s.parties i d).frame.stripe) (commands_of inputs i) (replies_to i s.replies)
   replies_pooled w modules inputs s i d way below =
       let to = way.each i d below in
       let p : RunningParty P = slice_index_or s.parties i d in
       let same : host_of_party p ≡ slice_index_or w.hosts i open_host = sym (get_or-map host_of_party s.parties i d open_host below) ∙ ap (λ (hosts : List Host). slice_index_or hosts i open_host) way.hosts in
-      let By : Host → Type 0 = λ host. IsPooledRun (under host w) (commands_of inputs i) (replies_to i s.replies) in
+      let By : Host → Type 0 = λ host. IsPooledRun (in_stripe p.frame.stripe (under host w)) (commands_of inputs i) (replies_to i s.replies) in
       subst By same (state_of to.private.grants p.store.made, to.private.run)
 
-  pub replies_private : (w : World) (modules : List ModuleAsked) (inputs : List (List Command)) (s : RunState P) (i : ℕ) (d : RunningParty P) → IsUnderWay w modules inputs s → i < length s.parties → IsPrivateRun (world_at w i).terms (commands_of inputs i) (replies_to i s.replies)
-  replies_private w modules inputs s i d way below = pooled_private (world_at w i) (commands_of inputs i) (replies_to i s.replies) (replies_pooled w modules inputs s i d way below)
+  pub replies_private : (w : World) (modules : List ModuleAsked) (inputs : List (List Command)) (s : RunState P) (i : ℕ) (d : RunningParty P) → IsUnderWay w modules inputs s → i < length s.parties → IsPrivateRun (world_at w i (slice_index_or s.parties i d).frame.stripe).terms (commands_of inputs i) (replies_to i s.replies)
+  replies_private w modules inputs s i d way below = pooled_private (world_at w i (slice_index_or s.parties i d).frame.stripe) (commands_of inputs i) (replies_to i s.replies) (replies_pooled w modules inputs s i d way below)
 
   -- Turns that follow others.
   pub folds_on : (modules : List ModuleAsked) (inputs : List (List Command)) (first second : List ℕ) (s mid end : RunState P) → Folds modules inputs first s mid → Folds modules inputs second mid end → Folds modules inputs (first ++ second) s end

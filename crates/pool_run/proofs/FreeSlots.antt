@@ -10,11 +10,9 @@ use Rattle.pool_slots.specs.declared.slot_name.SlotName.{SlotName}
 use Rattle.pool_alloc.specs.Places.{right_to, both_count, slot_count}
 use Rattle.pool_alloc.specs.Stepping.{grant_count}
 use Rattle.pool_alloc.specs.declared.frame.Grant.{Grant}
-use Rattle.pool_alloc.specs.declared.frame.Grant.TheVariants.{Instance}
-use Rattle.pool_alloc.specs.declared.lease.InstanceLease.{InstanceLease}
 use Rattle.pool_alloc.proofs.SlotCounts.{slot_once}
 use Rattle.pool_alloc.proofs.Wholes.{two_of_sum}
-use Rattle.pool_run.specs.Private.{PrivateInstance, Grants, grant_at}
+use Rattle.pool_run.specs.Private.{PrivateGrant, Grants, grant_at}
 use Rattle.pool_run.specs.Rooms.{AllDiffer, AreFreeSlots}
 use Rattle.pool_run.specs.Turns.{private_grant, grants_of}
 use Rattle.pool_run.specs.Ties.{granted_to}
@@ -62,8 +60,8 @@ module _ {L : Type 0} (named : ℕ → SlotName) (index : L → ℕ) (numbers : 
       let there : times (index (get_or others n d)) others ≡ times slot others = ap (λ (k : ℕ). times k others) (sym (its (get_or others n d)) ∙ same) in
       omega (arith, some, there, none))
 
-  -- the leases of a kind that an instance has, and how its party sees them
-  module _ {P X : Type 0} (items : InstanceLease P → List L) (seen : L → X) (slot_in : X → ℕ) (objects : PrivateInstance → List X) (its : (l : L) → slot_in (seen l) ≡ index l) (sees : (lease : InstanceLease P) → objects (private_grant (Instance lease)) ≡ map seen (items lease)) (counted : (k : ℕ) (lease : InstanceLease P) → grant_count (right_to (named k)) (Instance lease) ≡ times k (items lease)) where
+  -- the leases of a kind that a grant has, and how its party sees them
+  module _ {P X : Type 0} (items : Grant P → List L) (seen : L → X) (slot_in : X → ℕ) (objects : PrivateGrant → List X) (its : (l : L) → slot_in (seen l) ≡ index l) (sees : (g : Grant P) → objects (private_grant g) ≡ map seen (items g)) (counted : (k : ℕ) (g : Grant P) → grant_count (right_to (named k)) g ≡ times k (items g)) where
     -- what a live grant has is counted
     grant_counted : (of : Grant P → ℕ) (live : List (Option (Grant P))) (j : ℕ) (grant : Grant P) → slice_index_or live j None ≡ Some grant → of grant ≤ sum_by (granted_to of) live
     grant_counted of [] j grant is = absurd cc
@@ -87,16 +85,16 @@ module _ {L : Type 0} (named : ℕ → SlotName) (index : L → ℕ) (numbers : 
 
     grant_free : (slot : ℕ) (live : List (Option (Grant P))) (j : ℕ) (x : Option (Grant P)) → slice_index_or live j None ≡ x → sum_by (granted_to (grant_count (right_to (named slot)))) live ≡ 0 → IfSome (option_map private_grant x) (λ g. All (λ m. slot_in m ≢ slot) (objects g))
     grant_free slot live j None is none = tt
-    grant_free slot live j (Some (Instance lease)) is none =
+    grant_free slot live j (Some g) is none =
         let None_in : List X → Type 0 = λ ms. All (λ m. slot_in m ≢ slot) ms in
-        subst None_in (sym (sees lease)) (others_free seen slot_in its slot (items lease) (omega (arith, counted slot lease, grant_counted (grant_count (right_to (named slot))) live j (Instance lease) is, none)))
+        subst None_in (sym (sees g)) (others_free seen slot_in its slot (items g) (omega (arith, counted slot g, grant_counted (grant_count (right_to (named slot))) live j g is, none)))
 
     slots_free : (leases : List L) (live : List (Option (Grant P))) (told : Grants) (total : ℕ) → grants_of live ≡ told → AreApart leases live total → All (λ slot. HasNoneIn slot told) (map index leases)
     slots_free leases live told total is apart =
         All-map (λ slot. HasNoneIn slot told) index leases
         (λ i d below j.
         let slot : ℕ = index (get_or leases i d) in
-        let Free : Option PrivateInstance → Type 0 = λ o. IfSome o (λ g. All (λ m. slot_in m ≢ slot) (objects g)) in
+        let Free : Option PrivateGrant → Type 0 = λ o. IfSome o (λ g. All (λ m. slot_in m ≢ slot) (objects g)) in
         subst Free (sym (told_at live told j (slice_index_or live j None) is refl))
         (grant_free slot live j (slice_index_or live j None) refl (omega (arith, lease_counted leases i d below, apart slot, made_once slot total))))
 

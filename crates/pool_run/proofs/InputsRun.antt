@@ -1,6 +1,6 @@
 -- A run of an input: the program's conditions follow from those of the input, and its end from its turns.
 use Rattle.std.proofs.Common.{◌≡◌, ℕ, ◌+◌, ◌*◌, ◌^◌, ◌<◌, ◌≤◌, zero, suc, List, [], ◌∷◌, ◌++◌, length, map, get_or, replicate, refl, sym, ap, ◌∙◌, subst, arith, Option, None, Bool, true, false}
-use Rattle.std.specs.Prelude.{slice_index_or}
+use Rattle.std.specs.Prelude.{slice_get, slice_index_or}
 use Rattle.std.proofs.lemmas.Bool.{eqb-true, ltb-true}
 use Rattle.std.proofs.lemmas.List.{length-map, length-replicate}
 use Rattle.std.proofs.lemmas.List.Sums.{sum_by-cons}
@@ -21,17 +21,18 @@ use Rattle.pool_run.specs.Folds.{RunParts, RunState, IsUnderWay, commands_of, re
 use Rattle.pool_run.specs.Made.{calls_made}
 use Rattle.pool_run.specs.Numbers.{calls_of_run}
 use Rattle.pool_run.specs.PartyRules.{host_for}
+use Rattle.pool_run.specs.Private.{IsPrivateRun}
 use Rattle.pool_run.specs.PrivateTables.{Host}
 use Rattle.pool_run.specs.Turns.{host_of_party}
 use Rattle.pool_run.specs.Rooms.{World, world_at, IsPooledRun}
 use Rattle.pool_run.specs.Progress.{IsRunOf}
-use Rattle.pool_run.specs.Runs.{Performs, IsToldBy, IsMadeRun, IsRun, world_of, HoldsFromStart}
+use Rattle.pool_run.specs.Runs.{Performs, IsToldBy, IsMadeRun, IsRun, world_of, world_seen, stripe_of, HoldsFromStart}
 use Rattle.pool_run.specs.RunsMade.{Background, commands_in, party_made, party_made_for, parties_made, nothing_told, places_in}
 use Rattle.pool_run.specs.Schedules.{turns_of}
 use Rattle.pool_run.specs.Validity.{is_valid, is_valid_act, are_valid_after, most_commands}
 use Rattle.pool_run.specs.Worlds.{IsWorldOf, AreCallsFor, NamesModule, NameModules}
 use Rattle.pool_run.specs.declared.command.Command.{Command}
-use Rattle.pool_run.specs.Acts.{Act, requests, on_memory, on_table, drops, act_of}
+use Rattle.pool_run.specs.Acts.{Act, requests, on_memory, on_table, drops, purges, releases, act_of, an_instance}
 use Rattle.pool_run.specs.declared.input.Input.{Input}
 use Rattle.pool_run.specs.declared.input.Party.{Party}
 use Rattle.pool_run.specs.declared.input.ScheduleEntry.{ScheduleEntry}
@@ -51,10 +52,13 @@ use Rattle.pool_run.proofs.WorldsMade.{is_world, are_calls_for}
 
 -- Each command names a module that there is.
 names : (modules : List ModuleInfo) (earlier : List Command) (act : Act) → is_valid_act modules earlier act ≡ true → NamesModule (length modules) act
-names modules earlier (requests number) valid = ltb-true number (length modules) valid
+names modules earlier (requests (an_instance number)) valid = ltb-true number (length modules) valid
+names modules earlier (requests _) valid = tt
 names modules earlier (on_memory of k op) valid = tt
 names modules earlier (on_table of k op) valid = tt
 names modules earlier (drops of) valid = tt
+names modules earlier (purges number) valid = ltb-true number (length modules) valid
+names modules earlier releases valid = tt
 
 pub all_name : (modules : List ModuleInfo) (earlier commands : List Command) → are_valid_after modules earlier commands ≡ true → NameModules (length modules) commands
 all_name modules earlier [] valid k = tt
@@ -125,7 +129,7 @@ module _ {P : Type 0} where
   made_under_way input maker run runnable made =
       let core : IsCore maker run.core = core_sound input maker run.core runnable made.made in
       let Way : List (RunningParty P) → Type 0 = λ ps. IsUnderWay (world_of input maker) run.modules (commands_in input.parties) (record { core = run.core; modules = run.modules; parties = ps; replies = nothing_told input.parties }) in
-      subst Way (sym made.parties) (under_way input maker run.core run.modules core (made_untouched maker input.config input.tunables input.offered run.core made.made) (is_world input maker run.core made.made) (calls_there input maker run.core run.modules runnable.built core made.calls))
+      subst Way (sym made.parties) (under_way input maker run.core run.modules core (made_untouched maker input.config input.tunables input.offered input.shards run.core made.made) (is_world input maker run.core (omega (arith, core.page, core.settings.page.at_least)) made.made) (calls_there input maker run.core run.modules runnable.built core made.calls))
 
   made_count : (input : Input) (maker : MakerTold) (run : RunParts P) → IsMadeRun input maker run → length run.parties ≡ length input.parties
   made_count input maker run made = ap (length {A = RunningParty P}) made.parties ∙ length-map input.parties (party_made_for {P = P} run.core.settings)
@@ -154,15 +158,20 @@ module _ {P : Type 0} where
   performed_under_way true w modules inputs schedule s end way runs = (run_under_way w modules inputs schedule s end way runs, run_count modules inputs schedule s end runs)
   performed_under_way false w modules inputs schedule s end way folds = (folds_under_way w modules inputs schedule s end way folds, folds_count modules inputs schedule s end folds)
 
+  -- what holds of the stripe of party i
+  at_stripe : (Q : ℕ → Type 0) (parties : List (RunningParty P)) (i : ℕ) (d : RunningParty P) → i < length parties → Q (slice_index_or parties i d).frame.stripe → Q (stripe_of (slice_get parties i))
+  at_stripe Q parties i d inside is = subst Q (sym (ap stripe_of (slice_get-get_or parties i d inside))) is
+
   -- What the parties were told at the end of a run.
-  told_by : (finish : Bool) (w : World) (modules : List ModuleAsked) (inputs : List (List Command)) (schedule : List ℕ) (s end : RunState P) (i : ℕ) (d : RunningParty P) → IsUnderWay w modules inputs s → Performs finish modules inputs schedule s end → i < length s.parties → IsToldBy finish (world_at w i).terms (commands_of inputs i) (replies_to i end.replies)
+  told_by : (finish : Bool) (w : World) (modules : List ModuleAsked) (inputs : List (List Command)) (schedule : List ℕ) (s end : RunState P) (i : ℕ) (d : RunningParty P) → IsUnderWay w modules inputs s → Performs finish modules inputs schedule s end → i < length s.parties → IsToldBy finish (world_at w i (stripe_of (slice_get end.parties i))).terms (commands_of inputs i) (replies_to i end.replies)
   told_by true w modules inputs schedule s end i d way runs below =
       let ended : IsUnderWay w modules inputs end = run_under_way w modules inputs schedule s end way runs in
       let inside : i < length end.parties = omega (arith, below, run_count modules inputs schedule s end runs) in
-      record { private = replies_private w modules inputs end i d ended inside; all = all_replied w modules inputs end i d ended runs.finishes.finished inside }
+      record { private = at_stripe (λ n. IsPrivateRun (world_at w i n).terms (commands_of inputs i) (replies_to i end.replies)) end.parties i d inside (replies_private w modules inputs end i d ended inside); all = all_replied w modules inputs end i d ended runs.finishes.finished inside }
   told_by false w modules inputs schedule s end i d way folds below =
       let ended : IsUnderWay w modules inputs end = folds_under_way w modules inputs schedule s end way folds in
-      replies_private w modules inputs end i d ended (omega (arith, below, folds_count modules inputs schedule s end folds))
+      let inside : i < length end.parties = omega (arith, below, folds_count modules inputs schedule s end folds) in
+      at_stripe (λ n. IsPrivateRun (world_at w i n).terms (commands_of inputs i) (replies_to i end.replies)) end.parties i d inside (replies_private w modules inputs end i d ended inside)
 
   -- So the output of its end is that of a run of the input.
   pub is_run : (input : Input) (maker : MakerTold) (run : RunParts P) (s end : RunState P) (output : RunOutput) → IsRunnable input maker → IsMadeRun input maker run → s ≡ told_state run (nothing_told input.parties)
@@ -179,12 +188,15 @@ module _ {P : Type 0} where
         performed = performed;
         replies = replies;
         told = λ i below.
-            let Told : List (List Reply) → Type 0 = λ rs. IsToldBy input.finish (world_at w i).terms (commands_of (commands_in input.parties) i) (replies_to i rs) in
+            let Told : List (List Reply) → Type 0 = λ rs. IsToldBy input.finish (world_seen input maker end.parties i).terms (commands_of (commands_in input.parties) i) (replies_to i rs) in
             subst Told (sym replies) (told_by input.finish w run.modules (commands_in input.parties) (turns_of input.schedule) (told_state run (nothing_told input.parties)) end i (party_made 0 None [] run.core.settings 0) (made_under_way input maker run runnable made) performed (omega (arith, below, made_count input maker run made)));
         room = λ i below.
             let ended = performed_under_way input.finish w run.modules (commands_in input.parties) (turns_of input.schedule) (told_state run (nothing_told input.parties)) end (made_under_way input maker run runnable made) performed in
-            let Told : List (List Reply) → Type 0 = λ rs. IsPooledRun (world_at w i) (commands_of (commands_in input.parties) i) (replies_to i rs) in
-            subst Told (sym replies) (replies_pooled w run.modules (commands_in input.parties) end i (party_made 0 None [] run.core.settings 0) ended.0 (omega (arith, below, made_count input maker run made, ended.1)));
+            let Told : List (List Reply) → Type 0 = λ rs. IsPooledRun (world_seen input maker end.parties i) (commands_of (commands_in input.parties) i) (replies_to i rs) in
+            let inside : i < length end.parties = omega (arith, below, made_count input maker run made, ended.1) in
+            subst Told (sym replies)
+            (at_stripe (λ n. IsPooledRun (world_at w i n) (commands_of (commands_in input.parties) i) (replies_to i end.replies)) end.parties i (party_made 0 None [] run.core.settings 0) inside
+            (replies_pooled w run.modules (commands_in input.parties) end i (party_made 0 None [] run.core.settings 0) ended.0 inside));
         metrics = metrics;
         calls_made = numbers;
       }

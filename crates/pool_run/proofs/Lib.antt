@@ -3,10 +3,12 @@ pub mod Beginning
 pub mod Between
 pub mod BuiltInputs
 pub mod Bytes
+pub mod BytesMoved
 pub mod CallsMade
 pub mod Causes
 pub mod Cleared
 pub mod Counters
+pub mod Drawn
 pub mod Ended
 pub mod Exhausted
 pub mod Finishing
@@ -15,6 +17,7 @@ pub mod Following
 pub mod FreeSlots
 pub mod Grants
 pub mod Growths
+pub mod HeldSlots
 pub mod InputsRun
 pub mod LeaseChanges
 pub mod Limits
@@ -49,9 +52,12 @@ pub mod SlotKinds
 pub mod SlotsBelow
 pub mod SlotsMade
 pub mod Sounds
+pub mod StackMoves
+pub mod StackRequests
 pub mod StageSteps
 pub mod Started
 pub mod Stepped
+pub mod Stripes
 pub mod TableChanges
 pub mod TableKept
 pub mod TablesBegun

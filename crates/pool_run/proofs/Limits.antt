@@ -1,18 +1,18 @@
--- No turn of a party takes more instances than there may be: a request is admitted only where fewer are counted.
-use Rattle.std.proofs.Common.{ℕ, ◌+◌, ◌≤◌, List, length, Option, Some, None, sym, ap, subst, inl, inr, arith}
+-- No turn of a party takes more instances or components than there may be: a request is admitted only where fewer are counted.
+use Rattle.std.proofs.Common.{ℕ, ◌+◌, ◌<◌, ◌≤◌, List, length, Option, Some, None, sym, ap, subst, inl, inr, arith}
 use Rattle.std.specs.Prelude.{sum_by, slice_set, slice_index_or}
 use Rattle.std.proofs.lemmas.Bool.{cases_lt}
 use Rattle.std.proofs.lemmas.List.{set_past, get_or_past}
 use Rattle.std.proofs.lemmas.List.Sums.{sum_by-set}
 use Rattle.pool_alloc.specs.Objects.{objects_in}
-use Rattle.pool_alloc.specs.Stepping.{count_granted, grant_instances}
+use Rattle.pool_alloc.specs.Stepping.{count_granted, grant_instances, grant_components}
 use Rattle.pool_alloc.specs.declared.pool_core.PoolCore.{PoolCore}
 use Rattle.pool_alloc.specs.declared.frame.Frame.{Frame}
 use Rattle.pool_alloc.specs.declared.frame.Grant.{Grant}
 use Rattle.pool_alloc.specs.Asked.{ModuleAsked}
 use Rattle.pool_alloc.specs.declared.frame.Outcome.{Outcome}
 use Rattle.pool_alloc.specs.declared.frame.Outcome.TheVariants as answer
-use Rattle.pool_run.specs.Limits.{admitted_at, admitted_to}
+use Rattle.pool_run.specs.Limits.{admitted_at, admitted_to, live_components}
 use Rattle.pool_run.specs.Ties.{granted_to, held_by_party, CanTurn}
 use Rattle.pool_run.specs.Turns.{Turned, answered, Steps, Turns, Opening, rests, replies, makes_step, Leaves}
 use Rattle.pool_run.specs.declared.command.Command.{Command}
@@ -22,7 +22,7 @@ use Rattle.pool_run.specs.Rooms.{World}
 use Rattle.pool_run.specs.Worlds.{AreCallsFor}
 use Rattle.pool_pages.specs.MakerTold.{MakerTold}
 use Rattle.pool_alloc.specs.Stages.{stage_of}
-use Rattle.pool_run.proofs.StageSteps.{admitted_counts, Admits, admits}
+use Rattle.pool_run.proofs.StageSteps.{admitted_counts, Admits, admits, MayGrant, may_grant}
 use Rattle.pool_run.proofs.Stepped.{IsStepped, stepped}
 use Rattle.pool_run.proofs.Parties.{can_step}
 use Rattle.pool_alloc.specs.Turns.{After}
@@ -30,7 +30,7 @@ use Rattle.pool_alloc.specs.Turns.{After}
 module _ {P : Type 0} where
   -- A party has counted what it is admitted for.
   pub admitted_held : (p : RunningParty P) → admitted_to p ≤ (held_by_party p).instances
-  admitted_held p = omega (arith, admitted_counts p.frame.phase p.frame.ending (objects_in p.frame.objects))
+  admitted_held p = omega (arith, admitted_counts p.frame.phase p.frame.asked p.frame.ending (objects_in p.frame.objects))
 
   -- what live grants have, once there is another in one of their places
   replaced : (of : Grant P → ℕ) (live : List (Option (Grant P))) (i : ℕ) (o : Option (Grant P)) → sum_by (granted_to of) (slice_set live i o) + granted_to of (slice_index_or live i None) ≤ sum_by (granted_to of) live + granted_to of o
@@ -47,6 +47,8 @@ module _ {P : Type 0} where
   answered_within others most c p f (Some answer.Key) within = omega (arith, within)
   answered_within others most c p f (Some (answer.Granted grant)) within = omega (arith, within, replaced grant_instances p.live p.done (Some grant))
   answered_within others most c p f (Some answer.Returned) within = omega (arith, within)
+  answered_within others most c p f (Some (answer.Purged n)) within = omega (arith, within)
+  answered_within others most c p f (Some (answer.Released n)) within = omega (arith, within)
   answered_within others most c p f (Some (answer.Refused e)) within = omega (arith, within)
 
   -- A step of a call, where all that is admitted is counted.
@@ -74,3 +76,35 @@ module _ {P : Type 0} (others : ℕ) (c : PoolCore P) (p : RunningParty P) (with
   -- Each turn of a party.
   pub party_within : (w : World) (modules : List ModuleAsked) (commands : List Command) (t : Turned P) → AreCallsFor w.terms c.settings modules → CanTurn w.maker c p → length commands ≤ length p.live → Turns modules commands c p t → StaysWithin t
   party_within w modules commands t calls can room turns = follows_within w.maker turns.0 t (opened w.maker c p w.terms modules commands turns.0 calls can room turns.1) turns.2
+
+-- how many components a party has live, once more may be granted to it
+module _ {P : Type 0} (c : PoolCore P) (p : RunningParty P) where
+  -- no more than before, or one more, where fewer are counted than there may be
+  pub data MayHave (t : Turned P) : Type 0 where
+    no_more : live_components t.party ≤ live_components p → MayHave t
+    one_more : live_components t.party ≤ live_components p + 1 → c.counters.component_instances < c.settings.max_component_instances → MayHave t
+
+  answered_components : (d : PoolCore P) (f : Frame P) (live : List (Option (Grant P))) (o : Option (Outcome P)) → sum_by (granted_to grant_components) live ≤ live_components p → MayGrant c o → MayHave (answered o d (record p { frame = f; live = live }))
+  answered_components d f live None fewer may = no_more fewer
+  answered_components d f live (Some answer.Key) fewer may = no_more fewer
+  answered_components d f live (Some (answer.Granted grant)) fewer may =
+      elim may [
+        | inl none ↦ no_more (omega (arith, none, fewer, replaced grant_components live p.done (Some grant)))
+        | inr some ↦ one_more (omega (arith, some.0, fewer, replaced grant_components live p.done (Some grant))) some.1
+      ]
+  answered_components d f live (Some answer.Returned) fewer may = no_more fewer
+  answered_components d f live (Some (answer.Refused e)) fewer may = no_more fewer
+  answered_components d f live (Some (answer.Purged n)) fewer may = no_more fewer
+  answered_components d f live (Some (answer.Released n)) fewer may = no_more fewer
+
+  follows_components : (maker : MakerTold) (o : Opening P) (t : Turned P) → IsOpened maker c p o → Leaves o c p t → MayHave t
+  follows_components maker rests t is follows = subst MayHave (sym follows) (no_more (omega arith))
+  follows_components maker (replies reply live store) t is follows = subst MayHave (sym follows) (no_more (omega (arith, is.same.components)))
+  follows_components maker (makes_step frame live) t is follows =
+      let a : After P = follows.0 in
+      let q : RunningParty P = record p { frame = frame; live = live } in
+      let on : IsStepped maker follows.1.0 follows.1.1 c frame a = stepped maker follows.1.0 follows.1.1 c frame a (can_step maker c q is.can) follows.1.3 in
+      subst MayHave (sym follows.2) (answered_components a.core a.frame live a.outcome is.components (may_grant maker follows.1.0 follows.1.1 c frame (stage_of frame) (stage_of a.frame) a.outcome on.goes.way))
+
+  pub party_components : (w : World) (modules : List ModuleAsked) (commands : List Command) (t : Turned P) → AreCallsFor w.terms c.settings modules → CanTurn w.maker c p → length commands ≤ length p.live → Turns modules commands c p t → MayHave t
+  party_components w modules commands t calls can room turns = follows_components w.maker turns.0 t (opened w.maker c p w.terms modules commands turns.0 calls can room turns.1) turns.2

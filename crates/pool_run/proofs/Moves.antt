@@ -27,11 +27,12 @@ use Rattle.pool_run.specs.declared.reply.Reply.{Reply}
 use Rattle.pool_run.specs.declared.reply.Reply.TheVariants.{Done, Trap}
 use Rattle.pool_run.proofs.Bytes.{written_seen}
 use Rattle.pool_run.proofs.Growths.{growth_decided}
+use Rattle.pool_run.proofs.HeldSlots.{held_name, held_plan}
 use Rattle.pool_alloc.specs.Steps.{memory_slots}
 
 -- a move leaves the memory in its slot
 abbrev pub KeepsSlot : MakerTold → Settings → Plan → (MemoryState → MemoryState → Reply → Type 0) → Type 0
-KeepsSlot maker s plan Moves = (l : Lease) (new : MemoryState) (reply : Reply) → IsLeaseOf maker s plan l → Moves l.memory new reply → IsPoolSlot maker s.behaviour s.max_memory_size l.index (slot_of new)
+KeepsSlot maker s plan Moves = (l : Lease) (new : MemoryState) (reply : Reply) → IsLeaseOf maker s plan l → Moves l.memory new reply → IsPoolSlot maker s l.index (slot_of new)
 
 -- and is one of the private memory
 abbrev pub IsSeen : MakerTold → Settings → Plan → (MemoryState → MemoryState → Reply → Type 0) → (PrivateMemory → PrivateMemory → Reply → Type 0) → Type 0
@@ -40,7 +41,7 @@ IsSeen maker s plan Moves Sees = (l : Lease) (new : MemoryState) (reply : Reply)
 -- A lease that moved stays one of the pool.
 pub lease_still : (maker : MakerTold) (s : Settings) (plan : Plan) (Moves : MemoryState → MemoryState → Reply → Type 0) (l new : Lease) (reply : Reply) → KeepsSlot maker s plan Moves → IsLeaseOf maker s plan l → MovesLease Moves l new reply → IsLeaseOf maker s plan new
 lease_still maker s plan Moves l new reply keeps of moves =
-    let S : ℕ → Type 0 = λ k. IsPoolSlot maker s.behaviour s.max_memory_size k (slot_of new.memory) in
+    let S : ℕ → Type 0 = λ k. IsPoolSlot maker s k (slot_of new.memory) in
     let Inside : ℕ → Type 0 = λ k. k < memory_slots plan in
     let index : new.index ≡ l.index = ap (λ (x : Lease). x.index) moves.same in
     record { inside = subst Inside (sym index) of.inside; slot = subst S (sym index) (keeps l new.memory reply of moves.move); memory = moves.memory }
@@ -50,24 +51,24 @@ written_still : (i : ℕ) (new : List ℕ) (st : Storage) → IsOneSlot (slot_in
 written_still i new (stored len bytes) = refl
 written_still i new (in_slot s) = ap (λ (b : Bool). record (identity s) { tells = b }) (told_same (written (s.base.bytes + i) new) s.region.contents)
 
-writes_by : (maker : MakerTold) (behaviour : DecommitBehavior) (room i : ℕ) (bytes : List ℕ) (l : Lease) (new : MemoryState) (reply : Reply) (b : Bool) → IsPoolSlot maker behaviour room l.index (slot_of l.memory) → nat_le (i + length bytes) l.memory.linear.size ≡ b → ◌≡◌ {A = MemoryState × Reply} (new, reply) (if b then (state_written i bytes l.memory, Done) else (l.memory, Trap MemoryOutOfBounds))
-    → IsPoolSlot maker behaviour room l.index (slot_of new) × Writes i bytes (private_memory l) (seen_as l.index new) reply
-writes_by maker behaviour room i bytes l new reply true of fits is =
-    let W : MemoryState × Reply → Type 0 = λ p. IsPoolSlot maker behaviour room l.index (slot_of p.0) × Writes i bytes (private_memory l) (seen_as l.index p.0) p.1 in
+writes_by : (maker : MakerTold) (settings : Settings) (i : ℕ) (bytes : List ℕ) (l : Lease) (new : MemoryState) (reply : Reply) (b : Bool) → IsPoolSlot maker settings l.index (slot_of l.memory) → nat_le (i + length bytes) l.memory.linear.size ≡ b → ◌≡◌ {A = MemoryState × Reply} (new, reply) (if b then (state_written i bytes l.memory, Done) else (l.memory, Trap MemoryOutOfBounds))
+    → IsPoolSlot maker settings l.index (slot_of new) × Writes i bytes (private_memory l) (seen_as l.index new) reply
+writes_by maker settings i bytes l new reply true of fits is =
+    let W : MemoryState × Reply → Type 0 = λ p. IsPoolSlot maker settings l.index (slot_of p.0) × Writes i bytes (private_memory l) (seen_as l.index p.0) p.1 in
     let within : i + length bytes ≤ l.memory.linear.size = leb-true (i + length bytes) l.memory.linear.size fits in
     subst W (sym is) (
-      slot_of_one maker behaviour room l.index (slot_of l.memory) (slot_of (state_written i bytes l.memory)) (written_still i bytes l.memory.linear.storage) of,
+      slot_of_one maker settings l.index (slot_of l.memory) (slot_of (state_written i bytes l.memory)) (written_still i bytes l.memory.linear.storage) of,
       (within, written_seen i bytes l (ap (λ (z : SlotIdentity). z.base.bytes) of.same) within),
     )
-writes_by maker behaviour room i bytes l new reply false of past is =
-    let W : MemoryState × Reply → Type 0 = λ p. IsPoolSlot maker behaviour room l.index (slot_of p.0) × Writes i bytes (private_memory l) (seen_as l.index p.0) p.1 in
+writes_by maker settings i bytes l new reply false of past is =
+    let W : MemoryState × Reply → Type 0 = λ p. IsPoolSlot maker settings l.index (slot_of p.0) × Writes i bytes (private_memory l) (seen_as l.index p.0) p.1 in
     subst W (sym is) (of, (refl, leb-false (i + length bytes) l.memory.linear.size past, refl))
 
 pub writes_stay : (maker : MakerTold) (s : Settings) (plan : Plan) (i : ℕ) (bytes : List ℕ) → KeepsSlot maker s plan (MemoryWrites i bytes)
-writes_stay maker s plan i bytes l new reply of is = (writes_by maker s.behaviour s.max_memory_size i bytes l new reply (nat_le (i + length bytes) l.memory.linear.size) of.slot refl is).0
+writes_stay maker s plan i bytes l new reply of is = (writes_by maker s i bytes l new reply (nat_le (i + length bytes) l.memory.linear.size) of.slot refl is).0
 
 pub writes_seen : (maker : MakerTold) (s : Settings) (plan : Plan) (i : ℕ) (bytes : List ℕ) → IsSeen maker s plan (MemoryWrites i bytes) (Writes i bytes)
-writes_seen maker s plan i bytes l new reply of is = (writes_by maker s.behaviour s.max_memory_size i bytes l new reply (nat_le (i + length bytes) l.memory.linear.size) of.slot refl is).1
+writes_seen maker s plan i bytes l new reply of is = (writes_by maker s i bytes l new reply (nat_le (i + length bytes) l.memory.linear.size) of.slot refl is).1
 
 -- a growth in its place
 one_raised : (size : ℕ) (s : Slot) → IsOneSlot s (raised size s)
@@ -77,42 +78,42 @@ one_limited : (size : ℕ) (s : Slot) (b : Bool) → IsOneSlot s (if b then rais
 one_limited size s true = one_raised size s
 one_limited size s false = refl
 
-module _ (maker : MakerTold) (behaviour : DecommitBehavior) (room i : ℕ) where
-  in_place : (size : ℕ) (st : Storage) (old new : Linear) → IsPoolSlot maker behaviour room i (slot_in st) → InPlace size st old new → IsPoolSlot maker behaviour room i (slot_in new.storage) × (new.capacity ≡ old.capacity)
-  in_place size (stored len bytes) old new of is = let wrong : OnDemand 0 ≡ memory_region i = ap (λ (z : SlotIdentity). z.name) of.same in absurd cc
+module _ (maker : MakerTold) (settings : Settings) (i : ℕ) where
+  in_place : (size : ℕ) (st : Storage) (old new : Linear) → IsPoolSlot maker settings i (slot_in st) → InPlace size st old new → IsPoolSlot maker settings i (slot_in new.storage) × (new.capacity ≡ old.capacity)
+  in_place size (stored len bytes) old new of is = let wrong : OnDemand 0 ≡ memory_region i = held_name maker settings i (slot_in (stored len bytes)) of in absurd cc
   in_place size (in_slot s) old new of is =
-      let S : Linear → Type 0 = λ l. IsPoolSlot maker behaviour room i (slot_in l.storage) × (l.capacity ≡ old.capacity) in
-      subst S (sym is) (slot_of_one maker behaviour room i s (limited size s) (one_limited (rounded_up s.region.page size) s (nat_lt s.accessible.bytes (rounded_up s.region.page size))) of, refl)
+      let S : Linear → Type 0 = λ l. IsPoolSlot maker settings i (slot_in l.storage) × (l.capacity ≡ old.capacity) in
+      subst S (sym is) (slot_of_one maker settings i s (limited size s) (one_limited (rounded_up s.region.page size) s (nat_lt s.accessible.bytes (rounded_up s.region.page size))) of, refl)
 
   -- one that fails does so by a call on the slot's region
-  faulted : (e : GrowError) (size : ℕ) (st left : Storage) → IsPoolSlot maker behaviour room i (slot_in st) → FailsInPlace e size st left → IsPoolSlot maker behaviour room i (slot_in left) × IfSome (plan_for (memory_region i) maker) (λ plan. 0 < length plan)
-  faulted e size (stored len bytes) left of is = let wrong : OnDemand 0 ≡ memory_region i = ap (λ (z : SlotIdentity). z.name) of.same in absurd cc
+  faulted : (e : GrowError) (size : ℕ) (st left : Storage) → IsPoolSlot maker settings i (slot_in st) → FailsInPlace e size st left → IsPoolSlot maker settings i (slot_in left) × IfSome (plan_for (memory_region i) maker) (λ plan. 0 < length plan)
+  faulted e size (stored len bytes) left of is = let wrong : OnDemand 0 ≡ memory_region i = held_name maker settings i (slot_in (stored len bytes)) of in absurd cc
   faulted e size (in_slot s) (stored len bytes) of is = absurd is
   faulted e size (in_slot s) (in_slot t) of is =
       let Q : Option (List ℕ) → Type 0 = λ o. IfSome o (λ plan. 0 < length plan) in
-      (slot_of_one maker behaviour room i s t (same_faulted (raising (rounded_up s.region.page size) s) s t is.1) of, subst Q (ap (λ (z : SlotIdentity). z.plan) of.same) is.1.region.listed)
+      (slot_of_one maker settings i s t (same_faulted (raising (rounded_up s.region.page size) s) s t is.1) of, subst Q (held_plan maker settings i s of) is.1.region.listed)
 
 -- What a growth that ended so leaves of a memory in its slot is what it leaves of the private one.
-module _ (maker : MakerTold) (behaviour : DecommitBehavior) (room size : ℕ) (l : Lease) (of : IsPoolSlot maker behaviour room l.index (slot_of l.memory)) where
+module _ (maker : MakerTold) (settings : Settings) (size : ℕ) (l : Lease) (of : IsPoolSlot maker settings l.index (slot_of l.memory)) where
   record IsLeftAs (end : GrowthEnd) (new : MemoryState) : Type 0 where
-    still : IsPoolSlot maker behaviour room l.index (slot_of new)
+    still : IsPoolSlot maker settings l.index (slot_of new)
     seen : seen_as l.index new ≡ left_of end size (private_memory l)
     may : end ≡ could_not → IfSome (plan_for (memory_region l.index) maker) (λ plan. 0 < length plan)
 
-  place_seen : (st : Storage) (new : Linear) → st ≡ l.memory.linear.storage → IsPoolSlot maker behaviour room l.index (slot_in st) → InPlace size st l.memory.linear new → new.size ≡ size
-  place_seen (stored len bytes) new at is place = let wrong : OnDemand 0 ≡ memory_region l.index = ap (λ (z : SlotIdentity). z.name) is.same in absurd cc
+  place_seen : (st : Storage) (new : Linear) → st ≡ l.memory.linear.storage → IsPoolSlot maker settings l.index (slot_in st) → InPlace size st l.memory.linear new → new.size ≡ size
+  place_seen (stored len bytes) new at is place = let wrong : OnDemand 0 ≡ memory_region l.index = held_name maker settings l.index (slot_in (stored len bytes)) is in absurd cc
   place_seen (in_slot s) new at is place = ap (λ (x : Linear). x.size) place
 
   left_seen : (end : GrowthEnd) (new : MemoryState) → GrowthLeaves end size l.memory new → IsLeftAs end new
   left_seen as_it_was new is =
-      let S : MemoryState → Type 0 = λ m. IsPoolSlot maker behaviour room l.index (slot_of m) in
+      let S : MemoryState → Type 0 = λ m. IsPoolSlot maker settings l.index (slot_of m) in
       record { still = subst S (sym is) of; seen = ap (seen_as l.index) is; may = λ wrong. absurd cc }
   left_seen could_not new is =
-      let left = faulted maker behaviour room l.index PageFault size l.memory.linear.storage new.linear.storage of is.2 in
+      let left = faulted maker settings l.index PageFault size l.memory.linear.storage new.linear.storage of is.2 in
       let Parts : Option (List ℕ) → PrivateMemory = λ bytes. record { slot = l.index; ty = l.memory.ty; size = l.memory.linear.size; capacity = l.memory.linear.capacity; bytes = bytes } in
       record { still = left.0; seen = ap (seen_as l.index) is.0 ∙ ap Parts (ap bytes_of (sym is.0) ∙ is.1); may = λ yes. left.1 }
   left_seen has_grown new is =
-      let kept = in_place maker behaviour room l.index size l.memory.linear.storage l.memory.linear new.linear of is.2 in
+      let kept = in_place maker settings l.index size l.memory.linear.storage l.memory.linear new.linear of is.2 in
       let Parts : ℕ → ℕ → Option (List ℕ) → PrivateMemory = λ n capacity bytes. record { slot = l.index; ty = l.memory.ty; size = n; capacity = capacity; bytes = bytes } in
       let same : new.linear.size ≡ size = place_seen l.memory.linear.storage new.linear refl of is.2 in
       record {
@@ -122,7 +123,7 @@ module _ (maker : MakerTold) (behaviour : DecommitBehavior) (room size : ℕ) (l
       }
 
 pub grows_stay : (maker : MakerTold) (s : Settings) (plan : Plan) (rule : GrowthRule) (pages : ℕ) → KeepsSlot maker s plan (MemoryGrows rule pages)
-grows_stay maker s plan rule pages l new reply of is = (left_seen maker s.behaviour s.max_memory_size (grown_size pages l.memory) l of.slot (growth rule is.0 pages (seen_as 0 l.memory)).0 new is.2).still
+grows_stay maker s plan rule pages l new reply of is = (left_seen maker s (grown_size pages l.memory) l of.slot (growth rule is.0 pages (seen_as 0 l.memory)).0 new is.2).still
 
 -- a growth as it is seen, in which a call fails only where the plan of the slot's region lists one
 abbrev pub GrowsSeen : MakerTold → GrowthRule → ℕ → PrivateMemory → PrivateMemory → Reply → Type 0
@@ -135,7 +136,7 @@ module _ (maker : MakerTold) (s : Settings) (plan : Plan) (rule : GrowthRule) (p
   -- it is as it ended, with a fault or without
   seen_by : (fault : Bool) (end : GrowthEnd × Reply) → end ≡ ended fault → (fault ≡ true → end.0 ≡ could_not) → reply ≡ end.1 → GrowthLeaves end.0 (grown_size pages l.memory) l.memory new → GrowsSeen maker rule pages (private_memory l) (seen_as l.index new) reply
   seen_by fault end is fails told leaves =
-      let left = left_seen maker s.behaviour s.max_memory_size (grown_size pages l.memory) l of.slot end.0 new leaves in
+      let left = left_seen maker s (grown_size pages l.memory) l of.slot end.0 new leaves in
       let Seen : GrowthEnd × Reply → PrivateMemory × Reply = λ p. (left_of p.0 (grown_size pages l.memory) (private_memory l), p.1) in
       (fault, ap (λ (m : PrivateMemory). (m, reply)) left.seen ∙ ap (λ (r : Reply). (left_of end.0 (grown_size pages l.memory) (private_memory l), r)) told ∙ ap Seen is, λ yes. left.may (fails yes))
 

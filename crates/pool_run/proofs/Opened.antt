@@ -1,12 +1,13 @@
 -- What a turn opens with: the party has as much of the pool, and where a call is to make its next step, that can be made.
 use Rattle.pool_alloc.specs.declared.frame.TakenSlot.{TakenSlot}
-use Rattle.std.proofs.Common.{◌≡◌, ◌≢◌, ℕ, ◌<◌, ◌≤◌, All, Bool, true, false, List, length, get_or, Option, Some, None, refl, sym, ap, ◌∙◌, subst, inl, inr, arith}
+use Rattle.std.proofs.Common.{zero, suc, ◌≡◌, ◌≢◌, ℕ, ◌<◌, ◌≤◌, All, Bool, true, false, List, length, get_or, Option, Some, None, refl, sym, ap, ◌∙◌, subst, inl, inr, arith}
 use Rattle.std.specs.Prelude.{IfSome, slice_get, slice_set, slice_index_or, sum_by}
 use Rattle.std.proofs.lemmas.Option.{slice_get_within, get_or_from_slice_get}
 use Rattle.std.proofs.lemmas.List.Elements.{All-set, All-get_or}
 use Rattle.std.proofs.lemmas.List.{length-set, get_or-set_other}
 use Rattle.std.proofs.lemmas.List.Sums.{sum_by-set}
 use Rattle.pool_pages.specs.MakerTold.{MakerTold}
+use Rattle.pool_pages.specs.declared.module_types.ComponentInfo.{ComponentInfo}
 use Rattle.pool_alloc.specs.Calls.{IsIdle, IsGrant, begun_call}
 use Rattle.pool_alloc.specs.Objects.{objects_in}
 use Rattle.pool_alloc.specs.PoolTables.{IsTableLease}
@@ -15,32 +16,38 @@ use Rattle.pool_table.specs.declared.gc_store.ListedStore.{ListedStore}
 use Rattle.pool_alloc.specs.Leases.{Lease, slot_taken}
 use Rattle.pool_alloc.specs.Sound.{IsLeaseOf}
 use Rattle.pool_alloc.specs.Places.{Thing, taken_count}
-use Rattle.pool_alloc.specs.Stepping.{is_idle, grant_count, grant_instances, grant_memories, grant_tables}
+use Rattle.pool_alloc.specs.Stepping.{grant_stacks, is_idle, grant_count, grant_instances, grant_components, grant_memories, grant_tables}
 use Rattle.pool_alloc.specs.declared.pool_core.PoolCore.{PoolCore}
+use Rattle.pool_alloc.specs.declared.frame.Call.{Call}
 use Rattle.pool_alloc.specs.declared.frame.Call.TheVariants as call
+use Rattle.pool_alloc.specs.Stages.{Stage, asks, stage_of}
 use Rattle.pool_alloc.specs.declared.frame.Frame.{Frame}
 use Rattle.pool_alloc.specs.declared.frame.Grant.{Grant}
-use Rattle.pool_alloc.specs.declared.frame.Grant.TheVariants.{Instance as instance}
+use Rattle.pool_alloc.specs.declared.frame.Grant.TheVariants.{Instance as instance, Component as component, Stack as stack}
 use Rattle.pool_alloc.specs.Asked.{ModuleAsked}
 use Rattle.pool_alloc.specs.declared.frame.Phase.{Phase}
 use Rattle.pool_alloc.specs.declared.frame.Phase.TheVariants.{Idle}
-use Rattle.pool_run.specs.Acts.{MemoryOp, TableOp, Act, requests, on_memory, on_table, drops, act_of}
-use Rattle.pool_run.specs.Limits.{admitted_at, admitted_to}
+use Rattle.pool_run.specs.Acts.{MemoryOp, TableOp, Act, requests, on_memory, on_table, drops, purges, releases, act_of, Wanted, an_instance, a_component, a_stack}
+use Rattle.pool_run.specs.Limits.{admitted_at, admitted_to, live_components}
 use Rattle.pool_run.specs.Objects.{MovesObject, object_at}
 use Rattle.pool_run.specs.PartyRules.{rule_of}
 use Rattle.pool_run.specs.Private.{Terms}
 use Rattle.pool_alloc.specs.Searches.{IsSearched}
+use Rattle.pool_run.proofs.Stripes.{begun_stripe}
 use Rattle.pool_run.proofs.StageSteps.{is_none, none_idle}
-use Rattle.pool_run.specs.Turns.{LeaseMoves, MovesTable, leases_of, tables_of, memory_leases, table_leases, with_lease, with_table_lease, Opening, rests, replies, makes_step, drop_opening, OpensRequest, OpensAct, OpensNext, OpensAt}
-use Rattle.pool_run.specs.Ties.{granted_to, CanTurn, IsSoundParty, IsAlone}
+use Rattle.pool_run.specs.Turns.{LeaseMoves, MovesTable, leases_of, tables_of, memory_leases, table_leases, with_lease, with_table_lease, Opening, rests, replies, makes_step, drop_opening, IsPlain, OpensRequest, OpensPurge, OpensAct, OpensNext, OpensAt, MovesLeasedBytes, StackLeaseMoves, stack_leases, stack_of, with_stack_lease, OpensWanted}
+use Rattle.pool_run.specs.Ties.{is_asking, granted_to, CanTurn, IsSoundParty, IsAlone}
 use Rattle.pool_run.specs.Worlds.{IsFit, IsCallFor, AreCallsFor}
 use Rattle.pool_run.specs.declared.command.Command.{Command}
 use Rattle.pool_run.specs.declared.reply.Reply.{Reply}
 use Rattle.pool_run.specs.declared.running_party.RunningParty.{RunningParty}
 use Rattle.pool_run.proofs.Named.{moved}
 use Rattle.pool_run.proofs.Operations.{op_slot, op_keeps}
-use Rattle.pool_run.proofs.Parties.{HaveSame, grant_inside, live_grant, has_call, called_key, called_module, called_back, returned_searched, returned_stage, brings_key, brings_module, brings_grant}
+use Rattle.pool_run.proofs.Parties.{HaveSame, grant_inside, live_grant, has_call, called_plain, called_module, called_back, returned_searched, returned_stage, plain_asks, begins_plain, brings_nothing, brings_module, brings_grant, called_component, called_stack, brings_component, brings_stack}
+use Rattle.pool_run.proofs.StackMoves.{stack_op_slot, stack_op_keeps}
 use Rattle.pool_run.proofs.TableKept.{table_kept}
+use Rattle.pool_alloc.specs.PoolStacks.{IsStackLease}
+use Rattle.pool_alloc.specs.StackLeases.{LeasedStack, stack_taken}
 
 module _ {P : Type 0} where
   pub idle_is : (phase : Phase P) → is_idle phase ≡ true → phase ≡ Idle
@@ -50,14 +57,21 @@ module _ {P : Type 0} where
   pub returned_busy : (grant : Grant P) (f : Frame P) → is_idle (begun_call (call.GiveBack grant) f).phase ≡ false
   returned_busy grant f =
       let g : Frame P = begun_call (call.GiveBack grant) f in
-      sym (none_idle g.phase g.ending (objects_in g.objects)) ∙ ap is_none (returned_stage grant f)
+      sym (none_idle g.phase g.asked g.ending (objects_in g.objects)) ∙ ap is_none (returned_stage grant f)
+
+-- nothing is admitted where nothing is asked for
+unasked : (s : Stage) → is_asking s ≡ false → admitted_at s ≡ 0
+unasked (asks p) none = absurd cc
+unasked _ none = refl
 
 -- a grant is in the place of another of the pool, and counts for as much
 record StaysGrant {P : Type 0} (maker : MakerTold) (c : PoolCore P) (old new : Grant P) : Type 0 where
   places : (x : Thing) → grant_count x new ≡ grant_count x old
   instances : grant_instances new ≡ grant_instances old
+  components : grant_components new ≡ grant_components old
   memories : grant_memories new ≡ grant_memories old
   tables : grant_tables new ≡ grant_tables old
+  stacks : grant_stacks new ≡ grant_stacks old
   sound : IsGrant maker c.settings c.plan old → IsGrant maker c.settings c.plan new
 
 -- what things in slots weigh, once another is in one of these slots
@@ -78,19 +92,44 @@ module _ {P : Type 0} (maker : MakerTold) (c : PoolCore P) (k : ℕ) where
   memory_stays (instance lease) old changed there same keeps = record {
     places = λ x. omega (arith, slots_same slot_taken x k lease.memories.items old changed there same);
     instances = refl;
+    components = refl;
     memories = length-set lease.memories.items k changed;
     tables = refl;
+    stacks = refl;
     sound = λ is. (all_still (IsLeaseOf maker c.settings c.plan) lease.memories.items k old changed there keeps is.0, is.1);
   }
+  memory_stays component old changed there same keeps = absurd cc
+  memory_stays (stack lease) old changed there same keeps = absurd cc
 
   table_stays : (grant : Grant P) (old changed : LeasedTable) → slice_get (tables_of grant) k ≡ Some old → changed ≡ record old { table = changed.table } → (IsTableLease maker c.settings c.plan old → IsTableLease maker c.settings c.plan changed) → StaysGrant maker c grant (with_table_lease k changed grant)
   table_stays (instance lease) old changed there same keeps = record {
     places = λ x. omega (arith, slots_same table_taken x k lease.tables.items old changed there (ap table_taken same));
     instances = refl;
+    components = refl;
     memories = refl;
     tables = length-set lease.tables.items k changed;
+    stacks = refl;
     sound = λ is. (is.0, all_still (IsTableLease maker c.settings c.plan) lease.tables.items k old changed there keeps is.1);
   }
+  table_stays component old changed there same keeps = absurd cc
+  table_stays (stack lease) old changed there same keeps = absurd cc
+
+module _ {P : Type 0} (maker : MakerTold) (c : PoolCore P) where
+  stack_stays : (k : ℕ) (grant : Grant P) (old changed : LeasedStack) → slice_get (stack_of grant) k ≡ Some old → stack_taken changed ≡ stack_taken old → (IsStackLease maker c.settings c.plan old → IsStackLease maker c.settings c.plan changed) → StaysGrant maker c grant (with_stack_lease k changed grant)
+  stack_stays k (instance lease) old changed there same keeps = absurd cc
+  stack_stays k component old changed there same keeps = absurd cc
+  stack_stays (suc k) (stack lease) old changed there same keeps = absurd cc
+  stack_stays zero (stack lease) old changed there same keeps =
+      let its : old ≡ lease = cc in
+      record {
+        places = λ x. ap (taken_count x) (same ∙ ap stack_taken its);
+        instances = refl;
+        components = refl;
+        memories = refl;
+        tables = refl;
+        stacks = refl;
+        sound = λ is. keeps (subst (IsStackLease maker c.settings c.plan) (sym its) is);
+      }
 
 -- a party that may turn
 module _ {P : Type 0} (maker : MakerTold) (c : PoolCore P) (p : RunningParty P) where
@@ -111,6 +150,8 @@ module _ {P : Type 0} (maker : MakerTold) (c : PoolCore P) (p : RunningParty P) 
     pub busy : is_idle frame.phase ≡ false
     pub searched : IsSearched c p.frame → IsSearched c frame
     pub admitted : admitted_to (record p { frame = frame; live = live }) ≤ admitted_to p
+    pub components : sum_by (granted_to grant_components) live ≤ live_components p
+    pub stripe : frame.stripe ≡ p.frame.stripe
 
   abbrev pub IsOpened : Opening P → Type 0
   IsOpened rests = Unit {0}
@@ -118,13 +159,14 @@ module _ {P : Type 0} (maker : MakerTold) (c : PoolCore P) (p : RunningParty P) 
   IsOpened (makes_step frame live) = IsStep frame live
 
   same_now : HaveSame p p
-  same_now = record { places = λ x. refl; instances = refl; memories = refl; tables = refl }
+  same_now = record { places = λ x. refl; instances = refl; components = refl; memories = refl; tables = refl; stacks = refl }
 
   -- A party that is alone stays so.
   pub still_alone : (frame : Frame P) (live : List (Option (Grant P))) → IsStep frame live → IsAlone c p.frame p.live → IsAlone c frame live
   still_alone frame live is alone = record {
     places = λ t. omega (arith, alone.places t, is.same.places t);
     instances = omega (arith, alone.instances, is.same.instances);
+    components = omega (arith, alone.components, is.same.components);
     searched = is.searched alone.searched;
   }
 
@@ -149,8 +191,10 @@ module _ {P : Type 0} (maker : MakerTold) (c : PoolCore P) (p : RunningParty P) 
       same = record {
         places = λ x. omega (arith, swapped (grant_count x) of old new granted (stays.places x));
         instances = omega (arith, swapped grant_instances of old new granted stays.instances);
+        components = omega (arith, swapped grant_components of old new granted stays.components);
         memories = omega (arith, swapped grant_memories of old new granted stays.memories);
         tables = omega (arith, swapped grant_tables of old new granted stays.tables);
+        stacks = omega (arith, swapped grant_stacks of old new granted stays.stacks);
       };
       room = length-set p.live of (Some new);
       to_come = λ n behind. other_place of n old new granted (can.party.to_come n behind);
@@ -173,6 +217,24 @@ module _ {P : Type 0} (maker : MakerTold) (c : PoolCore P) (p : RunningParty P) 
               (memory_stays maker c k m.grant m.old m.changed m.there (op_slot op (rule_of p.limits) m.old m.changed reply m.move) (λ l. op_keeps maker c.settings c.plan op (rule_of p.limits) m.old m.changed reply l m.move)) refl)
         ]
 
+    -- one on a stack,
+    stack_opened : (op : MemoryOp) (of k : ℕ) (live : List (Option (Grant P))) (reply : Reply) → MovesObject stack_leases (StackLeaseMoves op) of k p.live reply live → IsReply live p.store
+    stack_opened op of k live reply is =
+        let Now : List (Option (Grant P)) → Type 0 = λ ls. IsReply ls p.store in
+        elim (moved stack_leases (StackLeaseMoves op) of k p.live live reply is) [
+          | inl none ↦ subst Now (sym none.same) unchanged
+          | inr m ↦
+              subst Now (sym m.is)
+              (put_opened of m.grant (with_stack_lease k m.changed m.grant) p.store m.granted
+              (stack_stays maker c k m.grant m.old m.changed m.there (stack_op_slot op m.old m.changed reply m.move) (λ l. stack_op_keeps maker c.settings c.plan op m.old m.changed reply l m.move)) refl)
+        ]
+
+    bytes_opened : (x : Option (Grant P)) (op : MemoryOp) (of k : ℕ) (live : List (Option (Grant P))) (reply : Reply) → MovesLeasedBytes op (rule_of p.limits) x of k p.live reply live → IsReply live p.store
+    bytes_opened None op of k live reply is = moves_opened op of k live reply is
+    bytes_opened (Some (instance lease)) op of k live reply is = moves_opened op of k live reply is
+    bytes_opened (Some component) op of k live reply is = moves_opened op of k live reply is
+    bytes_opened (Some (stack lease)) op of k live reply is = stack_opened op of k live reply is
+
     -- and one on a table.
     pub tables_opened : (op : TableOp) (of k : ℕ) (live : List (Option (Grant P))) (store : ListedStore) (reply : Reply) → MovesObject table_leases (MovesTable op (rule_of p.limits) p.store store) of k p.live reply live → (object_at table_leases of k p.live ≡ None → store ≡ p.store) → IsReply live store
     tables_opened op of k live store reply is unasked =
@@ -186,8 +248,8 @@ module _ {P : Type 0} (maker : MakerTold) (c : PoolCore P) (p : RunningParty P) 
         ]
 
     -- A call begins: the party has what it had, with what the call brings along.
-    fewer_live : (of : ℕ) (grant : Grant P) → slice_index_or p.live of None ≡ Some grant → sum_by (granted_to grant_instances) (slice_set p.live of None) ≤ sum_by (granted_to grant_instances) p.live
-    fewer_live of grant is = omega (arith, sum_by-set (granted_to grant_instances) p.live of None None (grant_inside p.live of grant is))
+    fewer_live : (counted : Grant P → ℕ) (of : ℕ) (grant : Grant P) → slice_index_or p.live of None ≡ Some grant → sum_by (granted_to counted) (slice_set p.live of None) ≤ sum_by (granted_to counted) p.live
+    fewer_live counted of grant is = omega (arith, sum_by-set (granted_to counted) p.live of None None (grant_inside p.live of grant is))
 
     pub drops_opened : (of : ℕ) (x : Option (Grant P)) → slice_index_or p.live of None ≡ x → IsOpened (drop_opening x of p)
     drops_opened of None has = unchanged
@@ -197,7 +259,9 @@ module _ {P : Type 0} (maker : MakerTold) (c : PoolCore P) (p : RunningParty P) 
       room = length-set p.live of None;
       busy = returned_busy grant p.frame;
       searched = λ s. returned_searched grant c p.frame;
-      admitted = omega (arith, ap admitted_at (returned_stage grant p.frame), fewer_live of grant has);
+      admitted = omega (arith, ap admitted_at (returned_stage grant p.frame), fewer_live grant_instances of grant has);
+      components = fewer_live grant_components of grant has;
+      stripe = begun_stripe (call.GiveBack grant) p.frame;
     }
 
     pub module_opened : (m : ModuleAsked) → IsFit c.settings m → p.done < length p.live → IsStep (begun_call (call.Module m) p.frame) p.live
@@ -208,7 +272,27 @@ module _ {P : Type 0} (maker : MakerTold) (c : PoolCore P) (p : RunningParty P) 
       busy = refl;
       searched = λ s. tt;
       admitted = omega arith;
+      components = omega arith;
+      stripe = refl;
     }
+
+    pub plain_opened : (asked : Call P) → IsPlain asked → IsStep (begun_call asked p.frame) p.live
+    plain_opened asked plain =
+        let begins = begins_plain maker asked c p.frame plain in
+        record {
+          can = called_plain maker asked c p plain can idle;
+          same = has_call maker asked p.live c p can.party.sound.frame (begins.may idle) (brings_nothing asked plain p.live);
+          room = refl;
+          busy = begins.busy;
+          searched = λ s. begins.searched;
+          admitted = omega (arith, unasked (stage_of (begun_call asked p.frame)) (plain_asks asked p.frame plain));
+          components = omega arith;
+          stripe = begins.stripe;
+        }
+
+    purges_opened : (kept : Option ModuleAsked) (o : Opening P) → OpensPurge kept p o → IsOpened o
+    purges_opened None o opens = absurd opens
+    purges_opened (Some kept) o opens = subst IsOpened (sym opens) (plain_opened (call.Purge kept.id) tt)
 
     pub requests_opened : (t : Terms) (number : ℕ) (kept : Option ModuleAsked) (o : Opening P) → IfSome kept (IsCallFor t c.settings number) → p.done < length p.live → OpensRequest kept p o → IsOpened o
     requests_opened t number None o for room opens = absurd opens
@@ -218,29 +302,50 @@ module _ {P : Type 0} (maker : MakerTold) (c : PoolCore P) (p : RunningParty P) 
           | inr is ↦ subst IsOpened (sym is) (module_opened kept for.fit room)
         ]
 
-    act_opened : (t : Terms) (modules : List ModuleAsked) (act : Act) (o : Opening P) → AreCallsFor t c.settings modules → p.done < length p.live → OpensAct modules act p o → IsOpened o
-    act_opened t modules (requests number) o calls room opens = requests_opened t number (slice_get modules number) o (calls number) room opens
-    act_opened t modules (on_memory of k op) o calls room opens = subst IsOpened (sym opens.3) (moves_opened op of k opens.1 opens.0 opens.2)
-    act_opened t modules (on_table of k op) o calls room opens = subst IsOpened (sym opens.5) (tables_opened op of k opens.1 opens.2 opens.0 opens.3 opens.4)
-    act_opened t modules (drops of) o calls room opens = subst IsOpened (sym opens) (drops_opened of (slice_index_or p.live of None) refl)
-
-    pub key_opened : IsStep (begun_call call.Key p.frame) p.live
-    key_opened = record {
-      can = called_key maker c p can idle;
-      same = has_call maker call.Key p.live c p can.party.sound.frame idle (brings_key p.live);
+    pub component_opened : (info : ComponentInfo) → p.done < length p.live → IsStep (begun_call (call.Component info) p.frame) p.live
+    component_opened info room = record {
+      can = called_component maker info c p can idle room;
+      same = has_call maker (call.Component info) p.live c p can.party.sound.frame idle (brings_component info p.live);
       room = refl;
       busy = refl;
       searched = λ s. tt;
       admitted = omega arith;
+      components = omega arith;
+      stripe = refl;
     }
+
+    pub stack_asked_opened : p.done < length p.live → IsStep (begun_call call.Stack p.frame) p.live
+    stack_asked_opened room = record {
+      can = called_stack maker c p can idle room;
+      same = has_call maker call.Stack p.live c p can.party.sound.frame idle (brings_stack p.live);
+      room = refl;
+      busy = refl;
+      searched = λ s. tt;
+      admitted = omega arith;
+      components = omega arith;
+      stripe = refl;
+    }
+
+    wanted_opened : (t : Terms) (modules : List ModuleAsked) (wanted : Wanted) (o : Opening P) → AreCallsFor t c.settings modules → p.done < length p.live → OpensWanted modules wanted p o → IsOpened o
+    wanted_opened t modules (an_instance number) o calls room opens = requests_opened t number (slice_get modules number) o (calls number) room opens
+    wanted_opened t modules (a_component info) o calls room opens = subst IsOpened (sym opens) (component_opened info room)
+    wanted_opened t modules a_stack o calls room opens = subst IsOpened (sym opens) (stack_asked_opened room)
+
+    act_opened : (t : Terms) (modules : List ModuleAsked) (act : Act) (o : Opening P) → AreCallsFor t c.settings modules → p.done < length p.live → OpensAct modules act p o → IsOpened o
+    act_opened t modules (requests wanted) o calls room opens = wanted_opened t modules wanted o calls room opens
+    act_opened t modules (on_memory of k op) o calls room opens = subst IsOpened (sym opens.3) (bytes_opened (slice_index_or p.live of None) op of k opens.1 opens.0 opens.2)
+    act_opened t modules (on_table of k op) o calls room opens = subst IsOpened (sym opens.5) (tables_opened op of k opens.1 opens.2 opens.0 opens.3 opens.4)
+    act_opened t modules (drops of) o calls room opens = subst IsOpened (sym opens) (drops_opened of (slice_index_or p.live of None) refl)
+    act_opened t modules (purges number) o calls room opens = purges_opened (slice_get modules number) o opens
+    act_opened t modules releases o calls room opens = subst IsOpened (sym opens) (plain_opened call.Release tt)
 
     next_opened : (t : Terms) (modules : List ModuleAsked) (commands : List Command) (next : Option Command) (keyed : Bool) (o : Opening P) → slice_get commands p.done ≡ next → AreCallsFor t c.settings modules → length commands ≤ length p.live → OpensNext modules next keyed p o → IsOpened o
     next_opened t modules commands None keyed o next calls room opens = subst IsOpened (sym opens) tt
-    next_opened t modules commands (Some command) false o next calls room opens = subst IsOpened (sym opens) key_opened
+    next_opened t modules commands (Some command) false o next calls room opens = subst IsOpened (sym opens) (plain_opened call.Key tt)
     next_opened t modules commands (Some command) true o next calls room opens = act_opened t modules (act_of command) o calls (omega (arith, room, slice_get_within commands p.done command next)) opens
 
   pub step_opened : CanTurn maker c p → is_idle p.frame.phase ≡ false → IsStep p.frame p.live
-  step_opened can busy = record { can = can; same = same_now; room = refl; busy = busy; searched = λ s. s; admitted = omega arith }
+  step_opened can busy = record { can = can; same = same_now; room = refl; busy = busy; searched = λ s. s; admitted = omega arith; components = omega arith; stripe = refl }
 
   -- What each turn opens with.
   opened_at : (b : Bool) (t : Terms) (modules : List ModuleAsked) (commands : List Command) (o : Opening P) → is_idle p.frame.phase ≡ b → AreCallsFor t c.settings modules → CanTurn maker c p → length commands ≤ length p.live → OpensAt b modules commands p o → IsOpened o

@@ -9,17 +9,18 @@ use Rattle.pool_memory.specs.Memories.{MemoryState}
 use Rattle.pool_alloc.specs.Leases.{Lease, slot_taken}
 use Rattle.pool_alloc.specs.Sound.{IsLeaseOf}
 use Rattle.pool_alloc.specs.declared.frame.Grant.{Grant}
-use Rattle.pool_alloc.specs.declared.frame.Grant.TheVariants.{Instance as instance}
+use Rattle.pool_alloc.specs.declared.frame.Grant.TheVariants.{Instance as instance, Component as component, Stack as stack}
 use Rattle.pool_slots.specs.declared.plan.Plan.{Plan}
 use Rattle.pool_alloc.specs.declared.pool_core.Settings.{Settings}
 use Rattle.pool_run.specs.Acts.{MemoryOp, reads, writes, fills, grows, asks_size}
 use Rattle.pool_run.specs.Objects.{MovesNamed}
-use Rattle.pool_run.specs.Private.{PrivateMemory, Writes, MemoryMoves, private_memories, growth}
+use Rattle.pool_run.specs.Private.{PrivateMemory, instance_grant, Writes, MemoryMoves, private_memories, growth}
 use Rattle.pool_run.specs.Rooms.{World, MayFault, TellsGrowth, TellsMove}
-use Rattle.pool_run.specs.Turns.{seen_as, private_memory, private_grant, MemoryWrites, MemoryGrows, MovesLease, LeaseMoves, memory_leases}
+use Rattle.pool_run.specs.Turns.{seen_as, private_memory, private_table, private_grant, MemoryWrites, MemoryGrows, MovesLease, LeaseMoves, memory_leases}
 use Rattle.pool_run.specs.declared.reply.Reply.{Reply}
 use Rattle.pool_run.proofs.Moves.{IsSeen, GrowsSeen, lease_still, writes_stay, writes_seen, grows_stay, grows_seen}
 use Rattle.pool_run.proofs.Named.{AreSeen}
+use Rattle.pool_run.proofs.SlotKinds.{memories_seen_of}
 
 -- The lease stays in its slot,
 pub op_slot : (op : MemoryOp) (rule : GrowthRule) (l new : Lease) (reply : Reply) → LeaseMoves op rule l new reply → slot_taken new ≡ slot_taken l
@@ -70,11 +71,10 @@ named_tells w op None put old new reply is = tt
 named_tells w op (Some m) put old new reply is = is.1.1
 
 -- The party sees its memories by their leases.
-same_memories : {P : Type 0} (g : Grant P) → private_memories.in_grant (private_grant g) ≡ map private_memory (memory_leases.in_grant g)
-same_memories (instance lease) = refl
-
 changed_memory : {P : Type 0} (k : ℕ) (l : Lease) (g : Grant P) → private_grant (memory_leases.put_in k l g) ≡ private_memories.put_in k (private_memory l) (private_grant g)
-changed_memory k l (instance lease) = ap (λ (ms : List PrivateMemory). record (private_grant (instance lease)) { memories = ms }) (map-set private_memory lease.memories.items k l)
+changed_memory k l (instance lease) = ap (λ (ms : List PrivateMemory). instance_grant (record { memories = ms; tables = map private_table lease.tables.items })) (map-set private_memory lease.memories.items k l)
+changed_memory k l component = refl
+changed_memory k l (stack lease) = refl
 
 pub memories_seen : (P : Type 0) → AreSeen (memory_leases {P = P}) private_memories private_grant private_memory
-memories_seen P = record { same = same_memories; changed = changed_memory }
+memories_seen P = record { same = memories_seen_of; changed = changed_memory }

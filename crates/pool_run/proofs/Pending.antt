@@ -16,15 +16,16 @@ use Rattle.pool_memory.specs.declared.memory_error.MemoryError.{MemoryError}
 use Rattle.pool_memory.specs.declared.memory_error.MemoryError.TheVariants as unmade
 use Rattle.pool_slots.specs.declared.errors.AllocError.{AllocError}
 use Rattle.pool_slots.specs.declared.errors.AllocError.TheVariants as refusal
+use Rattle.pool_alloc.specs.Refusals.{component_refused}
 use Rattle.pool_alloc.specs.Own.{made_of, made_of_limits, made_for}
-use Rattle.pool_alloc.specs.Stages.{Progress, untested, uncounted, admitted, Stage, no_call, keys, asks, returning, refusing, stage_of, Raises, Goes}
+use Rattle.pool_alloc.specs.Stages.{Progress, untested, uncounted, admitted, Stage, no_call, keys, asks, returning, refusing, purging, reserving, releasing, stage_of, Raises, Goes, seeks_stack, tests_component, counts_component, IsBroken}
 use Rattle.pool_alloc.specs.Steps.{memories_wanted, tables_wanted}
 use Rattle.pool_alloc.specs.TableLeases.{LeasedTable}
 use Rattle.pool_alloc.specs.TableSteps.{table_refused, table_in, made_table, made_unless}
 use Rattle.pool_run.specs.Private.{table_room}
 use Rattle.pool_alloc.specs.declared.frame.Frame.{Frame}
 use Rattle.pool_alloc.specs.declared.frame.Grant.{Grant}
-use Rattle.pool_alloc.specs.declared.frame.Grant.TheVariants.{Instance as instance}
+use Rattle.pool_alloc.specs.declared.frame.Grant.TheVariants.{Instance as instance, Component as component, Stack as stack}
 use Rattle.pool_alloc.specs.declared.frame.Outcome.{Outcome}
 use Rattle.pool_alloc.specs.declared.frame.Outcome.TheVariants as answer
 use Rattle.pool_alloc.specs.declared.pool_core.PoolCore.{PoolCore}
@@ -81,15 +82,22 @@ unless_is (Some d) l e is = let same : d ≡ e = cc in ap (λ (x : AllocError). 
 refused_once : (e : AllocError) → Refused (Alloc e) ≡ want_of_memory → e ≡ refusal.Memory
 refused_once e is = cc
 
--- the request passed its test, or is to be refused for another cause
+-- the request passed its test, or is one for a component or a stack, or is to be refused for another cause; or a release has
+-- its room
 abbrev pub IsPast : Stage → Type 0
 IsPast (asks untested) = ⊥
 IsPast (asks uncounted) = Unit {0}
 IsPast (asks (admitted n)) = Unit {0}
+IsPast (asks seeks_stack) = Unit {0}
+IsPast (tests_component info) = Unit {0}
+IsPast counts_component = Unit {0}
 IsPast (refusing e) = e ≢ refusal.Memory
 IsPast no_call = ⊥
 IsPast keys = ⊥
 IsPast returning = ⊥
+IsPast purging = ⊥
+IsPast reserving = ⊥
+IsPast releasing = Unit {0}
 
 -- it stays so, or ends otherwise
 abbrev pub StaysPast : {P : Type 0} → Stage → Option (Outcome P) → Type 0
@@ -97,12 +105,19 @@ StaysPast t None = IsPast t
 StaysPast t (Some answer.Key) = ⊥
 StaysPast t (Some (answer.Granted grant)) = Unit {0}
 StaysPast t (Some answer.Returned) = Unit {0}
+StaysPast t (Some (answer.Purged n)) = Unit {0}
+StaysPast t (Some (answer.Released n)) = Unit {0}
 StaysPast t (Some (answer.Refused e)) = e ≢ refusal.Memory
 
 module _ {P : Type 0} (maker : MakerTold) (old new : LimiterTold) (c : PoolCore P) (f : Frame P) where
   raised_past : (p : Progress) (e : AllocError) → IsPast (asks p) → Raises maker old new c f p e → e ≢ refusal.Memory
   raised_past untested e past raises = absurd past
   raised_past uncounted e past raises = λ is. let wrong = sym raises.0 ∙ is in absurd cc
+  raised_past seeks_stack e past raises =
+      elim raises [
+        | inl disabled ↦ λ is. let wrong = sym disabled.0 ∙ is in absurd cc
+        | inr found ↦ λ is. let wrong = sym found.is ∙ is in absurd cc
+      ]
   raised_past (admitted n) e past raises =
       elim raises [
         | inl found ↦ λ is. let wrong = sym found.is ∙ is in absurd cc
@@ -110,7 +125,7 @@ module _ {P : Type 0} (maker : MakerTold) (old new : LimiterTold) (c : PoolCore 
             elim rest [
               | inl fault ↦ λ is. let wrong = sym fault.is ∙ is in absurd cc
               | inr (inr makes) ↦
-                  at_place (slice_get (tables_wanted f.asked) (length f.objects.tables.items)) (get_there (tables_wanted f.asked) (length f.objects.tables.items) (omega (arith, makes.allocating.more, makes.next, makes.allocating.to_grant.few)))
+                  at_place (slice_get (tables_wanted f.asked) (length f.objects.tables.items)) (get_there (tables_wanted f.asked) (length f.objects.tables.items) (omega (arith, makes.allocating.more, makes.next.0, makes.next.1, makes.allocating.to_grant.few)))
                   (λ ty there.
                   let made : made_table c.settings makes.given makes.at makes.region (Some ty) ≡ Err e = ap (made_table c.settings makes.given makes.at makes.region) (sym there) ∙ makes.is in
                   refused_other makes.given ty.limits.min (table_room c.settings ty) e (unless_is (table_refused makes.given ty.limits.min (table_room c.settings ty)) (table_in c.settings ty makes.at makes.region) e made))
@@ -122,21 +137,43 @@ module _ {P : Type 0} (maker : MakerTold) (old new : LimiterTold) (c : PoolCore 
             ]
       ]
 
+  broken_past : (o : Option Unsupported) (e : AllocError) → IsBroken o e → e ≢ refusal.Memory
+  broken_past None e broken = absurd broken
+  broken_past (Some rule) e broken = λ is. let wrong = sym broken ∙ is in absurd cc
+
   past_goes : (s t : Stage) (o : Option (Outcome P)) → Goes maker old new c f s t o → IsPast s → StaysPast t o
   past_goes no_call t o goes past = absurd past
   past_goes keys t o goes past = absurd past
   past_goes returning t o goes past = absurd past
+  past_goes purging t o goes past = absurd past
+  past_goes reserving t o goes past = absurd past
+  past_goes releasing releasing None goes past = tt
+  past_goes releasing no_call (Some (answer.Released n)) goes past = tt
   past_goes (asks untested) t o goes past = absurd past
   past_goes (asks uncounted) (asks untested) None goes past = absurd goes
   past_goes (asks uncounted) (asks uncounted) None goes past = absurd goes
   past_goes (asks uncounted) (asks (admitted m)) None goes past = tt
+  past_goes (asks uncounted) (asks seeks_stack) None goes past = absurd goes
   past_goes (asks uncounted) (refusing e) None goes past = raised_past uncounted e past goes
-  past_goes (asks uncounted) no_call (Some (answer.Granted grant)) goes past = tt
+  past_goes (asks uncounted) no_call (Some (answer.Granted (instance lease))) goes past = tt
   past_goes (asks (admitted n)) (asks untested) None goes past = absurd goes
   past_goes (asks (admitted n)) (asks uncounted) None goes past = absurd goes
   past_goes (asks (admitted n)) (asks (admitted m)) None goes past = tt
+  past_goes (asks (admitted n)) (asks seeks_stack) None goes past = absurd goes
   past_goes (asks (admitted n)) (refusing e) None goes past = raised_past (admitted n) e past goes
-  past_goes (asks (admitted n)) no_call (Some (answer.Granted grant)) goes past = tt
+  past_goes (asks (admitted n)) no_call (Some (answer.Granted (instance lease))) goes past = tt
+  past_goes (asks seeks_stack) (asks seeks_stack) None goes past = tt
+  past_goes (asks seeks_stack) (asks _) None goes past = absurd goes
+  past_goes (asks seeks_stack) (refusing e) None goes past = raised_past seeks_stack e past goes
+  past_goes (asks seeks_stack) no_call (Some (answer.Granted (stack lease))) goes past = tt
+  past_goes (asks seeks_stack) no_call (Some (answer.Granted (instance lease))) goes past = tt
+  past_goes (asks seeks_stack) no_call (Some (answer.Refused e)) goes past = raised_past seeks_stack e past goes
+  past_goes (asks uncounted) no_call (Some (answer.Granted (stack lease))) goes past = tt
+  past_goes (asks (admitted n)) no_call (Some (answer.Granted (stack lease))) goes past = tt
+  past_goes (tests_component info) counts_component None goes past = tt
+  past_goes (tests_component info) no_call (Some (answer.Refused e)) goes past = broken_past (component_refused c.settings info) e goes
+  past_goes counts_component no_call (Some (answer.Granted component)) goes past = tt
+  past_goes counts_component (refusing e) None goes past = λ is. let wrong = sym goes.0 ∙ is in absurd cc
   past_goes (refusing e) (refusing d) None goes past = λ is. past (sym goes ∙ is)
   past_goes (refusing e) no_call (Some (answer.Refused d)) goes past = λ is. past (sym goes ∙ is)
   past_goes _ _ _ goes past = absurd goes
@@ -149,12 +186,16 @@ PastReply (Some r) s = r ≢ want_of_memory
 module _ {P : Type 0} where
   granted_past : (grant : Grant P) → granted_reply grant ≢ want_of_memory
   granted_past (instance lease) = λ is. absurd cc
+  granted_past component = λ is. absurd cc
+  granted_past (stack lease) = λ is. absurd cc
 
   answered_past : (o : Option (Outcome P)) (t : Stage) (c : PoolCore P) (p : RunningParty P) → t ≡ stage_of p.frame → StaysPast t o → PastReply (answered o c p).reply (stage_of (answered o c p).party.frame)
   answered_past None t c p is past = subst IsPast is past
   answered_past (Some answer.Key) t c p is past = absurd past
   answered_past (Some (answer.Granted grant)) t c p is past = granted_past grant
   answered_past (Some answer.Returned) t c p is past = λ e. absurd cc
+  answered_past (Some (answer.Purged n)) t c p is past = λ e. absurd cc
+  answered_past (Some (answer.Released n)) t c p is past = λ e. absurd cc
   answered_past (Some (answer.Refused e)) t c p is past = λ wants. past (refused_once e wants)
 
   -- A step of such a request.

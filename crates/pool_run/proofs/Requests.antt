@@ -1,6 +1,6 @@
 -- What a step makes of a request, as its party is told: it goes on, is refused for a cause, or is granted what it asked for.
-use Rattle.std.proofs.Common.{◌≡◌, ℕ, zero, suc, ◌+◌, ◌<◌, ◌≤◌, ◌⊎◌, if◌then◌else◌, true, List, [], ◌∷◌, length, map, Option, Some, None, Result, Ok, Err, refl, sym, ap, ◌∙◌, subst, inl, inr, arith, All}
-use Rattle.std.specs.Prelude.{IfSome, slice_get, slice_index_or, sum_by}
+use Rattle.std.proofs.Common.{◌≡◌, ℕ, zero, suc, ◌+◌, ◌*◌, ◌<◌, ◌≤◌, ◌⊎◌, if◌then◌else◌, true, List, [], ◌∷◌, length, map, Option, Some, None, Result, Ok, Err, refl, sym, ap, ◌∙◌, subst, inl, inr, arith, All}
+use Rattle.std.specs.Prelude.{nat_lt, IfSome, slice_get, slice_index_or, sum_by}
 use Rattle.std.proofs.lemmas.Bool.{cases_eq, cases_lt, le-ltb, lt-ltb}
 use Rattle.std.proofs.lemmas.List.Elements.{All-get_or}
 use Rattle.std.proofs.lemmas.Option.{slice_get_within, get_or_from_slice_get}
@@ -18,14 +18,16 @@ use Rattle.pool_alloc.specs.Answers.{AsksForMemory}
 use Rattle.pool_alloc.specs.Leases.{Lease, memory_slot}
 use Rattle.pool_alloc.specs.Own.{made_for}
 use Rattle.pool_alloc.specs.Objects.{objects_in, objects_wanted}
-use Rattle.pool_alloc.specs.Places.{right_to, instance_count, slot_count, frame_count, kept_count, away_count, phase_instances}
+use Rattle.pool_alloc.specs.Places.{right_to, instance_count, slot_count, frame_count, kept_count, away_count, frame_instances, phase_components}
+use Rattle.pool_alloc.specs.declared.frame.Asked.{Asked}
+use Rattle.pool_alloc.specs.declared.frame.Asked.TheVariants.{Module as module_asked}
 use Rattle.pool_alloc.specs.Wants.{MemoryWant, Want, new_memory, new_table, wants_from}
 use Rattle.pool_run.proofs.SlotsMade.{made_slot}
 use Rattle.pool_alloc.specs.Refusals.{module_refused}
 use Rattle.pool_alloc.specs.Sound.{IsFrame, IsAllocating, IsMemoryNext, IsTableNext, IsSupported, AreSupported, IsNew, AreBegun, IsLeaseOf, AreLeasesOf}
-use Rattle.pool_alloc.specs.Stages.{Progress, untested, uncounted, admitted, FindsNone, IsPageFaulted, Makes, MakesTable, IsUntested, Raises, Follows}
-use Rattle.pool_alloc.specs.Stepping.{grant_count, grant_instances}
-use Rattle.pool_alloc.specs.Steps.{memories_wanted, images_wanted, tables_wanted, memory_slots, stripe_allocator, allocator_of, allocator_for, kind_next}
+use Rattle.pool_alloc.specs.Stages.{Progress, untested, uncounted, admitted, seeks_stack, FindsNone, IsPageFaulted, Makes, MakesTable, IsUntested, Raises, Follows}
+use Rattle.pool_alloc.specs.Stepping.{grant_count, grant_instances, grant_components}
+use Rattle.pool_alloc.specs.Steps.{IsModule, kind_by, stacks_wanted, info_wanted, memories_wanted, images_wanted, tables_wanted, memory_slots, stripe_allocator, allocator_of, allocator_for, kind_next}
 use Rattle.pool_alloc.specs.Turns.{limit_of}
 use Rattle.pool_alloc.specs.PoolTables.{IsTableLease, IsBegunTable}
 use Rattle.pool_alloc.specs.TableLeases.{LeasedTable}
@@ -43,7 +45,7 @@ use Rattle.pool_alloc.specs.declared.frame.Grant.TheVariants.{Instance as instan
 use Rattle.pool_alloc.specs.declared.lease.InstanceLease.{InstanceLease}
 use Rattle.pool_slots.specs.SlotNames.{of_kind}
 use Rattle.pool_slots.specs.declared.slot_name.SlotName.{SlotName}
-use Rattle.pool_run.specs.Private.{Grants, PrivateMemory, module_of, Request, request_of, wants_of, begun, begun_memory, begun_table, begun_instance, own_refusal, slots_asked, table_room}
+use Rattle.pool_run.specs.Private.{Grants, stripe_slots, PrivateMemory, PrivateInstance, instance_grant, module_of, Request, request_of, wants_of, begun, begun_memory, begun_table, begun_instance, own_refusal, slots_asked, table_room}
 use Rattle.pool_run.specs.PrivateTables.{PrivateTable}
 use Rattle.pool_run.specs.Rooms as rooms
 use Rattle.pool_run.specs.Rooms.{World, live_count, table_count}
@@ -61,6 +63,20 @@ use Rattle.pool_run.proofs.Wants.{IsWanted, wants_there, count_wanted, count_all
 use Rattle.pool_slots.specs.declared.plan.Allocator.{Allocator}
 use Rattle.pool_slots.specs.Plans.{has_number}
 use Rattle.pool_index.specs.Shard.{one_if}
+
+-- the tables of the module that is asked for
+tables_told_by : (asked : Asked) → tables_wanted asked ≡ (info_wanted asked).tables
+tables_told_by (module_asked m) = refl
+tables_told_by _ = refl
+
+-- a module has memories and tables, and no stack
+no_stack_of : (asked : Asked) → IsModule asked → stacks_wanted asked ≡ 0
+no_stack_of (module_asked m) is = refl
+no_stack_of _ is = absurd is
+
+kind_of_module : (asked : Asked) (n : ℕ) → IsModule asked → kind_by asked n ≡ (if nat_lt n (length (memories_wanted asked)) then memory_kind else table_kind)
+kind_of_module (module_asked m) n is = refl
+kind_of_module _ n is = absurd is
 
 -- what there is of an element that is told of
 told_there : {X : Type 0} (Q : Type 0) (xs : List X) (k : ℕ) → k < length xs → ((x : X) → slice_get xs k ≡ Some x → Q) → Q
@@ -99,51 +115,63 @@ module _ {P : Type 0} (w : World) (old new : LimiterTold) (c : PoolCore P) (f : 
     pub world : IsWorldOf w c
     pub frame : IsFrame w.maker c.settings c.plan f
     pub once : (name : SlotName) → frame_count (right_to name) f + sum_by (granted_to (grant_count (right_to name))) live ≤ made_slot name.slot (of_kind name.kind c.plan.totals)
-    pub instances : phase_instances f.phase + sum_by (granted_to grant_instances) live ≤ c.counters.core_instances
+    pub instances : frame_instances f + sum_by (granted_to grant_instances) live ≤ c.counters.core_instances
+    pub components : phase_components f.phase + sum_by (granted_to grant_components) live ≤ c.counters.component_instances
     pub alone : w.alone ≡ true → IsAlone c f live
     pub rule : old.rule ≡ Some w.terms.host.rule
+    pub stripe : f.stripe ≡ w.terms.stripe
 
-module _ {P : Type 0} (w : World) (old new : LimiterTold) (c : PoolCore P) (f : Frame P) (live : List (Option (Grant P))) (told : Grants) (is : IsBefore w old new c f live told) (seen : grants_of live ≡ told) (number : ℕ) (asked : IsFor (request_of w.terms number) f.asked) where
+module _ {P : Type 0} (w : World) (old new : LimiterTold) (c : PoolCore P) (f : Frame P) (live : List (Option (Grant P))) (told : Grants) (is : IsBefore w old new c f live told) where
+  -- Where the party is alone and no slot is found, each of the allocator is with it.
+  pub gone : (n : ℕ) (e : AllocError) → FindsNone c f n e → w.alone ≡ true → (kind : SlotKind) → kind_next f ≡ kind → (k : ℕ) → has_number (allocator_for c.plan f) k ≡ true
+      → 1 ≤ instance_count (right_to (record { kind = kind; slot = k })) f.objects + sum_by (granted_to (grant_count (right_to (record { kind = kind; slot = k })))) live
+  gone n e none a kind next k number =
+      let name : SlotName = record { kind = kind; slot = k } in
+      let alone : IsAlone c f live = is.alone a in
+      let Gone : SlotKind → Type 0 = λ x. (kept_count (right_to (record { kind = x; slot = k })) c ≡ 0) × (away_count (right_to (record { kind = x; slot = k })) c ≡ 1) in
+      let out : Gone kind = subst Gone next (none.none alone.searched k number) in
+      omega (arith, alone.places (right_to name), out.0, out.1, none.has name)
+
+module _ {P : Type 0} (w : World) (old new : LimiterTold) (c : PoolCore P) (f : Frame P) (live : List (Option (Grant P))) (told : Grants) (is : IsBefore w old new c f live told) (seen : grants_of live ≡ told) (number : ℕ) (asked : IsFor w.terms number f.asked) where
   abbrev request : Request
   request = request_of w.terms number
 
-  -- it is of the only stripe
-  its_stripe : f.stripe ≡ 0
-  its_stripe = omega (arith, is.frame.stripe, is.world.plan.one)
+  -- the party's stripe is one of the pool's
+  within_stripes : w.terms.stripe < w.terms.settings.num_stripes
+  within_stripes = omega (arith, is.frame.stripe, is.stripe, is.world.plan.count)
 
   -- the allocator of a memory, and that of a table
-  of_stripe : kind_next f ≡ memory_kind → allocator_for c.plan f ≡ stripe_allocator c.plan 0
-  of_stripe next = ap (λ (kind : SlotKind). allocator_of c.plan kind f.stripe) next ∙ ap (stripe_allocator c.plan) its_stripe
+  of_stripe : kind_next f ≡ memory_kind → allocator_for c.plan f ≡ stripe_allocator c.plan w.terms.stripe
+  of_stripe next = ap (λ (kind : SlotKind). allocator_of c.plan kind f.stripe) next ∙ ap (stripe_allocator c.plan) is.stripe
 
   of_tables : kind_next f ≡ table_kind → allocator_for c.plan f ≡ allocator_of c.plan table_kind 0
   of_tables next = ap (λ (kind : SlotKind). allocator_of c.plan kind f.stripe) next
 
   -- what comes next: a memory, or a table
   next_memory : IsMemoryNext f → kind_next f ≡ memory_kind
-  next_memory next = ap (λ b. if b then memory_kind else table_kind) (lt-ltb (length f.objects.memories.items) (length (memories_wanted f.asked)) next)
+  next_memory next = kind_of_module f.asked (length f.objects.memories.items) asked.of_module ∙ ap (λ b. if b then memory_kind else table_kind) (lt-ltb (length f.objects.memories.items) (length (memories_wanted f.asked)) next)
 
   next_table : IsTableNext f → kind_next f ≡ table_kind
-  next_table next = ap (λ b. if b then memory_kind else table_kind) (le-ltb (length f.objects.memories.items) (length (memories_wanted f.asked)) next)
+  next_table next = kind_of_module f.asked (length f.objects.memories.items) asked.of_module ∙ ap (λ b. if b then memory_kind else table_kind) (le-ltb (length f.objects.memories.items) (length (memories_wanted f.asked)) next.0)
 
-  same_memories : memories_wanted f.asked ≡ (module_of w.terms number).memories
-  same_memories = sym (all_declared (memories_wanted f.asked) (images_wanted f.asked)) ∙ ap (map (λ (want : MemoryWant). want.decl)) asked.memories ∙ all_declared (module_of w.terms number).memories _
+  its_tables : tables_wanted f.asked ≡ request.tables
+  its_tables = tables_told_by f.asked ∙ ap (λ (m : ModuleInfo). m.tables) asked.info
 
   pub memory_number : length (memories_wanted f.asked) ≡ length request.memories
   memory_number = sym (count_wanted (memories_wanted f.asked) (images_wanted f.asked)) ∙ ap (length {A = MemoryWant}) asked.memories
 
   pub table_number : length (tables_wanted f.asked) ≡ length request.tables
-  table_number = ap (length {A = TableType}) asked.tables
+  table_number = ap (length {A = TableType}) its_tables
 
   pub same_number : objects_wanted f.asked ≡ length (wants_of request)
-  same_number = omega (arith, memory_number, table_number, count_all request)
+  same_number = omega (arith, memory_number, table_number, no_stack_of f.asked asked.of_module, count_all request)
 
   -- the rule that the module breaks
-  broken_is : (o : Option Unsupported) → module_refused c.settings c.plan.totals.table (memories_wanted f.asked) (tables_wanted f.asked) ≡ o → request.broken ≡ o
+  broken_is : (o : Option Unsupported) → module_refused c.settings c.plan.totals.table (info_wanted f.asked) ≡ o → request.broken ≡ o
   broken_is o broken =
       let m : ModuleInfo = module_of w.terms number in
-      ap (λ (s : Settings). module_refused s w.terms.table_slots m.memories m.tables) is.world.settings ∙ ap (λ (n : ℕ). module_refused c.settings n m.memories m.tables) is.world.tables.total
-      ∙ ap (λ (ms : List MemoryDecl). module_refused c.settings c.plan.totals.table ms m.tables) (sym same_memories)
-      ∙ ap (λ (ts : List TableType). module_refused c.settings c.plan.totals.table (memories_wanted f.asked) ts) (sym asked.tables) ∙ broken
+      ap (λ (s : Settings). module_refused s w.terms.table_slots m) is.world.settings ∙ ap (λ (n : ℕ). module_refused c.settings n m) is.world.tables.total
+      ∙ ap (module_refused c.settings c.plan.totals.table) (sym asked.info) ∙ broken
 
   -- a slot is asked for what is allocated
   asked_now : (n : ℕ) → IsAdmitted w request told n → n ≡ objects_in f.objects → IsAllocating c.settings c.plan f → n < slots_asked w.terms (wants_of request)
@@ -164,25 +192,8 @@ module _ {P : Type 0} (w : World) (old new : LimiterTold) (c : PoolCore P) (f : 
   table_now : (Q : Type 0) (n : ℕ) → n ≡ objects_in f.objects → IsAllocating c.settings c.plan f → IsTableNext f
       → ((ty : TableType) → n ≡ length request.memories + length f.objects.tables.items → slice_get request.tables (length f.objects.tables.items) ≡ Some ty → Q) → Q
   table_now Q n same allocating next step =
-      let place : n ≡ length request.memories + length f.objects.tables.items = omega (arith, same, memory_number, next, allocating.to_grant.few) in
-      told_there Q request.tables (length f.objects.tables.items) (omega (arith, place, same, allocating.more, memory_number, table_number)) (λ ty there. step ty place there)
-
-  -- Where the party is alone and no slot is found, all of the kind are with it.
-  all_gone : (n : ℕ) (e : AllocError) → FindsNone c f n e → w.alone ≡ true → (kind : SlotKind) → kind_next f ≡ kind → ((k : ℕ) → k < of_kind kind c.plan.totals → has_number (allocator_for c.plan f) k ≡ true) → (k : ℕ)
-      → instance_count (right_to (record { kind = kind; slot = k })) f.objects + sum_by (granted_to (grant_count (right_to (record { kind = kind; slot = k })))) live ≡ made_slot k (of_kind kind c.plan.totals)
-  all_gone n e none a kind next inside k =
-      let name : SlotName = record { kind = kind; slot = k } in
-      let alone : IsAlone c f live = is.alone a in
-      elim (cases_lt k (of_kind kind c.plan.totals)) [
-        | inl below ↦
-            let Gone : SlotKind → Type 0 = λ x. (kept_count (right_to (record { kind = x; slot = k })) c ≡ 0) × (away_count (right_to (record { kind = x; slot = k })) c ≡ 1) in
-            let gone : Gone kind = subst Gone next (none.none alone.searched k (inside k below)) in
-            let one : made_slot k (of_kind kind c.plan.totals) ≡ 1 = ap one_if (lt-ltb k (of_kind kind c.plan.totals) below) in
-            omega (arith, one, alone.places (right_to name), gone.0, gone.1, none.has name)
-        | inr past ↦
-            let past_all : made_slot k (of_kind kind c.plan.totals) ≡ 0 = ap one_if (le-ltb k (of_kind kind c.plan.totals) past) in
-            omega (arith, is.once name, none.has name, past_all)
-      ]
+      let place : n ≡ length request.memories + length f.objects.tables.items = omega (arith, same, memory_number, next.0, allocating.to_grant.few) in
+      told_there Q request.tables (length f.objects.tables.items) (omega (arith, place, same, allocating.more, memory_number, table_number, no_stack_of f.asked asked.of_module)) (λ ty there. step ty place there)
 
   -- how it is refused
   refused_for : (n : ℕ) (e : AllocError) → FindsNone c f n e → (kind : SlotKind) → kind_next f ≡ kind → e ≡ refusal.Limit (record { limit = (allocator_for c.plan f).capacity; kind = limit_of kind f.stripe })
@@ -192,36 +203,47 @@ module _ {P : Type 0} (w : World) (old new : LimiterTold) (c : PoolCore P) (f : 
   -- many.
   no_memory_slot : (n : ℕ) (e : AllocError) → IsAdmitted w request told n → FindsNone c f n e → IsMemoryNext f → HasCause w request told e
   no_memory_slot n e so none next =
+      let s : ℕ = w.terms.stripe in
+      let count : ℕ = w.terms.settings.num_stripes in
       let kind : kind_next f ≡ memory_kind = next_memory next in
-      let its : allocator_for c.plan f ≡ stripe_allocator c.plan 0 = of_stripe kind in
-      let room : w.terms.slots ≡ (allocator_for c.plan f).capacity = sym is.world.plan.room ∙ sym (ap (λ (x : Allocator). x.capacity) its) in
-      let inside : (k : ℕ) → k < memory_slots c.plan → has_number (allocator_for c.plan f) k ≡ true =
-      λ k below. ap (λ (x : Allocator). has_number x k) its ∙ is.world.plan.each k (omega (arith, below, is.world.plan.total)) in
+      let its : allocator_for c.plan f ≡ stripe_allocator c.plan s = of_stripe kind in
+      let room : stripe_slots w.terms ≡ (allocator_for c.plan f).capacity = sym (is.world.plan.room s within_stripes) ∙ sym (ap (λ (x : Allocator). x.capacity) its) in
       memory_now (HasCause w request told e) n none.number none.allocating next
       (λ want place there wanted.
-      let full : w.alone ≡ true → w.terms.slots ≤ live_count told + n =
-      λ a. omega (arith, is.world.plan.total, place, memories_taken (memory_slots c.plan) f.objects live (all_gone n e none a memory_kind kind inside), memories_told live told seen) in
+      let full : w.alone ≡ true → stripe_slots w.terms ≤ live_count told + n =
+      λ a.
+      omega (
+        arith,
+        place,
+        memories_taken s count (stripe_slots w.terms) (instance f.objects) live is.world.plan.some
+            (λ j below. gone w old new c f live told is n e none a memory_kind kind (s + j * count) (ap (λ (x : Allocator). has_number x (s + j * count)) its ∙ is.world.plan.each s j within_stripes below)),
+        memories_told live told seen,
+      ) in
       subst (HasCause w request told) (sym (refused_for n e none memory_kind kind))
-      (given_cause w request told _ so.supported (slots_given w request told (allocator_for c.plan f).capacity f.stripe n want room its_stripe there (asked_now n so none.number none.allocating) full)))
+      (given_cause w request told _ so.supported (slots_given w request told (allocator_for c.plan f).capacity f.stripe n want room is.stripe there (asked_now n so none.number none.allocating) full)))
 
   no_table_slot : (n : ℕ) (e : AllocError) → IsAdmitted w request told n → FindsNone c f n e → IsTableNext f → HasCause w request told e
   no_table_slot n e so none next =
       let kind : kind_next f ≡ table_kind = next_table next in
       let its : allocator_for c.plan f ≡ allocator_of c.plan table_kind 0 = of_tables kind in
       let room : w.terms.table_slots ≡ (allocator_for c.plan f).capacity = sym is.world.tables.room ∙ sym (ap (λ (x : Allocator). x.capacity) its) in
-      let inside : (k : ℕ) → k < c.plan.totals.table → has_number (allocator_for c.plan f) k ≡ true =
-      λ k below. ap (λ (x : Allocator). has_number x k) its ∙ is.world.tables.each k (omega (arith, below, is.world.tables.total)) in
       table_now (HasCause w request told e) n none.number none.allocating next
       (λ ty place there.
       let full : w.alone ≡ true → w.terms.table_slots ≤ table_count told + length f.objects.tables.items =
-      λ a. omega (arith, is.world.tables.total, tables_taken c.plan.totals.table f.objects live (all_gone n e none a table_kind kind inside), tables_told live told seen) in
+      λ a.
+      omega (
+        arith,
+        tables_taken 0 1 w.terms.table_slots (instance f.objects) live (omega arith)
+            (λ j below. gone w old new c f live told is n e none a table_kind kind (0 + j * 1) (ap (λ (x : Allocator). has_number x (0 + j * 1)) its ∙ is.world.tables.each (0 + j * 1) (omega (arith, below)))),
+        tables_told live told seen,
+      ) in
       subst (HasCause w request told) (sym (refused_for n e none table_kind kind))
       (given_cause w request told _ so.supported
       (tables_given w request told (allocator_for c.plan f).capacity (length f.objects.tables.items) ty room there (omega (arith, place, asked_now n so none.number none.allocating)) full)))
 
   none_cause : (n : ℕ) (e : AllocError) → IsAdmitted w request told n → FindsNone c f n e → HasCause w request told e
   none_cause n e so none =
-      elim (cases_lt (length f.objects.memories.items) (length (memories_wanted f.asked))) [ inl memory ↦ no_memory_slot n e so none memory | inr table ↦ no_table_slot n e so none table ]
+      elim (cases_lt (length f.objects.memories.items) (length (memories_wanted f.asked))) [ inl memory ↦ no_memory_slot n e so none memory | inr table ↦ no_table_slot n e so none (table, no_stack_of f.asked asked.of_module) ]
 
   -- A call on the pages of its slot failed.
   fault_cause : (n : ℕ) (e : AllocError) → IsAdmitted w request told n → IsPageFaulted w.maker c f n e → HasCause w request told e
@@ -237,7 +259,7 @@ module _ {P : Type 0} (w : World) (old new : LimiterTold) (c : PoolCore P) (f : 
       subst (HasCause w request told) (sym fault.is)
       (given_cause w request told refusal.PageFault so.supported
       (fault_given w request told n want there (asked_now n so fault.number fault.allocating)
-      (fault_of_slot w c.settings.behaviour c.settings.max_memory_size (memory_slots c.plan) slot fault.old fault.new is.world.plan.total inside fault.region.region fault.left) free)))
+      (fault_of_slot w c.settings (memory_slots c.plan) slot fault.old fault.new is.world.plan.total inside fault.region.region fault.left) free)))
 
   -- What is made of memory n goes with its own refusal.
   made_own : (n : ℕ) (made : Result MemoryState AllocError) (want : MemoryWant) → IsWanted (memories_wanted f.asked) (images_wanted f.asked) (length f.objects.memories.items) want → Makes old new c f n made → GoesWith (own_refusal w.terms (new_memory want)) made
@@ -255,7 +277,7 @@ module _ {P : Type 0} (w : World) (old new : LimiterTold) (c : PoolCore P) (f : 
   table_own : (n : ℕ) (made : Result LeasedTable AllocError) (ty : TableType) → slice_get request.tables (length f.objects.tables.items) ≡ Some ty → MakesTable old new c f n made → GoesWith (own_refusal w.terms (new_table ty)) made
   table_own n made ty at makes =
       let k : ℕ = length f.objects.tables.items in
-      let there : slice_get (tables_wanted f.asked) k ≡ Some ty = ap (λ (ts : List TableType). slice_get ts k) asked.tables ∙ at in
+      let there : slice_get (tables_wanted f.asked) k ≡ Some ty = ap (λ (ts : List TableType). slice_get ts k) its_tables ∙ at in
       let asks : AsksForTable makes.given old new ty = told_of (AsksForTable makes.given old new) (slice_get (tables_wanted f.asked) k) ty there makes.asked in
       let own : Option AllocError = own_refusal w.terms (new_table ty) in
       let most : Option ℕ = Some (type_maximum ty) in
@@ -280,18 +302,19 @@ module _ {P : Type 0} (w : World) (old new : LimiterTold) (c : PoolCore P) (f : 
       let at : slice_get (wants_of request) n ≡ Some (new_table ty) = ap (slice_get (wants_of request)) place ∙ table_at request (length f.objects.tables.items) ty there in
       own_cause w request told (new_table ty) e so.supported own (first_is w.terms (wants_of request) n (new_table ty) e so.allowed at own))
 
-  untested_cause : (o : Option Unsupported) (e : AllocError) → module_refused c.settings c.plan.totals.table (memories_wanted f.asked) (tables_wanted f.asked) ≡ o → IsUntested o e → HasCause w request told e
+  untested_cause : (o : Option Unsupported) (e : AllocError) → module_refused c.settings c.plan.totals.table (info_wanted f.asked) ≡ o → IsUntested o e → HasCause w request told e
   untested_cause None e broken raises = subst (HasCause w request told) (sym raises) (memory_cause w request told)
   untested_cause (Some rule) e broken raises = subst (HasCause w request told) (sym raises) (broken_cause w request told rule (broken_is (Some rule) broken))
 
   -- A request is refused only for a cause.
-  pub raised_cause : (p : Progress) (e : AllocError) → (p ≡ uncounted → phase_instances f.phase ≡ 0) → IsSoFar w request told p → Raises w.maker old new c f p e → HasCause w request told e
-  raised_cause untested e none so raises = untested_cause (module_refused c.settings c.plan.totals.table (memories_wanted f.asked) (tables_wanted f.asked)) e refl raises
+  pub raised_cause : (p : Progress) (e : AllocError) → (p ≡ uncounted → frame_instances f ≡ 0) → IsSoFar w request told p → Raises w.maker old new c f p e → HasCause w request told e
+  raised_cause untested e none so raises = untested_cause (module_refused c.settings c.plan.totals.table (info_wanted f.asked)) e refl raises
   raised_cause uncounted e none so raises =
       let most : w.terms.settings.max_core_instances ≡ c.settings.max_core_instances = ap (λ (s : Settings). s.max_core_instances) is.world.settings in
       let full : w.alone ≡ true → w.terms.settings.max_core_instances ≤ rooms.instance_count told =
       λ a. omega (arith, most, raises.1, (is.alone a).instances, none refl, instances_told live told seen) in
       subst (HasCause w request told) (sym raises.0) (given_cause w request told _ so (instances_given w request told c.settings.max_core_instances most full))
+  raised_cause seeks_stack e none so raises = absurd so
   raised_cause (admitted n) e none so raises =
       elim raises [
         | inl found ↦ none_cause n e so found
@@ -323,6 +346,10 @@ module _ {P : Type 0} (w : World) (old new : LimiterTold) (c : PoolCore P) (f : 
   goes_so_far uncounted (admitted m) so follows =
       let most : w.terms.settings.max_core_instances ≡ c.settings.max_core_instances = ap (λ (s : Settings). s.max_core_instances) is.world.settings in
       record { supported = so; counted = omega (arith, most, follows.1, is.instances, instances_told live told seen); allowed = λ k below. absurd (omega (arith, follows.0, below)) }
+  goes_so_far untested seeks_stack so follows = absurd follows
+  goes_so_far uncounted seeks_stack so follows = absurd follows
+  goes_so_far (admitted n) seeks_stack so follows = absurd follows
+  goes_so_far seeks_stack q so follows = absurd so
   goes_so_far (admitted n) untested so follows = absurd follows
   goes_so_far (admitted n) uncounted so follows = absurd follows
   goes_so_far (admitted n) (admitted m) so follows =
@@ -341,19 +368,19 @@ module _ {P : Type 0} (w : World) (old new : LimiterTold) (c : PoolCore P) (f : 
       ]
 
   -- What is granted begins as what is asked for does.
-  pub granted_begun : (lease : InstanceLease P) → AreLeasesOf w.maker c.settings c.plan lease → length lease.memories.items ≡ length (memories_wanted f.asked) → AreBegun c.settings f.asked lease → length lease.tables.items ≡ length (tables_wanted f.asked) → AreSupported c.settings (memories_wanted f.asked) (images_wanted f.asked) → private_grant (instance lease) ≡ begun_instance w.terms request (slots_of lease.memories.items) (table_slots_of lease.tables.items)
+  pub granted_begun : (lease : InstanceLease P) → AreLeasesOf w.maker c.settings c.plan lease → length lease.memories.items ≡ length (memories_wanted f.asked) → AreBegun c.settings f.asked lease → length lease.tables.items ≡ length (tables_wanted f.asked) → AreSupported c.settings (memories_wanted f.asked) (images_wanted f.asked) → private_grant (instance lease) ≡ instance_grant (begun_instance w.terms request (slots_of lease.memories.items) (table_slots_of lease.tables.items))
   granted_begun lease each count begins table_count supported =
       let leases : List Lease = lease.memories.items in
       let tables : List LeasedTable = lease.tables.items in
       let Begun : List MemoryWant → Type 0 = λ ws. map private_memory leases ≡ begun (begun_memory w.terms) ws (slots_of leases) in
       let TablesBegun : List TableType → Type 0 = λ ts. map private_table tables ≡ begun (begun_table w.terms) ts (table_slots_of tables) in
       let begun_tables : TablesBegun request.tables =
-      subst TablesBegun asked.tables (all_begun (begun_table w.terms) (λ (l : LeasedTable). l.index) private_table (tables_wanted f.asked) tables table_count
+      subst TablesBegun its_tables (all_begun (begun_table w.terms) (λ (l : LeasedTable). l.index) private_table (tables_wanted f.asked) tables table_count
       (λ j l ty there at.
       let begun_one : IsBegunTable c.settings l ty = told_of (IsBegunTable c.settings l) (slice_get (tables_wanted f.asked) j) ty at (told_of (λ x. IfSome (slice_get (tables_wanted f.asked) j) (IsBegunTable c.settings x)) (slice_get tables j) l there (begins.1 j)) in
       table_seen w.terms w.maker c.settings c.plan ty l is.world.tells is.world.settings (leased (IsTableLease w.maker c.settings c.plan) tables j l there each.1) begun_one)) in
-      ap (λ (ts : List PrivateTable). record { memories = map private_memory leases; tables = ts }) begun_tables
-      ∙ ap (λ (ms : List PrivateMemory). record { memories = ms; tables = begun (begun_table w.terms) request.tables (table_slots_of tables) })
+      ap (λ (ts : List PrivateTable). instance_grant (record { memories = map private_memory leases; tables = ts })) begun_tables
+      ∙ ap (λ (ms : List PrivateMemory). instance_grant (record { memories = ms; tables = begun (begun_table w.terms) request.tables (table_slots_of tables) }))
       (subst Begun asked.memories (all_begun (begun_memory w.terms) (λ (l : Lease). l.index) private_memory (wants_from (memories_wanted f.asked) (images_wanted f.asked)) leases (count ∙ sym (count_wanted (memories_wanted f.asked) (images_wanted f.asked)))
       (λ j l want there at.
       let given : Option Image = slice_index_or (images_wanted f.asked) j None in

@@ -1,5 +1,6 @@
 -- The lists for the slots of what is asked for have room for them, until the reply takes them.
-use Rattle.std.proofs.Common.{◌≡◌, ℕ, ◌<◌, ◌≤◌, Option, Some, None, List, [], length, refl, sym, ap, ◌∙◌, subst, inl, inr, arith, true}
+use Rattle.std.proofs.Common.{◌≡◌, ℕ, ◌<◌, ◌≤◌, Bool, Option, Some, None, List, [], length, refl, sym, ap, ◌∙◌, subst, inl, inr, arith, true, false}
+use Rattle.pool_pages.specs.declared.module_types.ComponentInfo.{ComponentInfo}
 use Rattle.std.specs.Prelude.{replicate, slice_set, slice_index_or}
 use Rattle.std.proofs.lemmas.Bool.{cases_eq}
 use Rattle.std.proofs.lemmas.List.{length-map, length-replicate, length-set, get_or-map, get_or-replicate, get_or-set_same, get_or-set_other}
@@ -12,83 +13,102 @@ use Rattle.pool_alloc.specs.Turns.{After}
 use Rattle.pool_alloc.specs.Stepping.{is_idle}
 use Rattle.pool_alloc.specs.declared.pool_core.PoolCore.{PoolCore}
 use Rattle.pool_alloc.specs.declared.pool_core.Settings.{Settings}
+use Rattle.pool_alloc.specs.declared.frame.Call.{Call}
 use Rattle.pool_alloc.specs.declared.frame.Call.TheVariants as call
 use Rattle.pool_alloc.specs.declared.frame.Frame.{Frame}
 use Rattle.pool_alloc.specs.declared.frame.Grant.{Grant}
-use Rattle.pool_alloc.specs.declared.frame.Grant.TheVariants.{Instance as instance}
+use Rattle.pool_alloc.specs.declared.frame.Grant.TheVariants.{Instance as instance, Component as component, Stack as stack}
 use Rattle.pool_alloc.specs.declared.frame.Outcome.{Outcome}
 use Rattle.pool_alloc.specs.declared.frame.Outcome.TheVariants as answer
 use Rattle.pool_run.specs.RunsMade.{AreReserved, party_made_for, parties_made}
-use Rattle.pool_run.specs.Ties.{IsReserved, is_asking}
+use Rattle.pool_run.specs.Ties.{IsReserved, is_asking, is_for_objects}
 use Rattle.pool_alloc.specs.Stages.{stage_of}
 use Rattle.pool_alloc.specs.Asked.{ModuleAsked}
-use Rattle.pool_run.specs.Turns.{Turned, leases_of, tables_of, answered, slots_after, no_lists}
+use Rattle.pool_run.specs.Turns.{Turned, IsPlain, leases_of, tables_of, answered, slots_after, no_lists}
+use Rattle.pool_alloc.specs.declared.frame.Asked.{Asked}
 use Rattle.pool_run.specs.declared.input.Party.{Party}
 use Rattle.pool_run.specs.declared.reply.Reply.{Reply}
 use Rattle.pool_run.specs.declared.running_party.RunningParty.{RunningParty}
 use Rattle.pool_run.specs.declared.slot_lists.SlotLists.{SlotLists}
-use Rattle.pool_run.proofs.Parties.{returned_asks}
-use Rattle.pool_run.proofs.StageSteps.{is_none, none_idle, place_granted, settled_place, asking_some, IsStagedStep}
+use Rattle.pool_run.proofs.Parties.{not_both, plain_asks, returned_asks}
+use Rattle.pool_run.proofs.StageSteps.{is_none, none_idle, place_granted, settled_place, asking_some, IsStagedStep, instance_asks, IfInstance}
 use Rattle.pool_run.proofs.Stepped.{IsStepped}
 use Rattle.pool_slots.specs.declared.plan.Plan.{Plan}
 
 module _ {P : Type 0} where
   -- where nothing is asked for, no room is needed
-  unasked_reserved : (f : Frame P) (slots : SlotLists) → slots.memories.items ≡ [] → slots.tables.items ≡ [] → (is_asking (stage_of f) ≡ true → ⊥) → IsReserved f slots
+  unasked_reserved : (f : Frame P) (slots : SlotLists) → slots.memories.items ≡ [] → slots.tables.items ≡ [] → (is_for_objects (stage_of f) ≡ true → ⊥) → IsReserved f slots
   unasked_reserved f slots memories tables none = record { memories = record { empty = memories; room = λ is. absurd (none is) }; tables = record { empty = tables; room = λ is. absurd (none is) } }
 
   pub back_reserved : (grant : Grant P) (f : Frame P) (slots : SlotLists) → IsReserved f slots → IsReserved (begun_call (call.GiveBack grant) f) slots
-  back_reserved grant f slots reserved = unasked_reserved (begun_call (call.GiveBack grant) f) slots reserved.memories.empty reserved.tables.empty (returned_asks grant f)
+  back_reserved grant f slots reserved = unasked_reserved (begun_call (call.GiveBack grant) f) slots reserved.memories.empty reserved.tables.empty (λ asks. returned_asks grant f (instance_asks (stage_of (begun_call (call.GiveBack grant) f)) asks))
 
-  granted_room : (of : Grant P → ℕ) (n room : ℕ) (o : Option (Outcome P)) → IfGranted (λ g. n ≤ room) o → IfGranted (λ g. of g ≡ n) o → IfGranted (λ g. of g ≤ room) o
-  granted_room of n room (Some (answer.Granted grant)) place is = omega (arith, is, place)
-  granted_room of n room _ place is = tt
+  pub plain_reserved : (asked : Call P) (f : Frame P) (slots : SlotLists) → IsPlain asked → IsReserved f slots → IsReserved (begun_call asked f) slots
+  plain_reserved asked f slots plain reserved = unasked_reserved (begun_call asked f) slots reserved.memories.empty reserved.tables.empty (λ asks. not_both (is_asking (stage_of (begun_call asked f))) (instance_asks (stage_of (begun_call asked f)) asks) (plain_asks asked f plain))
 
-  as_many : (maker : MakerTold) (s : Settings) (plan : Plan) (asked : Option ModuleAsked) (o : Option (Outcome P)) → IfGranted (IsGrantOf maker s plan asked) o → IfGranted (λ g. length (leases_of g) ≡ length (memories_wanted asked)) o × IfGranted (λ g. length (tables_of g) ≡ length (tables_wanted asked)) o
-  as_many maker s plan asked (Some (answer.Granted (instance lease))) is = (is.1, is.3)
-  as_many maker s plan asked _ is = (tt, tt)
+  pub component_reserved : (info : ComponentInfo) (f : Frame P) (slots : SlotLists) → IsReserved f slots → IsReserved (begun_call (call.Component info) f) slots
+  component_reserved info f slots reserved = unasked_reserved (begun_call (call.Component info) f) slots reserved.memories.empty reserved.tables.empty (λ is. not_both false is refl)
+
+  pub stack_reserved : (f : Frame P) (slots : SlotLists) → IsReserved f slots → IsReserved (begun_call call.Stack f) slots
+  stack_reserved f slots reserved = record { memories = record { empty = reserved.memories.empty; room = λ is. omega arith }; tables = record { empty = reserved.tables.empty; room = λ is. omega arith } }
+
+  -- what else is granted has none
+  room_granted : (maker : MakerTold) (s : Settings) (plan : Plan) (asked : Asked) (b : Bool) (slots : SlotLists) (o : Option (Outcome P)) → (b ≡ true → length (memories_wanted asked) ≤ slots.memories.room) → (b ≡ true → length (tables_wanted asked) ≤ slots.tables.room) → IfInstance (b ≡ true) o → IfGranted (IsGrantOf maker s plan asked) o
+      → IfGranted (λ g. length (leases_of g) ≤ slots.memories.room) o × IfGranted (λ g. length (tables_of g) ≤ slots.tables.room) o
+  room_granted maker s plan asked b slots (Some (answer.Granted (instance lease))) memories tables for is = (omega (arith, is.1, memories for), omega (arith, is.3, tables for))
+  room_granted maker s plan asked b slots (Some (answer.Granted component)) memories tables for is = (omega arith, omega arith)
+  room_granted maker s plan asked b slots (Some (answer.Granted (stack lease))) memories tables for is = (omega arith, omega arith)
+  room_granted maker s plan asked b slots None memories tables for is = (tt, tt)
+  room_granted maker s plan asked b slots (Some answer.Key) memories tables for is = (tt, tt)
+  room_granted maker s plan asked b slots (Some answer.Returned) memories tables for is = (tt, tt)
+  room_granted maker s plan asked b slots (Some (answer.Refused e)) memories tables for is = (tt, tt)
+  room_granted maker s plan asked b slots (Some (answer.Purged n)) memories tables for is = (tt, tt)
+  room_granted maker s plan asked b slots (Some (answer.Released n)) memories tables for is = (tt, tt)
+
+  has_room : {old new : LimiterTold} (maker : MakerTold) (c : PoolCore P) (f : Frame P) (a : After P) (slots : SlotLists) → IsReserved f slots → IsStepped maker old new c f a → IfGranted (λ g. length (leases_of g) ≤ slots.memories.room) a.outcome × IfGranted (λ g. length (tables_of g) ≤ slots.tables.room) a.outcome
+  has_room maker c f a slots reserved on = room_granted maker c.settings c.plan f.asked (is_for_objects (stage_of f)) slots a.outcome reserved.memories.room reserved.tables.room on.staged.instance_granted on.granted
 
   -- They have room for what is granted.
   pub memories_granted : {old new : LimiterTold} (maker : MakerTold) (c : PoolCore P) (f : Frame P) (a : After P) (slots : SlotLists) → IsReserved f slots → IsStepped maker old new c f a → IfGranted (λ g. length (leases_of g) ≤ slots.memories.room) a.outcome
-  memories_granted maker c f a slots reserved on =
-      granted_room (λ g. length (leases_of g)) (length (memories_wanted f.asked)) slots.memories.room a.outcome
-      (place_granted (length (memories_wanted f.asked) ≤ slots.memories.room) (is_asking (stage_of f)) a.outcome reserved.memories.room on.staged.granted) (as_many maker c.settings c.plan f.asked a.outcome on.granted).0
+  memories_granted maker c f a slots reserved on = (has_room maker c f a slots reserved on).0
 
   pub tables_granted : {old new : LimiterTold} (maker : MakerTold) (c : PoolCore P) (f : Frame P) (a : After P) (slots : SlotLists) → IsReserved f slots → IsStepped maker old new c f a → IfGranted (λ g. length (tables_of g) ≤ slots.tables.room) a.outcome
-  tables_granted maker c f a slots reserved on =
-      granted_room (λ g. length (tables_of g)) (length (tables_wanted f.asked)) slots.tables.room a.outcome
-      (place_granted (length (tables_wanted f.asked) ≤ slots.tables.room) (is_asking (stage_of f)) a.outcome reserved.tables.room on.staged.granted) (as_many maker c.settings c.plan f.asked a.outcome on.granted).1
+  tables_granted maker c f a slots reserved on = (has_room maker c f a slots reserved on).1
 
   ends_reserved : (o : Outcome P) (f g : Frame P) (slots : SlotLists) → IsReserved f slots → IsStagedStep (stage_of f) (stage_of g) (Some o) → IsReserved g slots
-  ends_reserved o f g slots r staged = unasked_reserved g slots r.memories.empty r.tables.empty (λ is. settled_place (stage_of g) (staged.settled refl) is)
+  ends_reserved o f g slots r staged = unasked_reserved g slots r.memories.empty r.tables.empty (λ is. settled_place (stage_of g) (staged.settled refl) (instance_asks (stage_of g) is))
 
-  after_reserved : (o : Option (Outcome P)) (f g : Frame P) (slots : SlotLists) → IsReserved f slots → IsStagedStep (stage_of f) (stage_of g) o → (is_asking (stage_of g) ≡ true → g.asked ≡ f.asked) → IsReserved g (slots_after o slots)
+  after_reserved : (o : Option (Outcome P)) (f g : Frame P) (slots : SlotLists) → IsReserved f slots → IsStagedStep (stage_of f) (stage_of g) o → (is_for_objects (stage_of g) ≡ true → g.asked ≡ f.asked) → IsReserved g (slots_after o slots)
   after_reserved None f g slots r staged same = record {
     memories = record {
       empty = r.memories.empty;
-      room = λ is. let R : Option ModuleAsked → Type 0 = λ o. length (memories_wanted o) ≤ slots.memories.room in subst R (sym (same is)) (r.memories.room (staged.asking is));
+      room = λ is. let R : Asked → Type 0 = λ o. length (memories_wanted o) ≤ slots.memories.room in subst R (sym (same is)) (r.memories.room (staged.for_it is));
     };
     tables = record {
       empty = r.tables.empty;
-      room = λ is. let R : Option ModuleAsked → Type 0 = λ o. length (tables_wanted o) ≤ slots.tables.room in subst R (sym (same is)) (r.tables.room (staged.asking is));
+      room = λ is. let R : Asked → Type 0 = λ o. length (tables_wanted o) ≤ slots.tables.room in subst R (sym (same is)) (r.tables.room (staged.for_it is));
     };
   }
-  after_reserved (Some (answer.Granted grant)) f g slots r staged same = unasked_reserved g no_lists refl refl (λ is. settled_place (stage_of g) (staged.settled refl) is)
+  after_reserved (Some (answer.Granted grant)) f g slots r staged same = unasked_reserved g no_lists refl refl (λ is. settled_place (stage_of g) (staged.settled refl) (instance_asks (stage_of g) is))
   after_reserved (Some answer.Key) f g slots r staged same = ends_reserved answer.Key f g slots r staged
   after_reserved (Some answer.Returned) f g slots r staged same = ends_reserved answer.Returned f g slots r staged
+  after_reserved (Some (answer.Purged n)) f g slots r staged same = ends_reserved (answer.Purged n) f g slots r staged
+  after_reserved (Some (answer.Released n)) f g slots r staged same = ends_reserved (answer.Released n) f g slots r staged
   after_reserved (Some (answer.Refused e)) f g slots r staged same = ends_reserved (answer.Refused e) f g slots r staged
 
   -- A step leaves them, or the reply takes them.
   pub step_reserved : {old new : LimiterTold} (maker : MakerTold) (c : PoolCore P) (f : Frame P) (a : After P) (slots left : SlotLists) → IsReserved f slots → IsStepped maker old new c f a → left ≡ slots_after a.outcome slots → IsReserved a.frame left
   step_reserved maker c f a slots left reserved on is =
-      let idle : is_none (stage_of a.frame) ≡ is_idle a.frame.phase = none_idle a.frame.phase a.frame.ending (objects_in a.frame.objects) in
-      subst (IsReserved a.frame) (sym is) (after_reserved a.outcome f a.frame slots reserved on.staged (λ asking. on.goes.asked (sym idle ∙ asking_some (stage_of a.frame) asking)))
+      let idle : is_none (stage_of a.frame) ≡ is_idle a.frame.phase = none_idle a.frame.phase a.frame.asked a.frame.ending (objects_in a.frame.objects) in
+      subst (IsReserved a.frame) (sym is) (after_reserved a.outcome f a.frame slots reserved on.staged (λ asking. on.goes.asked (sym idle ∙ asking_some (stage_of a.frame) (instance_asks (stage_of a.frame) asking))))
 
-  answered_frame : (o : Option (Outcome P)) (c : PoolCore P) (p : RunningParty P) → (answered o c p).party.frame ≡ p.frame
+  pub answered_frame : (o : Option (Outcome P)) (c : PoolCore P) (p : RunningParty P) → (answered o c p).party.frame ≡ p.frame
   answered_frame None c p = refl
   answered_frame (Some answer.Key) c p = refl
   answered_frame (Some (answer.Granted grant)) c p = refl
   answered_frame (Some answer.Returned) c p = refl
+  answered_frame (Some (answer.Purged n)) c p = refl
+  answered_frame (Some (answer.Released n)) c p = refl
   answered_frame (Some (answer.Refused e)) c p = refl
 
   -- The answer leaves the frame as it is.

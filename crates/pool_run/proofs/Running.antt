@@ -41,8 +41,10 @@ module _ {P : Type 0} where
     once = λ t. omega (arith, whole.places t, get_or-le-sum_by (λ p. (held_by_party p).places t) parties i d below);
     others = λ k. omega (arith, whole.places (right_to k), whole.places (region_of k), others_have_slots parties i k d below);
     instances = omega (arith, whole.instances, get_or-le-sum_by (λ p. (held_by_party p).instances) parties i d below);
+    components = omega (arith, whole.components, get_or-le-sum_by (λ p. (held_by_party p).components) parties i d below);
     memories = omega (arith, whole.memories, get_or-le-sum_by (λ p. (held_by_party p).memories) parties i d below);
     tables = omega (arith, whole.tables, get_or-le-sum_by (λ p. (held_by_party p).tables) parties i d below);
+    stacks = omega (arith, whole.stacks, get_or-le-sum_by (λ p. (held_by_party p).stacks) parties i d below);
   }
 
   -- Each of them may turn.
@@ -57,8 +59,10 @@ module _ {P : Type 0} where
   whole_turned c parties i d t whole below turned = record {
     places = λ x. omega (arith, whole.places x, turned.places x, sum_by-set (λ p. (held_by_party p).places x) parties i t.party d below);
     instances = omega (arith, whole.instances, turned.instances, sum_by-set (λ p. (held_by_party p).instances) parties i t.party d below);
+    components = omega (arith, whole.components, turned.components, sum_by-set (λ p. (held_by_party p).components) parties i t.party d below);
     memories = omega (arith, whole.memories, turned.memories, sum_by-set (λ p. (held_by_party p).memories) parties i t.party d below);
     tables = omega (arith, whole.tables, turned.tables, sum_by-set (λ p. (held_by_party p).tables) parties i t.party d below);
+    stacks = omega (arith, whole.stacks, turned.stacks, sum_by-set (λ p. (held_by_party p).stacks) parties i t.party d below);
   }
 
   -- A party stays sound over a pool of the same sizes.

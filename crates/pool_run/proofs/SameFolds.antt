@@ -146,7 +146,7 @@ module _ {P : Type 0} (w : World) (modules : List ModuleAsked) (inputs : List (L
 
   past_turns : (c : PoolCore P) (p : RunningParty P) (commands : List Command) (t : Turned P) (b : Bool) (o : Opening P) → is_idle p.frame.phase ≡ b → CanTurn w.maker c p → IsPast (stage_of p.frame) → OpensAt b modules commands p o → Leaves o c p t → PastReply t.reply (stage_of t.party.frame)
   past_turns c p commands t true o idle can past opens leaves =
-      let S : Phase P → Type 0 = λ x. IsPast (stage_at x p.frame.ending (objects_in p.frame.objects)) in
+      let S : Phase P → Type 0 = λ x. IsPast (stage_at x p.frame.asked p.frame.ending (objects_in p.frame.objects)) in
       absurd (subst S (idle_is p.frame.phase idle) past)
   past_turns c p commands t false o busy can past opens leaves =
       let L : Opening P → Type 0 = λ x. Leaves x c p t in

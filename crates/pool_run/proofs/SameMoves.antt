@@ -7,7 +7,7 @@ use Rattle.pool_pages.specs.Count.{rounded_up}
 use Rattle.pool_pages.specs.MakerTold.{MakerTold, part_of, Planned}
 use Rattle.pool_pages.specs.Told.{Told, PageCall, counted, passes}
 use Rattle.pool_pages.specs.declared.pages.RegionName.{RegionName}
-use Rattle.pool_pages.specs.declared.pages.RegionName.TheVariants.{Memory as memory_region, Table as table_region, OnDemand}
+use Rattle.pool_pages.specs.declared.pages.RegionName.TheVariants.{Memory as memory_region, Table as table_region, Stack as stack_region, OnDemand}
 use Rattle.pool_images.specs.Orders.{failed as call_failed}
 use Rattle.pool_images.specs.Slots.{Slot, SlotIdentity, raising, limited, CallFaulted}
 use Rattle.pool_limits.specs.Growth.{GrowthRule}
@@ -17,19 +17,21 @@ use Rattle.pool_memory.specs.Linear.{Storage, in_slot, stored, slot_in, Linear, 
 use Rattle.pool_memory.specs.Memories.{MemoryState, bytes_of, slot_of}
 use Rattle.pool_slots.specs.declared.errors.AllocError.TheVariants as alloc
 use Rattle.pool_alloc.specs.Leases.{Lease}
+use Rattle.pool_alloc.specs.PoolStacks.{IsPoolStack}
 use Rattle.pool_alloc.specs.PoolTables.{IsPoolTable}
 use Rattle.pool_alloc.specs.Sound.{IsLeaseOf, IsPoolSlot}
 use Rattle.pool_slots.specs.declared.plan.Plan.{Plan}
 use Rattle.pool_alloc.specs.declared.pool_core.Settings.{Settings}
 use Rattle.pool_run.specs.Acts.{MemoryOp, reads, writes, fills, grows, asks_size}
 use Rattle.pool_run.specs.Agreeing.{want_of_memory}
-use Rattle.pool_run.specs.Private.{PrivateMemory, IsRead, GrowthEnd, as_it_was, could_not, has_grown, growth}
+use Rattle.pool_run.specs.PrivateStacks.{ReadsBytes}
+use Rattle.pool_run.specs.Private.{PrivateMemory, GrowthEnd, as_it_was, could_not, has_grown, growth}
 use Rattle.pool_run.specs.Turns.{seen_as, private_memory, MemoryWrites, GrowthLeaves, MemoryGrows, MovesLease, LeaseMoves}
 use Rattle.pool_run.specs.declared.reply.Reply.{Reply}
 use Rattle.pool_run.specs.declared.reply.Reply.TheVariants.{Bytes, Refused, Trap}
 use Rattle.pool_run.specs.declared.reply.Refusal.{Refusal}
 use Rattle.pool_run.specs.declared.reply.Refusal.TheVariants.{Alloc}
-use Rattle.pool_run.proofs.Bytes.{told_if}
+use Rattle.pool_run.proofs.HeldSlots.{held_name, held_plan, held_tells}
 use Rattle.pool_run.proofs.Growths.{growth_decided}
 
 -- the slots of the pool tell which calls on them fail,
@@ -37,19 +39,24 @@ planned_part : (name : RegionName) (plan : Option (List Planned)) (layers : List
 planned_part name None layers some = absurd cc
 planned_part name (Some plan) layers some = refl
 
-pub slot_planned : (maker : MakerTold) (s : Settings) (i : ℕ) (slot : Slot) → IsSome maker.plan → IsPoolSlot maker s.behaviour s.max_memory_size i slot → IsSome slot.region.plan
+pub slot_planned : (maker : MakerTold) (s : Settings) (i : ℕ) (slot : Slot) → IsSome maker.plan → IsPoolSlot maker s i slot → IsSome slot.region.plan
 slot_planned maker s i slot planned of =
     let Q : Option (List ℕ) → Type 0 = λ o. IsSome o in
-    subst Q (sym (ap (λ (z : SlotIdentity). z.plan) of.same)) (planned_part (memory_region i) maker.plan maker.layers planned)
+    subst Q (sym (held_plan maker s i slot of)) (planned_part (memory_region i) maker.plan maker.layers planned)
 
 pub table_planned : (maker : MakerTold) (s : Settings) (i : ℕ) (slot : Slot) → IsSome maker.plan → IsPoolTable maker s i slot → IsSome slot.region.plan
 table_planned maker s i slot planned of =
     let Q : Option (List ℕ) → Type 0 = λ o. IsSome o in
     subst Q (sym (ap (λ (z : SlotIdentity). z.plan) of.same)) (planned_part (table_region i) maker.plan maker.layers planned)
 
+pub stack_planned : (maker : MakerTold) (s : Settings) (i : ℕ) (slot : Slot) → IsSome maker.plan → IsPoolStack maker s i slot → IsSome slot.region.plan
+stack_planned maker s i slot planned of =
+    let Q : Option (List ℕ) → Type 0 = λ o. IsSome o in
+    subst Q (sym (ap (λ (z : SlotIdentity). z.plan) of.same)) (planned_part (stack_region i) maker.plan maker.layers planned)
+
 -- and what they hold.
-pub slot_tells : (maker : MakerTold) (s : Settings) (i : ℕ) (slot : Slot) → maker.tells ≡ true → IsPoolSlot maker s.behaviour s.max_memory_size i slot → is_some slot.region.contents ≡ true
-slot_tells maker s i slot tells of = ap (λ (z : SlotIdentity). z.tells) of.same ∙ told_if maker.tells _ ∙ tells
+pub slot_tells : (maker : MakerTold) (s : Settings) (i : ℕ) (slot : Slot) → maker.tells ≡ true → IsPoolSlot maker s i slot → is_some slot.region.contents ≡ true
+slot_tells maker s i slot tells of = held_tells maker s i slot of ∙ tells
 
 some_mapped : {X Y : Type 0} (f : X → Y) (o : Option X) → is_some o ≡ true → is_some (option_map f o) ≡ true
 some_mapped f None some = absurd cc
@@ -131,9 +138,48 @@ slot_there : (st : Storage) (i : ℕ) → (slot_in st).region.name ≡ memory_re
 slot_there (stored len bytes) i name = let wrong : OnDemand 0 ≡ memory_region i = name in absurd cc
 slot_there (in_slot s) i name = refl
 
+-- A read of bytes that are told, where there was memory for them.
+read_by : (o : Option (List ℕ)) (size from len : ℕ) (bytes : List ℕ) → is_some o ≡ true → IfSome o (λ b. bytes ≡ slice_range b from (from + len)) → (b : List ℕ) × (o ≡ Some b) × (bytes ≡ slice_range b from (from + len))
+read_by None size from len bytes some is = absurd cc
+read_by (Some b) size from len bytes some is = (b, refl, is)
+
+wants_none : (r : Refusal) → r ≡ Alloc alloc.Memory → Refused r ≢ want_of_memory → ⊥
+wants_none r is not = not (ap (λ (x : Refusal). Refused x) is)
+
+apart : {A : Type 0} (n size : ℕ) → n ≤ size → size < n → A
+apart n size le lt = absurd (omega (arith, le, lt))
+
+reads_same : (size : ℕ) (told_bytes : Option (List ℕ)) (from len : ℕ) (r q : Reply) → is_some told_bytes ≡ true → ReadsBytes size told_bytes from len r → ReadsBytes size told_bytes from len q → r ≢ want_of_memory → q ≢ want_of_memory → r ≡ q
+reads_same size bytes_told_of from len (Bytes xs) (Bytes ys) told one two first second =
+    let left = read_by bytes_told_of size from len xs told one.2 in
+    let right = read_by bytes_told_of size from len ys told two.2 in
+    let bytes : left.0 ≡ right.0 = let both : Some left.0 ≡ Some right.0 = sym left.1 ∙ right.1 in cc in
+    ap (λ (b : List ℕ). Bytes b) (left.2 ∙ ap (λ (b : List ℕ). slice_range b from (from + len)) bytes ∙ sym right.2)
+reads_same size bytes_told_of from len (Bytes xs) (Trap t) told one two first second = apart (from + len) size one.0 two.1
+reads_same size bytes_told_of from len (Bytes xs) (Refused e) told one two first second = absurd (wants_none e two second)
+reads_same size bytes_told_of from len (Bytes xs) _ told one two first second = absurd two
+reads_same size bytes_told_of from len (Trap t) (Bytes ys) told one two first second = apart (from + len) size two.0 one.1
+reads_same size bytes_told_of from len (Trap t) (Trap u) told one two first second = ap (λ x. Trap x) (one.0 ∙ sym two.0)
+reads_same size bytes_told_of from len (Trap t) (Refused e) told one two first second = absurd (wants_none e two second)
+reads_same size bytes_told_of from len (Trap t) _ told one two first second = absurd two
+reads_same size bytes_told_of from len (Refused d) q told one two first second = absurd (wants_none d one first)
+reads_same size bytes_told_of from len _ q told one two first second = absurd one
+
+-- Two looks at the same: both times the same, or one reply is that there was no memory for it.
+pub looks_same : {X : Type 0} (size : ℕ) (told_bytes : Option (List ℕ)) (from len : ℕ) (l new other : X) (r q : Reply) → is_some told_bytes ≡ true → ReadsBytes size told_bytes from len r × (new ≡ l) → ReadsBytes size told_bytes from len q × (other ≡ l) → ((new ≡ other) × (r ≡ q)) ⊎ (((r ≡ want_of_memory) × (q ≢ want_of_memory)) ⊎ ((q ≡ want_of_memory) × (r ≢ want_of_memory)))
+looks_same size told_bytes from len l new other r q told one two =
+    elim (want_decided r) [
+      | inl wants ↦ elim (want_decided q) [ inl also ↦ inl (one.1 ∙ sym two.1, wants ∙ sym also) | inr second ↦ inr (inl (wants, second)) ]
+      | inr first ↦
+          elim (want_decided q) [
+            | inl wants ↦ inr (inr (wants, first))
+            | inr second ↦ inl (one.1 ∙ sym two.1, reads_same size told_bytes from len r q told one.0 two.0 first second)
+          ]
+    ]
+
 module _ (maker : MakerTold) (s : Settings) (plan : Plan) (tells : maker.tells ≡ true) (planned : IsSome maker.plan) (l : Lease) (of : IsLeaseOf maker s plan l) where
   named : (slot_of l.memory).region.name ≡ memory_region l.index
-  named = ap (λ (z : SlotIdentity). z.name) of.slot.same
+  named = held_name maker s l.index (slot_of l.memory) of.slot
 
   -- A growth of it, by this rule.
   module _ (rule : GrowthRule) (pages : ℕ) (new other : MemoryState) (reply answer : Reply) where
@@ -166,33 +212,6 @@ module _ (maker : MakerTold) (s : Settings) (plan : Plan) (tells : maker.tells �
   growth_same : (rule : GrowthRule) (pages : ℕ) (new other : MemoryState) (reply answer : Reply) → MemoryGrows rule pages l.memory new reply → MemoryGrows rule pages l.memory other answer → (new ≡ other) × (reply ≡ answer)
   growth_same rule pages new other reply answer one two = ends_same rule pages new other reply answer one.0 two.0 one.1 two.1 one.2 two.2
 
-  -- A read of it, where there was memory for the bytes.
-  read_by : (o : Option (List ℕ)) (size from len : ℕ) (bytes : List ℕ) → is_some o ≡ true → IfSome o (λ b. bytes ≡ slice_range b from (from + len)) → (b : List ℕ) × (o ≡ Some b) × (bytes ≡ slice_range b from (from + len))
-  read_by None size from len bytes some is = absurd cc
-  read_by (Some b) size from len bytes some is = (b, refl, is)
-
-  wants_none : (r : Refusal) → r ≡ Alloc alloc.Memory → Refused r ≢ want_of_memory → ⊥
-  wants_none r is not = not (ap (λ (x : Refusal). Refused x) is)
-
-  apart : {A : Type 0} (n size : ℕ) → n ≤ size → size < n → A
-  apart n size le lt = absurd (omega (arith, le, lt))
-
-  reads_same : (m : PrivateMemory) (from len : ℕ) (r q : Reply) → is_some m.bytes ≡ true → IsRead m from len r → IsRead m from len q → r ≢ want_of_memory → q ≢ want_of_memory → r ≡ q
-  reads_same m from len (Bytes xs) (Bytes ys) told one two first second =
-      let left = read_by m.bytes m.size from len xs told one.2 in
-      let right = read_by m.bytes m.size from len ys told two.2 in
-      let bytes : left.0 ≡ right.0 = let both : Some left.0 ≡ Some right.0 = sym left.1 ∙ right.1 in cc in
-      ap (λ (b : List ℕ). Bytes b) (left.2 ∙ ap (λ (b : List ℕ). slice_range b from (from + len)) bytes ∙ sym right.2)
-  reads_same m from len (Bytes xs) (Trap t) told one two first second = apart (from + len) m.size one.0 two.1
-  reads_same m from len (Bytes xs) (Refused e) told one two first second = absurd (wants_none e two second)
-  reads_same m from len (Bytes xs) _ told one two first second = absurd two
-  reads_same m from len (Trap t) (Bytes ys) told one two first second = apart (from + len) m.size two.0 one.1
-  reads_same m from len (Trap t) (Trap u) told one two first second = ap (λ x. Trap x) (one.0 ∙ sym two.0)
-  reads_same m from len (Trap t) (Refused e) told one two first second = absurd (wants_none e two second)
-  reads_same m from len (Trap t) _ told one two first second = absurd two
-  reads_same m from len (Refused d) q told one two first second = absurd (wants_none d one first)
-  reads_same m from len _ q told one two first second = absurd one
-
   moves_same : (Moves : MemoryState → MemoryState → Reply → Type 0) (new other : Lease) (r q : Reply) → ((x y : MemoryState) → Moves l.memory x r → Moves l.memory y q → (x ≡ y) × (r ≡ q)) → MovesLease Moves l new r → MovesLease Moves l other q → (new ≡ other) × (r ≡ q)
   moves_same Moves new other r q agree one two =
       let both = agree new.memory other.memory one.move two.move in
@@ -207,14 +226,7 @@ module _ (maker : MakerTold) (s : Settings) (plan : Plan) (tells : maker.tells �
   pub op_same : (op : MemoryOp) (rule : GrowthRule) (new other : Lease) (r q : Reply) → LeaseMoves op rule l new r → LeaseMoves op rule l other q → ((new ≡ other) × (r ≡ q)) ⊎ (((r ≡ want_of_memory) × (q ≢ want_of_memory)) ⊎ ((q ≡ want_of_memory) × (r ≢ want_of_memory)))
   op_same (reads from len) rule new other r q one two =
       let told : is_some (bytes_of l.memory) ≡ true = bytes_told l.memory.linear.size l.memory.linear.storage l.index named (slot_tells maker s l.index (slot_of l.memory) tells of.slot) in
-      elim (want_decided r) [
-        | inl wants ↦ elim (want_decided q) [ inl also ↦ inl (one.1 ∙ sym two.1, wants ∙ sym also) | inr second ↦ inr (inl (wants, second)) ]
-        | inr first ↦
-            elim (want_decided q) [
-              | inl wants ↦ inr (inr (wants, first))
-              | inr second ↦ inl (one.1 ∙ sym two.1, reads_same (private_memory l) from len r q told one.0 two.0 first second)
-            ]
-      ]
+      looks_same (private_memory l).size (private_memory l).bytes from len l new other r q told one two
   op_same (writes from bytes) rule new other r q one two = inl (moves_same (MemoryWrites from bytes) new other r q (writes_same from bytes r q) one two)
   op_same (fills from len byte) rule new other r q one two = inl (moves_same (MemoryWrites from (replicate len byte)) new other r q (writes_same from (replicate len byte) r q) one two)
   op_same (grows pages) rule new other r q one two = inl (moves_same (MemoryGrows rule pages) new other r q (λ x y. growth_same rule pages x y r q) one two)

@@ -74,9 +74,9 @@ module _ {P : Type 0} where
   made_same stripes maker ps no_role x y one two = absurd one
 
   -- A pool is made in one way,
-  core_same : (maker : MakerTold) (config : PoolingAllocationConfig) (tunables : Tunables) (offered : Offered) (a b : PoolCore P) → IsMadeCore maker config tunables offered a → IsMadeCore maker config tunables offered b → a ≡ b
-  core_same maker config tunables offered a b one two =
-      let z : StripedPlanSettings = plan_settings config in
+  core_same : (maker : MakerTold) (config : PoolingAllocationConfig) (tunables : Tunables) (offered : Offered) (shards : ℕ) (a b : PoolCore P) → IsMadeCore maker config tunables offered shards a → IsMadeCore maker config tunables offered shards b → a ≡ b
+  core_same maker config tunables offered shards a b one two =
+      let z : StripedPlanSettings = plan_settings maker.page config tunables offered shards in
       let ps : PartSettings = part_settings maker.page config offered in
       let settings : a.settings ≡ b.settings = one.settings ∙ sym two.settings in
       let plans : a.plan ≡ b.plan = one_plan_with (divided z) (stripe_allocators z) a.plan b.plan one.plan two.plan in
@@ -90,7 +90,7 @@ module _ {P : Type 0} where
   -- and so is a run.
   start_same : (input : Input) (maker : MakerTold) (a b : RunParts P) → IsMadeRun input maker a → IsMadeRun input maker b → a ≡ b
   start_same input maker a b one two =
-      let core : a.core ≡ b.core = core_same maker input.config input.tunables input.offered a.core b.core one.made two.made in
+      let core : a.core ≡ b.core = core_same maker input.config input.tunables input.offered input.shards a.core b.core one.made two.made in
       let R : PoolCore P → List ModuleAsked → List (RunningParty P) → RunParts P = λ c ms ps. record { core = c; modules = ms; parties = ps } in
       let parties : a.parties ≡ b.parties = one.parties ∙ ap (λ (c : PoolCore P). parties_made c.settings input.parties) core ∙ sym two.parties in
       ap (λ (c : PoolCore P). R c a.modules a.parties) core ∙ ap (λ (ms : List ModuleAsked). R b.core ms a.parties) (one.calls ∙ sym two.calls) ∙ ap (R b.core b.modules) parties

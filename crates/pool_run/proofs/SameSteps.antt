@@ -1,7 +1,7 @@
 -- A step of a call has one outcome, where the maker tells what its regions hold and which of their calls fail, and there is
 -- memory for what is asked.
 use Rattle.std.proofs.Common.{◌≡◌, ℕ, zero, suc, ◌<◌, Bool, true, false, List, [], ◌∷◌, length, Option, Some, None, IsSome, Result, inl, inr, refl, sym, ap, ◌∙◌, subst, arith, is_some}
-use Rattle.std.specs.Prelude.{if◌then◌else◌, IfSome, not, slice_get}
+use Rattle.std.specs.Prelude.{◌||◌, if◌then◌else◌, IfSome, not, slice_get}
 use Rattle.std.specs.List.{list_any}
 use Rattle.pool_pages.specs.Count.{rounded_up}
 use Rattle.pool_pages.specs.MakerTold.{MakerTold}
@@ -9,7 +9,7 @@ use Rattle.pool_pages.specs.MemoryTypes.{minimum_byte_size}
 use Rattle.pool_pages.specs.declared.pages.DecommitBehavior.{DecommitBehavior}
 use Rattle.pool_pages.specs.declared.pages.DecommitBehavior.TheVariants.{Zero, RestoreOriginalMapping}
 use Rattle.pool_images.specs.Images.{Image}
-use Rattle.pool_images.specs.Orders.{Follows, wiping, resizing, replacing, resetting, set_by_hand}
+use Rattle.pool_images.specs.Orders.{Follows, wiping, resizing, replacing, resetting, removing, set_by_hand}
 use Rattle.pool_images.specs.Slots.{Slot, hides, reused, replaced, forgotten}
 use Rattle.pool_limits.specs.Growth.{GrowthRule}
 use Rattle.pool_limits.specs.LimiterTold.{LimiterTold}
@@ -19,30 +19,42 @@ use Rattle.pool_memory.specs.Memories.{slot_of}
 use Rattle.pool_slots.specs.SlotQueues.{Queue, is_to_zero}
 use Rattle.pool_slots.specs.declared.queued_range.QueuedRange.{QueuedRange}
 use Rattle.pool_slots.specs.declared.errors.AllocError.TheVariants as refusal
-use Rattle.pool_alloc.specs.Answers.{Empties, Resets, InstantiatesAs, InstantiatesFor, FollowsPlan, FollowsPlanFor, FollowsReset, AsksForMemory, FlushTold, FlushPlanned, MayBeTold, IsPlanned, AsksOf}
+use Rattle.pool_alloc.specs.Answers.{Empties, Resets, InstantiatesAs, InstantiatesFor, FollowsPlan, FollowsPlanFor, FollowsReset, AsksForMemory, FlushTold, FlushPlanned, MayBeTold, IsPlanned, AsksOf, RemovesImage, DecommitsWhole, Forgets, FollowsForget, Drains, FollowsDrain}
 use Rattle.pool_alloc.specs.Leases.{Lease, slot_taken}
 use Rattle.pool_alloc.specs.Refusals.{module_refused}
-use Rattle.pool_alloc.specs.Rows.{FlushStep, run, zero as zero_by_hand, put, free, flush_step, settled_step, some_queued, some_freed, paged, make_memory_row, make_table_row, validated, was_reset, flush_row, row_of}
-use Rattle.pool_alloc.specs.Sound.{IsFrame, IsShapedAt, HasSlot}
+use Rattle.pool_alloc.specs.Rows.{FlushStep, run, zero as zero_by_hand, put, free, flush_step, kind_settled, settled_step, some_queued, paged, make_memory_row, make_table_row, validated, was_reset, flush_row, row_of}
+use Rattle.pool_alloc.specs.Sound.{IsFrame, IsShapedAt, HasSlot, MayHold, IsDraining}
 use Rattle.pool_alloc.specs.Stepping.{CanStep}
-use Rattle.pool_alloc.specs.Steps.{StepGiven, memories_wanted, tables_wanted, image_wanted}
+use Rattle.pool_alloc.specs.Steps.{StepGiven, info_wanted, memories_wanted, tables_wanted, image_wanted}
 use Rattle.pool_alloc.specs.TableSteps.{AsksForTable}
 use Rattle.pool_table.specs.Tables.{type_maximum}
-use Rattle.pool_hall.specs.declared.unit_name.SlotKind.TheVariants.{Memory as memory_kind, Table as table_kind}
+use Rattle.pool_hall.specs.declared.unit_name.SlotKind.{SlotKind}
+use Rattle.pool_hall.specs.declared.unit_name.SlotKind.TheVariants.{Memory as memory_kind}
 use Rattle.pool_alloc.specs.declared.frame.FreedSlot.{FreedSlot}
 use Rattle.pool_alloc.specs.Turns.{After, Row, goes, failing, stepped}
 use Rattle.pool_alloc.specs.declared.frame.Frame.{Frame}
 use Rattle.pool_alloc.specs.declared.frame.Phase.{Phase}
-use Rattle.pool_alloc.specs.declared.frame.Phase.TheVariants.{Idle, Validate, Empty, Instantiate, MakeMemory, MakeTable, PutBack, Reset, Flush}
+use Rattle.pool_alloc.specs.declared.frame.Phase.TheVariants.{Idle, Validate, Empty, Instantiate, MakeMemory, MakeTable, PutBack, Reset, Flush, Purge, Release}
 use Rattle.pool_alloc.specs.declared.frame.TakenSlot.{TakenSlot}
 use Rattle.pool_alloc.specs.declared.frame.Object.TheVariants as object
 use Rattle.pool_slots.specs.declared.slot_name.SlotName.{SlotName}
+use Rattle.pool_slots.specs.CellOf.{cell_of}
+use Rattle.pool_slots.specs.Cells.{Cell, unknown, previously_used}
+use Rattle.std.proofs.lemmas.List.Elements.{All-get_or}
+use Rattle.pool_alloc.specs.declared.release.ReleaseCursor.{ReleaseCursor}
+use Rattle.pool_slots.specs.declared.cells.ImageSlot.{ImageSlot}
 use Rattle.pool_slots.specs.declared.cells.ImageSlot.TheVariants as image_slot
+use Rattle.pool_alloc.specs.Purges.{known_after, after_forgetting}
+use Rattle.pool_alloc.specs.Releases.{after_decommit}
+use Rattle.pool_alloc.specs.declared.purge.PurgeStep.TheVariants as purging
+use Rattle.pool_alloc.specs.declared.release.ReleaseStep.TheVariants as releasing
+use Rattle.pool_alloc.specs.declared.pool_core.Settings.{Settings}
+use Rattle.pool_pages.specs.Told.{decommitting}
 use Rattle.pool_alloc.specs.declared.pool_core.PoolCore.{PoolCore}
 use Rattle.pool_run.specs.Turns.{StepsUnder}
 use Rattle.pool_run.proofs.Growths.{answer_told}
 use Rattle.pool_run.proofs.SameFlushes.{decommit_same}
-use Rattle.pool_run.proofs.SameMoves.{slot_planned, slot_tells}
+use Rattle.pool_run.proofs.SameMoves.{slot_planned, slot_tells, faulted_is}
 use Rattle.pool_run.proofs.SameSlots.{follow_same, not_same, forgotten_same, one_way}
 use Rattle.pool_run.proofs.TableChanges.{table_answer_told}
 
@@ -129,17 +141,16 @@ abbrev is_run : FlushStep → Bool
 is_run run = true
 is_run _ = false
 
-no_run : (a b c d : Bool) → is_run (if a then put memory_kind else (if b then free else (if c then zero_by_hand table_kind else (if d then put table_kind else free)))) ≡ false
-no_run true b c d = refl
-no_run false true c d = refl
-no_run false false true d = refl
-no_run false false false true = refl
-no_run false false false false = refl
+no_run : (a b : Bool) (kind : SlotKind) → is_run (if a then zero_by_hand kind else (if b then put kind else free)) ≡ false
+no_run true b kind = refl
+no_run false true kind = refl
+no_run false false kind = refl
 
 runs_some : (local : Queue) (freed : List FreedSlot) (step : FlushStep) → flush_step local freed ≡ step → step ≡ run → local.ranges ≡ [] → ⊥
 runs_some local freed step is runs none =
     let Step : List QueuedRange → FlushStep = λ rs. flush_step (record local { ranges = rs }) freed in
-    let settled : is_run (settled_step local.slots freed) ≡ false = no_run (some_queued memory_kind local.slots) (some_freed memory_kind freed) (list_any (is_to_zero table_kind) local.slots) (some_queued table_kind local.slots) in
+    let kind : SlotKind = kind_settled local.slots freed in
+    let settled : is_run (settled_step kind local.slots) ≡ false = no_run (list_any (is_to_zero kind) local.slots) (some_queued kind local.slots) kind in
     let wrong : false ≡ true = sym settled ∙ ap is_run (ap Step (sym none) ∙ is ∙ runs) in
     absurd cc
 
@@ -157,10 +168,43 @@ module _ {P : Type 0} (c : PoolCore P) (f : Frame P) where
   was_reset_same true false lease new other same = let wrong : true ≡ false = same.fault in absurd cc
   was_reset_same false true lease new other same = let wrong : false ≡ true = same.fault in absurd cc
 
--- a request's test: there alone memory may be wanting
+-- a request's test, and the first step of a release: there alone memory may be wanting
 abbrev pub is_test : {P : Type 0} → Phase P → Bool
 is_test Validate = true
+is_test (Release releasing.Reserve) = true
 is_test _ = false
+
+-- one whose image is removed
+removed_by : (a b : Bool) (old new other : Slot) → a ≡ b → new.region ≡ other.region → RemovesImage a old new → RemovesImage b old other → IsSameSlot a b new other
+removed_by true true old new other same region one two = record { fault = refl; left = λ e. forgotten_same old new other one two region; is = λ e. absurd cc }
+removed_by false false old new other same region one two = record { fault = refl; left = λ e. absurd cc; is = λ e. one.0 ∙ sym two.0 }
+removed_by true false old new other same region one two = absurd cc
+removed_by false true old new other same region one two = absurd cc
+
+removed_same : (a b : Bool) (old new other : Slot) → IsSome old.region.plan → RemovesImage a old new → RemovesImage b old other → Follows (removing old) (not a) old.region new.region → Follows (removing old) (not b) old.region other.region → IsSameSlot a b new other
+removed_same a b old new other planned one two way also =
+    let both = follow_same (removing old) (not a) (not b) old.region new.region other.region planned way also in
+    removed_by a b old new other (not_same a b both.0) both.1 one two
+
+-- What a decommit of a whole region leaves is known also where it failed.
+drained_by : (a b : Bool) (s : Settings) (old new other : Slot) → IsSome old.region.plan → a ≡ b → DecommitsWhole s a old new → DecommitsWhole s b old other → new ≡ other
+drained_by true true s old new other planned same one two = faulted_is (decommitting old.base.bytes s.max_memory_size) old new planned one ∙ sym (faulted_is (decommitting old.base.bytes s.max_memory_size) old other planned two)
+drained_by false false s old new other planned same one two = one ∙ sym two
+drained_by true false s old new other planned same one two = absurd cc
+drained_by false true s old new other planned same one two = absurd cc
+
+drained_same : (a b : Bool) (s : Settings) (old new other : Slot) → IsSome old.region.plan → DecommitsWhole s a old new → DecommitsWhole s b old other → Follows (decommitting old.base.bytes s.max_memory_size ∷ []) (not a) old.region new.region → Follows (decommitting old.base.bytes s.max_memory_size ∷ []) (not b) old.region other.region → (a ≡ b) × (new ≡ other)
+drained_same a b s old new other planned one two way also =
+    let both = follow_same (decommitting old.base.bytes s.max_memory_size ∷ []) (not a) (not b) old.region new.region other.region planned way also in
+    (not_same a b both.0, drained_by a b s old new other planned (not_same a b both.0) one two)
+
+module _ {P : Type 0} where
+  -- what is known of a slot after both
+  known_same : (a b : Bool) (new other : Slot) → IsSameSlot a b new other → ◌≡◌ {A = ImageSlot P} (known_after a new) (known_after b other)
+  known_same true true new other same = ap (λ (s : Slot). image_slot.Unknown s) (same.left refl)
+  known_same false false new other same = ap (λ (s : Slot). image_slot.PreviouslyUsed s) (same.is refl)
+  known_same true false new other same = let wrong : true ≡ false = same.fault in absurd cc
+  known_same false true new other same = let wrong : false ≡ true = same.fault in absurd cc
 
 -- a step of a call over a pool whose maker tells what its regions hold, and which of their calls fail
 module _ {P : Type 0} (maker : MakerTold) (tells : maker.tells ≡ true) (planned : IsSome maker.plan) (by : GrowthRule) (c : PoolCore P) (f : Frame P) (frame : IsFrame maker c.settings c.plan f) where
@@ -189,6 +233,39 @@ module _ {P : Type 0} (maker : MakerTold) (tells : maker.tells ≡ true) (planne
   flushed_same (put kind) g h is left right one two = refl
   flushed_same (zero_by_hand kind) g h is left right one two = refl
   flushed_same free g h is left right one two = refl
+
+  drained_kind : (r : ReleaseCursor) (k : ℕ) (name : SlotName) (held : Cell) → IsDraining maker c.settings c.plan r k name held → name.kind ≡ memory_kind
+  drained_kind r k name held is =
+      let K : SlotName → Type 0 = λ n. n.kind ≡ memory_kind in
+      subst K is.named (All-get_or (λ (x : FreedSlot). x.name.kind ≡ memory_kind) r.taken.items k _ is.place is.releasing.memories)
+
+  -- the slot of a region that a purge or a release has taken
+  plan_known : (name : SlotName) (slot : Slot) → name.kind ≡ memory_kind → MayHold maker c.settings name.kind name.slot (unknown slot) → IsSome slot.region.plan
+  plan_known name slot kind holds =
+      let M : SlotKind → Type 0 = λ k. MayHold maker c.settings k name.slot (unknown slot) in
+      slot_planned maker c.settings name.slot slot planned (subst M kind holds)
+
+  plan_used : (name : SlotName) (slot : Slot) → name.kind ≡ memory_kind → MayHold maker c.settings name.kind name.slot (previously_used slot) → IsSome slot.region.plan
+  plan_used name slot kind holds =
+      let M : SlotKind → Type 0 = λ k. MayHold maker c.settings k name.slot (previously_used slot) in
+      let of : M memory_kind = subst M kind holds in
+      slot_planned maker c.settings name.slot slot planned of.0
+
+  forgets_same : (g h : StepGiven) (name : SlotName) (held : ImageSlot P) → name.kind ≡ memory_kind → MayHold maker c.settings name.kind name.slot (cell_of held) → Forgets g.fault held g.slot → Forgets h.fault held h.slot → FollowsForget g.fault held g.slot → FollowsForget h.fault held h.slot → after_forgetting g.fault held g.slot ≡ after_forgetting h.fault held h.slot
+  forgets_same g h name (image_slot.Unmapped region) kind holds one two way also = refl
+  forgets_same g h name (image_slot.Unknown old) kind holds one two way also = known_same g.fault h.fault g.slot h.slot (emptied_same g.fault h.fault old g.slot h.slot (plan_known name old kind holds) one two way also)
+  forgets_same g h name (image_slot.PreviouslyUsed old) kind holds one two way also = known_same g.fault h.fault g.slot h.slot (removed_same g.fault h.fault old g.slot h.slot (plan_used name old kind holds) one two way also)
+  forgets_same g h name image_slot.Taken kind holds one two way also = refl
+
+  drains_same : (g h : StepGiven) (name : SlotName) (held : ImageSlot P) → name.kind ≡ memory_kind → MayHold maker c.settings name.kind name.slot (cell_of held) → Drains c.settings g.fault held g.slot → Drains c.settings h.fault held h.slot → FollowsDrain c.settings g.fault held g.slot → FollowsDrain c.settings h.fault held h.slot → (g.fault ≡ h.fault) × (after_decommit held g.slot ≡ after_decommit held h.slot)
+  drains_same g h name (image_slot.Unmapped region) kind holds one two way also = (one ∙ sym two, refl)
+  drains_same g h name (image_slot.Unknown old) kind holds one two way also =
+      let both = drained_same g.fault h.fault c.settings old g.slot h.slot (plan_known name old kind holds) one two way also in
+      (both.0, ap (λ (s : Slot). image_slot.Unknown s) both.1)
+  drains_same g h name (image_slot.PreviouslyUsed old) kind holds one two way also =
+      let both = drained_same g.fault h.fault c.settings old g.slot h.slot (plan_used name old kind holds) one.0 two.0 way also in
+      (both.0, ap (λ (s : Slot). image_slot.PreviouslyUsed s) both.1)
+  drains_same g h name image_slot.Taken kind holds one two way also = (one ∙ sym two, refl)
 
   row_same : (g h : StepGiven) (phase : Phase P) → is_test phase ≡ false → IsShapedAt maker c.settings c.plan phase f → IsGivenAt g phase → IsGivenAt h phase → row_of g phase c bare ≡ row_of h phase c bare
   row_same g h Validate test shape one two = absurd cc
@@ -228,6 +305,14 @@ module _ {P : Type 0} (maker : MakerTold) (tells : maker.tells ≡ true) (planne
       was_reset_same c bare g.fault h.fault lease g.slot h.slot
       (reset_same g.fault h.fault c.settings.keep_resident.bytes (slot_taken lease) (slot_of lease.memory) g.slot h.slot (slot_planned maker c.settings lease.index (slot_of lease.memory) planned shape.2.slot) one.told two.told one.plan two.plan)
   row_same g h Flush test shape one two = flushed_same (flush_step f.local f.freed.items) g h refl one.told two.told one.plan two.plan
+  row_same g h (Purge p (purging.Forget at held)) test shape one two =
+      ap (λ (x : ImageSlot P). record { part = c; frame = bare; turn = goes (Purge p (purging.PutRegion at x)) })
+      (forgets_same g h at.name held shape.1.2 shape.1.1.holds one.told two.told one.plan two.plan)
+  row_same g h (Release (releasing.Decommit r k at held)) test shape one two =
+      let both = drains_same g h at.name held (drained_kind r k at.name (cell_of held) shape.1) shape.1.region.holds one.told two.told one.plan two.plan in
+      let Next : Bool → ImageSlot P → Row (PoolCore P) P = λ b x. record { part = c; frame = bare; turn = goes (Release (releasing.PutRegion (record r { failed = r.failed || b }) k at x)) } in
+      ap (λ (b : Bool). Next b (after_decommit held g.slot)) both.0 ∙ ap (Next h.fault) both.1
+  row_same g h (Release releasing.Reserve) test shape one two = absurd cc
   row_same g h _ test shape one two = refl
 
 module _ {P : Type 0} where
@@ -241,11 +326,8 @@ module _ {P : Type 0} where
       (record { old = two.0; new = two.1; rule = two.2; told = right.1.told; plan = right.1.planned; limiter = right.1.limiter }) in
       left.1.is ∙ ap (λ (r : Row (PoolCore P) P). stepped r) same ∙ sym right.1.is
 
-  -- and one that is: there is memory for the list, or there is none.
-  abbrev pub tested : Bool → PoolCore P → Frame P → After P
-  tested wants c f = stepped (validated (module_refused c.settings c.plan.totals.table (memories_wanted f.asked) (tables_wanted f.asked)) wants c (record f { phase = Idle }))
-
-  pub step_tests : (rule : GrowthRule) (c : PoolCore P) (f : Frame P) (a : After P) → f.phase ≡ Validate → StepsUnder rule c f a → (wants : Bool) × (a ≡ tested wants c f)
-  step_tests rule c f a test steps =
+  -- and one that is, by whether there is memory for its lists.
+  pub step_tests : (rule : GrowthRule) (c : PoolCore P) (f : Frame P) (a : After P) (phase : Phase P) → f.phase ≡ phase → StepsUnder rule c f a → (g : StepGiven) × (a ≡ stepped (row_of g phase c (record f { phase = Idle })))
+  step_tests rule c f a phase test steps =
       let g : StepGiven = steps.3.0 in
-      (g.wants, steps.3.1.is ∙ ap (λ (x : Phase P). stepped (row_of g x c (record f { phase = Idle }))) test)
+      (g, steps.3.1.is ∙ ap (λ (x : Phase P). stepped (row_of g x c (record f { phase = Idle }))) test)

@@ -22,7 +22,7 @@ use Rattle.pool_run.specs.PrivateTables.{Host, PrivateTable, StoredTable, IsGot,
 use Rattle.pool_run.specs.Turns.{private_table, stored_as, faults_left, MovesTable}
 use Rattle.pool_run.specs.declared.reply.Reply.{Reply}
 use Rattle.pool_run.specs.declared.reply.Reply.TheVariants as reply
-use Rattle.pool_run.proofs.Bytes.{told_if}
+use Rattle.pool_run.proofs.HeldSlots.{told_if}
 
 -- an element has one name
 element_one : (a b : Element) → element_of a ≡ element_of b → a ≡ b

@@ -15,25 +15,28 @@ use Rattle.pool_pages.specs.declared.unsupported.Unsupported.{Unsupported}
 use Rattle.pool_alloc.specs.Refusals.{module_refused}
 use Rattle.pool_alloc.specs.Rows.{validated, row_of}
 use Rattle.pool_alloc.specs.Stages.{stage_of}
-use Rattle.pool_alloc.specs.Steps.{memories_wanted, tables_wanted}
+use Rattle.pool_alloc.specs.Steps.{StepGiven, memories_wanted, tables_wanted, info_wanted}
 use Rattle.pool_alloc.specs.Turns.{After, stepped}
 use Rattle.pool_alloc.specs.declared.frame.Phase.{Phase}
-use Rattle.pool_alloc.specs.declared.frame.Phase.TheVariants.{Idle, Validate}
+use Rattle.pool_alloc.specs.declared.frame.Phase.TheVariants.{Idle, Validate, Release}
+use Rattle.pool_alloc.specs.declared.release.ReleaseStep.TheVariants.{Reserve}
+use Rattle.pool_alloc.specs.Releases.{reserve_row}
 use Rattle.pool_alloc.specs.Stepping.{CanStep, is_idle}
 use Rattle.pool_alloc.specs.declared.pool_core.PoolCore.{PoolCore}
 use Rattle.pool_alloc.specs.declared.frame.Call.TheVariants as call
 use Rattle.pool_alloc.specs.declared.frame.Frame.{Frame}
 use Rattle.pool_alloc.specs.declared.frame.Grant.{Grant}
+use Rattle.pool_alloc.specs.declared.frame.Grant.TheVariants.{Instance as instance, Component as component, Stack as stack}
 use Rattle.pool_alloc.specs.declared.frame.Outcome.{Outcome}
 use Rattle.pool_alloc.specs.declared.frame.Outcome.TheVariants as answer
-use Rattle.pool_run.specs.Acts.{MemoryOp, TableOp, Act, requests, on_memory, on_table, drops, act_of}
+use Rattle.pool_run.specs.Acts.{MemoryOp, TableOp, Act, requests, on_memory, on_table, drops, purges, releases, act_of, Wanted, an_instance, a_component, a_stack}
 use Rattle.pool_run.specs.Agreeing.{want_of_memory}
 use Rattle.pool_run.specs.Folds.{RunState, commands_of, IsUnderWay}
 use Rattle.pool_run.specs.Objects.{Objects, object_at, MovesObject}
 use Rattle.pool_run.specs.PartyRules.{rule_of}
 use Rattle.pool_run.specs.Rooms.{World}
 use Rattle.pool_run.specs.Ties.{CanTurn}
-use Rattle.pool_run.specs.Turns.{Turned, Turns, StepsUnder, Opening, rests, replies, makes_step, ended_at_once, answered, after_step, LeaseMoves, memory_leases, MovesTable, table_leases, OpensRequest, OpensAct, OpensNext, OpensAt, Leaves}
+use Rattle.pool_run.specs.Turns.{Turned, Turns, StepsUnder, Opening, rests, replies, makes_step, ended_at_once, answered, after_step, LeaseMoves, memory_leases, MovesTable, table_leases, OpensRequest, OpensPurge, OpensAct, OpensNext, OpensAt, Leaves, StackLeaseMoves, MovesLeasedBytes, stack_leases, OpensWanted}
 use Rattle.pool_run.specs.declared.command.Command.{Command}
 use Rattle.pool_run.specs.declared.reply.Reply.{Reply}
 use Rattle.pool_run.specs.declared.reply.Refusal.TheVariants.{Alloc}
@@ -47,15 +50,12 @@ use Rattle.pool_run.proofs.SameMoves.{op_same}
 use Rattle.pool_run.proofs.Cleared.{IsClear, IsClearIdle, stepped_clear, clear_is}
 use Rattle.pool_run.proofs.Pending.{PastReply}
 use Rattle.pool_run.proofs.SameTables.{table_same}
+use Rattle.pool_run.proofs.StackMoves.{stack_op_same}
 use Rattle.pool_run.proofs.SameSteps.{is_test, step_same, step_tests}
 use Rattle.pool_run.proofs.StageSteps.{is_none, none_idle}
+use Rattle.pool_run.proofs.Reserving.{answered_frame}
 use Rattle.pool_run.proofs.Stepped.{IsStepped, stepped as stepped_so}
-use Rattle.pool_run.proofs.Sounds.{lease_held, table_held}
-
--- whether a phase is the test of a request
-test_is : {P : Type 0} (phase : Phase P) → is_test phase ≡ true → phase ≡ Validate
-test_is Validate e = refl
-test_is _ e = absurd cc
+use Rattle.pool_run.proofs.Sounds.{lease_held, stack_held, table_held}
 
 -- a broken rule is another refusal
 unsupported_is : (rule : Unsupported) → Refused (Alloc (alloc.Unsupported rule)) ≢ want_of_memory
@@ -86,16 +86,28 @@ module _ {P : Type 0} where
   tests_by None true false c bare q t u one two = inr (inl (record { wants = ap (λ (x : Turned P). x.reply) one; later = subst (λ (x : Turned P). PastReply x.reply (stage_of x.party.frame)) (sym two) tt }))
   tests_by None false true c bare q t u one two = inr (inr (record { wants = ap (λ (x : Turned P). x.reply) two; later = subst (λ (x : Turned P). PastReply x.reply (stage_of x.party.frame)) (sym one) tt }))
 
+  -- A release, with memory for its room or none.
+  reserves_by : (v w : Bool) (c : PoolCore P) (bare : Frame P) (q : RunningParty P) (t u : Turned P) → t ≡ after_step (stepped (reserve_row v c bare)) q → u ≡ after_step (stepped (reserve_row w c bare)) q → AreAlike t u
+  reserves_by true true c bare q t u one two = inl (one ∙ sym two)
+  reserves_by false false c bare q t u one two = inl (one ∙ sym two)
+  reserves_by true false c bare q t u one two = inr (inl (record { wants = ap (λ (x : Turned P). x.reply) one; later = subst (λ (x : Turned P). PastReply x.reply (stage_of x.party.frame)) (sym two) tt }))
+  reserves_by false true c bare q t u one two = inr (inr (record { wants = ap (λ (x : Turned P). x.reply) two; later = subst (λ (x : Turned P). PastReply x.reply (stage_of x.party.frame)) (sym one) tt }))
+
+  phase_tests : (phase : Phase P) → is_test phase ≡ true → (g h : StepGiven) (c : PoolCore P) (bare : Frame P) (q : RunningParty P) (t u : Turned P) → t ≡ after_step (stepped (row_of g phase c bare)) q → u ≡ after_step (stepped (row_of h phase c bare)) q → AreAlike t u
+  phase_tests Validate test g h c bare q t u one two = tests_by (module_refused c.settings c.plan.totals.table (info_wanted bare.asked)) g.wants h.wants c bare q t u one two
+  phase_tests (Release Reserve) test g h c bare q t u one two = reserves_by g.wants h.wants c bare q t u one two
+  phase_tests _ test g h c bare q t u one two = absurd cc
+
 -- a party in a world whose maker tells what its regions hold, and which of their calls fail
 module _ {P : Type 0} (w : World) (tells : w.maker.tells ≡ true) (planned : IsSome w.maker.plan) (c : PoolCore P) (p : RunningParty P) (can : CanTurn w.maker c p) where
   -- Turns that open with the same.
   step_alike : (b : Bool) (frame : Frame P) (q : RunningParty P) (t u : Turned P) → is_test frame.phase ≡ b → CanStep w.maker c frame → (one : (a : After P) × StepsUnder (rule_of p.limits) c frame a × (t ≡ after_step a q)) → (two : (a : After P) × StepsUnder (rule_of p.limits) c frame a × (u ≡ after_step a q)) → AreAlike t u
   step_alike false frame q t u test steps one two = inl (one.2 ∙ ap (λ (a : After P). after_step a q) (step_same w.maker tells planned (rule_of p.limits) c frame one.0 two.0 steps test one.1 two.1) ∙ sym two.2)
   step_alike true frame q t u test steps one two =
-      let first = step_tests (rule_of p.limits) c frame one.0 (test_is frame.phase test) one.1 in
-      let second = step_tests (rule_of p.limits) c frame two.0 (test_is frame.phase test) two.1 in
+      let first = step_tests (rule_of p.limits) c frame one.0 frame.phase refl one.1 in
+      let second = step_tests (rule_of p.limits) c frame two.0 frame.phase refl two.1 in
       let After_of : After P → Turned P = λ a. after_step a q in
-      tests_by (module_refused c.settings c.plan.totals.table (memories_wanted frame.asked) (tables_wanted frame.asked)) first.0 second.0 c (record frame { phase = Idle }) q t u (one.2 ∙ ap After_of first.1) (two.2 ∙ ap After_of second.1)
+      phase_tests frame.phase test first.0 second.0 c (record frame { phase = Idle }) q t u (one.2 ∙ ap After_of first.1) (two.2 ∙ ap After_of second.1)
 
   leaves_alike : (o : Opening P) (t u : Turned P) → IsOpened w.maker c p o → Leaves o c p t → Leaves o c p u → AreAlike t u
   leaves_alike rests t u is one two = inl (one ∙ sym two)
@@ -125,30 +137,48 @@ module _ {P : Type 0} (w : World) (tells : w.maker.tells ≡ true) (planned : Is
             ]
       ]
 
-  moves_alike : (op : MemoryOp) (of k : ℕ) (r q : Reply) (live other : List (Option (Grant P))) → MovesObject memory_leases (LeaseMoves op (rule_of p.limits)) of k p.live r live → MovesObject memory_leases (LeaseMoves op (rule_of p.limits)) of k p.live q other → ((live ≡ other) × (r ≡ q)) ⊎ (((r ≡ want_of_memory) × (q ≢ want_of_memory)) ⊎ ((q ≡ want_of_memory) × (r ≢ want_of_memory)))
-  moves_alike op of k r q live other one two =
-      let Move : Lease → Lease → Reply → Type 0 = LeaseMoves op (rule_of p.limits) in
-      elim (moved memory_leases Move of k p.live live r one) [
+  -- or agree
+  abbrev pub Agree : List (Option (Grant P)) → List (Option (Grant P)) → Reply → Reply → Type 0
+  Agree live other r q = ((live ≡ other) × (r ≡ q)) ⊎ (((r ≡ want_of_memory) × (q ≢ want_of_memory)) ⊎ ((q ≡ want_of_memory) × (r ≢ want_of_memory)))
+
+  objects_alike : {X : Type 0} (objects : Objects (Grant P) X) (Move : X → X → Reply → Type 0) (of k : ℕ) (r q : Reply) (live other : List (Option (Grant P)))
+      → ((grant : Grant P) (l x y : X) → slice_index_or p.live of None ≡ Some grant → slice_get (objects.in_grant grant) k ≡ Some l → Move l x r → Move l y q → ((x ≡ y) × (r ≡ q)) ⊎ (((r ≡ want_of_memory) × (q ≢ want_of_memory)) ⊎ ((q ≡ want_of_memory) × (r ≢ want_of_memory))))
+      → MovesObject objects Move of k p.live r live → MovesObject objects Move of k p.live q other → Agree live other r q
+  objects_alike {X} objects Move of k r q live other agree one two =
+      elim (moved objects Move of k p.live live r one) [
         | inl none ↦
-            elim (moved memory_leases Move of k p.live other q two) [
+            elim (moved objects Move of k p.live other q two) [
               | inl nor ↦ inl (none.same ∙ sym nor.same, none.refused ∙ sym nor.refused)
-              | inr m ↦ let wrong : None ≡ Some m.old = sym none.none ∙ there memory_leases of k m.grant m.old m.granted m.there in absurd cc
+              | inr m ↦ let wrong : None ≡ Some m.old = sym none.none ∙ there objects of k m.grant m.old m.granted m.there in absurd cc
             ]
         | inr m ↦
-            elim (moved memory_leases Move of k p.live other q two) [
-              | inl none ↦ let wrong : None ≡ Some m.old = sym none.none ∙ there memory_leases of k m.grant m.old m.granted m.there in absurd cc
+            elim (moved objects Move of k p.live other q two) [
+              | inl none ↦ let wrong : None ≡ Some m.old = sym none.none ∙ there objects of k m.grant m.old m.granted m.there in absurd cc
               | inr n ↦
                   let grant : m.grant ≡ n.grant = let both : Some m.grant ≡ Some n.grant = sym m.granted ∙ n.granted in cc in
-                  let At : Grant P → Type 0 = λ g. slice_get (memory_leases.in_grant g) k ≡ Some n.old in
+                  let At : Grant P → Type 0 = λ g. slice_get (objects.in_grant g) k ≡ Some n.old in
                   let old : m.old ≡ n.old = let both : Some m.old ≡ Some n.old = sym m.there ∙ subst At (sym grant) n.there in cc in
-                  let From : Lease → Type 0 = λ l. Move l n.changed q in
-                  let Put : Grant P → Lease → List (Option (Grant P)) = λ g l. slice_set p.live of (Some (memory_leases.put_in k l g)) in
-                  elim (op_same w.maker c.settings c.plan tells planned m.old (lease_held w.maker c p of k m.grant m.old can.party.sound m.granted m.there) op (rule_of p.limits) m.changed n.changed r q m.move (subst From (sym old) n.move)) [
+                  let From : X → Type 0 = λ l. Move l n.changed q in
+                  let Put : Grant P → X → List (Option (Grant P)) = λ g l. slice_set p.live of (Some (objects.put_in k l g)) in
+                  elim (agree m.grant m.old m.changed n.changed m.granted m.there m.move (subst From (sym old) n.move)) [
                     | inl both ↦ inl (m.is ∙ ap (λ (g : Grant P). Put g m.changed) grant ∙ ap (Put n.grant) both.0 ∙ sym n.is, both.1)
                     | inr apart ↦ inr apart
                   ]
             ]
       ]
+
+  moves_alike : (op : MemoryOp) (of k : ℕ) (r q : Reply) (live other : List (Option (Grant P))) → MovesObject memory_leases (LeaseMoves op (rule_of p.limits)) of k p.live r live → MovesObject memory_leases (LeaseMoves op (rule_of p.limits)) of k p.live q other → Agree live other r q
+  moves_alike op of k r q live other one two =
+      objects_alike memory_leases (LeaseMoves op (rule_of p.limits)) of k r q live other
+      (λ grant l x y granted is first second. op_same w.maker c.settings c.plan tells planned l (lease_held w.maker c p of k grant l can.party.sound granted is) op (rule_of p.limits) x y r q first second) one two
+
+  bytes_alike : (x : Option (Grant P)) (op : MemoryOp) (of k : ℕ) (r q : Reply) (live other : List (Option (Grant P))) → MovesLeasedBytes op (rule_of p.limits) x of k p.live r live → MovesLeasedBytes op (rule_of p.limits) x of k p.live q other → Agree live other r q
+  bytes_alike None op of k r q live other one two = moves_alike op of k r q live other one two
+  bytes_alike (Some (instance lease)) op of k r q live other one two = moves_alike op of k r q live other one two
+  bytes_alike (Some component) op of k r q live other one two = moves_alike op of k r q live other one two
+  bytes_alike (Some (stack lease)) op of k r q live other one two =
+      objects_alike stack_leases (StackLeaseMoves op) of k r q live other
+      (λ grant l x y granted is first second. stack_op_same w.maker c.settings c.plan tells op l x y r q (stack_held w.maker c p of k grant l can.party.sound granted is) first second) one two
 
   -- of a table and its store
   pub record AreSameReplies (live other : List (Option (Grant P))) (store left : ListedStore) (r q : Reply) : Type 0 where
@@ -198,8 +228,8 @@ module _ {P : Type 0} (w : World) (tells : w.maker.tells ≡ true) (planned : Is
   wants_or_tests m t u idle clear one two =
       let frame : Frame P = begun_call (call.Module m) p.frame in
       let q : RunningParty P = record p { frame = frame; live = p.live } in
-      let test = step_tests (rule_of p.limits) c frame two.0 refl two.1 in
-      wants_by (module_refused c.settings c.plan.totals.table (memories_wanted frame.asked) (tables_wanted frame.asked)) test.0 m t u idle clear one (two.2 ∙ ap (λ (a : After P). after_step a q) test.1)
+      let test = step_tests (rule_of p.limits) c frame two.0 Validate refl two.1 in
+      wants_by (module_refused c.settings c.plan.totals.table (info_wanted frame.asked)) test.0.wants m t u idle clear one (two.2 ∙ ap (λ (a : After P). after_step a q) test.1)
 
   request_alike : (kept : Option ModuleAsked) (a b : Opening P) (t u : Turned P) → p.frame.phase ≡ Idle → IsClear p.frame.asked p.frame.ending p.frame.queues → IsOpened w.maker c p a → OpensRequest kept p a → OpensRequest kept p b → Leaves a c p t → Leaves b c p u → AreAlike t u
   request_alike None a b t u idle clear is one two first second = absurd one
@@ -218,15 +248,26 @@ module _ {P : Type 0} (w : World) (tells : w.maker.tells ≡ true) (planned : Is
             ]
       ]
 
+  purges_alike : (kept : Option ModuleAsked) (a b : Opening P) (t u : Turned P) → IsOpened w.maker c p a → OpensPurge kept p a → OpensPurge kept p b → Leaves a c p t → Leaves b c p u → AreAlike t u
+  purges_alike None a b t u is one two first second = absurd one
+  purges_alike (Some kept) a b t u is one two first second = same_opening a b t u is (one ∙ sym two) first second
+
+  wanted_alike : (modules : List ModuleAsked) (wanted : Wanted) (a b : Opening P) (t u : Turned P) → p.frame.phase ≡ Idle → IsClear p.frame.asked p.frame.ending p.frame.queues → IsOpened w.maker c p a → OpensWanted modules wanted p a → OpensWanted modules wanted p b → Leaves a c p t → Leaves b c p u → AreAlike t u
+  wanted_alike modules (an_instance number) a b t u idle clear is one two first second = request_alike (slice_get modules number) a b t u idle clear is one two first second
+  wanted_alike modules (a_component info) a b t u idle clear is one two first second = same_opening a b t u is (one ∙ sym two) first second
+  wanted_alike modules a_stack a b t u idle clear is one two first second = same_opening a b t u is (one ∙ sym two) first second
+
   act_alike : (modules : List ModuleAsked) (act : Act) (a b : Opening P) (t u : Turned P) → p.frame.phase ≡ Idle → IsClear p.frame.asked p.frame.ending p.frame.queues → IsOpened w.maker c p a → OpensAct modules act p a → OpensAct modules act p b → Leaves a c p t → Leaves b c p u → AreAlike t u
-  act_alike modules (requests number) a b t u idle clear is one two first second = request_alike (slice_get modules number) a b t u idle clear is one two first second
+  act_alike modules (requests wanted) a b t u idle clear is one two first second = wanted_alike modules wanted a b t u idle clear is one two first second
   act_alike modules (on_memory of k op) a b t u idle clear is one two first second =
       let L : Turned P → Opening P → Type 0 = λ x o. Leaves o c p x in
-      replied_alike one.0 two.0 one.1 two.1 t u (subst (L t) one.3 first) (subst (L u) two.3 second) (moves_alike op of k one.0 two.0 one.1 two.1 one.2 two.2)
+      replied_alike one.0 two.0 one.1 two.1 t u (subst (L t) one.3 first) (subst (L u) two.3 second) (bytes_alike (slice_index_or p.live of None) op of k one.0 two.0 one.1 two.1 one.2 two.2)
   act_alike modules (on_table of k op) a b t u idle clear is one two first second =
       let L : Turned P → Opening P → Type 0 = λ x o. Leaves o c p x in
       stored_alike one.0 two.0 one.1 two.1 one.2 two.2 t u (subst (L t) one.5 first) (subst (L u) two.5 second) (tables_same op of k one.0 two.0 one.1 two.1 one.2 two.2 one.3 two.3 one.4 two.4)
   act_alike modules (drops of) a b t u idle clear is one two first second = same_opening a b t u is (one ∙ sym two) first second
+  act_alike modules (purges number) a b t u idle clear is one two first second = purges_alike (slice_get modules number) a b t u is one two first second
+  act_alike modules releases a b t u idle clear is one two first second = same_opening a b t u is (one ∙ sym two) first second
 
   next_alike : (modules : List ModuleAsked) (next : Option Command) (keyed : Bool) (a b : Opening P) (t u : Turned P) → p.frame.phase ≡ Idle → IsClear p.frame.asked p.frame.ending p.frame.queues → IsOpened w.maker c p a → OpensNext modules next keyed p a → OpensNext modules next keyed p b → Leaves a c p t → Leaves b c p u → AreAlike t u
   next_alike modules None keyed a b t u idle clear is one two first second = same_opening a b t u is (one ∙ sym two) first second
@@ -239,18 +280,11 @@ module _ {P : Type 0} (w : World) (tells : w.maker.tells ≡ true) (planned : Is
 
 -- A turn leaves a frame clear where no call is under way.
 module _ {P : Type 0} (maker : MakerTold) (c : PoolCore P) (p : RunningParty P) where
-  answered_frame : (o : Option (Outcome P)) (d : PoolCore P) (q : RunningParty P) → (answered o d q).party.frame ≡ q.frame
-  answered_frame None d q = refl
-  answered_frame (Some answer.Key) d q = refl
-  answered_frame (Some (answer.Granted grant)) d q = refl
-  answered_frame (Some answer.Returned) d q = refl
-  answered_frame (Some (answer.Refused e)) d q = refl
-
   step_clear : (frame : Frame P) (a : After P) → CanStep maker c frame → is_idle frame.phase ≡ false → StepsUnder (rule_of p.limits) c frame a → IsClearIdle a.frame
   step_clear frame a can busy steps idle =
       let on : IsStepped maker steps.0 steps.1 c frame a = stepped_so maker steps.0 steps.1 c frame a can steps.3 in
-      let none : is_none (stage_of frame) ≡ false = none_idle frame.phase frame.ending (objects_in frame.objects) ∙ busy in
-      let ended : is_none (stage_of a.frame) ≡ true = none_idle a.frame.phase a.frame.ending (objects_in a.frame.objects) ∙ idle in
+      let none : is_none (stage_of frame) ≡ false = none_idle frame.phase frame.asked frame.ending (objects_in frame.objects) ∙ busy in
+      let ended : is_none (stage_of a.frame) ≡ true = none_idle a.frame.phase a.frame.asked a.frame.ending (objects_in a.frame.objects) ∙ idle in
       let some : is_some a.outcome ≡ true = on.staged.answer ∙ ap (λ (b : Bool). not b && is_none (stage_of a.frame)) none ∙ ended in
       let Clear : After P → Type 0 = λ x. is_some x.outcome ≡ true → IsClear x.frame.asked x.frame.ending x.frame.queues in
       subst Clear (sym steps.3.1.is) (stepped_clear (row_of steps.3.0 frame.phase c (record frame { phase = Idle }))) some

@@ -1,20 +1,22 @@
--- The slots of memories and those of tables: each kind as one of those of which an instance has some.
-use Rattle.std.proofs.Common.{◌≡◌, ℕ, ◌+◌, ◌<◌, ◌≤◌, List, [], ◌∷◌, length, Option, refl, sym, ap, arith}
+-- The slots of memories, of tables and of stacks: each kind as one of those of which a grant has some.
+use Rattle.std.proofs.Common.{◌≢◌, ◌≡◌, ℕ, ◌+◌, ◌*◌, ◌<◌, ◌≤◌, List, [], ◌∷◌, length, map, Option, refl, sym, ap, arith}
 use Rattle.std.specs.Prelude.{sum_by}
 use Rattle.std.proofs.lemmas.List.Sums.{sum_by-cons}
 use Rattle.pool_hall.specs.declared.unit_name.SlotKind.{SlotKind}
 use Rattle.pool_hall.specs.declared.unit_name.SlotKind.TheVariants as kind
 use Rattle.pool_slots.specs.declared.slot_name.SlotName.{SlotName}
 use Rattle.pool_alloc.specs.Leases.{Lease, memory_slot}
-use Rattle.pool_alloc.specs.Places.{right_to, slot_count, both_count, leased_count, tables_count, instance_count}
+use Rattle.pool_alloc.specs.Places.{taken_count, right_to, slot_count, both_count, leased_count, tables_count}
+use Rattle.pool_alloc.specs.StackLeases.{LeasedStack, stack_slot, stack_taken}
+use Rattle.pool_slots.specs.declared.slot_name.RegionNumbers.{RegionNumbers}
 use Rattle.pool_alloc.specs.TableLeases.{LeasedTable, table_slot}
-use Rattle.pool_alloc.specs.declared.lease.InstanceLease.{InstanceLease}
 use Rattle.pool_alloc.proofs.SlotCounts.{slot_other, region_rights}
-use Rattle.pool_alloc.specs.Stepping.{grant_count, grant_memories, grant_tables}
+use Rattle.pool_alloc.specs.Stepping.{grant_stacks, grant_count, grant_memories, grant_tables}
 use Rattle.pool_alloc.specs.declared.frame.Grant.{Grant}
-use Rattle.pool_run.specs.Private.{PrivateInstance, Grants}
-use Rattle.pool_run.specs.Rooms.{memories_in, tables_in, live_count, table_count}
-use Rattle.pool_run.specs.Turns.{private_memory, private_table, grants_of}
+use Rattle.pool_alloc.specs.declared.frame.Grant.TheVariants.{Instance as instance, Component as component, Stack as stack}
+use Rattle.pool_run.specs.Private.{stacks_in_grant, Grants, memories_in_grant, tables_in_grant}
+use Rattle.pool_run.specs.Rooms.{stacks_in, stack_count, memories_in, tables_in, live_count, table_count}
+use Rattle.pool_run.specs.Turns.{private_stack, stack_of, private_memory, private_table, private_grant, leases_of, tables_of, grants_of}
 use Rattle.pool_run.specs.Ties.{granted_to}
 use Rattle.pool_run.proofs.Exhausted.{all_taken, room_for, one_free, live_told}
 use Rattle.pool_run.proofs.SlotsBelow.{times_in}
@@ -27,64 +29,121 @@ memory_one k i same = ap (λ (n : SlotName). n.slot) same
 pub table_one : (k i : ℕ) → table_slot k ≡ table_slot i → k ≡ i
 table_one k i same = ap (λ (n : SlotName). n.slot) same
 
--- no slot is of both kinds
-abbrev is_memory : SlotKind → ℕ
-is_memory kind.Memory = 1
-is_memory _ = 0
+pub stack_one : (k i : ℕ) → stack_slot k ≡ stack_slot i → k ≡ i
+stack_one k i same = ap (λ (n : SlotName). n.slot) same
 
-apart : (k i : ℕ) → memory_slot k ≡ table_slot i → {X : Type 0} → X
-apart k i same = let no : ◌≡◌ {A = ℕ} 1 0 = ap (λ (n : SlotName). is_memory n.kind) same in absurd (omega (arith, no))
+-- no slot is of two kinds
+abbrev kind_number : SlotKind → ℕ
+kind_number kind.Memory = 1
+kind_number kind.Table = 2
+kind_number kind.Stack = 3
+kind_number _ = 0
 
-no_tables : (k : ℕ) (ls : List LeasedTable) → tables_count (right_to (memory_slot k)) ls ≡ 0
-no_tables k [] = refl
-no_tables k (l ∷ ls) =
+abbrev is_apart : SlotName → (ℕ → SlotName) → Type 0
+is_apart name named = (i : ℕ) → name ≡ named i → ⊥
+
+apart : (name other : SlotName) → kind_number name.kind ≢ kind_number other.kind → name ≡ other → ⊥
+apart name other differ same = differ (ap (λ (n : SlotName). kind_number n.kind) same)
+
+-- so a slot of another kind is with none of these
+none_in : {L : Type 0} (named : ℕ → SlotName) (index : L → ℕ) (numbers : L → RegionNumbers) (name : SlotName) → is_apart name named → (ls : List L) → sum_by (λ l. both_count (right_to name) (named (index l)) (numbers l)) ls ≡ 0
+none_in named index numbers name other [] = refl
+none_in {L = L} named index numbers name other (l ∷ ls) =
     omega (
       arith,
-      no_tables k ls,
-      sum_by-cons (λ (x : LeasedTable). both_count (right_to (memory_slot k)) (table_slot x.index) x.numbers) l ls,
-      slot_other (memory_slot k) (table_slot l.index) (λ same. apart k l.index same),
-      region_rights (memory_slot k) (table_slot l.index) l.numbers,
+      none_in named index numbers name other ls,
+      sum_by-cons (λ (x : L). both_count (right_to name) (named (index x)) (numbers x)) l ls,
+      slot_other name (named (index l)) (other (index l)),
+      region_rights name (named (index l)) (numbers l),
     )
 
-no_memories : (k : ℕ) (ls : List Lease) → leased_count (right_to (table_slot k)) ls ≡ 0
-no_memories k [] = refl
-no_memories k (l ∷ ls) =
-    omega (
-      arith,
-      no_memories k ls,
-      sum_by-cons (λ (x : Lease). both_count (right_to (table_slot k)) (memory_slot x.index) x.numbers) l ls,
-      slot_other (table_slot k) (memory_slot l.index) (λ same. apart l.index k (sym same)),
-      region_rights (table_slot k) (memory_slot l.index) l.numbers,
-    )
+no_memories : (name : SlotName) → kind_number name.kind ≢ 1 → (ls : List Lease) → leased_count (right_to name) ls ≡ 0
+no_memories name other ls = none_in memory_slot (λ (l : Lease). l.index) (λ l. l.numbers) name (λ i. apart name (memory_slot i) other) ls
+
+no_tables : (name : SlotName) → kind_number name.kind ≢ 2 → (ls : List LeasedTable) → tables_count (right_to name) ls ≡ 0
+no_tables name other ls = none_in table_slot (λ (l : LeasedTable). l.index) (λ l. l.numbers) name (λ i. apart name (table_slot i) other) ls
+
+no_stack : (name : SlotName) → kind_number name.kind ≢ 3 → (l : LeasedStack) → taken_count (right_to name) (stack_taken l) ≡ 0
+no_stack name other l = omega (arith, slot_other name (stack_slot l.stack.index) (apart name (stack_slot l.stack.index) other), region_rights name (stack_slot l.stack.index) l.numbers)
 
 module _ {P : Type 0} where
-  pub memories_counted : (k : ℕ) (lease : InstanceLease P) → instance_count (right_to (memory_slot k)) lease ≡ times_in memory_slot memory_one (λ (l : Lease). l.index) (λ l. l.numbers) k lease.memories.items
-  memories_counted k lease = omega (arith, no_tables k lease.tables.items)
+  pub memories_counted : (k : ℕ) (g : Grant P) → grant_count (right_to (memory_slot k)) g ≡ times_in memory_slot memory_one (λ (l : Lease). l.index) (λ l. l.numbers) k (leases_of g)
+  memories_counted k (instance lease) = omega (arith, no_tables (memory_slot k) (λ is. absurd (omega (arith, is))) lease.tables.items)
+  memories_counted k component = refl
+  memories_counted k (stack lease) = no_stack (memory_slot k) (λ is. absurd (omega (arith, is))) lease
 
-  pub tables_counted : (k : ℕ) (lease : InstanceLease P) → instance_count (right_to (table_slot k)) lease ≡ times_in table_slot table_one (λ (l : LeasedTable). l.index) (λ l. l.numbers) k lease.tables.items
-  tables_counted k lease = omega (arith, no_memories k lease.memories.items)
+  pub tables_counted : (k : ℕ) (g : Grant P) → grant_count (right_to (table_slot k)) g ≡ times_in table_slot table_one (λ (l : LeasedTable). l.index) (λ l. l.numbers) k (tables_of g)
+  tables_counted k (instance lease) = omega (arith, no_memories (table_slot k) (λ is. absurd (omega (arith, is))) lease.memories.items)
+  tables_counted k component = refl
+  tables_counted k (stack lease) = no_stack (table_slot k) (λ is. absurd (omega (arith, is))) lease
 
-  -- Where all memory slots are with this instance and the live grants, there are no more than they have.
-  pub memories_taken : (total : ℕ) (lease : InstanceLease P) (live : List (Option (Grant P))) → ((k : ℕ) → instance_count (right_to (memory_slot k)) lease + sum_by (granted_to (grant_count (right_to (memory_slot k)))) live ≡ made_slot k total) → total ≤ length lease.memories.items + sum_by (granted_to grant_memories) live
-  memories_taken total lease live all = all_taken memory_slot memory_one (λ (l : Lease). l.index) (λ l. l.numbers) (λ (x : InstanceLease P). x.memories.items) memories_counted grant_memories (λ x. refl) total lease live all
+  pub stacks_counted : (k : ℕ) (g : Grant P) → grant_count (right_to (stack_slot k)) g ≡ times_in stack_slot stack_one (λ (l : LeasedStack). l.stack.index) (λ l. l.numbers) k (stack_of g)
+  stacks_counted k (instance lease) = omega (arith, no_memories (stack_slot k) (λ is. absurd (omega (arith, is))) lease.memories.items, no_tables (stack_slot k) (λ is. absurd (omega (arith, is))) lease.tables.items)
+  stacks_counted k component = refl
+  stacks_counted k (stack lease) = omega (arith, sum_by-cons (λ (l : LeasedStack). both_count (right_to (stack_slot k)) (stack_slot l.stack.index) l.numbers) lease [])
 
-  pub tables_taken : (total : ℕ) (lease : InstanceLease P) (live : List (Option (Grant P))) → ((k : ℕ) → instance_count (right_to (table_slot k)) lease + sum_by (granted_to (grant_count (right_to (table_slot k)))) live ≡ made_slot k total) → total ≤ length lease.tables.items + sum_by (granted_to grant_tables) live
-  tables_taken total lease live all = all_taken table_slot table_one (λ (l : LeasedTable). l.index) (λ l. l.numbers) (λ (x : InstanceLease P). x.tables.items) tables_counted grant_tables (λ x. refl) total lease live all
+  -- so many are counted
+  pub memories_sized : (g : Grant P) → grant_memories g ≡ length (leases_of g)
+  memories_sized (instance lease) = refl
+  memories_sized component = refl
+  memories_sized (stack lease) = refl
 
-  -- There is room for an instance and live grants that are apart.
-  pub memories_room : (total : ℕ) (lease : InstanceLease P) (live : List (Option (Grant P))) → ((k : ℕ) → instance_count (right_to (memory_slot k)) lease + sum_by (granted_to (grant_count (right_to (memory_slot k)))) live ≤ made_slot k total) → length lease.memories.items + sum_by (granted_to grant_memories) live ≤ total
-  memories_room total lease live apart = room_for memory_slot memory_one (λ (l : Lease). l.index) (λ l. l.numbers) (λ (x : InstanceLease P). x.memories.items) memories_counted grant_memories (λ x. refl) total lease live apart
+  pub tables_sized : (g : Grant P) → grant_tables g ≡ length (tables_of g)
+  tables_sized (instance lease) = refl
+  tables_sized component = refl
+  tables_sized (stack lease) = refl
 
-  pub tables_room : (total : ℕ) (lease : InstanceLease P) (live : List (Option (Grant P))) → ((k : ℕ) → instance_count (right_to (table_slot k)) lease + sum_by (granted_to (grant_count (right_to (table_slot k)))) live ≤ made_slot k total) → length lease.tables.items + sum_by (granted_to grant_tables) live ≤ total
-  tables_room total lease live apart = room_for table_slot table_one (λ (l : LeasedTable). l.index) (λ l. l.numbers) (λ (x : InstanceLease P). x.tables.items) tables_counted grant_tables (λ x. refl) total lease live apart
+  pub stacks_sized : (g : Grant P) → grant_stacks g ≡ length (stack_of g)
+  stacks_sized (instance lease) = refl
+  stacks_sized component = refl
+  stacks_sized (stack lease) = refl
+
+  -- and the party sees each
+  pub memories_seen_of : (g : Grant P) → memories_in_grant (private_grant g) ≡ map private_memory (leases_of g)
+  memories_seen_of (instance lease) = refl
+  memories_seen_of component = refl
+  memories_seen_of (stack lease) = refl
+
+  pub tables_seen_of : (g : Grant P) → tables_in_grant (private_grant g) ≡ map private_table (tables_of g)
+  tables_seen_of (instance lease) = refl
+  tables_seen_of component = refl
+  tables_seen_of (stack lease) = refl
+
+  pub stacks_seen_of : (g : Grant P) → stacks_in_grant (private_grant g) ≡ map private_stack (stack_of g)
+  stacks_seen_of (instance lease) = refl
+  stacks_seen_of component = refl
+  stacks_seen_of (stack lease) = refl
+
+  -- Where so many memory slots are with this grant and the live ones, there are no more of them than they have.
+  pub memories_taken : (s step total : ℕ) (g : Grant P) (live : List (Option (Grant P))) → 0 < step → ((j : ℕ) → j < total → 1 ≤ grant_count (right_to (memory_slot (s + j * step))) g + sum_by (granted_to (grant_count (right_to (memory_slot (s + j * step))))) live) → total ≤ length (leases_of g) + sum_by (granted_to grant_memories) live
+  memories_taken s step total g live some all = all_taken memory_slot memory_one (λ (l : Lease). l.index) (λ l. l.numbers) leases_of memories_counted grant_memories memories_sized s step total g live some all
+
+  pub tables_taken : (s step total : ℕ) (g : Grant P) (live : List (Option (Grant P))) → 0 < step → ((j : ℕ) → j < total → 1 ≤ grant_count (right_to (table_slot (s + j * step))) g + sum_by (granted_to (grant_count (right_to (table_slot (s + j * step))))) live) → total ≤ length (tables_of g) + sum_by (granted_to grant_tables) live
+  tables_taken s step total g live some all = all_taken table_slot table_one (λ (l : LeasedTable). l.index) (λ l. l.numbers) tables_of tables_counted grant_tables tables_sized s step total g live some all
+
+  pub stacks_taken : (s step total : ℕ) (g : Grant P) (live : List (Option (Grant P))) → 0 < step → ((j : ℕ) → j < total → 1 ≤ grant_count (right_to (stack_slot (s + j * step))) g + sum_by (granted_to (grant_count (right_to (stack_slot (s + j * step))))) live) → total ≤ length (stack_of g) + sum_by (granted_to grant_stacks) live
+  stacks_taken s step total g live some all = all_taken stack_slot stack_one (λ (l : LeasedStack). l.stack.index) (λ l. l.numbers) stack_of stacks_counted grant_stacks stacks_sized s step total g live some all
+
+  -- There is room for a grant and live grants that are apart.
+  pub memories_room : (total : ℕ) (g : Grant P) (live : List (Option (Grant P))) → ((k : ℕ) → grant_count (right_to (memory_slot k)) g + sum_by (granted_to (grant_count (right_to (memory_slot k)))) live ≤ made_slot k total) → length (leases_of g) + sum_by (granted_to grant_memories) live ≤ total
+  memories_room total g live apart = room_for memory_slot memory_one (λ (l : Lease). l.index) (λ l. l.numbers) leases_of memories_counted grant_memories memories_sized total g live apart
+
+  pub tables_room : (total : ℕ) (g : Grant P) (live : List (Option (Grant P))) → ((k : ℕ) → grant_count (right_to (table_slot k)) g + sum_by (granted_to (grant_count (right_to (table_slot k)))) live ≤ made_slot k total) → length (tables_of g) + sum_by (granted_to grant_tables) live ≤ total
+  tables_room total g live apart = room_for table_slot table_one (λ (l : LeasedTable). l.index) (λ l. l.numbers) tables_of tables_counted grant_tables tables_sized total g live apart
+
+  pub stacks_room : (total : ℕ) (g : Grant P) (live : List (Option (Grant P))) → ((k : ℕ) → grant_count (right_to (stack_slot k)) g + sum_by (granted_to (grant_count (right_to (stack_slot k)))) live ≤ made_slot k total) → length (stack_of g) + sum_by (granted_to grant_stacks) live ≤ total
+  stacks_room total g live apart = room_for stack_slot stack_one (λ (l : LeasedStack). l.stack.index) (λ l. l.numbers) stack_of stacks_counted grant_stacks stacks_sized total g live apart
 
   -- One more memory slot is with a call: there are more than the live grants have.
   pub memory_free : (total slot : ℕ) (live : List (Option (Grant P))) → ((k : ℕ) → slot_count (right_to (memory_slot k)) (memory_slot slot) + sum_by (granted_to (grant_count (right_to (memory_slot k)))) live ≤ made_slot k total) → slot < total → sum_by (granted_to grant_memories) live < total
-  memory_free total slot live apart inside = one_free memory_slot memory_one (λ (l : Lease). l.index) (λ l. l.numbers) (λ (x : InstanceLease P). x.memories.items) memories_counted grant_memories (λ x. refl) total slot live apart inside
+  memory_free total slot live apart inside = one_free memory_slot memory_one (λ (l : Lease). l.index) (λ l. l.numbers) leases_of memories_counted grant_memories memories_sized total slot live apart inside
 
   -- what the party sees is live
   pub memories_told : (live : List (Option (Grant P))) (told : Grants) → grants_of live ≡ told → live_count told ≡ sum_by (granted_to grant_memories) live
-  memories_told live told is = live_told memory_slot memory_one (λ (l : Lease). l.index) (λ l. l.numbers) (λ (x : InstanceLease P). x.memories.items) memories_counted grant_memories (λ x. refl) private_memory (λ (g : PrivateInstance). g.memories) memories_in (λ x. refl) refl (λ g. refl) live told is
+  memories_told live told is = live_told memory_slot memory_one (λ (l : Lease). l.index) (λ l. l.numbers) leases_of memories_counted grant_memories memories_sized private_memory memories_in_grant memories_in memories_seen_of refl (λ x. refl) live told is
 
   pub tables_told : (live : List (Option (Grant P))) (told : Grants) → grants_of live ≡ told → table_count told ≡ sum_by (granted_to grant_tables) live
-  tables_told live told is = live_told table_slot table_one (λ (l : LeasedTable). l.index) (λ l. l.numbers) (λ (x : InstanceLease P). x.tables.items) tables_counted grant_tables (λ x. refl) private_table (λ (g : PrivateInstance). g.tables) tables_in (λ x. refl) refl (λ g. refl) live told is
+  tables_told live told is = live_told table_slot table_one (λ (l : LeasedTable). l.index) (λ l. l.numbers) tables_of tables_counted grant_tables tables_sized private_table tables_in_grant tables_in tables_seen_of refl (λ x. refl) live told is
+
+  pub stacks_told : (live : List (Option (Grant P))) (told : Grants) → grants_of live ≡ told → stack_count told ≡ sum_by (granted_to grant_stacks) live
+  stacks_told live told is = live_told stack_slot stack_one (λ (l : LeasedStack). l.stack.index) (λ l. l.numbers) stack_of stacks_counted grant_stacks stacks_sized private_stack stacks_in_grant stacks_in stacks_seen_of refl (λ x. refl) live told is

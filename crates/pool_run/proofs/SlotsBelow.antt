@@ -1,5 +1,5 @@
 -- Slots of a kind, counted by their numbers: each thing that has one is counted at one number, and each number once at most.
-use Rattle.std.proofs.Common.{◌≡◌, ℕ, zero, suc, ◌+◌, ◌<◌, ◌≤◌, List, [], ◌∷◌, length, refl, sym, ap, ◌∙◌, inl, inr, arith}
+use Rattle.std.proofs.Common.{◌≡◌, ℕ, zero, suc, ◌+◌, ◌-◌, ◌*◌, ◌<◌, ◌≤◌, List, [], ◌∷◌, length, refl, sym, ap, ◌∙◌, inl, inr, arith}
 use Rattle.std.specs.Prelude.{sum_by}
 use Rattle.std.proofs.lemmas.Bool.{cases_eq, cases_lt, lt-ltb, le-ltb}
 use Rattle.std.proofs.lemmas.List.Sums.{sum_by-cons}
@@ -47,19 +47,38 @@ pub ones : {X : Type 0} (xs : List X) → sum_by (λ x. 1) xs ≡ length xs
 ones [] = refl
 ones (x ∷ xs) = omega (arith, sum_by-cons (λ y. 1) x xs, ones xs)
 
--- each slot is made once
-made_below : (n m : ℕ) → m ≤ n → below (λ k. made_slot k n) m ≡ m
-made_below n zero within = refl
-made_below n (suc m) within =
-    let here : made_slot m n ≡ 1 = ap one_if (lt-ltb m n (omega (arith, within))) in
-    omega (arith, here, made_below n m (omega (arith, within)))
-
 pub none_made : (k total : ℕ) → total ≤ k → made_slot k total ≡ 0
 none_made k total past = ap one_if (le-ltb k total past)
 
--- Where all slots are with some of these or those, there are no more slots than these and those.
-pub all_there : (total these those : ℕ) (n m : ℕ → ℕ) → ((k : ℕ) → n k + m k ≡ made_slot k total) → below n total ≤ these → below m total ≤ those → total ≤ these + those
-all_there total these those n m all some others = omega (arith, some, others, made_below total total (omega arith), below_sum n m (λ k. made_slot k total) (λ k. sym (all k)) total)
+below_longer : (f : ℕ → ℕ) (n more : ℕ) → below f n ≤ below f (n + more)
+below_longer f n zero = let same : n + 0 ≡ n = omega arith in omega (arith, ap (below f) same)
+below_longer f n (suc more) =
+    let next : n + suc more ≡ suc (n + more) = omega arith in
+    omega (arith, below_longer f n more, ap (below f) next)
+
+-- numbers that follow one another at a distance are some of those below the last
+spread_below : (f : ℕ → ℕ) (s k m : ℕ) → 0 < k → below (λ j. f (s + j * k)) m ≤ below f (s + m * k)
+spread_below f s k zero some = omega arith
+spread_below f s k (suc m) some =
+    let next : suc (s + m * k) + (k - 1) ≡ s + suc m * k = omega (arith, some) in
+    omega (arith, spread_below f s k m some, below_longer f (suc (s + m * k)) (k - 1), ap (below f) next)
+
+one_each : (g : ℕ → ℕ) (m : ℕ) → ((j : ℕ) → j < m → 1 ≤ g j) → m ≤ below g m
+one_each g zero each = omega arith
+one_each g (suc m) each = omega (arith, each m (omega arith), one_each g m (λ j under. each j (omega (arith, under))))
+
+-- Where each of m slots, whose numbers follow one another at a distance, is with some of these or those, there are no more
+-- of them than these and those.
+pub all_there : (s k total these those : ℕ) (n m : ℕ → ℕ) → 0 < k → ((j : ℕ) → j < total → 1 ≤ n (s + j * k) + m (s + j * k)) → below n (s + total * k) ≤ these → below m (s + total * k) ≤ those → total ≤ these + those
+all_there s k total these those n m apart all some others =
+    omega (
+      arith,
+      some,
+      others,
+      one_each (λ j. n (s + j * k) + m (s + j * k)) total all,
+      spread_below (λ x. n x + m x) s k total apart,
+      below_sum n m (λ x. n x + m x) (λ x. refl) (s + total * k),
+    )
 
 -- Where these and those have no slot together, and no other than those that there are, there are slots for all.
 pub some_apart : (total these those : ℕ) (n m : ℕ → ℕ) → ((k : ℕ) → n k + m k ≤ made_slot k total) → (((k : ℕ) → total ≤ k → n k ≡ 0) → these ≤ below n total) → (((k : ℕ) → total ≤ k → m k ≡ 0) → those ≤ below m total) → these + those ≤ total

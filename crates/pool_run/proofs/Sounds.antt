@@ -1,11 +1,13 @@
 -- What a turn leaves is sound where what its calls leave is.
-use Rattle.std.proofs.Common.{◌≡◌, ℕ, List, Option, Some, None, sym, subst, All}
+use Rattle.std.proofs.Common.{◌≡◌, ℕ, zero, suc, List, Option, Some, None, sym, subst, All}
 use Rattle.std.specs.Prelude.{IfSome, slice_get, slice_index_or}
 use Rattle.std.proofs.lemmas.List.Elements.{All-set, All-get_or}
 use Rattle.std.proofs.lemmas.Option.{slice_get_within, get_or_from_slice_get}
 use Rattle.pool_limits.specs.LimiterTold.{LimiterTold}
 use Rattle.pool_pages.specs.MakerTold.{MakerTold}
-use Rattle.pool_alloc.specs.Asked.{ModuleAsked}
+use Rattle.pool_alloc.specs.declared.frame.Asked.{Asked}
+use Rattle.pool_alloc.specs.PoolStacks.{IsStackLease}
+use Rattle.pool_alloc.specs.StackLeases.{LeasedStack}
 use Rattle.pool_alloc.specs.Calls.{IsIdle, IsGrant, IsGrantOf, IfGranted}
 use Rattle.pool_alloc.specs.Leases.{Lease}
 use Rattle.pool_alloc.specs.PoolTables.{IsTableLease}
@@ -17,11 +19,11 @@ use Rattle.pool_alloc.specs.declared.pool_core.Settings.{Settings}
 use Rattle.pool_alloc.specs.declared.frame.Frame.{Frame}
 use Rattle.pool_alloc.specs.declared.frame.Phase.{Phase}
 use Rattle.pool_alloc.specs.declared.frame.Grant.{Grant}
-use Rattle.pool_alloc.specs.declared.frame.Grant.TheVariants.{Instance as instance}
+use Rattle.pool_alloc.specs.declared.frame.Grant.TheVariants.{Instance as instance, Component as component, Stack as stack}
 use Rattle.pool_alloc.specs.declared.frame.Outcome.{Outcome}
 use Rattle.pool_alloc.specs.declared.frame.Outcome.TheVariants as answer
 use Rattle.pool_alloc.specs.declared.lease.InstanceLease.{InstanceLease}
-use Rattle.pool_run.specs.Turns.{Turned, leases_of, tables_of, one_step, ended_at_once, answered, after_step}
+use Rattle.pool_run.specs.Turns.{Turned, leases_of, tables_of, stack_of, one_step, ended_at_once, answered, after_step}
 use Rattle.pool_run.specs.Ties.{IsSoundParty}
 use Rattle.pool_run.specs.declared.reply.Reply.{Reply}
 use Rattle.pool_run.specs.declared.running_party.RunningParty.{RunningParty}
@@ -43,11 +45,15 @@ module _ {P : Type 0} where
   pub over_size : (Q : Settings → Plan → Type 0) (c d : PoolCore P) → IsSameSize c d → Q c.settings c.plan → Q d.settings d.plan
   over_size Q c d size is = subst (Q d.settings) (sym size.plan) (subst (λ (s : Settings). Q s c.plan) (sym size.settings) is)
 
-  granted_any : (maker : MakerTold) (s : Settings) (plan : Plan) (asked : Option ModuleAsked) (o : Option (Outcome P)) → IfGranted (IsGrantOf maker s plan asked) o → IfGranted (IsGrant maker s plan) o
+  granted_any : (maker : MakerTold) (s : Settings) (plan : Plan) (asked : Asked) (o : Option (Outcome P)) → IfGranted (IsGrantOf maker s plan asked) o → IfGranted (IsGrant maker s plan) o
   granted_any maker s plan asked None is = is
   granted_any maker s plan asked (Some answer.Key) is = is
   granted_any maker s plan asked (Some (answer.Granted (instance lease))) is = is.0
+  granted_any maker s plan asked (Some (answer.Granted component)) is = is
+  granted_any maker s plan asked (Some (answer.Granted (stack lease))) is = is.0
   granted_any maker s plan asked (Some answer.Returned) is = is
+  granted_any maker s plan asked (Some (answer.Purged n)) is = is
+  granted_any maker s plan asked (Some (answer.Released n)) is = is
   granted_any maker s plan asked (Some (answer.Refused e)) is = is
 
   answered_sound : (maker : MakerTold) (c : PoolCore P) (p : RunningParty P) (d : PoolCore P) (f : Frame P) (o : Option (Outcome P)) → All (λ g. IfSome g (IsGrant maker d.settings d.plan)) p.live → IsCore maker d → IsFrame maker d.settings d.plan f → IfGranted (IsGrant maker d.settings d.plan) o → IsSoundTurn maker (answered o d (record p { frame = f }))
@@ -55,6 +61,8 @@ module _ {P : Type 0} where
   answered_sound maker c p d f (Some answer.Key) live core frame granted = record { core = core; party = record { frame = frame; grants = live } }
   answered_sound maker c p d f (Some (answer.Granted grant)) live core frame granted = record { core = core; party = record { frame = frame; grants = All-set (λ g. IfSome g (IsGrant maker d.settings d.plan)) p.live p.done (Some grant) granted live } }
   answered_sound maker c p d f (Some answer.Returned) live core frame granted = record { core = core; party = record { frame = frame; grants = live } }
+  answered_sound maker c p d f (Some (answer.Purged n)) live core frame granted = record { core = core; party = record { frame = frame; grants = live } }
+  answered_sound maker c p d f (Some (answer.Released n)) live core frame granted = record { core = core; party = record { frame = frame; grants = live } }
   answered_sound maker c p d f (Some (answer.Refused e)) live core frame granted = record { core = core; party = record { frame = frame; grants = live } }
 
   -- A step leaves what is sound.
@@ -80,9 +88,19 @@ module _ {P : Type 0} where
 
   pub lease_held : (maker : MakerTold) (c : PoolCore P) (p : RunningParty P) (of k : ℕ) (grant : Grant P) (l : Lease) → IsSoundParty maker c p → slice_index_or p.live of None ≡ Some grant → slice_get (leases_of grant) k ≡ Some l → IsLeaseOf maker c.settings c.plan l
   lease_held maker c p of k (instance lease) l sound has there = lease_there maker c p of k lease l sound has there
+  lease_held maker c p of k component l sound has there = absurd cc
+  lease_held maker c p of k (stack lease) l sound has there = absurd cc
 
   pub table_held : (maker : MakerTold) (c : PoolCore P) (p : RunningParty P) (of k : ℕ) (grant : Grant P) (l : LeasedTable) → IsSoundParty maker c p → slice_index_or p.live of None ≡ Some grant → slice_get (tables_of grant) k ≡ Some l → IsTableLease maker c.settings c.plan l
   table_held maker c p of k (instance lease) l sound has there =
       let items : List LeasedTable = lease.tables.items in
       let L : LeasedTable → Type 0 = IsTableLease maker c.settings c.plan in
       subst L (get_or_from_slice_get items k l l there) (All-get_or L items k l (slice_get_within items k l there) (live_grant maker c.settings c.plan p.live of (instance lease) sound.grants has).1)
+  table_held maker c p of k component l sound has there = absurd cc
+  table_held maker c p of k (stack lease) l sound has there = absurd cc
+
+  pub stack_held : (maker : MakerTold) (c : PoolCore P) (p : RunningParty P) (of k : ℕ) (grant : Grant P) (l : LeasedStack) → IsSoundParty maker c p → slice_index_or p.live of None ≡ Some grant → slice_get (stack_of grant) k ≡ Some l → IsStackLease maker c.settings c.plan l
+  stack_held maker c p of k (instance lease) l sound has there = absurd cc
+  stack_held maker c p of k component l sound has there = absurd cc
+  stack_held maker c p of zero (stack lease) l sound has there = let same : lease ≡ l = cc in subst (IsStackLease maker c.settings c.plan) same (live_grant maker c.settings c.plan p.live of (stack lease) sound.grants has)
+  stack_held maker c p of (suc k) (stack lease) l sound has there = absurd cc

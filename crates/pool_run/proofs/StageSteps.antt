@@ -1,25 +1,32 @@
 -- How a step takes a party's call from one stage to another: what follows of the stages alone.
-use Rattle.std.proofs.Common.{◌≡◌, ℕ, ◌+◌, ◌≤◌, Bool, true, false, Option, Some, None, refl, ap, arith}
+use Rattle.std.proofs.Common.{◌≡◌, ℕ, ◌+◌, ◌<◌, ◌≤◌, ◌⊎◌, inl, inr, Bool, true, false, Option, Some, None, refl, ap, arith}
 use Rattle.std.specs.Prelude.{◌&&◌, not, is_some}
 use Rattle.pool_pages.specs.MakerTold.{MakerTold}
 use Rattle.pool_limits.specs.LimiterTold.{LimiterTold}
 use Rattle.pool_alloc.specs.Calls.{IfGranted}
-use Rattle.pool_alloc.specs.Places.{phase_instances}
-use Rattle.pool_alloc.specs.Stages.{Progress, untested, uncounted, admitted, Stage, no_call, keys, asks, returning, refusing, stage_by, stage_at, Follows, Goes}
-use Rattle.pool_alloc.specs.Stepping.{is_idle, count_granted, grant_instances}
-use Rattle.pool_alloc.specs.Objects.{objects_wanted}
+use Rattle.pool_alloc.specs.Places.{phase_instances, instances_for, phase_components}
+use Rattle.pool_alloc.specs.Stages.{Progress, untested, uncounted, admitted, Stage, no_call, keys, asks, returning, refusing, purging, reserving, releasing, stage_by, stage_of_release, stage_at, Follows, Goes, seeks_stack, tests_component, counts_component, stage_back, stage_of}
+use Rattle.pool_alloc.specs.Stepping.{is_idle, count_granted, grant_instances, grant_components}
+use Rattle.pool_alloc.specs.Objects.{objects_wanted, objects_in}
+use Rattle.pool_alloc.specs.Sound.{IsFrame, IsShapedAt}
+use Rattle.pool_slots.specs.declared.plan.Plan.{Plan}
+use Rattle.pool_alloc.specs.declared.pool_core.Settings.{Settings}
 use Rattle.pool_alloc.specs.declared.pool_core.PoolCore.{PoolCore}
+use Rattle.pool_alloc.specs.declared.frame.Asked.{Asked}
+use Rattle.pool_alloc.specs.declared.frame.Asked.TheVariants.{Stack as stack_asked}
 use Rattle.pool_alloc.specs.declared.frame.Ending.{Ending}
 use Rattle.pool_alloc.specs.declared.frame.Ending.TheVariants as ending
 use Rattle.pool_alloc.specs.declared.frame.Frame.{Frame}
-use Rattle.pool_alloc.specs.declared.frame.Grant.TheVariants.{Instance as instance}
+use Rattle.pool_alloc.specs.declared.frame.Grant.TheVariants.{Instance as instance, Component as component, Stack as stack}
 use Rattle.pool_alloc.specs.declared.frame.Outcome.{Outcome}
 use Rattle.pool_alloc.specs.declared.frame.Outcome.TheVariants as answer
 use Rattle.pool_alloc.specs.declared.frame.Phase.{Phase}
-use Rattle.pool_alloc.specs.declared.frame.Phase.TheVariants.{Idle, Key, Validate, CountInstance, CountObject}
+use Rattle.pool_alloc.specs.declared.frame.Phase.TheVariants.{Idle, Key, Validate, CountInstance, CountObject, Purge, Release, TestStack, ValidateComponent, CountComponent, UncountComponent}
+use Rattle.pool_alloc.specs.declared.release.ReleaseStep.{ReleaseStep}
+use Rattle.pool_alloc.specs.declared.release.ReleaseStep.TheVariants.{Reserve}
 use Rattle.pool_run.specs.Limits.{admitted_at}
 use Rattle.pool_run.specs.RunsMade.{is_drawing}
-use Rattle.pool_run.specs.Ties.{is_asking}
+use Rattle.pool_run.specs.Ties.{is_asking, is_for_objects}
 
 -- no call is under way
 abbrev pub is_none : Stage → Bool
@@ -32,55 +39,149 @@ settled_place s settled is = let no : is_asking s ≡ false = ap is_asking settl
 
 pub asking_some : (s : Stage) → is_asking s ≡ true → is_none s ≡ false
 asking_some (asks p) is = refl
+asking_some (tests_component info) is = refl
+asking_some counts_component is = refl
 asking_some _ is = absurd cc
 
-none_by : (e : Ending) (n : ℕ) → is_none (stage_by e n) ≡ false
-none_by ending.Granted n = refl
-none_by ending.Returned n = refl
-none_by (ending.Refused e) n = refl
+-- none is counted where none is
+none_for : (asked : Asked) → instances_for asked 0 ≡ 0
+none_for stack_asked = refl
+none_for _ = refl
 
-drawn_by : (e : Ending) (n : ℕ) → is_drawing (stage_by e n) ≡ false
-drawn_by ending.Granted n = refl
-drawn_by ending.Returned n = refl
-drawn_by (ending.Refused e) n = refl
+-- a request for an instance is one
+pub instance_asks : (s : Stage) → is_for_objects s ≡ true → is_asking s ≡ true
+instance_asks (asks p) is = refl
+instance_asks _ is = absurd cc
 
-admitted_by : (e : Ending) (n : ℕ) → admitted_at (stage_by e n) ≤ 1
-admitted_by ending.Granted n = omega arith
-admitted_by ending.Returned n = omega arith
-admitted_by (ending.Refused e) n = omega arith
+none_by : (asked : Asked) (e : Ending) (n : ℕ) → is_none (stage_by asked e n) ≡ false
+none_by asked ending.Granted n = refl
+none_by asked ending.Returned n = refl
+none_by asked (ending.Refused e) n = refl
 
-counted_by : (e : Ending) (n : ℕ) → stage_by e n ≡ asks uncounted → ⊥
-counted_by ending.Granted n is = absurd cc
-counted_by ending.Returned n is = absurd cc
-counted_by (ending.Refused e) n is = absurd cc
+drawn_by : (asked : Asked) (e : Ending) (n : ℕ) → is_drawing (stage_by asked e n) ≡ false
+drawn_by asked ending.Granted n = refl
+drawn_by asked ending.Returned n = refl
+drawn_by asked (ending.Refused e) n = refl
+
+back_counts : (e : Ending) → stage_back e ≡ counts_component → ⊥
+back_counts (ending.Refused e) is = absurd cc
+back_counts e is = absurd cc
+
+none_back : (e : Ending) → is_none (stage_back e) ≡ false
+none_back (ending.Refused e) = refl
+none_back e = refl
+
+admitted_back : (e : Ending) → admitted_at (stage_back e) ≡ 0
+admitted_back (ending.Refused e) = refl
+admitted_back e = refl
+
+counted_back : (e : Ending) → stage_back e ≡ asks uncounted → ⊥
+counted_back (ending.Refused e) is = absurd cc
+counted_back e is = absurd cc
+
+admitted_by : (asked : Asked) (e : Ending) (n : ℕ) → admitted_at (stage_by asked e n) ≤ instances_for asked 1
+admitted_by stack_asked ending.Granted n = omega arith
+admitted_by _ ending.Granted n = omega arith
+admitted_by asked ending.Returned n = omega arith
+admitted_by asked (ending.Refused e) n = omega arith
+
+counted_by : (asked : Asked) (e : Ending) (n : ℕ) → stage_by asked e n ≡ asks uncounted → ⊥
+counted_by stack_asked ending.Granted n is = absurd cc
+counted_by _ ending.Granted n is = absurd cc
+counted_by asked ending.Returned n is = absurd cc
+counted_by asked (ending.Refused e) n is = absurd cc
+
+seeks_by : (asked : Asked) (e : Ending) (n : ℕ) → stage_by asked e n ≡ asks seeks_stack → asked ≡ stack_asked
+seeks_by stack_asked e n is = refl
+seeks_by _ ending.Granted n is = absurd cc
+seeks_by _ ending.Returned n is = absurd cc
+seeks_by _ (ending.Refused e) n is = absurd cc
+
+seeks_back : (e : Ending) → stage_back e ≡ asks seeks_stack → ⊥
+seeks_back (ending.Refused e) is = absurd cc
+seeks_back e is = absurd cc
 
 module _ {P : Type 0} where
+  -- a release is under way, and asks for nothing
+  none_released : (step : ReleaseStep P) → is_none (stage_of_release step) ≡ false
+  none_released Reserve = refl
+  none_released _ = refl
+
+  released_none : (step : ReleaseStep P) → admitted_at (stage_of_release step) ≡ 0
+  released_none Reserve = refl
+  released_none _ = refl
+
   -- The stage says whether a call is under way,
-  pub none_idle : (phase : Phase P) (e : Ending) (n : ℕ) → is_none (stage_at phase e n) ≡ is_idle phase
-  none_idle Idle e n = refl
-  none_idle Key e n = refl
-  none_idle Validate e n = refl
-  none_idle CountInstance e n = refl
-  none_idle (CountObject object) e n = none_by e (n + 1)
-  none_idle _ e n = none_by e n
+  pub none_idle : (phase : Phase P) (asked : Asked) (e : Ending) (n : ℕ) → is_none (stage_at phase asked e n) ≡ is_idle phase
+  none_idle Idle asked e n = refl
+  none_idle Key asked e n = refl
+  none_idle Validate asked e n = refl
+  none_idle CountInstance asked e n = refl
+  none_idle TestStack asked e n = refl
+  none_idle (ValidateComponent info) asked e n = refl
+  none_idle CountComponent asked e n = refl
+  none_idle UncountComponent asked e n = none_back e
+  none_idle (Purge p step) asked e n = refl
+  none_idle (Release step) asked e n = none_released step
+  none_idle (CountObject object) asked e n = none_by asked e (n + 1)
+  none_idle _ asked e n = none_by asked e n
 
   -- and a call that was admitted has counted its instance,
-  pub admitted_counts : (phase : Phase P) (e : Ending) (n : ℕ) → admitted_at (stage_at phase e n) ≤ phase_instances phase
-  admitted_counts Idle e n = omega arith
-  admitted_counts Key e n = omega arith
-  admitted_counts Validate e n = omega arith
-  admitted_counts CountInstance e n = omega arith
-  admitted_counts (CountObject object) e n = omega (arith, admitted_by e (n + 1))
-  admitted_counts _ e n = omega (arith, admitted_by e n)
+  pub admitted_counts : (phase : Phase P) (asked : Asked) (e : Ending) (n : ℕ) → admitted_at (stage_at phase asked e n) ≤ instances_for asked (phase_instances phase)
+  admitted_counts Idle asked e n = omega arith
+  admitted_counts Key asked e n = omega arith
+  admitted_counts Validate asked e n = omega arith
+  admitted_counts CountInstance asked e n = omega arith
+  admitted_counts TestStack asked e n = omega arith
+  admitted_counts (ValidateComponent info) asked e n = omega arith
+  admitted_counts CountComponent asked e n = omega arith
+  admitted_counts UncountComponent asked e n = omega (arith, admitted_back e)
+  admitted_counts (Purge p step) asked e n = omega arith
+  admitted_counts (Release step) asked e n = omega (arith, released_none step)
+  admitted_counts (CountObject object) asked e n = omega (arith, admitted_by asked e (n + 1))
+  admitted_counts _ asked e n = omega (arith, admitted_by asked e n)
 
   -- and one that isn't counted yet hasn't.
-  pub uncounted_none : (phase : Phase P) (e : Ending) (n : ℕ) → stage_at phase e n ≡ asks uncounted → phase_instances phase ≡ 0
-  uncounted_none Idle e n is = refl
-  uncounted_none Key e n is = refl
-  uncounted_none Validate e n is = refl
-  uncounted_none CountInstance e n is = refl
-  uncounted_none (CountObject object) e n is = absurd (counted_by e (n + 1) is)
-  uncounted_none _ e n is = absurd (counted_by e n is)
+  pub uncounted_none : (phase : Phase P) (asked : Asked) (e : Ending) (n : ℕ) → stage_at phase asked e n ≡ asks uncounted → instances_for asked (phase_instances phase) ≡ 0
+  uncounted_none Idle asked e n is = none_for asked
+  uncounted_none Key asked e n is = none_for asked
+  uncounted_none Validate asked e n is = none_for asked
+  uncounted_none CountInstance asked e n is = none_for asked
+  uncounted_none TestStack asked e n is = none_for asked
+  uncounted_none (ValidateComponent info) asked e n is = none_for asked
+  uncounted_none CountComponent asked e n is = none_for asked
+  uncounted_none UncountComponent asked e n is = absurd (counted_back e is)
+  uncounted_none (Purge p step) asked e n is = none_for asked
+  uncounted_none (Release step) asked e n is = none_for asked
+  uncounted_none (CountObject object) asked e n is = absurd (counted_by asked e (n + 1) is)
+  uncounted_none _ asked e n is = absurd (counted_by asked e n is)
+
+  -- So it is with a component.
+  pub uncounted_component : (phase : Phase P) (asked : Asked) (e : Ending) (n : ℕ) → stage_at phase asked e n ≡ counts_component → phase_components phase ≡ 0
+  uncounted_component UncountComponent asked e n is = absurd (back_counts e is)
+  uncounted_component _ asked e n is = refl
+
+  seeks_released : (step : ReleaseStep P) → stage_of_release step ≡ asks seeks_stack → ⊥
+  seeks_released Reserve is = absurd cc
+  seeks_released _ is = absurd cc
+
+  -- A call that seeks a stack asks for one.
+  seeks_at : (maker : MakerTold) (s : Settings) (plan : Plan) (phase : Phase P) (f : Frame P) → IsShapedAt maker s plan phase f → stage_at phase f.asked f.ending (objects_in f.objects) ≡ asks seeks_stack → f.asked ≡ stack_asked
+  seeks_at maker s plan Idle f shape is = absurd cc
+  seeks_at maker s plan Key f shape is = absurd cc
+  seeks_at maker s plan Validate f shape is = absurd cc
+  seeks_at maker s plan TestStack f shape is = shape.1.2
+  seeks_at maker s plan CountInstance f shape is = absurd cc
+  seeks_at maker s plan (ValidateComponent info) f shape is = absurd cc
+  seeks_at maker s plan CountComponent f shape is = absurd cc
+  seeks_at maker s plan UncountComponent f shape is = absurd (seeks_back f.ending is)
+  seeks_at maker s plan (Purge p step) f shape is = absurd cc
+  seeks_at maker s plan (Release step) f shape is = absurd (seeks_released step is)
+  seeks_at maker s plan (CountObject object) f shape is = seeks_by f.asked f.ending (objects_in f.objects + 1) is
+  seeks_at maker s plan _ f shape is = seeks_by f.asked f.ending (objects_in f.objects) is
+
+  pub stack_is_asked : (maker : MakerTold) (c : PoolCore P) (f : Frame P) → IsFrame maker c.settings c.plan f → stage_of f ≡ asks seeks_stack → f.asked ≡ stack_asked
+  stack_is_asked maker c f frame is = seeks_at maker c.settings c.plan f.phase f frame.shape is
 
   abbrev pub is_key : Option (Outcome P) → Bool
   is_key (Some answer.Key) = true
@@ -91,6 +192,11 @@ module _ {P : Type 0} where
   place_granted Q b (Some (answer.Granted grant)) place is = place is
   place_granted Q b _ place is = tt
 
+  -- this holds where an instance is granted
+  abbrev pub IfInstance : Type 0 → Option (Outcome P) → Type 0
+  IfInstance Q (Some (answer.Granted (instance lease))) = Q
+  IfInstance Q _ = Unit {0}
+
   -- A step answers where it ends the call. A request is granted or goes on only where one was under way, and only a call
   -- for the stripe answers with it, which no step leads to.
   pub record IsStagedStep (s t : Stage) (o : Option (Outcome P)) : Type 0 where
@@ -98,8 +204,14 @@ module _ {P : Type 0} where
     pub settled : is_some o ≡ true → t ≡ no_call
     pub asking : is_asking t ≡ true → is_asking s ≡ true
     pub granted : IfGranted (λ g. is_asking s ≡ true) o
+    pub for_it : is_for_objects t ≡ true → is_for_objects s ≡ true
+    pub instance_granted : IfInstance (is_for_objects s ≡ true) o
     pub drawn : is_drawing t ≡ false
     pub key : is_key o ≡ is_drawing s
+
+  -- A component is granted only where fewer are counted than there may be.
+  abbrev pub MayGrant : PoolCore P → Option (Outcome P) → Type 0
+  MayGrant c o = (count_granted grant_components o ≡ 0) ⊎ ((count_granted grant_components o ≡ 1) × (c.counters.component_instances < c.settings.max_component_instances))
 
   -- No more is admitted than others and the limit leave room for.
   pub record Admits (others most : ℕ) (t : Stage) (o : Option (Outcome P)) : Type 0 where
@@ -107,21 +219,59 @@ module _ {P : Type 0} where
 
 module _ {P : Type 0} (maker : MakerTold) (old new : LimiterTold) (c : PoolCore P) (f : Frame P) where
   pub staged : (s t : Stage) (o : Option (Outcome P)) → Goes maker old new c f s t o → IsStagedStep s t o
-  staged no_call no_call None goes = record { answer = refl; settled = λ e. refl; asking = λ e. e; granted = tt; drawn = refl; key = refl }
-  staged keys no_call (Some answer.Key) goes = record { answer = refl; settled = λ e. refl; asking = λ e. absurd cc; granted = tt; drawn = refl; key = refl }
-  staged (asks p) (asks q) None goes = record { answer = refl; settled = λ e. absurd cc; asking = λ e. refl; granted = tt; drawn = refl; key = refl }
-  staged (asks p) (refusing e) None goes = record { answer = refl; settled = λ e. absurd cc; asking = λ e. absurd cc; granted = tt; drawn = refl; key = refl }
-  staged (asks untested) no_call (Some (answer.Refused e)) goes = record { answer = refl; settled = λ e. refl; asking = λ e. absurd cc; granted = tt; drawn = refl; key = refl }
-  staged (asks p) no_call (Some (answer.Granted grant)) goes = record { answer = refl; settled = λ e. refl; asking = λ e. absurd cc; granted = refl; drawn = refl; key = refl }
-  staged returning returning None goes = record { answer = refl; settled = λ e. absurd cc; asking = λ e. absurd cc; granted = tt; drawn = refl; key = refl }
-  staged returning no_call (Some answer.Returned) goes = record { answer = refl; settled = λ e. refl; asking = λ e. absurd cc; granted = tt; drawn = refl; key = refl }
-  staged (refusing e) (refusing d) None goes = record { answer = refl; settled = λ e. absurd cc; asking = λ e. absurd cc; granted = tt; drawn = refl; key = refl }
-  staged (refusing e) no_call (Some (answer.Refused d)) goes = record { answer = refl; settled = λ e. refl; asking = λ e. absurd cc; granted = tt; drawn = refl; key = refl }
+  staged no_call no_call None goes = record { answer = refl; settled = λ e. refl; asking = λ e. e; granted = tt; for_it = λ e. absurd cc; instance_granted = tt; drawn = refl; key = refl }
+  staged keys no_call (Some answer.Key) goes = record { answer = refl; settled = λ e. refl; asking = λ e. absurd cc; granted = tt; for_it = λ e. absurd cc; instance_granted = tt; drawn = refl; key = refl }
+  staged (asks p) (asks q) None goes = record { answer = refl; settled = λ e. absurd cc; asking = λ e. refl; granted = tt; for_it = λ e. refl; instance_granted = tt; drawn = refl; key = refl }
+  staged (asks p) (refusing e) None goes = record { answer = refl; settled = λ e. absurd cc; asking = λ e. absurd cc; granted = tt; for_it = λ e. absurd cc; instance_granted = tt; drawn = refl; key = refl }
+  staged (asks untested) no_call (Some (answer.Refused e)) goes = record { answer = refl; settled = λ e. refl; asking = λ e. absurd cc; granted = tt; for_it = λ e. absurd cc; instance_granted = tt; drawn = refl; key = refl }
+  staged (asks p) no_call (Some (answer.Granted (instance lease))) goes = record { answer = refl; settled = λ e. refl; asking = λ e. absurd cc; granted = refl; for_it = λ e. absurd cc; instance_granted = refl; drawn = refl; key = refl }
+  staged (asks p) no_call (Some (answer.Granted (stack lease))) goes = record { answer = refl; settled = λ e. refl; asking = λ e. absurd cc; granted = refl; for_it = λ e. absurd cc; instance_granted = tt; drawn = refl; key = refl }
+  staged (asks seeks_stack) no_call (Some (answer.Refused e)) goes = record { answer = refl; settled = λ e. refl; asking = λ e. absurd cc; granted = tt; for_it = λ e. absurd cc; instance_granted = tt; drawn = refl; key = refl }
+  staged (tests_component info) counts_component None goes = record { answer = refl; settled = λ e. absurd cc; asking = λ e. refl; granted = tt; for_it = λ e. absurd cc; instance_granted = tt; drawn = refl; key = refl }
+  staged (tests_component info) no_call (Some (answer.Refused e)) goes = record { answer = refl; settled = λ e. refl; asking = λ e. absurd cc; granted = tt; for_it = λ e. absurd cc; instance_granted = tt; drawn = refl; key = refl }
+  staged counts_component no_call (Some (answer.Granted component)) goes = record { answer = refl; settled = λ e. refl; asking = λ e. absurd cc; granted = refl; for_it = λ e. absurd cc; instance_granted = tt; drawn = refl; key = refl }
+  staged counts_component (refusing e) None goes = record { answer = refl; settled = λ e. absurd cc; asking = λ e. absurd cc; granted = tt; for_it = λ e. absurd cc; instance_granted = tt; drawn = refl; key = refl }
+  staged returning returning None goes = record { answer = refl; settled = λ e. absurd cc; asking = λ e. absurd cc; granted = tt; for_it = λ e. absurd cc; instance_granted = tt; drawn = refl; key = refl }
+  staged returning no_call (Some answer.Returned) goes = record { answer = refl; settled = λ e. refl; asking = λ e. absurd cc; granted = tt; for_it = λ e. absurd cc; instance_granted = tt; drawn = refl; key = refl }
+  staged (refusing e) (refusing d) None goes = record { answer = refl; settled = λ e. absurd cc; asking = λ e. absurd cc; granted = tt; for_it = λ e. absurd cc; instance_granted = tt; drawn = refl; key = refl }
+  staged (refusing e) no_call (Some (answer.Refused d)) goes = record { answer = refl; settled = λ e. refl; asking = λ e. absurd cc; granted = tt; for_it = λ e. absurd cc; instance_granted = tt; drawn = refl; key = refl }
+  staged purging purging None goes = record { answer = refl; settled = λ e. absurd cc; asking = λ e. absurd cc; granted = tt; for_it = λ e. absurd cc; instance_granted = tt; drawn = refl; key = refl }
+  staged purging no_call (Some (answer.Purged n)) goes = record { answer = refl; settled = λ e. refl; asking = λ e. absurd cc; granted = tt; for_it = λ e. absurd cc; instance_granted = tt; drawn = refl; key = refl }
+  staged reserving releasing None goes = record { answer = refl; settled = λ e. absurd cc; asking = λ e. absurd cc; granted = tt; for_it = λ e. absurd cc; instance_granted = tt; drawn = refl; key = refl }
+  staged reserving no_call (Some (answer.Refused e)) goes = record { answer = refl; settled = λ e. refl; asking = λ e. absurd cc; granted = tt; for_it = λ e. absurd cc; instance_granted = tt; drawn = refl; key = refl }
+  staged releasing releasing None goes = record { answer = refl; settled = λ e. absurd cc; asking = λ e. absurd cc; granted = tt; for_it = λ e. absurd cc; instance_granted = tt; drawn = refl; key = refl }
+  staged releasing no_call (Some (answer.Released n)) goes = record { answer = refl; settled = λ e. refl; asking = λ e. absurd cc; granted = tt; for_it = λ e. absurd cc; instance_granted = tt; drawn = refl; key = refl }
   staged _ _ _ goes = absurd goes
+
+  pub may_grant : (s t : Stage) (o : Option (Outcome P)) → Goes maker old new c f s t o → MayGrant c o
+  may_grant no_call no_call None goes = inl refl
+  may_grant keys no_call (Some answer.Key) goes = inl refl
+  may_grant (asks p) (asks q) None goes = inl refl
+  may_grant (asks p) (refusing e) None goes = inl refl
+  may_grant (asks untested) no_call (Some (answer.Refused e)) goes = inl refl
+  may_grant (asks p) no_call (Some (answer.Granted (instance lease))) goes = inl refl
+  may_grant (asks p) no_call (Some (answer.Granted (stack lease))) goes = inl refl
+  may_grant (asks seeks_stack) no_call (Some (answer.Refused e)) goes = inl refl
+  may_grant (tests_component info) counts_component None goes = inl refl
+  may_grant (tests_component info) no_call (Some (answer.Refused e)) goes = inl refl
+  may_grant counts_component no_call (Some (answer.Granted component)) goes = inr (refl, goes)
+  may_grant counts_component (refusing e) None goes = inl refl
+  may_grant returning returning None goes = inl refl
+  may_grant returning no_call (Some answer.Returned) goes = inl refl
+  may_grant (refusing e) (refusing d) None goes = inl refl
+  may_grant (refusing e) no_call (Some (answer.Refused d)) goes = inl refl
+  may_grant purging purging None goes = inl refl
+  may_grant purging no_call (Some (answer.Purged n)) goes = inl refl
+  may_grant reserving releasing None goes = inl refl
+  may_grant reserving no_call (Some (answer.Refused e)) goes = inl refl
+  may_grant releasing releasing None goes = inl refl
+  may_grant releasing no_call (Some (answer.Released n)) goes = inl refl
+  may_grant _ _ _ goes = absurd goes
 
   granted_within : (others n : ℕ) (p : Progress) → Follows old new c f p (admitted n) → others + admitted_at (asks p) ≤ c.settings.max_core_instances → others ≤ c.counters.core_instances → others + 1 ≤ c.settings.max_core_instances
   granted_within others n untested follows within counted = absurd follows
   granted_within others n uncounted follows within counted = omega (arith, follows.1, counted)
+  granted_within others n seeks_stack follows within counted = absurd follows
   granted_within others n (admitted m) follows within counted = omega (arith, within)
 
   followed_within : (others : ℕ) (p q : Progress) → Follows old new c f p q → others + admitted_at (asks p) ≤ c.settings.max_core_instances → others ≤ c.counters.core_instances → others + admitted_at (asks q) ≤ c.settings.max_core_instances
@@ -135,8 +285,20 @@ module _ {P : Type 0} (maker : MakerTold) (old new : LimiterTold) (c : PoolCore 
   admits others (asks p) (refusing e) None goes within counted = record { within = omega (arith, within) }
   admits others (asks untested) no_call (Some (answer.Refused e)) goes within counted = record { within = omega (arith, within) }
   admits others (asks p) no_call (Some (answer.Granted (instance lease))) goes within counted = record { within = omega (arith, granted_within others (objects_wanted f.asked) p goes.0 within counted) }
+  admits others (asks p) no_call (Some (answer.Granted (stack lease))) goes within counted = record { within = omega (arith, within) }
+  admits others (asks seeks_stack) no_call (Some (answer.Refused e)) goes within counted = record { within = omega (arith, within) }
+  admits others (tests_component info) counts_component None goes within counted = record { within = omega (arith, within) }
+  admits others (tests_component info) no_call (Some (answer.Refused e)) goes within counted = record { within = omega (arith, within) }
+  admits others counts_component no_call (Some (answer.Granted component)) goes within counted = record { within = omega (arith, within) }
+  admits others counts_component (refusing e) None goes within counted = record { within = omega (arith, within) }
   admits others returning returning None goes within counted = record { within = omega (arith, within) }
   admits others returning no_call (Some answer.Returned) goes within counted = record { within = omega (arith, within) }
   admits others (refusing e) (refusing d) None goes within counted = record { within = omega (arith, within) }
   admits others (refusing e) no_call (Some (answer.Refused d)) goes within counted = record { within = omega (arith, within) }
+  admits others purging purging None goes within counted = record { within = omega (arith, within) }
+  admits others purging no_call (Some (answer.Purged n)) goes within counted = record { within = omega (arith, within) }
+  admits others reserving releasing None goes within counted = record { within = omega (arith, within) }
+  admits others reserving no_call (Some (answer.Refused e)) goes within counted = record { within = omega (arith, within) }
+  admits others releasing releasing None goes within counted = record { within = omega (arith, within) }
+  admits others releasing no_call (Some (answer.Released n)) goes within counted = record { within = omega (arith, within) }
   admits others _ _ _ goes within counted = absurd goes

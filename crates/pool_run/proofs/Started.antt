@@ -7,7 +7,7 @@ use Rattle.std.proofs.lemmas.List.Sums.{sum_by-cons}
 use Rattle.pool_pages.specs.MakerTold.{MakerTold}
 use Rattle.pool_alloc.specs.Calls.{frame_made, IsGrant}
 use Rattle.pool_alloc.specs.Sound.{IsCore}
-use Rattle.pool_alloc.specs.Stepping.{grant_count, grant_instances, grant_memories, grant_tables}
+use Rattle.pool_alloc.specs.Stepping.{grant_count, grant_instances, grant_components, grant_stacks, grant_memories, grant_tables}
 use Rattle.pool_alloc.specs.Whole.{IsUntouched}
 use Rattle.pool_alloc.proofs.Untouched.{HasNothing}
 use Rattle.pool_alloc.specs.declared.pool_core.PoolCore.{PoolCore}
@@ -15,12 +15,12 @@ use Rattle.pool_alloc.specs.declared.pool_core.Settings.{Settings}
 use Rattle.pool_alloc.specs.declared.frame.Frame.{Frame}
 use Rattle.pool_alloc.specs.declared.frame.Grant.{Grant}
 use Rattle.pool_alloc.specs.Asked.{ModuleAsked}
-use Rattle.pool_alloc.proofs.BegunCalls.{made_frame, made_count, made_instances, made_memories, made_tables}
+use Rattle.pool_alloc.proofs.BegunCalls.{made_frame, made_count, made_instances, made_components, made_stacks, made_memories, made_tables}
 use Rattle.pool_alloc.proofs.Untouched.{untouched_is_whole, none_away, none_kept}
 use Rattle.pool_run.specs.PartyRules.{host_of}
 use Rattle.pool_table.specs.declared.gc_store.ListedStore.{ListedStore}
 use Rattle.pool_run.specs.Private.{Grants, no_grants}
-use Rattle.pool_run.specs.Rooms.{World, under}
+use Rattle.pool_run.specs.Rooms.{World, under, in_stripe}
 use Rattle.pool_run.specs.declared.input.PartyLimits.{PartyLimits}
 use Rattle.pool_run.specs.Turns.{grants_of, host_of_party}
 use Rattle.pool_run.specs.Ties.{IsAlone, granted_to, held_by_party, IsParty, IsPrivate, IsRunning}
@@ -80,8 +80,10 @@ party_has_nothing : (P : Type 0) (home : ℕ) (limits : Option PartyLimits) (fai
 party_has_nothing P home limits failing s n = record {
   places = λ t. omega (arith, made_count P t home s, none_live {P = P} (grant_count t) n);
   instances = omega (arith, made_instances P home s, none_live {P = P} grant_instances n);
+  components = omega (arith, made_components P home s, none_live {P = P} grant_components n);
   memories = omega (arith, made_memories P home s, none_live {P = P} grant_memories n);
   tables = omega (arith, made_tables P home s, none_live {P = P} grant_tables n);
+  stacks = omega (arith, made_stacks P home s, none_live {P = P} grant_stacks n);
 }
 
 -- and was told nothing.
@@ -121,13 +123,14 @@ module _ {P : Type 0} where
       record {
         places = λ t. omega (arith, none_away t c untouched, none_kept t c untouched, nothing.places t);
         instances = omega (arith, untouched.instances, nothing.instances);
+        components = omega (arith, untouched.components, nothing.components);
         searched = tt;
       }
 
   run_to_start : (w : World) (s : Settings) (commands : List Command) (p : RunningParty P) → IsMadeParty s (length commands) p → IsRunTo w commands [] p
   run_to_start w s commands p made =
       let To : RunningParty P → Type 0 = λ q. IsRunTo w commands [] q in
-      let first : To (party_made made.home made.limits made.failing s (length commands)) = record { room = length-replicate {A = Option (Grant P)} (length commands) None; private = party_is_private P (under (host_of made.limits made.failing) w) commands made.home made.limits made.failing s } in
+      let first : To (party_made made.home made.limits made.failing s (length commands)) = record { room = length-replicate {A = Option (Grant P)} (length commands) None; private = party_is_private P (in_stripe 0 (under (host_of made.limits made.failing) w)) commands made.home made.limits made.failing s; fresh = λ keyed. (refl, refl); drawn = refl } in
       subst To (sym (is_party_made s (length commands) p made)) first
 
   pub run_started : (w : World) (modules : List ModuleAsked) (inputs : List (List Command)) (c : PoolCore P) (parties : List (RunningParty P)) → IsCore w.maker c → IsUntouched c → IsWorldOf w c → AreCallsFor w.terms c.settings modules → AreMade c.settings inputs parties → map host_of_party parties ≡ w.hosts → (w.alone ≡ true → length parties ≡ 1) → IsUnderWay w modules inputs (record { core = c; modules = modules; parties = parties; replies = replicate (length parties) [] })
@@ -135,7 +138,7 @@ module _ {P : Type 0} where
       let running : IsRunning w.maker c parties = started_running w.maker c inputs parties core untouched made in
       let within : IsWithinCounts c parties = made_within c parties untouched running.whole in
       record {
-        holds = record { running = running; instances = live_within c parties within };
+        holds = record { running = running; instances = live_within c parties within; components = within.components };
         within = within;
         given = refl;
         world = world;

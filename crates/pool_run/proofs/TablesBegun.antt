@@ -17,7 +17,7 @@ use Rattle.pool_alloc.specs.declared.pool_core.Settings.{Settings}
 use Rattle.pool_run.specs.Private.{Terms, begun_table}
 use Rattle.pool_run.specs.PrivateTables.{PrivateTable}
 use Rattle.pool_run.specs.Turns.{private_table}
-use Rattle.pool_run.proofs.Bytes.{told_if}
+use Rattle.pool_run.proofs.HeldSlots.{told_if}
 
 -- what is told of where contents are told
 told_of_contents : {X : Type 0} (o : Option Contents) (x : X) (tells : Bool) → is_some o ≡ tells → option_map (λ c. x) o ≡ (if tells then Some x else None)

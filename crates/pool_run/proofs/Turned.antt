@@ -15,18 +15,20 @@ use Rattle.pool_alloc.specs.declared.frame.Phase.{Phase}
 use Rattle.pool_table.specs.declared.gc_store.ListedStore.{ListedStore}
 use Rattle.pool_run.specs.Rooms.{World}
 use Rattle.pool_run.specs.PartyRules.{host_of}
-use Rattle.pool_run.specs.Turns.{Turned, host_of_party, one_step, ended_at_once, answered, Steps, Turns, Opening, rests, replies, makes_step, Leaves}
+use Rattle.pool_run.specs.Turns.{Turned, host_of_party, one_step, ended_with, ended_at_once, answered, Steps, Turns, Opening, rests, replies, makes_step, Leaves}
 use Rattle.pool_run.specs.Ties.{CanTurn, is_asking}
 use Rattle.pool_run.proofs.Sounds.{reply_sound, step_sound, IsSoundTurn}
 use Rattle.pool_run.specs.Worlds.{AreCallsFor}
 use Rattle.pool_run.specs.declared.command.Command.{Command}
 use Rattle.pool_run.specs.declared.reply.Reply.{Reply}
+use Rattle.pool_run.specs.declared.reply.Reply.TheVariants.{Returned, Purged, Released, Refused}
+use Rattle.pool_run.specs.declared.reply.Refusal.TheVariants.{Alloc}
 use Rattle.pool_run.specs.declared.running_party.RunningParty.{RunningParty}
 use Rattle.pool_run.proofs.Parties.{can_step}
 use Rattle.std.proofs.lemmas.List.{length-set, get_or-set_other}
 use Rattle.std.proofs.lemmas.List.Sums.{sum_by-set}
 use Rattle.pool_alloc.specs.Places.{Thing, kept_count, away_count}
-use Rattle.pool_alloc.specs.Stepping.{Conserves, IsSameSize, grant_count, grant_instances, grant_memories, grant_tables}
+use Rattle.pool_alloc.specs.Stepping.{count_granted, Conserves, IsSameSize, grant_count, grant_instances, grant_memories, grant_tables, grant_stacks, grant_components}
 use Rattle.pool_run.specs.Ties.{granted_to, held_by_party}
 use Rattle.pool_run.proofs.Parties.{HaveSame}
 use Rattle.pool_run.proofs.Opened.{IsOpened, opened}
@@ -41,8 +43,10 @@ module _ {P : Type 0} where
   pub record HasTurned (c : PoolCore P) (p : RunningParty P) (t : Turned P) : Type 0 where
     pub places : (x : Thing) → kept_count x t.core + (held_by_party t.party).places x + away_count x c ≡ kept_count x c + (held_by_party p).places x + away_count x t.core
     pub instances : t.core.counters.core_instances + (held_by_party p).instances ≡ c.counters.core_instances + (held_by_party t.party).instances
+    pub components : t.core.counters.component_instances + (held_by_party p).components ≡ c.counters.component_instances + (held_by_party t.party).components
     pub memories : t.core.counters.memories + (held_by_party p).memories ≡ c.counters.memories + (held_by_party t.party).memories
     pub tables : t.core.counters.tables + (held_by_party p).tables ≡ c.counters.tables + (held_by_party t.party).tables
+    pub stacks : t.core.counters.stacks + (held_by_party p).stacks ≡ c.counters.stacks + (held_by_party t.party).stacks
     pub size : IsSameSize c t.core
     pub room : length t.party.live ≡ length p.live
     pub host : host_of_party t.party ≡ host_of_party p
@@ -55,20 +59,22 @@ module _ {P : Type 0} where
 
   -- Nothing happened.
   stayed : (c : PoolCore P) (p : RunningParty P) → ((k : ℕ) → p.done ≤ k → slice_index_or p.live k None ≡ None) → (is_asking (stage_of p.frame) ≡ true → p.done < length p.live) → HasTurned c p (record { core = c; party = p; reply = None })
-  stayed c p to_come place = record { places = λ x. refl; instances = refl; memories = refl; tables = refl; size = same_size c; room = refl; host = refl; to_come = to_come; place = place; searched = λ s. s }
+  stayed c p to_come place = record { places = λ x. refl; instances = refl; components = refl; memories = refl; tables = refl; stacks = refl; size = same_size c; room = refl; host = refl; to_come = to_come; place = place; searched = λ s. s }
 
   -- A command ended at once, and the party has the same of the pool.
   ended : (c : PoolCore P) (p : RunningParty P) (live : List (Option (Grant P))) (store : ListedStore) (reply : Reply) → HaveSame p (record p { live = live }) → length live ≡ length p.live → ((k : ℕ) → p.done ≤ k → slice_index_or live k None ≡ None) → IsIdle p.frame → store.failing ≡ p.store.failing → HasTurned c p (ended_at_once reply c (record p { live = live; store = store }))
   ended c p live store reply same room to_come idle listed = record {
     places = λ x. omega (arith, same.places x);
     instances = omega (arith, same.instances);
+    components = omega (arith, same.components);
     memories = omega (arith, same.memories);
     tables = omega (arith, same.tables);
+    stacks = omega (arith, same.stacks);
     size = same_size c;
     room = room;
     host = ap (host_of p.limits) listed;
     to_come = λ k behind. to_come k (omega (arith, behind));
-    place = λ is. settled_place (stage_of p.frame) (ap (λ (phase : Phase P). stage_at phase p.frame.ending (objects_in p.frame.objects)) idle) is;
+    place = λ is. settled_place (stage_of p.frame) (ap (λ (phase : Phase P). stage_at phase p.frame.asked p.frame.ending (objects_in p.frame.objects)) idle) is;
     searched = λ s. let S : Phase P → Type 0 = λ phase. IsSearchedAt phase c (one_step p.frame) in subst S (sym idle) tt;
   }
 
@@ -78,12 +84,31 @@ module _ {P : Type 0} where
       let here : granted_to of (slice_index_or live i None) ≡ 0 = ap (granted_to of) none in
       omega (arith, sum_by-set (granted_to of) live i (Some grant) None inside)
 
+  -- a call that ended with no grant
+  told_turned : (reply : Reply) (o : Outcome P) (c : PoolCore P) (p : RunningParty P) (d : PoolCore P) (f : Frame P) → ((of : Grant P → ℕ) → count_granted of (Some o) ≡ 0) → ((k : ℕ) → p.done ≤ k → slice_index_or p.live k None ≡ None) → Conserves c p.frame (record { core = d; frame = f; outcome = Some o }) → IsSameSize c d → IsStagedStep (stage_of p.frame) (stage_of f) (Some o) → (IsSearched c p.frame → IsSearched d f) → HasTurned c p (ended_with reply d (record p { frame = f }))
+  told_turned reply o c p d f none to_come b size staged after = record {
+    places = λ x. omega (arith, b.places x, none (grant_count x));
+    instances = omega (arith, b.instances, none grant_instances);
+    components = omega (arith, b.components, none grant_components);
+    memories = omega (arith, b.memories, none grant_memories);
+    tables = omega (arith, b.tables, none grant_tables);
+    stacks = omega (arith, b.stacks, none grant_stacks);
+    size = size;
+    room = refl;
+    host = refl;
+    to_come = λ k behind. to_come k (omega (arith, behind));
+    place = λ is. settled_place (stage_of f) (staged.settled refl) is;
+    searched = after;
+  }
+
   answered_turned : (c : PoolCore P) (p : RunningParty P) (d : PoolCore P) (f : Frame P) (o : Option (Outcome P)) → ((k : ℕ) → p.done ≤ k → slice_index_or p.live k None ≡ None) → Conserves c p.frame (record { core = d; frame = f; outcome = o }) → IsSameSize c d → IsStagedStep (stage_of p.frame) (stage_of f) o → (is_asking (stage_of p.frame) ≡ true → p.done < length p.live) → (IsSearched c p.frame → IsSearched d f) → HasTurned c p (answered o d (record p { frame = f }))
   answered_turned c p d f None to_come b size staged place after = record {
     places = λ x. omega (arith, b.places x);
     instances = omega (arith, b.instances);
+    components = omega (arith, b.components);
     memories = omega (arith, b.memories);
     tables = omega (arith, b.tables);
+    stacks = omega (arith, b.stacks);
     size = size;
     room = refl;
     host = refl;
@@ -94,8 +119,10 @@ module _ {P : Type 0} where
   answered_turned c p d f (Some answer.Key) to_come b size staged place after = record {
     places = λ x. omega (arith, b.places x);
     instances = omega (arith, b.instances);
+    components = omega (arith, b.components);
     memories = omega (arith, b.memories);
     tables = omega (arith, b.tables);
+    stacks = omega (arith, b.stacks);
     size = size;
     room = refl;
     host = refl;
@@ -108,8 +135,10 @@ module _ {P : Type 0} where
       record {
         places = λ x. omega (arith, b.places x, more (grant_count x) p.live p.done grant (place staged.granted) none);
         instances = omega (arith, b.instances, more grant_instances p.live p.done grant (place staged.granted) none);
+        components = omega (arith, b.components, more grant_components p.live p.done grant (place staged.granted) none);
         memories = omega (arith, b.memories, more grant_memories p.live p.done grant (place staged.granted) none);
         tables = omega (arith, b.tables, more grant_tables p.live p.done grant (place staged.granted) none);
+        stacks = omega (arith, b.stacks, more grant_stacks p.live p.done grant (place staged.granted) none);
         size = size;
         room = length-set p.live p.done (Some grant);
         host = refl;
@@ -117,30 +146,10 @@ module _ {P : Type 0} where
         place = λ is. settled_place (stage_of f) (staged.settled refl) is;
         searched = after;
       }
-  answered_turned c p d f (Some answer.Returned) to_come b size staged place after = record {
-    places = λ x. omega (arith, b.places x);
-    instances = omega (arith, b.instances);
-    memories = omega (arith, b.memories);
-    tables = omega (arith, b.tables);
-    size = size;
-    room = refl;
-    host = refl;
-    to_come = λ k behind. to_come k (omega (arith, behind));
-    place = λ is. settled_place (stage_of f) (staged.settled refl) is;
-    searched = after;
-  }
-  answered_turned c p d f (Some (answer.Refused e)) to_come b size staged place after = record {
-    places = λ x. omega (arith, b.places x);
-    instances = omega (arith, b.instances);
-    memories = omega (arith, b.memories);
-    tables = omega (arith, b.tables);
-    size = size;
-    room = refl;
-    host = refl;
-    to_come = λ k behind. to_come k (omega (arith, behind));
-    place = λ is. settled_place (stage_of f) (staged.settled refl) is;
-    searched = after;
-  }
+  answered_turned c p d f (Some answer.Returned) to_come b size staged place after = told_turned Returned answer.Returned c p d f (λ of. refl) to_come b size staged after
+  answered_turned c p d f (Some (answer.Purged n)) to_come b size staged place after = told_turned (Purged n) (answer.Purged n) c p d f (λ of. refl) to_come b size staged after
+  answered_turned c p d f (Some (answer.Released n)) to_come b size staged place after = told_turned (Released n) (answer.Released n) c p d f (λ of. refl) to_come b size staged after
+  answered_turned c p d f (Some (answer.Refused e)) to_come b size staged place after = told_turned (Refused (Alloc e)) (answer.Refused e) c p d f (λ of. refl) to_come b size staged after
 
   -- A step of the call under way.
   pub step_turned : (maker : MakerTold) (c : PoolCore P) (p : RunningParty P) (t : Turned P) → CanTurn maker c p → Steps c p t → HasTurned c p t
@@ -154,8 +163,10 @@ module _ {P : Type 0} where
   turned_from c p q t same room host searching turned = record {
     places = λ x. omega (arith, turned.places x, same.places x);
     instances = omega (arith, turned.instances, same.instances);
+    components = omega (arith, turned.components, same.components);
     memories = omega (arith, turned.memories, same.memories);
     tables = omega (arith, turned.tables, same.tables);
+    stacks = omega (arith, turned.stacks, same.stacks);
     size = turned.size;
     room = turned.room ∙ room;
     host = turned.host ∙ host;

@@ -19,13 +19,13 @@ use Rattle.pool_run.specs.Ties.{granted_to, TiedAs, IsPrivate, CanTurn, IsAlone}
 use Rattle.pool_run.specs.Worlds.{IsWorldOf}
 use Rattle.pool_run.specs.declared.command.Command.{Command}
 use Rattle.pool_run.specs.declared.reply.Reply.{Reply}
-use Rattle.pool_run.specs.declared.reply.Reply.TheVariants.{Refused, Returned}
+use Rattle.pool_run.specs.declared.reply.Reply.TheVariants.{Refused, Returned, Purged, Released}
 use Rattle.pool_run.specs.declared.reply.Refusal.TheVariants.{Alloc}
 use Rattle.pool_run.specs.declared.running_party.RunningParty.{RunningParty}
 use Rattle.pool_run.proofs.Grants.{state_of, one_more}
 use Rattle.pool_run.proofs.Parties.{can_step}
 use Rattle.pool_run.proofs.Tied.{TiedBy, tied_by}
-use Rattle.pool_run.proofs.StageSteps.{is_none, none_idle, uncounted_none}
+use Rattle.pool_run.proofs.StageSteps.{is_none, none_idle, uncounted_none, uncounted_component, stack_is_asked}
 use Rattle.pool_run.proofs.Stepped.{IsStepped, stepped}
 use Rattle.pool_run.proofs.Requests.{IsBefore}
 use Rattle.pool_alloc.specs.Stages.{Stage, no_call, stage_of}
@@ -79,6 +79,8 @@ module _ {P : Type 0} where
   answered_private w start commands before c p f (Some answer.Key) private settled tied = record { grants = private.grants; run = private.run; count = private.count; tied = tied }
   answered_private w start commands before c p f (Some (answer.Granted grant)) private settled tied = replied w start commands before p (record p { frame = f; live = slice_set p.live p.done (Some grant); done = p.done + 1 }) tied.act (granted_reply grant) private refl (settled refl) tied.next (tied.moves p.store.made) tied.pool
   answered_private w start commands before c p f (Some answer.Returned) private settled tied = replied w start commands before p (record p { frame = f; done = p.done + 1 }) tied.act Returned private refl (settled refl) tied.next (tied.moves p.store.made) tied.pool
+  answered_private w start commands before c p f (Some (answer.Purged n)) private settled tied = replied w start commands before p (record p { frame = f; done = p.done + 1 }) tied.act (Purged n) private refl (settled refl) tied.next (tied.moves p.store.made) tied.pool
+  answered_private w start commands before c p f (Some (answer.Released n)) private settled tied = replied w start commands before p (record p { frame = f; done = p.done + 1 }) tied.act (Released n) private refl (settled refl) tied.next (tied.moves p.store.made) tied.pool
   answered_private w start commands before c p f (Some (answer.Refused e)) private settled tied = replied w start commands before p (record p { frame = f; done = p.done + 1 }) tied.act (Refused (Alloc e)) private refl (settled refl) tied.next (tied.moves p.store.made) tied.pool
 
   -- what is granted isn't the party's yet, and is made once
@@ -90,11 +92,13 @@ module _ {P : Type 0} where
       let here : count_granted (grant_count (right_to k)) a.outcome ≡ grant_count (right_to k) grant = ap (count_granted (grant_count (right_to k))) (sym is) in
       omega (arith, once (right_to k), b.places (right_to k), most k, here)
   apart c f live a (Some answer.Returned) is once b most = tt
+  apart c f live a (Some (answer.Purged n)) is once b most = tt
+  apart c f live a (Some (answer.Released n)) is once b most = tt
   apart c f live a (Some (answer.Refused e)) is once b most = tt
 
   -- A step of the call under way.
-  pub step_private : (w : World) (start : Grants) (commands : List Command) (before : List Reply) (c : PoolCore P) (p : RunningParty P) (t : Turned P) → IsPrivate w start commands before p → IsWorldOf w c → CanTurn w.maker c p → (w.alone ≡ true → IsAlone c p.frame p.live) → rule_of p.limits ≡ w.terms.host.rule → Steps c p t → SeesTurn w start commands before t
-  step_private w start commands before c p t private world can alone ruled steps =
+  pub step_private : (w : World) (start : Grants) (commands : List Command) (before : List Reply) (c : PoolCore P) (p : RunningParty P) (t : Turned P) → IsPrivate w start commands before p → IsWorldOf w c → CanTurn w.maker c p → (w.alone ≡ true → IsAlone c p.frame p.live) → rule_of p.limits ≡ w.terms.host.rule → p.frame.stripe ≡ w.terms.stripe → Steps c p t → SeesTurn w start commands before t
+  step_private w start commands before c p t private world can alone ruled striped steps =
       let a : After P = steps.0 in
       let f : Frame P = p.frame in
       let old : LimiterTold = steps.1.0 in
@@ -105,12 +109,14 @@ module _ {P : Type 0} where
         frame = can.party.sound.frame;
         once = λ k. omega (arith, can.fits.once (right_to k), away_made w.maker k c can.core);
         instances = omega (arith, can.fits.instances);
+        components = omega (arith, can.fits.components);
         alone = alone;
         rule = steps.1.2 ∙ ap (λ (r : GrowthRule). Some r) ruled;
+        stripe = striped;
       } in
-      let idle : is_none (stage_of a.frame) ≡ is_idle a.frame.phase = none_idle a.frame.phase a.frame.ending (objects_in a.frame.objects) in
+      let idle : is_none (stage_of a.frame) ≡ is_idle a.frame.phase = none_idle a.frame.phase a.frame.asked a.frame.ending (objects_in a.frame.objects) in
       subst (SeesTurn w start commands before) (sym steps.2)
       (answered_private w start commands before a.core p a.frame a.outcome private on.staged.settled
       (tied_by w old steps.1.1 c f commands p.done p.live private.grants is (stage_of f) (stage_of a.frame) a.frame.asked a.outcome
-      (uncounted_none f.phase f.ending (objects_in f.objects)) (λ none. on.goes.asked (sym idle ∙ none)) on.granted
+      (uncounted_none f.phase f.asked f.ending (objects_in f.objects)) (uncounted_component f.phase f.asked f.ending (objects_in f.objects)) (stack_is_asked w.maker c f can.party.sound.frame) (λ none. on.goes.asked (sym idle ∙ none)) on.granted
       (apart c f p.live a a.outcome refl can.fits.once on.conserves (λ k. omega (arith, away_made w.maker k a.core on.core, ap (λ (plan : Plan). made_slot k.slot (of_kind k.kind plan.totals)) on.size.plan))) on.goes.way private.tied))

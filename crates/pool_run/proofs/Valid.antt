@@ -5,7 +5,7 @@ use Rattle.std.specs.Prelude.{nat_le, nat_lt}
 use Rattle.std.specs.List.{list_all, slice_get}
 use Rattle.std.proofs.lemmas.Bool.{leb-true, ltb-true}
 use Rattle.pool_run.specs.Schedules.{turns_of}
-use Rattle.pool_run.specs.Validity.{is_valid, are_valid_modules, is_valid_module, is_valid_memory, most_modules, most_memories, most_tables, is_valid_party, is_valid_schedule, are_valid_after, homes, most_commands, most_parties, most_steps}
+use Rattle.pool_run.specs.Validity.{is_valid, are_valid_modules, is_valid_module, is_valid_memory, is_valid_state, most_modules, most_memories, most_tables, is_valid_party, is_valid_schedule, are_valid_after, homes, most_commands, most_parties, most_steps}
 use Rattle.pool_run.specs.declared.input.Input.{Input}
 use Rattle.pool_run.specs.declared.input.Party.{Party}
 use Rattle.pool_run.specs.declared.input.ScheduleEntry.{ScheduleEntry}
@@ -28,7 +28,7 @@ valid_modules input valid =
 
 pub few_memories : (m : ModuleInfo) → is_valid_module m ≡ true → length m.memories < 2 ^ 32
 few_memories m valid =
-    let few : length m.memories ≤ most_memories = leb-true (length m.memories) most_memories (first (nat_le (length m.memories) most_memories) (nat_le (length m.tables) most_tables && list_all is_valid_memory m.memories) valid) in
+    let few : length m.memories ≤ most_memories = leb-true (length m.memories) most_memories (first (nat_le (length m.memories) most_memories) (nat_le (length m.tables) most_tables && (list_all is_valid_memory m.memories && is_valid_state m)) valid) in
     omega (arith, few)
 
 -- there are not too many parties

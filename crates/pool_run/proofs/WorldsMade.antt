@@ -1,9 +1,9 @@
 -- The pool and the calls that are made for an input are those of its world.
-use Rattle.std.proofs.Common.{◌≡◌, ℕ, ◌+◌, ◌<◌, zero, suc, List, [], ◌∷◌, length, replicate, refl, sym, ap, ◌∙◌, subst, arith, Option, Some, None, Bool, true, false, not}
-use Rattle.std.specs.Prelude.{◌-◌, IfSome, is_some, slice_get, slice_index_or, nat_le, if◌then◌else◌, option_map, unwrap_or}
+use Rattle.std.proofs.Common.{◌≡◌, ℕ, ◌+◌, ◌*◌, ◌<◌, zero, suc, List, [], ◌∷◌, length, replicate, refl, sym, ap, ◌∙◌, subst, arith, Option, Some, None, Bool, true, false, not}
+use Rattle.std.specs.Prelude.{◌-◌, ◌/◌, ◌%◌, ◌==◌, ◌&&◌, IfSome, is_some, slice_get, slice_index_or, nat_le, nat_lt, if◌then◌else◌, option_map, unwrap_or}
 use Rattle.std.specs.List.{list_all}
 use Rattle.std.specs.Option.{option_map_or}
-use Rattle.std.proofs.lemmas.Bool.{leb-true}
+use Rattle.std.proofs.lemmas.Bool.{leb-true, le-leb, lt-ltb, and_from}
 use Rattle.std.proofs.lemmas.List.{length-append, length-replicate}
 use Rattle.std.proofs.lemmas.Option.{same_Some}
 use Rattle.pool_pages.specs.Count.{rounded_up}
@@ -14,6 +14,11 @@ use Rattle.pool_pages.specs.declared.module_types.ImageDecl.{ImageDecl}
 use Rattle.pool_pages.specs.declared.module_types.MemoryDecl.{MemoryDecl}
 use Rattle.pool_pages.specs.declared.module_types.ModuleInfo.{ModuleInfo}
 use Rattle.pool_pages.specs.declared.module_types.Tunables.{Tunables}
+use Rattle.pool_pages.specs.declared.offered.Offered.{Offered}
+use Rattle.pool_pages.specs.SettingsRules.{slab_stripes}
+use Rattle.pool_alloc.proofs.Striping.{some_stripes}
+use Rattle.std.proofs.lemmas.List.FromFn.{length-map-range_with_len, get_or-map-range_with_len}
+use Rattle.std.proofs.Math.Nat.{mul-mod_left, mul-div_cancel}
 use Rattle.pool_images.specs.Images.{Image, image_of, images_from, padded, first_misplaced, ends_in_minimum}
 use Rattle.pool_images.specs.Slots.{FitsInto}
 use Rattle.pool_images.proofs.Begun.{rounded_up_above}
@@ -22,17 +27,18 @@ use Rattle.pool_alloc.specs.declared.pool_core.PoolCore.{PoolCore}
 use Rattle.pool_alloc.specs.declared.pool_core.Settings.{Settings}
 use Rattle.pool_alloc.specs.Asked.{ModuleAsked}
 use Rattle.pool_alloc.specs.Steps.{images_made, stripe_allocator, allocator_of, no_allocator}
-use Rattle.pool_alloc.specs.Leases.{memory_slot}
 use Rattle.pool_alloc.specs.TableLeases.{table_slot}
-use Rattle.pool_hall.specs.declared.unit_name.SlotKind.TheVariants.{Table}
+use Rattle.pool_alloc.specs.StackLeases.{stack_slot}
+use Rattle.pool_hall.specs.declared.unit_name.SlotKind.TheVariants.{Table, Stack}
 use Rattle.pool_slots.specs.PlansMade.{allocator_planned}
 use Rattle.pool_alloc.specs.Wants.{wants_from}
 use Rattle.pool_run.specs.Built.{is_built_memory, is_built_module}
 use Rattle.pool_run.specs.Made.{call_made, calls_made}
-use Rattle.pool_run.specs.Private.{Terms, no_module, module_of, has_images, images_of, request_for}
+use Rattle.pool_alloc.specs.Steps.{no_module}
+use Rattle.pool_run.specs.Private.{Terms, module_of, has_images, images_of, request_for}
 use Rattle.pool_run.specs.Runs.{world_of}
 use Rattle.std.proofs.lemmas.Option.{get_or_from_slice_get}
-use Rattle.pool_run.specs.Worlds.{IsWorldOf, IsCallFor, AreCallsFor, HasOneStripe, HasTables}
+use Rattle.pool_run.specs.Worlds.{IsWorldOf, IsCallFor, AreCallsFor, HasStripes, HasTables}
 use Rattle.pool_run.specs.declared.input.Input.{Input}
 use Rattle.pool_run.proofs.BuiltInputs.{built_memories, small_pages}
 use Rattle.pool_run.proofs.Tests.{second, of_all}
@@ -54,37 +60,73 @@ only_one : (b : Bool) → (if b then 1 else 0) + 0 ≡ 1 → b ≡ true
 only_one true is = refl
 only_one false is = absurd (omega (arith, is))
 
--- A plan that is made has one stripe.
-one_stripe : (config : PoolingAllocationConfig) (plan : Plan) → IsStripedPlanOf (plan_settings config) plan → HasOneStripe config.limits.total_memories plan
-one_stripe config plan made =
-    let z : StripedPlanSettings = plan_settings config in
-    let a : Allocator = stripe_made z 0 in
-    let Has : ℕ → List Allocator → Type 0 = λ k as'. have_number as' k ≡ 1 in
-    let first : stripe_allocator plan 0 ≡ a = ap (λ (as' : List Allocator). slice_index_or as' 0 no_allocator) made.memories in
+-- The memories of a plan that is made lie in its stripes.
+stripes_made : (page : ℕ) (config : PoolingAllocationConfig) (tunables : Tunables) (offered : Offered) (shards : ℕ) (plan : Plan) → 0 < page → IsStripedPlanOf (plan_settings page config tunables offered shards) plan → HasStripes config.limits.total_memories (slab_stripes config tunables page offered) plan
+stripes_made page config tunables offered shards plan paged made =
+    let z : StripedPlanSettings = plan_settings page config tunables offered shards in
+    let k : ℕ = z.num_stripes in
+    let some : 0 < k = some_stripes config tunables page offered paged in
+    let its : (s : ℕ) → s < k → stripe_allocator plan s ≡ stripe_made z s =
+    λ s inside. ap (λ (as' : List Allocator). slice_index_or as' s no_allocator) made.memories ∙ get_or-map-range_with_len (stripe_made z) 0 k s s no_allocator inside (omega arith) in
     record {
       total = sym (ap (λ (n : OfKinds). n.memory) made.totals);
-      one = ap (length {A = Allocator}) made.memories;
-      room = ap (λ (x : Allocator). x.capacity) first ∙ omega arith;
-      each = λ k inside. ap (λ (x : Allocator). has_number x k) first ∙ only_one (has_number a k) (subst (Has k) made.memories ((follow z plan (omega arith) made).one (memory_slot k) inside));
+      some = some;
+      count = ap (length {A = Allocator}) made.memories ∙ length-map-range_with_len (stripe_made z) 0 k;
+      room = λ s inside. ap (λ (x : Allocator). x.capacity) (its s inside);
+      each = λ s j inside below.
+          let a : Allocator = stripe_made z s in
+          let n : ℕ = s + j * k in
+          let past : n - s ≡ j * k = omega arith in
+          let low : nat_le s n ≡ true = le-leb s n (omega arith) in
+          let even : ((n - s) % k == 0) ≡ true = rw (past, mul-mod_left j k) refl in
+          let under : nat_lt ((n - s) / k) a.capacity ≡ true = rw (past, mul-div_cancel j some) (lt-ltb j a.capacity below) in
+          ap (λ (x : Allocator). has_number x n) (its s inside) ∙ and_from (nat_le s n) (((n - s) % k == 0) && nat_lt ((n - s) / k) a.capacity) low (and_from ((n - s) % k == 0) (nat_lt ((n - s) / k) a.capacity) even under);
     }
 
 -- Its tables have one allocator.
-tables_made : (config : PoolingAllocationConfig) (plan : Plan) → IsStripedPlanOf (plan_settings config) plan → HasTables config.limits.total_tables plan
-tables_made config plan made =
-    let z : StripedPlanSettings = plan_settings config in
+tables_made : (page : ℕ) (config : PoolingAllocationConfig) (tunables : Tunables) (offered : Offered) (shards : ℕ) (plan : Plan) → 0 < page → IsStripedPlanOf (plan_settings page config tunables offered shards) plan → HasTables config.limits.total_tables plan
+tables_made page config tunables offered shards plan paged made =
+    let z : StripedPlanSettings = plan_settings page config tunables offered shards in
     let a : Allocator = allocator_planned (divided z) Table in
     let Has : ℕ → List Allocator → Type 0 = λ k as'. have_number as' k ≡ 1 in
     let first : allocator_of plan Table 0 ≡ a = ap (λ (as' : List Allocator). slice_index_or as' 0 no_allocator) made.tables in
     record {
       total = sym (ap (λ (n : OfKinds). n.table) made.totals);
       room = ap (λ (x : Allocator). x.capacity) first;
-      each = λ k inside. ap (λ (x : Allocator). has_number x k) first ∙ only_one (has_number a k) (subst (Has k) made.tables ((follow z plan (omega arith) made).one (table_slot k) inside));
+      each = λ k inside. ap (λ (x : Allocator). has_number x k) first ∙ only_one (has_number a k) (subst (Has k) made.tables ((follow z plan (some_stripes config tunables page offered paged) made).one (table_slot k) inside));
     }
+
+-- So have its stacks.
+stacks_planned : (page : ℕ) (config : PoolingAllocationConfig) (tunables : Tunables) (offered : Offered) (shards : ℕ) (plan : Plan) → 0 < page → IsStripedPlanOf (plan_settings page config tunables offered shards) plan
+    → (config.limits.total_stacks ≡ plan.totals.stack) × ((allocator_of plan Stack 0).capacity ≡ config.limits.total_stacks) × ((k : ℕ) → k < config.limits.total_stacks → has_number (allocator_of plan Stack 0) k ≡ true)
+stacks_planned page config tunables offered shards plan paged made =
+    let z : StripedPlanSettings = plan_settings page config tunables offered shards in
+    let a : Allocator = allocator_planned (divided z) Stack in
+    let Has : ℕ → List Allocator → Type 0 = λ k as'. have_number as' k ≡ 1 in
+    let first : allocator_of plan Stack 0 ≡ a = ap (λ (as' : List Allocator). slice_index_or as' 0 no_allocator) made.stacks in (
+      sym (ap (λ (n : OfKinds). n.stack) made.totals),
+      ap (λ (x : Allocator). x.capacity) first,
+      λ k inside. ap (λ (x : Allocator). has_number x k) first ∙ only_one (has_number a k) (subst (Has k) made.stacks ((follow z plan (some_stripes config tunables page offered paged) made).one (stack_slot k) inside)),
+    )
 
 module _ {P : Type 0} where
   -- The pool as it is made has the sizes of the world.
-  pub is_world : (input : Input) (maker : MakerTold) (c : PoolCore P) → IsMadeCore maker input.config input.tunables input.offered c → IsWorldOf (world_of input maker) c
-  is_world input maker c made = record { tells = refl; settings = sym made.settings; plan = one_stripe input.config c.plan made.plan; tables = tables_made input.config c.plan made.plan }
+  pub is_world : (input : Input) (maker : MakerTold) (c : PoolCore P) → 0 < maker.page → IsMadeCore maker input.config input.tunables input.offered input.shards c → IsWorldOf (world_of input maker) c
+  is_world input maker c paged made = record {
+    tells = refl;
+    settings = sym made.settings;
+    plan = stripes_made maker.page input.config input.tunables input.offered input.shards c.plan paged made.plan;
+    tables = tables_made maker.page input.config input.tunables input.offered input.shards c.plan paged made.plan;
+    stacks =
+        let planned = stacks_planned maker.page input.config input.tunables input.offered input.shards c.plan paged made.plan in
+        record {
+          total = planned.0;
+          room = planned.1;
+          each = planned.2;
+          size = sym (ap (λ (s : Settings). s.stack_size) made.settings);
+          zeroing = sym (ap (λ (s : Settings). s.stack_zeroing) made.settings);
+        };
+  }
 
 count_from : (id : CompiledModuleId) (page n : ℕ) (decls : List MemoryDecl) → length (images_from id page n decls) ≡ length decls
 count_from id page n [] = refl
@@ -132,7 +174,7 @@ is_call_for t s number m there built page some =
     let made : Option (List (Option Image)) = images_of tunables t.settings.page number m.memories in
     let given : List (Option Image) = unwrap_or made [] in
     record {
-      asked = record { memories = ap (wants_from m.memories) (asked_images made) ∙ ap (λ (x : ModuleInfo). (request_for t number x).memories) is; tables = ap (λ (x : ModuleInfo). (request_for t number x).tables) is };
+      asked = record { of_module = tt; info = is; memories = ap (wants_from m.memories) (asked_images made) ∙ ap (λ (x : ModuleInfo). (request_for t number x).memories) is };
       fit = record {
         images = record {
           each = λ k.

@@ -1,7 +1,8 @@
 -- What a command acts on: commands that do alike have one case.
 use Rattle.std.specs.Prelude.{ℕ, List, slice_get, Option, option_map}
+use Rattle.pool_pages.specs.declared.module_types.ComponentInfo.{ComponentInfo}
 use Rattle.pool_run.specs.declared.command.Command.{Command}
-use Rattle.pool_run.specs.declared.command.Command.TheVariants.{Instantiate, Read, Write, Fill, Grow, Size, Get, Set, TableFill, TableGrow, TableSize, Drop}
+use Rattle.pool_run.specs.declared.command.Command.TheVariants.{Instantiate, Read, Write, Fill, Grow, Size, Get, Set, TableFill, TableGrow, TableSize, Drop, Purge, Release, Component, Stack}
 use Rattle.pool_run.specs.declared.command.TableValue.{TableValue}
 
 -- what is done with a memory: so many bytes are read from a place, or these written there, or so many set to one byte; it
@@ -21,16 +22,27 @@ pub data TableOp : Type 0 where
   lengthens : ℕ → TableOp
   asks_length : TableOp
 
--- An instance of the module of this number is requested, something is done with a memory or a table of the grant of a
--- command, or that grant is given back.
+-- what is asked for: an instance of the module of this number, a component of which this is known, or a stack
+pub data Wanted : Type 0 where
+  an_instance : ℕ → Wanted
+  a_component : ComponentInfo → Wanted
+  a_stack : Wanted
+
+-- A grant is requested, something is done with a memory or a table of the grant of a command, or that grant is given back. A
+-- module of this number is purged, or what is resident released.
 pub data Act : Type 0 where
-  requests : ℕ → Act
+  requests : Wanted → Act
   on_memory : ℕ → ℕ → MemoryOp → Act
   on_table : ℕ → ℕ → TableOp → Act
   drops : ℕ → Act
+  purges : ℕ → Act
+  releases : Act
 
 abbrev pub act_of : Command → Act
-act_of (Instantiate number) = requests number
+act_of (Instantiate number) = requests (an_instance number)
+act_of (Component core_instances memories tables core_bytes own_bytes) =
+    requests (a_component (record { core_instances = core_instances; memories = memories; tables = tables; core_bytes = core_bytes; own_bytes = own_bytes }))
+act_of Stack = requests a_stack
 act_of (Read of k at len) = on_memory of k (reads at len)
 act_of (Write of k at bytes) = on_memory of k (writes at bytes)
 act_of (Fill of k at len byte) = on_memory of k (fills at len byte)
@@ -42,6 +54,8 @@ act_of (TableFill of k at value len) = on_table of k (sets at len value)
 act_of (TableGrow of k by) = on_table of k (lengthens by)
 act_of (TableSize of k) = on_table of k asks_length
 act_of (Drop of) = drops of
+act_of (Purge number) = purges number
+act_of Release = releases
 
 -- what command n does, if there is one
 abbrev pub act_at : List Command → ℕ → Option Act

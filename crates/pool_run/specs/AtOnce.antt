@@ -1,5 +1,5 @@
 -- What the code makes of a command, as an act, and of the answers of a memory or a table, as replies.
-use Rattle.std.specs.Prelude.{◌≡◌, ℕ, Option, Some, Result, Ok, Err}
+use Rattle.std.specs.Prelude.{◌≡◌, ℕ, List, [], ◌∷◌, slice_get, slice_set, Option, Some, Result, Ok, Err}
 use Rattle.pool_limits.specs.Growth.{GrowthRule}
 use Rattle.pool_limits.specs.Growing.{GrowthGiven}
 use Rattle.pool_limits.specs.LimiterTold.{LimiterTold}
@@ -14,13 +14,20 @@ use Rattle.pool_table.specs.declared.gc_store.ListedStore.{ListedStore}
 use Rattle.pool_table.specs.declared.gc_store.GcTableError.{GcTableError}
 use Rattle.pool_table.specs.declared.gc_store.GcTableError.TheVariants as failed
 use Rattle.pool_alloc.specs.Leases.{Lease, IsUsable}
+use Rattle.pool_alloc.specs.StackLeases.{LeasedStack}
 use Rattle.pool_alloc.specs.TableLeases.{LeasedTable, LiesInRegion}
+use Rattle.pool_alloc.specs.declared.frame.Grant.{Grant}
+use Rattle.pool_alloc.specs.declared.frame.Grant.TheVariants.{Stack as stack}
 use Rattle.pool_alloc.specs.declared.table_element.Element.{Element}
-use Rattle.pool_run.specs.Acts.{MemoryOp, reads, writes, fills, grows, asks_size, TableOp, gets, sets, lengthens, asks_length, Act, requests, on_memory, on_table, drops}
+use Rattle.pool_run.specs.Acts.{MemoryOp, reads, writes, fills, grows, asks_size, TableOp, gets, sets, lengthens, asks_length, Act, requests, on_memory, on_table, drops, purges, releases, Wanted, an_instance, a_component, a_stack}
+use Rattle.pool_run.specs.Objects.{MovesNamed}
+use Rattle.pool_run.specs.Turns.{LeaseMoves, StackLeaseMoves, leases_of, with_lease, with_stack_lease}
 use Rattle.pool_run.specs.declared.act.MemoryOp.{MemoryOp as GivenOp}
 use Rattle.pool_run.specs.declared.act.MemoryOp.TheVariants as op
 use Rattle.pool_run.specs.declared.act.TableOp.{TableOp as GivenTableOp}
 use Rattle.pool_run.specs.declared.act.TableOp.TheVariants as table_op
+use Rattle.pool_run.specs.declared.act.Wanted.{Wanted as GivenWanted}
+use Rattle.pool_run.specs.declared.act.Wanted.TheVariants as wanted
 use Rattle.pool_run.specs.declared.act.Act.{Act as GivenAct}
 use Rattle.pool_run.specs.declared.act.Act.TheVariants as act
 use Rattle.pool_run.specs.declared.reply.Reply.{Reply}
@@ -41,11 +48,18 @@ given_table_op (table_op.Set at value len) = sets at len value
 given_table_op (table_op.Grow by) = lengthens by
 given_table_op table_op.Size = asks_length
 
+abbrev pub given_wanted : GivenWanted → Wanted
+given_wanted (wanted.Instance number) = an_instance number
+given_wanted (wanted.Component info) = a_component info
+given_wanted wanted.Stack = a_stack
+
 abbrev pub given_act : GivenAct → Act
-given_act (act.Request number) = requests number
+given_act (act.Request wanted) = requests (given_wanted wanted)
 given_act (act.OnMemory of k by) = on_memory of k (given_op by)
 given_act (act.OnTable of k by) = on_table of k (given_table_op by)
 given_act (act.Drop of) = drops of
+given_act (act.Purge number) = purges number
+given_act act.Release = releases
 
 -- the reply to a write with this answer, and to a growth
 abbrev pub write_reply : Result (Unit {0}) Trap → Reply
@@ -82,3 +96,19 @@ pub record GrowsUnder (rule : GrowthRule) (pages : ℕ) (l new : Lease) (answer 
   pub same : new ≡ record l { memory = new.memory }
   pub memory : IsUsable new.memory
   pub growth : (given : GrowthGiven) × (asked : LimiterTold) × (left : LimiterTold) × (asked.rule ≡ Some rule) × IsGrowth given pages l.memory.linear.size l.memory new.memory asked left answer
+
+-- an operation on bytes of a stack, which is the only one of its grant
+abbrev pub MovesStackBytes : MemoryOp → ℕ → LeasedStack → Reply → LeasedStack → Type 0
+MovesStackBytes op k lease reply new = MovesNamed (StackLeaseMoves op) (slice_get (lease ∷ []) k) (λ l old. l) lease reply new
+
+module _ {P : Type 0} where
+  -- an operation on bytes of this grant
+  abbrev pub MovesGrantBytes : MemoryOp → GrowthRule → ℕ → Grant P → Reply → Grant P → Type 0
+  MovesGrantBytes op rule k (stack lease) reply new = (l : LeasedStack) × (new ≡ stack l) × MovesStackBytes op k lease reply l
+  MovesGrantBytes op rule k grant reply new = MovesNamed (LeaseMoves op rule) (slice_get (leases_of grant) k) (with_lease k) grant reply new
+
+  -- the same of a grant that was taken out of its place, and is put back
+  abbrev pub MovesTakenBytes : MemoryOp → GrowthRule → ℕ → ℕ → Grant P → List (Option (Grant P)) → Reply → List (Option (Grant P)) → Type 0
+  MovesTakenBytes op rule of k (stack lease) live reply new =
+      MovesNamed (StackLeaseMoves op) (slice_get (lease ∷ []) k) (λ l at. slice_set at of (Some (with_stack_lease k l (stack lease)))) (slice_set live of (Some (stack lease))) reply new
+  MovesTakenBytes op rule of k grant live reply new = MovesNamed (LeaseMoves op rule) (slice_get (leases_of grant) k) (λ l at. slice_set at of (Some (with_lease k l grant))) (slice_set live of (Some grant)) reply new

@@ -1,16 +1,19 @@
 -- A run of several parties, turn by turn: in the order of the schedule, and then party by party until none has anything
 -- left.
-use Rattle.std.specs.Prelude.{◌≡◌, ℕ, ◌+◌, ◌<◌, ◌≤◌, List, [], ◌∷◌, ◌++◌, length, map, replicate, slice_get, slice_index_or, slice_set, sum_by, true, Option, Some, None, IfSome}
+use Rattle.std.specs.Prelude.{◌≡◌, ℕ, ◌+◌, ◌<◌, ◌≤◌, List, [], ◌∷◌, ◌++◌, length, map, replicate, slice_get, slice_index_or, slice_set, sum_by, true, false, Option, Some, None, IfSome}
 use Rattle.pool_pages.specs.MakerTold.{MakerTold}
 use Rattle.pool_alloc.specs.declared.pool_core.PoolCore.{PoolCore}
 use Rattle.pool_alloc.specs.Asked.{ModuleAsked}
 use Rattle.pool_run.specs.Turns.{host_of_party}
 use Rattle.pool_run.specs.Private.{no_grants}
-use Rattle.pool_run.specs.Rooms.{World, under}
+use Rattle.pool_run.specs.Rooms.{World, under, in_stripe}
 use Rattle.pool_run.specs.Turns.{Turned, Turns, with_reply}
+use Rattle.pool_alloc.specs.Calls.{IsIdle}
+use Rattle.pool_alloc.specs.Stages.{stage_of}
+use Rattle.pool_run.specs.RunsMade.{is_drawing}
 use Rattle.pool_alloc.specs.Stepping.{is_idle}
 use Rattle.pool_run.specs.Ties.{IsPrivate, IsRunning, IsAlone}
-use Rattle.pool_run.specs.Limits.{live_instances, IsWithinCounts}
+use Rattle.pool_run.specs.Limits.{live_instances, live_components, IsWithinCounts}
 use Rattle.pool_run.specs.Worlds.{IsWorldOf, AreCallsFor}
 use Rattle.pool_run.specs.declared.command.Command.{Command}
 use Rattle.pool_run.specs.declared.reply.Reply.{Reply}
@@ -59,10 +62,11 @@ module _ {P : Type 0} where
   }
 
   -- What holds between turns: the pool and what the parties have of it are sound, each slot and each region is in one
-  -- place, and no more instances are granted than there may be.
+  -- place, and no more instances and components are granted than there may be.
   pub record HoldsBetween (maker : MakerTold) (s : RunState P) : Type 0 where
     pub running : IsRunning maker s.core s.parties
     pub instances : sum_by live_instances s.parties ≤ s.core.settings.max_core_instances
+    pub components : sum_by live_components s.parties ≤ s.core.settings.max_component_instances
 
   -- a turn of party i, if there is one
   abbrev pub TurnsIf : List ModuleAsked → List Command → ℕ → Option (RunningParty P) → RunState P → RunState P → Type 0
@@ -102,11 +106,17 @@ module _ {P : Type 0} where
     pub folds : Folds modules inputs schedule s scheduled
     pub finishes : FinishesRun modules inputs scheduled end
 
-  -- how far a party is: its replies are a private run of its commands under its limits and with its store, and it has a place for each of
-  -- these
+  -- The world as a party sees it: with its limits and its store, and with the stripe from which it has its memories.
+  abbrev pub seen_by : RunningParty P → World → World
+  seen_by p w = in_stripe p.frame.stripe (under (host_of_party p) w)
+
+  -- How far a party is: its replies are a private run of its commands in its world, and it has a place for each of these.
+  -- Before it has drawn its stripe it has done nothing, and it draws it in one turn.
   pub record IsRunTo (w : World) (commands : List Command) (replies : List Reply) (p : RunningParty P) : Type 0 where
     pub room : length p.live ≡ length commands
-    pub private : IsPrivate (under (host_of_party p) w) (no_grants commands) commands replies p
+    pub private : IsPrivate (seen_by p w) (no_grants commands) commands replies p
+    pub fresh : p.keyed ≡ false → (p.done ≡ 0) × IsIdle p.frame
+    pub drawn : is_drawing (stage_of p.frame) ≡ false
 
   -- there is one party, which has all that the pool hasn't
   pub record IsOfOne (s : RunState P) : Type 0 where

@@ -11,6 +11,7 @@ pub mod Objects
 pub mod PartyRules
 pub mod Placed
 pub mod Private
+pub mod PrivateStacks
 pub mod PrivateTables
 pub mod Progress
 pub mod Rooms

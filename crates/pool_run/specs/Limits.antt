@@ -1,7 +1,7 @@
--- How many instances are granted at once, with those that requests on their way may still be granted.
+-- How many instances and components are granted at once, with those that requests on their way may still be granted.
 use Rattle.std.specs.Prelude.{ℕ, ◌+◌, ◌≤◌, List, sum_by}
 use Rattle.pool_alloc.specs.Stages.{Stage, asks, admitted, stage_of}
-use Rattle.pool_alloc.specs.Stepping.{grant_instances}
+use Rattle.pool_alloc.specs.Stepping.{grant_instances, grant_components}
 use Rattle.pool_alloc.specs.declared.pool_core.PoolCore.{PoolCore}
 use Rattle.pool_run.specs.Ties.{granted_to}
 use Rattle.pool_run.specs.declared.running_party.RunningParty.{RunningParty}
@@ -14,15 +14,19 @@ admitted_at (asks (admitted n)) = 1
 admitted_at _ = 0
 
 module _ {P : Type 0} where
-  -- how many instances of a party are live
+  -- how many instances of a party are live, and how many components
   abbrev pub live_instances : RunningParty P → ℕ
   live_instances p = sum_by (granted_to grant_instances) p.live
+
+  abbrev pub live_components : RunningParty P → ℕ
+  live_components p = sum_by (granted_to grant_components) p.live
 
   -- a party's live instances, and what its call was admitted for
   abbrev pub admitted_to : RunningParty P → ℕ
   admitted_to p = admitted_at (stage_of p.frame) + live_instances p
 
-  -- At no time are more instances granted than there may be, nor can the requests on their way exceed that. The counter
-  -- itself may stand above the limit while a request is refused there.
-  abbrev pub IsWithinCounts : PoolCore P → List (RunningParty P) → Type 0
-  IsWithinCounts c parties = sum_by admitted_to parties ≤ c.settings.max_core_instances
+  -- At no time are more instances granted than there may be, nor can the requests on their way exceed that; and no more
+  -- components. The counters themselves may stand above their limits while a request is refused there.
+  pub record IsWithinCounts (c : PoolCore P) (parties : List (RunningParty P)) : Type 0 where
+    pub instances : sum_by admitted_to parties ≤ c.settings.max_core_instances
+    pub components : sum_by live_components parties ≤ c.settings.max_component_instances

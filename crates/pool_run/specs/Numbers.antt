@@ -5,7 +5,7 @@ use Rattle.pool_pages.specs.CallSums.{added}
 use Rattle.pool_alloc.specs.Sums.{calls_of_instance, calls_kept, calls_in_frame}
 use Rattle.pool_alloc.specs.declared.pool_core.PoolCore.{PoolCore}
 use Rattle.pool_alloc.specs.declared.frame.Grant.{Grant}
-use Rattle.pool_alloc.specs.declared.frame.Grant.TheVariants.{Instance as instance}
+use Rattle.pool_alloc.specs.declared.frame.Grant.TheVariants.{Instance as instance, Component as component, Stack as stack}
 use Rattle.pool_run.specs.declared.running_party.RunningParty.{RunningParty}
 
 module _ {P : Type 0} where
@@ -13,6 +13,8 @@ module _ {P : Type 0} where
   abbrev pub with_grant : PageCalls → Option (Grant P) → PageCalls
   with_grant calls None = calls
   with_grant calls (Some (instance lease)) = added calls (calls_of_instance lease)
+  with_grant calls (Some component) = calls
+  with_grant calls (Some (stack lease)) = added calls lease.stack.slot.region.calls
 
   abbrev pub with_party : PageCalls → RunningParty P → PageCalls
   with_party calls p = fold with_grant (added calls (calls_in_frame p.frame)) p.live

@@ -1,17 +1,18 @@
 -- What a party may see: its grants as private lists of bytes, which its commands read and write, and no pool.
 use Rattle.std.specs.Prelude.{◌≡◌, ℕ, ◌+◌, ◌-◌, ◌*◌, ◌^◌, ◌<◌, ◌≤◌, ◌==◌, ◌||◌, ◌&&◌, List, [], ◌∷◌, ◌++◌, length, slice_get, slice_index_or, slice_range, slice_set, replicate, map, min, ◌⊎◌, Bool, true, false, not, nat_lt, if◌then◌else◌, Option, Some, None, IfSome, is_some, option_map, unwrap_or, Result, Ok, Err}
+use Rattle.std.specs.Int.{div_ceil}
 use Rattle.std.specs.Option.{option_or}
 use Rattle.std.specs.List.{list_all}
 use Rattle.pool_pages.specs.Contents.{put}
 use Rattle.pool_pages.specs.MemoryTypes.{minimum_byte_size, page_size, allow_growth_to}
 use Rattle.pool_pages.specs.declared.module_types.MemoryDecl.{MemoryDecl}
 use Rattle.pool_pages.specs.declared.module_types.ModuleInfo.{ModuleInfo}
+use Rattle.pool_pages.specs.declared.module_types.ComponentInfo.{ComponentInfo}
 use Rattle.pool_pages.specs.declared.module_types.MemoryType.{MemoryType}
 use Rattle.pool_pages.specs.declared.module_types.Tunables.{Tunables}
 use Rattle.pool_pages.specs.declared.unsupported.Unsupported.{Unsupported}
 use Rattle.pool_pages.specs.declared.table_type.TableType.{TableType}
 use Rattle.pool_limits.specs.Growth.{GrowthRule, memory_answer, table_answer, memory_failure}
-use Rattle.pool_limits.specs.declared.errors.Trap.TheVariants.{MemoryOutOfBounds}
 use Rattle.pool_images.specs.Images.{Image, images_from, start, first_misplaced, ends_in_minimum}
 use Rattle.pool_memory.specs.Growing.{exceeds}
 use Rattle.pool_memory.specs.Making.{minimum_asked, maximum_asked, limits_answer}
@@ -19,22 +20,25 @@ use Rattle.pool_memory.specs.Static.{static_capacity}
 use Rattle.pool_memory.specs.declared.memory_error.MemoryError.{MemoryError}
 use Rattle.pool_slots.specs.declared.errors.AllocError.{AllocError}
 use Rattle.pool_slots.specs.declared.errors.AllocError.TheVariants as alloc
-use Rattle.pool_slots.specs.declared.errors.ConcurrencyKind.TheVariants.{MemoryStripe, Tables, CoreInstances}
+use Rattle.pool_slots.specs.declared.errors.ConcurrencyKind.TheVariants.{MemoryStripe, Tables, Fibers, CoreInstances}
 use Rattle.pool_table.specs.Elements.{empty}
 use Rattle.pool_table.specs.Making.{kind_of, room_of}
 use Rattle.pool_table.specs.Tables.{type_maximum}
 use Rattle.pool_alloc.specs.Own.{refusal_of}
-use Rattle.pool_alloc.specs.Refusals.{module_refused}
+use Rattle.pool_alloc.specs.Refusals.{module_refused, component_refused}
+use Rattle.pool_alloc.specs.Rows.{no_component_left}
+use Rattle.pool_alloc.specs.Steps.{no_module}
 use Rattle.pool_alloc.specs.TableSteps.{table_refused, table_bytes}
-use Rattle.pool_alloc.specs.Wants.{MemoryWant, Want, new_memory, new_table, wants_from}
+use Rattle.pool_alloc.specs.Wants.{MemoryWant, Want, new_memory, new_table, new_stack, wants_from}
 use Rattle.pool_alloc.specs.declared.pool_core.Settings.{Settings}
 use Rattle.pool_run.specs.Objects.{Objects, MovesNamed, MovesObject, object_at, with_object}
-use Rattle.pool_run.specs.Acts.{MemoryOp, reads, writes, fills, grows, asks_size, Act, requests, on_memory, on_table, drops, act_of}
+use Rattle.pool_run.specs.Acts.{MemoryOp, reads, writes, fills, grows, asks_size, Act, requests, on_memory, on_table, drops, purges, releases, act_of, Wanted, an_instance, a_component, a_stack}
+use Rattle.pool_run.specs.PrivateStacks.{ReadsBytes, WritesBytes, StackTerms, PrivateStack, BeginsStack, StackMoves}
 use Rattle.pool_run.specs.PrivateTables.{Host, PrivateTable, StoredTable, TableMoves}
 pub use Rattle.pool_run.specs.GrowthEnds.{GrowthEnd, as_it_was, could_not, has_grown, if_allowed, reported}
 use Rattle.pool_run.specs.declared.command.Command.{Command}
 use Rattle.pool_run.specs.declared.reply.Reply.{Reply}
-use Rattle.pool_run.specs.declared.reply.Reply.TheVariants.{Instance, Bytes, Done, Size, Grown, Returned, Refused, Trap}
+use Rattle.pool_run.specs.declared.reply.Reply.TheVariants.{Instance, Bytes, Done, Size, Grown, Returned, Purged, Released, Refused, Trap, Component, Stack}
 use Rattle.pool_run.specs.declared.reply.Refusal.{Refusal}
 use Rattle.pool_run.specs.declared.reply.Refusal.TheVariants.{NoSuchGrant, Alloc}
 
@@ -52,27 +56,36 @@ pub record PrivateInstance : Type 0 where
   pub memories : List PrivateMemory
   pub tables : List PrivateTable
 
+-- a live grant: an instance; a component, of which its party has nothing but that it is granted; or a stack
+pub data PrivateGrant : Type 0 where
+  instance_grant : PrivateInstance → PrivateGrant
+  component_grant : PrivateGrant
+  stack_grant : PrivateStack → PrivateGrant
+
 -- A party's grants by the numbers of its commands: none where the command is still to come, asked for none or was
 -- refused, or where its grant was given back.
 abbrev pub Grants : Type 0
-Grants = List (Option PrivateInstance)
+Grants = List (Option PrivateGrant)
 
-abbrev pub grant_at : Grants → ℕ → Option PrivateInstance
+abbrev pub grant_at : Grants → ℕ → Option PrivateGrant
 grant_at grants of = slice_index_or grants of None
 
 -- What a party's replies depend on beside its commands: whether pages are told, the modules, the pool's settings and how
--- many slots for memories and for tables it has, and what the host answers the party.
+-- many slots for memories and for tables it has, the stripe from which the party has its memories, the pool's stacks, and
+-- what the host answers the party.
 pub record Terms : Type 0 where
   pub tells : Bool
   pub modules : List ModuleInfo
   pub settings : Settings
   pub slots : ℕ
   pub table_slots : ℕ
+  pub stripe : ℕ
+  pub stacks : StackTerms
   pub host : Host
 
--- a module of nothing, which none of those that there are need be
-abbrev pub no_module : ModuleInfo
-no_module = record { memories = []; tables = []; state_bytes = 0; parts = [] }
+-- The slots for memories are dealt out to the stripes in turn: how many the party's stripe has.
+abbrev pub stripe_slots : Terms → ℕ
+stripe_slots t = div_ceil (t.slots - t.stripe) t.settings.num_stripes
 
 -- the module of this number
 abbrev pub module_of : Terms → ℕ → ModuleInfo
@@ -104,7 +117,7 @@ wants_of request = map new_memory request.memories ++ map new_table request.tabl
 -- the request for an instance of a module with this number
 abbrev pub request_for : Terms → ℕ → ModuleInfo → Request
 request_for t number m = record {
-  broken = module_refused t.settings t.table_slots m.memories m.tables;
+  broken = module_refused t.settings t.table_slots m;
   memories = wants_from m.memories (unwrap_or (images_of t.settings.tunables.tunables t.settings.page number m.memories) []);
   tables = m.tables;
 }
@@ -157,6 +170,7 @@ refused_by (Err e) = Some (refusal_of e)
 abbrev pub own_refusal : Terms → Want → Option AllocError
 own_refusal t (new_memory want) = refused_by (limits_answer (memory_answer (Some t.host.rule) (Ok true) (minimum_asked want.decl.ty) (maximum_asked want.decl.ty)) want.decl.ty)
 own_refusal t (new_table ty) = table_refused (table_answer (Some t.host.rule) (Ok true) ty.limits.min (Some (type_maximum ty))) ty.limits.min (table_room t.settings ty)
+own_refusal t new_stack = None
 
 -- that of the first of them which has one
 abbrev pub first_refusal : Terms → List Want → Option AllocError
@@ -179,7 +193,7 @@ pub data GivenRefusal : Type 0 where
 -- how it is refused then
 abbrev pub limit_for : Terms → Option Want → AllocError
 limit_for t (Some (new_table ty)) = alloc.Limit (record { limit = t.table_slots; kind = Tables })
-limit_for t _ = alloc.Limit (record { limit = t.slots; kind = MemoryStripe 0 })
+limit_for t _ = alloc.Limit (record { limit = stripe_slots t; kind = MemoryStripe t.stripe })
 
 abbrev pub refused_as : Terms → List Want → GivenRefusal → AllocError
 refused_as t wants no_memory = alloc.Memory
@@ -222,16 +236,41 @@ pub record IsGranted (t : Terms) (request : Request) (memories tables : List ℕ
 -- the reply to command n, which makes this request for an instance
 abbrev pub Instantiates : Terms → ℕ → Request → Grants → Reply → Grants → Type 0
 Instantiates t n request grants (Instance memories tables) new =
-    IsGranted t request memories tables × (new ≡ slice_set grants n (Some (begun_instance t request memories tables)))
+    IsGranted t request memories tables × (new ≡ slice_set grants n (Some (instance_grant (begun_instance t request memories tables))))
 Instantiates t n request grants (Refused refusal) new = IsCause t request refusal × (new ≡ grants)
 Instantiates t n request grants _ new = ⊥
 
--- the reply to a read of a live memory: so many bytes, which are its own, where those are told
+-- Why a component is refused: for the first rule that it breaks, or, which is given, for room.
+abbrev pub IsComponentRefused : Terms → Option Unsupported → AllocError → Type 0
+IsComponentRefused t (Some rule) e = e ≡ alloc.Unsupported rule
+IsComponentRefused t None e = e ≡ no_component_left t.settings
+
+-- the reply to command n, which asks for a component of which this is known
+abbrev pub AsksForComponent : Terms → ℕ → ComponentInfo → Grants → Reply → Grants → Type 0
+AsksForComponent t n info grants Component new = (component_refused t.settings info ≡ None) × (new ≡ slice_set grants n (Some component_grant))
+AsksForComponent t n info grants (Refused (Alloc e)) new = IsComponentRefused t (component_refused t.settings info) e × (new ≡ grants)
+AsksForComponent t n info grants _ new = ⊥
+
+-- how a stack is refused: there are none where they have no bytes; otherwise, which is given, for room
+abbrev pub stack_refusal : Terms → AllocError
+stack_refusal t = if t.stacks.size == 0 then alloc.StacksDisabled else alloc.Limit (record { limit = t.stacks.slots; kind = Fibers })
+
+-- the reply to command n, which asks for a stack
+abbrev pub AsksForStack : Terms → ℕ → Grants → Reply → Grants → Type 0
+AsksForStack t n grants (Stack slot) new =
+    (0 < t.stacks.size) × (s : PrivateStack) × BeginsStack t.stacks t.tells slot s × (new ≡ slice_set grants n (Some (stack_grant s)))
+AsksForStack t n grants (Refused (Alloc e)) new = (e ≡ stack_refusal t) × (new ≡ grants)
+AsksForStack t n grants _ new = ⊥
+
+-- the reply to command n, which asks for this
+abbrev pub Requests : Terms → ℕ → Wanted → Grants → Reply → Grants → Type 0
+Requests t n (an_instance number) grants reply new = Instantiates t n (request_of t number) grants reply new
+Requests t n (a_component info) grants reply new = AsksForComponent t n info grants reply new
+Requests t n a_stack grants reply new = AsksForStack t n grants reply new
+
+-- the reply to a read of a live memory
 abbrev pub IsRead : PrivateMemory → ℕ → ℕ → Reply → Type 0
-IsRead m at len (Bytes bytes) = (at + len ≤ m.size) × (length bytes ≡ len) × IfSome m.bytes (λ b. bytes ≡ slice_range b at (at + len))
-IsRead m at len (Trap trap) = (trap ≡ MemoryOutOfBounds) × (m.size < at + len)
-IsRead m at len (Refused refusal) = refusal ≡ Alloc alloc.Memory
-IsRead m at len _ = ⊥
+IsRead m at len reply = ReadsBytes m.size m.bytes at len reply
 
 -- the memory with bytes of it written
 abbrev pub private_written : ℕ → List ℕ → PrivateMemory → PrivateMemory
@@ -239,9 +278,7 @@ private_written at new m = record m { bytes = option_map (put at new) m.bytes }
 
 -- the memory after a write of these bytes, and the reply
 abbrev pub Writes : ℕ → List ℕ → PrivateMemory → PrivateMemory → Reply → Type 0
-Writes at bytes m new Done = (at + length bytes ≤ m.size) × (new ≡ private_written at bytes m)
-Writes at bytes m new (Trap trap) = (trap ≡ MemoryOutOfBounds) × (m.size < at + length bytes) × (new ≡ m)
-Writes at bytes m new _ = ⊥
+Writes at bytes m new reply = WritesBytes m.size at (length bytes) (private_written at bytes m) m new reply
 
 -- the size after a growth by so many pages: at most the greatest whole number of pages that leaves room for one more
 abbrev pub size_wanted : ℕ → PrivateMemory → ℕ
@@ -293,17 +330,60 @@ MemoryMoves (fills at len byte) rule m new reply = Writes at (replicate len byte
 MemoryMoves (grows pages) rule m new reply = Grows rule pages m new reply
 MemoryMoves asks_size rule m new reply = (reply ≡ Size m.size) × (new ≡ m)
 
--- the memories and the tables of a grant
-abbrev pub private_memories : Objects PrivateInstance PrivateMemory
-private_memories = record { in_grant = λ g. g.memories; put_in = λ k m g. record g { memories = slice_set g.memories k m } }
+-- the memories of a grant, the grant with another in the place of one, and the same of its tables
+abbrev pub memories_in_grant : PrivateGrant → List PrivateMemory
+memories_in_grant (instance_grant g) = g.memories
+memories_in_grant _ = []
 
-abbrev pub private_tables : Objects PrivateInstance PrivateTable
-private_tables = record { in_grant = λ g. g.tables; put_in = λ k m g. record g { tables = slice_set g.tables k m } }
+abbrev pub put_memory : ℕ → PrivateMemory → PrivateGrant → PrivateGrant
+put_memory k m (instance_grant g) = instance_grant (record g { memories = slice_set g.memories k m })
+put_memory k m g = g
+
+abbrev pub tables_in_grant : PrivateGrant → List PrivateTable
+tables_in_grant (instance_grant g) = g.tables
+tables_in_grant _ = []
+
+abbrev pub put_table : ℕ → PrivateTable → PrivateGrant → PrivateGrant
+put_table k x (instance_grant g) = instance_grant (record g { tables = slice_set g.tables k x })
+put_table k x g = g
+
+-- a stack is the only one of its grant
+abbrev pub stacks_in_grant : PrivateGrant → List PrivateStack
+stacks_in_grant (stack_grant s) = s ∷ []
+stacks_in_grant _ = []
+
+abbrev pub put_stack : ℕ → PrivateStack → PrivateGrant → PrivateGrant
+put_stack k s (stack_grant old) = stack_grant s
+put_stack k s g = g
+
+abbrev pub private_memories : Objects PrivateGrant PrivateMemory
+private_memories = record { in_grant = memories_in_grant; put_in = put_memory }
+
+abbrev pub private_tables : Objects PrivateGrant PrivateTable
+private_tables = record { in_grant = tables_in_grant; put_in = put_table }
+
+abbrev pub private_stacks : Objects PrivateGrant PrivateStack
+private_stacks = record { in_grant = stacks_in_grant; put_in = put_stack }
+
+-- An operation on bytes of the grant of command `of`, where this is that grant: on a stack's, or on those of a memory.
+abbrev pub MovesBytes : MemoryOp → GrowthRule → Option PrivateGrant → ℕ → ℕ → Grants → Reply → Grants → Type 0
+MovesBytes op rule (Some (stack_grant s)) of k = MovesObject private_stacks (StackMoves op) of k
+MovesBytes op rule _ of k = MovesObject private_memories (MemoryMoves op rule) of k
 
 -- a grant is given back, and ends
-abbrev pub Drops : Option PrivateInstance → Grants → ℕ → Reply → Grants → Type 0
+abbrev pub Drops : Option PrivateGrant → Grants → ℕ → Reply → Grants → Type 0
 Drops None grants of reply new = (reply ≡ Refused NoSuchGrant) × (new ≡ grants)
 Drops (Some g) grants of reply new = (reply ≡ Returned) × (new ≡ slice_set grants of None)
+
+-- The reply to a purge: a number, whichever that is. A release answers one too, or that there was no memory for it.
+abbrev pub IsPurged : Reply → Type 0
+IsPurged (Purged n) = Unit {0}
+IsPurged _ = ⊥
+
+abbrev pub IsReleased : Reply → Type 0
+IsReleased (Released n) = Unit {0}
+IsReleased (Refused refusal) = refusal ≡ Alloc alloc.Memory
+IsReleased _ = ⊥
 
 -- what a party may see: its live grants, and how often it called its store of GC references and its maker of heaps
 pub record PrivateState : Type 0 where
@@ -323,12 +403,14 @@ abbrev pub with_table : ℕ → ℕ → StoredTable → PrivateState → Private
 with_table of k t s = record s { grants = with_object private_tables of k t.table s.grants; stores = t.calls }
 
 -- What command n does, its reply, and the state before and after. Only a command on a table calls the store, and none
--- calls the maker of heaps.
+-- calls the maker of heaps. A purge and a release change nothing that the party sees.
 abbrev pub Moves : Terms → ℕ → PrivateState → Act → Reply → PrivateState → Type 0
-Moves t n s (requests number) reply new = OnGrants (Instantiates t n (request_of t number)) s reply new
-Moves t n s (on_memory of k op) reply new = OnGrants (MovesObject private_memories (MemoryMoves op t.host.rule) of k) s reply new
+Moves t n s (requests wanted) reply new = OnGrants (Requests t n wanted) s reply new
+Moves t n s (on_memory of k op) reply new = OnGrants (MovesBytes op t.host.rule (grant_at s.grants of) of k) s reply new
 Moves t n s (on_table of k op) reply new = MovesNamed (TableMoves op t.host) (table_at of k s) (with_table of k) s reply new
 Moves t n s (drops of) reply new = OnGrants (λ grants. Drops (grant_at grants of) grants of) s reply new
+Moves t n s (purges number) reply new = IsPurged reply × (new ≡ s)
+Moves t n s releases reply new = IsReleased reply × (new ≡ s)
 
 abbrev pub PrivateStep : Terms → ℕ → PrivateState → Command → Reply → PrivateState → Type 0
 PrivateStep t n s command reply new = Moves t n s (act_of command) reply new

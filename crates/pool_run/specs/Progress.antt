@@ -10,7 +10,7 @@ use Rattle.pool_alloc.specs.Asked.{ModuleAsked}
 use Rattle.pool_run.specs.Folds.{RunState, Folds, IsUnderWay}
 use Rattle.pool_run.specs.RunsMade.{Background, commands_in}
 use Rattle.pool_run.specs.Worlds.{NameModules}
-use Rattle.pool_run.specs.Acts.{Act, requests, on_memory, on_table, drops, act_of}
+use Rattle.pool_run.specs.Acts.{Act, requests, on_memory, on_table, drops, purges, releases, act_of, an_instance, a_component, a_stack}
 use Rattle.pool_run.specs.declared.command.Command.{Command}
 use Rattle.pool_run.specs.declared.input.Party.{Party}
 use Rattle.pool_run.specs.declared.running_party.RunningParty.{RunningParty}
@@ -48,8 +48,8 @@ module _ {P : Type 0} where
   turns_left c None = 0
   turns_left c (Some p) = steps_left c p.frame
 
-  -- At most how many turns a call takes, by the sizes of the pool and by what is asked for or given back alone, and one
-  -- where that isn't there.
+  -- At most how many turns a call takes, by the sizes of the pool and by what is asked for, given back or purged alone, and
+  -- one where that isn't there.
   abbrev pub bound_asked : PoolCore P → Option ModuleAsked → ℕ
   bound_asked c None = 1
   bound_asked c (Some m) = bound_of c (call.Module m)
@@ -58,11 +58,19 @@ module _ {P : Type 0} where
   bound_returned c None = 1
   bound_returned c (Some grant) = bound_of c (call.GiveBack grant)
 
+  abbrev pub bound_purged : PoolCore P → Option ModuleAsked → ℕ
+  bound_purged c None = 1
+  bound_purged c (Some m) = bound_of c (call.Purge m.id)
+
   abbrev pub bound_begun : List ModuleAsked → Act → PoolCore P → RunningParty P → ℕ
-  bound_begun modules (requests number) c p = bound_asked c (slice_get modules number)
+  bound_begun modules (requests (an_instance number)) c p = bound_asked c (slice_get modules number)
+  bound_begun modules (requests (a_component info)) c p = bound_of c (call.Component info)
+  bound_begun modules (requests a_stack) c p = bound_of c call.Stack
   bound_begun modules (on_memory of k op) c p = 1
   bound_begun modules (on_table of k op) c p = 1
   bound_begun modules (drops of) c p = bound_returned c (slice_index_or p.live of None)
+  bound_begun modules (purges number) c p = bound_purged c (slice_get modules number)
+  bound_begun modules releases c p = bound_of c call.Release
 
   -- the same of the party's next call; its stripe is drawn in one turn
   abbrev pub bound_keyed : Bool → List ModuleAsked → Option Command → PoolCore P → RunningParty P → ℕ

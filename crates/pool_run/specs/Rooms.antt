@@ -1,6 +1,6 @@
 -- What the replies to a party tell of the pool beside its private run: the slots of its memories, and that a request is
 -- granted where there is room for it.
-use Rattle.std.specs.Prelude.{◌≡◌, ◌≢◌, ℕ, ◌+◌, ◌<◌, ◌≤◌, List, [], length, sum_by, slice_index_or, All, ◌⊎◌, Bool, true, false, Option, Some, None, IfSome}
+use Rattle.std.specs.Prelude.{◌≡◌, ◌≢◌, ℕ, ◌+◌, ◌<◌, ◌≤◌, List, [], ◌∷◌, length, sum_by, slice_index_or, All, ◌⊎◌, Bool, true, false, Option, Some, None, IfSome}
 use Rattle.pool_pages.specs.MakerTold.{MakerTold, plan_for}
 use Rattle.pool_pages.specs.declared.pages.RegionName.TheVariants.{Memory as memory_region}
 use Rattle.pool_limits.specs.Growth.{always}
@@ -8,23 +8,27 @@ use Rattle.pool_slots.specs.declared.errors.AllocError.{AllocError}
 use Rattle.pool_slots.specs.declared.errors.AllocError.TheVariants as alloc
 use Rattle.pool_slots.specs.declared.errors.ConcurrencyKind.{ConcurrencyKind}
 use Rattle.pool_slots.specs.declared.errors.ConcurrencyKind.TheVariants.{MemoryStripe, Tables, CoreInstances}
-use Rattle.pool_run.specs.Private.{PrivateMemory, PrivateInstance, PrivateState, PrivateStep, Grants, Terms, grant_at, private_memories, Request, request_of, wants_of, slots_asked, growth, StepsBy, with_grants, no_grants}
+use Rattle.pool_run.specs.Private.{PrivateMemory, PrivateGrant, instance_grant, component_grant, PrivateState, PrivateStep, Grants, Terms, grant_at, memories_in_grant, tables_in_grant, stacks_in_grant, private_memories, Request, request_of, wants_of, stripe_slots, slots_asked, growth, StepsBy, with_grants, no_grants}
 use Rattle.pool_run.specs.PrivateTables.{Host}
 use Rattle.pool_run.specs.Objects.{object_at}
-use Rattle.pool_run.specs.Acts.{MemoryOp, grows, Act, requests, on_memory, act_of}
+use Rattle.pool_run.specs.Acts.{MemoryOp, grows, Wanted, an_instance, a_component, a_stack, Act, requests, on_memory, act_of}
 use Rattle.pool_run.specs.declared.command.Command.{Command}
 use Rattle.pool_run.specs.declared.reply.Reply.{Reply}
-use Rattle.pool_run.specs.declared.reply.Reply.TheVariants.{Instance, Refused}
+use Rattle.pool_run.specs.declared.reply.Reply.TheVariants.{Instance, Component, Stack, Refused}
 use Rattle.pool_run.specs.declared.reply.Refusal.TheVariants.{Alloc}
 
--- how many memories are live, and how many tables
-abbrev pub memories_in : Option PrivateInstance → ℕ
+-- how many memories are live, how many tables, and how many stacks
+abbrev pub memories_in : Option PrivateGrant → ℕ
 memories_in None = 0
-memories_in (Some g) = length g.memories
+memories_in (Some g) = length (memories_in_grant g)
 
-abbrev pub tables_in : Option PrivateInstance → ℕ
+abbrev pub tables_in : Option PrivateGrant → ℕ
 tables_in None = 0
-tables_in (Some g) = length g.tables
+tables_in (Some g) = length (tables_in_grant g)
+
+abbrev pub stacks_in : Option PrivateGrant → ℕ
+stacks_in None = 0
+stacks_in (Some g) = length (stacks_in_grant g)
 
 abbrev pub live_count : Grants → ℕ
 live_count grants = sum_by memories_in grants
@@ -32,13 +36,23 @@ live_count grants = sum_by memories_in grants
 abbrev pub table_count : Grants → ℕ
 table_count grants = sum_by tables_in grants
 
--- and how many instances
-abbrev pub instances_in : Option PrivateInstance → ℕ
-instances_in None = 0
-instances_in (Some g) = 1
+abbrev pub stack_count : Grants → ℕ
+stack_count grants = sum_by stacks_in grants
+
+-- and how many instances, and how many components
+abbrev pub instances_in : Option PrivateGrant → ℕ
+instances_in (Some (instance_grant g)) = 1
+instances_in _ = 0
+
+abbrev pub components_in : Option PrivateGrant → ℕ
+components_in (Some component_grant) = 1
+components_in _ = 0
 
 abbrev pub instance_count : Grants → ℕ
 instance_count grants = sum_by instances_in grants
+
+abbrev pub component_count : Grants → ℕ
+component_count grants = sum_by components_in grants
 
 -- what is the same for a whole run: the maker of the pool's regions, what the host answers each party, whether there is
 -- one party alone, and the terms of the party that is spoken of
@@ -52,19 +66,25 @@ pub record World : Type 0 where
 abbrev pub open_host : Host
 open_host = record { rule = always; failing = [] }
 
--- the world of a party with this host, and that of party i
+-- the world of a party with this host, of one in this stripe, and that of party i in its stripe
 abbrev pub under : Host → World → World
 under host w = record w { terms = record w.terms { host = host } }
 
-abbrev pub world_at : World → ℕ → World
-world_at w i = under (slice_index_or w.hosts i open_host) w
+abbrev pub in_stripe : ℕ → World → World
+in_stripe stripe w = record w { terms = record w.terms { stripe = stripe } }
 
--- no live memory is in this slot, and no live table in that one
+abbrev pub world_at : World → ℕ → ℕ → World
+world_at w i stripe = in_stripe stripe (under (slice_index_or w.hosts i open_host) w)
+
+-- no live memory is in this slot, no live table in that one, and no live stack in the third
 abbrev pub HasNoMemoryIn : ℕ → Grants → Type 0
-HasNoMemoryIn slot grants = (i : ℕ) → IfSome (grant_at grants i) (λ g. All (λ m. m.slot ≢ slot) g.memories)
+HasNoMemoryIn slot grants = (i : ℕ) → IfSome (grant_at grants i) (λ g. All (λ m. m.slot ≢ slot) (memories_in_grant g))
 
 abbrev pub HasNoTableIn : ℕ → Grants → Type 0
-HasNoTableIn slot grants = (i : ℕ) → IfSome (grant_at grants i) (λ g. All (λ t. t.slot ≢ slot) g.tables)
+HasNoTableIn slot grants = (i : ℕ) → IfSome (grant_at grants i) (λ g. All (λ t. t.slot ≢ slot) (tables_in_grant g))
+
+abbrev pub HasNoStackIn : ℕ → Grants → Type 0
+HasNoStackIn slot grants = (i : ℕ) → IfSome (grant_at grants i) (λ g. All (λ s. s.slot ≢ slot) (stacks_in_grant g))
 
 -- no slot is named twice
 abbrev pub AllDiffer : List ℕ → Type 0
@@ -84,11 +104,11 @@ pub record HasRoom (w : World) (grants : Grants) (memory_slots table_slots : Lis
   pub tables : AreFreeSlots w.terms.table_slots (table_count grants) (λ slot. HasNoTableIn slot grants) table_slots
   pub instances : instance_count grants < w.terms.settings.max_core_instances
 
--- A party that is alone is refused for room only where all that there is of this kind is its own: instances, or the slots,
--- with those of the memories, or of the tables, of the request before the one for which none is free.
+-- A party that is alone is refused for room only where all that there is of this kind is its own: instances, or the slots
+-- of its stripe, with those of the memories of the request before the one for which none is free, or those for tables.
 abbrev pub IsFull : World → Request → Grants → ConcurrencyKind → Type 0
 IsFull w request grants CoreInstances = w.terms.settings.max_core_instances ≤ instance_count grants
-IsFull w request grants (MemoryStripe s) = (i : ℕ) × (i < length request.memories) × (i < slots_asked w.terms (wants_of request)) × (w.terms.slots ≤ live_count grants + i)
+IsFull w request grants (MemoryStripe s) = (i : ℕ) × (i < length request.memories) × (i < slots_asked w.terms (wants_of request)) × (stripe_slots w.terms ≤ live_count grants + i)
 IsFull w request grants Tables = (i : ℕ) × (i < length request.tables) × (length request.memories + i < slots_asked w.terms (wants_of request)) × (w.terms.table_slots ≤ table_count grants + i)
 IsFull w request grants _ = ⊥
 
@@ -111,6 +131,26 @@ TellsRoom w request grants (Instance memories tables) = HasRoom w grants memorie
 TellsRoom w request grants (Refused (Alloc e)) = IsForRoom w request grants e
 TellsRoom w request grants _ = Unit {0}
 
+-- what the reply to a request for a component tells of room: the party's own leave room for it, or, where it is alone, are
+-- all that there may be
+abbrev pub TellsComponentRoom : World → Grants → Reply → Type 0
+TellsComponentRoom w grants Component = component_count grants < w.terms.settings.max_component_instances
+TellsComponentRoom w grants (Refused (Alloc (alloc.Limit e))) = w.alone ≡ true → w.terms.settings.max_component_instances ≤ component_count grants
+TellsComponentRoom w grants _ = Unit {0}
+
+-- And that to a request for a stack: it has a free slot; or a party that is alone is refused for room only where all slots
+-- are those of its own.
+abbrev pub TellsStackRoom : World → Grants → Reply → Type 0
+TellsStackRoom w grants (Stack slot) = AreFreeSlots w.terms.stacks.slots (stack_count grants) (λ k. HasNoStackIn k grants) (slot ∷ [])
+TellsStackRoom w grants (Refused (Alloc (alloc.Limit e))) = w.alone ≡ true → w.terms.stacks.slots ≤ stack_count grants
+TellsStackRoom w grants _ = Unit {0}
+
+-- what the reply to a request for this tells of room
+abbrev pub TellsRequest : World → Wanted → Grants → Reply → Type 0
+TellsRequest w (an_instance number) grants reply = TellsRoom w (request_of w.terms number) grants reply
+TellsRequest w (a_component info) grants reply = TellsComponentRoom w grants reply
+TellsRequest w a_stack grants reply = TellsStackRoom w grants reply
+
 -- A growth ends as its rules alone would have it, or a call on the pages of its memory's slot failed.
 abbrev pub TellsGrowth : World → ℕ → PrivateMemory → Reply → Type 0
 TellsGrowth w pages m reply = (reply ≡ (growth w.terms.host.rule false pages m).1) ⊎ MayFault w m.slot
@@ -120,7 +160,7 @@ TellsMove w (grows pages) m reply = TellsGrowth w pages m reply
 TellsMove w _ m reply = Unit {0}
 
 abbrev pub TellsOfPool : World → Grants → Act → Reply → Type 0
-TellsOfPool w grants (requests number) reply = TellsRoom w (request_of w.terms number) grants reply
+TellsOfPool w grants (requests wanted) reply = TellsRequest w wanted grants reply
 TellsOfPool w grants (on_memory of k op) reply = IfSome (object_at private_memories of k grants) (λ m. TellsMove w op m reply)
 TellsOfPool w grants _ reply = Unit {0}
 

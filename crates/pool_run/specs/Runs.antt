@@ -1,13 +1,15 @@
 -- What a run of an input is: the turns of its schedule over a pool as it is made, and then of each party until it has
 -- nothing left; and the output, which tells each party a private run.
-use Rattle.std.specs.Prelude.{◌++◌, ◌≡◌, ℕ, ◌<◌, ◌&&◌, ◌||◌, ◌==◌, List, [], ◌∷◌, ◌+◌, length, map, ◌⊎◌, Bool, true, false, Option, Some, None, IfSome}
-use Rattle.std.specs.List.{list_any, range_with_len}
+use Rattle.std.specs.Prelude.{◌++◌, ◌≡◌, ℕ, ◌<◌, ◌&&◌, ◌||◌, ◌==◌, List, [], ◌∷◌, ◌+◌, length, map, slice_get, nat_lt, if◌then◌else◌, ◌⊎◌, Bool, true, false, Option, Some, None, IfSome}
+use Rattle.std.specs.List.{Any, list_any, range_with_len}
+use Rattle.pool_pages.specs.Count.{rounded_up}
 use Rattle.pool_pages.specs.FaultPlans.{failing_maker, planned_faults}
-use Rattle.pool_pages.specs.MakerTold.{MakerTold, Planned, calls_of}
+use Rattle.pool_pages.specs.MakerTold.{MakerTold, Planned, calls_of, fails_making, plan_for}
+use Rattle.pool_pages.specs.SettingsRules.{slab_stripes}
 use Rattle.pool_pages.specs.Told.{Rose}
 use Rattle.pool_pages.specs.declared.bad_config.BadConfig.{BadConfig as BrokenRule}
 use Rattle.pool_pages.specs.declared.pages.RegionName.{RegionName}
-use Rattle.pool_pages.specs.declared.pages.RegionName.TheVariants.{Memory as memory_region, Table as table_region}
+use Rattle.pool_pages.specs.declared.pages.RegionName.TheVariants.{Memory as memory_region, Table as table_region, Stack as stack_region}
 use Rattle.pool_pages.specs.declared.module_types.ModuleInfo.{ModuleInfo}
 use Rattle.pool_pages.specs.declared.module_types.Tunables.{Tunables}
 use Rattle.pool_images.specs.Images.{makes_listed_images}
@@ -29,12 +31,13 @@ use Rattle.pool_run.specs.declared.output.RunFault.{RunFault}
 use Rattle.pool_run.specs.declared.output.RunFault.TheVariants.{BadInput, BadConfig, PageFault, Memory}
 use Rattle.pool_run.specs.declared.output.RunOutput.{RunOutput}
 use Rattle.pool_run.specs.declared.reply.Reply.{Reply}
+use Rattle.pool_run.specs.declared.running_party.RunningParty.{RunningParty}
 
 -- the maker with the input's page, and with the input's faults before it
 abbrev pub with_faults : Input → MakerTold → MakerTold
 with_faults input maker = failing_maker maker input.page (planned_faults input.faults) maker.next maker.faults
 
--- what the replies to a party of this input depend on, over regions of this maker, with this host
+-- what the replies to a party of this input depend on, over regions of this maker, with this host, in the first stripe
 abbrev pub terms_of : Input → MakerTold → Host → Terms
 terms_of input maker host = record {
   tells = maker.tells;
@@ -42,6 +45,8 @@ terms_of input maker host = record {
   settings = settings_of maker.page input.config input.tunables input.offered;
   slots = input.config.limits.total_memories;
   table_slots = input.config.limits.total_tables;
+  stripe = 0;
+  stacks = record { slots = input.config.limits.total_stacks; size = rounded_up maker.page input.config.stack_size; zeroing = input.config.async_stack_zeroing };
   host = host;
 }
 
@@ -69,14 +74,28 @@ pub record Making : Type 0 where
   pub region : RegionName
   pub calls : List ℕ
 
--- the regions of so many slots of a kind, each with its making alone
-abbrev pub makings_of : (ℕ → RegionName) → ℕ → List Making
-makings_of region total = map (λ slot. record { region = region slot; calls = 0 ∷ [] }) (range_with_len 0 total)
+-- the regions of so many slots of a kind, each with these calls
+abbrev pub makings_of : (ℕ → RegionName) → List ℕ → ℕ → List Making
+makings_of region calls total = map (λ slot. record { region = region slot; calls = calls }) (range_with_len 0 total)
+
+-- in how many stripes the slots for memories lie
+abbrev pub stripes_of : Input → ℕ
+stripes_of input = slab_stripes input.config input.tunables input.page input.offered
+
+-- Where memories lie in two stripes or more, the first call on the region of each gives it the colour of its stripe. The first
+-- call on a stack's region hides its guard page.
+abbrev pub memory_calls : ℕ → List ℕ
+memory_calls stripes = if nat_lt 1 stripes then 0 ∷ 1 ∷ [] else 0 ∷ []
 
 abbrev pub makings_for : Input → List Making
-makings_for input = makings_of memory_region input.config.limits.total_memories ++ makings_of table_region input.config.limits.total_tables
+makings_for input =
+    (makings_of memory_region (memory_calls (stripes_of input)) input.config.limits.total_memories ++ makings_of table_region (0 ∷ []) input.config.limits.total_tables)
+    ++ makings_of stack_region (0 ∷ 1 ∷ []) input.config.limits.total_stacks
 
--- one of the calls that make the region is listed as one that fails
+-- the making of the region is listed as one that fails; or one of all the calls that make it
+abbrev pub region_unmade : List Planned → Making → Bool
+region_unmade plan m = fails_making m.region plan
+
 abbrev pub region_listed : List Planned → Making → Bool
 region_listed plan m = list_any (λ call. list_any (λ n. n == call) (calls_of m.region plan)) m.calls
 
@@ -89,18 +108,30 @@ abbrev pub images_listed : Tunables → ℕ → ℕ → List Planned → List Mo
 images_listed tunables page n plan [] = false
 images_listed tunables page n plan (m ∷ ms) = module_listed tunables page n plan m || images_listed tunables page (n + 1) plan ms
 
--- a making of a region of the pool, or of an image, is listed as one that fails
+-- a making of a region of the pool, or of an image, is listed as one that fails; or another call that makes such a region
 abbrev pub making_listed : Input → List Planned → Bool
-making_listed input plan = list_any (region_listed plan) (makings_for input) || images_listed input.tunables input.page 0 plan input.modules
+making_listed input plan = list_any (region_unmade plan) (makings_for input) || images_listed input.tunables input.page 0 plan input.modules
+
+abbrev pub start_listed : Input → List Planned → Bool
+start_listed input plan = list_any (region_listed plan) (makings_for input) || images_listed input.tunables input.page 0 plan input.modules
 
 -- The run is as it is made of the input: its pool is, with a call for each module, and no party has done anything. No
--- making for it is one that fails, by the maker's own list or by its plan.
+-- making for it is one that fails, by the maker's own list, and no call that makes a region of it by the maker's plan.
 pub record IsMadeRun {P : Type 0} (input : Input) (maker : MakerTold) (run : RunParts P) : Type 0 where
-  pub made : IsMadeCore maker input.config input.tunables input.offered run.core
+  pub made : IsMadeCore maker input.config input.tunables input.offered input.shards run.core
   pub calls : run.modules ≡ calls_made input.tunables maker.page 0 input.modules
   pub own : making_listed input maker.listed ≡ false
-  pub unlisted : IfSome maker.plan (λ plan. making_listed input plan ≡ false)
+  pub unlisted : IfSome maker.plan (λ plan. start_listed input plan ≡ false)
   pub parties : run.parties ≡ parties_made run.core.settings input.parties
+
+-- the stripe from which a party has its memories: the one that its key gave it
+abbrev pub stripe_of : {P : Type 0} → Option (RunningParty P) → ℕ
+stripe_of None = 0
+stripe_of (Some p) = p.frame.stripe
+
+-- what is the same for a whole run, as party i sees it
+abbrev pub world_seen : {P : Type 0} → Input → MakerTold → List (RunningParty P) → ℕ → World
+world_seen input maker parties i = world_at (world_of input maker) i (stripe_of (slice_get parties i))
 
 -- The output is that of a run of the input: the turns lead from the run as it is made to an end, of which the output
 -- gives the replies and the numbers.
@@ -110,8 +141,8 @@ pub record IsRun (P : Type 0) (input : Input) (maker : MakerTold) (output : RunO
   pub end : RunState P
   pub performed : Performs input.finish start.modules (commands_in input.parties) (turns_of input.schedule) (told_state start (nothing_told input.parties)) end
   pub replies : output.replies ≡ end.replies
-  pub told : (i : ℕ) → i < length input.parties → IsToldBy input.finish (world_at (world_of input maker) i).terms (commands_of (commands_in input.parties) i) (replies_to i output.replies)
-  pub room : (i : ℕ) → i < length input.parties → IsPooledRun (world_at (world_of input maker) i) (commands_of (commands_in input.parties) i) (replies_to i output.replies)
+  pub told : (i : ℕ) → i < length input.parties → IsToldBy input.finish (world_seen input maker end.parties i).terms (commands_of (commands_in input.parties) i) (replies_to i output.replies)
+  pub room : (i : ℕ) → i < length input.parties → IsPooledRun (world_seen input maker end.parties i) (commands_of (commands_in input.parties) i) (replies_to i output.replies)
   pub metrics : output.metrics ≡ metrics_of end.core
   pub calls_made : output.calls ≡ calls_of_run end.core end.parties
 
@@ -146,15 +177,26 @@ pub record ModulesFault (tunables : Tunables) (page : ℕ) (ms : List ModuleInfo
   pub cause : (images_listed tunables page 0 old.listed ms ≡ true) ⊎ Rose old.behind new.behind
   pub planned : IfSome old.plan (λ plan. images_listed tunables page 0 plan ms ≡ true)
 
--- No region or image could be made: the maker's count of faults rose. Its own list has a making for the input, or the
--- maker behind it failed; and where its plan is told, that lists one.
-pub record FaultsInMaking (input : Input) (old new : MakerTold) : Type 0 where
-  pub rose : Rose old.faults new.faults
-  pub cause : (making_listed input old.listed ≡ true) ⊎ Rose old.behind new.behind
-  pub planned : IfSome old.plan (λ plan. making_listed input plan ≡ true)
+-- A region of the pool was made and given up, as the first call on it failed, which is one of those that make it. That is
+-- counted by the region, which is gone. Where it tells which calls on it fail, this is one.
+pub record IsGivenUp (maker : MakerTold) (m : Making) : Type 0 where
+  pub makes : list_any (λ n. n == 1) m.calls ≡ true
+  pub listed : IfSome (plan_for m.region maker) (λ calls. list_any (λ n. n == 1) calls ≡ true)
 
--- No region or image could be made by a maker with the input's faults before it: the input lists a making, or the maker's
--- own count of faults rose. And where the maker with the input's faults tells its plan, that lists one.
+abbrev pub GivesUp : Input → MakerTold → Type 0
+GivesUp input maker = Any (IsGivenUp maker) (makings_for input)
+
+-- No region or image could be made: the maker's count of faults rose, or a region was given up. Where none was, the maker's
+-- own list has a making for the input, or the maker behind it failed. And where the maker's plan is told, that lists a call
+-- that makes one.
+pub record FaultsInMaking (input : Input) (old new : MakerTold) : Type 0 where
+  pub rose : Rose old.faults new.faults ⊎ GivesUp input old
+  pub cause : ((making_listed input old.listed ≡ true) ⊎ Rose old.behind new.behind) ⊎ GivesUp input old
+  pub planned : IfSome old.plan (λ plan. start_listed input plan ≡ true)
+
+-- No region or image could be made by a maker with the input's faults before it: the input lists a making, the maker's own
+-- count of faults rose, or a region was given up. And where the maker with the input's faults tells its plan, that lists a
+-- call that makes one.
 pub record HasFaultedMaking (input : Input) (old new : MakerTold) : Type 0 where
-  pub cause : (making_listed input (planned_faults input.faults) ≡ true) ⊎ Rose old.faults new.faults
-  pub planned : IfSome (with_faults input old).plan (λ plan. making_listed input plan ≡ true)
+  pub cause : ((making_listed input (planned_faults input.faults) ≡ true) ⊎ Rose old.faults new.faults) ⊎ GivesUp input (with_faults input old)
+  pub planned : IfSome (with_faults input old).plan (λ plan. start_listed input plan ≡ true)

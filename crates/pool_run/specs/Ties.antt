@@ -1,28 +1,31 @@
 -- What a party was told, and what it has: between two turns they fit each other.
 use Rattle.std.specs.Prelude.{◌≡◌, ℕ, ◌+◌, ◌<◌, ◌≤◌, List, [], length, slice_get, slice_index_or, slice_set, sum_by, All, Bool, true, false, Option, Some, None, IsSome, IfSome}
 use Rattle.pool_pages.specs.MakerTold.{MakerTold}
+use Rattle.pool_pages.specs.declared.module_types.ComponentInfo.{ComponentInfo}
 use Rattle.pool_slots.specs.declared.errors.AllocError.{AllocError}
+use Rattle.pool_alloc.specs.Refusals.{component_refused}
 use Rattle.pool_alloc.specs.Reserved.{Reserved}
 use Rattle.pool_alloc.specs.Searches.{IsSearched}
-use Rattle.pool_alloc.specs.Stages.{Progress, untested, uncounted, admitted, Stage, no_call, keys, asks, returning, refusing, stage_of}
-use Rattle.pool_alloc.specs.Steps.{memories_wanted, images_wanted, tables_wanted}
+use Rattle.pool_alloc.specs.Stages.{Progress, untested, uncounted, admitted, Stage, no_call, keys, asks, returning, refusing, purging, reserving, releasing, stage_of, seeks_stack, tests_component, counts_component}
+use Rattle.pool_alloc.specs.Steps.{memories_wanted, images_wanted, tables_wanted, info_wanted, IsModule}
 use Rattle.pool_alloc.specs.Wants.{Want, wants_from}
 use Rattle.pool_slots.specs.declared.slot_name.SlotName.{SlotName}
-use Rattle.pool_alloc.specs.Places.{Thing, right_to, region_of, away_count, kept_count, frame_count, phase_instances, frame_memories, frame_tables}
-use Rattle.pool_alloc.specs.Stepping.{grant_count, grant_instances, grant_memories, grant_tables}
+use Rattle.pool_alloc.specs.Places.{Thing, right_to, region_of, away_count, kept_count, frame_count, frame_instances, phase_components, phase_stacks, frame_memories, frame_tables}
+use Rattle.pool_alloc.specs.Stepping.{grant_count, grant_instances, grant_components, grant_memories, grant_tables, grant_stacks}
 use Rattle.pool_alloc.specs.Calls.{IsGrant}
 use Rattle.pool_alloc.specs.Sound.{IsCore, IsFrame}
 use Rattle.pool_alloc.specs.Whole.{Holding, IsPartitioned}
 use Rattle.pool_alloc.specs.declared.pool_core.PoolCore.{PoolCore}
 use Rattle.pool_alloc.specs.declared.frame.Frame.{Frame}
-use Rattle.pool_alloc.specs.Asked.{ModuleAsked}
+use Rattle.pool_alloc.specs.declared.frame.Asked.{Asked}
 use Rattle.pool_alloc.specs.declared.frame.Grant.{Grant}
-use Rattle.pool_run.specs.Private.{Grants, Terms, Request, request_of, wants_of, grant_at, own_refusal, IsCause, StepsBy, with_grants}
-use Rattle.pool_run.specs.Rooms.{World, PooledStep, IsForRoom, instance_count}
+use Rattle.pool_run.specs.Private.{Grants, Terms, module_of, Request, request_of, wants_of, grant_at, own_refusal, IsCause, IsComponentRefused, stack_refusal, StepsBy, with_grants}
+use Rattle.pool_run.specs.Rooms.{World, PooledStep, IsForRoom, TellsComponentRoom, TellsStackRoom, instance_count}
 use Rattle.pool_run.specs.Turns.{grants_of}
-use Rattle.pool_run.specs.Acts.{requests, drops, act_at}
+use Rattle.pool_run.specs.Acts.{requests, drops, purges, releases, act_at, Wanted, an_instance, a_component, a_stack}
 use Rattle.pool_run.specs.declared.command.Command.{Command}
 use Rattle.pool_run.specs.declared.reply.Reply.{Reply}
+use Rattle.pool_run.specs.declared.reply.Reply.TheVariants.{Refused}
 use Rattle.pool_run.specs.declared.reply.Refusal.TheVariants.{Alloc}
 use Rattle.pool_run.specs.declared.running_party.RunningParty.{RunningParty}
 use Rattle.pool_run.specs.declared.slot_lists.SlotLists.{SlotLists}
@@ -42,28 +45,50 @@ abbrev pub IsSoFar : World → Request → Grants → Progress → Type 0
 IsSoFar w request told untested = Unit {0}
 IsSoFar w request told uncounted = request.broken ≡ None
 IsSoFar w request told (admitted n) = IsAdmitted w request told n
+IsSoFar w request told seeks_stack = ⊥
 
 -- a refusal has its cause, and tells of room
 abbrev pub HasCause : World → Request → Grants → AllocError → Type 0
 HasCause w request told e = IsCause w.terms request (Alloc e) × IsForRoom w request told e
 
--- a call asks for what the request is for
-pub record IsFor (request : Request) (asked : Option ModuleAsked) : Type 0 where
-  pub memories : wants_from (memories_wanted asked) (images_wanted asked) ≡ request.memories
-  pub tables : tables_wanted asked ≡ request.tables
+-- a call asks for an instance of the module of this number
+pub record IsFor (t : Terms) (number : ℕ) (asked : Asked) : Type 0 where
+  pub of_module : IsModule asked
+  pub info : info_wanted asked ≡ module_of t number
+  pub memories : wants_from (memories_wanted asked) (images_wanted asked) ≡ (request_of t number).memories
 
 -- the command under way requests an instance, and what is asked for is what it is for
-pub record IsRequest (w : World) (commands : List Command) (done : ℕ) (asked : Option ModuleAsked) (told : Grants) (progress : Progress) : Type 0 where
+pub record IsRequest (w : World) (commands : List Command) (done : ℕ) (asked : Asked) (told : Grants) (progress : Progress) : Type 0 where
   pub number : ℕ
-  pub act : act_at commands done ≡ Some (requests number)
-  pub asked_for : IsFor (request_of w.terms number) asked
+  pub act : act_at commands done ≡ Some (requests (an_instance number))
+  pub asked_for : IsFor w.terms number asked
   pub so_far : IsSoFar w (request_of w.terms number) told progress
 
--- it requests one, and is to be refused
+-- it asks for a component of which this is known
+abbrev pub IsForComponent : List Command → ℕ → ComponentInfo → Type 0
+IsForComponent commands done info = act_at commands done ≡ Some (requests (a_component info))
+
+-- it asks for a stack
+abbrev pub IsForStack : List Command → ℕ → Type 0
+IsForStack commands done = act_at commands done ≡ Some (requests a_stack)
+
+-- it asks for a component that breaks no rule
+pub record IsForSupported (w : World) (commands : List Command) (done : ℕ) : Type 0 where
+  pub info : ComponentInfo
+  pub act : IsForComponent commands done info
+  pub supported : component_refused w.terms.settings info ≡ None
+
+-- why it is refused this, and what that tells of room
+abbrev pub CauseFor : World → Wanted → Grants → AllocError → Type 0
+CauseFor w (an_instance number) told e = HasCause w (request_of w.terms number) told e
+CauseFor w (a_component info) told e = IsComponentRefused w.terms (component_refused w.terms.settings info) e × TellsComponentRoom w told (Refused (Alloc e))
+CauseFor w a_stack told e = (e ≡ stack_refusal w.terms) × TellsStackRoom w told (Refused (Alloc e))
+
+-- it requests something, and is to be refused
 pub record IsToRefuse (w : World) (commands : List Command) (done : ℕ) (told : Grants) (e : AllocError) : Type 0 where
-  pub number : ℕ
-  pub act : act_at commands done ≡ Some (requests number)
-  pub cause : HasCause w (request_of w.terms number) told e
+  pub wanted : Wanted
+  pub act : act_at commands done ≡ Some (requests wanted)
+  pub cause : CauseFor w wanted told e
 
 -- it gives a grant back. That ends where its give-back begins, though its reply comes later.
 pub record IsToReturn (commands : List Command) (done : ℕ) (now told : Grants) : Type 0 where
@@ -72,17 +97,34 @@ pub record IsToReturn (commands : List Command) (done : ℕ) (now told : Grants)
   pub there : IsSome (grant_at told of)
   pub ended : now ≡ slice_set told of None
 
+-- it purges a module
+pub record IsPurge (commands : List Command) (done : ℕ) : Type 0 where
+  pub number : ℕ
+  pub act : act_at commands done ≡ Some (purges number)
+
 -- how what the party has now, at each stage of its call, fits what it was told
-abbrev pub TiedAs : World → Stage → List Command → ℕ → Option ModuleAsked → Grants → Grants → Type 0
+abbrev pub TiedAs : World → Stage → List Command → ℕ → Asked → Grants → Grants → Type 0
 TiedAs w no_call commands done asked now told = now ≡ told
 TiedAs w keys commands done asked now told = now ≡ told
+TiedAs w (asks seeks_stack) commands done asked now told = (now ≡ told) × IsForStack commands done
 TiedAs w (asks progress) commands done asked now told = (now ≡ told) × IsRequest w commands done asked told progress
+TiedAs w (tests_component info) commands done asked now told = (now ≡ told) × IsForComponent commands done info
+TiedAs w counts_component commands done asked now told = (now ≡ told) × IsForSupported w commands done
 TiedAs w returning commands done asked now told = IsToReturn commands done now told
 TiedAs w (refusing e) commands done asked now told = (now ≡ told) × IsToRefuse w commands done told e
+TiedAs w purging commands done asked now told = (now ≡ told) × IsPurge commands done
+TiedAs w reserving commands done asked now told = (now ≡ told) × (act_at commands done ≡ Some releases)
+TiedAs w releasing commands done asked now told = (now ≡ told) × (act_at commands done ≡ Some releases)
 
--- a request is under way
+-- a request for objects in slots is under way, or one for whatever it is
+abbrev pub is_for_objects : Stage → Bool
+is_for_objects (asks progress) = true
+is_for_objects _ = false
+
 abbrev pub is_asking : Stage → Bool
 is_asking (asks progress) = true
+is_asking (tests_component info) = true
+is_asking counts_component = true
 is_asking _ = false
 
 -- a list is empty, and has room for so many slots where they are asked for
@@ -106,9 +148,11 @@ module _ {P : Type 0} where
   abbrev pub held_by_party : RunningParty P → Holding
   held_by_party p = record {
     places = λ t. frame_count t p.frame + sum_by (granted_to (grant_count t)) p.live;
-    instances = phase_instances p.frame.phase + sum_by (granted_to grant_instances) p.live;
+    instances = frame_instances p.frame + sum_by (granted_to grant_instances) p.live;
+    components = phase_components p.frame.phase + sum_by (granted_to grant_components) p.live;
     memories = frame_memories p.frame + sum_by (granted_to grant_memories) p.live;
     tables = frame_tables p.frame + sum_by (granted_to grant_tables) p.live;
+    stacks = phase_stacks p.frame.phase + sum_by (granted_to grant_stacks) p.live;
   }
 
   -- what a turn leaves of a party that its calls say
@@ -125,8 +169,8 @@ module _ {P : Type 0} where
 
   -- the lists for the slots of what is asked for are empty, and have room for them
   pub record IsReserved (f : Frame P) (slots : SlotLists) : Type 0 where
-    pub memories : HasRoomFor (is_asking (stage_of f)) (length (memories_wanted f.asked)) slots.memories
-    pub tables : HasRoomFor (is_asking (stage_of f)) (length (tables_wanted f.asked)) slots.tables
+    pub memories : HasRoomFor (is_for_objects (stage_of f)) (length (memories_wanted f.asked)) slots.memories
+    pub tables : HasRoomFor (is_for_objects (stage_of f)) (length (tables_wanted f.asked)) slots.tables
 
   -- What a turn relies on: what the party has fits what the pool has given out. It was given out and isn't kept, others
   -- have no region without its slot, and what the party has counted is counted.
@@ -134,8 +178,10 @@ module _ {P : Type 0} where
     pub once : (t : Thing) → kept_count t c + (held_by_party p).places t ≤ away_count t c
     pub others : (name : SlotName) → away_count (region_of name) c + (kept_count (right_to name) c + (held_by_party p).places (right_to name)) ≤ away_count (right_to name) c + (kept_count (region_of name) c + (held_by_party p).places (region_of name))
     pub instances : (held_by_party p).instances ≤ c.counters.core_instances
+    pub components : (held_by_party p).components ≤ c.counters.component_instances
     pub memories : (held_by_party p).memories ≤ c.counters.memories
     pub tables : (held_by_party p).tables ≤ c.counters.tables
+    pub stacks : (held_by_party p).stacks ≤ c.counters.stacks
 
   pub record CanTurn (maker : MakerTold) (c : PoolCore P) (p : RunningParty P) : Type 0 where
     pub core : IsCore maker c
@@ -152,5 +198,6 @@ module _ {P : Type 0} where
   -- has counted what is counted.
   pub record IsAlone (c : PoolCore P) (f : Frame P) (live : List (Option (Grant P))) : Type 0 where
     pub places : (t : Thing) → kept_count t c + (frame_count t f + sum_by (granted_to (grant_count t)) live) ≡ away_count t c
-    pub instances : c.counters.core_instances ≡ phase_instances f.phase + sum_by (granted_to grant_instances) live
+    pub instances : c.counters.core_instances ≡ frame_instances f + sum_by (granted_to grant_instances) live
+    pub components : c.counters.component_instances ≡ phase_components f.phase + sum_by (granted_to grant_components) live
     pub searched : IsSearched c f

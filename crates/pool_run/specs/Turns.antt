@@ -1,5 +1,5 @@
 -- A turn of a party in a run: the next step of its call, or the first step of its next command.
-use Rattle.std.specs.Prelude.{◌≡◌, ℕ, ◌+◌, ◌*◌, List, [], ◌∷◌, ◌++◌, length, map, replicate, nat_le, nat_lt, slice_get, slice_index_or, slice_set, ◌⊎◌, Bool, true, false, if◌then◌else◌, Option, Some, None, option_map}
+use Rattle.std.specs.Prelude.{◌≡◌, ℕ, ◌+◌, ◌*◌, List, [], ◌∷◌, ◌++◌, length, map, replicate, nat_le, nat_lt, slice_get, slice_index_or, slice_range, slice_set, ◌⊎◌, Bool, true, false, if◌then◌else◌, Option, Some, None, option_map}
 use Rattle.std.specs.List.{concat}
 use Rattle.pool_pages.specs.Told.{Told, overwritten, risen}
 use Rattle.pool_limits.specs.Growth.{GrowthRule}
@@ -13,26 +13,31 @@ use Rattle.pool_table.specs.declared.gc_store.ListedStore.{ListedStore}
 use Rattle.pool_alloc.specs.Leases.{Lease, IsUsable}
 use Rattle.pool_alloc.specs.TableLeases.{LeasedTable, LiesInRegion}
 use Rattle.pool_alloc.specs.Reserved.{no_room}
+use Rattle.pool_alloc.specs.StackLeases.{LeasedStack}
+use Rattle.pool_images.specs.Slots.{Slot}
+use Rattle.pool_slots.specs.PlainSlots.{plain_written}
 use Rattle.pool_alloc.specs.Calls.{begun_call}
 use Rattle.pool_alloc.specs.Turns.{After}
 use Rattle.pool_alloc.specs.Stepping.{StepsTo, is_idle}
 use Rattle.pool_alloc.specs.declared.pool_core.PoolCore.{PoolCore}
 use Rattle.pool_alloc.specs.declared.frame.Frame.{Frame}
 use Rattle.pool_alloc.specs.Asked.{ModuleAsked}
+use Rattle.pool_alloc.specs.declared.frame.Call.{Call}
 use Rattle.pool_alloc.specs.declared.frame.Call.TheVariants as call
 use Rattle.pool_alloc.specs.declared.frame.Grant.{Grant}
-use Rattle.pool_alloc.specs.declared.frame.Grant.TheVariants.{Instance as instance}
+use Rattle.pool_alloc.specs.declared.frame.Grant.TheVariants.{Instance as instance, Component as component, Stack as stack}
 use Rattle.pool_alloc.specs.declared.frame.Outcome.{Outcome}
 use Rattle.pool_alloc.specs.declared.frame.Outcome.TheVariants as answer
 use Rattle.pool_run.specs.PartyRules.{rule_of, host_of}
+use Rattle.pool_run.specs.PrivateStacks.{ReadsBytes, PrivateStack}
 use Rattle.pool_run.specs.PrivateTables.{Host, PrivateTable, StoredTable, TableMoves, elements_set}
 use Rattle.pool_run.specs.TableValues.{element_for}
-use Rattle.pool_run.specs.Private.{PrivateMemory, PrivateInstance, Grants, IsRead, GrowthEnd, as_it_was, could_not, has_grown, growth, size_wanted, memory_grown}
+use Rattle.pool_run.specs.Private.{PrivateMemory, PrivateGrant, instance_grant, component_grant, stack_grant, Grants, IsRead, GrowthEnd, as_it_was, could_not, has_grown, growth, size_wanted, memory_grown}
 use Rattle.pool_run.specs.Objects.{Objects, MovesObject, object_at}
-use Rattle.pool_run.specs.Acts.{MemoryOp, reads, writes, fills, grows, asks_size, TableOp, sets, Act, requests, on_memory, on_table, drops, act_of}
+use Rattle.pool_run.specs.Acts.{MemoryOp, reads, writes, fills, grows, asks_size, TableOp, sets, Act, requests, on_memory, on_table, drops, purges, releases, act_of, Wanted, an_instance, a_component, a_stack}
 use Rattle.pool_run.specs.declared.command.Command.{Command}
 use Rattle.pool_run.specs.declared.reply.Reply.{Reply}
-use Rattle.pool_run.specs.declared.reply.Reply.TheVariants.{Instance, Done, Size, Returned, Refused, Trap as trapped}
+use Rattle.pool_run.specs.declared.reply.Reply.TheVariants.{Instance, Done, Size, Returned, Purged, Released, Refused, Trap as trapped, Component, Stack, Grown}
 use Rattle.pool_limits.specs.declared.errors.Trap.TheVariants.{MemoryOutOfBounds}
 use Rattle.pool_run.specs.declared.reply.Refusal.TheVariants.{NoSuchGrant, GcStoreFault, Alloc}
 use Rattle.pool_run.specs.declared.running_party.RunningParty.{RunningParty}
@@ -77,6 +82,28 @@ LeaseMoves (writes at bytes) rule l new reply = MovesLease (MemoryWrites at byte
 LeaseMoves (fills at len byte) rule l new reply = MovesLease (MemoryWrites at (replicate len byte)) l new reply
 LeaseMoves (grows pages) rule l new reply = MovesLease (MemoryGrows rule pages) l new reply
 LeaseMoves asks_size rule l new reply = (reply ≡ Size l.memory.linear.size) × (new ≡ l)
+
+-- the bytes of a stack in a region, where they are told
+abbrev pub stack_bytes : Slot → Option (List ℕ)
+stack_bytes slot = option_map (λ c. slice_range c.bytes slot.base.bytes (slot.base.bytes + slot.static_size)) slot.region.contents
+
+-- the stack in a slot, as the party sees it
+abbrev pub private_stack : LeasedStack → PrivateStack
+private_stack l = record { slot = l.stack.index; size = l.stack.slot.static_size; bytes = stack_bytes l.stack.slot }
+
+-- the stack after a write of these bytes, and the reply
+abbrev pub StackLeaseWrites : ℕ → List ℕ → LeasedStack → LeasedStack → Reply → Type 0
+StackLeaseWrites at bytes l new reply =
+    ◌≡◌ {A = LeasedStack × Reply} (new, reply)
+    (if nat_le (at + length bytes) l.stack.slot.static_size then (record l { stack = record l.stack { slot = plain_written at bytes l.stack.slot } }, Done) else (l, trapped MemoryOutOfBounds))
+
+-- what an operation makes of a stack that was granted, and the reply
+abbrev pub StackLeaseMoves : MemoryOp → LeasedStack → LeasedStack → Reply → Type 0
+StackLeaseMoves (reads at len) l new reply = ReadsBytes (private_stack l).size (private_stack l).bytes at len reply × (new ≡ l)
+StackLeaseMoves (writes at bytes) l new reply = StackLeaseWrites at bytes l new reply
+StackLeaseMoves (fills at len byte) l new reply = StackLeaseWrites at (replicate len byte) l new reply
+StackLeaseMoves (grows pages) l new reply = (reply ≡ Grown None) × (new ≡ l)
+StackLeaseMoves asks_size l new reply = (reply ≡ Size l.stack.slot.static_size) × (new ≡ l)
 
 -- the table in a slot, as the party sees it
 abbrev pub private_table : LeasedTable → PrivateTable
@@ -136,17 +163,21 @@ pub data Opening (P : Type 0) : Type 0 where
   makes_step : Frame P → List (Option (Grant P)) → Opening P
 
 module _ {P : Type 0} where
-  abbrev pub private_grant : Grant P → PrivateInstance
-  private_grant (instance lease) = record { memories = map private_memory lease.memories.items; tables = map private_table lease.tables.items }
+  abbrev pub private_grant : Grant P → PrivateGrant
+  private_grant (instance lease) = instance_grant (record { memories = map private_memory lease.memories.items; tables = map private_table lease.tables.items })
+  private_grant component = component_grant
+  private_grant (stack lease) = stack_grant (private_stack lease)
 
   abbrev pub grants_of : List (Option (Grant P)) → Grants
   grants_of live = map (option_map private_grant) live
 
   abbrev pub leases_of : Grant P → List Lease
   leases_of (instance lease) = lease.memories.items
+  leases_of _ = []
 
   abbrev pub tables_of : Grant P → List LeasedTable
   tables_of (instance lease) = lease.tables.items
+  tables_of _ = []
 
   -- the command ends with this reply
   abbrev pub ended_with : Reply → PoolCore P → RunningParty P → Turned P
@@ -162,6 +193,8 @@ module _ {P : Type 0} where
   -- the reply to a request that was granted
   abbrev pub granted_reply : Grant P → Reply
   granted_reply (instance lease) = Instance (map (λ l. l.index) lease.memories.items) (map (λ l. l.index) lease.tables.items)
+  granted_reply component = Component
+  granted_reply (stack lease) = Stack lease.stack.index
 
   -- a call's answer, as the party takes it
   abbrev pub answered : Option (Outcome P) → PoolCore P → RunningParty P → Turned P
@@ -169,6 +202,8 @@ module _ {P : Type 0} where
   answered (Some answer.Key) c p = record { core = c; party = record p { keyed = true }; reply = None }
   answered (Some (answer.Granted grant)) c p = ended_with (granted_reply grant) c (record p { live = slice_set p.live p.done (Some grant) })
   answered (Some answer.Returned) c p = ended_with Returned c p
+  answered (Some (answer.Purged n)) c p = ended_with (Purged n) c p
+  answered (Some (answer.Released n)) c p = ended_with (Released n) c p
   answered (Some (answer.Refused e)) c p = ended_with (Refused (Alloc e)) c p
 
   -- the lists for the slots of what is asked for: its grant's reply takes them
@@ -190,6 +225,7 @@ module _ {P : Type 0} where
   -- the leases of the tables of a grant
   abbrev pub with_table_lease : ℕ → LeasedTable → Grant P → Grant P
   with_table_lease k l (instance lease) = instance (record lease { tables = record lease.tables { items = slice_set lease.tables.items k l } })
+  with_table_lease k l grant = grant
 
   abbrev pub table_leases : Objects (Grant P) LeasedTable
   table_leases = record { in_grant = tables_of; put_in = with_table_lease }
@@ -201,31 +237,69 @@ module _ {P : Type 0} where
   -- the leases of the memories of a grant
   abbrev pub with_lease : ℕ → Lease → Grant P → Grant P
   with_lease k l (instance lease) = instance (record lease { memories = record lease.memories { items = slice_set lease.memories.items k l } })
+  with_lease k l grant = grant
 
   abbrev pub memory_leases : Objects (Grant P) Lease
   memory_leases = record { in_grant = leases_of; put_in = with_lease }
 
-  -- A request: the module and its images are shared, and the reply's list is reserved, or the command ends at once for want
+  -- a call that asks for no grant, and takes none of the party's along
+  abbrev pub IsPlain : Call P → Type 0
+  IsPlain call.Key = Unit {0}
+  IsPlain (call.Purge id) = Unit {0}
+  IsPlain call.Release = Unit {0}
+  IsPlain _ = ⊥
+
+  -- a stack is the only one of its grant
+  abbrev pub stack_of : Grant P → List LeasedStack
+  stack_of (stack lease) = lease ∷ []
+  stack_of _ = []
+
+  abbrev pub with_stack_lease : ℕ → LeasedStack → Grant P → Grant P
+  with_stack_lease k l (stack lease) = stack l
+  with_stack_lease k l grant = grant
+
+  abbrev pub stack_leases : Objects (Grant P) LeasedStack
+  stack_leases = record { in_grant = stack_of; put_in = with_stack_lease }
+
+  -- an operation on bytes of the grant of command `of`, where this is that grant
+  abbrev pub MovesLeasedBytes : MemoryOp → GrowthRule → Option (Grant P) → ℕ → ℕ → List (Option (Grant P)) → Reply → List (Option (Grant P)) → Type 0
+  MovesLeasedBytes op rule (Some (stack lease)) of k = MovesObject stack_leases (StackLeaseMoves op) of k
+  MovesLeasedBytes op rule _ of k = MovesObject memory_leases (LeaseMoves op rule) of k
+
+  -- A request for an instance: the module and its images are shared, and the reply's list is reserved, or the command ends at once for want
   -- of memory.
   abbrev pub OpensRequest : Option ModuleAsked → RunningParty P → Opening P → Type 0
   OpensRequest None p o = ⊥
   OpensRequest (Some kept) p o =
       (o ≡ replies (Refused (Alloc alloc.Memory)) p.live p.store) ⊎ (o ≡ makes_step (begun_call (call.Module kept) p.frame) p.live)
 
+  -- a request for this, where these are the calls for the modules by number
+  abbrev pub OpensWanted : List ModuleAsked → Wanted → RunningParty P → Opening P → Type 0
+  OpensWanted modules (an_instance number) p o = OpensRequest (slice_get modules number) p o
+  OpensWanted modules (a_component info) p o = o ≡ makes_step (begun_call (call.Component info) p.frame) p.live
+  OpensWanted modules a_stack p o = o ≡ makes_step (begun_call call.Stack p.frame) p.live
+
   -- a grant that the party gives back is no longer one of its live ones
   abbrev pub drop_opening : Option (Grant P) → ℕ → RunningParty P → Opening P
   drop_opening None of p = replies (Refused NoSuchGrant) p.live p.store
   drop_opening (Some grant) of p = makes_step (begun_call (call.GiveBack grant) p.frame) (slice_set p.live of None)
 
+  -- a purge of a module, by its id
+  abbrev pub OpensPurge : Option ModuleAsked → RunningParty P → Opening P → Type 0
+  OpensPurge None p o = ⊥
+  OpensPurge (Some kept) p o = o ≡ makes_step (begun_call (call.Purge kept.id) p.frame) p.live
+
   -- what a command opens with, where these are the calls for the modules by number
   abbrev pub OpensAct : List ModuleAsked → Act → RunningParty P → Opening P → Type 0
-  OpensAct modules (requests number) p o = OpensRequest (slice_get modules number) p o
+  OpensAct modules (requests wanted) p o = OpensWanted modules wanted p o
   OpensAct modules (on_memory of k op) p o =
-      (reply : Reply) × (live : List (Option (Grant P))) × MovesObject memory_leases (LeaseMoves op (rule_of p.limits)) of k p.live reply live × (o ≡ replies reply live p.store)
+      (reply : Reply) × (live : List (Option (Grant P))) × MovesLeasedBytes op (rule_of p.limits) (slice_index_or p.live of None) of k p.live reply live × (o ≡ replies reply live p.store)
   OpensAct modules (on_table of k op) p o =
       (reply : Reply) × (live : List (Option (Grant P))) × (store : ListedStore) × MovesObject table_leases (MovesTable op (rule_of p.limits) p.store store) of k p.live reply live
       × (object_at table_leases of k p.live ≡ None → store ≡ p.store) × (o ≡ replies reply live store)
   OpensAct modules (drops of) p o = o ≡ drop_opening (slice_index_or p.live of None) of p
+  OpensAct modules (purges number) p o = OpensPurge (slice_get modules number) p o
+  OpensAct modules releases p o = o ≡ makes_step (begun_call call.Release p.frame) p.live
 
   -- the next command, if there is one; before its first the party draws its stripe
   abbrev pub OpensNext : List ModuleAsked → Option Command → Bool → RunningParty P → Opening P → Type 0

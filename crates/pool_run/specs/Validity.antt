@@ -1,13 +1,15 @@
 -- When an input can be run: its sizes are within the limits, and what it names is there.
-use Rattle.std.specs.Prelude.{ℕ, List, [], ◌∷◌, ◌++◌, length, ◌&&◌, nat_lt, nat_le, Bool, true, false, Option, Some, None}
+use Rattle.std.specs.Prelude.{ℕ, List, [], ◌∷◌, ◌++◌, length, ◌==◌, ◌^◌, not, ◌&&◌, nat_lt, nat_le, Bool, true, false, Option, Some, None}
 use Rattle.std.specs.List.{list_all, slice_get}
 use Rattle.std.specs.Option.{option_map_or, option_and_then}
 use Rattle.pool_pages.specs.declared.module_types.ImageDecl.{ImageDecl}
 use Rattle.pool_pages.specs.declared.module_types.MemoryDecl.{MemoryDecl}
 use Rattle.pool_pages.specs.declared.module_types.ModuleInfo.{ModuleInfo}
+use Rattle.pool_pages.specs.declared.module_types.Part.{Part}
 use Rattle.pool_pages.specs.declared.table_type.TableType.{TableType}
+use Rattle.pool_alloc.specs.Refusals.{instance_size}
 use Rattle.pool_run.specs.TableValues.{is_value_of}
-use Rattle.pool_run.specs.Acts.{MemoryOp, reads, writes, TableOp, sets, Act, requests, on_memory, on_table, drops, act_of, act_at}
+use Rattle.pool_run.specs.Acts.{MemoryOp, reads, writes, TableOp, sets, Act, requests, on_memory, on_table, drops, purges, releases, act_of, act_at, grows, Wanted, an_instance, a_stack}
 use Rattle.pool_run.specs.declared.command.Command.{Command}
 use Rattle.pool_run.specs.declared.input.Input.{Input}
 use Rattle.pool_run.specs.declared.input.Party.{Party}
@@ -24,6 +26,10 @@ most_memories = 100
 
 abbrev pub most_tables : ℕ
 most_tables = 100
+
+-- how many bytes the state of an instance of a module may take
+abbrev pub most_instance_bytes : ℕ
+most_instance_bytes = 2 ^ 32
 
 -- how many parties there may be
 abbrev pub most_parties : ℕ
@@ -47,16 +53,27 @@ most_bytes = 1048576
 
 -- the module of which an instance is requested, where one is
 abbrev pub module_granted : List ModuleInfo → Option Act → Option ModuleInfo
-module_granted modules (Some (requests number)) = slice_get modules number
+module_granted modules (Some (requests (an_instance number))) = slice_get modules number
 module_granted modules _ = None
 
--- command `of` of the earlier ones requests a grant that has this memory, or this table
+-- the module has this memory
 abbrev pub has_memory : Option ModuleInfo → ℕ → Bool
 has_memory None place = false
 has_memory (Some info) place = nat_lt place (length info.memories)
 
-abbrev pub names_memory : List ModuleInfo → List Command → ℕ → ℕ → Bool
-names_memory modules earlier of memory = has_memory (module_granted modules (act_at earlier of)) memory
+-- a stack is memory 0 alone, and doesn't grow
+abbrev pub is_on_stack : MemoryOp → ℕ → Bool
+is_on_stack (grows pages) place = false
+is_on_stack _ place = place == 0
+
+-- Command `of` of the earlier ones requests a grant that has this memory, or a stack, on which the operation can be one.
+abbrev pub grants_bytes : List ModuleInfo → MemoryOp → ℕ → Option Act → Bool
+grants_bytes modules op place (Some (requests (an_instance number))) = has_memory (slice_get modules number) place
+grants_bytes modules op place (Some (requests a_stack)) = is_on_stack op place
+grants_bytes modules op place _ = false
+
+abbrev pub names_memory : List ModuleInfo → List Command → MemoryOp → ℕ → ℕ → Bool
+names_memory modules earlier op of memory = grants_bytes modules op memory (act_at earlier of)
 
 abbrev pub table_named : List ModuleInfo → List Command → ℕ → ℕ → Option TableType
 table_named modules earlier of table = option_and_then (λ (info : ModuleInfo). slice_get info.tables table) (module_granted modules (act_at earlier of))
@@ -73,7 +90,7 @@ suits op (Some ty) = can_be_set op ty
 
 -- a grant is requested
 abbrev pub requests_grant : Option Act → Bool
-requests_grant (Some (requests number)) = true
+requests_grant (Some (requests wanted)) = true
 requests_grant _ = false
 
 -- it reads or writes no more bytes than a command may
@@ -82,12 +99,19 @@ is_short (reads at len) = nat_le len most_bytes
 is_short (writes at bytes) = nat_le (length bytes) most_bytes
 is_short _ = true
 
+-- a module of which an instance is requested is there
+abbrev pub is_there : ℕ → Wanted → Bool
+is_there modules (an_instance number) = nat_lt number modules
+is_there modules _ = true
+
 -- a command that does this can stand after the earlier ones of its party
 abbrev pub is_valid_act : List ModuleInfo → List Command → Act → Bool
-is_valid_act modules earlier (requests number) = nat_lt number (length modules)
-is_valid_act modules earlier (on_memory of k op) = is_short op && names_memory modules earlier of k
+is_valid_act modules earlier (requests wanted) = is_there (length modules) wanted
+is_valid_act modules earlier (on_memory of k op) = is_short op && names_memory modules earlier op of k
 is_valid_act modules earlier (on_table of k op) = suits op (table_named modules earlier of k)
 is_valid_act modules earlier (drops of) = requests_grant (act_at earlier of)
+is_valid_act modules earlier (purges number) = nat_lt number (length modules)
+is_valid_act modules earlier releases = true
 
 -- so can each of the commands, after the earlier ones and those before it
 abbrev pub are_valid_after : List ModuleInfo → List Command → List Command → Bool
@@ -108,8 +132,19 @@ is_valid_schedule parties schedule = nat_le (length (turns_of schedule)) most_st
 abbrev pub is_valid_memory : MemoryDecl → Bool
 is_valid_memory decl = option_map_or (λ (image : ImageDecl). nat_le (length image.bytes) most_bytes) decl.image true
 
+-- a byte of a name is a printable one, and no backslash, so that a text with the name stands on one line
+abbrev pub is_name_byte : ℕ → Bool
+is_name_byte byte = nat_le 32 byte && (nat_le byte 126 && not (byte == 92))
+
+abbrev pub is_named : Part → Bool
+is_named part = list_all is_name_byte part.name
+
+-- an instance of it takes not too many bytes, of parts with such names
+abbrev pub is_valid_state : ModuleInfo → Bool
+is_valid_state info = nat_le (instance_size info) most_instance_bytes && list_all is_named info.parts
+
 abbrev pub is_valid_module : ModuleInfo → Bool
-is_valid_module info = nat_le (length info.memories) most_memories && (nat_le (length info.tables) most_tables && list_all is_valid_memory info.memories)
+is_valid_module info = nat_le (length info.memories) most_memories && (nat_le (length info.tables) most_tables && (list_all is_valid_memory info.memories && is_valid_state info))
 
 abbrev pub are_valid_modules : List ModuleInfo → Bool
 are_valid_modules modules = nat_le (length modules) most_modules && list_all is_valid_module modules

@@ -1,7 +1,8 @@
 -- What a run relies on from its input: the pool has the sizes that replies speak of, and each call for a module is a call
 -- for its memories and their images.
-use Rattle.std.specs.Prelude.{◌≡◌, ℕ, ◌<◌, List, length, slice_get, true, Some, IfSome}
-use Rattle.pool_hall.specs.declared.unit_name.SlotKind.TheVariants.{Table as table_kind}
+use Rattle.std.specs.Prelude.{◌≡◌, ℕ, ◌+◌, ◌-◌, ◌*◌, ◌<◌, List, length, slice_get, true, Some, IfSome}
+use Rattle.std.specs.Int.{div_ceil}
+use Rattle.pool_hall.specs.declared.unit_name.SlotKind.TheVariants.{Table as table_kind, Stack as stack_kind}
 use Rattle.pool_slots.specs.Plans.{has_number}
 use Rattle.pool_slots.specs.declared.plan.Plan.{Plan}
 use Rattle.pool_alloc.specs.Modules.{HasImages}
@@ -10,18 +11,22 @@ use Rattle.pool_alloc.specs.Sound.{AreImagesOf}
 use Rattle.pool_alloc.specs.declared.pool_core.PoolCore.{PoolCore}
 use Rattle.pool_alloc.specs.declared.pool_core.Settings.{Settings}
 use Rattle.pool_alloc.specs.Asked.{ModuleAsked}
-use Rattle.pool_run.specs.Private.{Terms, request_of}
+use Rattle.pool_alloc.specs.declared.frame.Asked.TheVariants.{Module as module_asked}
+use Rattle.pool_run.specs.Private.{Terms}
+use Rattle.pool_run.specs.PrivateStacks.{StackTerms}
 use Rattle.pool_run.specs.Rooms.{World}
 use Rattle.pool_run.specs.Ties.{IsFor}
-use Rattle.pool_run.specs.Acts.{Act, requests, act_of}
+use Rattle.pool_run.specs.Acts.{Act, requests, purges, act_of, an_instance}
 use Rattle.pool_run.specs.declared.command.Command.{Command}
 
--- so many slots are all that the pool has, and those of its only stripe
-pub record HasOneStripe (slots : ℕ) (plan : Plan) : Type 0 where
+-- So many slots are all that the pool has, and they are dealt out to so many stripes in turn: each has its share, which
+-- begins with the slot of the stripe's number.
+pub record HasStripes (slots stripes : ℕ) (plan : Plan) : Type 0 where
   pub total : slots ≡ memory_slots plan
-  pub one : length plan.memories ≡ 1
-  pub room : (stripe_allocator plan 0).capacity ≡ slots
-  pub each : (slot : ℕ) → slot < slots → has_number (stripe_allocator plan 0) slot ≡ true
+  pub some : 0 < stripes
+  pub count : length plan.memories ≡ stripes
+  pub room : (s : ℕ) → s < stripes → (stripe_allocator plan s).capacity ≡ div_ceil (slots - s) stripes
+  pub each : (s j : ℕ) → s < stripes → j < div_ceil (slots - s) stripes → has_number (stripe_allocator plan s) (s + j * stripes) ≡ true
 
 -- and so many are all its slots for tables, which have one allocator
 pub record HasTables (slots : ℕ) (plan : Plan) : Type 0 where
@@ -29,33 +34,43 @@ pub record HasTables (slots : ℕ) (plan : Plan) : Type 0 where
   pub room : (allocator_of plan table_kind 0).capacity ≡ slots
   pub each : (slot : ℕ) → slot < slots → has_number (allocator_of plan table_kind 0) slot ≡ true
 
--- the pool has the settings and as many slots as the world says, in one stripe
+-- its stacks are these, which have one allocator
+pub record HasStacks {P : Type 0} (t : StackTerms) (c : PoolCore P) : Type 0 where
+  pub total : t.slots ≡ c.plan.totals.stack
+  pub room : (allocator_of c.plan stack_kind 0).capacity ≡ t.slots
+  pub each : (slot : ℕ) → slot < t.slots → has_number (allocator_of c.plan stack_kind 0) slot ≡ true
+  pub size : t.size ≡ c.settings.stack_size
+  pub zeroing : t.zeroing ≡ c.settings.stack_zeroing
+
+-- the pool has the settings and as many slots as the world says, in as many stripes
 pub record IsWorldOf {P : Type 0} (w : World) (c : PoolCore P) : Type 0 where
   pub tells : w.terms.tells ≡ w.maker.tells
   pub settings : w.terms.settings ≡ c.settings
-  pub plan : HasOneStripe w.terms.slots c.plan
+  pub plan : HasStripes w.terms.slots w.terms.settings.num_stripes c.plan
   pub tables : HasTables w.terms.table_slots c.plan
+  pub stacks : HasStacks w.terms.stacks c
 
 -- the images that are given are those of the module's memories
 pub record IsFit (s : Settings) (m : ModuleAsked) : Type 0 where
-  pub images : AreImagesOf s (memories_wanted (Some m)) (images_wanted (Some m))
-  pub places : HasImages (Some m)
+  pub images : AreImagesOf s (memories_wanted (module_asked m)) (images_wanted (module_asked m))
+  pub places : HasImages (module_asked m)
 
 abbrev pub AreFit : Settings → List ModuleAsked → Type 0
 AreFit s modules = (number : ℕ) → IfSome (slice_get modules number) (IsFit s)
 
 -- the call is one for the module of this number
 pub record IsCallFor (t : Terms) (s : Settings) (number : ℕ) (m : ModuleAsked) : Type 0 where
-  pub asked : IsFor (request_of t number) (Some m)
+  pub asked : IsFor t number (module_asked m)
   pub fit : IsFit s m
 
 -- each call is one for the module of its number
 abbrev pub AreCallsFor : Terms → Settings → List ModuleAsked → Type 0
 AreCallsFor t s modules = (number : ℕ) → IfSome (slice_get modules number) (IsCallFor t s number)
 
--- a module that is requested is one of so many
+-- a module that is requested or purged is one of so many
 abbrev pub NamesModule : ℕ → Act → Type 0
-NamesModule count (requests number) = number < count
+NamesModule count (requests (an_instance number)) = number < count
+NamesModule count (purges number) = number < count
 NamesModule count _ = Unit {0}
 
 abbrev pub NameModules : ℕ → List Command → Type 0

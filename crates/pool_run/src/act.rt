@@ -3,6 +3,7 @@ ghost use Rattle.pool_run.specs.Acts.{act_of};
 ghost use Rattle.pool_run.specs.AtOnce.{given_act};
 
 use crate::command::{Command, TableValue};
+use pool_pages::ComponentInfo;
 
 /// What a command does with a memory of a live grant.
 #[derive(Drop)]
@@ -31,13 +32,20 @@ pub(crate) enum TableOp {
     Size,
 }
 
+/// What a command asks for.
+#[derive(Clone, Copy)]
+pub(crate) enum Wanted {
+    /// An instance of the module with this number.
+    Instance { module: usize },
+    Component(ComponentInfo),
+    Stack,
+}
+
 /// What a command does: commands that do alike have one case.
 #[derive(Drop)]
 pub(crate) enum Act<'a> {
-    /// Requests an instance of the module with this number.
-    Request {
-        module: usize,
-    },
+    /// Requests a grant.
+    Request(Wanted),
     /// Does something with memory `memory` of the grant of command `of`.
     OnMemory {
         of: usize,
@@ -54,6 +62,12 @@ pub(crate) enum Act<'a> {
     Drop {
         of: usize,
     },
+    /// Purges the module with this number.
+    Purge {
+        module: usize,
+    },
+    /// Releases what free memories keep resident.
+    Release,
 }
 
 /// What the command does.
@@ -61,7 +75,21 @@ pub(crate) fn act_of(command: &Command) -> Act<'_>
     ensures { given_act result ≡ act_of command.now }
 {
     match command {
-        Command::Instantiate { module } => Act::Request { module: *module },
+        Command::Instantiate { module } => Act::Request(Wanted::Instance { module: *module }),
+        Command::Component {
+            core_instances,
+            memories,
+            tables,
+            core_bytes,
+            own_bytes,
+        } => Act::Request(Wanted::Component(ComponentInfo {
+            core_instances: *core_instances,
+            memories: *memories,
+            tables: *tables,
+            core_bytes: *core_bytes,
+            own_bytes: *own_bytes,
+        })),
+        Command::Stack => Act::Request(Wanted::Stack),
         Command::Read {
             of,
             memory,
@@ -155,5 +183,7 @@ pub(crate) fn act_of(command: &Command) -> Act<'_>
             op: TableOp::Size,
         },
         Command::Drop { of } => Act::Drop { of: *of },
+        Command::Purge { module } => Act::Purge { module: *module },
+        Command::Release => Act::Release,
     }
 }

@@ -1,12 +1,13 @@
-ghost use Rattle.std.specs.Prelude.{◌≡◌, ◌<◌, length, replicate, slice_get, slice_set, None, Some};
+ghost use Rattle.std.specs.Prelude.{◌≡◌, ◌+◌, ◌<◌, length, nat_le, replicate, slice_get, slice_index_or, None};
 ghost use Rattle.pool_alloc.specs.Leases.{IsChanged};
 ghost use Rattle.pool_alloc.specs.declared.frame.Grant.TheVariants.{Instance as instance};
-ghost use Rattle.pool_run.specs.AtOnce.{given_op, GrowsUnder};
+ghost use Rattle.pool_run.specs.AtOnce.{given_op, GrowsUnder, MovesGrantBytes, MovesStackBytes, MovesTakenBytes};
 ghost use Rattle.pool_run.specs.PartyRules.{rule_of};
-ghost use Rattle.pool_run.specs.Objects.{MovesNamed, MovesObject};
+ghost use Rattle.pool_run.specs.PrivateStacks.{ReadsBytes};
+ghost use Rattle.pool_run.specs.Objects.{MovesNamed};
 ghost use Rattle.pool_run.specs.Private.{IsRead};
 ghost use Rattle.pool_run.specs.declared.reply.Reply.TheVariants.{Size};
-ghost use Rattle.pool_run.specs.Turns.{LeaseMoves, leases_of, memory_leases, with_lease, private_memory};
+ghost use Rattle.pool_run.specs.Turns.{LeaseMoves, with_lease, private_memory, private_stack, StackLeaseMoves, StackLeaseWrites, MovesLeasedBytes};
 
 use crate::act::MemoryOp;
 use crate::copies::zeros;
@@ -15,14 +16,15 @@ use crate::leases::Leases;
 use crate::limiter::limiter_of;
 use crate::replies::{growth_reply, write_reply};
 use crate::reply::{Refusal, Reply};
-use pool_alloc::{Grant, InstanceLease, MemoryLease, ReservedList};
-use pool_limits::{GrowFault, Unlimited};
+use pool_alloc::{Grant, InstanceLease, MemoryLease, ReservedList, StackLease};
+use pool_limits::{GrowFault, Trap, Unlimited};
 use pool_pages::{ByteList, Pages};
 use pool_slots::AllocError as Cause;
 use std::alloc::Global;
 
-/// Does something with memory `memory` of the grant of command `of`. It grows under these limits.
-pub(crate) fn act_on<P: Pages>(
+/// Does something with memory `memory` of the grant of command `of`, or with its stack, which is its memory 0. A memory grows
+/// under these limits.
+pub(crate) fn act_on_bytes<P: Pages>(
     alloc: Global,
     live: &mut Leases<P>,
     of: usize,
@@ -30,7 +32,7 @@ pub(crate) fn act_on<P: Pages>(
     op: &MemoryOp,
     limits: Option<PartyLimits>,
 ) -> Reply
-    ensures { MovesObject memory_leases (LeaseMoves (given_op op.now) (rule_of limits)) of memory live.old result live.new }
+    ensures { MovesLeasedBytes (given_op op.now) (rule_of limits) (slice_index_or live.old of None) of memory live.old result live.new }
 {
     match live.take(of) {
         None => Reply::Refused(Refusal::NoSuchGrant),
@@ -49,7 +51,7 @@ fn act_on_taken<P: Pages>(
     limits: Option<PartyLimits>,
 ) -> Reply
     requires { of < length live.old }
-    ensures { MovesNamed (LeaseMoves (given_op op.now) (rule_of limits)) (slice_get (leases_of grant) memory) (λ l live. slice_set live of (Some (with_lease memory l grant))) (slice_set live.old of (Some grant)) result live.new }
+    ensures { MovesTakenBytes (given_op op.now) (rule_of limits) of memory grant live.old result live.new }
 {
     let mut grant = grant;
     let reply = act_on_grant(alloc, &mut grant, memory, op, limits);
@@ -64,11 +66,79 @@ fn act_on_grant<P: Pages>(
     op: &MemoryOp,
     limits: Option<PartyLimits>,
 ) -> Reply
-    ensures { MovesNamed (LeaseMoves (given_op op.now) (rule_of limits)) (slice_get (leases_of grant.old) memory) (with_lease memory) grant.old result grant.new }
+    ensures { MovesGrantBytes (given_op op.now) (rule_of limits) memory grant.old result grant.new }
 {
     match grant {
         Grant::Instance(lease) => act_on_instance(alloc, lease, memory, op, limits),
+        Grant::Component => Reply::Refused(Refusal::NoSuchGrant),
+        Grant::Stack(lease) => act_on_stack(alloc, lease, memory, op),
     }
+}
+
+fn act_on_stack<P: Pages>(
+    alloc: Global,
+    lease: &mut StackLease<P>,
+    memory: usize,
+    op: &MemoryOp,
+) -> Reply
+    ensures { MovesStackBytes (given_op op.now) memory lease.old result lease.new }
+{
+    if memory > 0 {
+        return Reply::Refused(Refusal::NoSuchGrant);
+    }
+    act_on_its_bytes(alloc, lease, op)
+}
+
+fn act_on_its_bytes<P: Pages>(alloc: Global, lease: &mut StackLease<P>, op: &MemoryOp) -> Reply
+    ensures { StackLeaseMoves (given_op op.now) lease.old lease.new result }
+{
+    match op {
+        MemoryOp::Read { at, len } => read_stack(alloc, lease, *at, *len),
+        MemoryOp::Write { at, bytes } => write_stack(lease, *at, bytes),
+        MemoryOp::Fill { at, len, byte } => fill_stack(lease, *at, *len, *byte),
+        MemoryOp::Grow { pages: _ } => Reply::Grown(None),
+        MemoryOp::Size => Reply::Size(lease.len() as u64),
+    }
+}
+
+// Whether so many bytes from `at` on are bytes of what has this size.
+fn is_inside(at: u64, len: u64, size: usize) -> bool
+    ensures { result ≡ nat_le (at + len) size }
+{
+    at <= size as u64 && len <= size as u64 - at
+}
+
+fn read_stack<P: Pages>(alloc: Global, lease: &StackLease<P>, at: u64, len: usize) -> Reply
+    ensures { ReadsBytes (private_stack lease.now).size (private_stack lease.now).bytes at len result }
+{
+    let Ok(mut bytes) = zeros(alloc, len) else {
+        return Reply::Refused(Refusal::Alloc(Cause::Memory));
+    };
+    if !is_inside(at, len as u64, lease.len()) {
+        return Reply::Trap(Trap::MemoryOutOfBounds);
+    }
+    lease.read(at as usize, &mut bytes);
+    Reply::Bytes(ByteList::from_vec(bytes))
+}
+
+fn write_stack<P: Pages>(lease: &mut StackLease<P>, at: u64, bytes: &[u8]) -> Reply
+    ensures { StackLeaseWrites at bytes.now lease.old lease.new result }
+{
+    if !is_inside(at, bytes.len() as u64, lease.len()) {
+        return Reply::Trap(Trap::MemoryOutOfBounds);
+    }
+    lease.write(at as usize, bytes);
+    Reply::Done
+}
+
+fn fill_stack<P: Pages>(lease: &mut StackLease<P>, at: u64, len: u64, byte: u8) -> Reply
+    ensures { StackLeaseWrites at (replicate len byte) lease.old lease.new result }
+{
+    if !is_inside(at, len, lease.len()) {
+        return Reply::Trap(Trap::MemoryOutOfBounds);
+    }
+    lease.fill(at as usize, len as usize, byte);
+    Reply::Done
 }
 
 fn act_on_instance<P: Pages>(

@@ -10,13 +10,26 @@ pub enum TableValue {
 }
 
 /// A command of a party. `of` is the number of an earlier command of that party which asked for a grant, and
-/// `memory` or `table` is a place in that grant.
+/// `memory` or `table` is a place in that grant. A stack is memory 0 of its grant, from its lowest usable byte on, and can't
+/// grow.
 #[derive(Debug, Drop)]
 pub enum Command {
     /// Asks for an instance of the module with this number.
     Instantiate {
         module: usize,
     },
+    /// Asks for a component, whose instances have so many things together.
+    Component {
+        core_instances: u64,
+        memories: u64,
+        tables: u64,
+        /// How many bytes its core instances take.
+        core_bytes: u64,
+        /// How many it takes beside them.
+        own_bytes: u64,
+    },
+    /// Asks for a stack.
+    Stack,
     /// Reads `len` bytes from `at` on.
     Read {
         of: usize,
@@ -86,4 +99,10 @@ pub enum Command {
     Drop {
         of: usize,
     },
+    /// Has the pool forget the module with this number: no free slot keeps a memory of it.
+    Purge {
+        module: usize,
+    },
+    /// Gives what free memories keep resident back to the system.
+    Release,
 }

@@ -77,5 +77,7 @@ fn with_grant<P: Pages>(calls: PageCalls, place: &Option<Grant<P>>) -> PageCalls
     match place {
         None => calls,
         Some(Grant::Instance(lease)) => calls.plus(lease.page_calls()),
+        Some(Grant::Component) => calls,
+        Some(Grant::Stack(lease)) => calls.plus(lease.page_calls()),
     }
 }

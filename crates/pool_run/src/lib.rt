@@ -52,6 +52,6 @@ pub use shared_validity::{MOST_EVENTS, MOST_MINIMUM, WAITERS, is_valid_shared};
 pub use slot_lists::SlotLists;
 pub use turn::turn_of;
 pub use validity::{
-    HOMES, MOST_BYTES, MOST_COMMANDS, MOST_MEMORIES, MOST_MODULES, MOST_PARTIES, MOST_STEPS,
-    MOST_TABLES, is_valid,
+    HOMES, MOST_BYTES, MOST_COMMANDS, MOST_INSTANCE_BYTES, MOST_MEMORIES, MOST_MODULES,
+    MOST_PARTIES, MOST_STEPS, MOST_TABLES, is_valid,
 };

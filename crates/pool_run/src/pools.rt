@@ -4,7 +4,7 @@ ghost use Rattle.pool_alloc.specs.Made.{IsMadeCore};
 ghost use Rattle.pool_alloc.specs.Sound.{IsCore};
 ghost use Rattle.pool_alloc.specs.Whole.{IsUntouched};
 ghost use Rattle.pool_run.specs.Built.{broken_rule};
-ghost use Rattle.pool_run.specs.Runs.{FaultsInMaking, region_listed, makings_for, NamesRule};
+ghost use Rattle.pool_run.specs.Runs.{FaultsInMaking, region_unmade, region_listed, makings_for, NamesRule};
 
 use crate::input::Input;
 use crate::output::RunFault;
@@ -20,11 +20,11 @@ pub(crate) fn make_pool<P: Pages, M: PageMaker<Region = P>>(
     pages: &mut M,
 ) -> Result<PoolCore<P>, RunFault>
     requires page { (M.told pages.old).page ≡ input.now.page }
-    ensures made { IfOk result (IsMadeCore (M.told pages.old) input.now.config input.now.tunables input.now.offered) }
+    ensures made { IfOk result (IsMadeCore (M.told pages.old) input.now.config input.now.tunables input.now.offered input.now.shards) }
     ensures core { IfOk result (IsCore (M.told pages.old)) }
     ensures untouched { IfOk result IsUntouched }
     ensures same { OnOk result (M.told pages.new ≡ M.told pages.old) }
-    ensures own { OnOk result (list_any (region_listed (M.told pages.old).listed) (makings_for input.now) ≡ false) }
+    ensures own { OnOk result (list_any (region_unmade (M.told pages.old).listed) (makings_for input.now) ≡ false) }
     ensures unlisted { OnOk result (IfSome (M.told pages.old).plan (λ plan. list_any (region_listed plan) (makings_for input.now) ≡ false)) }
     ensures rules { OnOk result (broken_rule input.now ≡ None) }
     ensures refused { IfErr result (NamesRule (broken_rule input.now)) }

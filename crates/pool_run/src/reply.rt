@@ -26,6 +26,9 @@ pub enum Reply {
         memories: SlotList,
         tables: SlotList,
     },
+    Component,
+    /// Of a stack, its slot.
+    Stack(u32),
     Bytes(ByteList),
     Done,
     /// Of a memory in bytes, of a table in elements.
@@ -34,6 +37,10 @@ pub enum Reply {
     Grown(Option<u64>),
     Element(Element),
     Returned,
+    /// How many slots were found that kept a memory of the module.
+    Purged(u64),
+    /// How many bytes are no longer resident.
+    Released(u64),
     Refused(Refusal),
     Trap(Trap),
 }

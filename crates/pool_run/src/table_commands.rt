@@ -72,6 +72,7 @@ fn act_on_grant<P: Pages>(
 {
     match grant {
         Grant::Instance(lease) => act_on_instance(lease, store, table, op, limits),
+        Grant::Component | Grant::Stack(_) => Reply::Refused(Refusal::NoSuchGrant),
     }
 }
 

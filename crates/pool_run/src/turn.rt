@@ -2,15 +2,17 @@ ghost use Rattle.std.specs.Prelude.{◌≡◌, ◌+◌, ◌^◌, ◌<◌, ◌≤
 ghost use Rattle.pool_pages.specs.MakerTold.{MakerTold};
 ghost use Rattle.pool_alloc.specs.Calls.{IsIdle, IfGranted, begun_call};
 ghost use Rattle.pool_alloc.specs.Steps.{memories_wanted, tables_wanted};
+ghost use Rattle.pool_alloc.specs.declared.frame.Asked.TheVariants.{Module as module_asked};
 ghost use Rattle.pool_alloc.specs.Stepping.{CanStep, CanCount, is_idle};
-ghost use Rattle.pool_run.specs.AtOnce.{given_act};
+ghost use Rattle.pool_run.specs.Acts.{requests};
+ghost use Rattle.pool_run.specs.AtOnce.{given_act, given_wanted};
 ghost use Rattle.pool_run.specs.PartyRules.{rule_of};
 ghost use Rattle.pool_run.specs.Ties.{CanTurn, IsReserved};
-ghost use Rattle.pool_run.specs.Turns.{leases_of, tables_of, granted_reply, answered, ended_at_once, slots_after, StepsUnder, Steps, makes_step, drop_opening, OpensRequest, OpensAct, OpensNext, TurnsFrom, Turns};
+ghost use Rattle.pool_run.specs.Turns.{leases_of, tables_of, granted_reply, answered, ended_at_once, slots_after, StepsUnder, Steps, makes_step, drop_opening, IsPlain, OpensRequest, OpensAct, OpensNext, TurnsFrom, Turns, OpensWanted};
 ghost use Rattle.pool_run.specs.Worlds.{IsFit, AreFit, NamesModule, NameModules};
 
-use crate::act::{Act, act_of};
-use crate::at_once::act_on;
+use crate::act::{Act, Wanted, act_of};
+use crate::at_once::act_on_bytes;
 use crate::command::Command;
 use crate::input::PartyLimits;
 use crate::limiter::limiter_of;
@@ -21,7 +23,7 @@ use crate::slot_lists::SlotLists;
 use crate::table_commands::act_on_table;
 use pool_alloc::{Call, Frame, Grant, InstanceLease, ModuleCall, Outcome, Phase, PoolCore};
 use pool_limits::Unlimited;
-use pool_pages::Pages;
+use pool_pages::{ComponentInfo, Pages};
 use pool_slots::{AllocError as Cause, NoHeaps};
 use std::alloc::{AllocError, Global};
 use std::mem;
@@ -138,6 +140,14 @@ fn answer<P: Pages>(
             party.done += 1;
             Some(Reply::Returned)
         }
+        Some(Outcome::Purged(count)) => {
+            party.done += 1;
+            Some(Reply::Purged(count))
+        }
+        Some(Outcome::Released(bytes)) => {
+            party.done += 1;
+            Some(Reply::Released(bytes))
+        }
         Some(Outcome::Refused(error)) => {
             party.done += 1;
             Some(Reply::Refused(Refusal::Alloc(error)))
@@ -145,17 +155,21 @@ fn answer<P: Pages>(
     }
 }
 
-// The reply to a request that was granted: the slots of its memories and tables, in the lists that were reserved for them.
+// The reply to a request that was granted: the slots of an instance's memories and tables, in the lists that were reserved
+// for them.
 fn granted_reply<P: Pages>(slots: SlotLists, grant: &Grant<P>) -> Reply
     requires empty { (slots.memories.items ≡ []) × (slots.tables.items ≡ []) }
     requires memories { length (leases_of grant.now) ≤ slots.memories.room }
     requires tables { length (tables_of grant.now) ≤ slots.tables.room }
     ensures { result ≡ granted_reply grant.now }
 {
-    let Grant::Instance(lease) = grant;
-    Reply::Instance {
-        memories: memory_slots(slots.memories, lease),
-        tables: table_slots(slots.tables, lease),
+    match grant {
+        Grant::Instance(lease) => Reply::Instance {
+            memories: memory_slots(slots.memories, lease),
+            tables: table_slots(slots.tables, lease),
+        },
+        Grant::Component => Reply::Component,
+        Grant::Stack(lease) => Reply::Stack(lease.index()),
     }
 }
 
@@ -212,29 +226,31 @@ fn begin_next<P: Pages>(
             if party.keyed {
                 begin(alloc, core, modules, &act_of(command), party, slots)
             } else {
-                draw_key(alloc, core, party, slots)
+                begin_plain(alloc, core, Call::Key, party, slots)
             }
         }
     }
 }
 
-// Begins the call that gives the party its stripe.
-fn draw_key<P: Pages>(
+// Begins a call for which the party needs nothing: for its stripe, a purge or a release.
+fn begin_plain<P: Pages>(
     alloc: Global,
     core: &mut PoolCore<P>,
+    call: Call<P>,
     party: &mut RunningParty<P>,
     slots: &mut SlotLists,
 ) -> Option<Reply>
     ghost maker: { MakerTold }
+    requires plain { IsPlain call }
     requires can { CanTurn maker core.old party.old }
     requires counts { CanCount core.old }
     requires small { party.old.done + 1 < 2 ^ 64 }
     requires idle { IsIdle party.old.frame }
     requires reserved { IsReserved party.old.frame slots.old }
-    ensures turn { TurnsFrom (λ o. o ≡ makes_step (begun_call Call.Key party.old.frame) party.old.live) core.old party.old (record { core = core.new; party = party.new; reply = result }) }
+    ensures turn { TurnsFrom (λ o. o ≡ makes_step (begun_call call party.old.frame) party.old.live) core.old party.old (record { core = core.new; party = party.new; reply = result }) }
     ensures reserved { IsReserved party.new.frame slots.new }
 {
-    party.frame.begin(Call::Key);
+    party.frame.begin(call);
     step_call(alloc, core, party, slots)
 }
 
@@ -260,9 +276,9 @@ fn begin<P: Pages>(
     ensures reserved { IsReserved party.new.frame slots.new }
 {
     match act {
-        Act::Request { module } => ask(alloc, core, &modules[*module], party, slots),
+        Act::Request(wanted) => request(alloc, core, modules, wanted, party, slots),
         Act::OnMemory { of, memory, op } => {
-            let reply = act_on(alloc, &mut party.live, *of, *memory, op, party.limits);
+            let reply = act_on_bytes(alloc, &mut party.live, *of, *memory, op, party.limits);
             end_at_once(party, reply)
         }
         Act::OnTable { of, table, op } => {
@@ -271,7 +287,83 @@ fn begin<P: Pages>(
             end_at_once(party, reply)
         }
         Act::Drop { of } => give_back(alloc, core, party, slots, *of),
+        Act::Purge { module } => {
+            let kept = &modules[*module];
+            begin_plain(alloc, core, Call::Purge(kept.id), party, slots)
+        }
+        Act::Release => begin_plain(alloc, core, Call::Release, party, slots),
     }
+}
+
+// Asks for what is wanted.
+fn request<P: Pages>(
+    alloc: Global,
+    core: &mut PoolCore<P>,
+    modules: &[ModuleCall],
+    wanted: &Wanted,
+    party: &mut RunningParty<P>,
+    slots: &mut SlotLists,
+) -> Option<Reply>
+    ghost maker: { MakerTold }
+    requires can { CanTurn maker core.old party.old }
+    requires counts { CanCount core.old }
+    requires calls { AreFit core.old.settings modules.now }
+    requires named { NamesModule (length modules.now) (requests (given_wanted wanted.now)) }
+    requires place { party.old.done < length party.old.live }
+    requires small { party.old.done + 1 < 2 ^ 64 }
+    requires idle { IsIdle party.old.frame }
+    requires reserved { IsReserved party.old.frame slots.old }
+    ensures turn { TurnsFrom (OpensWanted modules.now (given_wanted wanted.now) party.old) core.old party.old (record { core = core.new; party = party.new; reply = result }) }
+    ensures reserved { IsReserved party.new.frame slots.new }
+{
+    match wanted {
+        Wanted::Instance { module } => ask(alloc, core, &modules[*module], party, slots),
+        Wanted::Component(info) => ask_component(alloc, core, *info, party, slots),
+        Wanted::Stack => ask_stack(alloc, core, party, slots),
+    }
+}
+
+// Asks for a component.
+fn ask_component<P: Pages>(
+    alloc: Global,
+    core: &mut PoolCore<P>,
+    info: ComponentInfo,
+    party: &mut RunningParty<P>,
+    slots: &mut SlotLists,
+) -> Option<Reply>
+    ghost maker: { MakerTold }
+    requires can { CanTurn maker core.old party.old }
+    requires counts { CanCount core.old }
+    requires place { party.old.done < length party.old.live }
+    requires small { party.old.done + 1 < 2 ^ 64 }
+    requires idle { IsIdle party.old.frame }
+    requires reserved { IsReserved party.old.frame slots.old }
+    ensures turn { TurnsFrom (λ o. o ≡ makes_step (begun_call (Call.Component info) party.old.frame) party.old.live) core.old party.old (record { core = core.new; party = party.new; reply = result }) }
+    ensures reserved { IsReserved party.new.frame slots.new }
+{
+    party.frame.begin(Call::Component(info));
+    step_call(alloc, core, party, slots)
+}
+
+// Asks for a stack.
+fn ask_stack<P: Pages>(
+    alloc: Global,
+    core: &mut PoolCore<P>,
+    party: &mut RunningParty<P>,
+    slots: &mut SlotLists,
+) -> Option<Reply>
+    ghost maker: { MakerTold }
+    requires can { CanTurn maker core.old party.old }
+    requires counts { CanCount core.old }
+    requires place { party.old.done < length party.old.live }
+    requires small { party.old.done + 1 < 2 ^ 64 }
+    requires idle { IsIdle party.old.frame }
+    requires reserved { IsReserved party.old.frame slots.old }
+    ensures turn { TurnsFrom (λ o. o ≡ makes_step (begun_call Call.Stack party.old.frame) party.old.live) core.old party.old (record { core = core.new; party = party.new; reply = result }) }
+    ensures reserved { IsReserved party.new.frame slots.new }
+{
+    party.frame.begin(Call::Stack);
+    step_call(alloc, core, party, slots)
 }
 
 // A command ends with its first step.
@@ -317,8 +409,8 @@ fn ask<P: Pages>(
 // The same call, and the lists for the slots of its grant.
 fn prepare(alloc: Global, kept: &ModuleCall) -> Result<(ModuleCall, SlotLists), AllocError>
     ensures share { IfOk result (λ r. r.0 ≡ kept.now) }
-    ensures memories { IfOk result (λ r. r.1.memories ≡ record { items = []; room = length (memories_wanted (Some kept.now)) }) }
-    ensures tables { IfOk result (λ r. r.1.tables ≡ record { items = []; room = length (tables_wanted (Some kept.now)) }) }
+    ensures memories { IfOk result (λ r. r.1.memories ≡ record { items = []; room = length (memories_wanted (module_asked kept.now)) }) }
+    ensures tables { IfOk result (λ r. r.1.tables ≡ record { items = []; room = length (tables_wanted (module_asked kept.now)) }) }
 {
     let call = share(kept)?;
     let slots = SlotLists {

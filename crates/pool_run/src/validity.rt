@@ -2,14 +2,15 @@ ghost use Rattle.std.specs.Prelude.{◌≡◌, [], length, nat_le, nat_lt};
 ghost use Rattle.std.specs.List.{list_all};
 ghost use Rattle.pool_run.specs.Schedules.{turns_of};
 ghost use Rattle.pool_run.specs.Acts.{act_at};
-ghost use Rattle.pool_run.specs.AtOnce.{given_act, given_op, given_table_op};
-ghost use Rattle.pool_run.specs.Validity.{is_valid, is_valid_memory, is_valid_module, are_valid_modules, is_valid_schedule, is_valid_party, is_valid_act, are_valid_after, is_short, names_memory, can_be_set, suits, table_named, requests_grant, most_steps};
+ghost use Rattle.pool_run.specs.AtOnce.{given_act, given_op, given_table_op, given_wanted};
+ghost use Rattle.pool_run.specs.Validity.{is_valid, is_valid_memory, is_name_byte, is_named, is_valid_state, is_valid_module, are_valid_modules, is_valid_schedule, is_valid_party, is_valid_act, are_valid_after, is_short, is_on_stack, is_there, names_memory, can_be_set, suits, table_named, requests_grant, most_steps};
 
-use crate::act::{Act, MemoryOp, TableOp, act_of};
+use crate::act::{Act, MemoryOp, TableOp, Wanted, act_of};
 use crate::command::Command;
 use crate::input::{Input, Party, ScheduleEntry};
 use crate::table_values::is_value_of;
-use pool_pages::{MemoryDecl, ModuleInfo, TableType};
+use pool_alloc::instance_size;
+use pool_pages::{MemoryDecl, ModuleInfo, Part, TableType};
 
 /// How many modules an input may have.
 pub const MOST_MODULES: usize = 1_000;
@@ -19,6 +20,9 @@ pub const MOST_MEMORIES: usize = 100;
 
 /// How many tables a module may have.
 pub const MOST_TABLES: usize = 100;
+
+/// How many bytes the state of an instance of a module may take.
+pub const MOST_INSTANCE_BYTES: u64 = 1 << 32;
 
 /// How many parties an input may have.
 pub const MOST_PARTIES: usize = 64;
@@ -38,18 +42,47 @@ pub const MOST_BYTES: usize = 1_048_576;
 fn requests_grant(earlier: &[Command], of: usize) -> bool
     ensures { result ≡ requests_grant (act_at earlier.now of) }
 {
-    matches!(earlier.get(of), Some(Command::Instantiate { .. }))
+    matches!(
+        earlier.get(of),
+        Some(Command::Instantiate { .. } | Command::Component { .. } | Command::Stack)
+    )
 }
 
-fn names_memory(modules: &[ModuleInfo], earlier: &[Command], of: usize, memory: usize) -> bool
-    ensures { result ≡ names_memory modules.now earlier.now of memory }
+fn names_memory(
+    modules: &[ModuleInfo],
+    earlier: &[Command],
+    op: &MemoryOp,
+    of: usize,
+    memory: usize,
+) -> bool
+    ensures { result ≡ names_memory modules.now earlier.now (given_op op.now) of memory }
 {
     match earlier.get(of) {
         Some(Command::Instantiate { module }) => match modules.get(*module) {
             Some(info) => memory < info.memories.len(),
             None => false,
         },
+        Some(Command::Stack) => is_on_stack(op, memory),
         _ => false,
+    }
+}
+
+// Whether the operation can be one on this memory of a stack's grant.
+fn is_on_stack(op: &MemoryOp, memory: usize) -> bool
+    ensures { result ≡ is_on_stack (given_op op.now) memory }
+{
+    match op {
+        MemoryOp::Grow { .. } => false,
+        _ => memory == 0,
+    }
+}
+
+fn is_there(modules: usize, wanted: &Wanted) -> bool
+    ensures { result ≡ is_there modules (given_wanted wanted.now) }
+{
+    match wanted {
+        Wanted::Instance { module } => *module < modules,
+        _ => true,
     }
 }
 
@@ -97,12 +130,14 @@ fn is_valid_act(modules: &[ModuleInfo], earlier: &[Command], act: &Act) -> bool
     ensures { result ≡ is_valid_act modules.now earlier.now (given_act act.now) }
 {
     match act {
-        Act::Request { module } => *module < modules.len(),
+        Act::Request(wanted) => is_there(modules.len(), wanted),
         Act::OnMemory { of, memory, op } => {
-            is_short(op) && names_memory(modules, earlier, *of, *memory)
+            is_short(op) && names_memory(modules, earlier, op, *of, *memory)
         }
         Act::OnTable { of, table, op } => suits_table(modules, earlier, *of, *table, op),
         Act::Drop { of } => requests_grant(earlier, *of),
+        Act::Purge { module } => *module < modules.len(),
+        Act::Release => true,
     }
 }
 
@@ -179,12 +214,37 @@ fn are_valid_memories(memories: &[MemoryDecl]) -> bool
     memories.iter().all(|decl| is_valid_memory(decl))
 }
 
+fn is_name_byte(byte: u8) -> bool
+    ensures { result ≡ is_name_byte byte }
+{
+    byte >= 32 && byte <= 126 && byte != 92
+}
+
+fn is_named(part: &Part) -> bool
+    ensures { result ≡ is_named part.now }
+{
+    part.name.as_str().bytes().all(|byte| is_name_byte(byte))
+}
+
+fn are_named_parts(parts: &[Part]) -> bool
+    ensures { result ≡ list_all is_named parts.now }
+{
+    parts.iter().all(|part| is_named(part))
+}
+
+fn is_valid_state(info: &ModuleInfo) -> bool
+    ensures { result ≡ is_valid_state info.now }
+{
+    instance_size(info) <= MOST_INSTANCE_BYTES && are_named_parts(info.parts.as_slice())
+}
+
 fn is_valid_module(info: &ModuleInfo) -> bool
     ensures { result ≡ is_valid_module info.now }
 {
     info.memories.len() <= MOST_MEMORIES
         && info.tables.len() <= MOST_TABLES
         && are_valid_memories(info.memories.as_slice())
+        && is_valid_state(info)
 }
 
 fn is_each_valid(modules: &[ModuleInfo]) -> bool

@@ -1,13 +1,19 @@
-use Rattle.std.proofs.Common.{◌≡◌, refl, ap, ◌∙◌, subst, inl, inr}
+use Rattle.std.proofs.Common.{◌≡◌, ℕ, ◌≤◌, [], length, refl, sym, ap, ◌∙◌, subst, inl, inr, arith, rules}
 use Rattle.pool_slots.specs.declared.errors.AllocError.TheVariants.{Memory}
 use Rattle.pool_alloc.specs.Calls.{begun_call}
 use Rattle.pool_alloc.specs.declared.frame.Call.TheVariants as call
 use Rattle.pool_alloc.specs.declared.frame.Frame.{Frame}
 use Rattle.pool_alloc.specs.Asked.{ModuleAsked}
+use Rattle.pool_alloc.specs.Reserved.{Reserved}
+use Rattle.pool_alloc.specs.Steps.{memories_wanted, tables_wanted}
+use Rattle.pool_alloc.specs.declared.frame.Asked.TheVariants.{Module as module_asked}
+use Rattle.pool_run.specs.Ties.{CanTurn, IsReserved}
 use Rattle.pool_run.specs.Turns.{Turned, Steps, replies, makes_step}
 use Rattle.pool_run.specs.declared.reply.Reply.TheVariants.{Refused}
 use Rattle.pool_run.specs.declared.reply.Refusal.TheVariants.{Alloc}
 use Rattle.pool_run.specs.declared.running_party.RunningParty.{RunningParty}
+use Rattle.pool_run.specs.declared.slot_lists.SlotLists.{SlotLists}
+use Rattle.pool_run.proofs.Parties.{called_module}
 use Rattle.pool_run.proofs.TurnsMade.{ok_there}
 use Rattle.pool_run.proofs.turn.ask.Goals as goal
 
@@ -27,3 +33,25 @@ returns-in-Ok-clause-turn g c =
 
 pub returns-in-Err-clause-reserved : goal.returns-in-Err-clause-reserved
 returns-in-Err-clause-reserved g c = c.end_at_once.ensures.reserved c.args.slots.now c.requires.1.1.1.1.1.1.1
+
+pub step_call-requires : goal.step_call-requires
+step_call-requires g c κs within =
+    let P : Type 0 = g.row.P.Denot in
+    let p : RunningParty P = c.args.party.now in
+    let kept : ModuleAsked = c.args.kept.now in
+    let slots : SlotLists = c.in-Ok.prepared.1 in
+    let share : c.in-Ok.prepared.0 ≡ kept = ok_there (λ r. r.0 ≡ kept) _ c.in-Ok.prepared c.in-Ok.is c.prepare.ensures.share in
+    let memories : slots.memories ≡ record { items = []; room = length (memories_wanted (module_asked kept)) } = ok_there (λ r. r.1.memories ≡ record { items = []; room = length (memories_wanted (module_asked kept)) }) _ c.in-Ok.prepared c.in-Ok.is c.prepare.ensures.memories in
+    let tables : slots.tables ≡ record { items = []; room = length (tables_wanted (module_asked kept)) } = ok_there (λ r. r.1.tables ≡ record { items = []; room = length (tables_wanted (module_asked kept)) }) _ c.in-Ok.prepared c.in-Ok.is c.prepare.ensures.tables in
+    let memory_room : slots.memories.room ≡ length (memories_wanted (module_asked kept)) = ap (λ (x : Reserved ℕ). x.room) memories in
+    let table_room : slots.tables.room ≡ length (tables_wanted (module_asked kept)) = ap (λ (x : Reserved ℕ). x.room) tables in
+    let begun : c.begin.new.self ≡ begun_call (call.Module kept) p.frame = c.begin.ensures.value ∙ ap (λ (m : ModuleAsked). begun_call (call.Module m) p.frame) share in
+    let R : Frame P → Type 0 = λ f. IsReserved f slots in
+    let Can : Frame P → Type 0 = λ f. CanTurn g.maker c.args.core.now (record p { frame = f }) in
+    let reserved : R c.begin.new.self =
+    subst R (sym begun) (record {
+      memories = record { empty = ap (λ (x : Reserved ℕ). x.items) memories; room = λ is. omega (arith, memory_room) };
+      tables = record { empty = ap (λ (x : Reserved ℕ). x.items) tables; room = λ is. omega (arith, table_room) };
+    }) in
+    let can : Can c.begin.new.self = subst Can (sym begun) (called_module g.maker kept c.args.core.now p c.requires.1.0 c.requires.1.1.1.1.1.1.0 c.requires.1.1.1.0.images c.requires.1.1.1.0.places c.requires.1.1.1.1.0) in
+    search rules

@@ -13,7 +13,7 @@ returns-in-OnMemory-clause-turn g c =
     let p : RunningParty P = c.args.party.now in
     let t : Turned P = record { core = core; party = c.end_at_once.new.party; reply = c.end_at_once.result } in
     let T : Act → Type 0 = λ act. TurnsFrom (OpensAct c.args.modules.now (given_act act) p) core p t in
-    subst T (sym c.in-OnMemory.is) (replies c.act_on-reply.result c.act_on-reply.new.live p.store, (c.act_on-reply.result, c.act_on-reply.new.live, c.act_on-reply.ensures, refl), c.end_at_once.ensures.turn core)
+    subst T (sym c.in-OnMemory.is) (replies c.act_on_bytes-reply.result c.act_on_bytes-reply.new.live p.store, (c.act_on_bytes-reply.result, c.act_on_bytes-reply.new.live, c.act_on_bytes-reply.ensures, refl), c.end_at_once.ensures.turn core)
 
 pub returns-in-OnTable-clause-turn : goal.returns-in-OnTable-clause-turn
 returns-in-OnTable-clause-turn g c =

@@ -3,5 +3,5 @@ use Rattle.pool_run.proofs.turn.begin_next.Given as goal
 abbrev pub ghost-begin : goal.ghost-begin
 ghost-begin g a = g.maker
 
-abbrev pub ghost-draw_key : goal.ghost-draw_key
-ghost-draw_key g a = g.maker
+abbrev pub ghost-begin_plain : goal.ghost-begin_plain
+ghost-begin_plain g a = g.maker

@@ -7,7 +7,7 @@ use Rattle.pool_alloc.specs.Sound.{IsCore}
 use Rattle.pool_run.specs.Built.{is_built_module, broken_rule}
 use Rattle.pool_run.specs.Folds.{RunParts}
 use Rattle.pool_run.specs.Made.{calls_made}
-use Rattle.pool_run.specs.Runs.{IsMadeRun, FaultsInMaking, region_listed, makings_for, images_listed}
+use Rattle.pool_run.specs.Runs.{IsMadeRun, FaultsInMaking, region_unmade, region_listed, makings_for, images_listed}
 use Rattle.pool_run.specs.RunsMade.{parties_made}
 use Rattle.pool_run.specs.declared.input.Input.{Input}
 use Rattle.pool_run.specs.declared.output.RunFault.TheVariants.{PageFault}
@@ -66,8 +66,8 @@ returns-in-Ok-over-clause-made g c =
     record {
       made = c.in-Ok.ensures.made;
       calls = subst (λ maker. Calls maker input.modules) c.in-Ok.ensures.same (subst (Calls (g.M.PageMaker.told c.make_pool.new.pages)) c.as_slice.ensures c.in-Ok-make_calls.ensures.calls);
-      own = nothing_listed input c.as_slice.result.now old.page (Some old.listed) c.as_slice.ensures c.requires.1.1.1.1.1 c.in-Ok.ensures.own own;
-      unlisted = nothing_listed input c.as_slice.result.now old.page old.plan c.as_slice.ensures c.requires.1.1.1.1.1 regions images;
+      own = nothing_listed region_unmade input c.as_slice.result.now old.page (Some old.listed) c.as_slice.ensures c.requires.1.1.1.1.1 c.in-Ok.ensures.own own;
+      unlisted = nothing_listed region_listed input c.as_slice.result.now old.page old.plan c.as_slice.ensures c.requires.1.1.1.1.1 regions images;
       parties = ap (parties_made {P = P} c.in-Ok.core.settings) c.as_slice-parties.ensures;
     } in
     let Run : MakerTold → RunParts P → Type 0 = λ maker run. IsMadeRun input maker run in

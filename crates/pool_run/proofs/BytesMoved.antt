@@ -1,0 +1,81 @@
+-- A command on the bytes of a grant, which is taken out of its place and put back; and a command on a stack.
+use Rattle.std.proofs.Common.{◌≡◌, ℕ, zero, suc, ◌+◌, ◌≤◌, Bool, true, List, [], ◌∷◌, ◌++◌, take, length, Option, Some, None, refl, sym, ap, ◌∙◌, subst, arith}
+use Rattle.std.specs.Prelude.{IfSome, nat_le, option_map, slice_get, slice_set, slice_index_or, slice_range}
+use Rattle.std.specs.Option.{option_and_then}
+use Rattle.std.proofs.Math.Seq.{take-append_seam}
+use Rattle.std.proofs.lemmas.Bool.{leb-true}
+use Rattle.std.proofs.lemmas.List.{set-get_or, same_lists, places}
+use Rattle.pool_limits.specs.Growth.{GrowthRule}
+use Rattle.pool_pages.specs.Contents.{Contents}
+use Rattle.pool_images.specs.Slots.{Slot}
+use Rattle.pool_alloc.specs.Leases.{Lease}
+use Rattle.pool_alloc.specs.StackLeases.{LeasedStack}
+use Rattle.pool_alloc.specs.declared.frame.Grant.{Grant}
+use Rattle.pool_alloc.specs.declared.frame.Grant.TheVariants.{Instance as instance, Component as component, Stack as stack}
+use Rattle.pool_run.specs.Acts.{MemoryOp}
+use Rattle.pool_run.specs.AtOnce.{MovesGrantBytes, MovesStackBytes, MovesTakenBytes}
+use Rattle.pool_run.specs.Objects.{MovesNamed, object_at, with_object}
+use Rattle.pool_run.specs.PrivateStacks.{ReadsBytes}
+use Rattle.pool_run.specs.Turns.{LeaseMoves, stack_bytes, StackLeaseMoves, memory_leases, stack_leases, with_stack_lease, MovesLeasedBytes}
+use Rattle.pool_run.specs.declared.reply.Reply.{Reply}
+use Rattle.pool_run.specs.declared.reply.Reply.TheVariants.{Bytes, Refused}
+use Rattle.pool_run.specs.declared.reply.Refusal.TheVariants.{NoSuchGrant}
+use Rattle.pool_run.proofs.Named.{taken_moved, put_back}
+
+module _ {P : Type 0} (op : MemoryOp) (rule : GrowthRule) (of k : ℕ) where
+  abbrev granted_stack : LeasedStack → Grant P
+  granted_stack l = stack l
+
+  -- what is done to a stack is done to its grant
+  grant_moved : (y : Option LeasedStack) (lease l : LeasedStack) (reply : Reply) (changed : Grant P) → changed ≡ stack l → MovesNamed (StackLeaseMoves op) y (λ m old. m) lease reply l → MovesNamed (StackLeaseMoves op) y (with_stack_lease k) (stack lease) reply changed
+  grant_moved None lease l reply changed now is = (is.0, now ∙ ap granted_stack is.1)
+  grant_moved (Some x) lease l reply changed now is = (is.0, is.1, now ∙ ap granted_stack is.2)
+
+  taken_bytes : (live empty new : List (Option (Grant P))) (reply : Reply) (grant : Grant P) → slice_index_or live of None ≡ Some grant → empty ≡ slice_set live of None → MovesTakenBytes op rule of k grant empty reply new → MovesLeasedBytes op rule (Some grant) of k live reply new
+  taken_bytes live empty new reply (instance lease) has taken is = taken_moved memory_leases (LeaseMoves op rule) of k live empty new reply (instance lease) has taken is
+  taken_bytes live empty new reply component has taken is = taken_moved memory_leases (LeaseMoves op rule) of k live empty new reply component has taken is
+  taken_bytes live empty new reply (stack lease) has taken is = taken_moved stack_leases (StackLeaseMoves op) of k live empty new reply (stack lease) has taken is
+
+  pub bytes_taken : (live empty new : List (Option (Grant P))) (reply : Reply) (grant : Grant P) → slice_index_or live of None ≡ Some grant → empty ≡ slice_set live of None → MovesTakenBytes op rule of k grant empty reply new → MovesLeasedBytes op rule (slice_index_or live of None) of k live reply new
+  bytes_taken live empty new reply grant has taken is =
+      let M : Option (Grant P) → Type 0 = λ x. MovesLeasedBytes op rule x of k live reply new in
+      subst M (sym has) (taken_bytes live empty new reply grant has taken is)
+
+  -- no grant is there
+  pub bytes_none : (live empty : List (Option (Grant P))) → slice_index_or live of None ≡ None → empty ≡ slice_set live of None → MovesLeasedBytes op rule (slice_index_or live of None) of k live (Refused NoSuchGrant) empty
+  bytes_none live empty has taken =
+      let M : Option (Grant P) → Type 0 = λ x. MovesLeasedBytes op rule x of k live (Refused NoSuchGrant) empty in
+      let N : Option Lease → Type 0 = λ y. MovesNamed (LeaseMoves op rule) y (with_object memory_leases of k) live (Refused NoSuchGrant) empty in
+      let same : empty ≡ live = taken ∙ ap (slice_set live of) (sym has) ∙ set-get_or live of None in
+      let none : object_at memory_leases of k live ≡ None = ap (λ (x : Option (Grant P)). option_and_then (λ g. slice_get (memory_leases.in_grant g) k) x) has in
+      subst M (sym has) (subst N (sym none) (refl, same))
+
+  pub bytes_back : (live new : List (Option (Grant P))) (reply : Reply) (grant changed : Grant P) → new ≡ slice_set live of (Some changed) → MovesGrantBytes op rule k grant reply changed → MovesTakenBytes op rule of k grant live reply new
+  bytes_back live new reply (instance lease) changed put is = put_back memory_leases (LeaseMoves op rule) of k live new reply (instance lease) changed put is
+  bytes_back live new reply component changed put is = put_back memory_leases (LeaseMoves op rule) of k live new reply component changed put is
+  bytes_back live new reply (stack lease) changed put is = put_back stack_leases (StackLeaseMoves op) of k live new reply (stack lease) changed put (grant_moved (slice_get (lease ∷ []) k) lease is.0 reply changed is.1 is.2)
+
+-- A grant of a stack has one stack.
+pub past_stack : (op : MemoryOp) (k : ℕ) (lease : LeasedStack) → 1 ≤ k → MovesStackBytes op k lease (Refused NoSuchGrant) lease
+past_stack op zero lease past = absurd (omega (arith, past))
+past_stack op (suc k) lease past = (refl, refl)
+
+pub first_stack : (op : MemoryOp) (k : ℕ) (lease new : LeasedStack) (reply : Reply) → k ≡ 0 → StackLeaseMoves op lease new reply → MovesStackBytes op k lease reply new
+first_stack op k lease new reply first is = let M : ℕ → Type 0 = λ n. MovesStackBytes op n lease reply new in subst M (sym first) (new, is, refl)
+
+-- What is read of it is read of its region.
+range_of : (base size at len : ℕ) (xs : List ℕ) → at + len ≤ size → slice_range (slice_range xs base (base + size)) at (at + len) ≡ slice_range xs (base + at) (base + at + len)
+range_of base size at len xs inside = same_lists _ _ (grind (arith, places)) (λ k d h. grind (arith, places))
+
+pub read_told : (base size at len : ℕ) (bytes : List ℕ) (o : Option Contents) → at + len ≤ size → IfSome o (λ c. bytes ≡ slice_range c.bytes (base + at) (base + at + len)) → IfSome (option_map (λ c. slice_range c.bytes base (base + size)) o) (λ b. bytes ≡ slice_range b at (at + len))
+read_told base size at len bytes None inside is = tt
+read_told base size at len bytes (Some c) inside is = is ∙ sym (range_of base size at len c.bytes inside)
+
+-- The reply to a read of it: the bytes that were read into a list of as many.
+pub stack_read : (s : Slot) (at len n m size : ℕ) (out rest bytes : List ℕ) → length out ≡ n → n ≡ len → m ≡ len → size ≡ s.static_size → true ≡ nat_le (at + len) size → IfSome s.region.contents (λ c. out ≡ slice_range c.bytes (s.base.bytes + at) (s.base.bytes + at + m)) → bytes ≡ take n (out ++ rest) → ReadsBytes s.static_size (stack_bytes s) at len (Bytes bytes)
+stack_read s at len n m size out rest bytes long whole same sized inside told is =
+    let within : at + len ≤ s.static_size = omega (arith, leb-true (at + len) size (sym inside), sized) in
+    let all : bytes ≡ out = is ∙ ap (λ k. take k (out ++ rest)) (sym long) ∙ take-append_seam out rest in
+    let M : ℕ → Type 0 = λ k. IfSome s.region.contents (λ c. out ≡ slice_range c.bytes (s.base.bytes + at) (s.base.bytes + at + k)) in
+    let B : List ℕ → Type 0 = λ b. IfSome s.region.contents (λ c. b ≡ slice_range c.bytes (s.base.bytes + at) (s.base.bytes + at + len)) in
+    (within, ap length all ∙ long ∙ whole, read_told s.base.bytes s.static_size at len bytes s.region.contents within (subst B (sym all) (subst M same told)))
