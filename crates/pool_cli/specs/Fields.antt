@@ -77,12 +77,16 @@ each_item read (item value rest) = read value >>= (λ x. each_item read rest >>=
 abbrev pub list_of : {A : Type 0} → (Data → Option A) → Data → Option (List A)
 list_of read value = as_array value >>= each_item read
 
+-- the two items of a list of two
+abbrev pub pair_of : Items → Option (Data × Data)
+pair_of no_items = None
+pair_of (item first no_items) = None
+pair_of (item first (item second no_items)) = Some (first, second)
+pair_of (item first (item second (item more rest))) = None
+
 -- two numbers, as a list of them
 abbrev pub number_pair : Items → Option (ℕ × ℕ)
-number_pair no_items = None
-number_pair (item first no_items) = None
-number_pair (item first (item second no_items)) = whole_number first >>= (λ x. whole_number second >>= (λ y. Some (x, y)))
-number_pair (item first (item second (item more rest))) = None
+number_pair items = pair_of items >>= (λ p. whole_number p.0 >>= (λ x. whole_number p.1 >>= (λ y. Some (x, y))))
 
 -- what was returned is what the form gives, unless memory ran out
 abbrev pub IsOfForm : {A : Type 0} → Option A → Result A FormFault → Type 0

@@ -5,7 +5,7 @@ use Rattle.serde_json.specs.Data.{Data, Items, no_items, item}
 use Rattle.serde_json.specs.Find.{get, as_str, as_array, as_bool, as_null}
 use Rattle.pool_pages.specs.Config.{default_config, default_offered, default_tunables}
 use Rattle.pool_run.specs.declared.command.Command.{Command}
-use Rattle.pool_run.specs.declared.command.Command.TheVariants.{Instantiate, Read, Write, Fill, Grow, Size, Get, Set, TableFill, TableGrow, TableSize, Drop}
+use Rattle.pool_run.specs.declared.command.Command.TheVariants.{Instantiate, Read, Write, Fill, Grow, Size, Get, Set, TableFill, TableGrow, TableSize, Drop, Component, Stack, Purge, Release}
 use Rattle.pool_run.specs.declared.command.TableValue.{TableValue}
 use Rattle.pool_run.specs.declared.command.TableValue.TheVariants.{Null, Number, Continuation}
 use Rattle.pool_run.specs.declared.input.Input.{Input}
@@ -14,7 +14,7 @@ use Rattle.pool_run.specs.declared.input.PartyLimits.{PartyLimits}
 use Rattle.pool_run.specs.declared.input.ScheduleEntry.{ScheduleEntry}
 use Rattle.pool_cli.specs.Fields.{◌>>=◌, only, whole_number, number_pair, hex_bytes, required, optional, or_null, list_of}
 use Rattle.pool_cli.specs.ModuleForms.{module_form}
-use Rattle.pool_cli.specs.SettingsForms.{config_form, tunables_form, offered_form, fault_form}
+use Rattle.pool_cli.specs.SettingsForms.{count_form, config_form, tunables_form, offered_form, fault_form}
 
 unfoldable pub instantiate_form : Data → Option Command
 instantiate_form value = do
@@ -128,7 +128,36 @@ drop_form value = do
   of ← required whole_number (get (codes "of") fields)
   Some (Drop of)
 
--- the command on a table of this name
+unfoldable pub component_form : Data → Option Command
+component_form value = do
+  fields ← only (codes "do" ∷ codes "core_instances" ∷ codes "memories" ∷ codes "tables" ∷ codes "core_bytes" ∷ codes "own_bytes" ∷ []) value
+  instances ← optional 0 whole_number (get (codes "core_instances") fields)
+  memories ← optional 0 whole_number (get (codes "memories") fields)
+  tables ← optional 0 whole_number (get (codes "tables") fields)
+  core_bytes ← optional 0 whole_number (get (codes "core_bytes") fields)
+  own_bytes ← optional 0 whole_number (get (codes "own_bytes") fields)
+  Some (Component instances memories tables core_bytes own_bytes)
+
+unfoldable pub purge_form : Data → Option Command
+purge_form value = do
+  fields ← only (codes "do" ∷ codes "module" ∷ []) value
+  module_ ← required whole_number (get (codes "module") fields)
+  Some (Purge module_)
+
+-- a command without fields
+abbrev pub bare_form : Command → Data → Option Command
+bare_form command value = option_map (λ fields. command) (only (codes "do" ∷ []) value)
+
+-- the command of this name, which names no earlier one
+abbrev pub form_without_grant : List ℕ → Data → Option Command
+form_without_grant name value =
+    if bytes_eq name (codes "component") then component_form value
+    else if bytes_eq name (codes "stack") then bare_form Stack value
+    else if bytes_eq name (codes "purge") then purge_form value
+    else if bytes_eq name (codes "release") then bare_form Release value
+    else None
+
+-- the command on a table of this name, or one that names no earlier one
 abbrev pub form_on_table : List ℕ → Data → Option Command
 form_on_table name value =
     if bytes_eq name (codes "get") then get_form value
@@ -136,7 +165,7 @@ form_on_table name value =
     else if bytes_eq name (codes "table_fill") then table_fill_form value
     else if bytes_eq name (codes "table_grow") then table_grow_form value
     else if bytes_eq name (codes "table_size") then table_size_form value
-    else None
+    else form_without_grant name value
 
 -- the command of this name
 abbrev pub form_of_name : List ℕ → Data → Option Command
@@ -165,12 +194,14 @@ limits_form value = do
   trap ← optional false as_bool (get (codes "trap_on_grow_failure") fields)
   Some (record { memory_size = size; table_elements = elements; trap_on_grow_failure = trap })
 
+-- No command asks for a heap so far, so that no call on a maker of heaps can fail: which are to fail is read alone.
 unfoldable pub party_form : Data → Option Party
 party_form value = do
-  fields ← only (codes "home" ∷ codes "limits" ∷ codes "gc_faults" ∷ codes "commands" ∷ []) value
+  fields ← only (codes "home" ∷ codes "limits" ∷ codes "gc_faults" ∷ codes "heap_faults" ∷ codes "commands" ∷ []) value
   home ← optional 0 whole_number (get (codes "home") fields)
   limits ← optional None (or_null limits_form) (get (codes "limits") fields)
   faults ← optional [] (list_of whole_number) (get (codes "gc_faults") fields)
+  heap_faults ← optional [] (list_of whole_number) (get (codes "heap_faults") fields)
   commands ← optional [] (list_of command_form) (get (codes "commands") fields)
   Some (record { home = home; limits = limits; gc_faults = faults; commands = commands })
 
@@ -195,8 +226,9 @@ schedule_entry_form value = step_or_pair_form (as_array value) value
 -- There is one shard so far.
 unfoldable pub input_form : Data → Option Input
 input_form value = do
-  fields ← only (codes "page" ∷ codes "config" ∷ codes "tunables" ∷ codes "offered" ∷ codes "modules" ∷ codes "parties" ∷ codes "schedule" ∷ codes "finish" ∷ codes "faults" ∷ []) value
+  fields ← only (codes "page" ∷ codes "shards" ∷ codes "config" ∷ codes "tunables" ∷ codes "offered" ∷ codes "modules" ∷ codes "parties" ∷ codes "schedule" ∷ codes "finish" ∷ codes "faults" ∷ []) value
   page ← optional 4096 whole_number (get (codes "page") fields)
+  shards ← optional 1 count_form (get (codes "shards") fields)
   config ← optional default_config config_form (get (codes "config") fields)
   tunables ← optional default_tunables tunables_form (get (codes "tunables") fields)
   offered ← optional default_offered offered_form (get (codes "offered") fields)
@@ -205,4 +237,4 @@ input_form value = do
   schedule ← optional [] (list_of schedule_entry_form) (get (codes "schedule") fields)
   finish ← optional true as_bool (get (codes "finish") fields)
   faults ← optional [] (list_of fault_form) (get (codes "faults") fields)
-  Some (record { page = page; shards = 1; config = config; tunables = tunables; offered = offered; modules = modules; parties = parties; schedule = schedule; finish = finish; faults = faults })
+  Some (record { page = page; shards = shards; config = config; tunables = tunables; offered = offered; modules = modules; parties = parties; schedule = schedule; finish = finish; faults = faults })

@@ -1,18 +1,19 @@
 -- The module that a JSON value is. `None` says that it has another form than those accepted so far.
 use Rattle.std.specs.Prelude.{ℕ, ◌==◌, ◌||◌, List, [], ◌∷◌, codes, false, if◌then◌else◌, Option, Some, None}
 use Rattle.std.specs.Str.{bytes_eq}
-use Rattle.serde_json.specs.Data.{Data}
-use Rattle.serde_json.specs.Find.{get, as_bool, as_str}
+use Rattle.serde_json.specs.Data.{Data, Items}
+use Rattle.serde_json.specs.Find.{get, as_array, as_bool, as_str}
 use Rattle.pool_pages.specs.declared.module_types.IndexType.{IndexType}
 use Rattle.pool_pages.specs.declared.module_types.IndexType.TheVariants.{I32, I64}
 use Rattle.pool_pages.specs.declared.module_types.MemoryType.{MemoryType}
 use Rattle.pool_pages.specs.declared.module_types.ImageDecl.{ImageDecl}
 use Rattle.pool_pages.specs.declared.module_types.MemoryDecl.{MemoryDecl}
 use Rattle.pool_pages.specs.declared.module_types.ModuleInfo.{ModuleInfo}
+use Rattle.pool_pages.specs.declared.module_types.Part.{Part}
 use Rattle.pool_pages.specs.declared.table_type.TableType.{TableType}
 use Rattle.pool_pages.specs.declared.table_type.TableElementType.{TableElementType}
 use Rattle.pool_pages.specs.declared.table_type.TableElementType.TheVariants.{Func, GcRef, Cont}
-use Rattle.pool_cli.specs.Fields.{◌>>=◌, only, given, whole_number, hex_bytes, required, optional, or_null, list_of}
+use Rattle.pool_cli.specs.Fields.{◌>>=◌, only, given, whole_number, pair_of, hex_bytes, required, optional, or_null, list_of}
 
 -- bytes at an offset
 unfoldable pub image_form : Data → Option ImageDecl
@@ -72,10 +73,18 @@ table_form value = do
   index ← optional I32 index_form (get (codes "index") fields)
   Some (record { idx_type = index; limits = record { min = min; max = max }; element = element })
 
--- A module has no state so far.
+-- a part of an instance's state: its name, and how many bytes it takes
+abbrev pub part_pair : Items → Option Part
+part_pair items = pair_of items >>= (λ p. as_str p.0 >>= (λ name. whole_number p.1 >>= (λ bytes. Some (record { name = name; bytes = bytes }))))
+
+unfoldable pub part_form : Data → Option Part
+part_form value = as_array value >>= part_pair
+
 unfoldable pub module_form : Data → Option ModuleInfo
 module_form value = do
-  fields ← only (codes "memories" ∷ codes "tables" ∷ []) value
+  fields ← only (codes "memories" ∷ codes "tables" ∷ codes "state_bytes" ∷ codes "parts" ∷ []) value
   memories ← optional [] (list_of memory_form) (get (codes "memories") fields)
   tables ← optional [] (list_of table_form) (get (codes "tables") fields)
-  Some (record { memories = memories; tables = tables; state_bytes = 0; parts = [] })
+  state ← optional 0 whole_number (get (codes "state_bytes") fields)
+  parts ← optional [] (list_of part_form) (get (codes "parts") fields)
+  Some (record { memories = memories; tables = tables; state_bytes = state; parts = parts })

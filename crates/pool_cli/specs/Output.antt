@@ -19,7 +19,7 @@ use Rattle.pool_run.specs.declared.output.RunOutput.{RunOutput}
 use Rattle.pool_run.specs.declared.reply.Refusal.{Refusal}
 use Rattle.pool_run.specs.declared.reply.Refusal.TheVariants.{NoSuchGrant, GcStoreFault, Alloc}
 use Rattle.pool_run.specs.declared.reply.Reply.{Reply}
-use Rattle.pool_run.specs.declared.reply.Reply.TheVariants.{Instance, Bytes, Done, Size, Grown, Element as Told, Returned, Refused, Trap as Trapped}
+use Rattle.pool_run.specs.declared.reply.Reply.TheVariants.{Instance, Component, Stack, Bytes, Done, Size, Grown, Element as Told, Returned, Purged, Released, Refused, Trap as Trapped}
 use Rattle.pool_table.specs.declared.element.VMContObj.{VMContObj}
 use Rattle.pool_alloc.specs.declared.table_element.Element.{Element}
 use Rattle.pool_alloc.specs.declared.table_element.Element.TheVariants.{Uninitialised, Func, Gc, Cont}
@@ -98,12 +98,16 @@ element_text (Cont object) = cont_text object
 -- a reply to a command that asks for an instance of this module, or for something else
 abbrev pub reply_text : Option ModuleInfo → Reply → List ℕ
 reply_text info (Instance memories tables) = codes "granted memories " ++ numbers_text memories ++ codes " tables " ++ numbers_text tables
+reply_text info Component = codes "granted component"
+reply_text info (Stack slot) = codes "granted stack " ++ decimal slot
 reply_text info (Bytes bytes) = codes "bytes " ++ bytes_text bytes
 reply_text info Done = codes "done"
 reply_text info (Size size) = codes "size " ++ decimal size
 reply_text info (Grown old) = grown_text old
 reply_text info (Told element) = element_text element
 reply_text info Returned = codes "returned"
+reply_text info (Purged slots) = codes "purged " ++ decimal slots
+reply_text info (Released bytes) = codes "released " ++ decimal bytes
 reply_text info (Refused refusal) = codes "refused " ++ refusal_text info refusal
 reply_text info (Trapped trap) = codes "trap " ++ trap_text trap
 

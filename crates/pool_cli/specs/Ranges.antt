@@ -1,9 +1,11 @@
 -- Numbers that the types of their fields can hold.
-use Rattle.std.specs.Prelude.{ℕ, ◌^◌, List, codes, Bool, true, ◌&&◌, Option}
+use Rattle.std.specs.Prelude.{ℕ, ◌^◌, List, codes, Bool, true, ◌&&◌, Option, not, Some}
+use Rattle.std.specs.List.{list_all}
 use Rattle.std.specs.Option.{option_map_or}
 use Rattle.serde_json.specs.Data.{Data, Items, no_items, item}
 use Rattle.serde_json.specs.Find.{get, as_array}
 use Rattle.pool_cli.specs.Fields.{◌>>=◌, is_below}
+use Rattle.pool_cli.specs.SettingsForms.{count_fields}
 
 -- all items pass
 abbrev pub all_pass : (Data → Bool) → Items → Bool
@@ -14,25 +16,38 @@ all_pass test (item value rest) = test value && all_pass test rest
 abbrev pub each_passes : (Data → Bool) → Option Data → Bool
 each_passes test field = option_map_or (all_pass test) (field >>= as_array) true
 
--- 32 bits can hold this number of things, where settings have it
-abbrev pub count_fits : Option Data → List ℕ → Bool
-count_fits config name = is_below (2 ^ 32) (config >>= get name)
+-- 32 bits can hold this number of things, where it is there
+abbrev pub count_fits : Data → List ℕ → Bool
+count_fits config name = is_below (2 ^ 32) (get name config)
 
--- how many memories and tables there are, and how many an instance may have
-abbrev pub counts_fit : Data → Bool
-counts_fit value =
-    count_fits (get (codes "config") value) (codes "total_memories")
-    && (count_fits (get (codes "config") value) (codes "total_tables")
-    && (count_fits (get (codes "config") value) (codes "max_memories_per_module")
-    && count_fits (get (codes "config") value) (codes "max_tables_per_module")))
+-- 32 bits can hold each number of things in the settings, where there are settings
+abbrev pub counts_fit : Option Data → Bool
+counts_fit config = option_map_or (λ c. list_all (count_fits c) count_fields) config true
+
+-- so can they the number of keys that the system offers
+abbrev pub keys_fit : Option Data → Bool
+keys_fit offered = is_below (2 ^ 32) (offered >>= get (codes "keys"))
+
+-- 32 bits can hold the number of shards
+abbrev pub shards_fit : Data → Bool
+shards_fit value = is_below (2 ^ 32) (get (codes "shards") value)
 
 -- 8 bits can hold the byte of a command
 abbrev pub byte_fits : Data → Bool
 byte_fits command = is_below 256 (get (codes "byte") command)
 
-abbrev pub bytes_fit : Data → Bool
-bytes_fit party = each_passes byte_fits (get (codes "commands") party)
+-- calls are numbered from 1
+abbrev pub is_call : Data → Bool
+is_call n = not (is_below 1 (Some n))
+
+-- so it is with a party's commands, and with the calls on its maker of heaps that are to fail
+abbrev pub party_fits : Data → Bool
+party_fits party = each_passes byte_fits (get (codes "commands") party) && each_passes is_call (get (codes "heap_faults") party)
 
 -- the types of their fields can hold all numbers of an input
 abbrev pub numbers_fit : Data → Bool
-numbers_fit value = counts_fit value && each_passes bytes_fit (get (codes "parties") value)
+numbers_fit value =
+    shards_fit value
+    && (counts_fit (get (codes "config") value)
+    && (keys_fit (get (codes "offered") value)
+    && each_passes party_fits (get (codes "parties") value)))

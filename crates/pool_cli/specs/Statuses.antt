@@ -95,7 +95,8 @@ HasBadConfig Shared error source_old source_new = BreaksRule shared_format error
 HasBadConfig _ error source_old source_new = ⊥
 
 -- The source was read to its end, the bytes read are an input that can be run, no rule of its settings is broken, and
--- a making failed as its pool was made: the input lists one, or the maker's own count of faults rose.
+-- a making, or the first call on a region, failed as its pool was made: the input lists one, or the maker's own count of
+-- faults rose.
 pub record HasNoPool (source_old source_new : SourceTold) (maker_old maker_new : MakerTold) : Type 0 where
   pub input : Input
   pub read : HasRead run_format (accepted input) source_old source_new

@@ -2,7 +2,7 @@ ghost use Rattle.std.specs.Prelude.{◌≡◌, None, map, option_map};
 ghost use Rattle.std.specs.List.{list_any};
 ghost use Rattle.std.specs.Str.{bytes_eq};
 ghost use Rattle.serde_json.specs.View.{view, items_view, members_view};
-ghost use Rattle.pool_cli.specs.Fields.{is_among, all_among, has_only, whole_number, required, optional, is_below, number_pair, or_null, hex_bytes, IsOfForm};
+ghost use Rattle.pool_cli.specs.Fields.{is_among, all_among, has_only, whole_number, required, optional, is_below, pair_of, number_pair, or_null, hex_bytes, IsOfForm};
 ghost use Rattle.serde_json.specs.Find.{as_bool, as_str};
 
 use crate::form_fault::FormFault;
@@ -85,18 +85,24 @@ pub fn is_below(bound: u64, field: Option<&Value>) -> bool
     }
 }
 
+/// The two items of a list of two.
+pub fn pair_of(items: &[Value]) -> Option<(&Value, &Value)>
+    ensures { option_map (λ p. (view p.0.now, view p.1.now)) result ≡ pair_of (items_view items.now) }
+{
+    let [first, second] = items else {
+        return None;
+    };
+    Some((first, second))
+}
+
 /// Two whole numbers.
 pub fn number_pair(items: &[Value]) -> Option<(u64, u64)>
     ensures { result ≡ number_pair (items_view items.now) }
 {
-    match items {
-        [first, second] => {
-            let first = first.as_u64()?;
-            let second = second.as_u64()?;
-            Some((first, second))
-        }
-        _ => None,
-    }
+    let (first, second) = pair_of(items)?;
+    let first = first.as_u64()?;
+    let second = second.as_u64()?;
+    Some((first, second))
 }
 
 /// True or false, which may be left out.

@@ -6,7 +6,8 @@ ghost use Rattle.pool_cli.specs.Forms.{limits_form, party_form, step_form, pair_
 use crate::fields::{flag_or, has_only, number_or, number_or_none, number_pair};
 use crate::form_fault::FormFault;
 use crate::from_json::{FromJson, list_or_empty};
-use crate::settings::{config, offered, tunables};
+use crate::settings::{config, count_or, offered, tunables};
+use pool_pages::PlainList;
 use pool_run::{Input, Party, PartyLimits, ScheduleEntry};
 use serde_json::Value;
 use std::alloc::Global;
@@ -55,12 +56,16 @@ impl FromJson for Party {
 
     #[tactic(auto, unfolding(crate::specs::Forms::party_form))]
     fn from_json(alloc: Global, value: &Value) -> Result<Party, FormFault> {
-        if !has_only(value, &["home", "limits", "gc_faults", "commands"]) {
+        if !has_only(
+            value,
+            &["home", "limits", "gc_faults", "heap_faults", "commands"],
+        ) {
             return Err(FormFault::OtherForm);
         }
         let home = number_or(0, value.get("home")).ok_or(FormFault::OtherForm)?;
         let limits = limits(value.get("limits")).ok_or(FormFault::OtherForm)?;
         let gc_faults = list_or_empty(alloc, value.get("gc_faults"))?;
+        let _heap_faults: PlainList<u64> = list_or_empty(alloc, value.get("heap_faults"))?;
         let commands = list_or_empty(alloc, value.get("commands"))?;
         Ok(Party {
             home,
@@ -114,13 +119,14 @@ impl FromJson for Input {
         if !has_only(
             value,
             &[
-                "page", "config", "tunables", "offered", "modules", "parties", "schedule",
-                "finish", "faults",
+                "page", "shards", "config", "tunables", "offered", "modules", "parties",
+                "schedule", "finish", "faults",
             ],
         ) {
             return Err(FormFault::OtherForm);
         }
         let page = number_or(4096, value.get("page")).ok_or(FormFault::OtherForm)?;
+        let shards = count_or(1, value.get("shards")).ok_or(FormFault::OtherForm)?;
         let config = config(value.get("config")).ok_or(FormFault::OtherForm)?;
         let tunables = tunables(value.get("tunables")).ok_or(FormFault::OtherForm)?;
         let offered = offered(value.get("offered")).ok_or(FormFault::OtherForm)?;
@@ -131,7 +137,7 @@ impl FromJson for Input {
         let faults = list_or_empty(alloc, value.get("faults"))?;
         Ok(Input {
             page: page as usize,
-            shards: 1,
+            shards,
             config,
             tunables,
             offered,

@@ -2,6 +2,8 @@
 #![tactic(auto)]
 
 mod commands;
+#[cfg(test)]
+mod component_tests;
 mod events;
 mod failure;
 mod fields;
@@ -11,6 +13,7 @@ mod input;
 mod json_input;
 mod memory_streams;
 mod modules;
+mod other_commands;
 mod pool_main;
 mod print;
 mod print_shared;
@@ -18,13 +21,21 @@ mod ranges;
 #[cfg(test)]
 mod run_tests;
 mod settings;
+#[cfg(test)]
+mod settings_tests;
 mod shared_input;
 #[cfg(test)]
 mod shared_tests;
+#[cfg(test)]
+mod size_tests;
+#[cfg(test)]
+mod stack_tests;
 mod stages;
 mod standard_streams;
 mod status;
 mod streams;
+#[cfg(test)]
+mod stripe_tests;
 mod table_commands;
 #[cfg(test)]
 mod table_tests;

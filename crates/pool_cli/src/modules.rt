@@ -1,16 +1,16 @@
 ghost use Rattle.std.specs.Prelude.{◌≡◌, None, option_map};
 ghost use Rattle.pool_pages.specs.declared.module_types.IndexType.TheVariants.{I32};
 ghost use Rattle.pool_pages.specs.declared.table_type.TableElementType.TheVariants.{Func};
-ghost use Rattle.serde_json.specs.View.{view};
+ghost use Rattle.serde_json.specs.View.{view, items_view};
 ghost use Rattle.pool_cli.specs.Fields.{IsOfForm, optional, or_null};
-ghost use Rattle.pool_cli.specs.ModuleForms.{image_form, index_form, index_named, page_log2_form, memory_type_form, memory_form, element_form, element_named, table_form, module_form};
+ghost use Rattle.pool_cli.specs.ModuleForms.{image_form, index_form, index_named, page_log2_form, memory_type_form, memory_form, element_form, element_named, table_form, part_pair, part_form, module_form};
 
-use crate::fields::{bytes, flag_or, has_only, number, number_or, number_or_none};
+use crate::fields::{bytes, flag_or, has_only, number, number_or, number_or_none, pair_of};
 use crate::form_fault::FormFault;
 use crate::from_json::{FromJson, list_or_empty};
 use pool_pages::{
-    ImageDecl, IndexType, Limits, MemoryDecl, MemoryType, ModuleInfo, PlainList, TableElementType,
-    TableType,
+    ImageDecl, IndexType, Limits, MemoryDecl, MemoryType, ModuleInfo, Part, TableElementType,
+    TableType, Text,
 };
 use serde_json::Value;
 use std::alloc::Global;
@@ -166,21 +166,48 @@ impl FromJson for TableType {
     }
 }
 
+fn part(alloc: Global, items: &[Value]) -> Result<Part, FormFault>
+    ensures { IsOfForm (part_pair (items_view items.now)) result }
+{
+    let (name, bytes) = pair_of(items).ok_or(FormFault::OtherForm)?;
+    let name = name.as_str().ok_or(FormFault::OtherForm)?;
+    let bytes = bytes.as_u64().ok_or(FormFault::OtherForm)?;
+    let Ok(name) = String::from_str(alloc, name) else {
+        return Err(FormFault::Memory);
+    };
+    let name = Text::from_string(name);
+    Ok(Part { name, bytes })
+}
+
+impl FromJson for Part {
+    ghost form = { part_form };
+
+    #[tactic(auto, unfolding(crate::specs::ModuleForms::part_form))]
+    fn from_json(alloc: Global, value: &Value) -> Result<Part, FormFault> {
+        match value.as_array() {
+            Some(items) => part(alloc, items.as_slice()),
+            None => Err(FormFault::OtherForm),
+        }
+    }
+}
+
 impl FromJson for ModuleInfo {
     ghost form = { module_form };
 
     #[tactic(auto, unfolding(crate::specs::ModuleForms::module_form))]
     fn from_json(alloc: Global, value: &Value) -> Result<ModuleInfo, FormFault> {
-        if !has_only(value, &["memories", "tables"]) {
+        if !has_only(value, &["memories", "tables", "state_bytes", "parts"]) {
             return Err(FormFault::OtherForm);
         }
         let memories = list_or_empty(alloc, value.get("memories"))?;
         let tables = list_or_empty(alloc, value.get("tables"))?;
+        let state_bytes = number_or(0, value.get("state_bytes")).ok_or(FormFault::OtherForm)?;
+        let parts = list_or_empty(alloc, value.get("parts"))?;
         Ok(ModuleInfo {
             memories,
             tables,
-            state_bytes: 0,
-            parts: PlainList::new(alloc),
+            state_bytes,
+            parts,
         })
     }
 }

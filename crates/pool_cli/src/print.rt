@@ -204,6 +204,8 @@ fn push_reply(
             out.push_str(" tables ")?;
             push_numbers(out, tables.as_slice())
         }
+        Reply::Component => out.push_str("granted component"),
+        Reply::Stack(slot) => write!(out, "granted stack {slot}"),
         Reply::Bytes(bytes) => {
             out.push_str("bytes ")?;
             push_bytes(alloc, out, bytes.as_slice())
@@ -213,6 +215,8 @@ fn push_reply(
         Reply::Grown(old) => push_grown(out, *old),
         Reply::Element(element) => push_element(out, *element),
         Reply::Returned => out.push_str("returned"),
+        Reply::Purged(slots) => write!(out, "purged {slots}"),
+        Reply::Released(bytes) => write!(out, "released {bytes}"),
         Reply::Refused(refusal) => {
             out.push_str("refused ")?;
             push_refusal(alloc, out, info, *refusal)

@@ -1,27 +1,64 @@
-ghost use Rattle.std.specs.Prelude.{◌≡◌, ◌&&◌, codes, Some, option_map};
+ghost use Rattle.std.specs.Prelude.{◌≡◌, option_map};
 ghost use Rattle.std.specs.List.{list_all};
 ghost use Rattle.serde_json.specs.View.{view, items_view};
-ghost use Rattle.pool_cli.specs.Ranges.{all_pass, each_passes, count_fits, counts_fit, byte_fits, bytes_fit, numbers_fit};
+ghost use Rattle.pool_cli.specs.SettingsForms.{count_fields};
+ghost use Rattle.pool_cli.specs.Ranges.{all_pass, each_passes, count_fits, counts_fit, keys_fit, shards_fit, byte_fits, is_call, party_fits, numbers_fit};
 
 use crate::fields::is_below;
 use serde_json::Value;
 
-fn counts_in(config: &Value) -> bool
-    ensures { result ≡ (count_fits (Some (view config.now)) (codes "total_memories") && (count_fits (Some (view config.now)) (codes "total_tables") && (count_fits (Some (view config.now)) (codes "max_memories_per_module") && count_fits (Some (view config.now)) (codes "max_tables_per_module")))) }
+fn each_count_fits(config: &Value, names: &[&str]) -> bool
+    ensures { result ≡ list_all (λ name. count_fits (view config.now) name.now) names.now }
 {
-    is_below(1 << 32, config.get("total_memories"))
-        && is_below(1 << 32, config.get("total_tables"))
-        && is_below(1 << 32, config.get("max_memories_per_module"))
-        && is_below(1 << 32, config.get("max_tables_per_module"))
+    names
+        .iter()
+        .all(|&name| is_below(1 << 32, config.get(name)))
 }
 
-fn counts_fit(value: &Value) -> bool
-    ensures { result ≡ counts_fit (view value.now) }
+fn counts_in(config: &Value) -> bool
+    ensures { result ≡ list_all (count_fits (view config.now)) count_fields }
 {
-    match value.get("config") {
+    each_count_fits(
+        config,
+        &[
+            "total_core_instances",
+            "total_component_instances",
+            "total_memories",
+            "total_tables",
+            "total_stacks",
+            "total_gc_heaps",
+            "max_memories_per_module",
+            "max_tables_per_module",
+            "max_core_instances_per_component",
+            "max_memories_per_component",
+            "max_tables_per_component",
+            "max_unused_warm_slots",
+        ],
+    )
+}
+
+fn counts_fit(field: Option<&Value>) -> bool
+    ensures { result ≡ counts_fit (option_map (λ v. view v.now) field.entry) }
+{
+    match field {
         Some(config) => counts_in(config),
         None => true,
     }
+}
+
+fn keys_fit(field: Option<&Value>) -> bool
+    ensures { result ≡ keys_fit (option_map (λ v. view v.now) field.entry) }
+{
+    match field {
+        Some(offered) => is_below(1 << 32, offered.get("keys")),
+        None => true,
+    }
+}
+
+fn shards_fit(value: &Value) -> bool
+    ensures { result ≡ shards_fit (view value.now) }
+{
+    is_below(1 << 32, value.get("shards"))
 }
 
 fn byte_fits(command: &Value) -> bool
@@ -54,26 +91,56 @@ fn commands_fit(field: Option<&Value>) -> bool
     }
 }
 
-fn bytes_fit(party: &Value) -> bool
-    ensures { result ≡ bytes_fit (view party.now) }
+fn is_call(number: &Value) -> bool
+    ensures { result ≡ is_call (view number.now) }
 {
-    commands_fit(party.get("commands"))
+    !is_below(1, Some(number))
+}
+
+fn each_is_a_call(numbers: &[Value]) -> bool
+    ensures { result ≡ list_all (λ n. is_call (view n)) numbers.now }
+{
+    numbers.iter().all(|number| is_call(number))
+}
+
+fn all_are_calls(numbers: &[Value]) -> bool
+    ensures { result ≡ all_pass is_call (items_view numbers.now) }
+{
+    each_is_a_call(numbers)
+}
+
+fn calls_fit(field: Option<&Value>) -> bool
+    ensures { result ≡ each_passes is_call (option_map (λ v. view v.now) field.entry) }
+{
+    match field {
+        None => true,
+        Some(value) => match value.as_array() {
+            Some(numbers) => all_are_calls(numbers.as_slice()),
+            None => true,
+        },
+    }
+}
+
+fn party_fits(party: &Value) -> bool
+    ensures { result ≡ party_fits (view party.now) }
+{
+    commands_fit(party.get("commands")) && calls_fit(party.get("heap_faults"))
 }
 
 fn each_party_fits(parties: &[Value]) -> bool
-    ensures { result ≡ list_all (λ party. bytes_fit (view party)) parties.now }
+    ensures { result ≡ list_all (λ party. party_fits (view party)) parties.now }
 {
-    parties.iter().all(|party| bytes_fit(party))
+    parties.iter().all(|party| party_fits(party))
 }
 
 fn all_parties_fit(parties: &[Value]) -> bool
-    ensures { result ≡ all_pass bytes_fit (items_view parties.now) }
+    ensures { result ≡ all_pass party_fits (items_view parties.now) }
 {
     each_party_fits(parties)
 }
 
 fn parties_fit(field: Option<&Value>) -> bool
-    ensures { result ≡ each_passes bytes_fit (option_map (λ v. view v.now) field.entry) }
+    ensures { result ≡ each_passes party_fits (option_map (λ v. view v.now) field.entry) }
 {
     match field {
         None => true,
@@ -88,5 +155,8 @@ fn parties_fit(field: Option<&Value>) -> bool
 pub fn numbers_fit(value: &Value) -> bool
     ensures { result ≡ numbers_fit (view value.now) }
 {
-    counts_fit(value) && parties_fit(value.get("parties"))
+    shards_fit(value)
+        && counts_fit(value.get("config"))
+        && keys_fit(value.get("offered"))
+        && parties_fit(value.get("parties"))
 }

@@ -89,6 +89,20 @@ const NO_RUN_OUTPUT: &str =
     "metrics core=0 component=0 memories=0 tables=0 stacks=0 heaps=0 warm_memories=0 memory_resident=0 warm_tables=0 table_resident=0 warm_stacks=0 stack_resident=none\n\
 pages expose=0 hide=0 map_image=0 remap_zeros=0 erase=0 recolour=0 decommit=0\n";
 
+const TWO_SHARDS: &str =
+    "{\"shards\":2,\"config\":{\"total_memories\":128},\"modules\":[{\"memories\":[{\"min\":1}]}],\"parties\":[{\"commands\":[{\"do\":\"instantiate\",\"module\":0}]},{\"home\":1,\"commands\":[{\"do\":\"instantiate\",\"module\":0}]}]}";
+
+const TWO_SHARDS_OUTPUT: &str = "0.0: granted memories 0 tables -\n\
+1.0: granted memories 64 tables -\n\
+metrics core=2 component=0 memories=2 tables=0 stacks=0 heaps=0 warm_memories=0 memory_resident=0 warm_tables=0 table_resident=0 warm_stacks=0 stack_resident=none\n\
+pages expose=2 hide=0 map_image=0 remap_zeros=0 erase=0 recolour=0 decommit=0\n";
+
+const MANY_SHARDS: &str = "{\"shards\":17}";
+
+const MANY_SHARDS_LINE: &str = "error BadConfig: shard count 17 is not from 1 to 16\n";
+
+const TOO_MANY_SHARDS: &str = "{\"shards\":4294967296}";
+
 #[test]
 fn runs(rt: HostRuntime) -> Result<(), Fail> {
     for (input, write, status, written) in [
@@ -112,6 +126,9 @@ fn runs(rt: HostRuntime) -> Result<(), Fail> {
         (TOO_RESIDENT, 0, Status::BadConfig, TOO_RESIDENT_LINE),
         (NO_PAGE, 0, Status::BadConfig, NO_PAGE_LINE),
         (NOT_RESERVED, 0, Status::BadConfig, NOT_RESERVED_LINE),
+        (TWO_SHARDS, 0, Status::Ok, TWO_SHARDS_OUTPUT),
+        (MANY_SHARDS, 0, Status::BadConfig, MANY_SHARDS_LINE),
+        (TOO_MANY_SHARDS, 0, Status::BadInput, "error BadInput\n"),
     ] {
         let (ends, sink) = ended(rt.alloc(), "run", input, 0, write)?;
         assert_eq!(rt; ends, status, "at {input}");

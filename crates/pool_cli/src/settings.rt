@@ -1,21 +1,23 @@
 ghost use Rattle.std.specs.Prelude.{◌≡◌, option_map};
 ghost use Rattle.serde_json.specs.View.{view};
 ghost use Rattle.pool_pages.specs.Config.{default_config, default_offered, default_tunables};
+ghost use Rattle.pool_pages.specs.declared.config.Enabled.TheVariants.{No};
 ghost use Rattle.pool_pages.specs.declared.pages.DecommitBehavior.TheVariants.{RestoreOriginalMapping};
 ghost use Rattle.pool_cli.specs.Fields.{optional, required};
-ghost use Rattle.pool_cli.specs.SettingsForms.{count_form, instance_limits_form, config_form, tunables_form, behaviour_form, behaviour_named, offered_form, kind_form, kind_named, fault_form};
+ghost use Rattle.pool_cli.specs.SettingsForms.{count_form, totals_form, shares_form, sizes_form, instance_limits_form, enabled_form, enabled_named, slots_form, stacks_form, keys_form, config_form, memory_tunables_form, heap_tunables_form, tunables_form, behaviour_form, behaviour_named, offered_form, kind_form, kind_named, fault_form};
 
 use crate::fields::{flag_or, has_only, number, number_or, text};
 use crate::form_fault::FormFault;
 use crate::from_json::FromJson;
 use pool_pages::{
-    DecommitBehavior, Fault, FaultKind, InstanceLimits, Offered, PoolingAllocationConfig, Tunables,
+    DecommitBehavior, Enabled, Fault, FaultKind, InstanceLimits, Offered, PoolingAllocationConfig,
+    Tunables,
 };
 use serde_json::Value;
 use std::alloc::Global;
 
-// A number of things that may be left out.
-fn count_or(default: u32, field: Option<&Value>) -> Option<u32>
+/// A number of things that may be left out.
+pub fn count_or(default: u32, field: Option<&Value>) -> Option<u32>
     ensures { result ≡ optional default count_form (option_map (λ v. view v.now) field.entry) }
 {
     match field {
@@ -24,24 +26,137 @@ fn count_or(default: u32, field: Option<&Value>) -> Option<u32>
     }
 }
 
-#[tactic(auto, unfolding(crate::specs::SettingsForms::instance_limits_form))]
+/// How many there are of each thing.
+#[tactic(auto, unfolding(crate::specs::SettingsForms::totals_form))]
+fn totals(value: &Value) -> Option<InstanceLimits>
+    ensures { result ≡ totals_form (view value.now) }
+{
+    let total_core_instances = count_or(1000, value.get("total_core_instances"))?;
+    let total_component_instances = count_or(1000, value.get("total_component_instances"))?;
+    let total_memories = count_or(10, value.get("total_memories"))?;
+    let total_tables = count_or(10, value.get("total_tables"))?;
+    let total_stacks = count_or(0, value.get("total_stacks"))?;
+    let total_gc_heaps = count_or(0, value.get("total_gc_heaps"))?;
+    let mut limits = InstanceLimits::default();
+    limits.total_core_instances = total_core_instances;
+    limits.total_component_instances = total_component_instances;
+    limits.total_memories = total_memories;
+    limits.total_tables = total_tables;
+    limits.total_stacks = total_stacks;
+    limits.total_gc_heaps = total_gc_heaps;
+    Some(limits)
+}
+
+/// Beside these limits, how many things an instance of a module and one of a component may have.
+#[tactic(auto, unfolding(crate::specs::SettingsForms::shares_form))]
+fn with_shares(limits: InstanceLimits, value: &Value) -> Option<InstanceLimits>
+    ensures { result ≡ shares_form limits (view value.now) }
+{
+    let memories = count_or(1, value.get("max_memories_per_module"))?;
+    let tables = count_or(1, value.get("max_tables_per_module"))?;
+    let instances = count_or(1000, value.get("max_core_instances_per_component"))?;
+    let all_memories = count_or(1000, value.get("max_memories_per_component"))?;
+    let all_tables = count_or(1000, value.get("max_tables_per_component"))?;
+    let mut limits = limits;
+    limits.max_memories_per_module = memories;
+    limits.max_tables_per_module = tables;
+    limits.max_core_instances_per_component = instances;
+    limits.max_memories_per_component = all_memories;
+    limits.max_tables_per_component = all_tables;
+    Some(limits)
+}
+
+/// Beside these limits, how large each thing may be.
+#[tactic(auto, unfolding(crate::specs::SettingsForms::sizes_form))]
+fn with_sizes(limits: InstanceLimits, value: &Value) -> Option<InstanceLimits>
+    ensures { result ≡ sizes_form limits (view value.now) }
+{
+    let memory = number_or(65536, value.get("max_memory_size"))?;
+    let elements = number_or(100, value.get("table_elements"))?;
+    let instance = number_or(1048576, value.get("core_instance_size"))?;
+    let component = number_or(1048576, value.get("component_instance_size"))?;
+    let mut limits = limits;
+    limits.max_memory_size = memory as usize;
+    limits.table_elements = elements as usize;
+    limits.core_instance_size = instance as usize;
+    limits.component_instance_size = component as usize;
+    Some(limits)
+}
+
 fn instance_limits(value: &Value) -> Option<InstanceLimits>
     ensures { result ≡ instance_limits_form (view value.now) }
 {
-    let total_memories = count_or(10, value.get("total_memories"))?;
-    let total_tables = count_or(10, value.get("total_tables"))?;
-    let max_memories_per_module = count_or(1, value.get("max_memories_per_module"))?;
-    let max_tables_per_module = count_or(1, value.get("max_tables_per_module"))?;
-    let size = number_or(65536, value.get("max_memory_size"))?;
-    let elements = number_or(100, value.get("table_elements"))?;
-    let mut limits = InstanceLimits::default();
-    limits.total_memories = total_memories;
-    limits.total_tables = total_tables;
-    limits.max_memories_per_module = max_memories_per_module;
-    limits.max_tables_per_module = max_tables_per_module;
-    limits.max_memory_size = size as usize;
-    limits.table_elements = elements as usize;
-    Some(limits)
+    with_sizes(with_shares(totals(value)?, value)?, value)
+}
+
+fn enabled_named(name: &str) -> Option<Enabled>
+    ensures { result ≡ enabled_named name.now }
+{
+    if name == "auto" {
+        Some(Enabled::Auto)
+    } else if name == "yes" {
+        Some(Enabled::Yes)
+    } else if name == "no" {
+        Some(Enabled::No)
+    } else {
+        None
+    }
+}
+
+/// Whether a feature is used. It is not where this is left out.
+fn enabled(field: Option<&Value>) -> Option<Enabled>
+    ensures { result ≡ optional No enabled_form (option_map (λ v. view v.now) field.entry) }
+{
+    match field {
+        None => Some(Enabled::No),
+        Some(value) => enabled_named(value.as_str()?),
+    }
+}
+
+/// Beside these settings, how many slots stay warm, how many ranges are decommitted together, and what a reset of a
+/// memory and of a table keeps resident.
+#[tactic(auto, unfolding(crate::specs::SettingsForms::slots_form))]
+fn with_slots(config: PoolingAllocationConfig, value: &Value) -> Option<PoolingAllocationConfig>
+    ensures { result ≡ slots_form config (view value.now) }
+{
+    let warm = count_or(100, value.get("max_unused_warm_slots"))?;
+    let batch = number_or(1, value.get("decommit_batch_size"))?;
+    let memory = number_or(0, value.get("linear_memory_keep_resident"))?;
+    let table = number_or(0, value.get("table_keep_resident"))?;
+    let mut config = config;
+    config.max_unused_warm_slots = warm;
+    config.decommit_batch_size = batch as usize;
+    config.linear_memory_keep_resident = memory as usize;
+    config.table_keep_resident = table as usize;
+    Some(config)
+}
+
+/// Beside these settings, those of stacks.
+#[tactic(auto, unfolding(crate::specs::SettingsForms::stacks_form))]
+fn with_stacks(config: PoolingAllocationConfig, value: &Value) -> Option<PoolingAllocationConfig>
+    ensures { result ≡ stacks_form config (view value.now) }
+{
+    let size = number_or(0, value.get("stack_size"))?;
+    let zeroing = flag_or(false, value.get("async_stack_zeroing"))?;
+    let kept = number_or(0, value.get("async_stack_keep_resident"))?;
+    let mut config = config;
+    config.stack_size = size as usize;
+    config.async_stack_zeroing = zeroing;
+    config.async_stack_keep_resident = kept as usize;
+    Some(config)
+}
+
+/// Beside these settings, those of protection keys.
+#[tactic(auto, unfolding(crate::specs::SettingsForms::keys_form))]
+fn with_keys(config: PoolingAllocationConfig, value: &Value) -> Option<PoolingAllocationConfig>
+    ensures { result ≡ keys_form config (view value.now) }
+{
+    let enabled = enabled(value.get("memory_protection_keys"))?;
+    let most = number_or(15, value.get("max_memory_protection_keys"))?;
+    let mut config = config;
+    config.memory_protection_keys = enabled;
+    config.max_memory_protection_keys = most as usize;
+    Some(config)
 }
 
 #[tactic(auto, unfolding(crate::specs::SettingsForms::config_form))]
@@ -51,29 +166,40 @@ fn config_of(value: &Value) -> Option<PoolingAllocationConfig>
     if !has_only(
         value,
         &[
+            "total_core_instances",
+            "total_component_instances",
             "total_memories",
             "total_tables",
+            "total_stacks",
+            "total_gc_heaps",
             "max_memories_per_module",
             "max_tables_per_module",
+            "max_core_instances_per_component",
+            "max_memories_per_component",
+            "max_tables_per_component",
+            "max_unused_warm_slots",
             "max_memory_size",
             "table_elements",
+            "core_instance_size",
+            "component_instance_size",
             "decommit_batch_size",
+            "stack_size",
+            "async_stack_zeroing",
+            "async_stack_keep_resident",
             "linear_memory_keep_resident",
             "table_keep_resident",
+            "memory_protection_keys",
+            "max_memory_protection_keys",
         ],
     ) {
         return None;
     }
     let limits = instance_limits(value)?;
-    let batch = number_or(1, value.get("decommit_batch_size"))?;
-    let memory = number_or(0, value.get("linear_memory_keep_resident"))?;
-    let table = number_or(0, value.get("table_keep_resident"))?;
     let mut config = PoolingAllocationConfig::default();
     config.limits = limits;
-    config.decommit_batch_size = batch as usize;
-    config.linear_memory_keep_resident = memory as usize;
-    config.table_keep_resident = table as usize;
-    Some(config)
+    let config = with_slots(config, value)?;
+    let config = with_stacks(config, value)?;
+    with_keys(config, value)
 }
 
 /// Settings of the pool that may be left out.
@@ -86,25 +212,11 @@ pub fn config(field: Option<&Value>) -> Option<PoolingAllocationConfig>
     }
 }
 
-#[tactic(auto, unfolding(crate::specs::SettingsForms::tunables_form))]
-fn tunables_of(value: &Value) -> Option<Tunables>
-    ensures { result ≡ tunables_form (view value.now) }
+/// The settings of memories and tables.
+#[tactic(auto, unfolding(crate::specs::SettingsForms::memory_tunables_form))]
+fn memory_tunables(value: &Value) -> Option<Tunables>
+    ensures { result ≡ memory_tunables_form (view value.now) }
 {
-    if !has_only(
-        value,
-        &[
-            "memory_reservation",
-            "memory_guard_size",
-            "memory_reservation_for_growth",
-            "memory_may_move",
-            "guard_before_linear_memory",
-            "signals_based_traps",
-            "memory_init_cow",
-            "table_lazy_init",
-        ],
-    ) {
-        return None;
-    }
     let reservation = number_or(1048576, value.get("memory_reservation"))?;
     let guard = number_or(65536, value.get("memory_guard_size"))?;
     let growth = number_or(0, value.get("memory_reservation_for_growth"))?;
@@ -122,11 +234,59 @@ fn tunables_of(value: &Value) -> Option<Tunables>
     tunables.signals_based_traps = signals;
     tunables.memory_init_cow = cow;
     tunables.table_lazy_init = lazy;
+    Some(tunables)
+}
+
+/// Beside these settings, those of GC heaps, which are those of memories where they are left out.
+#[tactic(auto, unfolding(crate::specs::SettingsForms::heap_tunables_form))]
+fn with_heaps(tunables: Tunables, value: &Value) -> Option<Tunables>
+    ensures { result ≡ heap_tunables_form tunables (view value.now) }
+{
+    let collector = flag_or(false, value.get("collector"))?;
+    let reservation = number_or(
+        tunables.memory_reservation,
+        value.get("gc_heap_reservation"),
+    )?;
+    let guard = number_or(tunables.memory_guard_size, value.get("gc_heap_guard_size"))?;
+    let growth = number_or(
+        tunables.memory_reservation_for_growth,
+        value.get("gc_heap_reservation_for_growth"),
+    )?;
+    let moves = flag_or(tunables.memory_may_move, value.get("gc_heap_may_move"))?;
+    let mut tunables = tunables;
+    tunables.collector = collector;
     tunables.gc_heap_reservation = reservation;
     tunables.gc_heap_guard_size = guard;
     tunables.gc_heap_reservation_for_growth = growth;
     tunables.gc_heap_may_move = moves;
     Some(tunables)
+}
+
+#[tactic(auto, unfolding(crate::specs::SettingsForms::tunables_form))]
+fn tunables_of(value: &Value) -> Option<Tunables>
+    ensures { result ≡ tunables_form (view value.now) }
+{
+    if !has_only(
+        value,
+        &[
+            "memory_reservation",
+            "memory_guard_size",
+            "memory_reservation_for_growth",
+            "memory_may_move",
+            "guard_before_linear_memory",
+            "signals_based_traps",
+            "memory_init_cow",
+            "table_lazy_init",
+            "collector",
+            "gc_heap_reservation",
+            "gc_heap_guard_size",
+            "gc_heap_reservation_for_growth",
+            "gc_heap_may_move",
+        ],
+    ) {
+        return None;
+    }
+    with_heaps(memory_tunables(value)?, value)
 }
 
 /// Settings of the engine that may be left out.
@@ -164,11 +324,13 @@ fn behaviour(field: Option<&Value>) -> Option<DecommitBehavior>
 fn offered_of(value: &Value) -> Option<Offered>
     ensures { result ≡ offered_form (view value.now) }
 {
-    if !has_only(value, &["behaviour"]) {
+    if !has_only(value, &["keys", "behaviour"]) {
         return None;
     }
+    let keys = count_or(0, value.get("keys"))?;
     let behaviour = behaviour(value.get("behaviour"))?;
     let mut offered = Offered::default();
+    offered.keys = keys;
     offered.behaviour = behaviour;
     Some(offered)
 }
@@ -190,8 +352,12 @@ fn kind_named(name: &str) -> Option<FaultKind>
         Some(FaultKind::Memory)
     } else if name == "table" {
         Some(FaultKind::Table)
+    } else if name == "stack" {
+        Some(FaultKind::Stack)
     } else if name == "image" {
         Some(FaultKind::Image)
+    } else if name == "ondemand" {
+        Some(FaultKind::OnDemand)
     } else {
         None
     }

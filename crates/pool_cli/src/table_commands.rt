@@ -4,6 +4,7 @@ ghost use Rattle.pool_cli.specs.Fields.{required};
 ghost use Rattle.pool_cli.specs.Forms.{pair_value, number_value, value_form, get_form, set_form, table_fill_form, table_grow_form, table_size_form, form_on_table};
 
 use crate::fields::{has_only, number, number_or, number_pair};
+use crate::other_commands::command_without_grant;
 use pool_run::{Command, TableValue};
 use pool_table::VMContObj;
 use serde_json::Value;
@@ -131,7 +132,7 @@ fn table_size(value: &Value) -> Option<Command>
     })
 }
 
-/// The command on a table of this name.
+/// The command on a table of this name, or one that names no earlier one.
 pub fn command_on_table(name: &str, value: &Value) -> Option<Command>
     ensures { result ≡ form_on_table name.now (view value.now) }
 {
@@ -146,6 +147,6 @@ pub fn command_on_table(name: &str, value: &Value) -> Option<Command>
     } else if name == "table_size" {
         table_size(value)
     } else {
-        None
+        command_without_grant(name, value)
     }
 }

@@ -94,7 +94,7 @@ const DROPS_NOTHING: &str = "{\"parties\":[{\"commands\":[{\"do\":\"drop\",\"of\
 
 const NO_HOME: &str = "{\"parties\":[{\"home\":65536}]}";
 
-const FAULT_OF_A_STACK: &str = "{\"faults\":[{\"kind\":\"stack\",\"slot\":0,\"call\":0}]}";
+const FAULT_OF_A_HEAP: &str = "{\"faults\":[{\"kind\":\"heap\",\"slot\":0,\"call\":0}]}";
 
 const SHORT_ADDRESSES: &str = "{\"modules\":[{\"memories\":[{\"index\":\"i16\"}]}]}";
 
@@ -112,7 +112,7 @@ fn statuses_of_inputs(rt: HostRuntime) -> Result<(), Fail> {
         (CUT_OFF, 1, 0, Status::ReadFault, ""),
         (CUT_OFF, 0, 2, Status::WriteFault, "error BadI"),
         ("{\"finish\":1}", 0, 0, Status::NotBuilt, NOT_BUILT),
-        (FAULT_OF_A_STACK, 0, 0, Status::NotBuilt, NOT_BUILT),
+        (FAULT_OF_A_HEAP, 0, 0, Status::NotBuilt, NOT_BUILT),
         (SHORT_ADDRESSES, 0, 0, Status::NotBuilt, NOT_BUILT),
         (
             MORE_MEMORIES_THAN_A_COUNT,
