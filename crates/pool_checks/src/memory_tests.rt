@@ -5,7 +5,9 @@ ghost use Rattle.pool_images.specs.Slots.{Slot, IsBegun};
 ghost use Rattle.pool_memory.specs.Static.{CanHold};
 
 use pool_images::MemoryImageSlot;
-use pool_limits::{GrowError, GrowFault, LimiterError, StoreLimits, StoreLimitsBuilder, Trap};
+use pool_limits::{
+    GrowError, GrowFault, LimiterError, StoreLimits, StoreLimitsBuilder, Trap, WaitResult,
+};
 use pool_memory::{
     LocalMemory, Memory, MemoryError, RuntimeLinearMemory, StaticMemory, validate_atomic_addr,
 };
@@ -58,6 +60,48 @@ fn begun(
     Ok(slot)
 }
 
+type PooledMemory = Memory<(), StaticMemory<MadeRegion>>;
+
+type Grown = Result<Option<usize>, GrowFault>;
+
+// Its sizes in bytes and of a page, and whether it needs its image and is shared.
+fn told(memory: &PooledMemory) -> (usize, u64, bool, bool) {
+    (
+        memory.byte_size(),
+        memory.page_size(),
+        memory.needs_init(),
+        memory.is_shared_memory(),
+    )
+}
+
+// What growths by these numbers of pages answer, the third with a limiter that makes a failure a trap.
+fn grow_thrice(memory: &mut PooledMemory, pages: [u64; 3]) -> [Grown; 3] {
+    let mut limits = StoreLimitsBuilder::new().trap_on_grow_failure(true).build();
+    [
+        memory.grow::<StoreLimits>(&mut (), pages[0], None),
+        memory.grow::<StoreLimits>(&mut (), pages[1], None),
+        memory.grow(&mut (), pages[2], Some(&mut limits)),
+    ]
+}
+
+// Four bytes from there on.
+fn four(memory: &PooledMemory, at: u64) -> Result<[u8; 4], Trap> {
+    let mut bytes = [9; 4];
+    memory.read(at, &mut bytes)?;
+    Ok(bytes)
+}
+
+type Waited = Result<WaitResult, Trap>;
+
+// What a notify and both waits answer.
+fn atomics(memory: &mut PooledMemory) -> (Result<u32, Trap>, Waited, Waited) {
+    (
+        memory.atomic_notify(8, 1),
+        memory.atomic_wait32(8, 0, None),
+        memory.atomic_wait64(4, 0, Some(1)),
+    )
+}
+
 #[test]
 fn a_memory_grows_within_its_slot(rt: HostRuntime) -> Result<(), Fail> {
     let ty = memory_type(1);
@@ -66,48 +110,26 @@ fn a_memory_grows_within_its_slot(rt: HostRuntime) -> Result<(), Fail> {
     else {
         return Err(Fail::new("the memory was refused"));
     };
-    assert_eq!(rt; memory.byte_size(), 65_536);
-    assert_eq!(rt; memory.page_size(), 65_536);
     assert_eq!(rt; *memory.ty(), ty);
-    assert!(rt; memory.needs_init() && !memory.is_shared_memory());
-    assert_eq!(rt;
-        memory.grow::<StoreLimits>(&mut (), 0, None),
-        Ok(Some(65_536))
-    );
+    assert_eq!(rt; told(&memory), (65_536, 65_536, true, false));
     assert_eq!(rt; memory.write(65_534, &[1, 2]), Ok(()));
     assert_eq!(rt; memory.write(65_535, &[3, 4]), Err(Trap::MemoryOutOfBounds));
-    assert_eq!(rt;
-        memory.grow::<StoreLimits>(&mut (), 1, None),
-        Ok(Some(65_536))
-    );
-    let mut bytes = [9; 4];
-    assert_eq!(rt; memory.read(65_534, &mut bytes), Ok(()));
-    assert_eq!(rt; bytes, [1, 2, 0, 0]);
-    assert_eq!(rt;
-        memory.read(131_069, &mut bytes),
-        Err(Trap::MemoryOutOfBounds)
-    );
-    assert_eq!(rt; memory.byte_size(), 131_072);
-    assert_eq!(rt; memory.grow::<StoreLimits>(&mut (), 1, None), Ok(None));
-    let mut limits = StoreLimitsBuilder::new().trap_on_grow_failure(true).build();
-    assert_eq!(rt;
-        memory.grow(&mut (), 1, Some(&mut limits)),
-        Err(GrowFault::LimiterFault(LimiterError::MemoryGrowFailed))
-    );
+    let failed = Err(GrowFault::LimiterFault(LimiterError::MemoryGrowFailed));
+    let grown = grow_thrice(&mut memory, [0, 1, 1]);
+    assert_eq!(rt; grown, [Ok(Some(65_536)), Ok(Some(65_536)), failed]);
+    assert_eq!(rt; grow_thrice(&mut memory, [1, 0, 0])[0], Ok(None));
+    assert_eq!(rt; told(&memory).0, 131_072);
+    assert_eq!(rt; four(&memory, 65_534), Ok([1, 2, 0, 0]));
+    assert_eq!(rt; four(&memory, 131_069), Err(Trap::MemoryOutOfBounds));
     assert_eq!(rt; memory.page_calls().expose, 2);
-    assert_eq!(rt; memory.atomic_notify(8, 1), Ok(0));
-    assert_eq!(rt;
-        memory.atomic_wait32(8, 0, None),
-        Err(Trap::AtomicWaitNonSharedMemory)
+    let refused = (
+        Ok(0),
+        Err(Trap::AtomicWaitNonSharedMemory),
+        Err(Trap::HeapMisaligned),
     );
-    assert_eq!(rt;
-        memory.atomic_wait64(4, 0, Some(1)),
-        Err(Trap::HeapMisaligned)
-    );
-    assert_eq!(rt;
-        memory.unwrap_static_image().accessible().byte_count(),
-        131_072
-    );
+    assert_eq!(rt; atomics(&mut memory), refused);
+    let slot = memory.unwrap_static_image();
+    assert_eq!(rt; slot.accessible().byte_count(), 131_072);
     Ok(())
 }
 

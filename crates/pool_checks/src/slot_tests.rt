@@ -1,6 +1,8 @@
 ghost use Rattle.std.specs.Prelude.{◌≡◌, ◌<◌, ◌≤◌, [], ◌∷◌, length, replicate, true, false, Some, IfOk, IfSome, OnOk};
 ghost use Rattle.std.specs.Arc.{arc_value};
-ghost use Rattle.pool_images.specs.Slots.{IsReady, IsClean, FitsInto};
+ghost use Rattle.pool_images.specs.Slots.{IsReady, IsClean, IsFresh, FitsInto};
+ghost use Rattle.pool_pages.specs.Count.{count};
+ghost use Rattle.pool_pages.specs.MadeRegions.{made_told};
 
 use pool_images::{ImageError, MemoryImage, MemoryImageSlot, ModuleMemoryImages, Ranges};
 use pool_pages::{
@@ -67,7 +69,7 @@ fn first(images: &ModuleMemoryImages, page: PageSize) -> Result<&Arc<MemoryImage
 }
 
 // A slot of 64 bytes over a region of this behaviour, whose pages are of 16 bytes.
-#[tactic(auto, using(pool_images::proofs::Colours::no_colour))]
+#[tactic(auto, using(crate::proofs::FreshSlots::plain_fresh))]
 fn slot_of(alloc: Global, behaviour: DecommitBehavior) -> Result<MemoryImageSlot<MadeRegion>, Fail>
     ensures clean { IfOk result (λ s. IsClean s) }
     ensures size { IfOk result (λ s. s.static_size ≡ 64) }
@@ -80,17 +82,28 @@ fn slot_of(alloc: Global, behaviour: DecommitBehavior) -> Result<MemoryImageSlot
     Ok(MemoryImageSlot::create(region, page.zero(), page.zero(), 64, None))
 }
 
-// The same, with pages of colour 7, which go back to an image.
+// A region of 64 bytes whose pages have colour 7 and go back to an image.
+#[tactic(auto, using(crate::proofs::FreshSlots::coloured_fresh))]
+fn coloured_region(alloc: Global, page: PageSize) -> Result<MadeRegion, Fail>
+    requires { page ≡ 16 }
+    ensures { IfOk result (λ r. IsFresh (count 16 0) (count 16 0) 64 (Some 7) (made_told r)) }
+{
+    let mut maker = MemoryPages::new(page);
+    let zero = page.zero();
+    let len = HostAlignedByteCount::new(page, 64)?;
+    let behaviour = DecommitBehavior::RestoreOriginalMapping;
+    let mut region = maker.make(alloc, RegionName::Memory(6), behaviour, zero, len)?;
+    region.recolour(zero, len, 7)?;
+    Ok(region)
+}
+
+// A slot of such a region.
 fn coloured_slot(alloc: Global) -> Result<MemoryImageSlot<MadeRegion>, Fail>
     ensures clean { IfOk result (λ s. IsClean s) }
     ensures size { IfOk result (λ s. s.static_size ≡ 64) }
 {
     let page = PageSize::new(16)?;
-    let mut maker = MemoryPages::new(page);
-    let len = HostAlignedByteCount::new(page, 64)?;
-    let behaviour = DecommitBehavior::RestoreOriginalMapping;
-    let mut region = maker.make(alloc, RegionName::Memory(0), behaviour, page.zero(), len)?;
-    region.recolour(page.zero(), len, 7)?;
+    let region = coloured_region(alloc, page)?;
     Ok(MemoryImageSlot::create(region, page.zero(), page.zero(), 64, Some(7)))
 }
 
