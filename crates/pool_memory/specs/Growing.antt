@@ -65,6 +65,11 @@ IsGrowthFailure failed.PageFault = Unit {0}
 IsGrowthFailure failed.Memory = Unit {0}
 IsGrowthFailure failed.Overflow = Unit {0}
 
+-- one in a list of bytes fails only for want of memory
+abbrev pub IsFailureOf : Storage → GrowError → Type 0
+IsFailureOf (in_slot s) e = IsGrowthFailure e
+IsFailureOf (stored len bytes) e = e ≡ failed.Memory
+
 -- in its place it fails only where a call on the slot's region does
 abbrev pub FailsInPlace : GrowError → ℕ → Storage → Storage → Type 0
 FailsInPlace e size (in_slot s) (in_slot t) = (e ≡ failed.PageFault) × CallFaulted (raising (rounded_up s.region.page size) s) s t
@@ -73,7 +78,7 @@ FailsInPlace e size (stored len bytes) new = ⊥
 
 -- The memory could not grow to this size: its own size and bytes are as before. Where it was to move it is as it was.
 pub record IsUngrown (e : GrowError) (size : ℕ) (old new : Linear) : Type 0 where
-  pub failure : IsGrowthFailure e
+  pub failure : IsFailureOf old.storage e
   pub same_size : new.size ≡ old.size
   pub capacity : new.capacity ≡ old.capacity
   pub moves : new.moves ≡ old.moves
