@@ -1,8 +1,8 @@
 -- Over a right plan no slot is given out twice, and no region of one: each has one place that can give it out.
-use Rattle.std.proofs.Common.{◌≡◌, ℕ, ◌+◌, ◌-◌, ◌*◌, ◌/◌, ◌%◌, ◌<◌, ◌≤◌, ◌⊎◌, Bool, true, false, List, [], ◌∷◌, ◌++◌, length, refl, sym, ap, ◌∙◌, subst, inl, inr, arith, Option, None, Some}
-use Rattle.std.specs.Prelude.{map, ◌==◌, ◌&&◌, nat_le, nat_lt, if◌then◌else◌}
+use Rattle.std.proofs.Common.{◌≡◌, ◌≢◌, ℕ, ◌+◌, ◌-◌, ◌*◌, ◌/◌, ◌%◌, ◌<◌, ◌≤◌, ◌⊎◌, Bool, true, false, List, [], ◌∷◌, ◌++◌, length, refl, sym, ap, ◌∙◌, subst, inl, inr, arith, Option, None, Some}
+use Rattle.std.specs.Prelude.{map, min, ◌==◌, ◌&&◌, nat_le, nat_lt, if◌then◌else◌}
 use Rattle.std.specs.List.{AllByRecursion}
-use Rattle.std.proofs.lemmas.Bool.{cases_Bool, and_parts, and_from, eq-eqb, le-leb, leb-true, lt-ltb, true≢false}
+use Rattle.std.proofs.lemmas.Bool.{cases_Bool, and_parts, and_from, eq-eqb, le-leb, leb-true, lt-ltb, ltb-true, true≢false}
 use Rattle.std.proofs.lemmas.Nat.{div-mul-add}
 use Rattle.std.proofs.Math.Nat.{mul-mod_left, mul-div_left}
 use mathlib.Core.Option.{some}
@@ -19,6 +19,9 @@ use Rattle.pool_index.specs.Shard.{ShardState}
 use Rattle.pool_index.specs.declared.ids.MemoryInModule.{MemoryInModule}
 use Rattle.pool_index.proofs.SlotUnits.{is_out, out_once}
 use Rattle.pool_slots.specs.Cells.{Cell, unmapped, unknown, previously_used, taken}
+use Rattle.pool_slots.specs.HeapLists.{heap_entry, heaps_away, is_out as is_out_entry}
+use Rattle.pool_slots.specs.HeapUnits.{heap_slot}
+use Rattle.pool_slots.specs.declared.heap_list.HeapEntry.{HeapEntry}
 use Rattle.pool_slots.specs.ListUnits.{bare, is_right, is_region, IsShardOf, StandsAs, StandAsPlanned, AwayOnce}
 use Rattle.pool_slots.specs.PartUnits.{part_away}
 use Rattle.pool_slots.specs.Parts.{part_at}
@@ -32,6 +35,7 @@ use Rattle.pool_slots.specs.declared.plan.Home.{Home}
 use Rattle.pool_slots.specs.declared.plan.Plan.{Plan}
 use Rattle.pool_slots.specs.declared.part.PoolPart.{PoolPart}
 use Rattle.pool_slots.specs.declared.part.PoolPart.TheVariants as part
+use Rattle.pool_slots.proofs.HeapUnits.{units_of_out_slots}
 use Rattle.pool_slots.proofs.ListUnits.{read_at, total_once, away_parts}
 
 -- some element of a list
@@ -87,35 +91,35 @@ abbrev is_cell : Role → Bool
 is_cell (shard_role a j) = false
 is_cell (cell_role name) = true
 is_cell queue_role = false
-is_cell heaps_role = false
+is_cell (heaps_role n) = false
 is_cell no_role = false
 
 abbrev is_shard : Role → Bool
 is_shard (shard_role a j) = true
 is_shard (cell_role name) = false
 is_shard queue_role = false
-is_shard heaps_role = false
+is_shard (heaps_role n) = false
 is_shard no_role = false
 
 abbrev name_in : SlotName → Role → SlotName
 name_in d (shard_role a j) = d
 name_in d (cell_role name) = name
 name_in d queue_role = d
-name_in d heaps_role = d
+name_in d (heaps_role n) = d
 name_in d no_role = d
 
 abbrev shard_in : Allocator → Role → Allocator
 shard_in d (shard_role a j) = a
 shard_in d (cell_role name) = d
 shard_in d queue_role = d
-shard_in d heaps_role = d
+shard_in d (heaps_role n) = d
 shard_in d no_role = d
 
 abbrev index_in : Role → ℕ
 index_in (shard_role a j) = j
 index_in (cell_role name) = 0
 index_in queue_role = 0
-index_in heaps_role = 0
+index_in (heaps_role n) = 0
 index_in no_role = 0
 
 -- a cell's place is that of its slot
@@ -144,7 +148,7 @@ cell_at plan p name e =
           | inr rest ↦ elim rest [
             | inl queue ↦ absurd (no_cell queue_role name refl queue.1)
             | inr rest ↦ elim rest [
-              | inl heaps ↦ absurd (no_cell heaps_role name refl heaps.1)
+              | inl heaps ↦ absurd (no_cell (heaps_role plan.totals.heap) name refl heaps.1)
               | inr shards ↦
                   any_of (λ a. Gives p (cell_role name) (shards_block a)) (p ≡ cell_place plan name) (allocators plan)
                   (λ a gives. absurd (no_cell (shard_role a (p - a.first_place)) name refl gives.1))
@@ -181,7 +185,7 @@ shard_at plan p a j e =
           | inr rest ↦ elim rest [
             | inl queue ↦ absurd (no_shard queue_role a j refl queue.1)
             | inr rest ↦ elim rest [
-              | inl heaps ↦ absurd (no_shard heaps_role a j refl heaps.1)
+              | inl heaps ↦ absurd (no_shard (heaps_role plan.totals.heap) a j refl heaps.1)
               | inr shards ↦
                   any_weaker (λ b. Gives p r (shards_block b)) (IsPlacedAs p a j) (allocators plan) (placed_as p a j)
                   (any_map (Gives p r) shards_block (allocators plan) shards)
@@ -352,6 +356,70 @@ cell_there plan p r cell own name role named some' =
     let is : cell.name ≡ name = region_named name cell.name cell.out cell.holds some' in
     cell_at plan p name (role ∙ ap cell_role (sym named ∙ is))
 
+-- the place of the part that gives out the region of a slot: its cell, or for a heap the list of heaps
+abbrev heap_or : SlotKind → ℕ → ℕ → ℕ
+heap_or of_slot.Memory list cell = cell
+heap_or of_slot.Table list cell = cell
+heap_or of_slot.Stack list cell = cell
+heap_or of_slot.Heap list cell = list
+
+abbrev region_place : Plan → SlotName → ℕ
+region_place plan name = heap_or name.kind plan.heap_list (cell_place plan name)
+
+abbrev is_heap : SlotKind → Bool
+is_heap of_slot.Memory = false
+is_heap of_slot.Table = false
+is_heap of_slot.Stack = false
+is_heap of_slot.Heap = true
+
+cell_region : (plan : Plan) (p : ℕ) (r : Role) (kind : SlotKind) (cell : CellState) (own name : SlotName) → ((list cell : ℕ) → heap_or kind list cell ≡ cell) → role_at plan p ≡ cell_role own → own.kind ≡ kind → cell.name ≡ own → 0 < total (is_region name) (cell_away cell) → p ≡ region_place plan name
+cell_region plan p r kind cell own name other role of' named some' =
+    let is : cell.name ≡ name = region_named name cell.name cell.out cell.holds some' in
+    let kind' : name.kind ≡ kind = ap (λ (n : SlotName). n.kind) (sym is ∙ named) ∙ of' in
+    cell_there plan p r cell own name role named some' ∙ sym (ap (λ (k : SlotKind). heap_or k plan.heap_list (cell_place plan name)) kind' ∙ other plan.heap_list (cell_place plan name))
+
+-- the place of the list of heaps
+abbrev is_list : Role → Bool
+is_list (shard_role a j) = false
+is_list (cell_role name) = false
+is_list queue_role = false
+is_list (heaps_role n) = true
+is_list no_role = false
+
+no_list : (r : Role) (n : ℕ) → is_list r ≡ false → r ≡ heaps_role n → ⊥
+no_list r n other e = true≢false (sym (ap is_list e) ∙ other)
+
+pub list_at : (plan : Plan) (p n : ℕ) → role_at plan p ≡ heaps_role n → p ≡ plan.heap_list
+list_at plan p n e =
+    let any : AnyOf (Gives p (heaps_role n)) (blocks plan) = given (blocks plan) p (heaps_role n) e (no_list no_role n refl) in
+    let cells : (kind : SlotKind) → Gives p (heaps_role n) (cells_block plan kind) → ⊥ = λ kind gives. no_list (cell_role (record { kind = kind; slot = p - of_kind kind plan.cells })) n refl gives.1 in
+    elim any [
+      | inl memory ↦ absurd (cells of_slot.Memory memory)
+      | inr rest ↦ elim rest [
+        | inl table ↦ absurd (cells of_slot.Table table)
+        | inr rest ↦ elim rest [
+          | inl stack ↦ absurd (cells of_slot.Stack stack)
+          | inr rest ↦ elim rest [
+            | inl queue ↦ absurd (no_list queue_role n refl queue.1)
+            | inr rest ↦ elim rest [
+              | inl heaps ↦ one_place plan p heaps.0
+              | inr shards ↦
+                  any_of (λ a. Gives p (heaps_role n) (shards_block a)) (p ≡ plan.heap_list) (allocators plan)
+                  (λ a gives. absurd (no_list (shard_role a (p - a.first_place)) n refl gives.1))
+                  (any_map (Gives p (heaps_role n)) shards_block (allocators plan) shards)
+            ]
+          ]
+        ]
+      ]
+    ]
+  where
+    one_place : (plan : Plan) (p : ℕ) → (nat_le plan.heap_list p && nat_lt p (plan.heap_list + min 1 plan.totals.heap)) ≡ true → p ≡ plan.heap_list
+    one_place plan p is =
+        let parts = and_parts (nat_le plan.heap_list p) (nat_lt p (plan.heap_list + min 1 plan.totals.heap)) is in
+        let from = leb-true plan.heap_list p parts.0 in
+        let to = ltb-true p (plan.heap_list + min 1 plan.totals.heap) parts.1 in
+        omega (arith, from, to)
+
 -- the part that has given out the right to a slot is the shard at its home
 shard_there : (plan : Plan) (places p : ℕ) (a : Allocator) (j : ℕ) (s : ShardState) (name : SlotName) → IsPlanned plan places → role_at plan p ≡ shard_role a j → IsShardOf a j s → 0 < total (is_right name) (shard_units s) → p ≡ (home_of plan name).place
 shard_there plan places p a j s name planned role of' some' =
@@ -368,66 +436,94 @@ shard_there plan places p a j s name planned role of' some' =
     spread : (f m k t : ℕ) → (f + (m + 0) * t) + k * t ≡ f + (m + k) * t
     spread f m k t = omega arith
 
-module _ {P : Type 0} where
-  region_there : (plan : Plan) (p : ℕ) (r : Role) (x : PoolPart P) (name : SlotName) → role_at plan p ≡ r → StandsAs r x → 0 < total (is_region name) (part_away x) → p ≡ cell_place plan name
+other_kind : (name : SlotName) (kind : SlotKind) → name.kind ≡ kind → is_heap kind ≡ false → name.kind ≢ of_slot.Heap
+other_kind name kind is other e = true≢false (sym (ap is_heap (sym is ∙ e)) ∙ other)
+
+module _ {H : Type 0} where
+  heap_there : (plan : Plan) (p n : ℕ) (heaps : List (HeapEntry H)) (name : SlotName) (kind : SlotKind) → role_at plan p ≡ heaps_role n → name.kind ≡ kind → 0 < total (is_region name) (heaps_away heaps) → p ≡ region_place plan name
+  heap_there plan p n heaps name of_slot.Heap role is some' = list_at plan p n role ∙ sym (ap (λ (k : SlotKind). heap_or k plan.heap_list (cell_place plan name)) is)
+  heap_there plan p n heaps name of_slot.Memory role is some' = let none = (units_of_out_slots heaps).no_others name (other_kind name of_slot.Memory is refl) in absurd (omega (arith, some', none))
+  heap_there plan p n heaps name of_slot.Table role is some' = let none = (units_of_out_slots heaps).no_others name (other_kind name of_slot.Table is refl) in absurd (omega (arith, some', none))
+  heap_there plan p n heaps name of_slot.Stack role is some' = let none = (units_of_out_slots heaps).no_others name (other_kind name of_slot.Stack is refl) in absurd (omega (arith, some', none))
+
+  heap_once : (heaps : List (HeapEntry H)) (name : SlotName) (kind : SlotKind) → name.kind ≡ kind → total (is_region name) (heaps_away heaps) ≤ 1
+  heap_once heaps name of_slot.Heap is =
+      let one = (units_of_out_slots heaps).once name.slot in
+      let few = at_most_one (is_out_entry (heap_entry name.slot heaps)) in
+      let same' : total (is_region name) (heaps_away heaps) ≡ total (is_region (heap_slot name.slot)) (heaps_away heaps) = ap (λ (k : SlotKind). total (is_region (record { kind = k; slot = name.slot })) (heaps_away heaps)) is in
+      omega (arith, one, few, same')
+  heap_once heaps name of_slot.Memory is = let none = (units_of_out_slots heaps).no_others name (other_kind name of_slot.Memory is refl) in omega (arith, none)
+  heap_once heaps name of_slot.Table is = let none = (units_of_out_slots heaps).no_others name (other_kind name of_slot.Table is refl) in omega (arith, none)
+  heap_once heaps name of_slot.Stack is = let none = (units_of_out_slots heaps).no_others name (other_kind name of_slot.Stack is refl) in omega (arith, none)
+
+module _ {P H : Type 0} where
+  region_there : (plan : Plan) (p : ℕ) (r : Role) (x : PoolPart P H) (name : SlotName) → role_at plan p ≡ r → StandsAs r x → 0 < total (is_region name) (part_away x) → p ≡ region_place plan name
   region_there plan p r (part.Shard s) name role st some' = let none = no_region name s.kind s.step s.first s.used in absurd (omega (arith, some', none))
   region_there plan p r (part.Queue q) name role st some' = absurd (omega (arith, some'))
-  region_there plan p (cell_role own) (part.Memory cell) name role st some' = cell_there plan p (cell_role own) cell own name role st.1 some'
-  region_there plan p (cell_role own) (part.Table cell) name role st some' = cell_there plan p (cell_role own) cell own name role st.1 some'
-  region_there plan p (cell_role own) (part.Stack cell) name role st some' = cell_there plan p (cell_role own) cell own name role st.1 some'
+  region_there plan p (cell_role own) (part.Memory cell) name role st some' = cell_region plan p (cell_role own) of_slot.Memory cell own name (λ list cell. refl) role st.0 st.1 some'
+  region_there plan p (cell_role own) (part.Table cell) name role st some' = cell_region plan p (cell_role own) of_slot.Table cell own name (λ list cell. refl) role st.0 st.1 some'
+  region_there plan p (cell_role own) (part.Stack cell) name role st some' = cell_region plan p (cell_role own) of_slot.Stack cell own name (λ list cell. refl) role st.0 st.1 some'
   region_there plan p (shard_role a j) (part.Memory cell) name role st some' = absurd st
   region_there plan p (shard_role a j) (part.Table cell) name role st some' = absurd st
   region_there plan p (shard_role a j) (part.Stack cell) name role st some' = absurd st
   region_there plan p queue_role (part.Memory cell) name role st some' = absurd st
   region_there plan p queue_role (part.Table cell) name role st some' = absurd st
   region_there plan p queue_role (part.Stack cell) name role st some' = absurd st
-  region_there plan p heaps_role (part.Memory cell) name role st some' = absurd st
-  region_there plan p heaps_role (part.Table cell) name role st some' = absurd st
-  region_there plan p heaps_role (part.Stack cell) name role st some' = absurd st
+  region_there plan p (heaps_role n) (part.Memory cell) name role st some' = absurd st
+  region_there plan p (heaps_role n) (part.Table cell) name role st some' = absurd st
+  region_there plan p (heaps_role n) (part.Stack cell) name role st some' = absurd st
   region_there plan p no_role (part.Memory cell) name role st some' = absurd st
   region_there plan p no_role (part.Table cell) name role st some' = absurd st
   region_there plan p no_role (part.Stack cell) name role st some' = absurd st
+  region_there plan p (heaps_role n) (part.Heaps heaps) name role st some' = heap_there plan p n heaps name name.kind role refl some'
+  region_there plan p (shard_role a j) (part.Heaps heaps) name role st some' = absurd st
+  region_there plan p (cell_role own) (part.Heaps heaps) name role st some' = absurd st
+  region_there plan p queue_role (part.Heaps heaps) name role st some' = absurd st
+  region_there plan p no_role (part.Heaps heaps) name role st some' = absurd st
 
-  part_region_once : (x : PoolPart P) (name : SlotName) → total (is_region name) (part_away x) ≤ 1
+  part_region_once : (x : PoolPart P H) (name : SlotName) → total (is_region name) (part_away x) ≤ 1
   part_region_once (part.Shard s) name = let none = no_region name s.kind s.step s.first s.used in omega (arith, none)
   part_region_once (part.Memory cell) name = region_once name cell.name cell.out cell.holds
   part_region_once (part.Table cell) name = region_once name cell.name cell.out cell.holds
   part_region_once (part.Stack cell) name = region_once name cell.name cell.out cell.holds
   part_region_once (part.Queue q) name = omega arith
+  part_region_once (part.Heaps heaps) name = heap_once heaps name name.kind refl
 
-  right_there : (plan : Plan) (places p : ℕ) (r : Role) (x : PoolPart P) (name : SlotName) → IsPlanned plan places → role_at plan p ≡ r → StandsAs r x → 0 < total (is_right name) (part_away x) → p ≡ (home_of plan name).place
+  right_there : (plan : Plan) (places p : ℕ) (r : Role) (x : PoolPart P H) (name : SlotName) → IsPlanned plan places → role_at plan p ≡ r → StandsAs r x → 0 < total (is_right name) (part_away x) → p ≡ (home_of plan name).place
   right_there plan places p (shard_role a j) (part.Shard s) name planned role st some' = shard_there plan places p a j s name planned role st some'
   right_there plan places p (cell_role own) (part.Shard s) name planned role st some' = absurd st
   right_there plan places p queue_role (part.Shard s) name planned role st some' = absurd st
-  right_there plan places p heaps_role (part.Shard s) name planned role st some' = absurd st
+  right_there plan places p (heaps_role n) (part.Shard s) name planned role st some' = absurd st
   right_there plan places p no_role (part.Shard s) name planned role st some' = absurd st
   right_there plan places p r (part.Memory cell) name planned role st some' = let none = no_right name cell.name cell.out cell.holds in absurd (omega (arith, some', none))
   right_there plan places p r (part.Table cell) name planned role st some' = let none = no_right name cell.name cell.out cell.holds in absurd (omega (arith, some', none))
   right_there plan places p r (part.Stack cell) name planned role st some' = let none = no_right name cell.name cell.out cell.holds in absurd (omega (arith, some', none))
   right_there plan places p r (part.Queue q) name planned role st some' = absurd (omega (arith, some'))
+  right_there plan places p r (part.Heaps heaps) name planned role st some' = let none = (units_of_out_slots heaps).no_rights name in absurd (omega (arith, some', none))
 
-  part_right_once : (r : Role) (x : PoolPart P) (name : SlotName) → StandsAs r x → total (is_right name) (part_away x) ≤ 1
+  part_right_once : (r : Role) (x : PoolPart P H) (name : SlotName) → StandsAs r x → total (is_right name) (part_away x) ≤ 1
   part_right_once (shard_role a j) (part.Shard s) name st =
       let bare' = bare_times (right_to name) s.kind s.step s.first s.used in
       let once = out_once s.kind s.step (right_to name) st.sound.numbers.apart s.first s.used in
       omega (arith, bare', once)
   part_right_once (cell_role own) (part.Shard s) name st = absurd st
   part_right_once queue_role (part.Shard s) name st = absurd st
-  part_right_once heaps_role (part.Shard s) name st = absurd st
+  part_right_once (heaps_role n) (part.Shard s) name st = absurd st
   part_right_once no_role (part.Shard s) name st = absurd st
   part_right_once r (part.Memory cell) name st = let none = no_right name cell.name cell.out cell.holds in omega (arith, none)
   part_right_once r (part.Table cell) name st = let none = no_right name cell.name cell.out cell.holds in omega (arith, none)
   part_right_once r (part.Stack cell) name st = let none = no_right name cell.name cell.out cell.holds in omega (arith, none)
   part_right_once r (part.Queue q) name st = omega arith
+  part_right_once r (part.Heaps heaps) name st = let none = (units_of_out_slots heaps).no_rights name in omega (arith, none)
 
-  stands_at : (plan : Plan) (parts : List (PoolPart P)) (i : ℕ) (x : PoolPart P) → StandAsPlanned plan parts → get_elem? parts i ≡ some x → StandsAs (role_at plan i) x
+  stands_at : (plan : Plan) (parts : List (PoolPart P H)) (i : ℕ) (x : PoolPart P H) → StandAsPlanned plan parts → get_elem? parts i ≡ some x → StandsAs (role_at plan i) x
   stands_at plan parts i x stand e =
-      let S : PoolPart P → Type 0 = λ y. StandsAs (role_at plan i) y in
+      let S : PoolPart P H → Type 0 = λ y. StandsAs (role_at plan i) y in
       let at : part_at i parts ≡ x = read_at parts i _ x e in
       subst S at (stand.stand i (inside parts i x e))
 
-pub away_once : (P : Type 0) → AwayOnce P
-away_once P plan parts name stand =
+pub away_once : (P H : Type 0) → AwayOnce P H
+away_once P H plan parts name stand =
     let rights = away_parts (is_right name) parts in
     let regions = away_parts (is_region name) parts in
     let right' : total (λ x. total (is_right name) (part_away x)) parts ≤ 1 =
@@ -435,7 +531,7 @@ away_once P plan parts name stand =
     (λ i x e some'. right_there plan (length parts) i (role_at plan i) x name stand.planned refl (stands_at plan parts i x stand e) some')
     (λ i x e. part_right_once (role_at plan i) x name (stands_at plan parts i x stand e)) in
     let region' : total (λ x. total (is_region name) (part_away x)) parts ≤ 1 =
-    total_once (λ x. total (is_region name) (part_away x)) parts (cell_place plan name)
+    total_once (λ x. total (is_region name) (part_away x)) parts (region_place plan name)
     (λ i x e some'. region_there plan i (role_at plan i) x name refl (stands_at plan parts i x stand e) some')
     (λ i x e. part_region_once x name) in
     (omega (arith, rights, right'), omega (arith, regions, region'))

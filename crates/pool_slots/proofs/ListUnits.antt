@@ -34,18 +34,18 @@ total_once {X} f l p only once =
           omega (arith, zero')
     ]
 
-module _ {P : Type 0} where
+module _ {P H : Type 0} where
   -- part by part
-  pub away_parts : (w : UnitName → ℕ) (parts : List (PoolPart P)) → total w (all_away parts) ≡ total (λ x. total w (part_away x)) parts
+  pub away_parts : (w : UnitName → ℕ) (parts : List (PoolPart P H)) → total w (all_away parts) ≡ total (λ x. total w (part_away x)) parts
   away_parts w [] = refl
   away_parts w (x ∷ xs) = total_append w (part_away x) (all_away xs) ∙ ap (λ (n : ℕ). total w (part_away x) + n) (away_parts w xs)
 
-  pub kept_parts : (w : UnitName → ℕ) (parts : List (PoolPart P)) → total w (all_kept parts) ≡ total (λ x. total w (part_kept x)) parts
+  pub kept_parts : (w : UnitName → ℕ) (parts : List (PoolPart P H)) → total w (all_kept parts) ≡ total (λ x. total w (part_kept x)) parts
   kept_parts w [] = refl
   kept_parts w (x ∷ xs) = total_append w (part_kept x) (all_kept xs) ∙ ap (λ (n : ℕ). total w (part_kept x) + n) (kept_parts w xs)
 
   -- one part is changed
-  changed : (f : PoolPart P → ℕ) (place : ℕ) (change : PoolPart P → PoolPart P) (parts : List (PoolPart P)) (more less : ℕ) → place < length parts → f (change (part_at place parts)) + less ≡ f (part_at place parts) + more → total f (with_part place change parts) + less ≡ total f parts + more
+  changed : (f : PoolPart P H → ℕ) (place : ℕ) (change : PoolPart P H → PoolPart P H) (parts : List (PoolPart P H)) (more less : ℕ) → place < length parts → f (change (part_at place parts)) + less ≡ f (part_at place parts) + more → total f (with_part place change parts) + less ≡ total f parts + more
   changed f place change parts more less within here =
       let at = element parts place within in
       let is : part_at place parts ≡ at.0 = read_at parts place _ at.0 at.1 in
@@ -53,15 +53,15 @@ module _ {P : Type 0} where
       let was : f (part_at place parts) ≡ f at.0 = ap f is in
       omega (arith, all, here, was)
 
-pub away_follows : (P : Type 0) → AwayFollows P
-away_follows P w place change parts gave took within here =
+pub away_follows : (P H : Type 0) → AwayFollows P H
+away_follows P H w place change parts gave took within here =
     let old = away_parts w parts in
     let new = away_parts w (with_part place change parts) in
     let r = changed (λ x. total w (part_away x)) place change parts gave took within here in
     omega (arith, old, new, r)
 
-pub kept_follows : (P : Type 0) → KeptFollows P
-kept_follows P w place change parts came left within here =
+pub kept_follows : (P H : Type 0) → KeptFollows P H
+kept_follows P H w place change parts came left within here =
     let old = kept_parts w parts in
     let new = kept_parts w (with_part place change parts) in
     let r = changed (λ x. total w (part_kept x)) place change parts came left within here in

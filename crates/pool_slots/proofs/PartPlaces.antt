@@ -1,6 +1,6 @@
 -- The parts of a pool, made one behind the other, stand at the places that the plan has for them.
-use Rattle.std.proofs.Common.{◌≡◌, ℕ, ◌+◌, ◌-◌, ◌<◌, ◌≤◌, List, [], ◌∷◌, ◌++◌, length, get_or, refl, sym, ap, ◌∙◌, subst, append_assoc, append-nil, inl, inr, Ok, Err, arith}
-use Rattle.std.specs.Prelude.{map, Bool, false, Option, None, Some, IfSome, Result, IfErr, MatchResult}
+use Rattle.std.proofs.Common.{◌≡◌, ℕ, zero, suc, ◌+◌, ◌-◌, ◌<◌, ◌≤◌, List, [], ◌∷◌, ◌++◌, length, get_or, refl, sym, ap, ◌∙◌, subst, append_assoc, append-nil, inl, inr, Ok, Err, arith}
+use Rattle.std.specs.Prelude.{map, min, Bool, false, Option, None, Some, IfSome, Result, IfErr, MatchResult}
 use Rattle.std.specs.List.{AllByRecursion, range_with_len}
 use Rattle.std.proofs.lemmas.Bool.{cases_lt, lt-ltb, le-ltb}
 use Rattle.std.proofs.lemmas.List.{length-append, get_or_append_left, get_or-append_right}
@@ -12,9 +12,9 @@ use Rattle.pool_slots.specs.Cells.{taken}
 use Rattle.pool_slots.specs.Colourings.{RaisesUnlessGivenUp, RaisesBehindUnlessGivenUp}
 use Rattle.pool_slots.specs.Makings.{IsListedPoolFault}
 use Rattle.pool_slots.specs.Parts.{part_at}
-use Rattle.pool_slots.specs.PartsMade.{region_count, nth_region, cell_part_made, shard_part, shard_parts, queue_made, HaveNumbers, IsCellMade, IsMadeAs, AreMadeTo}
-use Rattle.pool_slots.specs.Plans.{Block, Role, allocators_of, blocks, role_at, cell_role, queue_role}
-use Rattle.pool_slots.specs.PlansMade.{heaps_from, queues_from, shards_planned}
+use Rattle.pool_slots.specs.PartsMade.{region_count, nth_region, cell_part_made, shard_part, shard_parts, queue_made, heaps_parts, HaveNumbers, IsCellMade, IsMadeAs, AreMadeTo}
+use Rattle.pool_slots.specs.Plans.{Block, Role, allocators_of, blocks, role_at, cell_role, queue_role, heaps_role}
+use Rattle.pool_slots.specs.PlansMade.{heaps_from, queues_from, shards_planned, places_planned}
 use Rattle.pool_slots.specs.RegionCells.{cell_made}
 use Rattle.pool_slots.specs.SlotNames.{slot_kind}
 use Rattle.pool_slots.specs.StripedPlans.{divided, IsStripedPlanOf, shards_before}
@@ -74,16 +74,16 @@ region_place z plan n some is inside =
           ]
     ]
 
-cell_is : (P : Type 0) (stripes : ℕ) (maker : MakerTold) (s : PartSettings) (kind : QueueKind) (slot : ℕ) → IsCellMade stripes maker s (slot_kind kind) slot (cell_part_made {P = P} stripes maker s kind slot)
-cell_is P stripes maker s of_queue.Memory slot = refl
-cell_is P stripes maker s of_queue.Table slot = refl
-cell_is P stripes maker s of_queue.Stack slot = refl
+cell_is : (P H : Type 0) (stripes : ℕ) (maker : MakerTold) (s : PartSettings) (kind : QueueKind) (slot : ℕ) → IsCellMade stripes maker s (slot_kind kind) slot (cell_part_made {P = P} {H = H} stripes maker s kind slot)
+cell_is P H stripes maker s of_queue.Memory slot = refl
+cell_is P H stripes maker s of_queue.Table slot = refl
+cell_is P H stripes maker s of_queue.Stack slot = refl
 
-module _ {P : Type 0} where
+module _ {P H : Type 0} where
   -- parts that are put behind others
-  appended : (plan : Plan) (stripes : ℕ) (maker : MakerTold) (s : PartSettings) (n : ℕ) (xs ys : List (PoolPart P)) → AreMadeTo plan stripes maker s n xs → ((i : ℕ) → i < length ys → IsMadeAs stripes maker s (role_at plan (n + i)) (part_at i ys)) → AreMadeTo plan stripes maker s (n + length ys) (xs ++ ys)
+  appended : (plan : Plan) (stripes : ℕ) (maker : MakerTold) (s : PartSettings) (n : ℕ) (xs ys : List (PoolPart P H)) → AreMadeTo plan stripes maker s n xs → ((i : ℕ) → i < length ys → IsMadeAs stripes maker s (role_at plan (n + i)) (part_at i ys)) → AreMadeTo plan stripes maker s (n + length ys) (xs ++ ys)
   appended plan stripes maker s n xs ys made more =
-      let d : PoolPart P = part.Memory (cell_made (record { kind = of_slot.Memory; slot = 0 }) taken) in
+      let d : PoolPart P H = part.Memory (cell_made (record { kind = of_slot.Memory; slot = 0 }) taken) in
       record {
         count = length-append xs ys ∙ ap (λ m. m + length ys) made.count;
         each = λ place inside.
@@ -101,10 +101,10 @@ module _ {P : Type 0} where
       }
 
   -- parts of which each is known by its number
-  counted : (plan : Plan) (stripes : ℕ) (maker : MakerTold) (s : PartSettings) (n m : ℕ) (xs : List (PoolPart P)) (f : ℕ → PoolPart P) → AreMadeTo plan stripes maker s n xs → ((i : ℕ) → i < m → IsMadeAs stripes maker s (role_at plan (n + i)) (f i)) → AreMadeTo plan stripes maker s (n + m) (xs ++ map f (range_with_len 0 m))
+  counted : (plan : Plan) (stripes : ℕ) (maker : MakerTold) (s : PartSettings) (n m : ℕ) (xs : List (PoolPart P H)) (f : ℕ → PoolPart P H) → AreMadeTo plan stripes maker s n xs → ((i : ℕ) → i < m → IsMadeAs stripes maker s (role_at plan (n + i)) (f i)) → AreMadeTo plan stripes maker s (n + m) (xs ++ map f (range_with_len 0 m))
   counted plan stripes maker s n m xs f made more =
       let long : length (map f (range_with_len 0 m)) ≡ m = length-map-range_with_len f 0 m in
-      let d : PoolPart P = part.Memory (cell_made (record { kind = of_slot.Memory; slot = 0 }) taken) in
+      let d : PoolPart P H = part.Memory (cell_made (record { kind = of_slot.Memory; slot = 0 }) taken) in
       subst (λ k. AreMadeTo plan stripes maker s (n + k) (xs ++ map f (range_with_len 0 m))) long
       (appended plan stripes maker s n xs (map f (range_with_len 0 m)) made
       (λ i inside.
@@ -113,7 +113,7 @@ module _ {P : Type 0} where
       subst (IsMadeAs stripes maker s (role_at plan (n + i))) (sym same) (more i below)))
 
   -- the shards of allocators that follow one another
-  shards_on : (plan : Plan) (stripes : ℕ) (maker : MakerTold) (s : PartSettings) (as' : List Allocator) (n q : ℕ) (xs : List (PoolPart P)) → AreTiled n as' q → AllByRecursion (HasShards plan) as' → AllByRecursion HaveNumbers as' → AreMadeTo plan stripes maker s n xs → AreMadeTo plan stripes maker s q (xs ++ shard_parts s.max_unused_warm_slots as')
+  shards_on : (plan : Plan) (stripes : ℕ) (maker : MakerTold) (s : PartSettings) (as' : List Allocator) (n q : ℕ) (xs : List (PoolPart P H)) → AreTiled n as' q → AllByRecursion (HasShards plan) as' → AllByRecursion HaveNumbers as' → AreMadeTo plan stripes maker s n xs → AreMadeTo plan stripes maker s q (xs ++ shard_parts s.max_unused_warm_slots as')
   shards_on plan stripes maker s [] n q xs line each fit made =
       subst (AreMadeTo plan stripes maker s q) (sym (append-nil xs)) (subst (λ k. AreMadeTo plan stripes maker s k xs) line made)
   shards_on plan stripes maker s (a ∷ as') n q xs line each fit made =
@@ -122,31 +122,33 @@ module _ {P : Type 0} where
       counted plan stripes maker s n a.shards xs (shard_part warm a) made
       (λ i inside.
       let role = ap (λ k. role_at plan (k + i)) (sym line.0) ∙ each.0 i inside in
-      subst (λ r. IsMadeAs {P = P} stripes maker s r (shard_part warm a i)) (sym role) (fit.0 i inside, refl)) in
+      subst (λ r. IsMadeAs {P = P} {H = H} stripes maker s r (shard_part warm a i)) (sym role) (fit.0 i inside, refl)) in
       subst (AreMadeTo plan stripes maker s q) (append_assoc xs (map (shard_part warm a) (range_with_len 0 a.shards)) (shard_parts warm as'))
       (shards_on plan stripes maker s as' (n + a.shards) q (xs ++ map (shard_part warm a) (range_with_len 0 a.shards)) line.1 each.1 fit.1 own)
 
+module _ {P H : Type 0} where
   -- the shards of all allocators
   pub shards_made : (z : StripedPlanSettings) (plan : Plan) (maker : MakerTold) (s : PartSettings) → 0 < z.num_stripes → IsStripedPlanOf z plan → ((kind : SlotKind) → AllByRecursion HaveNumbers (allocators_of plan kind)) →
-      AreMadeTo {P = P} plan z.num_stripes maker s (shards_planned (divided z)) (((shard_parts s.max_unused_warm_slots plan.memories ++ shard_parts s.max_unused_warm_slots plan.tables) ++ shard_parts s.max_unused_warm_slots plan.stacks) ++ shard_parts s.max_unused_warm_slots plan.heaps)
+      AreMadeTo {P = P} {H = H} plan z.num_stripes maker s (shards_planned (divided z)) (((shard_parts s.max_unused_warm_slots plan.memories ++ shard_parts s.max_unused_warm_slots plan.tables) ++ shard_parts s.max_unused_warm_slots plan.stacks) ++ shard_parts s.max_unused_warm_slots plan.heaps)
   shards_made z plan maker s some is fit =
       let k : ℕ = z.num_stripes in
       let warm : ℕ = s.max_unused_warm_slots in
       let separate = (planned z plan some is).separate in
-      let nothing : AreMadeTo {P = P} plan k maker s 0 [] = record { count = refl; each = λ place below. absurd (omega (arith, below)) } in
+      let nothing : AreMadeTo {P = P} {H = H} plan k maker s 0 [] = record { count = refl; each = λ place below. absurd (omega (arith, below)) } in
       let m = shards_on plan k maker s plan.memories 0 (shards_before z k) [] (subst (λ (l : List Allocator). AreTiled 0 l (shards_before z k)) (sym is.memories) (tiled z)) (shards_of plan of_slot.Memory separate) (fit of_slot.Memory) nothing in
       let t = shards_on plan k maker s plan.tables (shards_before z k) (shards_before z k + (divided z).shards.table) (shard_parts warm plan.memories) (rw is.tables (refl, refl)) (shards_of plan of_slot.Table separate) (fit of_slot.Table) m in
       let st = shards_on plan k maker s plan.stacks (shards_before z k + (divided z).shards.table) (shards_before z k + (divided z).shards.table + (divided z).shards.stack) (shard_parts warm plan.memories ++ shard_parts warm plan.tables) (rw is.stacks (refl, refl)) (shards_of plan of_slot.Stack separate) (fit of_slot.Stack) t in
       shards_on plan k maker s plan.heaps (shards_before z k + (divided z).shards.table + (divided z).shards.stack) (shards_planned (divided z)) ((shard_parts warm plan.memories ++ shard_parts warm plan.tables) ++ shard_parts warm plan.stacks) (rw is.heaps (refl, refl)) (shards_of plan of_slot.Heap separate) (fit of_slot.Heap) st
 
+module _ {P H : Type 0} where
   -- the cell of the next slot behind the parts
-  pub cell_behind : (z : StripedPlanSettings) (plan : Plan) (maker : MakerTold) (s : PartSettings) (n : ℕ) (xs : List (PoolPart P)) (x : PoolPart P) → 0 < z.num_stripes → IsStripedPlanOf z plan → n < region_count z.totals →
+  pub cell_behind : (z : StripedPlanSettings) (plan : Plan) (maker : MakerTold) (s : PartSettings) (n : ℕ) (xs : List (PoolPart P H)) (x : PoolPart P H) → 0 < z.num_stripes → IsStripedPlanOf z plan → n < region_count z.totals →
       x ≡ cell_part_made z.num_stripes maker s (nth_region z.totals n).0 (nth_region z.totals n).1 → AreMadeTo plan z.num_stripes maker s (shards_planned (divided z) + n) xs → AreMadeTo plan z.num_stripes maker s (shards_planned (divided z) + (n + 1)) (xs ++ x ∷ [])
   cell_behind z plan maker s n xs x some is inside now made =
       let kind : QueueKind = (nth_region z.totals n).0 in
       let slot : ℕ = (nth_region z.totals n).1 in
       let from : ℕ = shards_planned (divided z) in
-      let here : IsMadeAs z.num_stripes maker s (role_at plan (from + n)) x = subst (λ r. IsMadeAs z.num_stripes maker s r x) (sym (region_place z plan n some is inside)) (subst (IsCellMade z.num_stripes maker s (slot_kind kind) slot) (sym now) (cell_is P z.num_stripes maker s kind slot)) in
+      let here : IsMadeAs z.num_stripes maker s (role_at plan (from + n)) x = subst (λ r. IsMadeAs z.num_stripes maker s r x) (sym (region_place z plan n some is inside)) (subst (IsCellMade z.num_stripes maker s (slot_kind kind) slot) (sym now) (cell_is P H z.num_stripes maker s kind slot)) in
       let next : from + n + 1 ≡ from + (n + 1) = omega arith in
       subst (λ k. AreMadeTo plan z.num_stripes maker s k (xs ++ x ∷ [])) next
       (appended plan z.num_stripes maker s (from + n) xs (x ∷ []) made
@@ -156,7 +158,7 @@ module _ {P : Type 0} where
       rw first (subst (λ p. IsMadeAs z.num_stripes maker s (role_at plan p) x) (omega arith) here)))
 
   -- the queues behind the cells
-  pub queues_made : (z : StripedPlanSettings) (plan : Plan) (maker : MakerTold) (s : PartSettings) (xs : List (PoolPart P)) → 0 < z.num_stripes → IsStripedPlanOf z plan →
+  pub queues_made : (z : StripedPlanSettings) (plan : Plan) (maker : MakerTold) (s : PartSettings) (xs : List (PoolPart P H)) → 0 < z.num_stripes → IsStripedPlanOf z plan →
       AreMadeTo plan z.num_stripes maker s (queues_from (divided z)) xs → AreMadeTo plan z.num_stripes maker s (heaps_from (divided z)) (xs ++ map (queue_made s.queue_room) (range_with_len 0 plan.queues))
   queues_made z plan maker s xs some is made =
       let n : ℕ = queues_from (divided z) in
@@ -166,7 +168,33 @@ module _ {P : Type 0} where
       (counted plan z.num_stripes maker s n plan.queues xs (queue_made s.queue_room) made
       (λ i inside.
       let role : role_at plan (n + i) ≡ queue_role = ap (λ k. role_at plan (k + i)) (sym is.first_queue) ∙ has i inside in
-      subst (λ r. IsMadeAs {P = P} z.num_stripes maker s r (queue_made s.queue_room i)) (sym role) refl))
+      subst (λ r. IsMadeAs {P = P} {H = H} z.num_stripes maker s r (queue_made s.queue_room i)) (sym role) refl))
+
+-- the list of heaps behind the queues
+list_length : (P H : Type 0) (n : ℕ) → length (heaps_parts {P = P} {H = H} n) ≡ min 1 n
+list_length P H zero = refl
+list_length P H (suc n) = omega arith
+
+module _ {P H : Type 0} where
+  list_at : (stripes : ℕ) (maker : MakerTold) (s : PartSettings) (n i : ℕ) → i < min 1 n → IsMadeAs stripes maker s (heaps_role n) (part_at i (heaps_parts {P = P} {H = H} n))
+  list_at stripes maker s zero i inside = absurd (omega (arith, inside))
+  list_at stripes maker s (suc n) zero inside = refl
+  list_at stripes maker s (suc n) (suc i) inside = absurd (omega (arith, inside))
+
+  pub heaps_behind : (z : StripedPlanSettings) (plan : Plan) (maker : MakerTold) (s : PartSettings) (xs : List (PoolPart P H)) → 0 < z.num_stripes → IsStripedPlanOf z plan →
+      AreMadeTo plan z.num_stripes maker s (heaps_from (divided z)) xs → AreMadeTo plan z.num_stripes maker s (places_planned (divided z)) (xs ++ heaps_parts z.totals.heap)
+  heaps_behind z plan maker s xs some is made =
+      let n : ℕ = heaps_from (divided z) in
+      let total : ℕ = z.totals.heap in
+      let totals : plan.totals.heap ≡ total = ap (λ (o : OfKinds). o.heap) is.totals in
+      let has = (roles (blocks plan) (planned z plan some is).separate).1.1.1.1.0 in
+      let ends : n + length (heaps_parts {P = P} {H = H} total) ≡ places_planned (divided z) = ap (λ k. n + k) (list_length P H total) in
+      subst (λ k. AreMadeTo plan z.num_stripes maker s k (xs ++ heaps_parts total)) ends
+      (appended plan z.num_stripes maker s n xs (heaps_parts total) made
+      (λ i inside.
+      let below : i < min 1 total = subst (λ k. i < k) (list_length P H total) inside in
+      let role : role_at plan (n + i) ≡ heaps_role total = ap (λ k. role_at plan (k + i)) (sym is.heap_list) ∙ has i (subst (λ k. i < min 1 k) (sym totals) below) ∙ ap heaps_role totals in
+      subst (λ r. IsMadeAs {P = P} {H = H} z.num_stripes maker s r (part_at i (heaps_parts total))) (sym role) (list_at z.num_stripes maker s total i below)))
 
 -- want of memory is no fault that is listed
 listed_none : (o : Option (List Planned)) (f : List Planned → Bool) (e : PoolNewError) → e ≡ refused.Memory → IfSome o (λ plan. IsListedPoolFault (f plan) e)

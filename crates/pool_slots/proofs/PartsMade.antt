@@ -1,5 +1,5 @@
 -- The parts of a pool are made one behind the other, each at the place that the plan has for it.
-use Rattle.std.proofs.Common.{◌≡◌, ℕ, zero, suc, ◌+◌, ◌-◌, ◌*◌, ◌/◌, ◌%◌, ◌^◌, ◌<◌, ◌≤◌, List, [], ◌∷◌, ◌++◌, length, take, get_or, refl, sym, ap, ◌∙◌, subst, add-one, append-nil, append_assoc, inl, inr, arith}
+use Rattle.std.proofs.Common.{◌≡◌, ◌≢◌, ℕ, zero, suc, ◌+◌, ◌-◌, ◌*◌, ◌/◌, ◌%◌, ◌^◌, ◌<◌, ◌≤◌, List, [], ◌∷◌, ◌++◌, length, take, get_or, refl, sym, ap, ◌∙◌, subst, add-one, append-nil, append_assoc, inl, inr, arith}
 use Rattle.std.specs.Prelude.{map, min, replicate, Option, None, is_some, count_by}
 use Rattle.std.specs.List.{AllByRecursion, range_with_len}
 use Rattle.std.proofs.lemmas.Bool.{le-ltb}
@@ -11,7 +11,7 @@ use Rattle.pool_index.specs.declared.ids.MemoryInModule.{MemoryInModule}
 use Rattle.pool_index.specs.declared.warm_slot.WarmSlot.{WarmSlot}
 use Rattle.pool_slots.specs.ListUnits.{IsShardOf}
 use Rattle.pool_slots.specs.Plans.{slots_at}
-use Rattle.pool_slots.specs.PartsMade.{shard_made, shard_part, shard_parts, queue_made, HasNumbers, HaveNumbers}
+use Rattle.pool_slots.specs.PartsMade.{shard_made, shard_part, shard_parts, queue_made, heaps_part, heaps_parts, HasNumbers, HaveNumbers}
 use Rattle.pool_slots.specs.declared.plan.Allocator.{Allocator}
 use Rattle.pool_slots.specs.declared.part.PoolPart.{PoolPart}
 use Rattle.pool_slots.proofs.Lists.{each_at}
@@ -19,19 +19,26 @@ use Rattle.pool_slots.proofs.Lists.{each_at}
 one_behind : {X : Type 0} (f : ℕ → X) (xs : List X) (k : ℕ) → xs ++ map f (range_with_len 0 (k + 1)) ≡ (xs ++ map f (range_with_len 0 k)) ++ f k ∷ []
 one_behind f xs k = ap (λ l. xs ++ l) (map-range_with_len_more f 0 k k (omega arith)) ∙ sym (append_assoc xs (map f (range_with_len 0 k)) (f k ∷ []))
 
-pub shard_behind : {P : Type 0} (warm : ℕ) (a : Allocator) (xs : List (PoolPart P)) (k : ℕ) → xs ++ map (shard_part warm a) (range_with_len 0 (k + 1)) ≡ (xs ++ map (shard_part warm a) (range_with_len 0 k)) ++ shard_part warm a k ∷ []
+pub shard_behind : {P H : Type 0} (warm : ℕ) (a : Allocator) (xs : List (PoolPart P H)) (k : ℕ) → xs ++ map (shard_part warm a) (range_with_len 0 (k + 1)) ≡ (xs ++ map (shard_part warm a) (range_with_len 0 k)) ++ shard_part warm a k ∷ []
 shard_behind warm a xs k = one_behind (shard_part warm a) xs k
 
-pub queue_behind : {P : Type 0} (room : ℕ) (xs : List (PoolPart P)) (k : ℕ) → xs ++ map (queue_made room) (range_with_len 0 (k + 1)) ≡ (xs ++ map (queue_made room) (range_with_len 0 k)) ++ queue_made room k ∷ []
+pub queue_behind : {P H : Type 0} (room : ℕ) (xs : List (PoolPart P H)) (k : ℕ) → xs ++ map (queue_made room) (range_with_len 0 (k + 1)) ≡ (xs ++ map (queue_made room) (range_with_len 0 k)) ++ queue_made room k ∷ []
 queue_behind room xs k = one_behind (queue_made room) xs k
 
-parts_behind : {P : Type 0} (warm : ℕ) (a : Allocator) (as' : List Allocator) → shard_parts {P = P} warm (as' ++ a ∷ []) ≡ shard_parts warm as' ++ map (shard_part warm a) (range_with_len 0 a.shards)
+pub no_list : {P H : Type 0} (total : ℕ) (xs : List (PoolPart P H)) → total ≡ 0 → xs ≡ xs ++ heaps_parts total
+no_list total xs none = sym (append-nil xs) ∙ ap (λ n. xs ++ heaps_parts n) (sym none)
+
+pub list_behind : {P H : Type 0} (total : ℕ) (xs : List (PoolPart P H)) → total ≢ 0 → xs ++ heaps_part total ∷ [] ≡ xs ++ heaps_parts total
+list_behind zero xs some = absurd (some refl)
+list_behind (suc n) xs some = refl
+
+parts_behind : {P H : Type 0} (warm : ℕ) (a : Allocator) (as' : List Allocator) → shard_parts {P = P} {H = H} warm (as' ++ a ∷ []) ≡ shard_parts warm as' ++ map (shard_part warm a) (range_with_len 0 a.shards)
 parts_behind warm a [] = append-nil (map (shard_part warm a) (range_with_len 0 a.shards))
 parts_behind warm a (b ∷ bs) =
     ap (λ l. map (shard_part warm b) (range_with_len 0 b.shards) ++ l) (parts_behind warm a bs) ∙ sym (append_assoc (map (shard_part warm b) (range_with_len 0 b.shards)) (shard_parts warm bs) (map (shard_part warm a) (range_with_len 0 a.shards)))
 
 -- one allocator more
-pub allocator_behind : {P : Type 0} (warm : ℕ) (all : List Allocator) (a : Allocator) (xs : List (PoolPart P)) (i : ℕ) → i < length all → ((d : Allocator) → a ≡ get_or all i d) → xs ++ shard_parts warm (take (i + 1) all) ≡ (xs ++ shard_parts warm (take i all)) ++ map (shard_part warm a) (range_with_len 0 a.shards)
+pub allocator_behind : {P H : Type 0} (warm : ℕ) (all : List Allocator) (a : Allocator) (xs : List (PoolPart P H)) (i : ℕ) → i < length all → ((d : Allocator) → a ≡ get_or all i d) → xs ++ shard_parts warm (take (i + 1) all) ≡ (xs ++ shard_parts warm (take i all)) ++ map (shard_part warm a) (range_with_len 0 a.shards)
 allocator_behind warm all a xs i inside is =
     let next : take (i + 1) all ≡ take i all ++ a ∷ [] = ap (λ n. take n all) (add-one i) ∙ take-suc all i a inside ∙ ap (λ (x : Allocator). take i all ++ x ∷ []) (sym (is a)) in
     ap (λ (l : List Allocator). xs ++ shard_parts warm l) next ∙ ap (λ l. xs ++ l) (parts_behind warm a (take i all)) ∙ sym (append_assoc xs (shard_parts warm (take i all)) (map (shard_part warm a) (range_with_len 0 a.shards)))

@@ -6,7 +6,7 @@ use Rattle.std.proofs.lemmas.Bool.{cases_lt, false≢true}
 use Rattle.std.proofs.lemmas.List.Folds.{list_any_none, list_any_at}
 use Rattle.std.proofs.lemmas.List.FromFn.{length-range_with_len, get_or-range_with_len}
 use Rattle.pool_pages.specs.MakerTold.{MakerTold, Planned}
-use Rattle.pool_slots.specs.Makings.{IsListedPoolFault, RaisesPoolFaults, RaisesPoolBehind}
+use Rattle.pool_slots.specs.Makings.{IsListedPoolFault}
 use Rattle.pool_slots.specs.Colourings.{RaisesUnlessGivenUp, RaisesBehindUnlessGivenUp}
 use Rattle.pool_slots.specs.declared.errors.PoolNewError.{PoolNewError}
 use Rattle.pool_slots.specs.declared.errors.PoolNewError.TheVariants as refused
@@ -79,25 +79,6 @@ behind_of A B f total i old new refused.PageFault under all h =
       | inr one ↦ inr (all one.0, one.1)
     ]
 behind_of A B f total i old new refused.Memory under all h = h
-
--- where no region was given up
-pub plain_faults : (A : Type 0) → (A → ⊥) → (old new : ℕ) (e : PoolNewError) → RaisesUnlessGivenUp A old new e → RaisesPoolFaults old new e
-plain_faults A none old new (refused.BadConfig b) h = h
-plain_faults A none old new refused.PageFault h =
-    elim h [
-      | inl rose ↦ rose
-      | inr one ↦ absurd (none one.0)
-    ]
-plain_faults A none old new refused.Memory h = h
-
-pub plain_behind : (A : Type 0) → (A → ⊥) → (listed : Bool) (old new : ℕ) (e : PoolNewError) → RaisesBehindUnlessGivenUp A listed old new e → RaisesPoolBehind listed old new e
-plain_behind A none listed old new (refused.BadConfig b) h = h
-plain_behind A none listed old new refused.PageFault h =
-    elim h [
-      | inl made ↦ made
-      | inr one ↦ absurd (none one.0)
-    ]
-plain_behind A none listed old new refused.Memory h = h
 
 -- a maker whose counts of faults stay tells what it told
 pub same_maker : (old new : MakerTold) → new ≡ record old { behind = new.behind; faults = new.faults } → new.behind ≡ old.behind → new.faults ≡ old.faults → new ≡ old

@@ -96,7 +96,7 @@ shards_line s memories plan is line = rw (is.memories, is.tables, is.stacks, is.
 abbrev behind_shards : Plan → List Block
 behind_shards plan = cells_block plan Memory ∷ cells_block plan Table ∷ cells_block plan Stack
     ∷ record { first = plan.first_queue; count = plan.queues; role = λ i. queue_role }
-    ∷ record { first = plan.heap_list; count = min 1 plan.totals.heap; role = λ i. heaps_role }
+    ∷ record { first = plan.heap_list; count = min 1 plan.totals.heap; role = λ i. heaps_role plan.totals.heap }
     ∷ []
 
 cells_line : (s : PlanSettings) (memories : List Allocator) (plan : Plan) → IsPlanWith s memories plan → AreInLine (shards_planned s) (behind_shards plan) (places_planned s)

@@ -1,11 +1,9 @@
 -- What the cell of a memory slot holds.
 use Rattle.std.specs.Prelude.{◌≡◌, ℕ, ◌-◌, ◌^◌, List, map, min, sum_by, Bool, true, false, Option, is_some}
-use Rattle.pool_pages.specs.Count.{count, rounded_up}
+use Rattle.pool_pages.specs.Count.{count}
 use Rattle.pool_pages.specs.Told.{Told}
-use Rattle.pool_pages.specs.MakerTold.{MakerTold, made_region, no_calls}
+use Rattle.pool_pages.specs.MakerTold.{no_calls}
 use Rattle.pool_pages.specs.declared.pages.PageCalls.{PageCalls}
-use Rattle.pool_pages.specs.declared.pages.RegionName.TheVariants.{Memory}
-use Rattle.pool_pages.specs.declared.pages.DecommitBehavior.{DecommitBehavior}
 use Rattle.pool_images.specs.Slots.{Slot, SlotIdentity, IsClean, identity}
 
 -- the region as it was made, a slot of which nothing is known, a slot that was used and is clean, or nothing
@@ -47,10 +45,6 @@ all_calls calls = record {
 -- the calls on the regions of cells, together
 abbrev pub calls_of_all : List Cell → PageCalls
 calls_of_all cells = all_calls (map calls_in cells)
-
--- the region of memory slot i as it is made
-abbrev pub region_made : MakerTold → DecommitBehavior → ℕ → ℕ → Told
-region_made maker behaviour static_size i = made_region (Memory i) behaviour (count maker.page 0) (count maker.page (rounded_up maker.page static_size)) maker
 
 -- what no call changes of the slot that is made of a region: it begins with the region, and has this colour
 abbrev pub identity_made : Told → Option ℕ → ℕ → SlotIdentity

@@ -1,10 +1,10 @@
 -- The colours of memory slots, how the region of a slot is given its colour, and when that fails.
-use Rattle.std.specs.Prelude.{◌≡◌, ℕ, ◌+◌, ◌^◌, ◌<◌, ◌≤◌, ◌⊎◌, ◌==◌, ◌||◌, List, Bool, true, false, nat_lt, if◌then◌else◌, Option, None, Some, IsSome, IfSome}
+use Rattle.std.specs.Prelude.{◌≡◌, ℕ, ◌+◌, ◌^◌, ◌<◌, ◌≤◌, ◌⊎◌, ◌==◌, ◌||◌, List, Bool, true, false, nat_lt, if◌then◌else◌, Option, None, Some, IfSome}
 use Rattle.std.specs.List.{list_any}
 use Rattle.pool_pages.specs.Count.{Count, count as count_of, rounded_up}
-use Rattle.pool_pages.specs.Told.{Told, Rose}
+use Rattle.pool_pages.specs.Told.{Told, Rose, Faulted, recolouring}
 use Rattle.pool_images.specs.Slots.{coloured, IsFresh}
-use Rattle.pool_pages.specs.MakerTold.{MakerTold, Planned, calls_of, fails_making, made_region, plan_for}
+use Rattle.pool_pages.specs.MakerTold.{MakerTold, Planned, calls_of, fails_making, made_region}
 use Rattle.pool_pages.specs.declared.pages.RegionName.TheVariants.{Memory}
 use Rattle.pool_pages.specs.declared.pages.DecommitBehavior.{DecommitBehavior}
 use Rattle.pool_slots.specs.Slabs.{stripe_of}
@@ -34,15 +34,24 @@ abbrev pub fails_region : Option ℕ → ℕ → ℕ → List Planned → Bool
 fails_region None len i plan = fails_making (Memory i) plan
 fails_region (Some colour) len i plan = fails_making (Memory i) plan || fails_colouring (Some colour) len (calls_of (Memory i) plan)
 
--- The giving of the colour failed on the region of slot i, which was made. Where that region tells which calls fail, this
--- is one.
-pub record IsUncoloured (colour : Option ℕ) (len i : ℕ) (maker : MakerTold) : Type 0 where
-  pub some : IsSome colour
-  pub pages : 0 < len
-  pub listed : IfSome (plan_for (Memory i) maker) (λ calls. fails_colouring colour len calls ≡ true)
+-- A region was made like this, and the first call on it failed: it is left as that call leaves it, and its own count of
+-- faults rose. Where it tells which calls fail, this is one.
+pub record LeavesFaulted {P : Type 0} (told : P → Told) (Fault : Told → Told → Type 0) (fails : List ℕ → Bool) (made : Told) : Type 0 where
+  pub region : P
+  pub faulted : Fault made (told region)
+  pub listed : IfSome made.plan (λ calls. fails calls ≡ true)
+
+-- the call failed that gives a region of this length its colour
+abbrev pub FaultedColouring : Option ℕ → ℕ → Told → Told → Type 0
+FaultedColouring None len old new = ⊥
+FaultedColouring (Some colour) len old new = Faulted (recolouring 0 len colour) old new
+
+-- so it is with the region of memory slot i
+abbrev pub IsUncoloured : {P : Type 0} → (P → Told) → Option ℕ → DecommitBehavior → Count → ℕ → MakerTold → Type 0
+IsUncoloured told colour behaviour len i maker = LeavesFaulted told (FaultedColouring colour len.bytes) (fails_colouring colour len.bytes) (made_region (Memory i) behaviour (count_of len.page 0) len maker)
 
 -- What a refusal does to the maker's count of faults: a page fault raises it, unless a region was made and given up, as
--- the first call on it failed; that counts with the region, which is gone. Want of memory leaves the count, and no other
+-- the first call on it failed; that raised the region's own count, and the region is gone. Want of memory leaves the count, and no other
 -- refusal comes.
 abbrev pub RaisesUnlessGivenUp : Type 0 → ℕ → ℕ → PoolNewError → Type 0
 RaisesUnlessGivenUp given_up old new (refused.BadConfig e) = ⊥

@@ -1,5 +1,5 @@
 -- What a maker of heaps tells of itself.
-use Rattle.std.specs.Prelude.{◌≡◌, ℕ, ◌==◌, List, Bool, Option}
+use Rattle.std.specs.Prelude.{◌≡◌, ℕ, ◌==◌, List, Bool, Option, Some}
 use Rattle.std.specs.List.{list_any}
 use Rattle.pool_pages.specs.Told.{Rose, risen}
 use Rattle.pool_slots.specs.declared.heap_maker.HeapMakeFault.{HeapMakeFault}
@@ -20,3 +20,7 @@ fails_next plan t = list_any (λ n. n == risen t.made) plan
 abbrev pub RaisesHeapFaults : ℕ → ℕ → HeapMakeFault → Type 0
 RaisesHeapFaults old new Memory = new ≡ old
 RaisesHeapFaults old new HeapFault = Rose old new
+
+-- a maker in memory with a list of makings that fail
+abbrev pub listed_heaps : List ℕ → ℕ → ℕ → HeapsTold
+listed_heaps plan made faults = record { plan = Some plan; made = made; faults = faults }

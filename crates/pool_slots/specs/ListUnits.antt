@@ -10,11 +10,13 @@ use Rattle.pool_index.specs.Shard.{ShardState, IsShard, use_of}
 use Rattle.pool_index.specs.declared.ids.MemoryInModule.{MemoryInModule}
 use Rattle.pool_index.specs.declared.ids.SlotId.{SlotId}
 use Rattle.pool_slots.specs.Cells.{Cell, taken}
+use Rattle.pool_slots.specs.HeapLists.{heap_unit}
 use Rattle.pool_slots.specs.SlotQueues.{Queue}
 use Rattle.pool_slots.specs.PartUnits.{part_away, part_kept, queue_kept}
-use Rattle.pool_slots.specs.Parts.{IsCellPart, CanMergeInto, CanTakeInto, IsAt, part_at, with_part, picked_number, picked_from, freed_in, cell_of_part, held_in, numbers_in, region_taken, region_put, merged_into, local_after_merge, queue_taken, local_after_take}
-use Rattle.pool_slots.specs.Plans.{Role, shard_role, cell_role, queue_role, role_at, number_at, slots_at, IsPlanned}
+use Rattle.pool_slots.specs.Parts.{IsCellPart, CanMergeInto, CanTakeInto, IsAt, part_at, with_part, CanTakeHeap, CanPutHeap, memory_noted, heap_out, heap_back, picked_number, picked_from, freed_in, cell_of_part, held_in, numbers_in, region_taken, region_put, merged_into, local_after_merge, queue_taken, local_after_take}
+use Rattle.pool_slots.specs.Plans.{Role, shard_role, cell_role, queue_role, heaps_role, role_at, number_at, slots_at, IsPlanned}
 use Rattle.pool_slots.specs.RegionCells.{region_of, right_to}
+use Rattle.pool_slots.specs.declared.allocation_index.MemoryAllocationIndex.{MemoryAllocationIndex}
 use Rattle.pool_slots.specs.declared.slot_name.SlotName.{SlotName}
 use Rattle.pool_slots.specs.declared.plan.Allocator.{Allocator}
 use Rattle.pool_slots.specs.declared.plan.Plan.{Plan}
@@ -40,77 +42,90 @@ pub record IsShardOf (a : Allocator) (j : ℕ) (s : ShardState) : Type 0 where
   pub step : s.step ≡ a.step
   pub capacity : s.capacity ≡ slots_at a j
 
-module _ {P : Type 0} where
+module _ {P H : Type 0} where
   -- the units that all parts have given out, and those that they keep
-  abbrev pub all_away : List (PoolPart P) → List UnitName
+  abbrev pub all_away : List (PoolPart P H) → List UnitName
   all_away [] = []
   all_away (x ∷ xs) = part_away x ++ all_away xs
 
-  abbrev pub all_kept : List (PoolPart P) → List UnitName
+  abbrev pub all_kept : List (PoolPart P H) → List UnitName
   all_kept [] = []
   all_kept (x ∷ xs) = part_kept x ++ all_kept xs
 
-  -- The part is as its place has it by the plan: a shard of an allocator, the cell of a slot, or a queue.
-  abbrev pub StandsAs : Role → PoolPart P → Type 0
+  -- The part is as its place has it by the plan: a shard of an allocator, the cell of a slot, a queue, or the list of
+  -- heaps.
+  abbrev pub StandsAs : Role → PoolPart P H → Type 0
   StandsAs (shard_role a j) (part.Shard s) = IsShardOf a j s
   StandsAs (cell_role name) (part.Memory cell) = (name.kind ≡ of_slot.Memory) × (cell.name ≡ name)
   StandsAs (cell_role name) (part.Table cell) = (name.kind ≡ of_slot.Table) × (cell.name ≡ name)
   StandsAs (cell_role name) (part.Stack cell) = (name.kind ≡ of_slot.Stack) × (cell.name ≡ name)
   StandsAs queue_role (part.Queue q) = Unit {0}
+  StandsAs (heaps_role n) (part.Heaps heaps) = length heaps ≡ n
   StandsAs _ _ = ⊥
 
   -- so it is of each place of the pool
-  pub record StandAsPlanned (plan : Plan) (parts : List (PoolPart P)) : Type 0 where
+  pub record StandAsPlanned (plan : Plan) (parts : List (PoolPart P H)) : Type 0 where
     pub planned : IsPlanned plan (length parts)
     pub stand : (p : ℕ) → p < length parts → StandsAs (role_at plan p) (part_at p parts)
 
 -- what a change of one part gives out and takes back, all of them together do
-abbrev pub AwayFollows : Type 0 → Type 0
-AwayFollows P = (w : UnitName → ℕ) (place : ℕ) (change : PoolPart P → PoolPart P) (parts : List (PoolPart P)) (gave took : ℕ) → place < length parts
+abbrev pub AwayFollows : Type 0 → Type 0 → Type 0
+AwayFollows P H = (w : UnitName → ℕ) (place : ℕ) (change : PoolPart P H → PoolPart P H) (parts : List (PoolPart P H)) (gave took : ℕ) → place < length parts
     → total w (part_away (change (part_at place parts))) + took ≡ total w (part_away (part_at place parts)) + gave
     → total w (all_away (with_part place change parts)) + took ≡ total w (all_away parts) + gave
 
 -- and likewise what it brings and takes of what they keep
-abbrev pub KeptFollows : Type 0 → Type 0
-KeptFollows P = (w : UnitName → ℕ) (place : ℕ) (change : PoolPart P → PoolPart P) (parts : List (PoolPart P)) (came left : ℕ) → place < length parts
+abbrev pub KeptFollows : Type 0 → Type 0 → Type 0
+KeptFollows P H = (w : UnitName → ℕ) (place : ℕ) (change : PoolPart P H → PoolPart P H) (parts : List (PoolPart P H)) (came left : ℕ) → place < length parts
     → total w (part_kept (change (part_at place parts))) + left ≡ total w (part_kept (part_at place parts)) + came
     → total w (all_kept (with_part place change parts)) + left ≡ total w (all_kept parts) + came
 
 -- No slot is given out twice, and no region of a slot, whatever numbers they tell.
-abbrev pub AwayOnce : Type 0 → Type 0
-AwayOnce P = (plan : Plan) (parts : List (PoolPart P)) (name : SlotName) → StandAsPlanned plan parts → (total (is_right name) (all_away parts) ≤ 1) × (total (is_region name) (all_away parts) ≤ 1)
+abbrev pub AwayOnce : Type 0 → Type 0 → Type 0
+AwayOnce P H = (plan : Plan) (parts : List (PoolPart P H)) (name : SlotName) → StandAsPlanned plan parts → (total (is_right name) (all_away parts) ≤ 1) × (total (is_region name) (all_away parts) ≤ 1)
 
 -- A pick gives out the right to the slot that it answers, and a free takes back that to the slot that is freed. What is
 -- kept stays.
-abbrev pub PickCounts : Type 0 → Type 0
-PickCounts P = (u : UnitName) (want : Option MemoryInModule) (place : ℕ) (parts : List (PoolPart P)) (s : ShardState) → place < length parts → part_at place parts ≡ part.Shard s → IsShard s
+abbrev pub PickCounts : Type 0 → Type 0 → Type 0
+PickCounts P H = (u : UnitName) (want : Option MemoryInModule) (place : ℕ) (parts : List (PoolPart P H)) (s : ShardState) → place < length parts → part_at place parts ≡ part.Shard s → IsShard s
     → (times u (all_away (with_part place (picked_from want) parts)) ≡ times u (all_away parts) + times u (found_units s.kind (picked_number want (part_at place parts))))
     × (times u (all_kept (with_part place (picked_from want) parts)) ≡ times u (all_kept parts))
 
-abbrev pub FreeCounts : Type 0 → Type 0
-FreeCounts P = (u : UnitName) (slot : SlotId) (bytes place : ℕ) (parts : List (PoolPart P)) (s : ShardState) → place < length parts → part_at place parts ≡ part.Shard s → IsSome (use_of s slot.0)
+abbrev pub FreeCounts : Type 0 → Type 0 → Type 0
+FreeCounts P H = (u : UnitName) (slot : SlotId) (bytes place : ℕ) (parts : List (PoolPart P H)) (s : ShardState) → place < length parts → part_at place parts ≡ part.Shard s → IsSome (use_of s slot.0)
     → (times u (all_away (with_part place (freed_in slot bytes) parts)) + one_if (same u (slot_unit s slot.0)) ≡ times u (all_away parts))
     × (times u (all_kept (with_part place (freed_in slot bytes) parts)) ≡ times u (all_kept parts))
 
 -- A region that leaves its cell is given out, and one that comes back is taken back, whatever weight its unit has. What is
 -- kept stays.
-abbrev pub TakeCounts : Type 0 → Type 0
-TakeCounts P = (w : UnitName → ℕ) (place : ℕ) (parts : List (PoolPart P)) → IsAt IsCellPart place parts → (held_in (part_at place parts) ≡ taken → ⊥)
+abbrev pub TakeCounts : Type 0 → Type 0 → Type 0
+TakeCounts P H = (w : UnitName → ℕ) (place : ℕ) (parts : List (PoolPart P H)) → IsAt IsCellPart place parts → (held_in (part_at place parts) ≡ taken → ⊥)
     → (total w (all_away (with_part place region_taken parts)) ≡ total w (all_away parts) + w (region_of (cell_of_part (part_at place parts)).name (numbers_in (part_at place parts))))
     × (total w (all_kept (with_part place region_taken parts)) ≡ total w (all_kept parts))
 
-abbrev pub PutCounts : Type 0 → Type 0
-PutCounts P = (w : UnitName → ℕ) (held : Cell) (place : ℕ) (parts : List (PoolPart P)) → IsAt IsCellPart place parts → held_in (part_at place parts) ≡ taken → (held ≡ taken → ⊥)
+abbrev pub PutCounts : Type 0 → Type 0 → Type 0
+PutCounts P H = (w : UnitName → ℕ) (held : Cell) (place : ℕ) (parts : List (PoolPart P H)) → IsAt IsCellPart place parts → held_in (part_at place parts) ≡ taken → (held ≡ taken → ⊥)
     → (total w (all_away (with_part place (region_put held) parts)) + w (region_of (cell_of_part (part_at place parts)).name (numbers_in (part_at place parts))) ≡ total w (all_away parts))
     × (total w (all_kept (with_part place (region_put held) parts)) ≡ total w (all_kept parts))
 
 -- What a queue and the local one keep they keep together after a merge, and after a take. What is out stays.
-abbrev pub MergeCounts : Type 0 → Type 0
-MergeCounts P = (w : UnitName → ℕ) (batch : ℕ) (local : Queue) (place : ℕ) (parts : List (PoolPart P)) → IsAt (CanMergeInto local) place parts
+abbrev pub MergeCounts : Type 0 → Type 0 → Type 0
+MergeCounts P H = (w : UnitName → ℕ) (batch : ℕ) (local : Queue) (place : ℕ) (parts : List (PoolPart P H)) → IsAt (CanMergeInto local) place parts
     → (total w (all_kept (with_part place (merged_into batch local) parts)) + total w (queue_kept (local_after_merge batch local (part_at place parts))) ≡ total w (all_kept parts) + total w (queue_kept local))
     × (total w (all_away (with_part place (merged_into batch local) parts)) ≡ total w (all_away parts))
 
-abbrev pub QueueTakeCounts : Type 0 → Type 0
-QueueTakeCounts P = (w : UnitName → ℕ) (local : Queue) (place : ℕ) (parts : List (PoolPart P)) → IsAt (CanTakeInto local) place parts
+abbrev pub QueueTakeCounts : Type 0 → Type 0 → Type 0
+QueueTakeCounts P H = (w : UnitName → ℕ) (local : Queue) (place : ℕ) (parts : List (PoolPart P H)) → IsAt (CanTakeInto local) place parts
     → (total w (all_kept (with_part place queue_taken parts)) + total w (queue_kept (local_after_take local (part_at place parts))) ≡ total w (all_kept parts) + total w (queue_kept local))
     × (total w (all_away (with_part place queue_taken parts)) ≡ total w (all_away parts))
+
+-- A slot that goes out of the list of heaps is given out, with the memory that it notes, and taken back as it notes it.
+abbrev pub HeapTakeCounts : Type 0 → Type 0 → Type 0
+HeapTakeCounts P H = (w : UnitName → ℕ) (slot : ℕ) (memory : MemoryAllocationIndex) (place : ℕ) (parts : List (PoolPart P H)) → IsAt (CanTakeHeap slot) place parts
+    → (total w (all_away (with_part place (heap_out slot memory) parts)) ≡ total w (all_away parts) + w (heap_unit slot memory))
+    × (total w (all_kept (with_part place (heap_out slot memory) parts)) ≡ total w (all_kept parts))
+
+abbrev pub HeapPutCounts : Type 0 → Type 0 → Type 0
+HeapPutCounts P H = (w : UnitName → ℕ) (slot : ℕ) (heap : Option H) (place : ℕ) (parts : List (PoolPart P H)) → IsAt (CanPutHeap slot) place parts
+    → (total w (all_away (with_part place (heap_back slot heap) parts)) + w (heap_unit slot (memory_noted slot (part_at place parts))) ≡ total w (all_away parts))
+    × (total w (all_kept (with_part place (heap_back slot heap) parts)) ≡ total w (all_kept parts))

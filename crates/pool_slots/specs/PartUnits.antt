@@ -10,6 +10,7 @@ use Rattle.pool_index.specs.declared.ids.SlotId.{SlotId}
 use Rattle.pool_hall.specs.declared.unit_name.UnitName.{UnitName}
 use Rattle.pool_slots.specs.Cells.{Cell, taken}
 use Rattle.pool_slots.specs.RegionCells.{CellState, cell_numbers, cell_emptied, cell_filled, cell_away, region_of, right_to}
+use Rattle.pool_slots.specs.HeapLists.{heaps_away}
 use Rattle.pool_slots.specs.SlotQueues.{Queued, Queue, after_append, drained, taken_into, after_take}
 use Rattle.pool_slots.specs.declared.part.PoolPart.{PoolPart}
 use Rattle.pool_slots.specs.declared.part.PoolPart.TheVariants as part
@@ -25,16 +26,18 @@ units_of_slots (m ∷ ms) = slot_units m ++ units_of_slots ms
 abbrev pub queue_kept : Queue → List UnitName
 queue_kept q = units_of_slots q.slots
 
--- what a part has given out, and what it keeps: a shard its used slots, a cell its region, and a queue what it holds
-module _ {P : Type 0} where
-  abbrev pub part_away : PoolPart P → List UnitName
+-- what a part has given out, and what it keeps: a shard its used slots, a cell its region, a list of heaps its slots that are out,
+-- and a queue what it holds
+module _ {P H : Type 0} where
+  abbrev pub part_away : PoolPart P H → List UnitName
   part_away (part.Shard s) = shard_units s
   part_away (part.Memory cell) = cell_away cell
   part_away (part.Table cell) = cell_away cell
   part_away (part.Stack cell) = cell_away cell
   part_away (part.Queue q) = []
+  part_away (part.Heaps heaps) = heaps_away heaps
 
-  abbrev pub part_kept : PoolPart P → List UnitName
+  abbrev pub part_kept : PoolPart P H → List UnitName
   part_kept (part.Queue q) = queue_kept q
   part_kept _ = []
 

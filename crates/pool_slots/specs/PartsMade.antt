@@ -1,18 +1,19 @@
 -- The parts of a pool as they are made: each has at its place what the plan says that the place is for.
-use Rattle.std.specs.Prelude.{◌≡◌, ℕ, ◌+◌, ◌-◌, ◌<◌, ◌≤◌, ◌^◌, ◌||◌, List, [], ◌∷◌, ◌++◌, length, map, Bool, true, nat_lt, if◌then◌else◌, IfSome}
+use Rattle.std.specs.Prelude.{◌≡◌, ℕ, zero, suc, ◌+◌, ◌-◌, ◌<◌, ◌≤◌, ◌^◌, ◌||◌, List, [], ◌∷◌, ◌++◌, length, map, Bool, true, nat_lt, if◌then◌else◌}
 use Rattle.std.specs.List.{list_any, range_with_len}
 use Rattle.pool_hall.specs.declared.unit_name.SlotKind.{SlotKind}
 use Rattle.pool_hall.specs.declared.unit_name.SlotKind.TheVariants as of_slot
 use Rattle.pool_index.specs.Layout.{budget_of}
 use Rattle.pool_index.specs.Shard.{ShardState, NumbersFit, fresh_shard}
 use Rattle.pool_pages.specs.Count.{Count}
-use Rattle.pool_pages.specs.MakerTold.{MakerTold, Planned, calls_of, fails_making, made_region, plan_for}
-use Rattle.pool_pages.specs.Told.{Told, hiding, succeeded}
+use Rattle.pool_pages.specs.MakerTold.{MakerTold, Planned, calls_of, fails_making, made_region}
+use Rattle.pool_pages.specs.Told.{Told, Faulted, hiding, succeeded}
 use Rattle.pool_pages.specs.declared.pages.DecommitBehavior.{DecommitBehavior}
 use Rattle.pool_pages.specs.declared.pages.RegionName.{RegionName}
 use Rattle.pool_pages.specs.declared.pages.RegionName.TheVariants as of_region
 use Rattle.pool_slots.specs.Cells.{unmapped}
-use Rattle.pool_slots.specs.Colourings.{coloured_region, stripe_colour, fails_first_call, fails_region, IsUncoloured}
+use Rattle.pool_slots.specs.Colourings.{coloured_region, stripe_colour, fails_first_call, fails_region, LeavesFaulted, IsUncoloured}
+use Rattle.pool_slots.specs.HeapLists.{heaps_made}
 use Rattle.pool_slots.specs.Parts.{part_at}
 use Rattle.pool_slots.specs.Plans.{Role, shard_role, cell_role, queue_role, heaps_role, no_role, role_at, number_at, slots_at}
 use Rattle.pool_slots.specs.RegionCells.{cell_made, memory_cell}
@@ -23,7 +24,7 @@ use Rattle.pool_slots.specs.declared.slot_name.OfKinds.{OfKinds}
 use Rattle.pool_slots.specs.declared.plan.Allocator.{Allocator}
 use Rattle.pool_slots.specs.declared.plan.Plan.{Plan}
 use Rattle.pool_slots.specs.declared.part.PoolPart.{PoolPart}
-use Rattle.pool_slots.specs.declared.part.PoolPart.TheVariants.{Shard, Memory, Table, Stack, Queue as queue_part}
+use Rattle.pool_slots.specs.declared.part.PoolPart.TheVariants.{Shard, Memory, Table, Stack, Queue as queue_part, Heaps as heaps_list}
 use Rattle.pool_slots.specs.declared.part_maker.PartSettings.{PartSettings}
 use Rattle.pool_slots.specs.declared.striped_plan.StripedPlanSettings.{StripedPlanSettings}
 
@@ -77,13 +78,13 @@ slot_region num_stripes maker s of_queue.Memory i = coloured_region num_stripes 
 slot_region num_stripes maker s of_queue.Table i = table_region maker s.behaviour s.table_len i
 slot_region num_stripes maker s of_queue.Stack i = stack_region maker s.behaviour s.stack_len i
 
--- The making of a stack's region is listed as one that fails, or the hiding of its guard, which is the first call on it. That
--- failed on a region that was made; where it tells which calls fail, this is one.
+-- The making of a stack's region is listed as one that fails, or the hiding of its guard, which is the first call on it.
 abbrev pub fails_guard : ℕ → ℕ → List Planned → Bool
 fails_guard page i plan = fails_making (of_region.Stack i) plan || fails_first_call page (calls_of (of_region.Stack i) plan)
 
-abbrev pub IsUnguarded : ℕ → ℕ → MakerTold → Type 0
-IsUnguarded page i maker = IfSome (plan_for (of_region.Stack i) maker) (λ calls. fails_first_call page calls ≡ true)
+-- the hiding of the guard failed on the region of stack slot i, which was made
+abbrev pub IsUnguarded : {P : Type 0} → (P → Told) → DecommitBehavior → Count → ℕ → MakerTold → Type 0
+IsUnguarded told behaviour len i maker = LeavesFaulted told (Faulted (hiding 0 len.page)) (fails_first_call len.page) (made_region (of_region.Stack i) behaviour len len maker)
 
 -- the making of a slot's region is listed as one that fails, or the first call on it
 abbrev pub fails_slot : ℕ → PartSettings → QueueKind → ℕ → List Planned → Bool
@@ -92,10 +93,10 @@ fails_slot num_stripes s of_queue.Table i plan = fails_making (of_region.Table i
 fails_slot num_stripes s of_queue.Stack i plan = fails_guard s.stack_len.page i plan
 
 -- the region was made and given up, as the first call on it failed
-abbrev pub IsGivenUp : ℕ → PartSettings → QueueKind → ℕ → MakerTold → Type 0
-IsGivenUp num_stripes s of_queue.Memory i maker = IsUncoloured (stripe_colour num_stripes i) s.memory_len.bytes i maker
-IsGivenUp num_stripes s of_queue.Table i maker = ⊥
-IsGivenUp num_stripes s of_queue.Stack i maker = IsUnguarded s.stack_len.page i maker
+abbrev pub IsGivenUp : {P : Type 0} → (P → Told) → ℕ → PartSettings → QueueKind → ℕ → MakerTold → Type 0
+IsGivenUp told num_stripes s of_queue.Memory i maker = IsUncoloured told (stripe_colour num_stripes i) s.behaviour s.memory_len i maker
+IsGivenUp told num_stripes s of_queue.Table i maker = ⊥
+IsGivenUp told num_stripes s of_queue.Stack i maker = IsUnguarded told s.behaviour s.stack_len i maker
 
 -- so it is with some slot of a pool
 abbrev pub lists_some_making : OfKinds → List Planned → Bool
@@ -104,51 +105,60 @@ lists_some_making totals plan = list_any (λ n. fails_making (region_name (nth_r
 abbrev pub fails_some_slot : StripedPlanSettings → PartSettings → List Planned → Bool
 fails_some_slot z s plan = list_any (λ n. fails_slot z.num_stripes s (nth_region z.totals n).0 (nth_region z.totals n).1 plan) (range_with_len 0 (region_count z.totals))
 
-abbrev pub SomeGivenUp : StripedPlanSettings → PartSettings → MakerTold → Type 0
-SomeGivenUp z s maker = (n : ℕ) × (n < region_count z.totals) × IsGivenUp z.num_stripes s (nth_region z.totals n).0 (nth_region z.totals n).1 maker
+abbrev pub SomeGivenUp : {P : Type 0} → (P → Told) → StripedPlanSettings → PartSettings → MakerTold → Type 0
+SomeGivenUp told z s maker = (n : ℕ) × (n < region_count z.totals) × IsGivenUp told z.num_stripes s (nth_region z.totals n).0 (nth_region z.totals n).1 maker
 
 -- a stack's region has room for its guard page
 abbrev pub HaveGuards : StripedPlanSettings → PartSettings → Type 0
 HaveGuards z s = 0 < z.totals.stack → s.stack_len.page ≤ s.stack_len.bytes
 
-module _ {P : Type 0} where
-  abbrev pub shard_part : ℕ → Allocator → ℕ → PoolPart P
+module _ {P H : Type 0} where
+  abbrev pub shard_part : ℕ → Allocator → ℕ → PoolPart P H
   shard_part warm a j = Shard (shard_made warm a j)
 
   -- the shards of these allocators, one after the other
-  abbrev pub shard_parts : ℕ → List Allocator → List (PoolPart P)
+  abbrev pub shard_parts : ℕ → List Allocator → List (PoolPart P H)
   shard_parts warm [] = []
   shard_parts warm (a ∷ as') = map (shard_part warm a) (range_with_len 0 a.shards) ++ shard_parts warm as'
 
   -- an empty queue
-  abbrev pub queue_made : ℕ → ℕ → PoolPart P
+  abbrev pub queue_made : ℕ → ℕ → PoolPart P H
   queue_made room i = queue_part (empty_queue room room)
 
+  -- the list of so many heaps, none of which was made
+  abbrev pub heaps_part : ℕ → PoolPart P H
+  heaps_part n = heaps_list (heaps_made n)
+
+  -- where there are any it is a part
+  abbrev pub heaps_parts : ℕ → List (PoolPart P H)
+  heaps_parts zero = []
+  heaps_parts (suc n) = heaps_part (suc n) ∷ []
+
   -- the cell of a slot with its region
-  abbrev pub cell_part : QueueKind → ℕ → Told → PoolPart P
+  abbrev pub cell_part : QueueKind → ℕ → Told → PoolPart P H
   cell_part of_queue.Memory slot region = Memory (memory_cell slot (unmapped region))
   cell_part of_queue.Table slot region = Table (cell_made (record { kind = of_slot.Table; slot = slot }) (unmapped region))
   cell_part of_queue.Stack slot region = Stack (cell_made (record { kind = of_slot.Stack; slot = slot }) (unmapped region))
 
-  abbrev pub cell_part_made : ℕ → MakerTold → PartSettings → QueueKind → ℕ → PoolPart P
+  abbrev pub cell_part_made : ℕ → MakerTold → PartSettings → QueueKind → ℕ → PoolPart P H
   cell_part_made num_stripes maker s kind slot = cell_part kind slot (slot_region num_stripes maker s kind slot)
 
   -- heaps have no cells
-  abbrev pub IsCellMade : ℕ → MakerTold → PartSettings → SlotKind → ℕ → PoolPart P → Type 0
+  abbrev pub IsCellMade : ℕ → MakerTold → PartSettings → SlotKind → ℕ → PoolPart P H → Type 0
   IsCellMade num_stripes maker s of_slot.Memory slot x = x ≡ cell_part_made num_stripes maker s of_queue.Memory slot
   IsCellMade num_stripes maker s of_slot.Table slot x = x ≡ cell_part_made num_stripes maker s of_queue.Table slot
   IsCellMade num_stripes maker s of_slot.Stack slot x = x ≡ cell_part_made num_stripes maker s of_queue.Stack slot
   IsCellMade num_stripes maker s of_slot.Heap slot x = ⊥
 
-  -- What is at a place of this role, in a pool of so many stripes. The list of heaps is no such part.
-  abbrev pub IsMadeAs : ℕ → MakerTold → PartSettings → Role → PoolPart P → Type 0
+  -- what is at a place of this role, in a pool of so many stripes
+  abbrev pub IsMadeAs : ℕ → MakerTold → PartSettings → Role → PoolPart P H → Type 0
   IsMadeAs num_stripes maker s (shard_role a j) x = HasNumbers a j × (x ≡ shard_part s.max_unused_warm_slots a j)
   IsMadeAs num_stripes maker s (cell_role name) x = IsCellMade num_stripes maker s name.kind name.slot x
   IsMadeAs num_stripes maker s queue_role x = x ≡ queue_made s.queue_room 0
-  IsMadeAs num_stripes maker s heaps_role x = ⊥
+  IsMadeAs num_stripes maker s (heaps_role n) x = x ≡ heaps_part n
   IsMadeAs num_stripes maker s no_role x = ⊥
 
   -- the parts up to a place are as they are made, and there are no others
-  pub record AreMadeTo (plan : Plan) (num_stripes : ℕ) (maker : MakerTold) (s : PartSettings) (places : ℕ) (parts : List (PoolPart P)) : Type 0 where
+  pub record AreMadeTo (plan : Plan) (num_stripes : ℕ) (maker : MakerTold) (s : PartSettings) (places : ℕ) (parts : List (PoolPart P H)) : Type 0 where
     pub count : length parts ≡ places
     pub each : (place : ℕ) → place < places → IsMadeAs num_stripes maker s (role_at plan place) (part_at place parts)

@@ -64,12 +64,12 @@ abbrev pub queues_for : Plan → SlotKind → ℕ
 queues_for plan Heap = 0
 queues_for plan kind = if plan.owned then 1 else plan.queues
 
--- What a place is for: shard j of an allocator, the cell of a slot, a queue, the list of heaps, or nothing.
+-- What a place is for: shard j of an allocator, the cell of a slot, a queue, the list of so many heaps, or nothing.
 pub data Role : Type 0 where
   shard_role : Allocator → ℕ → Role
   cell_role : SlotName → Role
   queue_role : Role
-  heaps_role : Role
+  heaps_role : ℕ → Role
   no_role : Role
 
 -- places in a row, and what each of them is for
@@ -93,7 +93,7 @@ abbrev pub blocks : Plan → List Block
 blocks plan =
     cells_block plan Memory ∷ cells_block plan Table ∷ cells_block plan Stack
     ∷ record { first = plan.first_queue; count = plan.queues; role = λ i. queue_role }
-    ∷ record { first = plan.heap_list; count = min 1 plan.totals.heap; role = λ i. heaps_role }
+    ∷ record { first = plan.heap_list; count = min 1 plan.totals.heap; role = λ i. heaps_role plan.totals.heap }
     ∷ map shards_block (allocators plan)
 
 -- the place is one of the block's

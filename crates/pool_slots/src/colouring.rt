@@ -1,9 +1,9 @@
-ghost use Rattle.std.specs.Prelude.{◌≡◌, ◌<◌, false, not, is_ok, IsSome, IfOk, IfSome, OnOk, OnErr, MatchResult};
+ghost use Rattle.std.specs.Prelude.{◌≡◌, ◌<◌, false, not, is_ok, IfOk, IfSome, OnOk, OnErr, MatchResult};
 ghost use Rattle.pool_pages.specs.Count.{count};
 ghost use Rattle.pool_pages.specs.MakerTold.{fails_making, made_region};
 ghost use Rattle.pool_images.specs.Slots.{coloured};
 ghost use Rattle.pool_slots.specs.Makings.{IsListedPoolFault};
-ghost use Rattle.pool_slots.specs.Colourings.{ColouredRegionsAreFresh, stripe_colour, fails_colouring, fails_region, IsUncoloured, RaisesUnlessGivenUp, RaisesBehindUnlessGivenUp};
+ghost use Rattle.pool_slots.specs.Colourings.{ColouredRegionsAreFresh, stripe_colour, fails_colouring, fails_region, FaultedColouring, IsUncoloured, RaisesUnlessGivenUp, RaisesBehindUnlessGivenUp};
 
 use crate::errors::PoolNewError;
 use pool_pages::{
@@ -36,9 +36,9 @@ pub(crate) fn make_region<P: Pages, M: PageMaker<Region = P>>(
     ensures region { IfOk result (λ region. P.told region ≡ coloured colour 0 len.bytes (made_region (RegionName.Memory slot) behaviour (count len.page 0) len (M.told maker.old))) }
     ensures maker { M.told maker.new ≡ record (M.told maker.old) { behind = (M.told maker.new).behind; faults = (M.told maker.new).faults } }
     ensures borrows { M.borrows maker.new ≡ M.borrows maker.old }
-    ensures faults { MatchResult result (λ _. (M.told maker.new).faults ≡ (M.told maker.old).faults) (RaisesUnlessGivenUp (IsUncoloured colour len.bytes slot (M.told maker.old)) (M.told maker.old).faults (M.told maker.new).faults) }
+    ensures faults { MatchResult result (λ _. (M.told maker.new).faults ≡ (M.told maker.old).faults) (RaisesUnlessGivenUp (IsUncoloured P.told colour behaviour len slot (M.told maker.old)) (M.told maker.old).faults (M.told maker.new).faults) }
     ensures listed { IfOk result (λ _. fails_making (RegionName.Memory slot) (M.told maker.old).listed ≡ false) }
-    ensures behind { MatchResult result (λ _. (M.told maker.new).behind ≡ (M.told maker.old).behind) (RaisesBehindUnlessGivenUp (IsUncoloured colour len.bytes slot (M.told maker.old)) (fails_making (RegionName.Memory slot) (M.told maker.old).listed) (M.told maker.old).behind (M.told maker.new).behind) }
+    ensures behind { MatchResult result (λ _. (M.told maker.new).behind ≡ (M.told maker.old).behind) (RaisesBehindUnlessGivenUp (IsUncoloured P.told colour behaviour len slot (M.told maker.old)) (fails_making (RegionName.Memory slot) (M.told maker.old).listed) (M.told maker.old).behind (M.told maker.new).behind) }
     ensures planned { MatchResult result (λ _. IfSome (M.told maker.old).plan (λ plan. fails_region colour len.bytes slot plan ≡ false)) (λ e. IfSome (M.told maker.old).plan (λ plan. IsListedPoolFault (fails_region colour len.bytes slot plan) e)) }
 {
     let made = maker.make(
@@ -69,7 +69,7 @@ fn give_colour<P: Pages>(
     requires whole { len.bytes ≡ (P.told region.old).len }
     requires first { (P.told region.old).made ≡ 0 }
     ensures ok { OnOk result (P.told region.new ≡ coloured colour 0 len.bytes (P.told region.old)) }
-    ensures fault { OnErr result (IsSome colour × (0 < len.bytes)) }
+    ensures fault { OnErr result (FaultedColouring colour len.bytes (P.told region.old) (P.told region.new)) }
     ensures planned { IfSome (P.told region.old).plan (λ calls. is_ok result ≡ not (fails_colouring colour len.bytes calls)) }
 {
     let start = len.page().zero();

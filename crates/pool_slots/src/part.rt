@@ -1,11 +1,14 @@
-ghost use Rattle.std.specs.Prelude.{◌≡◌, ◌+◌, ◌^◌, ◌<◌, ◌≤◌, ◌++◌, length};
+ghost use Rattle.std.specs.Prelude.{◌≡◌, false, IfSome, ◌+◌, ◌^◌, ◌<◌, ◌≤◌, ◌++◌, length};
 ghost use Rattle.pool_slots.specs.Cells.{IsCleanOnceUsed};
 ghost use Rattle.pool_slots.specs.CellOf.{cell_of};
 ghost use Rattle.pool_slots.specs.SlotQueues.{Queue};
-ghost use Rattle.pool_slots.specs.Parts.{IsShardPart, IsCellPart, CanFree, CanMergeInto, CanTakeInto, picked_number, picked_from, affine_number, affine_picked_from, freed_in, held_in, numbers_in, region_taken, region_put, fills_batch, merged_into, local_after_merge, queue_taken, local_after_take, part_at, with_part, IsAt};
+ghost use Rattle.pool_slots.specs.Parts.{IsShardPart, IsCellPart, CanFree, CanMergeInto, CanTakeInto, picked_number, picked_from, affine_number, affine_picked_from, freed_in, held_in, numbers_in, region_taken, region_put, fills_batch, merged_into, local_after_merge, queue_taken, local_after_take, CanTakeHeap, CanPutHeap, heap_held, heap_out, memory_noted, heap_back, part_at, with_part, IsAt};
 
+use crate::allocation_index::MemoryAllocationIndex;
 use crate::cells::ImageSlot;
 use crate::decommit_queue::DecommitQueue;
+use crate::heap_list::HeapList;
+use crate::heap_maker::GcHeap;
 use crate::region_cell::RegionCell;
 use crate::slot_name::RegionNumbers;
 use pool_index::{MemoryInModule, Shard, SlotId, Steps};
@@ -15,15 +18,16 @@ use std::sync::ledger::Ledger;
 
 /// One part of a pool: what lies behind one lock where parties share the pool.
 #[derive(Drop)]
-pub enum PoolPart<P: Pages> {
+pub enum PoolPart<P: Pages, H: GcHeap> {
     Shard(Shard),
     Memory(RegionCell<P>),
     Table(RegionCell<P>),
     Stack(RegionCell<P>),
     Queue(DecommitQueue<P>),
+    Heaps(HeapList<H>),
 }
 
-impl<P: Pages> PoolPart<P> {
+impl<P: Pages, H: GcHeap> PoolPart<P, H> {
     /// Picks a free slot of a shard, and gives its number in the pool. Takes no memory.
     pub fn pick<L: Ledger>(
         &mut self,
@@ -117,6 +121,32 @@ impl<P: Pages> PoolPart<P> {
         }
     }
 
+    /// Takes a slot's heap out of a list of heaps, or nothing where none was made yet. The slot notes the memory.
+    pub fn take_heap(&mut self, slot: u32, memory: MemoryAllocationIndex) -> Option<H>
+        requires { CanTakeHeap slot self.old }
+        ensures answer { result ≡ heap_held slot self.old }
+        ensures detached { IfSome result (λ heap. H.attached heap ≡ false) }
+        ensures after { self.new ≡ heap_out slot memory self.old }
+    {
+        match self {
+            PoolPart::Heaps(heaps) => heaps.take(slot, memory),
+            _ => unreachable!(),
+        }
+    }
+
+    /// Puts a heap back into a slot of a list of heaps, or nothing. Gives the memory that the slot noted.
+    pub fn put_heap(&mut self, slot: u32, heap: Option<H>) -> MemoryAllocationIndex
+        requires out { CanPutHeap slot self.old }
+        requires detached { IfSome heap (λ heap. H.attached heap ≡ false) }
+        ensures answer { result ≡ memory_noted slot self.old }
+        ensures after { self.new ≡ heap_back slot heap self.old }
+    {
+        match self {
+            PoolPart::Heaps(heaps) => heaps.put(slot, heap),
+            _ => unreachable!(),
+        }
+    }
+
     /// Takes a whole queue into the local one, which is empty and has the same room.
     pub fn take_queue(&mut self, local: &mut DecommitQueue<P>)
         requires { CanTakeInto local.old self.old }
@@ -127,101 +157,5 @@ impl<P: Pages> PoolPart<P> {
             PoolPart::Queue(queue) => queue.take(local),
             _ => unreachable!(),
         }
-    }
-}
-
-/// The parts of a pool, by their places.
-#[derive(Drop)]
-pub struct PartList<P: Pages> {
-    list: Vec<PoolPart<P>>,
-}
-
-impl<P: Pages> Model for PartList<P> {
-    ghost use Rattle.std.specs.Prelude.{List};
-    ghost use Rattle.pool_slots.specs.declared.part.PoolPart.{PoolPart};
-
-    ghost Value = { List (PoolPart P) };
-
-    ghost view = { λ l. l.list.items };
-}
-
-impl<P: Pages> PartList<P> {
-    pub fn new(list: Vec<PoolPart<P>>) -> Self
-        ensures { result ≡ list.items }
-    {
-        PartList { list }
-    }
-
-    pub fn len(&self) -> usize
-        ensures { result ≡ length self.now }
-    {
-        self.list.len()
-    }
-
-    /// `PoolPart::pick` of the part at a place.
-    pub fn pick<L: Ledger>(
-        &mut self,
-        place: u32,
-        want: Option<MemoryInModule>,
-        steps: &mut Steps<L>,
-    ) -> Option<u32>
-        requires { IsAt IsShardPart place self.old }
-        ensures answer { result ≡ picked_number want (part_at place self.old) }
-        ensures after { self.new ≡ with_part place (picked_from want) self.old }
-    {
-        let part = &mut self.list[place as usize];
-        part.pick(want, steps)
-    }
-
-    /// `PoolPart::free` of the part at a place.
-    pub fn free<L: Ledger>(&mut self, place: u32, slot: SlotId, bytes: usize, steps: &mut Steps<L>)
-        requires { IsAt (CanFree slot bytes) place self.old }
-        ensures { self.new ≡ with_part place (freed_in slot bytes) self.old }
-    {
-        let part = &mut self.list[place as usize];
-        part.free(slot, bytes, steps);
-    }
-
-    /// `PoolPart::take_region` of the part at a place.
-    pub fn take_region(&mut self, place: u32) -> (ImageSlot<P>, RegionNumbers)
-        requires { IsAt IsCellPart place self.old }
-        ensures answer { cell_of result.0 ≡ held_in (part_at place self.old) }
-        ensures numbers { result.1 ≡ numbers_in (part_at place self.old) }
-        ensures clean { IsCleanOnceUsed (held_in (part_at place self.old)) }
-        ensures after { self.new ≡ with_part place region_taken self.old }
-    {
-        let part = &mut self.list[place as usize];
-        part.take_region()
-    }
-
-    /// `PoolPart::put_region` of the part at a place.
-    pub fn put_region(&mut self, place: u32, held: ImageSlot<P>)
-        requires cell { IsAt IsCellPart place self.old }
-        requires clean { IsCleanOnceUsed (cell_of held) }
-        ensures { self.new ≡ with_part place (region_put (cell_of held)) self.old }
-    {
-        let part = &mut self.list[place as usize];
-        part.put_region(held);
-    }
-
-    /// `PoolPart::merge` of the part at a place.
-    pub fn merge(&mut self, place: u32, local: &mut DecommitQueue<P>, batch: usize) -> bool
-        requires { IsAt (CanMergeInto local.old) place self.old }
-        ensures answer { result ≡ fills_batch batch local.old (part_at place self.old) }
-        ensures after { self.new ≡ with_part place (merged_into batch local.old) self.old }
-        ensures local { local.new ≡ local_after_merge batch local.old (part_at place self.old) }
-    {
-        let part = &mut self.list[place as usize];
-        part.merge(local, batch)
-    }
-
-    /// `PoolPart::take_queue` of the part at a place.
-    pub fn take_queue(&mut self, place: u32, local: &mut DecommitQueue<P>)
-        requires { IsAt (CanTakeInto local.old) place self.old }
-        ensures after { self.new ≡ with_part place queue_taken self.old }
-        ensures local { local.new ≡ local_after_take local.old (part_at place self.old) }
-    {
-        let part = &mut self.list[place as usize];
-        part.take_queue(local);
     }
 }

@@ -1,12 +1,13 @@
-ghost use Rattle.std.specs.Prelude.{◌≡◌, ℕ, ◌<◌, ◌≤◌, false, not, is_ok, IfOk, IfSome, OnOk, MatchResult};
+ghost use Rattle.std.specs.Prelude.{◌≡◌, ℕ, ◌<◌, ◌≤◌, false, not, is_ok, IfOk, IfSome, OnOk, OnErr, MatchResult};
 ghost use Rattle.pool_pages.specs.MakerTold.{fails_making, made_region, next_after};
-ghost use Rattle.pool_pages.specs.Told.{hiding, succeeded};
+ghost use Rattle.pool_pages.specs.Told.{Faulted, hiding, succeeded};
 ghost use Rattle.pool_slots.specs.Colourings.{RaisesUnlessGivenUp, RaisesBehindUnlessGivenUp, fails_first_call};
 ghost use Rattle.pool_slots.specs.Makings.{IsListedPoolFault};
 ghost use Rattle.pool_slots.specs.PartsMade.{region_count, nth_region, region_name, slot_region, stack_region, fails_slot, fails_guard, IsGivenUp, IsUnguarded, cell_part};
 
 use crate::colouring::{make_region, stripe_colour};
 use crate::errors::PoolNewError;
+use crate::heap_maker::GcHeap;
 use crate::part::PoolPart;
 use crate::part_maker::PartSettings;
 use crate::queued_range::QueueKind;
@@ -57,9 +58,9 @@ pub(crate) fn make_slot_region<P: Pages, M: PageMaker<Region = P>>(
     ensures region { IfOk result (λ region. P.told region ≡ slot_region num_stripes (M.told maker.old) settings.now kind slot) }
     ensures maker { M.told maker.new ≡ record (M.told maker.old) { behind = (M.told maker.new).behind; faults = (M.told maker.new).faults } }
     ensures borrows { M.borrows maker.new ≡ M.borrows maker.old }
-    ensures faults { MatchResult result (λ _. (M.told maker.new).faults ≡ (M.told maker.old).faults) (RaisesUnlessGivenUp (IsGivenUp num_stripes settings.now kind slot (M.told maker.old)) (M.told maker.old).faults (M.told maker.new).faults) }
+    ensures faults { MatchResult result (λ _. (M.told maker.new).faults ≡ (M.told maker.old).faults) (RaisesUnlessGivenUp (IsGivenUp P.told num_stripes settings.now kind slot (M.told maker.old)) (M.told maker.old).faults (M.told maker.new).faults) }
     ensures listed { IfOk result (λ _. fails_making (region_name kind slot) (M.told maker.old).listed ≡ false) }
-    ensures behind { MatchResult result (λ _. (M.told maker.new).behind ≡ (M.told maker.old).behind) (RaisesBehindUnlessGivenUp (IsGivenUp num_stripes settings.now kind slot (M.told maker.old)) (fails_making (region_name kind slot) (M.told maker.old).listed) (M.told maker.old).behind (M.told maker.new).behind) }
+    ensures behind { MatchResult result (λ _. (M.told maker.new).behind ≡ (M.told maker.old).behind) (RaisesBehindUnlessGivenUp (IsGivenUp P.told num_stripes settings.now kind slot (M.told maker.old)) (fails_making (region_name kind slot) (M.told maker.old).listed) (M.told maker.old).behind (M.told maker.new).behind) }
     ensures planned { MatchResult result (λ _. IfSome (M.told maker.old).plan (λ plan. fails_slot num_stripes settings.now kind slot plan ≡ false)) (λ e. IfSome (M.told maker.old).plan (λ plan. IsListedPoolFault (fails_slot num_stripes settings.now kind slot plan) e)) }
 {
     let behaviour = settings.behaviour;
@@ -112,9 +113,9 @@ fn make_guarded<P: Pages, M: PageMaker<Region = P>>(
     ensures region { IfOk result (λ region. P.told region ≡ stack_region (M.told maker.old) behaviour len slot) }
     ensures maker { M.told maker.new ≡ record (M.told maker.old) { behind = (M.told maker.new).behind; faults = (M.told maker.new).faults } }
     ensures borrows { M.borrows maker.new ≡ M.borrows maker.old }
-    ensures faults { MatchResult result (λ _. (M.told maker.new).faults ≡ (M.told maker.old).faults) (RaisesUnlessGivenUp (IsUnguarded len.page slot (M.told maker.old)) (M.told maker.old).faults (M.told maker.new).faults) }
+    ensures faults { MatchResult result (λ _. (M.told maker.new).faults ≡ (M.told maker.old).faults) (RaisesUnlessGivenUp (IsUnguarded P.told behaviour len slot (M.told maker.old)) (M.told maker.old).faults (M.told maker.new).faults) }
     ensures listed { IfOk result (λ _. fails_making (RegionName.Stack slot) (M.told maker.old).listed ≡ false) }
-    ensures behind { MatchResult result (λ _. (M.told maker.new).behind ≡ (M.told maker.old).behind) (RaisesBehindUnlessGivenUp (IsUnguarded len.page slot (M.told maker.old)) (fails_making (RegionName.Stack slot) (M.told maker.old).listed) (M.told maker.old).behind (M.told maker.new).behind) }
+    ensures behind { MatchResult result (λ _. (M.told maker.new).behind ≡ (M.told maker.old).behind) (RaisesBehindUnlessGivenUp (IsUnguarded P.told behaviour len slot (M.told maker.old)) (fails_making (RegionName.Stack slot) (M.told maker.old).listed) (M.told maker.old).behind (M.told maker.new).behind) }
     ensures planned { MatchResult result (λ _. IfSome (M.told maker.old).plan (λ plan. fails_guard len.page slot plan ≡ false)) (λ e. IfSome (M.told maker.old).plan (λ plan. IsListedPoolFault (fails_guard len.page slot plan) e)) }
 {
     let made = maker.make(alloc, RegionName::Stack(slot), behaviour, len, len);
@@ -135,13 +136,18 @@ fn hide_guard<P: Pages>(region: &mut P, page: PageSize) -> Result<(), PageFault>
     requires room { page ≤ (P.told region.old).len }
     requires first { (P.told region.old).made ≡ 0 }
     ensures ok { OnOk result (P.told region.new ≡ succeeded (hiding 0 page) (P.told region.old)) }
+    ensures fault { OnErr result (Faulted (hiding 0 page) (P.told region.old) (P.told region.new)) }
     ensures planned { IfSome (P.told region.old).plan (λ calls. is_ok result ≡ not (fails_first_call page calls)) }
 {
     region.hide(page.zero(), page.host_page_size())
 }
 
 // The part that is the cell of a slot, with its region.
-pub(crate) fn cell_part<P: Pages>(kind: QueueKind, slot: u32, region: P) -> PoolPart<P>
+pub(crate) fn cell_part<P: Pages, H: GcHeap>(
+    kind: QueueKind,
+    slot: u32,
+    region: P,
+) -> PoolPart<P, H>
     ensures { result ≡ cell_part kind slot (P.told region) }
 {
     let name = SlotName {

@@ -1,6 +1,7 @@
-ghost use Rattle.pool_slots.specs.ListUnits.{AwayFollows, KeptFollows, AwayOnce, PickCounts, FreeCounts, TakeCounts, PutCounts, MergeCounts, QueueTakeCounts};
+ghost use Rattle.pool_slots.specs.ListUnits.{AwayFollows, KeptFollows, AwayOnce, PickCounts, FreeCounts, TakeCounts, PutCounts, MergeCounts, QueueTakeCounts, HeapTakeCounts, HeapPutCounts};
 ghost use Rattle.pool_slots.specs.PartUnits.{PicksCount, FreesCount, TakesCount, PutsCount, AppendsCount, QueueTakesCount};
 
+use crate::heap_maker::GcHeap;
 use pool_pages::Pages;
 
 /// No unit is made or lost where slots are picked and freed, where regions leave their cells and come back, and where
@@ -17,23 +18,25 @@ pub fn units_follow_parts()
 
 /// What one part of a pool gives out, takes back or keeps, all parts together do. It does nothing.
 #[tactic(auto, using(crate::proofs::ListUnits::away_follows, crate::proofs::ListUnits::kept_follows))]
-pub fn units_follow_lists<P: Pages>()
-    ensures away { AwayFollows P }
-    ensures kept { KeptFollows P }
+pub fn units_follow_lists<P: Pages, H: GcHeap>()
+    ensures away { AwayFollows P H }
+    ensures kept { KeptFollows P H }
 {}
 
 /// What each call on the part at a place makes of the units that all parts have given out and keep. It does nothing.
-pub fn units_follow_calls<P: Pages>()
-    ensures pick { PickCounts P }
-    ensures free { FreeCounts P }
-    ensures take { TakeCounts P }
-    ensures put { PutCounts P }
-    ensures merge { MergeCounts P }
-    ensures queue_take { QueueTakeCounts P }
+pub fn units_follow_calls<P: Pages, H: GcHeap>()
+    ensures pick { PickCounts P H }
+    ensures free { FreeCounts P H }
+    ensures take { TakeCounts P H }
+    ensures put { PutCounts P H }
+    ensures merge { MergeCounts P H }
+    ensures queue_take { QueueTakeCounts P H }
+    ensures heap_take { HeapTakeCounts P H }
+    ensures heap_put { HeapPutCounts P H }
 {}
 
 /// Over a pool whose parts stand where a right plan has them, no slot is given out twice, and no region of a slot, whatever
 /// numbers their units tell. It does nothing.
-pub fn units_are_out_once<P: Pages>()
-    ensures { AwayOnce P }
+pub fn units_are_out_once<P: Pages, H: GcHeap>()
+    ensures { AwayOnce P H }
 {}

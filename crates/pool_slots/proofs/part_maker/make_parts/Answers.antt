@@ -1,18 +1,18 @@
-use Rattle.std.proofs.Common.{rules, ◌≡◌, ◌+◌, ◌<◌, ◌^◌, ◌++◌, map, false, sym, subst, arith}
-use Rattle.std.specs.List.{AllByRecursion, range_with_len}
+use Rattle.std.proofs.Common.{rules, ◌≡◌, ◌+◌, ◌<◌, ◌^◌, ◌++◌, false, sym, subst, arith}
+use Rattle.std.specs.List.{AllByRecursion}
 use Rattle.std.proofs.lemmas.Result.{IfOk-weaker}
 use Rattle.pool_hall.specs.declared.unit_name.SlotKind.{SlotKind}
 use Rattle.pool_hall.specs.declared.unit_name.SlotKind.TheVariants as of_slot
 use Rattle.pool_pages.specs.MakerTold.{MakerTold}
-use Rattle.pool_slots.specs.PartsMade.{fails_some_slot, lists_some_making, SomeGivenUp, queue_made, HaveNumbers, AreMadeTo}
+use Rattle.pool_slots.specs.PartsMade.{fails_some_slot, lists_some_making, SomeGivenUp, heaps_parts, HaveNumbers, AreMadeTo}
 use Rattle.pool_slots.specs.Plans.{allocators_of}
-use Rattle.pool_slots.specs.PlansMade.{heaps_from, shards_planned}
+use Rattle.pool_slots.specs.PlansMade.{heaps_from, places_planned, shards_planned}
 use Rattle.pool_slots.specs.SlotNames.{of_kind}
 use Rattle.pool_slots.specs.StripedPlans.{divided, IsStripedPlanOf}
 use Rattle.pool_slots.specs.declared.plan.Plan.{Plan}
 use Rattle.pool_slots.specs.declared.part_maker.PartSettings.{PartSettings}
 use Rattle.pool_slots.specs.declared.striped_plan.StripedPlanSettings.{StripedPlanSettings}
-use Rattle.pool_slots.proofs.PartPlaces.{shards_made, queues_made, listed_once, faults_once, behind_once}
+use Rattle.pool_slots.proofs.PartPlaces.{shards_made, queues_made, heaps_behind, listed_once, faults_once, behind_once}
 use Rattle.pool_slots.proofs.StripedPlans.{have_numbers}
 use Rattle.pool_slots.proofs.part_maker.make_parts.Goals as goal
 
@@ -52,26 +52,28 @@ returns-clause-made g c =
     let plan : Plan = c.args.plan.now in
     let s : PartSettings = c.args.settings.now in
     let maker : MakerTold = g.M.PageMaker.told c.args.maker.now in
-    let all = queues_made z plan maker s c.in_ok-parts-2.parts.items c.requires.stripes.0 c.requires.plan c.in_ok-parts-2.ensures.made in
-    IfOk-weaker c.with_queues.result (λ v. v.items ≡ c.in_ok-parts-2.parts.items ++ map (queue_made s.queue_room) (range_with_len 0 plan.queues)) (λ v. AreMadeTo plan z.num_stripes maker s (heaps_from (divided z)) v.items)
-    (λ v is. subst (AreMadeTo plan z.num_stripes maker s (heaps_from (divided z))) (sym is) all) c.with_queues.ensures.made
+    let queues = subst (AreMadeTo plan z.num_stripes maker s (heaps_from (divided z))) (sym c.in_ok-parts-3.ensures.made)
+    (queues_made z plan maker s c.in_ok-parts-2.parts.items c.requires.stripes.0 c.requires.plan c.in_ok-parts-2.ensures.made) in
+    let all = heaps_behind z plan maker s c.in_ok-parts-3.parts.items c.requires.stripes.0 c.requires.plan queues in
+    IfOk-weaker c.with_heaps.result (λ v. v.items ≡ c.in_ok-parts-3.parts.items ++ heaps_parts z.totals.heap) (λ v. AreMadeTo plan z.num_stripes maker s (places_planned (divided z)) v.items)
+    (λ v is. subst (AreMadeTo plan z.num_stripes maker s (places_planned (divided z))) (sym is) all) c.with_heaps.ensures.made
 
 pub returns-clause-planned : goal.returns-clause-planned
 returns-clause-planned g c =
     let maker : MakerTold = g.M.PageMaker.told c.args.maker.now in
-    listed_once c.with_queues.result maker.plan (λ plan. fails_some_slot c.args.numbers.now c.args.settings.now plan) c.in_ok-parts-2.ensures.planned c.with_queues.ensures.memory
+    listed_once c.with_heaps.result maker.plan (λ plan. fails_some_slot c.args.numbers.now c.args.settings.now plan) c.in_ok-parts-2.ensures.planned c.with_heaps.ensures.memory
 
 pub returns-clause-faults : goal.returns-clause-faults
 returns-clause-faults g c =
     let maker : MakerTold = g.M.PageMaker.told c.args.maker.now in
-    faults_once c.with_queues.result (SomeGivenUp c.args.numbers.now c.args.settings.now maker) maker.faults _ c.in_ok-parts-2.ensures.faults c.with_queues.ensures.memory
+    faults_once c.with_heaps.result (SomeGivenUp g.P.Pages.told c.args.numbers.now c.args.settings.now maker) maker.faults _ c.in_ok-parts-2.ensures.faults c.with_heaps.ensures.memory
 
 pub returns-clause-behind : goal.returns-clause-behind
 returns-clause-behind g c =
     let maker : MakerTold = g.M.PageMaker.told c.args.maker.now in
-    behind_once c.with_queues.result (SomeGivenUp c.args.numbers.now c.args.settings.now maker) (lists_some_making c.args.numbers.now.totals maker.listed) maker.behind _ c.in_ok-parts-2.ensures.behind c.with_queues.ensures.memory
+    behind_once c.with_heaps.result (SomeGivenUp g.P.Pages.told c.args.numbers.now c.args.settings.now maker) (lists_some_making c.args.numbers.now.totals maker.listed) maker.behind _ c.in_ok-parts-2.ensures.behind c.with_heaps.ensures.memory
 
 pub returns-clause-listed : goal.returns-clause-listed
 returns-clause-listed g c =
     let listed = (g.M.PageMaker.told c.args.maker.now).listed in
-    IfOk-weaker c.with_queues.result (λ v. v.items ≡ c.in_ok-parts-2.parts.items ++ map (queue_made c.args.settings.now.queue_room) (range_with_len 0 c.args.plan.now.queues)) (λ v. lists_some_making c.args.numbers.now.totals listed ≡ false) (λ v is. c.in_ok-parts-2.ensures.listed) c.with_queues.ensures.made
+    IfOk-weaker c.with_heaps.result (λ v. v.items ≡ c.in_ok-parts-3.parts.items ++ heaps_parts c.args.numbers.now.totals.heap) (λ v. lists_some_making c.args.numbers.now.totals listed ≡ false) (λ v is. c.in_ok-parts-2.ensures.listed) c.with_heaps.ensures.made

@@ -36,9 +36,9 @@ returns-in-Err-clause-faults g c =
     let first : MakerTold = g.M.PageMaker.told c.args.maker.now in
     let inside : c.loop-number.number < region_count z.totals = subst (λ m. c.loop-number.number < m) c.region_count-number-end.ensures c.loop-number-test.true in
     let new : ℕ = (g.M.PageMaker.told c.make_slot_region-made.new.maker).faults in
-    let F : QueueKind × ℕ → MakerTold → Type 0 = λ p m. RaisesUnlessGivenUp (IsGivenUp z.num_stripes s p.0 p.1 m) m.faults new c.in-Err.refusal in
+    let F : QueueKind × ℕ → MakerTold → Type 0 = λ p m. RaisesUnlessGivenUp (IsGivenUp g.P.Pages.told z.num_stripes s p.0 p.1 m) m.faults new c.in-Err.refusal in
     let told : F (nth_region z.totals n) first = subst (λ p. F p first) c.nth_region-kind.ensures (subst (F c.nth_region-kind.result) c.loop-number.invariant.maker c.in-Err.ensures.faults) in
-    faults_of (IsGivenUp z.num_stripes s (nth_region z.totals n).0 (nth_region z.totals n).1 first) (SomeGivenUp z s first) first.faults new c.in-Err.refusal (λ u. (n, inside, u)) told
+    faults_of (IsGivenUp g.P.Pages.told z.num_stripes s (nth_region z.totals n).0 (nth_region z.totals n).1 first) (SomeGivenUp g.P.Pages.told z s first) first.faults new c.in-Err.refusal (λ u. (n, inside, u)) told
 
 pub returns-in-Err-clause-behind : goal.returns-in-Err-clause-behind
 returns-in-Err-clause-behind g c =
@@ -49,9 +49,9 @@ returns-in-Err-clause-behind g c =
     let inside : c.loop-number.number < region_count z.totals = subst (λ m. c.loop-number.number < m) c.region_count-number-end.ensures c.loop-number-test.true in
     let new : ℕ = (g.M.PageMaker.told c.make_slot_region-made.new.maker).behind in
     let f : ℕ → Bool = λ k. fails_making (region_name (nth_region z.totals k).0 (nth_region z.totals k).1) first.listed in
-    let F : QueueKind × ℕ → MakerTold → Type 0 = λ p m. RaisesBehindUnlessGivenUp (IsGivenUp z.num_stripes s p.0 p.1 m) (fails_making (region_name p.0 p.1) m.listed) m.behind new c.in-Err.refusal in
+    let F : QueueKind × ℕ → MakerTold → Type 0 = λ p m. RaisesBehindUnlessGivenUp (IsGivenUp g.P.Pages.told z.num_stripes s p.0 p.1 m) (fails_making (region_name p.0 p.1) m.listed) m.behind new c.in-Err.refusal in
     let told : F (nth_region z.totals n) first = subst (λ p. F p first) c.nth_region-kind.ensures (subst (F c.nth_region-kind.result) c.loop-number.invariant.maker c.in-Err.ensures.behind) in
-    behind_of (IsGivenUp z.num_stripes s (nth_region z.totals n).0 (nth_region z.totals n).1 first) (SomeGivenUp z s first) f (region_count z.totals) n first.behind new c.in-Err.refusal inside (λ u. (n, inside, u)) told
+    behind_of (IsGivenUp g.P.Pages.told z.num_stripes s (nth_region z.totals n).0 (nth_region z.totals n).1 first) (SomeGivenUp g.P.Pages.told z s first) f (region_count z.totals) n first.behind new c.in-Err.refusal inside (λ u. (n, inside, u)) told
 
 pub returns-in_default-clause-planned : goal.returns-in_default-clause-planned
 returns-in_default-clause-planned g c = any_told _ (g.M.PageMaker.told c.args.maker.now).plan (λ plan. tt)
