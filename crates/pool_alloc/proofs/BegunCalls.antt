@@ -1,4 +1,5 @@
 -- A party's frame as it is made, and as a call begins in it.
+use Rattle.pool_alloc.specs.declared.frame.Object.TheVariants.{Memory, Table}
 use Rattle.pool_slots.specs.declared.plan.Plan.{Plan}
 use Rattle.std.proofs.Common.{◌≡◌, ℕ, ◌+◌, ◌≤◌, false, List, [], ◌∷◌, length, refl, subst, ap, ◌∙◌, arith, ◌*◌, inl, Bool, true, ◌<◌}
 use Rattle.std.proofs.lemmas.List.Elements.{All-nil, All-head, All-tail}
@@ -7,9 +8,9 @@ use Rattle.pool_alloc.specs.Bounds.{PoolSizes, return_bound, give_back_bound, bo
 use Rattle.pool_alloc.specs.Leases.{Lease}
 use Rattle.pool_alloc.specs.PoolTables.{IsTableLease}
 use Rattle.pool_alloc.specs.TableLeases.{LeasedTable}
-use Rattle.pool_alloc.specs.Places.{Thing, leased_count, tables_count, queued_count, freed_count, phase_count, frame_count, phase_instances, frame_instances, instances_for, phase_memories, frame_memories, phase_tables, frame_tables, phase_stacks, phase_components}
+use Rattle.pool_alloc.specs.Places.{Thing, leased_count, tables_count, queued_count, freed_count, phase_count, frame_count, phase_instances, frame_instances, instances_for, phase_memories, frame_memories, phase_tables, frame_tables, phase_stacks, phase_heaps, phase_components}
 use Rattle.pool_alloc.specs.Sound.{NothingWaits, IsCore, IsFrame, IsLeaseOf, IsQueuedOf, MayBeRanged, IsAtRest, IsShapedAt}
-use Rattle.pool_alloc.specs.Stepping.{IsSameSize, grant_count, grant_instances, grant_memories, grant_tables, grant_stacks, grant_components}
+use Rattle.pool_alloc.specs.Stepping.{IsSameSize, grant_count, grant_instances, grant_memories, grant_tables, grant_stacks, grant_heaps, grant_components}
 use Rattle.pool_alloc.specs.Calls.{frame_made, IsIdle, MayBegin, begun_call}
 use Rattle.pool_alloc.specs.Turns.{is_granting, returned_next}
 use Rattle.pool_alloc.specs.declared.pool_core.PoolCore.{PoolCore}
@@ -19,9 +20,9 @@ use Rattle.pool_alloc.specs.Objects.{objects_in}
 use Rattle.pool_alloc.specs.declared.frame.Asked.TheVariants.{Nothing as nothing_asked}
 use Rattle.pool_alloc.specs.declared.frame.Frame.{Frame}
 use Rattle.pool_alloc.specs.declared.frame.Phase.{Phase}
-use Rattle.pool_alloc.specs.declared.frame.Phase.TheVariants.{Idle, Key}
+use Rattle.pool_alloc.specs.declared.frame.Phase.TheVariants.{Idle, Key, UncountObject, UncountInstance}
 use Rattle.pool_alloc.specs.declared.frame.Grant.{Grant}
-use Rattle.pool_alloc.specs.declared.frame.Grant.TheVariants.{Instance, Stack, Component}
+use Rattle.pool_alloc.specs.declared.frame.Grant.TheVariants.{Instance, Stack, Component, Heap}
 use Rattle.pool_alloc.specs.declared.frame.Call.{Call}
 use Rattle.pool_alloc.specs.declared.frame.Call.TheVariants as call
 use Rattle.pool_alloc.proofs.FlushFinds.{none_waits}
@@ -36,27 +37,30 @@ use Rattle.pool_alloc.specs.declared.purge.PurgeStep.TheVariants as purging_step
 use Rattle.pool_alloc.proofs.PurgeBounds.{picks_of, purge_begins}
 
 -- The frame as made has nothing.
-pub made_count : (P : Type 0) (t : Thing) (home : ℕ) (s : Settings) → frame_count {P = P} t (frame_made home s) ≡ 0
-made_count P t home s = refl
+pub made_count : (P H : Type 0) (t : Thing) (home : ℕ) (s : Settings) → frame_count {P = P} {H = H} t (frame_made home s) ≡ 0
+made_count P H t home s = refl
 
-pub made_instances : (P : Type 0) (home : ℕ) (s : Settings) → frame_instances {P = P} (frame_made home s) ≡ 0
-made_instances P home s = refl
+pub made_instances : (P H : Type 0) (home : ℕ) (s : Settings) → frame_instances {P = P} {H = H} (frame_made home s) ≡ 0
+made_instances P H home s = refl
 
-pub made_components : (P : Type 0) (home : ℕ) (s : Settings) → phase_components {P = P} (frame_made home s).phase ≡ 0
-made_components P home s = refl
+pub made_components : (P H : Type 0) (home : ℕ) (s : Settings) → phase_components {P = P} {H = H} (frame_made home s).phase ≡ 0
+made_components P H home s = refl
 
-pub made_memories : (P : Type 0) (home : ℕ) (s : Settings) → frame_memories {P = P} (frame_made home s) ≡ 0
-made_memories P home s = refl
+pub made_memories : (P H : Type 0) (home : ℕ) (s : Settings) → frame_memories {P = P} {H = H} (frame_made home s) ≡ 0
+made_memories P H home s = refl
 
-pub made_tables : (P : Type 0) (home : ℕ) (s : Settings) → frame_tables {P = P} (frame_made home s) ≡ 0
-made_tables P home s = refl
+pub made_tables : (P H : Type 0) (home : ℕ) (s : Settings) → frame_tables {P = P} {H = H} (frame_made home s) ≡ 0
+made_tables P H home s = refl
 
-pub made_stacks : (P : Type 0) (home : ℕ) (s : Settings) → phase_stacks {P = P} (frame_made home s).phase ≡ 0
-made_stacks P home s = refl
+pub made_stacks : (P H : Type 0) (home : ℕ) (s : Settings) → phase_stacks {P = P} {H = H} (frame_made home s).phase ≡ 0
+made_stacks P H home s = refl
 
-module _ {P : Type 0} where
+pub made_heaps : (P H : Type 0) (home : ℕ) (s : Settings) → phase_heaps {P = P} {H = H} (frame_made home s).phase ≡ 0
+made_heaps P H home s = refl
+
+module _ {P H : Type 0} where
   -- The frame as made is sound over a pool whose parts are.
-  pub made_frame : (maker : MakerTold) (home : ℕ) (c : PoolCore P) → IsCore maker c → IsFrame {P = P} maker c.settings c.plan (frame_made home c.settings)
+  pub made_frame : (maker : MakerTold) (home : ℕ) (c : PoolCore P H) → IsCore maker c → IsFrame {P = P} {H = H} maker c.settings c.plan (frame_made home c.settings)
   made_frame maker home c core =
       record {
         stripe = core.plan.stripes;
@@ -76,35 +80,37 @@ module _ {P : Type 0} where
         shape = record { settled = record { no_ranges = refl; no_slots = refl; none_freed = refl }; no_memories = refl; no_tables = refl };
       }
 
-  -- how often a call brings a thing along, and how many instances, components, memories, tables and stacks that are counted
-  abbrev pub call_has : (Grant P → ℕ) → Call P → ℕ
+  -- how often a call brings a thing along, and how many instances, components, memories, tables, stacks and heaps that are counted
+  abbrev pub call_has : (Grant P H → ℕ) → Call P H → ℕ
   call_has of call.Key = 0
   call_has of (call.Module m) = 0
   call_has of call.Stack = 0
+  call_has of (call.Heap ty) = 0
   call_has of (call.Component info) = 0
   call_has of (call.GiveBack grant) = of grant
   call_has of (call.Purge id) = 0
   call_has of call.Release = 0
 
   -- between calls the frame has nothing
-  pub at_rest : (maker : MakerTold) (s : Settings) (plan : Plan) (f : Frame P) → IsFrame maker s plan f → IsIdle f → IsAtRest f
-  at_rest maker s plan f frame idle = let S : Phase P → Type 0 = λ p. IsShapedAt maker s plan p f in subst S idle frame.shape
+  pub at_rest : (maker : MakerTold) (s : Settings) (plan : Plan) (f : Frame P H) → IsFrame maker s plan f → IsIdle f → IsAtRest f
+  at_rest maker s plan f frame idle = let S : Phase P H → Type 0 = λ p. IsShapedAt maker s plan p f in subst S idle frame.shape
 
-  idle_of : (maker : MakerTold) (s : Settings) (plan : Plan) (asks : Call P) (f : Frame P) → MayBegin maker s plan asks f → IsIdle f
+  pub idle_of : (maker : MakerTold) (s : Settings) (plan : Plan) (asks : Call P H) (f : Frame P H) → MayBegin maker s plan asks f → IsIdle f
   idle_of maker s plan call.Key f may = may
   idle_of maker s plan (call.Module m) f may = may.0
   idle_of maker s plan call.Stack f may = may
+  idle_of maker s plan (call.Heap ty) f may = may.0
   idle_of maker s plan (call.Component info) f may = may
   idle_of maker s plan (call.GiveBack grant) f may = may.0
   idle_of maker s plan (call.Purge id) f may = may
   idle_of maker s plan call.Release f may = may
 
   -- a frame that gives these back
-  abbrev giving : List Lease → List LeasedTable → Frame P → Frame P
+  abbrev giving : List Lease → List LeasedTable → Frame P H → Frame P H
   giving leases tables f = record f { asked = nothing_asked; objects = record { memories = record f.objects.memories { items = leases }; tables = record f.objects.tables { items = tables } } }
 
-  begun_back : (maker : MakerTold) (leases : List Lease) (tables : List LeasedTable) (s : Settings) (plan : Plan) (f : Frame P) → Held maker s plan (giving leases tables f) → NothingWaits f.local f.freed → is_granting f.ending ≡ false → IsFrame maker s plan (record (returned_next leases tables (giving leases tables f)).frame { step_count = 0 })
-  begun_back maker [] [] s plan f held rest is = frame_of maker s plan (record (returned_next [] [] (giving [] [] f)).frame { step_count = 0 }) held (record { settled = rest; no_memories = refl; no_tables = refl }, is, refl)
+  begun_back : (maker : MakerTold) (leases : List Lease) (tables : List LeasedTable) (s : Settings) (plan : Plan) (f : Frame P H) → Held maker s plan (giving leases tables f) → NothingWaits f.local f.freed → is_granting f.ending ≡ false → IsFrame maker s plan (record (returned_next leases tables (giving leases tables f)).frame { step_count = 0 })
+  begun_back maker [] [] s plan f held rest is = frame_of maker s plan (record (returned_next [] [] (giving [] [] f)).frame { step_count = 0 }) held (record { settled = rest; no_memories = refl; no_tables = refl }, is, record { no_stack = refl; no_heap = refl })
   begun_back maker (lease ∷ leases) tables s plan f held rest is =
       frame_of maker s plan (record (returned_next (lease ∷ leases) tables (giving (lease ∷ leases) tables f)).frame { step_count = 0 })
       (record { stripe = held.stripe; queue = held.queue; freed_room = held.freed_room; freed_each = held.freed_each; freed_order = held.freed_order; objects = (All-tail (IsLeaseOf maker s plan) lease leases held.objects.0, held.objects.1) })
@@ -114,10 +120,12 @@ module _ {P : Type 0} where
       (record { stripe = held.stripe; queue = held.queue; freed_room = held.freed_room; freed_each = held.freed_each; freed_order = held.freed_order; objects = (held.objects.0, All-tail (IsTableLease maker s plan) lease tables held.objects.1) })
       (rest, is, All-head (IsTableLease maker s plan) lease tables held.objects.1)
 
-  begun_at : (maker : MakerTold) (asks : Call P) (s : Settings) (plan : Plan) (f : Frame P) → Held maker s plan f → IsAtRest f → MayBegin maker s plan asks f → IsFrame maker s plan (begun_call asks f)
+  begun_at : (maker : MakerTold) (asks : Call P H) (s : Settings) (plan : Plan) (f : Frame P H) → Held maker s plan f → IsAtRest f → MayBegin maker s plan asks f → IsFrame maker s plan (begun_call asks f)
   begun_at maker call.Key s plan f held rest may = frame_of maker s plan (record f { phase = Key; step_count = 0 }) held rest
   begun_at maker (call.Module m) s plan f held rest may = frame_of maker s plan (begun_call (call.Module m) f) held (rest, record { ending = refl; none_taken = refl; asked_for = tt; images = may.2 }, may.1)
   begun_at maker call.Stack s plan f held rest may = frame_of maker s plan (begun_call call.Stack f) held (rest, (refl, refl, refl))
+  begun_at maker (call.Heap ty) s plan f held rest may = frame_of maker s plan (begun_call (call.Heap ty) f) held (rest, (refl, refl, may.1))
+  begun_at maker (call.GiveBack (Heap lease memory)) s plan f held rest may = frame_of maker s plan (begun_call (call.GiveBack (Heap lease memory)) f) held (rest.settled, refl, may.1.0, may.1.1)
   begun_at maker (call.GiveBack (Stack lease)) s plan f held rest may = frame_of maker s plan (begun_call (call.GiveBack (Stack lease)) f) held (rest.settled, refl, may.1)
   begun_at maker (call.Component info) s plan f held rest may = frame_of maker s plan (begun_call (call.Component info) f) held rest
   begun_at maker (call.GiveBack Component) s plan f held rest may = frame_of maker s plan (begun_call (call.GiveBack Component) f) held (rest, refl)
@@ -126,23 +134,25 @@ module _ {P : Type 0} where
   begun_at maker call.Release s plan f held rest may = frame_of maker s plan (begun_call call.Release f) held (rest, tt)
 
   -- the frame is sound once a call began that may
-  pub begun_frame : (maker : MakerTold) (asks : Call P) (s : Settings) (plan : Plan) (f : Frame P) → IsFrame maker s plan f → MayBegin maker s plan asks f → IsFrame maker s plan (begun_call asks f)
+  pub begun_frame : (maker : MakerTold) (asks : Call P H) (s : Settings) (plan : Plan) (f : Frame P H) → IsFrame maker s plan f → MayBegin maker s plan asks f → IsFrame maker s plan (begun_call asks f)
   begun_frame maker asks s plan f frame may = begun_at maker asks s plan f (held_of maker s plan f frame) (at_rest maker s plan f frame (idle_of maker s plan asks f may)) may
 
   -- What a grant has comes into the frame, and nothing else.
-  idle_nothing : (t : Thing) (p : Phase P) → p ≡ Idle → phase_count t p ≡ 0
+  idle_nothing : (t : Thing) (p : Phase P H) → p ≡ Idle → phase_count t p ≡ 0
   idle_nothing t p idle = rw idle refl
 
-  count_returned : (t : Thing) (leases : List Lease) (tables : List LeasedTable) (f : Frame P) → phase_count t f.phase ≡ 0 → frame_count t (returned_next leases tables (giving leases tables f)).frame ≡ leased_count t leases + tables_count t tables + queued_count t f.local.slots + freed_count t f.freed.items
+  count_returned : (t : Thing) (leases : List Lease) (tables : List LeasedTable) (f : Frame P H) → phase_count t f.phase ≡ 0 → frame_count t (returned_next leases tables (giving leases tables f)).frame ≡ leased_count t leases + tables_count t tables + queued_count t f.local.slots + freed_count t f.freed.items
   count_returned t [] [] f before = omega arith
   count_returned t (lease ∷ leases) tables f before = omega (arith, leased_first t lease leases)
   count_returned t [] (lease ∷ tables) f before = omega (arith, tables_first t lease tables)
 
-  count_at : (t : Thing) (asks : Call P) (f : Frame P) → IsIdle f → IsAtRest f → frame_count t (begun_call asks f) ≡ frame_count t f + call_has (grant_count t) asks
+  count_at : (t : Thing) (asks : Call P H) (f : Frame P H) → IsIdle f → IsAtRest f → frame_count t (begun_call asks f) ≡ frame_count t f + call_has (grant_count t) asks
   count_at t call.Key f idle rest = let before : phase_count t f.phase ≡ 0 = idle_nothing t f.phase idle in omega arith
   count_at t (call.Module m) f idle rest = let before : phase_count t f.phase ≡ 0 = idle_nothing t f.phase idle in omega arith
   count_at t call.Stack f idle rest = let before : phase_count t f.phase ≡ 0 = idle_nothing t f.phase idle in omega arith
   count_at t (call.GiveBack (Stack lease)) f idle rest = let before : phase_count t f.phase ≡ 0 = idle_nothing t f.phase idle in omega arith
+  count_at t (call.Heap ty) f idle rest = let before : phase_count t f.phase ≡ 0 = idle_nothing t f.phase idle in omega arith
+  count_at t (call.GiveBack (Heap lease memory)) f idle rest = let before : phase_count t f.phase ≡ 0 = idle_nothing t f.phase idle in omega arith
   count_at t (call.Component info) f idle rest = let before : phase_count t f.phase ≡ 0 = idle_nothing t f.phase idle in omega arith
   count_at t (call.GiveBack Component) f idle rest = let before : phase_count t f.phase ≡ 0 = idle_nothing t f.phase idle in omega arith
   count_at t (call.Purge id) f idle rest = let before : phase_count t f.phase ≡ 0 = idle_nothing t f.phase idle in omega arith
@@ -150,25 +160,27 @@ module _ {P : Type 0} where
   count_at t (call.GiveBack (Instance lease)) f idle rest =
       let none : leased_count t f.objects.memories.items ≡ 0 = rw rest.no_memories refl in
       let none_more : tables_count t f.objects.tables.items ≡ 0 = rw rest.no_tables refl in
-      let back : Frame P = record f { objects = lease; ending = returned } in
+      let back : Frame P H = record f { objects = lease; ending = returned } in
       omega (arith, none, none_more, idle_nothing t f.phase idle, count_returned t lease.memories.items lease.tables.items back (idle_nothing t f.phase idle))
 
-  pub begun_count : (maker : MakerTold) (t : Thing) (asks : Call P) (s : Settings) (plan : Plan) (f : Frame P) → IsFrame maker s plan f → MayBegin maker s plan asks f → frame_count t (begun_call asks f) ≡ frame_count t f + call_has (grant_count t) asks
+  pub begun_count : (maker : MakerTold) (t : Thing) (asks : Call P H) (s : Settings) (plan : Plan) (f : Frame P H) → IsFrame maker s plan f → MayBegin maker s plan asks f → frame_count t (begun_call asks f) ≡ frame_count t f + call_has (grant_count t) asks
   begun_count maker t asks s plan f frame may = let idle : IsIdle f = idle_of maker s plan asks f may in count_at t asks f idle (at_rest maker s plan f frame idle)
 
-  idle_instances : (f : Frame P) → IsIdle f → frame_instances f ≡ 0
-  idle_instances f idle = ap (λ (p : Phase P). instances_for f.asked (phase_instances p)) idle ∙ counts_none f.asked
+  idle_instances : (f : Frame P H) → IsIdle f → frame_instances f ≡ 0
+  idle_instances f idle = ap (λ (p : Phase P H). instances_for f.asked (phase_instances p)) idle ∙ counts_none f.asked
 
-  one_returned : (leases : List Lease) (tables : List LeasedTable) (f : Frame P) → frame_instances (returned_next leases tables (giving leases tables f)).frame ≡ 1
+  one_returned : (leases : List Lease) (tables : List LeasedTable) (f : Frame P H) → frame_instances (returned_next leases tables (giving leases tables f)).frame ≡ 1
   one_returned [] [] f = refl
   one_returned (lease ∷ leases) tables f = refl
   one_returned [] (lease ∷ tables) f = refl
 
-  pub begun_instances : (maker : MakerTold) (asks : Call P) (s : Settings) (plan : Plan) (f : Frame P) → MayBegin maker s plan asks f → frame_instances (begun_call asks f) ≡ frame_instances f + call_has grant_instances asks
+  pub begun_instances : (maker : MakerTold) (asks : Call P H) (s : Settings) (plan : Plan) (f : Frame P H) → MayBegin maker s plan asks f → frame_instances (begun_call asks f) ≡ frame_instances f + call_has grant_instances asks
   begun_instances maker call.Key s plan f may = omega (arith, idle_instances f may, counts_none f.asked)
   begun_instances maker (call.Module m) s plan f may = omega (arith, idle_instances f may.0)
   begun_instances maker call.Stack s plan f may = omega (arith, idle_instances f may)
   begun_instances maker (call.GiveBack (Stack lease)) s plan f may = omega (arith, idle_instances f may.0)
+  begun_instances maker (call.Heap ty) s plan f may = omega (arith, idle_instances f may.0)
+  begun_instances maker (call.GiveBack (Heap lease memory)) s plan f may = omega (arith, idle_instances f may.0)
   begun_instances maker (call.Component info) s plan f may = omega (arith, idle_instances f may, counts_none f.asked)
   begun_instances maker (call.GiveBack Component) s plan f may = omega (arith, idle_instances f may.0, counts_none f.asked)
   begun_instances maker (call.Purge id) s plan f may = omega (arith, idle_instances f may, counts_none f.asked)
@@ -176,60 +188,78 @@ module _ {P : Type 0} where
   begun_instances maker (call.GiveBack (Instance lease)) s plan f may =
       omega (arith, idle_instances f may.0, one_returned lease.memories.items lease.tables.items (record f { objects = lease; ending = returned }))
 
-  idle_stacks : (p : Phase P) → p ≡ Idle → phase_stacks p ≡ 0
+  -- Of what has none in the phases that an instance begins to be given back with, the frame has none then.
+  none_returned : (of : Phase P H → ℕ) → ((lease : Lease) → of (UncountObject (Memory lease)) ≡ 0) → ((lease : LeasedTable) → of (UncountObject (Table lease)) ≡ 0) → of UncountInstance ≡ 0 → (leases : List Lease) (tables : List LeasedTable) (f : Frame P H) → of (returned_next leases tables (giving leases tables f)).frame.phase ≡ 0
+  none_returned of memory table last [] [] f = last
+  none_returned of memory table last (lease ∷ leases) tables f = memory lease
+  none_returned of memory table last [] (lease ∷ tables) f = table lease
+
+  idle_stacks : (p : Phase P H) → p ≡ Idle → phase_stacks p ≡ 0
   idle_stacks p idle = rw idle refl
 
-  none_returned : (leases : List Lease) (tables : List LeasedTable) (f : Frame P) → phase_stacks (returned_next leases tables (giving leases tables f)).frame.phase ≡ 0
-  none_returned [] [] f = refl
-  none_returned (lease ∷ leases) tables f = refl
-  none_returned [] (lease ∷ tables) f = refl
-
-  pub begun_stacks : (maker : MakerTold) (asks : Call P) (s : Settings) (plan : Plan) (f : Frame P) → MayBegin maker s plan asks f → phase_stacks (begun_call asks f).phase ≡ phase_stacks f.phase + call_has grant_stacks asks
+  pub begun_stacks : (maker : MakerTold) (asks : Call P H) (s : Settings) (plan : Plan) (f : Frame P H) → MayBegin maker s plan asks f → phase_stacks (begun_call asks f).phase ≡ phase_stacks f.phase + call_has grant_stacks asks
   begun_stacks maker call.Key s plan f may = omega (arith, idle_stacks f.phase may)
   begun_stacks maker (call.Module m) s plan f may = omega (arith, idle_stacks f.phase may.0)
   begun_stacks maker call.Stack s plan f may = omega (arith, idle_stacks f.phase may)
+  begun_stacks maker (call.Heap ty) s plan f may = omega (arith, idle_stacks f.phase may.0)
   begun_stacks maker (call.Component info) s plan f may = omega (arith, idle_stacks f.phase may)
   begun_stacks maker (call.Purge id) s plan f may = omega (arith, idle_stacks f.phase may)
   begun_stacks maker call.Release s plan f may = omega (arith, idle_stacks f.phase may)
   begun_stacks maker (call.GiveBack Component) s plan f may = omega (arith, idle_stacks f.phase may.0)
   begun_stacks maker (call.GiveBack (Stack lease)) s plan f may = omega (arith, idle_stacks f.phase may.0)
+  begun_stacks maker (call.GiveBack (Heap lease memory)) s plan f may = omega (arith, idle_stacks f.phase may.0)
   begun_stacks maker (call.GiveBack (Instance lease)) s plan f may =
-      omega (arith, idle_stacks f.phase may.0, none_returned lease.memories.items lease.tables.items (record f { objects = lease; ending = returned }))
+      omega (arith, idle_stacks f.phase may.0, none_returned phase_stacks (λ l. refl) (λ l. refl) refl lease.memories.items lease.tables.items (record f { objects = lease; ending = returned }))
 
-  idle_components : (p : Phase P) → p ≡ Idle → phase_components p ≡ 0
+  idle_heaps : (p : Phase P H) → p ≡ Idle → phase_heaps p ≡ 0
+  idle_heaps p idle = rw idle refl
+
+  pub begun_heaps : (maker : MakerTold) (asks : Call P H) (s : Settings) (plan : Plan) (f : Frame P H) → MayBegin maker s plan asks f → phase_heaps (begun_call asks f).phase ≡ phase_heaps f.phase + call_has grant_heaps asks
+  begun_heaps maker call.Key s plan f may = omega (arith, idle_heaps f.phase may)
+  begun_heaps maker (call.Module m) s plan f may = omega (arith, idle_heaps f.phase may.0)
+  begun_heaps maker call.Stack s plan f may = omega (arith, idle_heaps f.phase may)
+  begun_heaps maker (call.Heap ty) s plan f may = omega (arith, idle_heaps f.phase may.0)
+  begun_heaps maker (call.Component info) s plan f may = omega (arith, idle_heaps f.phase may)
+  begun_heaps maker (call.Purge id) s plan f may = omega (arith, idle_heaps f.phase may)
+  begun_heaps maker call.Release s plan f may = omega (arith, idle_heaps f.phase may)
+  begun_heaps maker (call.GiveBack Component) s plan f may = omega (arith, idle_heaps f.phase may.0)
+  begun_heaps maker (call.GiveBack (Stack lease)) s plan f may = omega (arith, idle_heaps f.phase may.0)
+  begun_heaps maker (call.GiveBack (Heap lease memory)) s plan f may = omega (arith, idle_heaps f.phase may.0)
+  begun_heaps maker (call.GiveBack (Instance lease)) s plan f may =
+      omega (arith, idle_heaps f.phase may.0, none_returned phase_heaps (λ l. refl) (λ l. refl) refl lease.memories.items lease.tables.items (record f { objects = lease; ending = returned }))
+
+  idle_components : (p : Phase P H) → p ≡ Idle → phase_components p ≡ 0
   idle_components p idle = rw idle refl
 
-  no_component_returned : (leases : List Lease) (tables : List LeasedTable) (f : Frame P) → phase_components (returned_next leases tables (giving leases tables f)).frame.phase ≡ 0
-  no_component_returned [] [] f = refl
-  no_component_returned (lease ∷ leases) tables f = refl
-  no_component_returned [] (lease ∷ tables) f = refl
-
-  pub begun_components : (maker : MakerTold) (asks : Call P) (s : Settings) (plan : Plan) (f : Frame P) → MayBegin maker s plan asks f → phase_components (begun_call asks f).phase ≡ phase_components f.phase + call_has grant_components asks
-  begun_components maker call.Key s plan f may = let before : phase_components f.phase ≡ 0 = idle_components f.phase may in omega arith
-  begun_components maker (call.Module m) s plan f may = let before : phase_components f.phase ≡ 0 = idle_components f.phase may.0 in omega arith
+  pub begun_components : (maker : MakerTold) (asks : Call P H) (s : Settings) (plan : Plan) (f : Frame P H) → MayBegin maker s plan asks f → phase_components (begun_call asks f).phase ≡ phase_components f.phase + call_has grant_components asks
+  begun_components maker call.Key s plan f may = omega (arith, idle_components f.phase may)
+  begun_components maker (call.Module m) s plan f may = omega (arith, idle_components f.phase may.0)
   begun_components maker call.Stack s plan f may = omega (arith, idle_components f.phase may)
+  begun_components maker (call.Heap ty) s plan f may = omega (arith, idle_components f.phase may.0)
   begun_components maker (call.Purge id) s plan f may = omega (arith, idle_components f.phase may)
   begun_components maker call.Release s plan f may = omega (arith, idle_components f.phase may)
   begun_components maker (call.GiveBack (Stack lease)) s plan f may = omega (arith, idle_components f.phase may.0)
-  begun_components maker (call.Component info) s plan f may = let before : phase_components f.phase ≡ 0 = idle_components f.phase may in omega arith
-  begun_components maker (call.GiveBack Component) s plan f may = let before : phase_components f.phase ≡ 0 = idle_components f.phase may.0 in omega arith
+  begun_components maker (call.GiveBack (Heap lease memory)) s plan f may = omega (arith, idle_components f.phase may.0)
+  begun_components maker (call.Component info) s plan f may = omega (arith, idle_components f.phase may)
+  begun_components maker (call.GiveBack Component) s plan f may = omega (arith, idle_components f.phase may.0)
   begun_components maker (call.GiveBack (Instance lease)) s plan f may =
-      let before : phase_components f.phase ≡ 0 = idle_components f.phase may.0 in
-      omega (arith, no_component_returned lease.memories.items lease.tables.items (record f { objects = lease; ending = returned }))
+      omega (arith, idle_components f.phase may.0, none_returned phase_components (λ l. refl) (λ l. refl) refl lease.memories.items lease.tables.items (record f { objects = lease; ending = returned }))
 
-  objects_returned : (leases : List Lease) (tables : List LeasedTable) (f : Frame P) → (frame_memories (returned_next leases tables (giving leases tables f)).frame ≡ length leases) × (frame_tables (returned_next leases tables (giving leases tables f)).frame ≡ length tables)
+  objects_returned : (leases : List Lease) (tables : List LeasedTable) (f : Frame P H) → (frame_memories (returned_next leases tables (giving leases tables f)).frame ≡ length leases) × (frame_tables (returned_next leases tables (giving leases tables f)).frame ≡ length tables)
   objects_returned [] [] f = (refl, refl)
   objects_returned (lease ∷ leases) tables f = (omega arith, omega arith)
   objects_returned [] (lease ∷ tables) f = (omega arith, omega arith)
 
-  idle_objects : (p : Phase P) → p ≡ Idle → (phase_memories p ≡ 0) × (phase_tables p ≡ 0)
+  idle_objects : (p : Phase P H) → p ≡ Idle → (phase_memories p ≡ 0) × (phase_tables p ≡ 0)
   idle_objects p idle = rw idle (refl, refl)
 
-  objects_at : (asks : Call P) (f : Frame P) → IsIdle f → IsAtRest f → (frame_memories (begun_call asks f) ≡ frame_memories f + call_has grant_memories asks) × (frame_tables (begun_call asks f) ≡ frame_tables f + call_has grant_tables asks)
+  objects_at : (asks : Call P H) (f : Frame P H) → IsIdle f → IsAtRest f → (frame_memories (begun_call asks f) ≡ frame_memories f + call_has grant_memories asks) × (frame_tables (begun_call asks f) ≡ frame_tables f + call_has grant_tables asks)
   objects_at call.Key f idle rest = let before = idle_objects f.phase idle in (omega (arith, before.0), omega (arith, before.1))
   objects_at (call.Module m) f idle rest = let before = idle_objects f.phase idle in (omega (arith, before.0), omega (arith, before.1))
   objects_at call.Stack f idle rest = let before = idle_objects f.phase idle in (omega (arith, before.0), omega (arith, before.1))
   objects_at (call.GiveBack (Stack lease)) f idle rest = let before = idle_objects f.phase idle in (omega (arith, before.0), omega (arith, before.1))
+  objects_at (call.Heap ty) f idle rest = let before = idle_objects f.phase idle in (omega (arith, before.0), omega (arith, before.1))
+  objects_at (call.GiveBack (Heap lease memory)) f idle rest = let before = idle_objects f.phase idle in (omega (arith, before.0), omega (arith, before.1))
   objects_at (call.Component info) f idle rest = let before = idle_objects f.phase idle in (omega (arith, before.0), omega (arith, before.1))
   objects_at (call.GiveBack Component) f idle rest = let before = idle_objects f.phase idle in (omega (arith, before.0), omega (arith, before.1))
   objects_at (call.Purge id) f idle rest = let before = idle_objects f.phase idle in (omega (arith, before.0), omega (arith, before.1))
@@ -239,27 +269,27 @@ module _ {P : Type 0} where
       let back = objects_returned lease.memories.items lease.tables.items (record f { objects = lease; ending = returned }) in
       (omega (arith, before.0, back.0, ap (length {A = Lease}) rest.no_memories), omega (arith, before.1, back.1, ap (length {A = LeasedTable}) rest.no_tables))
 
-  pub begun_memories : (maker : MakerTold) (asks : Call P) (s : Settings) (plan : Plan) (f : Frame P) → IsFrame maker s plan f → MayBegin maker s plan asks f → frame_memories (begun_call asks f) ≡ frame_memories f + call_has grant_memories asks
+  pub begun_memories : (maker : MakerTold) (asks : Call P H) (s : Settings) (plan : Plan) (f : Frame P H) → IsFrame maker s plan f → MayBegin maker s plan asks f → frame_memories (begun_call asks f) ≡ frame_memories f + call_has grant_memories asks
   begun_memories maker asks s plan f frame may = let idle : IsIdle f = idle_of maker s plan asks f may in (objects_at asks f idle (at_rest maker s plan f frame idle)).0
 
-  pub begun_tables : (maker : MakerTold) (asks : Call P) (s : Settings) (plan : Plan) (f : Frame P) → IsFrame maker s plan f → MayBegin maker s plan asks f → frame_tables (begun_call asks f) ≡ frame_tables f + call_has grant_tables asks
+  pub begun_tables : (maker : MakerTold) (asks : Call P H) (s : Settings) (plan : Plan) (f : Frame P H) → IsFrame maker s plan f → MayBegin maker s plan asks f → frame_tables (begun_call asks f) ≡ frame_tables f + call_has grant_tables asks
   begun_tables maker asks s plan f frame may = let idle : IsIdle f = idle_of maker s plan asks f may in (objects_at asks f idle (at_rest maker s plan f frame idle)).1
 
   -- How many steps are left is the same on every pool of the same sizes, so no step of another changes it.
-  pub steps_left_same : (c d : PoolCore P) (f : Frame P) → IsSameSize c d → steps_left d f ≡ steps_left c f
+  pub steps_left_same : (c d : PoolCore P H) (f : Frame P H) → IsSameSize c d → steps_left d f ≡ steps_left c f
   steps_left_same c d f same = ap (λ (s : Settings). steps_at (sizes_of s d.plan) f.phase f) same.settings ∙ ap (λ (plan : Plan). steps_at (sizes_of c.settings plan) f.phase f) same.plan
 
   -- no call has no steps left,
-  pub idle_left : (c : PoolCore P) (f : Frame P) → IsIdle f → steps_left c f ≡ 0
-  idle_left c f idle = ap (λ (p : Phase P). steps_at (sizes_of c.settings c.plan) p f) idle
+  pub idle_left : (c : PoolCore P H) (f : Frame P H) → IsIdle f → steps_left c f ≡ 0
+  idle_left c f idle = ap (λ (p : Phase P H). steps_at (sizes_of c.settings c.plan) p f) idle
 
   -- and a call begins with no more than its bound.
-  returned_bounded : (z : PoolSizes) (leases : List Lease) (tables : List LeasedTable) (f : Frame P) → steps_at z (returned_next leases tables (giving leases tables f)).frame.phase (record (returned_next leases tables (giving leases tables f)).frame { step_count = 0 }) ≤ return_bound z (length leases + length tables)
+  returned_bounded : (z : PoolSizes) (leases : List Lease) (tables : List LeasedTable) (f : Frame P H) → steps_at z (returned_next leases tables (giving leases tables f)).frame.phase (record (returned_next leases tables (giving leases tables f)).frame { step_count = 0 }) ≤ return_bound z (length leases + length tables)
   returned_bounded z [] [] f = omega arith
   returned_bounded z (lease ∷ leases) tables f = omega (arith, one_more (length (lease ∷ leases) + length tables) (length leases + length tables) (give_back_bound z) (omega arith))
   returned_bounded z [] (lease ∷ tables) f = omega (arith, one_more (0 + length (lease ∷ tables)) (0 + length tables) (give_back_bound z) (omega arith))
 
-  purge_bounded : (b : Bool) (c : PoolCore P) (id : CompiledModuleId) → 0 < length c.plan.memories → has_turns c.settings.max_memories_per_module c.plan ≡ b → purge_left {P = P} (sizes_of c.settings c.plan) (purge_begun id) (purging_step.Pick 0) ≤ purge_bound (sizes_of c.settings c.plan)
+  purge_bounded : (b : Bool) (c : PoolCore P H) (id : CompiledModuleId) → 0 < length c.plan.memories → has_turns c.settings.max_memories_per_module c.plan ≡ b → purge_left {P = P} (sizes_of c.settings c.plan) (purge_begun id) (purging_step.Pick 0) ≤ purge_bound (sizes_of c.settings c.plan)
   purge_bounded true c id stripes has =
       let z : PoolSizes = sizes_of c.settings c.plan in
       let number : purge_left {P = P} z (purge_begun id) (purging_step.Pick 0) ≡ picks_of z (purge_begun id) 0 = rw has refl in
@@ -269,7 +299,7 @@ module _ {P : Type 0} where
       let number : purge_left {P = P} (sizes_of c.settings c.plan) (purge_begun id) (purging_step.Pick 0) ≡ 1 = rw none refl in
       omega (arith, number)
 
-  pub begun_bounded : (c : PoolCore P) (asks : Call P) (f : Frame P) → IsAtRest f → 0 < length c.plan.memories → steps_left c (begun_call asks f) ≤ bound_of c asks
+  pub begun_bounded : (c : PoolCore P H) (asks : Call P H) (f : Frame P H) → IsAtRest f → 0 < length c.plan.memories → steps_left c (begun_call asks f) ≤ bound_of c asks
   begun_bounded c call.Key f rest stripes = omega arith
   begun_bounded c (call.Module m) f rest stripes = omega arith
   begun_bounded c call.Stack f rest stripes = omega arith
@@ -277,6 +307,11 @@ module _ {P : Type 0} where
       let none : objects_in f.objects ≡ 0 = omega (arith, ap (length {A = Lease}) rest.no_memories, ap (length {A = LeasedTable}) rest.no_tables) in
       let no : objects_in f.objects * give_back_bound (sizes_of c.settings c.plan) ≡ 0 * give_back_bound (sizes_of c.settings c.plan) = ap (λ (n : ℕ). n * give_back_bound (sizes_of c.settings c.plan)) none in
       omega (arith, no)
+  begun_bounded c (call.GiveBack (Heap lease memory)) f rest stripes =
+      let none : objects_in f.objects ≡ 0 = omega (arith, ap (length {A = Lease}) rest.no_memories, ap (length {A = LeasedTable}) rest.no_tables) in
+      let no : objects_in f.objects * give_back_bound (sizes_of c.settings c.plan) ≡ 0 * give_back_bound (sizes_of c.settings c.plan) = ap (λ (n : ℕ). n * give_back_bound (sizes_of c.settings c.plan)) none in
+      omega (arith, no)
+  begun_bounded c (call.Heap ty) f rest stripes = omega arith
   begun_bounded c (call.GiveBack (Instance lease)) f rest stripes = returned_bounded (sizes_of c.settings c.plan) lease.memories.items lease.tables.items (record f { objects = lease; ending = returned })
   begun_bounded c (call.Component info) f rest stripes = omega arith
   begun_bounded c (call.GiveBack Component) f rest stripes = omega arith

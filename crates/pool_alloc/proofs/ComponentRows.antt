@@ -5,13 +5,13 @@ use Rattle.std.proofs.lemmas.Bool.{ltb-true, ltb-false}
 use Rattle.pool_pages.specs.MakerTold.{MakerTold}
 use Rattle.pool_pages.specs.declared.module_types.ComponentInfo.{ComponentInfo}
 use Rattle.pool_pages.specs.declared.unsupported.Unsupported.{Unsupported}
-use Rattle.pool_limits.specs.LimiterTold.{LimiterTold}
+use Rattle.pool_alloc.specs.PartyTold.{PartyTold}
 use Rattle.pool_slots.specs.declared.errors.AllocError.TheVariants as refusal
 use Rattle.pool_alloc.specs.Refusals.{component_refused}
 use Rattle.pool_alloc.specs.Rows.{component_tested, validate_component_row, component_counted, count_component_row, uncount_component_row}
 use Rattle.pool_alloc.specs.Stages.{IsBroken, no_call, stage_back, Goes}
 use Rattle.pool_alloc.specs.Places.{instances_for}
-use Rattle.pool_alloc.specs.Stepping.{grant_count, grant_instances, grant_memories, grant_tables, grant_stacks}
+use Rattle.pool_alloc.specs.Stepping.{grant_count, grant_instances, grant_memories, grant_tables, grant_stacks, grant_heaps}
 use Rattle.pool_alloc.specs.Turns.{Row, answer_of, failing}
 use Rattle.pool_alloc.specs.declared.pool_core.PoolCore.{PoolCore}
 use Rattle.pool_alloc.specs.declared.frame.Ending.{Ending}
@@ -23,16 +23,16 @@ use Rattle.pool_alloc.proofs.CoreChanges.{core_with_counters}
 use Rattle.pool_alloc.proofs.Hands.{in_phase, held_of, none_granted, none_counted, Kept, IsReadyRow}
 use Rattle.pool_alloc.proofs.Ways.{Can, kept_part}
 
-module _ {P : Type 0} (maker : MakerTold) (old new : LimiterTold) where
-  abbrev Shows : Phase P → PoolCore P → Frame P → Row (PoolCore P) P → Type 0
+module _ {P H : Type 0} (maker : MakerTold) (old new : PartyTold) where
+  abbrev Shows : Phase P H → PoolCore P H → Frame P H → Row (PoolCore P H) P H → Type 0
   Shows p c f r = IsReadyRow maker old new c (in_phase p f) r
 
   -- It is tested.
-  tested_ready : (info : ComponentInfo) (o : Option Unsupported) (c : PoolCore P) (f : Frame P) → Can maker (ValidateComponent info) c f → component_refused c.settings info ≡ o → Shows (ValidateComponent info) c f (component_tested o c (in_phase Idle f))
+  tested_ready : (info : ComponentInfo) (o : Option Unsupported) (c : PoolCore P H) (f : Frame P H) → Can maker (ValidateComponent info) c f → component_refused c.settings info ≡ o → Shows (ValidateComponent info) c f (component_tested o c (in_phase Idle f))
   tested_ready info (Some rule) c f can is = record {
     kept = kept_part maker old new c (in_phase (ValidateComponent info) f) c (failing (refusal.Unsupported rule) (in_phase Idle f)) can.core (held_of maker c.settings c.plan (in_phase (ValidateComponent info) f) can.frame) refl refl refl refl;
     shape = (can.frame.shape, tt);
-    even = record { places = λ t. omega arith; instances = omega arith; memories = omega arith; tables = omega arith; stacks = omega arith };
+    even = record { places = λ t. omega arith; instances = omega arith; memories = omega arith; tables = omega arith; stacks = omega arith; heaps = omega arith };
     fewer = omega arith;
     way = let B : Option Unsupported → Type 0 = λ o. IsBroken o (refusal.Unsupported rule) in subst B (sym is) refl;
     searched = λ s. tt;
@@ -40,53 +40,54 @@ module _ {P : Type 0} (maker : MakerTold) (old new : LimiterTold) where
   tested_ready info None c f can is = record {
     kept = kept_part maker old new c (in_phase (ValidateComponent info) f) c (in_phase Idle f) can.core (held_of maker c.settings c.plan (in_phase (ValidateComponent info) f) can.frame) refl refl refl refl;
     shape = (refl, can.frame.shape);
-    even = record { places = λ t. omega arith; instances = omega arith; memories = omega arith; tables = omega arith; stacks = omega arith };
+    even = record { places = λ t. omega arith; instances = omega arith; memories = omega arith; tables = omega arith; stacks = omega arith; heaps = omega arith };
     fewer = omega arith;
     way = is;
     searched = λ s. tt;
   }
 
-  pub validate_component_ready : (info : ComponentInfo) (c : PoolCore P) (f : Frame P) → Can maker (ValidateComponent info) c f → Shows (ValidateComponent info) c f (validate_component_row info c (in_phase Idle f))
+  pub validate_component_ready : (info : ComponentInfo) (c : PoolCore P H) (f : Frame P H) → Can maker (ValidateComponent info) c f → Shows (ValidateComponent info) c f (validate_component_row info c (in_phase Idle f))
   validate_component_ready info c f can = tested_ready info (component_refused c.settings info) c f can refl
 
   -- It is counted.
-  counted_ready : (b : Bool) (c : PoolCore P) (f : Frame P) → Can maker CountComponent c f → nat_lt c.counters.component_instances c.settings.max_component_instances ≡ b → Shows CountComponent c f (component_counted b c (in_phase Idle f))
+  counted_ready : (b : Bool) (c : PoolCore P H) (f : Frame P H) → Can maker CountComponent c f → nat_lt c.counters.component_instances c.settings.max_component_instances ≡ b → Shows CountComponent c f (component_counted b c (in_phase Idle f))
   counted_ready true c f can is = record {
-    kept = record { core = core_with_counters maker (record c.counters { component_instances = c.counters.component_instances + 1 }) c can.core; held = held_of maker c.settings c.plan (in_phase CountComponent f) can.frame; asked = refl; settings = refl; plan = refl; instances_by_one = omega arith; memories_by_one = omega arith; tables_by_one = omega arith; stacks_by_one = omega arith };
+    kept = record { core = core_with_counters maker (record c.counters { component_instances = c.counters.component_instances + 1 }) c can.core; held = held_of maker c.settings c.plan (in_phase CountComponent f) can.frame; asked = refl; settings = refl; plan = refl; instances_by_one = omega arith; memories_by_one = omega arith; tables_by_one = omega arith; stacks_by_one = omega arith; heaps_by_one = omega arith };
     shape = (can.frame.shape, tt);
-    even = record { places = λ t. omega arith; instances = omega arith; memories = omega arith; tables = omega arith; stacks = omega arith };
+    even = record { places = λ t. omega arith; instances = omega arith; memories = omega arith; tables = omega arith; stacks = omega arith; heaps = omega arith };
     fewer = omega arith;
     way = ltb-true _ _ is;
     searched = λ s. tt;
   }
   counted_ready false c f can is = record {
-    kept = record { core = core_with_counters maker (record c.counters { component_instances = c.counters.component_instances + 1 }) c can.core; held = held_of maker c.settings c.plan (in_phase CountComponent f) can.frame; asked = refl; settings = refl; plan = refl; instances_by_one = omega arith; memories_by_one = omega arith; tables_by_one = omega arith; stacks_by_one = omega arith };
+    kept = record { core = core_with_counters maker (record c.counters { component_instances = c.counters.component_instances + 1 }) c can.core; held = held_of maker c.settings c.plan (in_phase CountComponent f) can.frame; asked = refl; settings = refl; plan = refl; instances_by_one = omega arith; memories_by_one = omega arith; tables_by_one = omega arith; stacks_by_one = omega arith; heaps_by_one = omega arith };
     shape = (refl, (can.frame.shape, refl));
-    even = record { places = λ t. omega arith; instances = omega arith; memories = omega arith; tables = omega arith; stacks = omega arith };
+    even = record { places = λ t. omega arith; instances = omega arith; memories = omega arith; tables = omega arith; stacks = omega arith; heaps = omega arith };
     fewer = omega arith;
     way = (refl, ltb-false _ _ is);
     searched = λ s. tt;
   }
 
-  pub count_component_ready : (c : PoolCore P) (f : Frame P) → Can maker CountComponent c f → Shows CountComponent c f (count_component_row c (in_phase Idle f))
+  pub count_component_ready : (c : PoolCore P H) (f : Frame P H) → Can maker CountComponent c f → Shows CountComponent c f (count_component_row c (in_phase Idle f))
   count_component_ready c f can = counted_ready (nat_lt c.counters.component_instances c.settings.max_component_instances) c f can refl
 
   -- It is counted off.
-  back_way : (c : PoolCore P) (f : Frame P) (e : Ending) → Goes maker old new c f (stage_back e) no_call (Some (answer_of e))
+  back_way : (c : PoolCore P H) (f : Frame P H) (e : Ending) → Goes maker old new c f (stage_back e) no_call (Some (answer_of e))
   back_way c f granted = tt
   back_way c f returned = tt
   back_way c f (refused x) = refl
 
-  pub uncount_component_ready : (c : PoolCore P) (f : Frame P) → Can maker UncountComponent c f → Shows UncountComponent c f (uncount_component_row c (in_phase Idle f))
+  pub uncount_component_ready : (c : PoolCore P H) (f : Frame P H) → Can maker UncountComponent c f → Shows UncountComponent c f (uncount_component_row c (in_phase Idle f))
   uncount_component_ready c f can = record {
-    kept = record { core = core_with_counters maker (record c.counters { component_instances = c.counters.component_instances - 1 }) c can.core; held = held_of maker c.settings c.plan (in_phase UncountComponent f) can.frame; asked = refl; settings = refl; plan = refl; instances_by_one = omega arith; memories_by_one = omega arith; tables_by_one = omega arith; stacks_by_one = omega arith };
+    kept = record { core = core_with_counters maker (record c.counters { component_instances = c.counters.component_instances - 1 }) c can.core; held = held_of maker c.settings c.plan (in_phase UncountComponent f) can.frame; asked = refl; settings = refl; plan = refl; instances_by_one = omega arith; memories_by_one = omega arith; tables_by_one = omega arith; stacks_by_one = omega arith; heaps_by_one = omega arith };
     shape = (can.frame.shape.0, none_granted _ f.ending);
     even = record {
-      places = λ t. omega (arith, none_counted {P = P} (grant_count t) f.ending);
-      instances = omega (arith, ap (λ (n : ℕ). instances_for f.asked n) (none_counted {P = P} grant_instances f.ending));
-      memories = omega (arith, none_counted {P = P} grant_memories f.ending);
-      tables = omega (arith, none_counted {P = P} grant_tables f.ending);
-      stacks = omega (arith, none_counted {P = P} grant_stacks f.ending);
+      places = λ t. omega (arith, none_counted {P = P} {H = H} (grant_count t) f.ending);
+      instances = omega (arith, ap (λ (n : ℕ). instances_for f.asked n) (none_counted {P = P} {H = H} grant_instances f.ending));
+      memories = omega (arith, none_counted {P = P} {H = H} grant_memories f.ending);
+      tables = omega (arith, none_counted {P = P} {H = H} grant_tables f.ending);
+      stacks = omega (arith, none_counted {P = P} {H = H} grant_stacks f.ending);
+      heaps = omega (arith, none_counted {P = P} {H = H} grant_heaps f.ending);
     };
     fewer = omega arith;
     way = back_way c (in_phase UncountComponent f) f.ending;

@@ -1,4 +1,6 @@
 -- A frame that fits the pool still fits after its step, and after another's.
+use Rattle.pool_alloc.specs.Leases.{memory_slot}
+use Rattle.pool_slots.specs.HeapUnits.{heap_slot}
 use Rattle.std.proofs.Common.{Option, Some, None, ◌≡◌, refl, arith}
 use Rattle.pool_slots.specs.declared.slot_name.SlotName.{SlotName}
 use Rattle.pool_alloc.specs.Places.{right_to, region_of}
@@ -7,20 +9,21 @@ use Rattle.pool_alloc.specs.Turns.{After}
 use Rattle.pool_alloc.specs.Stepping.{Conserves, IsSameSize, count_granted, grant_count}
 use Rattle.pool_alloc.specs.declared.pool_core.PoolCore.{PoolCore}
 use Rattle.pool_alloc.specs.declared.frame.Frame.{Frame}
-use Rattle.pool_alloc.specs.declared.frame.Grant.TheVariants.{Instance, Stack, Component}
+use Rattle.pool_alloc.specs.declared.frame.Grant.TheVariants.{Instance, Stack, Heap, Component}
 use Rattle.pool_alloc.specs.declared.frame.Outcome.{Outcome}
 use Rattle.pool_alloc.specs.declared.frame.Outcome.TheVariants as answer
 use Rattle.pool_alloc.specs.StackLeases.{stack_slot}
 use Rattle.pool_alloc.proofs.SlotCounts.{both_regions}
 use Rattle.pool_alloc.proofs.QueueCounts.{leased_regions, tables_regions}
 
-module _ {P : Type 0} where
+module _ {P H : Type 0} where
   -- A grant has the region of each slot.
-  pub granted_regions : (k : SlotName) (o : Option (Outcome P)) → count_granted (grant_count (region_of k)) o ≡ count_granted (grant_count (right_to k)) o
+  pub granted_regions : (k : SlotName) (o : Option (Outcome P H)) → count_granted (grant_count (region_of k)) o ≡ count_granted (grant_count (right_to k)) o
   granted_regions k None = refl
   granted_regions k (Some answer.Key) = refl
   granted_regions k (Some (answer.Granted (Instance lease))) = omega (arith, leased_regions k lease.memories.items, tables_regions k lease.tables.items)
   granted_regions k (Some (answer.Granted (Stack lease))) = both_regions k (stack_slot lease.stack.index) lease.numbers
+  granted_regions k (Some (answer.Granted (Heap lease memory))) = omega (arith, both_regions k (heap_slot lease.index) lease.numbers, both_regions k (memory_slot memory.index) memory.numbers)
   granted_regions k (Some (answer.Granted Component)) = refl
   granted_regions k (Some answer.Returned) = refl
   granted_regions k (Some (answer.Purged n)) = refl
@@ -28,7 +31,7 @@ module _ {P : Type 0} where
   granted_regions k (Some (answer.Refused e)) = refl
 
   -- Where a step conserves, what the frame has still fits.
-  pub fits_after : (c : PoolCore P) (f : Frame P) (a : After P) → FitsCore c f → Conserves c f a → IsSameSize c a.core → FitsCore a.core a.frame
+  pub fits_after : (c : PoolCore P H) (f : Frame P H) (a : After P H) → FitsCore c f → Conserves c f a → IsSameSize c a.core → FitsCore a.core a.frame
   fits_after c f a fits b size = record {
     once = λ t. omega (arith, fits.once t, b.places t);
     others = λ k. omega (arith, fits.others k, b.places (right_to k), b.places (region_of k), granted_regions k a.outcome);
@@ -37,4 +40,5 @@ module _ {P : Type 0} where
     memories = omega (arith, fits.memories, b.memories);
     tables = omega (arith, fits.tables, b.tables);
     stacks = omega (arith, fits.stacks, b.stacks);
+    heaps = omega (arith, fits.heaps, b.heaps);
   }

@@ -43,34 +43,34 @@ popped_none kind q l is none = is ∙ ap (λ (ms : List Queued). record q { slot
 pub zeroed_none : (kind : SlotKind) (q l : Queue) → l ≡ record q { slots = first_zeroed kind q.slots } → list_any (is_to_zero kind) q.slots ≡ false → l ≡ q
 zeroed_none kind q l is none = is ∙ ap (λ (ms : List Queued). record q { slots = ms }) (none_zeroed kind q.slots none)
 
-told_by : (a b : Bool) (kind : SlotKind) (g : StepGiven) (local : Queue)
+told_by : {H : Type 0} (a b : Bool) (kind : SlotKind) (g : StepGiven H) (local : Queue)
     → FlushTold (if a then zero kind else (if b then put kind else free)) g local
     × FlushPlanned (if a then zero kind else (if b then put kind else free)) g local
 told_by true b kind g local = (tt, tt)
 told_by false true kind g local = (tt, tt)
 told_by false false kind g local = (tt, tt)
 
-module _ {P : Type 0} where
-  abbrev pub FlushesTo : FlushStep → PoolCore P → Frame P → After P → Type 0
-  FlushesTo step c f a = (g : StepGiven) × FlushTold step g f.local × FlushPlanned step g f.local × (a ≡ stepped (flush_row step g.queue c f))
+module _ {P H : Type 0} where
+  abbrev pub FlushesTo : FlushStep → PoolCore P H → Frame P H → After P H → Type 0
+  FlushesTo step c f a = (g : StepGiven H) × FlushTold step g f.local × FlushPlanned step g f.local × (a ≡ stepped (flush_row step g.queue c f))
 
-  pub flushes_to : (step : FlushStep) (c : PoolCore P) (f : Frame P) (a : After P) → flush_step f.local f.freed.items ≡ step → FlushesTo step c f a → FlushesTo (flush_step f.local f.freed.items) c f a
+  pub flushes_to : (step : FlushStep) (c : PoolCore P H) (f : Frame P H) (a : After P H) → flush_step f.local f.freed.items ≡ step → FlushesTo step c f a → FlushesTo (flush_step f.local f.freed.items) c f a
   flushes_to step c f a is so = let F : FlushStep → Type 0 = λ x. FlushesTo x c f a in subst F (sym is) so
 
-  pub settles_to : (c : PoolCore P) (f : Frame P) (a : After P) → length f.local.ranges ≤ 0 → SettlesTo (settled_step (kind_settled f.local.slots f.freed.items) f.local.slots) c f a → FlushesTo (flush_step f.local f.freed.items) c f a
+  pub settles_to : (c : PoolCore P H) (f : Frame P H) (a : After P H) → length f.local.ranges ≤ 0 → SettlesTo (settled_step (kind_settled f.local.slots f.freed.items) f.local.slots) c f a → FlushesTo (flush_step f.local f.freed.items) c f a
   settles_to c f a none so =
       let kind : SlotKind = kind_settled f.local.slots f.freed.items in
-      let told = told_by (list_any (is_to_zero kind) f.local.slots) (some_queued kind f.local.slots) kind nothing_told f.local in
-      flushes_to (settled_step kind f.local.slots) c f a (flush_settles f.local f.freed.items none) (nothing_told, told.0, told.1, so nothing_told.queue)
+      let told = told_by (list_any (is_to_zero kind) f.local.slots) (some_queued kind f.local.slots) kind (nothing_told {H = H}) f.local in
+      flushes_to (settled_step kind f.local.slots) c f a (flush_settles f.local f.freed.items none) (nothing_told {H = H}, told.0, told.1, so (nothing_told {H = H}).queue)
 
   -- What the code does with a queue that stayed as it was is that part of a flush which is next then.
-  pub can_flush_as : (step other : List Queued → FlushStep) (c : PoolCore P) (f : Frame P) (l : Queue) → l ≡ f.local → step f.local.slots ≡ other f.local.slots → CanFlush (step f.local.slots) c f → CanFlush (other l.slots) c (record f { local = l })
+  pub can_flush_as : (step other : List Queued → FlushStep) (c : PoolCore P H) (f : Frame P H) (l : Queue) → l ≡ f.local → step f.local.slots ≡ other f.local.slots → CanFlush (step f.local.slots) c f → CanFlush (other l.slots) c (record f { local = l })
   can_flush_as step other c f l same is can =
       let F : FlushStep → Type 0 = λ x. CanFlush x c f in
       let Q : Queue → Type 0 = λ q. CanFlush (other q.slots) c (record f { local = q }) in
       subst Q (sym same) (subst F is can)
 
-  pub settles_as : (step other : List Queued → FlushStep) (c : PoolCore P) (f : Frame P) (l : Queue) (a : After P) → l ≡ f.local → step f.local.slots ≡ other f.local.slots → SettlesTo (other l.slots) c (record f { local = l }) a → SettlesTo (step f.local.slots) c f a
+  pub settles_as : (step other : List Queued → FlushStep) (c : PoolCore P H) (f : Frame P H) (l : Queue) (a : After P H) → l ≡ f.local → step f.local.slots ≡ other f.local.slots → SettlesTo (other l.slots) c (record f { local = l }) a → SettlesTo (step f.local.slots) c f a
   settles_as step other c f l a same is so =
       let F : FlushStep → Type 0 = λ x. SettlesTo x c f a in
       let Q : Queue → Type 0 = λ q. SettlesTo (other q.slots) c (record f { local = q }) a in

@@ -1,5 +1,6 @@
 -- What the next part of a flush finds: of which kinds slots are queued, and wait to be freed.
-use Rattle.std.proofs.Common.{◌≡◌, ◌≢◌, ℕ, ◌<◌, Bool, true, false, List, [], ◌∷◌, ◌++◌, length, refl, sym, ap, ◌∙◌, subst, arith, inl, inr, ◌⊎◌, Option, None, Some, true≢false}
+use Rattle.pool_slots.specs.SlotNames.{of_kind}
+use Rattle.std.proofs.Common.{◌≡◌, ◌≢◌, ℕ, ◌<◌, Bool, true, false, List, [], ◌∷◌, ◌++◌, length, refl, sym, ap, ◌∙◌, subst, arith, inl, inr, ◌⊎◌, Option, None, Some, true≢false, All}
 use Rattle.std.specs.Prelude.{◌==◌, ◌&&◌, not, is_some, IsSome, IfSome, All, if◌then◌else◌}
 use Rattle.std.specs.List.{AllByRecursion, list_any}
 use Rattle.std.proofs.lemmas.Bool.{cases_Bool, or_parts}
@@ -16,7 +17,7 @@ use Rattle.pool_slots.proofs.SlotPops.{can_zero}
 use Rattle.pool_alloc.specs.Answers.{Decommits}
 use Rattle.pool_alloc.specs.Places.{right_to, queued_count}
 use Rattle.pool_alloc.specs.Rows.{FlushStep, run, zero, put, free, flush_kinds, some_queued, kind_queued, kind_settled, settled_step, flush_step}
-use Rattle.pool_alloc.specs.Sound.{IsPoolPlan, IsPooled, IsSlotName, IsFreedOf, AreOfOneKind}
+use Rattle.pool_alloc.specs.Sound.{IsPoolPlan, HasCells, IsSlotName, IsFreedOf, AreOfOneKind}
 use Rattle.pool_alloc.specs.Steps.{no_allocator, first_shard}
 use Rattle.pool_alloc.specs.declared.frame.FreedSlot.{FreedSlot}
 use Rattle.pool_alloc.proofs.FreedSlots.{first_of}
@@ -64,9 +65,11 @@ none_any p [] none = tt
 none_any p (x ∷ xs) none = let parts = or_parts (p x) (list_any p xs) none in (parts.0, none_any p xs parts.1)
 
 -- Queued slots of the pool are of its kinds.
-pub names_of : (plan : Plan) (ms : List Queued) → ((name : SlotName) → 0 < queued_count (right_to name) ms → IsSlotName plan name) → AllByRecursion (λ m. IsSlotName plan m.name) ms
-names_of plan [] named = tt
-names_of plan (m ∷ ms) named = (named m.name (omega (arith, slot_once m.name)), names_of plan ms (λ name some. named name (omega (arith, some))))
+pub names_of : (plan : Plan) (ms : List Queued) → All (λ m. HasCells m.name.kind) ms → ((name : SlotName) → 0 < queued_count (right_to name) ms → name.slot < of_kind name.kind plan.totals) → AllByRecursion (λ m. IsSlotName plan m.name) ms
+names_of plan [] cells named = tt
+names_of plan (m ∷ ms) cells named =
+    let C : Queued → Type 0 = λ x. HasCells x.name.kind in
+    (record { cells = All-head C m ms cells; inside = named m.name (omega (arith, slot_once m.name)) }, names_of plan ms (All-tail C m ms cells) (λ name some. named name (omega (arith, some))))
 
 -- where the first kind that is queued isn't, none of the kinds is
 none_queued : (kinds : List SlotKind) (ms : List Queued) → some_queued (kind_queued kinds ms) ms ≡ false → AllByRecursion (λ k. some_queued k ms ≡ false) kinds
@@ -82,7 +85,7 @@ none_queued (k ∷ later) ms none =
     ]
 
 -- and a slot of the pool is of one of them
-no_kind : (k : SlotKind) (ms : List Queued) → IsPooled k → AllByRecursion (λ x. some_queued x ms ≡ false) flush_kinds → some_queued k ms ≡ false
+no_kind : (k : SlotKind) (ms : List Queued) → HasCells k → AllByRecursion (λ x. some_queued x ms ≡ false) flush_kinds → some_queued k ms ≡ false
 no_kind memory_kind ms pooled none = none.0
 no_kind table_kind ms pooled none = none.1.0
 no_kind stack_kind ms pooled none = none.1.1.0
@@ -93,7 +96,7 @@ none_left plan [] named none = refl
 none_left plan (m ∷ ms) named none =
     let kind : SlotKind = m.name.kind in
     let first : first_of_kind kind (m ∷ ms) ≡ Some m = rw (kind_self kind) refl in
-    absurd (true≢false (sym (ap (λ (o : Option Queued). is_some o) first) ∙ no_kind kind (m ∷ ms) named.0.pooled none))
+    absurd (true≢false (sym (ap (λ (o : Option Queued). is_some o) first) ∙ no_kind kind (m ∷ ms) named.0.cells none))
 
 -- A shard of a kind has no slot of another.
 record IsKindShard (plan : Plan) (k : SlotKind) (p : ℕ) : Type 0 where
@@ -108,7 +111,7 @@ role_allocator _ = no_allocator
 
 home_apart : (plan : Plan) (places : ℕ) (k : SlotKind) (p : ℕ) (name : SlotName) → IsPoolPlan plan places → IsSlotName plan name → IsKindShard plan k p → same_kind k name.kind ≡ false → (home_of plan name).place ≢ p
 home_apart plan places k p name is named shard other e =
-    let home = at_home plan places name is named in
+    let home = at_home plan places name is named.inside in
     let one : home.allocator ≡ shard.allocator = ap role_allocator (sym home.role ∙ ap (role_at plan) e ∙ shard.role) in
     let same : k ≡ name.kind = sym shard.kind ∙ ap (λ (a : Allocator). a.kind) (sym one) ∙ home.kind in
     true≢false (sym (kind_self k) ∙ ap (same_kind k) same ∙ other)
@@ -118,7 +121,7 @@ kind_homes plan places k [] is each kinds = All-nil (λ (x : FreedSlot). IsKindS
 kind_homes plan places k (x ∷ xs) is each kinds =
     let F : FreedSlot → Type 0 = IsFreedOf plan in
     let K : FreedSlot → Type 0 = λ y. y.name.kind ≡ k in
-    let home = at_home plan places x.name is (All-head F x xs each).named in
+    let home = at_home plan places x.name is (All-head F x xs each).named.inside in
     All-cons (λ (y : FreedSlot). IsKindShard plan k (home_of plan y.name).place) x xs (record { allocator = home.allocator; index = home.shard; kind = home.kind ∙ All-head K x xs kinds; role = home.role })
     (kind_homes plan places k xs is (All-tail F x xs each) (All-tail K x xs kinds))
 

@@ -1,4 +1,5 @@
 -- What a flush does, and what each part of it leaves.
+use Rattle.pool_alloc.proofs.PoolParts.{sound_queue}
 use Rattle.pool_hall.specs.declared.unit_name.SlotKind.TheVariants.{Memory as memory_kind}
 use Rattle.pool_hall.specs.declared.unit_name.SlotKind.{SlotKind}
 use Rattle.pool_slots.specs.declared.slot_name.SlotName.{SlotName}
@@ -7,14 +8,14 @@ use Rattle.pool_alloc.proofs.FreedSlots.{first_of}
 use Rattle.pool_alloc.proofs.PlanPlaces.{has_home, IsQueuePlace}
 use Rattle.pool_slots.proofs.PlanSizes.{shard_below}
 use Rattle.std.specs.List.{AllByRecursion, AllZip, list_any}
-use Rattle.pool_alloc.specs.Sound.{IsStripe, IsPoolPlan, IsPooled, IsSlotName, IsCore, IsFreedOf}
+use Rattle.pool_alloc.specs.Sound.{IsStripe, IsPoolPlan, HasCells, IsSlotName, IsCore, IsFreedOf, IsQueuedOf}
 use Rattle.pool_slots.specs.declared.plan.Home.{Home}
 use Rattle.pool_slots.specs.declared.plan.Allocator.{Allocator}
 use Rattle.pool_slots.specs.Plans.{allocators_of, have_number, has_number, home_among, home_in, home_of}
-use Rattle.std.proofs.Common.{◌≡◌, ◌≢◌, ℕ, zero, suc, ◌+◌, ◌*◌, ◌<◌, ◌≤◌, Bool, true, false, List, [], ◌∷◌, ◌++◌, length, refl, sym, ap, ◌∙◌, subst, inl, inr, arith, ◌⊎◌, Option, None, Some, map, true≢false}
+use Rattle.std.proofs.Common.{◌≡◌, ◌≢◌, ℕ, zero, suc, ◌+◌, ◌*◌, ◌<◌, ◌≤◌, Bool, true, false, List, [], ◌∷◌, ◌++◌, length, refl, sym, ap, ◌∙◌, subst, inl, inr, arith, ◌⊎◌, Option, None, Some, map, true≢false, All}
 use Rattle.std.specs.Prelude.{◌==◌, nat_lt, filter, min, sum_by, if◌then◌else◌, All, is_some}
 use Rattle.std.proofs.lemmas.Bool.{eq-eqb, ne_eqb, eqb-true, lt-ltb, cases_eq, cases_lt, cases_Bool, and_parts}
-use Rattle.std.proofs.lemmas.List.Elements.{length_all_zip, All-weaker, All-head, All-tail}
+use Rattle.std.proofs.lemmas.List.Elements.{length_all_zip, All-weaker, All-head, All-tail, All-append}
 use Rattle.std.proofs.lemmas.List.Sums.{sum_by-cons, sum_by_push}
 use Rattle.pool_pages.specs.MakerTold.{MakerTold}
 use Rattle.pool_index.specs.Shard.{one_if}
@@ -32,7 +33,7 @@ use Rattle.pool_alloc.specs.declared.pool_core.PoolCore.{PoolCore}
 use Rattle.pool_slots.specs.declared.plan.Plan.{Plan}
 use Rattle.pool_alloc.specs.declared.frame.Frame.{Frame}
 use Rattle.pool_alloc.specs.declared.frame.FreedSlot.{FreedSlot}
-use Rattle.pool_alloc.proofs.Below.{few_queued}
+use Rattle.pool_alloc.proofs.Below.{few_queued, queued_cells}
 use Rattle.pool_alloc.proofs.KeptCounts.{queue_kept, out_once}
 use Rattle.pool_alloc.proofs.QueueCounts.{queued_joined, run_names, faulted_names}
 use Rattle.pool_alloc.proofs.Runs.{runs_fewer}
@@ -172,14 +173,14 @@ among_more [] more p among = among
 among_more (a ∷ some) more p among = inr (among_more some more p among)
 
 -- so that of each slot of the pool is one of those that a flush frees
-flushed_at : (plan : Plan) (places : ℕ) (kind : SlotKind) (slot : ℕ) → IsPoolPlan plan places → IsPooled kind → 0 < have_number (allocators_of plan kind) slot → IsAmong (flushed_allocators plan) (home_among (allocators_of plan kind) slot).place
+flushed_at : (plan : Plan) (places : ℕ) (kind : SlotKind) (slot : ℕ) → IsPoolPlan plan places → HasCells kind → 0 < have_number (allocators_of plan kind) slot → IsAmong (flushed_allocators plan) (home_among (allocators_of plan kind) slot).place
 flushed_at plan places memory_kind slot is pooled has = among_some plan.memories (plan.tables ++ plan.stacks) _ (home_among_them plan.memories slot is.shards has)
 flushed_at plan places table_kind slot is pooled has = among_more plan.memories (plan.tables ++ plan.stacks) _ (among_some plan.tables plan.stacks _ (home_among_them plan.tables slot is.table_shards has))
 flushed_at plan places stack_kind slot is pooled has = among_more plan.memories (plan.tables ++ plan.stacks) _ (among_more plan.tables plan.stacks _ (home_among_them plan.stacks slot is.stack_shards has))
 flushed_at plan places kind slot is pooled has = absurd pooled
 
 flushed_home : (plan : Plan) (places : ℕ) (name : SlotName) → IsPoolPlan plan places → IsSlotName plan name → IsAmong (flushed_allocators plan) (home_of plan name).place
-flushed_home plan places name is named = flushed_at plan places name.kind name.slot is named.pooled (has_home plan places name is named)
+flushed_home plan places name is named = flushed_at plan places name.kind name.slot is named.cells (has_home plan places name is named.inside)
 
 one_at_most : (b : Bool) → one_if b ≤ 1
 one_at_most true = omega arith
@@ -360,8 +361,8 @@ put_fewer z kind m local freed is =
 none_home : (z : PoolSizes) (p : ℕ) (ms : List Queued) → All (λ m. (home_of z.plan m.name).place ≢ p) ms → sum_by (λ m. is_home z p m.name) ms ≡ 0
 none_home z p [] each = refl
 none_home z p (m ∷ ms) each =
-    let H : Queued → Type 0 = λ x. (home_of z.plan x.name).place ≢ p in
-    omega (arith, ap one_if (ne_eqb (home_of z.plan m.name).place p (All-head H m ms each)), sum_by-cons (λ (x : Queued). is_home z p x.name) m ms, none_home z p ms (All-tail H m ms each))
+    let Goal : Queued → Type 0 = λ x. (home_of z.plan x.name).place ≢ p in
+    omega (arith, ap one_if (ne_eqb (home_of z.plan m.name).place p (All-head Goal m ms each)), sum_by-cons (λ (x : Queued). is_home z p x.name) m ms, none_home z p ms (All-tail Goal m ms each))
 
 -- a shard less waits once its slots are freed
 pub free_fewer : (s : Settings) (plan : Plan) (places : ℕ) (ms : List Queued) (xs : List FreedSlot) → IsPoolPlan plan places → All (IsFreedOf plan) xs → All (λ m. (home_of plan m.name).place ≢ first_shard plan xs) ms → 0 < length xs
@@ -378,18 +379,19 @@ free_fewer s plan places ms xs is each apart some =
       others = λ q other. omega (arith, elsewhere_same plan q p xs other);
     })
 
-module _ {P : Type 0} where
-  few_of : (maker : MakerTold) (c : PoolCore P) (ms : List Queued) → IsCore maker c → ((name : SlotName) → queued_count (right_to name) ms ≤ away_count (right_to name) c) → length ms ≤ (sizes_of c.settings c.plan).slots
-  few_of maker c ms core out =
+module _ {P H : Type 0} where
+  few_of : (maker : MakerTold) (c : PoolCore P H) (ms : List Queued) → IsCore maker c → All (IsQueuedOf maker c.settings) ms → ((name : SlotName) → queued_count (right_to name) ms ≤ away_count (right_to name) c) → length ms ≤ (sizes_of c.settings c.plan).slots
+  few_of maker c ms core each out =
       few_queued c.plan ms
       (λ name. omega (arith, out name, (out_once maker name c core).0))
-      (λ name some. (right_is_out maker name c core (omega (arith, some, out name))).named)
+      (All-weaker (IsQueuedOf maker c.settings) (λ m. HasCells m.name.kind) (queued_cells maker c.settings) ms each)
+      (λ name some. (right_is_out maker name c core (omega (arith, some, out name))).inside)
 
-  pub few_in_queue : (maker : MakerTold) (i : ℕ) (c : PoolCore P) (f : Frame P) → CanStep maker c f → IsQueuePlace c.plan i → length (queue_at i c).slots ≤ (sizes_of c.settings c.plan).slots
+  pub few_in_queue : (maker : MakerTold) (i : ℕ) (c : PoolCore P H) (f : Frame P H) → CanStep maker c f → IsQueuePlace c.plan i → length (queue_at i c).slots ≤ (sizes_of c.settings c.plan).slots
   few_in_queue maker i c f can place =
-      few_of maker c (queue_at i c).slots can.core (λ name. omega (arith, can.fits.once (right_to name), queue_kept maker (right_to name) i c can.core place))
+      few_of maker c (queue_at i c).slots can.core (sound_queue maker i c can.core place).regions (λ name. omega (arith, can.fits.once (right_to name), queue_kept maker (right_to name) i c can.core place))
 
-  pub few_in_both : (maker : MakerTold) (i : ℕ) (c : PoolCore P) (f : Frame P) → CanStep maker c f → IsQueuePlace c.plan i → length (after_append (queue_at i c) f.local).slots ≤ (sizes_of c.settings c.plan).slots
+  pub few_in_both : (maker : MakerTold) (i : ℕ) (c : PoolCore P H) (f : Frame P H) → CanStep maker c f → IsQueuePlace c.plan i → length (after_append (queue_at i c) f.local).slots ≤ (sizes_of c.settings c.plan).slots
   few_in_both maker i c f can place =
-      few_of maker c (after_append (queue_at i c) f.local).slots can.core
+      few_of maker c (after_append (queue_at i c) f.local).slots can.core (All-append (IsQueuedOf maker c.settings) (queue_at i c).slots f.local.slots (sound_queue maker i c can.core place).regions can.frame.queue.regions)
       (λ name. omega (arith, queued_joined (right_to name) (queue_at i c).slots f.local.slots, can.fits.once (right_to name), queue_kept maker (right_to name) i c can.core place))

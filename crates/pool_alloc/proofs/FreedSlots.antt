@@ -34,16 +34,16 @@ pub first_of : (Q : ℕ → Type 0) (plan : Plan) (xs : List FreedSlot) → 0 < 
 first_of Q plan [] some each = absurd (omega arith)
 first_of Q plan (x ∷ []) some each = All-head (λ (y : FreedSlot). Q (home_of plan y.name).place) x [] each
 first_of Q plan (x ∷ y ∷ rest) some each =
-    let H : FreedSlot → Type 0 = λ z. Q (home_of plan z.name).place in
+    let Goal : FreedSlot → Type 0 = λ z. Q (home_of plan z.name).place in
     let j : ℕ = (home_of plan x.name).place in
     let k : ℕ = first_shard plan (y ∷ rest) in
     elim (cases_lt k j) [
       | inl less ↦
           let least : k ≡ min j k = omega arith in
-          subst Q least (first_of Q plan (y ∷ rest) (omega arith) (All-tail H x (y ∷ rest) each))
+          subst Q least (first_of Q plan (y ∷ rest) (omega arith) (All-tail Goal x (y ∷ rest) each))
       | inr other ↦
           let least : j ≡ min j k = omega arith in
-          subst Q least (All-head H x (y ∷ rest) each)
+          subst Q least (All-head Goal x (y ∷ rest) each)
     ]
 
 -- a slot that is freed of a shard is at home there
@@ -63,19 +63,19 @@ freed_there name plan j (x ∷ xs) some =
           freed_there name plan j xs (subst (λ (ys : List FreedSlot). 0 < freed_count (right_to name) ys) now some)
     ]
 
-module _ {P : Type 0} where
+module _ {P H : Type 0} where
   -- Slots of a shard that are freed have their places there.
-  pub freed_places : (maker : MakerTold) (j : ℕ) (c : PoolCore P) (xs : List FreedSlot) → IsCore maker c → All (IsFreedOf c.plan) xs → AllByRecursion (λ x. HasPlace c.plan (shard_at j c) x.name) (freed_of c.plan j xs)
+  pub freed_places : (maker : MakerTold) (j : ℕ) (c : PoolCore P H) (xs : List FreedSlot) → IsCore maker c → All (IsFreedOf c.plan) xs → AllByRecursion (λ x. HasPlace c.plan (shard_at j c) x.name) (freed_of c.plan j xs)
   freed_places maker j c [] core each = tt
   freed_places maker j c (x ∷ xs) core each =
       let F : FreedSlot → Type 0 = IsFreedOf c.plan in
-      let H : ℕ → Type 0 = λ i. HasPlace c.plan (shard_at i c) x.name in
+      let Goal : ℕ → Type 0 = λ i. HasPlace c.plan (shard_at i c) x.name in
       each_if (λ (y : FreedSlot). HasPlace c.plan (shard_at j c) y.name) ((home_of c.plan x.name).place == j) x (freed_of c.plan j xs)
-      (λ same. subst H (eqb-true _ _ same) (place_of maker c x.name core (All-head F x xs each).named))
+      (λ same. subst Goal (eqb-true _ _ same) (place_of maker c x.name core (All-head F x xs each).named.inside))
       (freed_places maker j c xs core (All-tail F x xs each))
 
   -- The shard has given them all out.
-  pub freed_out : (maker : MakerTold) (j : ℕ) (c : PoolCore P) (f : Frame P) → IsCore maker c → FitsCore c f → AreOut (shard_at j c) (freed_of c.plan j f.freed.items)
+  pub freed_out : (maker : MakerTold) (j : ℕ) (c : PoolCore P H) (f : Frame P H) → IsCore maker c → FitsCore c f → AreOut (shard_at j c) (freed_of c.plan j f.freed.items)
   freed_out maker j c f core fits name =
       let of : List FreedSlot = freed_of c.plan j f.freed.items in
       elim (cases_lt 0 (freed_count (right_to name) of)) [
@@ -84,21 +84,21 @@ module _ {P : Type 0} where
             let held : 1 ≤ frame_count (right_to name) f = omega (arith, some, parted) in
             let out = held_is_out maker name c f core fits held in
             let home : (home_of c.plan name).place ≡ j = freed_there name c.plan j f.freed.items some in
-            let there : 1 ≤ total (right_to name) (shard_units (shard_at j c)) = subst (λ (q : ℕ). 1 ≤ total (right_to name) (shard_units (shard_at q c))) home (used_away c.plan name (shard_at (home_of c.plan name).place c) (place_of maker c name core out.named) out.used) in
+            let there : 1 ≤ total (right_to name) (shard_units (shard_at j c)) = subst (λ (q : ℕ). 1 ≤ total (right_to name) (shard_units (shard_at q c))) home (used_away c.plan name (shard_at (home_of c.plan name).place c) (place_of maker c name core out.inside) out.used) in
             omega (arith, there, (held_once maker name c f core fits held).held, parted)
         | inr none ↦ omega (arith, none)
       ]
 
   -- so it takes them all back
-  pub freed_counts : (t : Thing) (maker : MakerTold) (j : ℕ) (c : PoolCore P) (f : Frame P) → IsCore maker c → FitsCore c f → All (IsFreedOf c.plan) f.freed.items → IsShardPlace c.plan j → total t (shard_units (after_frees c.plan (freed_of c.plan j f.freed.items) (shard_at j c))) + freed_count t (freed_of c.plan j f.freed.items) ≡ total t (shard_units (shard_at j c))
+  pub freed_counts : (t : Thing) (maker : MakerTold) (j : ℕ) (c : PoolCore P H) (f : Frame P H) → IsCore maker c → FitsCore c f → All (IsFreedOf c.plan) f.freed.items → IsShardPlace c.plan j → total t (shard_units (after_frees c.plan (freed_of c.plan j f.freed.items) (shard_at j c))) + freed_count t (freed_of c.plan j f.freed.items) ≡ total t (shard_units (shard_at j c))
   freed_counts t maker j c f core fits each place =
       frees_less t c.plan (freed_of c.plan j f.freed.items) (shard_at j c) (sound_shard maker j c core place).numbers.apart (freed_places maker j c f.freed.items core each) (freed_out maker j c f core fits)
 
   -- The shard whose slots are freed first is one of the pool.
-  pub first_is_shard : (maker : MakerTold) (c : PoolCore P) (xs : List FreedSlot) → IsCore maker c → 0 < length xs → All (IsFreedOf c.plan) xs → IsShardPlace c.plan (first_shard c.plan xs)
-  first_is_shard maker c xs core some each = first_of (IsShardPlace c.plan) c.plan xs some (All-weaker (IsFreedOf c.plan) (λ x. IsShardPlace c.plan (home_of c.plan x.name).place) (λ x of. home_place c.plan (length c.parts) x.name core.plan of.named) xs each)
+  pub first_is_shard : (maker : MakerTold) (c : PoolCore P H) (xs : List FreedSlot) → IsCore maker c → 0 < length xs → All (IsFreedOf c.plan) xs → IsShardPlace c.plan (first_shard c.plan xs)
+  first_is_shard maker c xs core some each = first_of (IsShardPlace c.plan) c.plan xs some (All-weaker (IsFreedOf c.plan) (λ x. IsShardPlace c.plan (home_of c.plan x.name).place) (λ x of. home_place c.plan (length c.parts) x.name core.plan of.named.inside) xs each)
 
   -- Each slot of a shard is used when its turn comes, whatever was freed before it.
-  pub freed_in_turn : (maker : MakerTold) (j : ℕ) (c : PoolCore P) (f : Frame P) → IsCore maker c → FitsCore c f → All (IsFreedOf c.plan) f.freed.items → IsShardPlace c.plan j → AreUsedInTurn c.plan (freed_of c.plan j f.freed.items) (shard_at j c)
+  pub freed_in_turn : (maker : MakerTold) (j : ℕ) (c : PoolCore P H) (f : Frame P H) → IsCore maker c → FitsCore c f → All (IsFreedOf c.plan) f.freed.items → IsShardPlace c.plan j → AreUsedInTurn c.plan (freed_of c.plan j f.freed.items) (shard_at j c)
   freed_in_turn maker j c f core fits each place =
       used_in_turn c.plan (freed_of c.plan j f.freed.items) (shard_at j c) (sound_shard maker j c core place).numbers.apart (freed_places maker j c f.freed.items core each) (freed_out maker j c f core fits)

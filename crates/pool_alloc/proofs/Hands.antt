@@ -2,12 +2,15 @@
 use Rattle.pool_alloc.proofs.PlanPlaces.{allocator_is}
 use Rattle.pool_slots.specs.declared.plan.Plan.{Plan}
 use Rattle.std.proofs.Common.{◌≡◌, ℕ, ◌+◌, ◌*◌, ◌<◌, ◌≤◌, Bool, true, false, List, [], ◌∷◌, length, All, refl, sym, ap, subst, ◌∙◌, arith, Option, Some, None}
+use Rattle.pool_hall.specs.declared.unit_name.SlotKind.{SlotKind}
+use Rattle.pool_hall.specs.declared.unit_name.SlotKind.TheVariants.{Memory as memory_kind, Table as table_kind, Stack as stack_kind, Heap as heap_kind}
+use Rattle.pool_slots.specs.Plans.{queues_for}
 use Rattle.std.specs.Prelude.{◌==◌, nat_lt, if◌then◌else◌, is_some}
 use Rattle.std.proofs.lemmas.Bool.{ltb-true, ltb-false, eqb-true, eqb-false, and_parts}
 use Rattle.std.proofs.lemmas.List.{nil_from_length}
 use Rattle.std.proofs.lemmas.List.Elements.{All-nil, All-head, All-tail, All-same}
 use Rattle.pool_pages.specs.MakerTold.{MakerTold}
-use Rattle.pool_limits.specs.LimiterTold.{LimiterTold}
+use Rattle.pool_alloc.specs.PartyTold.{PartyTold}
 use Rattle.pool_slots.specs.SlotQueues.{Queue}
 use Rattle.pool_slots.proofs.SlotRuns.{no_slots}
 use Rattle.pool_alloc.proofs.QueueCounts.{leased_first, tables_first}
@@ -16,7 +19,7 @@ use Rattle.pool_alloc.specs.Calls.{IsGrantOf, IfGranted}
 use Rattle.pool_alloc.specs.Leases.{Lease}
 use Rattle.pool_alloc.specs.PoolTables.{IsTableLease}
 use Rattle.pool_alloc.specs.TableLeases.{LeasedTable}
-use Rattle.pool_alloc.specs.Places.{Thing, leased_count, tables_count, instance_count, taken_count, memory_in, table_in, phase_tables, frame_tables, phase_stacks, stack_in, frame_instances, instances_for, queued_count, freed_count, kept_count, phase_count, frame_count, phase_instances, phase_memories, frame_memories, away_count}
+use Rattle.pool_alloc.specs.Places.{Thing, leased_count, tables_count, instance_count, taken_count, memory_in, table_in, phase_tables, frame_tables, phase_stacks, phase_heaps, stack_in, frame_instances, instances_for, queued_count, freed_count, kept_count, phase_count, frame_count, phase_instances, phase_memories, frame_memories, away_count}
 use Rattle.pool_alloc.specs.Objects.{objects_in, objects_wanted, no_objects, slot_of_object}
 use Rattle.pool_alloc.specs.Reserved.{Reserved}
 use Rattle.pool_alloc.specs.declared.frame.Object.{Object}
@@ -24,10 +27,10 @@ use Rattle.pool_alloc.specs.declared.frame.Object.TheVariants.{Memory, Table}
 use Rattle.pool_alloc.specs.declared.lease.InstanceLease.{InstanceLease}
 use Rattle.pool_alloc.specs.Searches.{AreFull, AreEmpty, IsSearchedBy, IsSearchedAt, IsSearched}
 use Rattle.pool_alloc.specs.Sound.{AreSupported, AreTablesSupported, IsLocal, IsLeaseOf, IsObjectOf, AreLeasesOf, AreOfOneKind, IsCore, IsFrame, IsToGrant, Aims, HasNoneWaiting, IsAtRest, IsAiming, IsAllocating, IsReturning, IsShapedAt, AreBegun, IsFreedOf}
-use Rattle.pool_alloc.specs.Stages.{Progress, untested, uncounted, admitted, seeks_stack, Stage, no_call, keys, asks, returning, refusing, progress_by, stage_by, stage_at, stage_of, Follows, Goes, tests_component, counts_component, purging, reserving, releasing}
-use Rattle.pool_alloc.specs.Steps.{memories_wanted, images_wanted, tables_wanted, stacks_wanted, kind_next, allocator_for, queues_searched}
-use Rattle.pool_alloc.specs.Stepping.{count_granted, grant_count, grant_instances, grant_memories, grant_tables, grant_stacks, is_idle}
-use Rattle.pool_alloc.specs.Turns.{Turn, goes, ends, next, flush, search, Row, Left, After, is_granting, failing, returned_next, all_returned, answer_of, next_by, is_flushed, after, finished, stepped, gone_to, stays}
+use Rattle.pool_alloc.specs.Stages.{Progress, untested, uncounted, admitted, seeks_stack, tests_heap, seeks_heap, counts_heap, Stage, no_call, keys, asks, returning, refusing, progress_by, stage_by, stage_at, stage_of, Follows, Goes, tests_component, counts_component, purging, reserving, releasing}
+use Rattle.pool_alloc.specs.Steps.{memories_wanted, images_wanted, tables_wanted, stacks_wanted, IsForInstance, kind_next, allocator_for, queues_searched, queues_next}
+use Rattle.pool_alloc.specs.Stepping.{count_granted, grant_count, grant_instances, grant_memories, grant_tables, grant_stacks, grant_heaps, is_idle}
+use Rattle.pool_alloc.specs.Turns.{Turn, goes, ends, next, flush, search, Row, Left, After, is_granting, failing, returned_next, all_returned, answer_of, next_by, is_flushed, after, finished, stepped, gone_to, stays, ends_with}
 use Rattle.pool_alloc.specs.declared.pool_core.PoolCore.{PoolCore}
 use Rattle.pool_alloc.specs.declared.pool_core.Settings.{Settings}
 use Rattle.pool_alloc.specs.declared.frame.Ending.{Ending}
@@ -35,9 +38,9 @@ use Rattle.pool_alloc.specs.declared.frame.Ending.TheVariants.{Granted as grante
 use Rattle.pool_alloc.specs.declared.frame.Frame.{Frame}
 use Rattle.pool_alloc.specs.declared.frame.FreedSlot.{FreedSlot}
 use Rattle.pool_alloc.specs.declared.frame.Grant.{Grant}
-use Rattle.pool_alloc.specs.declared.frame.Grant.TheVariants.{Instance, Stack, Component}
+use Rattle.pool_alloc.specs.declared.frame.Grant.TheVariants.{Instance, Stack, Heap, Component}
 use Rattle.pool_alloc.specs.declared.frame.Asked.{Asked}
-use Rattle.pool_alloc.specs.declared.frame.Asked.TheVariants.{Stack as stack_asked}
+use Rattle.pool_alloc.specs.declared.frame.Asked.TheVariants.{Stack as stack_asked, Heap as heap_asked}
 use Rattle.pool_alloc.specs.declared.frame.Outcome.{Outcome}
 use Rattle.pool_alloc.specs.declared.frame.Outcome.TheVariants as answer
 use Rattle.pool_alloc.specs.declared.frame.Phase.{Phase}
@@ -63,13 +66,21 @@ pub record IsHeld {P : Type 0} (maker : MakerTold) (s : Settings) (plan : Plan) 
   pub freed_order : AreOfOneKind freed.items
   pub objects : AreLeasesOf maker s plan lease
 
--- what a step has in hand: things, and how many instances, memories, tables and stacks are counted
+-- what a step has in hand: things, and how many instances, memories, tables, stacks and heaps are counted
 pub record Hand : Type 0 where
   pub things : Thing → ℕ
   pub instances : ℕ
   pub memories : ℕ
   pub tables : ℕ
   pub stacks : ℕ
+  pub heaps : ℕ
+
+-- no search goes through more queues than that for a memory
+pub queues_few : (plan : Plan) (kind : SlotKind) → queues_for plan kind ≤ queues_searched plan
+queues_few plan memory_kind = omega arith
+queues_few plan table_kind = omega arith
+queues_few plan stack_kind = omega arith
+queues_few plan heap_kind = omega arith
 
 -- A call that gives back is at one stage, however much it has.
 pub stage_still : (asked : Asked) (e : Ending) (m n : ℕ) → is_granting e ≡ false → stage_by asked e m ≡ stage_by asked e n
@@ -77,25 +88,33 @@ stage_still asked granted m n e = absurd cc
 stage_still asked returned m n e = refl
 stage_still asked (refused x) m n e = refl
 
--- a call that isn't for a stack counts its instance, and is admitted with it
-pub counts_one : (asked : Asked) (n : ℕ) → stacks_wanted asked ≡ 0 → instances_for asked n ≡ n
-counts_one stack_asked n none = absurd (omega (arith, none))
-counts_one asked n none = refl
+-- a call that is for neither a stack nor a heap counts its instance, and is admitted with it
+pub counts_one : (asked : Asked) (n : ℕ) → IsForInstance asked → instances_for asked n ≡ n
+counts_one stack_asked n one = absurd (omega (arith, one.no_stack))
+counts_one (heap_asked ty) n one = absurd (omega (arith, one.no_heap))
+counts_one asked n one = refl
 
 pub counts_none : (asked : Asked) → instances_for asked 0 ≡ 0
 counts_none stack_asked = refl
+counts_none (heap_asked ty) = refl
 counts_none asked = refl
 
-pub is_admitted : (asked : Asked) (n : ℕ) → stacks_wanted asked ≡ 0 → progress_by asked n ≡ admitted n
-is_admitted stack_asked n none = absurd (omega (arith, none))
-is_admitted asked n none = refl
+pub is_admitted : (asked : Asked) (n : ℕ) → IsForInstance asked → progress_by asked n ≡ admitted n
+is_admitted stack_asked n one = absurd (omega (arith, one.no_stack))
+is_admitted (heap_asked ty) n one = absurd (omega (arith, one.no_heap))
+is_admitted asked n one = refl
 
--- a call for a stack may end where its instance isn't asked for
-abbrev pub MayEnd : Stage → Type 0
-MayEnd (asks uncounted) = ⊥
-MayEnd (asks (admitted n)) = ⊥
-MayEnd counts_component = ⊥
-MayEnd _ = Unit {0}
+-- A call that counts no instance is for a stack or a heap. It may end at a stage of such a call, with no object left; one for
+-- a heap that is refused has no memory for it yet.
+abbrev pub CountsNone : Asked → Type 0
+CountsNone asked = instances_for asked 1 ≡ 0
+
+abbrev pub MayEnd : ℕ → Stage → Type 0
+MayEnd objects (asks uncounted) = ⊥
+MayEnd objects (asks (admitted n)) = ⊥
+MayEnd objects (asks (seeks_heap n)) = objects ≡ 0 → n ≡ 0
+MayEnd objects counts_component = ⊥
+MayEnd objects _ = Unit {0}
 
 -- nothing is granted yet of a request for a stack
 pub none_for_stack : {P : Type 0} (s : Settings) (plan : Plan) (asked : Asked) (queues : ℕ) (objects : InstanceLease P) → IsToGrant s plan asked queues objects → asked ≡ stack_asked → objects_in objects ≡ 0
@@ -113,45 +132,55 @@ returns_few : {P : Type 0} (asked : Asked) (z : PoolSizes) (objects : InstanceLe
 returns_few stack_asked z objects none = let no : objects_in objects * give_back_bound z ≡ 0 * give_back_bound z = ap (λ (i : ℕ). i * give_back_bound z) (none refl) in omega (arith, no)
 returns_few asked z objects none = omega (arith, one_more (objects_in objects + 1) (objects_in objects) (give_back_bound z) refl)
 
-module _ {P : Type 0} where
+module _ {P H : Type 0} where
   -- a frame in a phase
-  abbrev pub in_phase : Phase P → Frame P → Frame P
+  abbrev pub in_phase : Phase P H → Frame P H → Frame P H
   in_phase phase f = record f { phase = phase }
 
-  abbrev pub Held : MakerTold → Settings → Plan → Frame P → Type 0
+  abbrev pub Held : MakerTold → Settings → Plan → Frame P H → Type 0
   Held maker s plan f = IsHeld maker s plan f.stripe f.local f.freed f.objects
 
-  pub held_of : (maker : MakerTold) (s : Settings) (plan : Plan) (f : Frame P) → IsFrame maker s plan f → Held maker s plan f
+  pub held_of : (maker : MakerTold) (s : Settings) (plan : Plan) (f : Frame P H) → IsFrame maker s plan f → Held maker s plan f
   held_of maker s plan f frame = record { stripe = frame.stripe; queue = frame.queue; freed_room = frame.freed_room; freed_each = frame.freed_each; freed_order = frame.freed_order; objects = frame.objects }
 
-  pub frame_of : (maker : MakerTold) (s : Settings) (plan : Plan) (f : Frame P) → Held maker s plan f → IsShapedAt maker s plan f.phase f → IsFrame maker s plan f
+  pub frame_of : (maker : MakerTold) (s : Settings) (plan : Plan) (f : Frame P H) → Held maker s plan f → IsShapedAt maker s plan f.phase f → IsFrame maker s plan f
   frame_of maker s plan f held shape = record { stripe = held.stripe; queue = held.queue; freed_room = held.freed_room; freed_each = held.freed_each; freed_order = held.freed_order; objects = held.objects; shape = shape }
 
+  -- nothing waits once all is flushed
+  pub flushed : (maker : MakerTold) (s : Settings) (plan : Plan) (f : Frame P H) → Held maker s plan f → is_flushed f ≡ true → HasNoneWaiting f
+  flushed maker s plan f held done =
+      let both = and_parts (length f.local.slots == 0) (length f.freed.items == 0) done in
+      let none : f.local.slots ≡ [] = empty_length f.local.slots both.0 in
+      record { no_ranges = no_slots f.local.ranges f.local.slots none held.queue.owners; no_slots = none; none_freed = empty_length f.freed.items both.1 }
+
   -- what a frame has but for its next step
-  abbrev pub listed_count : Thing → Frame P → ℕ
+  abbrev pub listed_count : Thing → Frame P H → ℕ
   listed_count t f = instance_count t f.objects + queued_count t f.local.slots + freed_count t f.freed.items
 
   -- what a turn has in hand
-  abbrev pub hand : Turn P → Hand
-  hand (goes p) = record { things = λ t. phase_count t p; instances = phase_instances p; memories = phase_memories p; tables = phase_tables p; stacks = phase_stacks p }
-  hand (ends o) = record { things = λ t. count_granted (grant_count t) (Some o); instances = count_granted grant_instances (Some o); memories = count_granted grant_memories (Some o); tables = count_granted grant_tables (Some o); stacks = count_granted grant_stacks (Some o) }
-  hand _ = record { things = λ t. 0; instances = 1; memories = 0; tables = 0; stacks = 0 }
+  abbrev pub hand : Turn P H → Hand
+  hand (goes p) = record { things = λ t. phase_count t p; instances = phase_instances p; memories = phase_memories p; tables = phase_tables p; stacks = phase_stacks p; heaps = phase_heaps p }
+  hand (ends o) = record { things = λ t. count_granted (grant_count t) (Some o); instances = count_granted grant_instances (Some o); memories = count_granted grant_memories (Some o); tables = count_granted grant_tables (Some o); stacks = count_granted grant_stacks (Some o); heaps = count_granted grant_heaps (Some o) }
+  hand _ = record { things = λ t. 0; instances = 1; memories = 0; tables = 0; stacks = 0; heaps = 0 }
 
+module _ {P H : Type 0} where
   -- no grant is answered by an ending
-  pub none_granted : (Q : _) (e : Ending) → IfGranted {P = P} Q (Some (answer_of e))
+  pub none_granted : (Q : _) (e : Ending) → IfGranted {P = P} {H = H} Q (Some (answer_of e))
   none_granted Q granted = tt
   none_granted Q returned = tt
   none_granted Q (refused x) = tt
 
-  pub none_counted : (of : Grant P → ℕ) (e : Ending) → count_granted of (Some (answer_of e)) ≡ 0
+module _ {P H : Type 0} where
+  pub none_counted : (of : Grant P H → ℕ) (e : Ending) → count_granted of (Some (answer_of e)) ≡ 0
   none_counted of granted = refl
   none_counted of returned = refl
   none_counted of (refused x) = refl
 
   -- what is granted is counted as it was asked for
-  ended_instances : (maker : MakerTold) (s : Settings) (plan : Plan) (asked : Asked) (o : Outcome P) → IfGranted (IsGrantOf maker s plan asked) (Some o) → instances_for asked (count_granted grant_instances (Some o)) ≡ count_granted grant_instances (Some o)
+  ended_instances : (maker : MakerTold) (s : Settings) (plan : Plan) (asked : Asked) (o : Outcome P H) → IfGranted (IsGrantOf maker s plan asked) (Some o) → instances_for asked (count_granted grant_instances (Some o)) ≡ count_granted grant_instances (Some o)
   ended_instances maker s plan asked (answer.Granted (Instance lease)) is = counts_one asked 1 is.4
   ended_instances maker s plan asked (answer.Granted (Stack lease)) is = counts_none asked
+  ended_instances maker s plan asked (answer.Granted (Heap lease memory)) is = counts_none asked
   ended_instances maker s plan asked (answer.Granted Component) is = counts_none asked
   ended_instances maker s plan asked answer.Key is = counts_none asked
   ended_instances maker s plan asked answer.Returned is = counts_none asked
@@ -160,7 +189,7 @@ module _ {P : Type 0} where
   ended_instances maker s plan asked (answer.Refused x) is = counts_none asked
 
   -- the steps that a turn leaves
-  abbrev pub turn_steps : PoolSizes → Turn P → Frame P → ℕ
+  abbrev pub turn_steps : PoolSizes → Turn P H → Frame P H → ℕ
   turn_steps z (goes p) f = steps_at z p (gone_to p f)
   turn_steps z stays f = 0
   turn_steps z (ends o) f = 0
@@ -169,7 +198,7 @@ module _ {P : Type 0} where
   turn_steps z (search queues x) f = queues_left z f.queues f.asked f.objects
 
   -- how far a search is that goes on so
-  abbrev pub TurnSearched : PoolCore P → Frame P → Turn P → Type 0
+  abbrev pub TurnSearched : PoolCore P H → Frame P H → Turn P H → Type 0
   TurnSearched c f (goes p) = IsSearchedAt p c (gone_to p f)
   TurnSearched c f stays = Unit {0}
   TurnSearched c f (ends o) = Unit {0}
@@ -177,21 +206,22 @@ module _ {P : Type 0} where
   TurnSearched c f flush = IsSearchedBy f.ending (AreEmpty f.queues c f)
   TurnSearched c f (search queues x) = AreEmpty f.queues c f × AreFull (allocator_for c.plan f).shards c f
 
--- A step of a pool d and a frame e, over a limiter.
-module _ {P : Type 0} (maker : MakerTold) (old new : LimiterTold) (d : PoolCore P) (e : Frame P) where
-  abbrev pub GoesNow : Stage → Option (Outcome P) → Type 0
+-- A step of a pool d and a frame e, over a limiter and a maker of heaps.
+module _ {P H : Type 0} (maker : MakerTold) (old new : PartyTold) (d : PoolCore P H) (e : Frame P H) where
+  abbrev pub GoesNow : Stage → Option (Outcome P H) → Type 0
   GoesNow stage outcome = Goes maker old new d e (stage_of e) stage outcome
 
   -- The sums are those of the step's beginning, with what is in hand.
-  pub record Even (h : Hand) (c : PoolCore P) (f : Frame P) : Type 0 where
+  pub record Even (h : Hand) (c : PoolCore P H) (f : Frame P H) : Type 0 where
     pub places : (t : Thing) → kept_count t c + (listed_count t f + h.things t) + away_count t d ≡ kept_count t d + frame_count t e + away_count t c
     pub instances : c.counters.core_instances + frame_instances e ≡ d.counters.core_instances + instances_for e.asked h.instances
     pub memories : c.counters.memories + frame_memories e ≡ d.counters.memories + (length f.objects.memories.items + h.memories)
     pub tables : c.counters.tables + frame_tables e ≡ d.counters.tables + (length f.objects.tables.items + h.tables)
     pub stacks : c.counters.stacks + phase_stacks e.phase ≡ d.counters.stacks + h.stacks
+    pub heaps : c.counters.gc_heaps + phase_heaps e.phase ≡ d.counters.gc_heaps + h.heaps
 
   -- what is there, whatever comes next
-  pub record Kept (c : PoolCore P) (f : Frame P) : Type 0 where
+  pub record Kept (c : PoolCore P H) (f : Frame P H) : Type 0 where
     pub core : IsCore maker c
     pub held : Held maker c.settings c.plan f
     pub asked : f.asked ≡ e.asked
@@ -201,18 +231,19 @@ module _ {P : Type 0} (maker : MakerTold) (old new : LimiterTold) (d : PoolCore 
     pub memories_by_one : c.counters.memories ≤ d.counters.memories + 1
     pub tables_by_one : c.counters.tables ≤ d.counters.tables + 1
     pub stacks_by_one : c.counters.stacks ≤ d.counters.stacks + 1
+    pub heaps_by_one : c.counters.gc_heaps ≤ d.counters.gc_heaps + 1
 
   -- what a turn wants of the frame
-  abbrev pub TurnShape : PoolCore P → Frame P → Turn P → Type 0
+  abbrev pub TurnShape : PoolCore P H → Frame P H → Turn P H → Type 0
   TurnShape c f (goes p) = (is_idle p ≡ false) × IsShapedAt maker c.settings c.plan p (gone_to p f)
   TurnShape c f stays = ⊥
   TurnShape c f (ends o) = IsAtRest f × IfGranted (IsGrantOf maker c.settings c.plan e.asked) (Some o)
   TurnShape c f next = HasNoneWaiting f × IsAiming c.settings c.plan f
   TurnShape c f flush = IsAiming c.settings c.plan f
-  TurnShape c f (search queues x) = (queues ≡ queues_searched c.plan) × HasNoneWaiting f × IsAllocating c.settings c.plan f
+  TurnShape c f (search queues x) = (queues ≡ queues_next c.plan f) × HasNoneWaiting f × IsAllocating c.settings c.plan f
 
   -- and takes the call on so
-  abbrev pub TurnGoes : PoolCore P → Frame P → Turn P → Type 0
+  abbrev pub TurnGoes : PoolCore P H → Frame P H → Turn P H → Type 0
   TurnGoes c f (goes p) = GoesNow (stage_at p f.asked f.ending (objects_in f.objects)) None
   TurnGoes c f (ends o) = GoesNow no_call (Some o)
   TurnGoes c f stays = Unit {0}
@@ -221,7 +252,7 @@ module _ {P : Type 0} (maker : MakerTold) (old new : LimiterTold) (d : PoolCore 
   TurnGoes c f (search queues x) = GoesNow (stage_by f.asked f.ending (objects_in f.objects)) None × (queues ≤ f.queues → GoesNow (refusing x) None)
 
   -- what a row shows of what it leaves, before its turn
-  pub record Ready (c : PoolCore P) (f : Frame P) (t : Turn P) : Type 0 where
+  pub record Ready (c : PoolCore P H) (f : Frame P H) (t : Turn P H) : Type 0 where
     pub kept : Kept c f
     pub shape : TurnShape c f t
     pub even : Even (hand t) c f
@@ -229,11 +260,11 @@ module _ {P : Type 0} (maker : MakerTold) (old new : LimiterTold) (d : PoolCore 
     pub way : TurnGoes c f t
     pub searched : IsSearched d e → TurnSearched c f t
 
-  abbrev pub IsReadyRow : Row (PoolCore P) P → Type 0
+  abbrev pub IsReadyRow : Row (PoolCore P H) P H → Type 0
   IsReadyRow r = Ready r.part r.frame r.turn
 
   -- the same of what a step leaves
-  pub record RowOk (a : After P) : Type 0 where
+  pub record RowOk (a : After P H) : Type 0 where
     pub core : IsCore maker a.core
     pub frame : IsFrame maker a.core.settings a.core.plan a.frame
     pub granted_is : IfGranted (IsGrantOf maker a.core.settings a.core.plan e.asked) a.outcome
@@ -242,6 +273,7 @@ module _ {P : Type 0} (maker : MakerTold) (old new : LimiterTold) (d : PoolCore 
     pub memories : a.core.counters.memories + frame_memories e ≡ d.counters.memories + (frame_memories a.frame + count_granted grant_memories a.outcome)
     pub tables : a.core.counters.tables + frame_tables e ≡ d.counters.tables + (frame_tables a.frame + count_granted grant_tables a.outcome)
     pub stacks : a.core.counters.stacks + phase_stacks e.phase ≡ d.counters.stacks + (phase_stacks a.frame.phase + count_granted grant_stacks a.outcome)
+    pub heaps : a.core.counters.gc_heaps + phase_heaps e.phase ≡ d.counters.gc_heaps + (phase_heaps a.frame.phase + count_granted grant_heaps a.outcome)
     pub settings : a.core.settings ≡ d.settings
     pub plan : a.core.plan ≡ d.plan
     pub answer : is_some a.outcome ≡ is_idle a.frame.phase
@@ -249,20 +281,21 @@ module _ {P : Type 0} (maker : MakerTold) (old new : LimiterTold) (d : PoolCore 
     pub memories_by_one : a.core.counters.memories ≤ d.counters.memories + 1
     pub tables_by_one : a.core.counters.tables ≤ d.counters.tables + 1
     pub stacks_by_one : a.core.counters.stacks ≤ d.counters.stacks + 1
+    pub heaps_by_one : a.core.counters.gc_heaps ≤ d.counters.gc_heaps + 1
     pub asked : is_idle a.frame.phase ≡ false → a.frame.asked ≡ e.asked
     pub fewer : steps_at (sizes_of d.settings d.plan) a.frame.phase a.frame + 1 ≤ steps_left d e
     pub way : GoesNow (stage_of a.frame) a.outcome
     pub searched : IsSearched d e → IsSearched a.core a.frame
 
-  pub either_ready : (c : PoolCore P) (f : Frame P) (b : Bool) (t u : Turn P) → (b ≡ true → Ready c f t) → (b ≡ false → Ready c f u) → Ready c f (if b then t else u)
+  pub either_ready : (c : PoolCore P H) (f : Frame P H) (b : Bool) (t u : Turn P H) → (b ≡ true → Ready c f t) → (b ≡ false → Ready c f u) → Ready c f (if b then t else u)
   either_ready c f true t u one other = one refl
   either_ready c f false t u one other = other refl
 
-  either_ok : (c : PoolCore P) (b : Bool) (x y : Left P) → (b ≡ true → RowOk (finished c x)) → (b ≡ false → RowOk (finished c y)) → RowOk (finished c (if b then x else y))
+  either_ok : (c : PoolCore P H) (b : Bool) (x y : Left P H) → (b ≡ true → RowOk (finished c x)) → (b ≡ false → RowOk (finished c y)) → RowOk (finished c (if b then x else y))
   either_ok c true x y one other = one refl
   either_ok c false x y one other = other refl
 
-  pub goes_ok : (c : PoolCore P) (f : Frame P) (p : Phase P) → Ready c f (goes p) → RowOk (finished c (after f (goes p)))
+  pub goes_ok : (c : PoolCore P H) (f : Frame P H) (p : Phase P H) → Ready c f (goes p) → RowOk (finished c (after f (goes p)))
   goes_ok c f p r =
       record {
         core = r.kept.core;
@@ -273,6 +306,7 @@ module _ {P : Type 0} (maker : MakerTold) (old new : LimiterTold) (d : PoolCore 
         memories = omega (arith, r.even.memories);
         tables = omega (arith, r.even.tables);
         stacks = omega (arith, r.even.stacks);
+        heaps = omega (arith, r.even.heaps);
         settings = r.kept.settings;
         plan = r.kept.plan;
         answer = sym r.shape.0;
@@ -280,13 +314,14 @@ module _ {P : Type 0} (maker : MakerTold) (old new : LimiterTold) (d : PoolCore 
         memories_by_one = r.kept.memories_by_one;
         tables_by_one = r.kept.tables_by_one;
         stacks_by_one = r.kept.stacks_by_one;
+        heaps_by_one = r.kept.heaps_by_one;
         asked = λ on. r.kept.asked;
         fewer = r.fewer;
         way = r.way;
         searched = r.searched;
       }
 
-  pub ends_ok : (c : PoolCore P) (f : Frame P) (o : Outcome P) → Ready c f (ends o) → RowOk (finished c (after f (ends o)))
+  pub ends_ok : (c : PoolCore P H) (f : Frame P H) (o : Outcome P H) → Ready c f (ends o) → RowOk (finished c (after f (ends o)))
   ends_ok c f o r =
       record {
         core = r.kept.core;
@@ -297,6 +332,7 @@ module _ {P : Type 0} (maker : MakerTold) (old new : LimiterTold) (d : PoolCore 
         memories = omega (arith, r.even.memories);
         tables = omega (arith, r.even.tables);
         stacks = omega (arith, r.even.stacks);
+        heaps = omega (arith, r.even.heaps);
         settings = r.kept.settings;
         plan = r.kept.plan;
         answer = refl;
@@ -304,6 +340,7 @@ module _ {P : Type 0} (maker : MakerTold) (old new : LimiterTold) (d : PoolCore 
         memories_by_one = r.kept.memories_by_one;
         tables_by_one = r.kept.tables_by_one;
         stacks_by_one = r.kept.stacks_by_one;
+        heaps_by_one = r.kept.heaps_by_one;
         asked = λ on. absurd cc;
         fewer = r.fewer;
         way = r.way;
@@ -311,17 +348,17 @@ module _ {P : Type 0} (maker : MakerTold) (old new : LimiterTold) (d : PoolCore 
       }
 
   -- what was granted so far is given back, or is still to be
-  abbrev GoesBack : PoolCore P → Frame P → Type 0
-  GoesBack c f = Kept c f × HasNoneWaiting f × IsReturning f × Even (hand {P = P} next) c f × (returns_left (sizes_of d.settings d.plan) f.objects + 1 ≤ steps_left d e) × GoesNow (stage_by f.asked f.ending (objects_in f.objects)) None
+  abbrev GoesBack : PoolCore P H → Frame P H → Type 0
+  GoesBack c f = Kept c f × HasNoneWaiting f × IsReturning f × Even (hand {P = P} {H = H} next) c f × (returns_left (sizes_of d.settings d.plan) f.objects + 1 ≤ steps_left d e) × GoesNow (stage_by f.asked f.ending (objects_in f.objects)) None
 
   -- with one object less
-  less_ok : (c : PoolCore P) (f : Frame P) (objects : InstanceLease P) (object : Object P) → GoesBack c f → objects_in f.objects ≡ objects_in objects + 1 → AreLeasesOf maker c.settings c.plan objects → IsObjectOf maker c.settings c.plan object
+  less_ok : (c : PoolCore P H) (f : Frame P H) (objects : InstanceLease P) (object : Object P) → GoesBack c f → objects_in f.objects ≡ objects_in objects + 1 → AreLeasesOf maker c.settings c.plan objects → IsObjectOf maker c.settings c.plan object
       → ((t : Thing) → instance_count t f.objects ≡ instance_count t objects + taken_count t (slot_of_object object)) → length f.objects.memories.items ≡ length objects.memories.items + memory_in object → length f.objects.tables.items ≡ length objects.tables.items + table_in object → stack_in object ≡ 0
       → RowOk (finished c (after (record f { objects = objects }) (goes (UncountObject object))))
   less_ok c f objects object back long leases is counts memories tables stacks =
       let kept : Kept c f = back.0 in
       let returning : IsReturning f = back.2 in
-      let even : Even (hand {P = P} next) c f = back.3 in
+      let even : Even (hand {P = P} {H = H} next) c f = back.3 in
       let W : Stage → Type 0 = λ stage. GoesNow stage None in
       goes_ok c (record f { objects = objects }) (UncountObject object)
       (record {
@@ -335,66 +372,78 @@ module _ {P : Type 0} (maker : MakerTold) (old new : LimiterTold) (d : PoolCore 
           memories_by_one = kept.memories_by_one;
           tables_by_one = kept.tables_by_one;
           stacks_by_one = kept.stacks_by_one;
+          heaps_by_one = kept.heaps_by_one;
         };
         shape = (refl, (back.1, returning, is));
-        even = record { places = λ t. omega (arith, even.places t, counts t); instances = even.instances; memories = omega (arith, even.memories, memories); tables = omega (arith, even.tables, tables); stacks = omega (arith, even.stacks, stacks) };
+        even = record { places = λ t. omega (arith, even.places t, counts t); instances = even.instances; memories = omega (arith, even.memories, memories); tables = omega (arith, even.tables, tables); stacks = omega (arith, even.stacks, stacks); heaps = omega (arith, even.heaps, stacks) };
         fewer = omega (arith, back.4, one_more (objects_in f.objects) (objects_in objects) (give_back_bound (sizes_of d.settings d.plan)) long);
         way = subst W (stage_still f.asked f.ending (objects_in f.objects) (objects_in objects) returning) back.5;
         searched = λ s. tt;
       })
 
   -- where none is left
-  ends_stack : (s : Stage) (ending : Ending) (n : ℕ) → is_granting ending ≡ false → MayEnd s → Goes maker old new d e s (stage_by stack_asked ending n) None → Goes maker old new d e s no_call (Some (answer_of ending))
-  ends_stack s granted n back may way = absurd cc
-  ends_stack returning returned n back may way = tt
-  ends_stack no_call returned n back may way = absurd way
-  ends_stack keys returned n back may way = absurd way
-  ends_stack (asks p) returned n back may way = absurd way
-  ends_stack (tests_component info) returned n back may way = absurd way
-  ends_stack counts_component returned n back may way = absurd way
-  ends_stack (refusing y) returned n back may way = absurd way
-  ends_stack purging returned n back may way = absurd way
-  ends_stack reserving returned n back may way = absurd way
-  ends_stack releasing returned n back may way = absurd way
-  ends_stack purging (refused x) n back may way = absurd way
-  ends_stack reserving (refused x) n back may way = absurd way
-  ends_stack releasing (refused x) n back may way = absurd way
-  ends_stack returning (refused x) n back may way = absurd way
-  ends_stack no_call (refused x) n back may way = absurd way
-  ends_stack keys (refused x) n back may way = absurd way
-  ends_stack (tests_component info) (refused x) n back may way = absurd way
-  ends_stack counts_component (refused x) n back may way = absurd may
-  ends_stack (asks untested) (refused x) n back may way = way
-  ends_stack (asks uncounted) (refused x) n back may way = absurd may
-  ends_stack (asks (admitted m)) (refused x) n back may way = absurd may
-  ends_stack (asks seeks_stack) (refused x) n back may way = way
-  ends_stack (refusing y) (refused x) n back may way = way
+  ends_all : (s : Stage) (asked : Asked) (ending : Ending) (n : ℕ) → is_granting ending ≡ false → n ≡ 0 → MayEnd n s → Goes maker old new d e s (stage_by asked ending n) None → Goes maker old new d e s no_call (Some (answer_of ending))
+  ends_all s asked granted n back none may way = absurd cc
+  ends_all returning asked returned n back none may way = tt
+  ends_all no_call asked returned n back none may way = absurd way
+  ends_all keys asked returned n back none may way = absurd way
+  ends_all (asks p) asked returned n back none may way = absurd way
+  ends_all (tests_component info) asked returned n back none may way = absurd way
+  ends_all counts_component asked returned n back none may way = absurd way
+  ends_all (refusing y) asked returned n back none may way = absurd way
+  ends_all purging asked returned n back none may way = absurd way
+  ends_all reserving asked returned n back none may way = absurd way
+  ends_all releasing asked returned n back none may way = absurd way
+  ends_all purging asked (refused x) n back none may way = absurd way
+  ends_all reserving asked (refused x) n back none may way = absurd way
+  ends_all releasing asked (refused x) n back none may way = absurd way
+  ends_all returning asked (refused x) n back none may way = absurd way
+  ends_all no_call asked (refused x) n back none may way = absurd way
+  ends_all keys asked (refused x) n back none may way = absurd way
+  ends_all (tests_component info) asked (refused x) n back none may way = absurd way
+  ends_all counts_component asked (refused x) n back none may way = absurd may
+  ends_all (asks untested) asked (refused x) n back none may way = way
+  ends_all (asks uncounted) asked (refused x) n back none may way = absurd may
+  ends_all (asks (admitted m)) asked (refused x) n back none may way = absurd may
+  ends_all (asks seeks_stack) asked (refused x) n back none may way = way
+  ends_all (asks tests_heap) asked (refused x) n back none may way = way
+  ends_all (asks (seeks_heap m)) asked (refused x) n back none may way = (way, may none)
+  ends_all (asks counts_heap) asked (refused x) n back none may way = absurd way
+  ends_all (refusing y) asked (refused x) n back none may way = way
 
-  all_ok : (asked : Asked) (c : PoolCore P) (f : Frame P) → f.asked ≡ asked → IsAtRest f → GoesBack c f → (asked ≡ stack_asked → MayEnd (stage_of e)) → RowOk (finished c (all_returned asked f))
-  all_ok stack_asked c f is rest back may =
+  -- the call ends, as it counts no instance
+  none_left_ok : (asked : Asked) (c : PoolCore P H) (f : Frame P H) → f.asked ≡ asked → CountsNone asked → IsAtRest f → GoesBack c f → (CountsNone e.asked → MayEnd (objects_in f.objects) (stage_of e)) → RowOk (finished c (ends_with f (answer_of f.ending)))
+  none_left_ok asked c f is none rest back may =
       let kept : Kept c f = back.0 in
-      let asked : e.asked ≡ stack_asked = sym kept.asked ∙ is in
-      let W : Asked → Type 0 = λ a. GoesNow (stage_by a f.ending (objects_in f.objects)) None in
+      let asked_is : e.asked ≡ asked = sym kept.asked ∙ is in
+      let N : Asked → Type 0 = λ a. CountsNone a in
+      let counts : CountsNone e.asked = subst N (sym asked_is) none in
+      let empty : objects_in f.objects ≡ 0 = omega (arith, ap (length {A = Lease}) rest.no_memories, ap (length {A = LeasedTable}) rest.no_tables) in
       ends_ok c f (answer_of f.ending) (record {
         kept = kept;
         shape = (rest, none_granted (IsGrantOf maker c.settings c.plan e.asked) f.ending);
         even = record {
-          places = λ t. omega (arith, back.3.places t, none_counted {P = P} (grant_count t) f.ending);
-          instances = omega (arith, back.3.instances, ap (λ (a : Asked). instances_for a 1) asked, ap (λ (a : Asked). instances_for a (count_granted {P = P} grant_instances (Some (answer_of f.ending)))) asked);
-          memories = omega (arith, back.3.memories, none_counted {P = P} grant_memories f.ending);
-          tables = omega (arith, back.3.tables, none_counted {P = P} grant_tables f.ending);
-          stacks = omega (arith, back.3.stacks, none_counted {P = P} grant_stacks f.ending);
+          places = λ t. omega (arith, back.3.places t, none_counted {P = P} {H = H} (grant_count t) f.ending);
+          instances = omega (arith, back.3.instances, counts, counts_none e.asked, ap (instances_for e.asked) (none_counted {P = P} {H = H} grant_instances f.ending));
+          memories = omega (arith, back.3.memories, none_counted {P = P} {H = H} grant_memories f.ending);
+          tables = omega (arith, back.3.tables, none_counted {P = P} {H = H} grant_tables f.ending);
+          stacks = omega (arith, back.3.stacks, none_counted {P = P} {H = H} grant_stacks f.ending);
+          heaps = omega (arith, back.3.heaps, none_counted {P = P} {H = H} grant_heaps f.ending);
         };
         fewer = omega (arith, back.4);
-        way = ends_stack (stage_of e) f.ending (objects_in f.objects) back.2 (may refl) (subst W is back.5);
+        way = ends_all (stage_of e) f.asked f.ending (objects_in f.objects) back.2 empty (may counts) back.5;
         searched = λ s. tt;
       })
-  all_ok asked c f is rest back may =
-      goes_ok c f UncountInstance (record { kept = back.0; shape = (refl, (rest, back.2, rw is refl)); even = back.3; fewer = omega (arith, back.4); way = back.5; searched = λ s. tt })
 
-  back_ok : (c : PoolCore P) (f : Frame P) (memories : List Lease) (tables : List LeasedTable) → f.objects.memories.items ≡ memories → f.objects.tables.items ≡ tables → GoesBack c f → (e.asked ≡ stack_asked → MayEnd (stage_of e)) → RowOk (finished c (returned_next memories tables f))
+  all_ok : (asked : Asked) (c : PoolCore P H) (f : Frame P H) → f.asked ≡ asked → IsAtRest f → GoesBack c f → (CountsNone e.asked → MayEnd (objects_in f.objects) (stage_of e)) → RowOk (finished c (all_returned asked f))
+  all_ok stack_asked c f is rest back may = none_left_ok stack_asked c f is refl rest back may
+  all_ok (heap_asked ty) c f is rest back may = none_left_ok (heap_asked ty) c f is refl rest back may
+  all_ok asked c f is rest back may =
+      goes_ok c f UncountInstance (record { kept = back.0; shape = (refl, (rest, back.2, rw is (record { no_stack = refl; no_heap = refl }))); even = back.3; fewer = omega (arith, back.4); way = back.5; searched = λ s. tt })
+
+  back_ok : (c : PoolCore P H) (f : Frame P H) (memories : List Lease) (tables : List LeasedTable) → f.objects.memories.items ≡ memories → f.objects.tables.items ≡ tables → GoesBack c f → (CountsNone e.asked → MayEnd (objects_in f.objects) (stage_of e)) → RowOk (finished c (returned_next memories tables f))
   back_ok c f [] [] none none_more back may =
-      all_ok f.asked c f refl (record { settled = back.1; no_memories = none; no_tables = none_more }) back (λ stack. may (sym back.0.asked ∙ stack))
+      all_ok f.asked c f refl (record { settled = back.1; no_memories = none; no_tables = none_more }) back may
   back_ok c f (lease ∷ rest) tables is is_more back may =
       let L : Lease → Type 0 = IsLeaseOf maker c.settings c.plan in
       let kept : Kept c f = back.0 in
@@ -424,7 +473,7 @@ module _ {P : Type 0} (maker : MakerTold) (old new : LimiterTold) (d : PoolCore 
   granted_way releasing n lease way is supported tables = absurd way
 
   -- the instance is whole: the call ends with it
-  whole_ready : (c : PoolCore P) (f : Frame P) → Kept c f → HasNoneWaiting f → IsToGrant c.settings c.plan f.asked f.queues f.objects → Even (hand {P = P} next) c f → 1 ≤ steps_left d e → GoesNow (asks (progress_by f.asked (objects_in f.objects))) None → objects_wanted f.asked ≤ objects_in f.objects → Ready c (record f { objects = no_objects }) (ends (answer.Granted (Instance f.objects)))
+  whole_ready : (c : PoolCore P H) (f : Frame P H) → Kept c f → HasNoneWaiting f → IsToGrant c.settings c.plan f.asked f.queues f.objects → Even (hand {P = P} {H = H} next) c f → 1 ≤ steps_left d e → GoesNow (asks (progress_by f.asked (objects_in f.objects))) None → objects_wanted f.asked ≤ objects_in f.objects → Ready c (record f { objects = no_objects }) (ends (answer.Granted (Instance f.objects)))
   whole_ready c f kept settled to_grant even fewer way all =
       let W : Asked → Type 0 = λ a. (length f.objects.memories.items ≡ length (memories_wanted a)) × (length f.objects.tables.items ≡ length (tables_wanted a)) in
       let B : Asked → Type 0 = λ a. AreBegun c.settings a f.objects in
@@ -432,8 +481,8 @@ module _ {P : Type 0} (maker : MakerTold) (old new : LimiterTold) (d : PoolCore 
       let supported : A d.settings e.asked = subst (A d.settings) kept.asked (subst (λ (s : Settings). A s f.asked) kept.settings to_grant.supported) in
       let T : Settings → Plan → Asked → Type 0 = λ s p a. AreTablesSupported s p.totals.table (tables_wanted a) in
       let tables : T d.settings d.plan e.asked = subst (T d.settings d.plan) kept.asked (subst (λ (p : Plan). T d.settings p f.asked) kept.plan (subst (λ (s : Settings). T s c.plan f.asked) kept.settings to_grant.tables)) in
-      let unstacked : stacks_wanted f.asked ≡ 0 = omega (arith, all, to_grant.few, to_grant.few_tables) in
-      let M : Asked → Type 0 = λ a. stacks_wanted a ≡ 0 in
+      let one : IsForInstance f.asked = record { no_stack = omega (arith, all, to_grant.few, to_grant.few_tables); no_heap = omega (arith, all, to_grant.few, to_grant.few_tables) } in
+      let here : IsForInstance e.asked = subst (λ (a : Asked). IsForInstance a) kept.asked one in
       let G : Progress → Type 0 = λ p. GoesNow (asks p) None in
       let long : W e.asked = subst W kept.asked (omega (arith, all, to_grant.few, to_grant.few_tables), omega (arith, all, to_grant.few, to_grant.few_tables)) in
       record {
@@ -447,15 +496,16 @@ module _ {P : Type 0} (maker : MakerTold) (old new : LimiterTold) (d : PoolCore 
           memories_by_one = kept.memories_by_one;
           tables_by_one = kept.tables_by_one;
           stacks_by_one = kept.stacks_by_one;
+          heaps_by_one = kept.heaps_by_one;
         };
-        shape = (record { settled = settled; no_memories = refl; no_tables = refl }, (kept.held.objects, long.0, subst B kept.asked to_grant.begun, long.1, subst M kept.asked unstacked));
-        even = record { places = λ t. omega (arith, even.places t); instances = even.instances; memories = omega (arith, even.memories); tables = omega (arith, even.tables); stacks = even.stacks };
+        shape = (record { settled = settled; no_memories = refl; no_tables = refl }, (kept.held.objects, long.0, subst B kept.asked to_grant.begun, long.1, here));
+        even = record { places = λ t. omega (arith, even.places t); instances = even.instances; memories = omega (arith, even.memories); tables = omega (arith, even.tables); stacks = even.stacks; heaps = even.heaps };
         fewer = omega (arith, fewer);
-        way = granted_way (stage_of e) (objects_in f.objects) f.objects (subst G (is_admitted f.asked (objects_in f.objects) unstacked) way) (omega (arith, long.0, long.1, subst M kept.asked unstacked)) supported tables;
+        way = granted_way (stage_of e) (objects_in f.objects) f.objects (subst G (is_admitted f.asked (objects_in f.objects) one) way) (omega (arith, long.0, long.1, here.no_stack, here.no_heap)) supported tables;
         searched = λ s. tt;
       }
 
-  next_ok : (c : PoolCore P) (f : Frame P) (ending : Ending) → f.ending ≡ ending → Ready c f next → (e.asked ≡ stack_asked → MayEnd (stage_of e)) → RowOk (finished c (next_by ending f))
+  next_ok : (c : PoolCore P H) (f : Frame P H) (ending : Ending) → f.ending ≡ ending → Ready c f next → (CountsNone e.asked → MayEnd (objects_in f.objects) (stage_of e)) → RowOk (finished c (next_by ending f))
   next_ok c f granted is r may =
       let z : PoolSizes = sizes_of d.settings d.plan in
       let A : Ending → Type 0 = λ x. Aims c.settings c.plan x f.asked f.queues f.objects in
@@ -483,35 +533,29 @@ module _ {P : Type 0} (maker : MakerTold) (old new : LimiterTold) (d : PoolCore 
       let N : Ending → Type 0 = λ x. next_left (sizes_of d.settings d.plan) x f.queues f.asked f.objects + 1 ≤ steps_left d e in
       back_ok c f f.objects.memories.items f.objects.tables.items refl refl (r.kept, r.shape.0, ap is_granting is, r.even, subst N is r.fewer, r.way) may
 
-  flushed : (c : PoolCore P) (f : Frame P) → Kept c f → is_flushed f ≡ true → HasNoneWaiting f
-  flushed c f kept done =
-      let both = and_parts (length f.local.slots == 0) (length f.freed.items == 0) done in
-      let none : f.local.slots ≡ [] = empty_length f.local.slots both.0 in
-      record { no_ranges = no_slots f.local.ranges f.local.slots none kept.held.queue.owners; no_slots = none; none_freed = empty_length f.freed.items both.1 }
-
   -- What a turn leaves is as the row shows.
-  pub after_ok : (c : PoolCore P) (f : Frame P) (t : Turn P) → Ready c f t → (e.asked ≡ stack_asked → MayEnd (stage_of e)) → RowOk (finished c (after f t))
+  pub after_ok : (c : PoolCore P H) (f : Frame P H) (t : Turn P H) → Ready c f t → (CountsNone e.asked → MayEnd (objects_in f.objects) (stage_of e)) → RowOk (finished c (after f t))
   after_ok c f (goes p) r may = goes_ok c f p r
   after_ok c f (ends o) r may = ends_ok c f o r
   after_ok c f stays r may = absurd r.shape
   after_ok c f next r may = next_ok c f f.ending refl r may
   after_ok c f flush r may =
       either_ok c (is_flushed f) _ _
-      (λ done. next_ok c f f.ending refl (record { kept = r.kept; shape = (flushed c f r.kept done, r.shape); even = r.even; fewer = omega (arith, r.fewer); way = r.way; searched = r.searched }) may)
+      (λ done. next_ok c f f.ending refl (record { kept = r.kept; shape = (flushed maker c.settings c.plan f r.kept.held done, r.shape); even = r.even; fewer = omega (arith, r.fewer); way = r.way; searched = r.searched }) may)
       (λ more. goes_ok c f Flush (record { kept = r.kept; shape = (refl, (r.shape, more)); even = r.even; fewer = r.fewer; way = r.way; searched = r.searched }))
   after_ok c f (search queues x) r may =
       either_ok c (nat_lt f.queues queues) _ _
-      (λ more. goes_ok c f TakeQueue (record { kept = r.kept; shape = (refl, (r.shape.1, r.shape.2, omega (arith, ltb-true _ _ more, r.shape.0))); even = r.even; fewer = r.fewer; way = r.way.0; searched = r.searched }))
+      (λ more. goes_ok c f TakeQueue (record { kept = r.kept; shape = (refl, (r.shape.1, r.shape.2, omega (arith, ltb-true _ _ more, r.shape.0, queues_few c.plan (kind_next f)))); even = r.even; fewer = r.fewer; way = r.way.0; searched = r.searched }))
       (λ last.
       let few : returns_left (sizes_of d.settings d.plan) f.objects ≤ 1 + objects_left (sizes_of d.settings d.plan) f.asked f.objects = returns_few f.asked (sizes_of d.settings d.plan) f.objects (λ stack. none_for_stack c.settings c.plan f.asked f.queues f.objects r.shape.2.to_grant stack) in
       back_ok c (failing x f) f.objects.memories.items f.objects.tables.items refl refl (
-        record { core = r.kept.core; held = r.kept.held; asked = r.kept.asked; settings = r.kept.settings; plan = r.kept.plan; instances_by_one = r.kept.instances_by_one; memories_by_one = r.kept.memories_by_one; tables_by_one = r.kept.tables_by_one; stacks_by_one = r.kept.stacks_by_one },
+        record { core = r.kept.core; held = r.kept.held; asked = r.kept.asked; settings = r.kept.settings; plan = r.kept.plan; instances_by_one = r.kept.instances_by_one; memories_by_one = r.kept.memories_by_one; tables_by_one = r.kept.tables_by_one; stacks_by_one = r.kept.stacks_by_one; heaps_by_one = r.kept.heaps_by_one },
         r.shape.1,
         refl,
-        record { places = r.even.places; instances = r.even.instances; memories = r.even.memories; tables = r.even.tables; stacks = r.even.stacks },
+        record { places = r.even.places; instances = r.even.instances; memories = r.even.memories; tables = r.even.tables; stacks = r.even.stacks; heaps = r.even.heaps },
         omega (arith, r.fewer, few),
         r.way.1 (ltb-false _ _ last),
       ) may)
 
-  pub row_ok : (r : Row (PoolCore P) P) → IsReadyRow r → (e.asked ≡ stack_asked → MayEnd (stage_of e)) → RowOk (stepped r)
+  pub row_ok : (r : Row (PoolCore P H) P H) → IsReadyRow r → (CountsNone e.asked → MayEnd (objects_in r.frame.objects) (stage_of e)) → RowOk (stepped r)
   row_ok r ready may = after_ok r.part r.frame r.turn ready may

@@ -5,6 +5,7 @@ pub mod AskingRows
 pub mod Begun
 pub mod BegunCalls
 pub mod Below
+pub mod Closings
 pub mod ComponentRows
 pub mod Components
 pub mod CoreChanges
@@ -18,7 +19,10 @@ pub mod Frees
 pub mod FullShards
 pub mod Guarded
 pub mod Hands
+pub mod HeapRows
+pub mod HeapSlots
 pub mod Held
+pub mod Holding
 pub mod KeptCounts
 pub mod KindCounts
 pub mod LocalQueues

@@ -2,6 +2,7 @@
 use Rattle.std.proofs.Common.{◌≡◌, ℕ, ◌<◌, ◌^◌, Bool, false, List, Option, refl, sym, ap, subst, ◌∙◌}
 use Rattle.std.specs.Prelude.{IfSome}
 use Rattle.pool_pages.specs.MakerTold.{MakerTold, Planned}
+use Rattle.pool_pages.specs.Told.{Told}
 use Rattle.pool_pages.specs.SettingsRules.{slab_stripes}
 use Rattle.pool_pages.specs.declared.config.PoolingAllocationConfig.{PoolingAllocationConfig}
 use Rattle.pool_pages.specs.declared.module_types.Tunables.{Tunables}
@@ -9,7 +10,7 @@ use Rattle.pool_pages.specs.declared.offered.Offered.{Offered}
 use Rattle.pool_slots.specs.Colourings.{RaisesUnlessGivenUp, RaisesBehindUnlessGivenUp}
 use Rattle.pool_slots.specs.Makings.{IsListedPoolFault}
 use Rattle.pool_slots.specs.PartsMade.{AreMadeTo, fails_some_slot, lists_some_making, SomeGivenUp}
-use Rattle.pool_slots.specs.PlansMade.{heaps_from, places_planned}
+use Rattle.pool_slots.specs.PlansMade.{places_planned}
 use Rattle.pool_slots.specs.StripedPlans.{divided, IsStripedPlanOf}
 use Rattle.pool_slots.specs.declared.errors.PoolNewError.{PoolNewError}
 use Rattle.pool_slots.specs.declared.part_maker.PartSettings.{PartSettings}
@@ -43,16 +44,16 @@ module _ (page : ℕ) (config : PoolingAllocationConfig) (tunables : Tunables) (
     pub sizes_are : ps ≡ part_settings maker.page config offered
     sizes_are = sizes ∙ ap (λ (k : ℕ). part_settings k config offered) paged
 
-    given_up_as : SomeGivenUp y ps maker ≡ GivesUpRegion config tunables offered shards maker
-    given_up_as = ap (λ (z : StripedPlanSettings). SomeGivenUp z ps maker) whole ∙ ap (λ (s : PartSettings). SomeGivenUp (plan_settings maker.page config tunables offered shards) s maker) sizes_are
+    given_up_as : {P : Type 0} (told : P → Told) → SomeGivenUp told y ps maker ≡ GivesUpRegion told config tunables offered shards maker
+    given_up_as told = ap (λ (z : StripedPlanSettings). SomeGivenUp told z ps maker) whole ∙ ap (λ (s : PartSettings). SomeGivenUp told (plan_settings maker.page config tunables offered shards) s maker) sizes_are
 
-    pub raises_in : (old new : ℕ) (e : PoolNewError) → RaisesUnlessGivenUp (SomeGivenUp y ps maker) old new e → RaisesUnlessGivenUp (GivesUpRegion config tunables offered shards maker) old new e
-    raises_in old new e raises = subst (λ (G : Type 0). RaisesUnlessGivenUp G old new e) given_up_as raises
+    pub raises_in : {P : Type 0} (told : P → Told) (old new : ℕ) (e : PoolNewError) → RaisesUnlessGivenUp (SomeGivenUp told y ps maker) old new e → RaisesUnlessGivenUp (GivesUpRegion told config tunables offered shards maker) old new e
+    raises_in told old new e raises = subst (λ (G : Type 0). RaisesUnlessGivenUp G old new e) (given_up_as told) raises
 
-    pub behind_in : (listed : List Planned) (old new : ℕ) (e : PoolNewError) → RaisesBehindUnlessGivenUp (SomeGivenUp y ps maker) (lists_some_making y.totals listed) old new e → RaisesBehindUnlessGivenUp (GivesUpRegion config tunables offered shards maker) (lists_making config listed) old new e
-    behind_in listed old new e raises =
-        subst (λ (G : Type 0). RaisesBehindUnlessGivenUp G (lists_making config listed) old new e) given_up_as
-        (subst (λ (b : Bool). RaisesBehindUnlessGivenUp (SomeGivenUp y ps maker) b old new e) (listed_as listed) raises)
+    pub behind_in : {P : Type 0} (told : P → Told) (listed : List Planned) (old new : ℕ) (e : PoolNewError) → RaisesBehindUnlessGivenUp (SomeGivenUp told y ps maker) (lists_some_making y.totals listed) old new e → RaisesBehindUnlessGivenUp (GivesUpRegion told config tunables offered shards maker) (lists_making config listed) old new e
+    behind_in told listed old new e raises =
+        subst (λ (G : Type 0). RaisesBehindUnlessGivenUp G (lists_making config listed) old new e) (given_up_as told)
+        (subst (λ (b : Bool). RaisesBehindUnlessGivenUp (SomeGivenUp told y ps maker) b old new e) (listed_as listed) raises)
 
     pub plan_in : (plan : Plan) → IsStripedPlanOf y plan → IsStripedPlanOf (plan_settings maker.page config tunables offered shards) plan
     plan_in plan is = subst (λ (z : StripedPlanSettings). IsStripedPlanOf z plan) whole is
@@ -60,7 +61,7 @@ module _ (page : ℕ) (config : PoolingAllocationConfig) (tunables : Tunables) (
     pub few_in : places_planned (divided y) < 2 ^ 32 → places_planned (divided (plan_settings maker.page config tunables offered shards)) < 2 ^ 32
     few_in few = subst (λ (z : StripedPlanSettings). places_planned (divided z) < 2 ^ 32) whole few
 
-    pub parts_in : {P : Type 0} (plan : Plan) (list : List (PoolPart P)) → AreMadeTo plan y.num_stripes maker ps (heaps_from (divided y)) list → AreMadeTo plan (plan_settings maker.page config tunables offered shards).num_stripes maker (part_settings maker.page config offered) (heaps_from (divided (plan_settings maker.page config tunables offered shards))) list
+    pub parts_in : {P H : Type 0} (plan : Plan) (list : List (PoolPart P H)) → AreMadeTo plan y.num_stripes maker ps (places_planned (divided y)) list → AreMadeTo plan (plan_settings maker.page config tunables offered shards).num_stripes maker (part_settings maker.page config offered) (places_planned (divided (plan_settings maker.page config tunables offered shards))) list
     parts_in plan list made =
-        subst (λ (s : PartSettings). AreMadeTo plan (plan_settings maker.page config tunables offered shards).num_stripes maker s (heaps_from (divided (plan_settings maker.page config tunables offered shards))) list) sizes_are
-        (subst (λ (z : StripedPlanSettings). AreMadeTo plan z.num_stripes maker ps (heaps_from (divided z)) list) whole made)
+        subst (λ (s : PartSettings). AreMadeTo plan (plan_settings maker.page config tunables offered shards).num_stripes maker s (places_planned (divided (plan_settings maker.page config tunables offered shards))) list) sizes_are
+        (subst (λ (z : StripedPlanSettings). AreMadeTo plan z.num_stripes maker ps (places_planned (divided z)) list) whole made)

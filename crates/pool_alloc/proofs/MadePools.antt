@@ -1,4 +1,7 @@
 -- A pool as it is made is sound, and nothing of it is used.
+use Rattle.std.proofs.lemmas.List.{length-replicate}
+use Rattle.pool_slots.specs.declared.heap_list.HeapEntry.TheVariants as entry
+use Rattle.pool_slots.proofs.HeapUnits.{none_at_first}
 use Rattle.std.proofs.Common.{◌≡◌, ℕ, zero, suc, ◌+◌, ◌*◌, ◌^◌, ◌<◌, ◌≤◌, List, [], ◌∷◌, ◌++◌, length, refl, sym, ap, subst, ◌∙◌, arith, replicate, Option, None, map}
 use Rattle.std.specs.Prelude.{◌-◌}
 use Rattle.std.specs.Int.{div_ceil}
@@ -25,7 +28,7 @@ use Rattle.pool_slots.specs.PartUnits.{part_away, part_kept}
 use Rattle.pool_slots.specs.Parts.{part_at}
 use Rattle.pool_slots.specs.PartsMade.{AreMadeTo, IsCellMade, IsMadeAs, queue_made, shard_made}
 use Rattle.pool_slots.specs.Plans.{Role, shard_role, cell_role, queue_role, heaps_role, no_role, role_at, IsPlacedAllocator}
-use Rattle.pool_slots.specs.PlansMade.{heaps_from, places_planned}
+use Rattle.pool_slots.specs.PlansMade.{places_planned}
 use Rattle.pool_slots.specs.SlotNames.{of_kind}
 use Rattle.pool_slots.specs.SlotQueues.{empty_queue}
 use Rattle.pool_slots.specs.StripedPlans.{divided, stripe_allocator, IsStripedPlanOf}
@@ -42,11 +45,10 @@ use Rattle.pool_slots.proofs.PartsMade.{made_shard_of}
 use Rattle.pool_slots.proofs.Planning.{allocators_placed}
 use Rattle.pool_slots.proofs.StripedPlans.{planned}
 use Rattle.pool_alloc.specs.Made.{settings_of, plan_settings, part_settings, IsMadeCore}
-use Rattle.pool_alloc.specs.Sound.{IsSettings, IsShared, IsQueuedOf, MayBeRanged, IsPooled, IsCore, IsPartFor, IsStripe, IsPoolPlan}
+use Rattle.pool_alloc.specs.Sound.{IsSettings, IsShared, IsQueuedOf, MayBeRanged, IsCore, IsPartFor, IsStripe, IsPoolPlan}
 use Rattle.pool_alloc.specs.Whole.{IsUntouched}
 use Rattle.pool_alloc.specs.declared.pool_core.PoolCore.{PoolCore}
 use Rattle.pool_alloc.specs.declared.pool_core.Settings.{Settings}
-use Rattle.pool_alloc.proofs.PlanPlaces.{cell_below}
 use Rattle.pool_alloc.proofs.Rounding.{rounded_is_whole, rounded_whole}
 use Rattle.pool_alloc.proofs.Striping.{few_stripes, some_stripes, some_times, within_slots}
 use Rattle.pool_alloc.proofs.StackRegions.{stack_region_made}
@@ -94,13 +96,14 @@ stripes_long z from (suc n) = ap suc (stripes_long z (from + 1) n)
 stripes_number : (z : StripedPlanSettings) (plan : Plan) → IsStripedPlanOf z plan → length plan.memories ≡ z.num_stripes
 stripes_number z plan is = ap (λ (l : List Allocator). length l) is.memories ∙ stripes_long z 0 z.num_stripes
 
--- The plan as it is made, where there are no slots of heaps.
-pub plan_made : (z : StripedPlanSettings) (plan : Plan) → (0 < z.num_stripes) × (z.num_stripes < 256) → (0 < z.totals.memory → z.num_stripes ≤ z.totals.memory) → 0 < z.queues → z.totals.heap ≡ 0 → IsStripedPlanOf z plan → places_planned (divided z) < 2 ^ 32 → IsPoolPlan plan (places_planned (divided z))
-plan_made z plan stripes within asked none is small =
+-- The plan as it is made.
+pub plan_made : (z : StripedPlanSettings) (plan : Plan) → (0 < z.num_stripes) × (z.num_stripes < 256) → (0 < z.totals.memory → z.num_stripes ≤ z.totals.memory) → 0 < z.queues → IsStripedPlanOf z plan → places_planned (divided z) < 2 ^ 32 → IsPoolPlan plan (places_planned (divided z))
+plan_made z plan stripes within asked is small =
     let all = planned z plan stripes.0 is in
     let number : length plan.memories ≡ z.num_stripes = stripes_number z plan is in
     let some : AllByRecursion (λ a. 0 < a.shards) plan.memories = subst (λ (l : List Allocator). AllByRecursion (λ a. 0 < a.shards) l) (sym is.memories) (stripes_some z 0 z.num_stripes) in
     let table_some : AllByRecursion (λ a. 0 < a.shards) plan.tables = rw is.tables (omega arith, tt) in
+    let heap_some : AllByRecursion (λ a. 0 < a.shards) plan.heaps = rw is.heaps (omega arith, tt) in
     let stack_some : AllByRecursion (λ a. 0 < a.shards) plan.stacks = rw is.stacks (omega arith, tt) in
     record {
       planned = all;
@@ -113,16 +116,11 @@ plan_made z plan stripes within asked none is small =
       table_shards = each_both (λ a. 0 < a.shards) IsPlacedAllocator IsStripe plan.tables (λ a more at. record { some = more; placed = at }) table_some (allocators_placed plan (places_planned (divided z)) all small table_kind);
       stacks = rw is.stacks (omega arith);
       stack_shards = each_both (λ a. 0 < a.shards) IsPlacedAllocator IsStripe plan.stacks (λ a more at. record { some = more; placed = at }) stack_some (allocators_placed plan (places_planned (divided z)) all small stack_kind);
-      pooled = pooled_kinds plan.totals is.totals;
+      heaps = rw is.heaps (omega arith);
+      heap_shards = each_both (λ a. 0 < a.shards) IsPlacedAllocator IsStripe plan.heaps (λ a more at. record { some = more; placed = at }) heap_some (allocators_placed plan (places_planned (divided z)) all small heap_kind);
       queues = omega (arith, asked, is.queues);
       shared = is.shared;
     }
-  where
-    pooled_kinds : (totals : OfKinds) → totals ≡ z.totals → (kind : SlotKind) → 0 < of_kind kind totals → IsPooled kind
-    pooled_kinds totals is memory_kind some = tt
-    pooled_kinds totals is table_kind some = tt
-    pooled_kinds totals is stack_kind some = tt
-    pooled_kinds totals is heap_kind some = absurd (omega (arith, some, none, ap (λ (o : OfKinds). o.heap) is))
 
 empty_shared : (maker : MakerTold) (s : Settings) → 1 ≤ s.batch → IsShared maker s (empty_queue (2 * s.batch) (2 * s.batch))
 empty_shared maker s some = record {
@@ -142,17 +140,17 @@ cold_units : (kind : SlotKind) (step first n : ℕ) → used_units kind step fir
 cold_units kind step first zero = refl
 cold_units kind step first (suc n) = cold_units kind step (first + step) n
 
-module _ {P : Type 0} where
+module _ {P H : Type 0} where
   -- where each part has nothing, they have nothing together
-  none_of_all : (of : PoolPart P → List UnitName) (all : List (PoolPart P) → List UnitName) → all [] ≡ [] → ((x : PoolPart P) (xs : List (PoolPart P)) → all (x ∷ xs) ≡ of x ++ all xs) → (xs : List (PoolPart P)) → ((p : ℕ) → p < length xs → of (part_at p xs) ≡ []) → all xs ≡ []
+  pub none_of_all : (of : PoolPart P H → List UnitName) (all : List (PoolPart P H) → List UnitName) → all [] ≡ [] → ((x : PoolPart P H) (xs : List (PoolPart P H)) → all (x ∷ xs) ≡ of x ++ all xs) → (xs : List (PoolPart P H)) → ((p : ℕ) → p < length xs → of (part_at p xs) ≡ []) → all xs ≡ []
   none_of_all of all start next [] none = start
   none_of_all of all start next (x ∷ xs) none =
       next x xs ∙ ap (λ us. us ++ all xs) (none zero (omega arith)) ∙ none_of_all of all start next xs (λ p below. none (suc p) (omega (arith, below)))
 
   -- A part as it is made is as its place says, has given out nothing, and keeps nothing.
-  made_cell : (maker : MakerTold) (config : PoolingAllocationConfig) (tunables : Tunables) (offered : Offered) (s : Settings) (kind : SlotKind) (slot : ℕ) (x : PoolPart P) → 0 < maker.page → IsSettings s → s ≡ settings_of maker.page config tunables offered → IsPooled kind → IsCellMade s.num_stripes maker (part_settings maker.page config offered) kind slot x → IsPartFor maker s (cell_role (record { kind = kind; slot = slot })) x
-  made_cell maker config tunables offered s memory_kind slot x page sound settings pooled is =
-      let F : Settings → PoolPart P → Type 0 = λ t y. IsPartFor maker t (cell_role (record { kind = memory_kind; slot = slot })) y in
+  made_cell : (maker : MakerTold) (config : PoolingAllocationConfig) (tunables : Tunables) (offered : Offered) (s : Settings) (kind : SlotKind) (slot : ℕ) (x : PoolPart P H) → 0 < maker.page → IsSettings s → s ≡ settings_of maker.page config tunables offered → IsCellMade s.num_stripes maker (part_settings maker.page config offered) kind slot x → IsPartFor maker s (cell_role (record { kind = kind; slot = slot })) x
+  made_cell maker config tunables offered s memory_kind slot x page sound settings is =
+      let F : Settings → PoolPart P H → Type 0 = λ t y. IsPartFor maker t (cell_role (record { kind = memory_kind; slot = slot })) y in
       let t : Settings = settings_of maker.page config tunables offered in
       let C : ℕ → Type 0 = λ n. IsCellMade n maker (part_settings maker.page config offered) memory_kind slot x in
       let size : ℕ = rounded_up maker.page config.limits.max_memory_size in
@@ -160,51 +158,53 @@ module _ {P : Type 0} where
       let region = ap (λ (n : ℕ). coloured_region t.num_stripes maker offered.behaviour (count maker.page n) slot) same in
       let made : C t.num_stripes = subst C (ap (λ (u : Settings). u.num_stripes) settings) is in
       subst (λ (u : Settings). F u x) (sym settings) (subst (F t) (sym made) (refl, record { named = refl; holds = region }))
-  made_cell maker config tunables offered s table_kind slot x page sound settings pooled is =
-      let F : Settings → PoolPart P → Type 0 = λ t y. IsPartFor maker t (cell_role (record { kind = table_kind; slot = slot })) y in
+  made_cell maker config tunables offered s table_kind slot x page sound settings is =
+      let F : Settings → PoolPart P H → Type 0 = λ t y. IsPartFor maker t (cell_role (record { kind = table_kind; slot = slot })) y in
       let t : Settings = settings_of maker.page config tunables offered in
       let region = table_region_made maker t slot refl (subst (λ (u : Settings). IsSettings u) settings sound) in
       subst (λ (u : Settings). F u x) (sym settings) (subst (F t) (sym is) (refl, record { named = refl; holds = region }))
-  made_cell maker config tunables offered s stack_kind slot x page sound settings pooled is =
-      let F : Settings → PoolPart P → Type 0 = λ t y. IsPartFor maker t (cell_role (record { kind = stack_kind; slot = slot })) y in
+  made_cell maker config tunables offered s stack_kind slot x page sound settings is =
+      let F : Settings → PoolPart P H → Type 0 = λ t y. IsPartFor maker t (cell_role (record { kind = stack_kind; slot = slot })) y in
       let t : Settings = settings_of maker.page config tunables offered in
       let region = stack_region_made maker t slot refl (subst (λ (u : Settings). IsSettings u) settings sound) in
       subst (λ (u : Settings). F u x) (sym settings) (subst (F t) (sym is) (refl, record { named = refl; holds = region }))
-  made_cell maker config tunables offered s heap_kind slot x page sound settings pooled is = absurd pooled
+  made_cell maker config tunables offered s heap_kind slot x page sound settings is = absurd is
 
-  made_part : (maker : MakerTold) (config : PoolingAllocationConfig) (tunables : Tunables) (offered : Offered) (s : Settings) (r : Role) (x : PoolPart P) → 0 < maker.page → IsSettings s → s ≡ settings_of maker.page config tunables offered → 1 ≤ s.batch → ((name : SlotName) → r ≡ cell_role name → IsPooled name.kind) → IsMadeAs s.num_stripes maker (part_settings maker.page config offered) r x → IsPartFor maker s r x
-  made_part maker config tunables offered s (shard_role a j) x page sound settings some pooled is = subst (IsPartFor maker s (shard_role a j)) (sym is.1) (made_shard_of config.max_unused_warm_slots a j is.0)
-  made_part maker config tunables offered s (cell_role name) x page sound settings some pooled is = made_cell maker config tunables offered s name.kind name.slot x page sound settings (pooled name refl) is
-  made_part maker config tunables offered s queue_role x page sound settings some pooled is =
+  made_part : (maker : MakerTold) (config : PoolingAllocationConfig) (tunables : Tunables) (offered : Offered) (s : Settings) (r : Role) (x : PoolPart P H) → 0 < maker.page → IsSettings s → s ≡ settings_of maker.page config tunables offered → 1 ≤ s.batch → IsMadeAs s.num_stripes maker (part_settings maker.page config offered) r x → IsPartFor maker s r x
+  made_part maker config tunables offered s (shard_role a j) x page sound settings some is = subst (IsPartFor maker s (shard_role a j)) (sym is.1) (made_shard_of config.max_unused_warm_slots a j is.0)
+  made_part maker config tunables offered s (cell_role name) x page sound settings some is = made_cell maker config tunables offered s name.kind name.slot x page sound settings is
+  made_part maker config tunables offered s queue_role x page sound settings some is =
       let batch : s.batch ≡ config.decommit_batch_size = ap (λ (t : Settings). t.batch) settings in
       let same : x ≡ part.Queue (empty_queue (2 * s.batch) (2 * s.batch)) = is ∙ ap (λ (n : ℕ). queue_made {P = P} (2 * n) 0) (sym batch) in
       subst (IsPartFor maker s queue_role) (sym same) (empty_shared maker s some)
-  made_part maker config tunables offered s heaps_role x page sound settings some pooled is = absurd is
-  made_part maker config tunables offered s no_role x page sound settings some pooled is = absurd is
+  made_part maker config tunables offered s (heaps_role n) x page sound settings some is =
+      let F : PoolPart P H → Type 0 = IsPartFor maker s (heaps_role n) in
+      subst F (sym is) (length-replicate n (entry.Here None))
+  made_part maker config tunables offered s no_role x page sound settings some is = absurd is
 
-  cell_has_nothing : (n : ℕ) (maker : MakerTold) (ps : PartSettings) (kind : SlotKind) (slot : ℕ) (x : PoolPart P) → IsCellMade n maker ps kind slot x → (part_away x ≡ []) × (part_kept x ≡ [])
+  cell_has_nothing : (n : ℕ) (maker : MakerTold) (ps : PartSettings) (kind : SlotKind) (slot : ℕ) (x : PoolPart P H) → IsCellMade n maker ps kind slot x → (part_away x ≡ []) × (part_kept x ≡ [])
   cell_has_nothing n maker ps memory_kind slot x is = (ap part_away is, ap part_kept is)
   cell_has_nothing n maker ps table_kind slot x is = (ap part_away is, ap part_kept is)
   cell_has_nothing n maker ps stack_kind slot x is = (ap part_away is, ap part_kept is)
   cell_has_nothing n maker ps heap_kind slot x is = absurd is
 
-  has_nothing : (n : ℕ) (maker : MakerTold) (ps : PartSettings) (r : Role) (x : PoolPart P) → IsMadeAs n maker ps r x → (part_away x ≡ []) × (part_kept x ≡ [])
+  has_nothing : (n : ℕ) (maker : MakerTold) (ps : PartSettings) (r : Role) (x : PoolPart P H) → IsMadeAs n maker ps r x → (part_away x ≡ []) × (part_kept x ≡ [])
   has_nothing n maker ps (shard_role a j) x is =
       let made : ShardState = shard_made ps.max_unused_warm_slots a j in
       (ap part_away is.1 ∙ cold_units made.kind made.step made.first made.capacity, ap part_kept is.1)
   has_nothing n maker ps (cell_role name) x is = cell_has_nothing n maker ps name.kind name.slot x is
   has_nothing n maker ps queue_role x is = (ap part_away is, ap part_kept is)
-  has_nothing n maker ps heaps_role x is = absurd is
+  has_nothing n maker ps (heaps_role m) x is = (ap part_away is ∙ none_at_first H m, ap part_kept is)
   has_nothing n maker ps no_role x is = absurd is
 
-  pub made_core : (maker : MakerTold) (config : PoolingAllocationConfig) (tunables : Tunables) (offered : Offered) (shards : ℕ) (c : PoolCore P) → IsWithinRules config tunables maker.page shards offered → IsMadeCore maker config tunables offered shards c → IsCore maker c
+  pub made_core : (maker : MakerTold) (config : PoolingAllocationConfig) (tunables : Tunables) (offered : Offered) (shards : ℕ) (c : PoolCore P H) → IsWithinRules config tunables maker.page shards offered → IsMadeCore maker config tunables offered shards c → IsCore maker c
   made_core maker config tunables offered shards c within made =
       let z : StripedPlanSettings = plan_settings maker.page config tunables offered shards in
       let I : Settings → Type 0 = λ s. IsSettings s in
-      let M : ℕ → Type 0 = λ n. AreMadeTo c.plan n maker (part_settings maker.page config offered) (heaps_from (divided z)) c.parts in
+      let M : ℕ → Type 0 = λ n. AreMadeTo c.plan n maker (part_settings maker.page config offered) (places_planned (divided z)) c.parts in
       let number : places_planned (divided z) ≡ length c.parts = omega (arith, made.parts.count) in
       let of : IsSettings (settings_of maker.page config tunables offered) = settings_sound maker.page config tunables offered within.page_size within.limits within.offered_keys within.rounds in
-      let plan : IsPoolPlan c.plan (length c.parts) = subst (IsPoolPlan c.plan) number (plan_made z c.plan of.stripes (λ some. within_slots config tunables maker.page offered some) (omega (arith, within.shards_at_least)) refl made.plan made.few) in
+      let plan : IsPoolPlan c.plan (length c.parts) = subst (IsPoolPlan c.plan) number (plan_made z c.plan of.stripes (λ some. within_slots config tunables maker.page offered some) (omega (arith, within.shards_at_least)) made.plan made.few) in
       let batch : c.settings.batch ≡ config.decommit_batch_size = ap (λ (s : Settings). s.batch) made.settings in
       let sound : IsSettings c.settings = subst I (sym made.settings) of in
       let parts : M c.settings.num_stripes = subst M (sym (ap (λ (s : Settings). s.num_stripes) made.settings)) made.parts in
@@ -215,11 +215,10 @@ module _ {P : Type 0} where
         stripes = stripes_number z c.plan made.plan ∙ sym (ap (λ (s : Settings). s.num_stripes) made.settings);
         parts = λ p below.
             made_part maker config tunables offered c.settings (role_at c.plan p) (part_at p c.parts) (omega (arith, within.page_size.at_least)) sound made.settings (omega (arith, batch, within.limits.batch_at_least))
-            (λ name role. let inside = cell_below c.plan p name role in plan.pooled name.kind (omega (arith, inside)))
             (parts.each p (omega (arith, below, made.parts.count)));
       }
 
-  pub made_untouched : (maker : MakerTold) (config : PoolingAllocationConfig) (tunables : Tunables) (offered : Offered) (shards : ℕ) (c : PoolCore P) → IsMadeCore maker config tunables offered shards c → IsUntouched c
+  pub made_untouched : (maker : MakerTold) (config : PoolingAllocationConfig) (tunables : Tunables) (offered : Offered) (shards : ℕ) (c : PoolCore P H) → IsMadeCore maker config tunables offered shards c → IsUntouched c
   made_untouched maker config tunables offered shards c made =
       let n : ℕ = slab_stripes config tunables maker.page offered in
       let nothing : (p : ℕ) → p < length c.parts → (part_away (part_at p c.parts) ≡ []) × (part_kept (part_at p c.parts) ≡ []) = λ p below. has_nothing n maker (part_settings maker.page config offered) (role_at c.plan p) (part_at p c.parts) (made.parts.each p (omega (arith, below, made.parts.count))) in
@@ -231,4 +230,5 @@ module _ {P : Type 0} where
         memories = ap (λ n. n.memories) made.counters;
         tables = ap (λ n. n.tables) made.counters;
         stacks = ap (λ n. n.stacks) made.counters;
+        heaps = ap (λ n. n.gc_heaps) made.counters;
       }

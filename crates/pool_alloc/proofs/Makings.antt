@@ -21,7 +21,7 @@ use Rattle.pool_alloc.specs.declared.pool_core.PoolCore.{PoolCore}
 use Rattle.pool_alloc.specs.declared.frame.Frame.{Frame}
 use Rattle.pool_alloc.specs.declared.frame.TakenSlot.{TakenSlot}
 
-module _ {P : Type 0} (M L : Type 0) (at : TakenSlot) (held : Slot) (c : PoolCore P) (f : Frame P) where
+module _ {P H : Type 0} (M L : Type 0) (at : TakenSlot) (held : Slot) (c : PoolCore P H) (f : Frame P H) where
   made_static_in : (b : Bool) (ty : MemoryType) (m : Static)
       → made_by {M = M} {L = L} at (made_memory ty (if b then Ok m else Err (held, InitialSize))) c f ≡ was_made at held (made_of ty (if b then Ok m else Err (held, InitialSize))) c f
   made_static_in true ty m = refl
@@ -38,7 +38,7 @@ module _ {P : Type 0} (M L : Type 0) (at : TakenSlot) (held : Slot) (c : PoolCor
   made_in_code answer room None r told = told
   made_in_code answer room (Some decl) r told = ap (λ (x : Result (Memory M L) (Slot × MemoryError)). made_by at x c f) told ∙ made_limits_in (limits_answer answer decl.ty) decl.ty room
 
-module _ {P : Type 0} (at : TakenSlot) (region : Told) (c : PoolCore P) (f : Frame P) where
+module _ {P H : Type 0} (at : TakenSlot) (region : Told) (c : PoolCore P H) (f : Frame P H) where
   handed_in : (r : Result LeasedTable AllocError) → table_made_by at (handed_back region r) c f ≡ was_made_table at region r c f
   handed_in (Ok l) = refl
   handed_in (Err e) = refl

@@ -44,7 +44,7 @@ pub both_true : (a b : Bool) → (a && b) ≡ true → (a ≡ true) × (b ≡ tr
 both_true true b is = (refl, is)
 both_true false b is = absurd (cc is)
 
-begins_from : (id : CompiledModuleId) (n : ℕ) (maker : MakerTold) (decls : List MemoryDecl) → 0 < maker.page → list_all (ends_in_minimum maker.page) decls ≡ true → (k : ℕ) → IfSome (slice_get decls k) (λ d. IfSome (slice_index_or (images_from id maker.page n decls) k None) (ImageOf d.ty maker))
+pub begins_from : (id : CompiledModuleId) (n : ℕ) (maker : MakerTold) (decls : List MemoryDecl) → 0 < maker.page → list_all (ends_in_minimum maker.page) decls ≡ true → (k : ℕ) → IfSome (slice_get decls k) (λ d. IfSome (slice_index_or (images_from id maker.page n decls) k None) (ImageOf d.ty maker))
 begins_from id n maker [] some ends k = tt
 begins_from id n maker (d ∷ ds) some ends zero = begins_of id n maker d d.image some (both_true (ends_in_minimum maker.page d) (list_all (ends_in_minimum maker.page) ds) ends).0
 begins_from id n maker (d ∷ ds) some ends (suc k) = begins_from id (n + 1) maker ds some (both_true (ends_in_minimum maker.page d) (list_all (ends_in_minimum maker.page) ds) ends).1 k

@@ -1,6 +1,6 @@
 -- What the places of a right plan are for, and where slots are at home.
 use Rattle.pool_slots.specs.declared.slot_name.SlotName.{SlotName}
-use Rattle.pool_alloc.specs.Bounds.{most_shards, flushed_allocators}
+use Rattle.pool_alloc.specs.Bounds.{most_shards, searched_allocators}
 use Rattle.std.proofs.Common.{◌≡◌, ℕ, ◌+◌, ◌*◌, ◌-◌, ◌<◌, ◌≤◌, List, [], ◌∷◌, length, refl, sym, ap, subst, ◌∙◌, arith, get_or, inl, inr, true, false, min, Bool, map, ◌⊎◌, ◌++◌}
 use Rattle.std.specs.Prelude.{if◌then◌else◌, ◌%◌, nat_le, nat_lt, zero, suc}
 use Rattle.std.specs.List.{AllByRecursion}
@@ -14,7 +14,7 @@ use Rattle.pool_slots.specs.declared.plan.Allocator.{Allocator}
 use Rattle.pool_slots.specs.declared.plan.Plan.{Plan}
 use Rattle.pool_slots.proofs.Planning.{roles, HasShards, shards_of, slots_are_at_home}
 use Rattle.pool_slots.proofs.AwayOnce.{shard_of_kind, home_there}
-use Rattle.pool_alloc.specs.Sound.{IsStripe, IsPoolPlan, IsPooled, IsSlotName}
+use Rattle.pool_alloc.specs.Sound.{IsStripe, IsPoolPlan, HasCells, IsSlotName}
 use Rattle.pool_alloc.specs.Steps.{memories_wanted, memory_slots, no_allocator, stripe_allocator, allocator_of, allocator_for, kind_next, kind_by, shard_tried, queue_tried, queues_searched}
 use Rattle.pool_alloc.specs.declared.frame.Asked.{Asked}
 use Rattle.pool_alloc.specs.declared.frame.Asked.TheVariants.{Stack as stack_asked}
@@ -44,7 +44,7 @@ abbrev role_number : Role → ℕ
 role_number (shard_role a j) = 1
 role_number (cell_role name) = 2
 role_number queue_role = 3
-role_number heaps_role = 4
+role_number (heaps_role n) = 4
 role_number no_role = 0
 
 -- the place is one of a shard, which has such a number in its allocator
@@ -66,21 +66,39 @@ queue_inside plan places p is role = role_inside (blocks plan) places p queue_ro
 pub apart_places : (plan : Plan) (p q : ℕ) → IsShardPlace plan p → IsQueuePlace plan q → p ≡ q → ⊥
 apart_places plan p q place role e = let no : ◌≡◌ {A = ℕ} 1 3 = sym (ap role_number place.role) ∙ ap (λ (n : ℕ). role_number (role_at plan n)) e ∙ ap role_number role in omega arith
 
+-- the list of heaps has its place, where there are heaps
+abbrev pub IsHeapsPlace : Plan → ℕ → Type 0
+IsHeapsPlace plan p = role_at plan p ≡ heaps_role plan.totals.heap
+
+pub heaps_place : (plan : Plan) (places : ℕ) → IsPoolPlan plan places → 0 < plan.totals.heap → IsHeapsPlace plan plan.heap_list
+heaps_place plan places is some =
+    let none : plan.heap_list + 0 ≡ plan.heap_list = omega arith in
+    subst (IsHeapsPlace plan) none ((roles (blocks plan) is.planned.separate).1.1.1.1.0 0 (omega (arith, some)))
+
+pub heaps_inside : (plan : Plan) (places p : ℕ) → IsPoolPlan plan places → IsHeapsPlace plan p → p < places
+heaps_inside plan places p is role = role_inside (blocks plan) places p (heaps_role plan.totals.heap) is.planned.inside role (λ e. let no : ◌≡◌ {A = ℕ} 0 4 = ap role_number e in omega arith)
+
+pub shard_no_heaps : (plan : Plan) (p q : ℕ) → IsShardPlace plan p → IsHeapsPlace plan q → p ≡ q → ⊥
+shard_no_heaps plan p q place role e = let no : ◌≡◌ {A = ℕ} 1 4 = sym (ap role_number place.role) ∙ ap (λ (n : ℕ). role_number (role_at plan n)) e ∙ ap role_number role in omega arith
+
+pub queue_no_heaps : (plan : Plan) (p q : ℕ) → IsQueuePlace plan p → IsHeapsPlace plan q → p ≡ q → ⊥
+queue_no_heaps plan p q place role e = let no : ◌≡◌ {A = ℕ} 3 4 = sym (ap role_number place) ∙ ap (λ (n : ℕ). role_number (role_at plan n)) e ∙ ap role_number role in omega arith
+
 -- the cell of a slot of the pool has its place
 abbrev IsCellPlace : Plan → ℕ → SlotKind → ℕ → Type 0
 IsCellPlace plan places kind slot = (role_at plan (of_kind kind plan.cells + slot) ≡ cell_role (record { kind = kind; slot = slot })) × (of_kind kind plan.cells + slot < places)
 
-cell_place_of : (plan : Plan) (places : ℕ) (kind : SlotKind) (slot : ℕ) → IsPoolPlan plan places → IsPooled kind → slot < of_kind kind plan.totals → IsCellPlace plan places kind slot
-cell_place_of plan places memory_kind slot is pooled below = ((roles (blocks plan) is.planned.separate).0 slot below, omega (arith, is.planned.inside.0, below))
-cell_place_of plan places table_kind slot is pooled below = ((roles (blocks plan) is.planned.separate).1.0 slot below, omega (arith, is.planned.inside.1.0, below))
-cell_place_of plan places stack_kind slot is pooled below = ((roles (blocks plan) is.planned.separate).1.1.0 slot below, omega (arith, is.planned.inside.1.1.0, below))
-cell_place_of plan places kind slot is pooled below = absurd pooled
+cell_place_of : (plan : Plan) (places : ℕ) (kind : SlotKind) (slot : ℕ) → IsPoolPlan plan places → HasCells kind → slot < of_kind kind plan.totals → IsCellPlace plan places kind slot
+cell_place_of plan places memory_kind slot is cells below = ((roles (blocks plan) is.planned.separate).0 slot below, omega (arith, is.planned.inside.0, below))
+cell_place_of plan places table_kind slot is cells below = ((roles (blocks plan) is.planned.separate).1.0 slot below, omega (arith, is.planned.inside.1.0, below))
+cell_place_of plan places stack_kind slot is cells below = ((roles (blocks plan) is.planned.separate).1.1.0 slot below, omega (arith, is.planned.inside.1.1.0, below))
+cell_place_of plan places heap_kind slot is cells below = absurd cells
 
 pub cell_role_at : (plan : Plan) (places : ℕ) (name : SlotName) → IsPoolPlan plan places → IsSlotName plan name → role_at plan (cell_place plan name) ≡ cell_role name
-cell_role_at plan places name is named = (cell_place_of plan places name.kind name.slot is named.pooled named.inside).0
+cell_role_at plan places name is named = (cell_place_of plan places name.kind name.slot is named.cells named.inside).0
 
 pub cell_inside : (plan : Plan) (places : ℕ) (name : SlotName) → IsPoolPlan plan places → IsSlotName plan name → cell_place plan name < places
-cell_inside plan places name is named = (cell_place_of plan places name.kind name.slot is named.pooled named.inside).1
+cell_inside plan places name is named = (cell_place_of plan places name.kind name.slot is named.cells named.inside).1
 
 pub queue_no_cell : (plan : Plan) (places p : ℕ) (name : SlotName) → IsPoolPlan plan places → IsSlotName plan name → IsQueuePlace plan p → p ≡ cell_place plan name → ⊥
 queue_no_cell plan places p name is named role e =
@@ -112,71 +130,46 @@ pub allocator_is : (plan : Plan) (places : ℕ) (kind : SlotKind) (stripe : ℕ)
 allocator_is plan places table_kind stripe is below = each_at IsStripe plan.tables 0 no_allocator is.tables is.table_shards
 allocator_is plan places memory_kind stripe is below = stripe_is plan places stripe is below
 allocator_is plan places stack_kind stripe is below = each_at IsStripe plan.stacks 0 no_allocator is.stacks is.stack_shards
-allocator_is plan places heap_kind stripe is below = stripe_is plan places stripe is below
-
--- it holds slots of the kind, or of memories
-abbrev kind_held : SlotKind → SlotKind
-kind_held table_kind = table_kind
-kind_held stack_kind = stack_kind
-kind_held kind = memory_kind
+allocator_is plan places heap_kind stripe is below = each_at IsStripe plan.heaps 0 no_allocator is.heaps is.heap_shards
 
 pub allocator_role : (plan : Plan) (places : ℕ) (kind : SlotKind) (stripe i : ℕ) → IsPoolPlan plan places → stripe < length plan.memories → i < (allocator_of plan kind stripe).shards → role_at plan ((allocator_of plan kind stripe).first_place + i) ≡ shard_role (allocator_of plan kind stripe) i
 allocator_role plan places table_kind stripe i is below inside = each_at (HasShards plan) plan.tables 0 no_allocator is.tables (shards_of plan table_kind is.planned.separate) i inside
 allocator_role plan places memory_kind stripe i is below inside = stripe_role plan places stripe i is below inside
 allocator_role plan places stack_kind stripe i is below inside = each_at (HasShards plan) plan.stacks 0 no_allocator is.stacks (shards_of plan stack_kind is.planned.separate) i inside
-allocator_role plan places heap_kind stripe i is below inside = stripe_role plan places stripe i is below inside
+allocator_role plan places heap_kind stripe i is below inside = each_at (HasShards plan) plan.heaps 0 no_allocator is.heaps (shards_of plan heap_kind is.planned.separate) i inside
 
-pub allocator_most : (plan : Plan) (places : ℕ) (kind : SlotKind) (stripe : ℕ) → IsPoolPlan plan places → stripe < length plan.memories → (allocator_of plan kind stripe).shards ≤ most_shards (flushed_allocators plan)
-allocator_most plan places table_kind stripe is below = omega (arith, most_at plan.tables 0 no_allocator is.tables, (most_more plan.tables plan.stacks).0, (most_more plan.memories (plan.tables ++ plan.stacks)).1)
-allocator_most plan places stack_kind stripe is below = omega (arith, most_at plan.stacks 0 no_allocator is.stacks, (most_more plan.tables plan.stacks).1, (most_more plan.memories (plan.tables ++ plan.stacks)).1)
-allocator_most plan places memory_kind stripe is below = omega (arith, most_at plan.memories stripe no_allocator below, (most_more plan.memories (plan.tables ++ plan.stacks)).0)
-allocator_most plan places heap_kind stripe is below = omega (arith, most_at plan.memories stripe no_allocator below, (most_more plan.memories (plan.tables ++ plan.stacks)).0)
+pub allocator_most : (plan : Plan) (places : ℕ) (kind : SlotKind) (stripe : ℕ) → IsPoolPlan plan places → stripe < length plan.memories → (allocator_of plan kind stripe).shards ≤ most_shards (searched_allocators plan)
+allocator_most plan places table_kind stripe is below = omega (arith, (most_more (plan.memories ++ (plan.tables ++ plan.stacks)) plan.heaps).0, most_at plan.tables 0 no_allocator is.tables, (most_more plan.tables plan.stacks).0, (most_more plan.memories (plan.tables ++ plan.stacks)).1)
+allocator_most plan places stack_kind stripe is below = omega (arith, (most_more (plan.memories ++ (plan.tables ++ plan.stacks)) plan.heaps).0, most_at plan.stacks 0 no_allocator is.stacks, (most_more plan.tables plan.stacks).1, (most_more plan.memories (plan.tables ++ plan.stacks)).1)
+allocator_most plan places memory_kind stripe is below = omega (arith, (most_more (plan.memories ++ (plan.tables ++ plan.stacks)) plan.heaps).0, most_at plan.memories stripe no_allocator below, (most_more plan.memories (plan.tables ++ plan.stacks)).0)
+allocator_most plan places heap_kind stripe is below = omega (arith, most_at plan.heaps 0 no_allocator is.heaps, (most_more (plan.memories ++ (plan.tables ++ plan.stacks)) plan.heaps).1)
 
--- what is allocated is a memory, a table or a stack, and the allocator holds slots of that kind
-if_kind : (b : Bool) → ((if b then memory_kind else table_kind) ≡ memory_kind) ⊎ (((if b then memory_kind else table_kind) ≡ table_kind) ⊎ ((if b then memory_kind else table_kind) ≡ stack_kind))
-if_kind true = inl refl
-if_kind false = inr (inl refl)
-
-kind_is_one : (asked : Asked) (n : ℕ) → (kind_by asked n ≡ memory_kind) ⊎ ((kind_by asked n ≡ table_kind) ⊎ (kind_by asked n ≡ stack_kind))
-kind_is_one stack_asked n = inr (inr refl)
-kind_is_one asked n = if_kind (nat_lt n (length (memories_wanted asked)))
-
-pub next_is : {P : Type 0} (f : Frame P) → (kind_next f ≡ memory_kind) ⊎ ((kind_next f ≡ table_kind) ⊎ (kind_next f ≡ stack_kind))
-next_is f = kind_is_one f.asked (length f.objects.memories.items)
-
-allocator_held : (plan : Plan) (places : ℕ) (kind : SlotKind) (stripe : ℕ) → IsPoolPlan plan places → stripe < length plan.memories → IsAllocator (kind_held kind) (of_kind (kind_held kind) plan.totals) (allocator_of plan kind stripe)
+-- it holds slots of that kind
+allocator_held : (plan : Plan) (places : ℕ) (kind : SlotKind) (stripe : ℕ) → IsPoolPlan plan places → stripe < length plan.memories → IsAllocator kind (of_kind kind plan.totals) (allocator_of plan kind stripe)
 allocator_held plan places table_kind stripe is below = each_at (IsAllocator table_kind plan.totals.table) plan.tables 0 no_allocator is.tables (is.planned.slots table_kind).each
 allocator_held plan places memory_kind stripe is below = stripe_holds plan places stripe is below
 allocator_held plan places stack_kind stripe is below = each_at (IsAllocator stack_kind plan.totals.stack) plan.stacks 0 no_allocator is.stacks (is.planned.slots stack_kind).each
-allocator_held plan places heap_kind stripe is below = stripe_holds plan places stripe is below
+allocator_held plan places heap_kind stripe is below = each_at (IsAllocator heap_kind plan.totals.heap) plan.heaps 0 no_allocator is.heaps (is.planned.slots heap_kind).each
 
-pub allocator_holds : {P : Type 0} (plan : Plan) (places : ℕ) (f : Frame P) → IsPoolPlan plan places → f.stripe < length plan.memories → IsAllocator (kind_next f) (of_kind (kind_next f) plan.totals) (allocator_for plan f)
-allocator_holds plan places f is stripe =
-    let H : SlotKind → Type 0 = λ k. IsAllocator k (of_kind k plan.totals) (allocator_of plan k f.stripe) in
-    elim (next_is f) [
-      | inl memory ↦ subst H (sym memory) (allocator_held plan places memory_kind f.stripe is stripe)
-      | inr rest ↦ elim rest [
-        | inl table ↦ subst H (sym table) (allocator_held plan places table_kind f.stripe is stripe)
-        | inr stack ↦ subst H (sym stack) (allocator_held plan places stack_kind f.stripe is stripe)
-      ]
-    ]
+pub allocator_holds : {P H : Type 0} (plan : Plan) (places : ℕ) (f : Frame P H) → IsPoolPlan plan places → f.stripe < length plan.memories → IsAllocator (kind_next f) (of_kind (kind_next f) plan.totals) (allocator_for plan f)
+allocator_holds plan places f is stripe = allocator_held plan places (kind_next f) f.stripe is stripe
 
 -- The home of a slot.
-pub at_home : (plan : Plan) (places : ℕ) (name : SlotName) → IsPoolPlan plan places → IsSlotName plan name → IsAtHome plan name (home_of plan name)
-at_home plan places name is named = slots_are_at_home plan places name is.planned named.inside
+pub at_home : (plan : Plan) (places : ℕ) (name : SlotName) → IsPoolPlan plan places → name.slot < of_kind name.kind plan.totals → IsAtHome plan name (home_of plan name)
+at_home plan places name is inside = slots_are_at_home plan places name is.planned inside
 
-pub home_place : (plan : Plan) (places : ℕ) (name : SlotName) → IsPoolPlan plan places → IsSlotName plan name → IsShardPlace plan (home_of plan name).place
-home_place plan places name is named =
-    let home = at_home plan places name is named in
+pub home_place : (plan : Plan) (places : ℕ) (name : SlotName) → IsPoolPlan plan places → name.slot < of_kind name.kind plan.totals → IsShardPlace plan (home_of plan name).place
+home_place plan places name is inside =
+    let home = at_home plan places name is inside in
     record { allocator = home.allocator; index = home.shard; role = home.role }
 
 -- a slot of the pool is one of its allocators'
-pub has_home : (plan : Plan) (places : ℕ) (name : SlotName) → IsPoolPlan plan places → IsSlotName plan name → 0 < have_number (allocators_of plan name.kind) name.slot
-has_home plan places name is named = omega (arith, (is.planned.slots name.kind).one name.slot named.inside)
+pub has_home : (plan : Plan) (places : ℕ) (name : SlotName) → IsPoolPlan plan places → name.slot < of_kind name.kind plan.totals → 0 < have_number (allocators_of plan name.kind) name.slot
+has_home plan places name is inside = omega (arith, (is.planned.slots name.kind).one name.slot inside)
 
 -- A slot of a shard is one of the pool, and at home there.
 pub record IsSlotAt (plan : Plan) (p : ℕ) (name : SlotName) : Type 0 where
-  pub named : IsSlotName plan name
+  pub inside : name.slot < of_kind name.kind plan.totals
   pub home : p ≡ (home_of plan name).place
 
 pub slot_at : (plan : Plan) (places p : ℕ) (a : Allocator) (j k : ℕ) (name : SlotName) → IsPoolPlan plan places → role_at plan p ≡ shard_role a j → k < slots_at a j → name.kind ≡ a.kind → name.slot ≡ number_in a (j * a.slots_per_shard + k) → IsSlotAt plan p name
@@ -184,9 +177,8 @@ slot_at plan places p a j k name is role below kind number =
     let of' = shard_of_kind plan places p a j is.planned role in
     let total : of_kind of'.kind plan.totals ≡ of_kind name.kind plan.totals = ap (λ (x : SlotKind). of_kind x plan.totals) (sym of'.is ∙ sym kind) in
     let in_shard : j * a.slots_per_shard + k < a.capacity = omega (arith, below) in
-    let inside : name.slot < of_kind name.kind plan.totals = omega (arith, number, of'.allocator.below (j * a.slots_per_shard + k) in_shard, total) in
     record {
-      named = record { pooled = is.pooled name.kind (omega (arith, inside)); inside = inside };
+      inside = omega (arith, number, of'.allocator.below (j * a.slots_per_shard + k) in_shard, total);
       home = home_there plan places p a j k name is.planned role kind below number;
     }
 
@@ -203,7 +195,7 @@ no_shard (a ∷ as') p r e more =
 pub queue_of_role : (plan : Plan) (places p : ℕ) → IsPoolPlan plan places → IsQueuePlace plan p → (i : ℕ) × (i < plan.queues) × (plan.first_queue + i ≡ p)
 queue_of_role plan places p is role =
     let queues : Block = record { first = plan.first_queue; count = plan.queues; role = λ i. queue_role } in
-    let heaps : Block = record { first = plan.heap_list; count = min 1 plan.totals.heap; role = λ i. heaps_role } in
+    let heaps : Block = record { first = plan.heap_list; count = min 1 plan.totals.heap; role = λ i. heaps_role plan.totals.heap } in
     let shards : List Block = map shards_block (allocators plan) in
     let cell : (kind : SlotKind) → ℕ → Role = λ kind q. cell_role (record { kind = kind; slot = q - of_kind kind plan.cells }) in
     let no_cell : ◌≡◌ {A = ℕ} 2 3 → ⊥ = λ e. omega (arith, e) in
@@ -218,7 +210,7 @@ queue_of_role plan places p is role =
           (p - plan.first_queue, omega (arith, from, below), omega (arith, from))
       | inr other ↦
           let e4 : role_among (heaps ∷ shards) p ≡ queue_role = (let passed : role_among (queues ∷ heaps ∷ shards) p ≡ role_among (heaps ∷ shards) p = rw other refl in sym passed ∙ e3) in
-          absurd (no_shard (allocators plan) p queue_role (passed_role (is_within heaps p) heaps_role (role_among shards p) queue_role e4 (λ same. let no : ◌≡◌ {A = ℕ} 4 3 = same in omega arith)) (omega arith))
+          absurd (no_shard (allocators plan) p queue_role (passed_role (is_within heaps p) (heaps_role plan.totals.heap) (role_among shards p) queue_role e4 (λ same. let no : ◌≡◌ {A = ℕ} 4 3 = same in omega arith)) (omega arith))
     ]
 
 -- a cell whose place the plan has is that of a slot of the pool
@@ -240,13 +232,13 @@ cell_in plan kind p name rest e =
     named (cell_role x) d = x
     named (shard_role a j) d = d
     named queue_role d = d
-    named heaps_role d = d
+    named (heaps_role n) d = d
     named no_role d = d
 
 pub cell_below : (plan : Plan) (p : ℕ) (name : SlotName) → role_at plan p ≡ cell_role name → name.slot < of_kind name.kind plan.totals
 cell_below plan p name role =
     let queues : Block = record { first = plan.first_queue; count = plan.queues; role = λ i. queue_role } in
-    let heaps : Block = record { first = plan.heap_list; count = min 1 plan.totals.heap; role = λ i. heaps_role } in
+    let heaps : Block = record { first = plan.heap_list; count = min 1 plan.totals.heap; role = λ i. heaps_role plan.totals.heap } in
     let shards : List Block = map shards_block (allocators plan) in
     elim (cell_in plan memory_kind p name (role_among (cells_block plan table_kind ∷ cells_block plan stack_kind ∷ queues ∷ heaps ∷ shards) p) role) [
       | inl below ↦ below
@@ -256,7 +248,7 @@ cell_below plan p name role =
           | inl below ↦ below
           | inr rest ↦
               let e4 = passed_role (is_within queues p) queue_role (role_among (heaps ∷ shards) p) (cell_role name) rest (λ same. let no : ◌≡◌ {A = ℕ} 3 2 = same in omega arith) in
-              let e5 = passed_role (is_within heaps p) heaps_role (role_among shards p) (cell_role name) e4 (λ same. let no : ◌≡◌ {A = ℕ} 4 2 = same in omega arith) in
+              let e5 = passed_role (is_within heaps p) (heaps_role plan.totals.heap) (role_among shards p) (cell_role name) e4 (λ same. let no : ◌≡◌ {A = ℕ} 4 2 = same in omega arith) in
               absurd (no_shard (allocators plan) p (cell_role name) e5 (omega arith))
         ]
       ]
@@ -274,19 +266,19 @@ queue_of : (owned : Bool) (home next : ℕ) → owned ≡ false → (if owned th
 queue_of true home next e = absurd cc
 queue_of false home next e = refl
 
-module _ {P : Type 0} where
+module _ {P H : Type 0} where
   -- The shard that is tried, and the queue, has its place.
-  pub tried_role : (tried : ℕ) (plan : Plan) (places : ℕ) (f : Frame P) → IsPoolPlan plan places → f.stripe < length plan.memories → role_at plan (shard_tried tried plan f) ≡ shard_role (allocator_for plan f) ((f.home + tried) % (allocator_for plan f).shards)
+  pub tried_role : (tried : ℕ) (plan : Plan) (places : ℕ) (f : Frame P H) → IsPoolPlan plan places → f.stripe < length plan.memories → role_at plan (shard_tried tried plan f) ≡ shard_role (allocator_for plan f) ((f.home + tried) % (allocator_for plan f).shards)
   tried_role tried plan places f is stripe =
       allocator_role plan places (kind_next f) f.stripe ((f.home + tried) % (allocator_for plan f).shards) is stripe (mod-lt (f.home + tried) (allocator_is plan places (kind_next f) f.stripe is stripe).some)
 
-  pub tried_is_shard : (tried : ℕ) (plan : Plan) (places : ℕ) (f : Frame P) → IsPoolPlan plan places → f.stripe < length plan.memories → IsShardPlace plan (shard_tried tried plan f)
+  pub tried_is_shard : (tried : ℕ) (plan : Plan) (places : ℕ) (f : Frame P H) → IsPoolPlan plan places → f.stripe < length plan.memories → IsShardPlace plan (shard_tried tried plan f)
   tried_is_shard tried plan places f is stripe = record { allocator = allocator_for plan f; index = (f.home + tried) % (allocator_for plan f).shards; role = tried_role tried plan places f is stripe }
 
-  pub queue_tried_at : (plan : Plan) (queues : ℕ) (f : Frame P) → plan.owned ≡ false → queue_tried queues plan f ≡ plan.first_queue + (f.home + queues) % plan.queues
+  pub queue_tried_at : (plan : Plan) (queues : ℕ) (f : Frame P H) → plan.owned ≡ false → queue_tried queues plan f ≡ plan.first_queue + (f.home + queues) % plan.queues
   queue_tried_at plan queues f shared = ap (λ (m : ℕ). plan.first_queue + m) (queue_of plan.owned f.home ((f.home + queues) % plan.queues) shared)
 
-  pub tried_is_queue : (queues : ℕ) (plan : Plan) (places : ℕ) (f : Frame P) → IsPoolPlan plan places → IsQueuePlace plan (queue_tried queues plan f)
+  pub tried_is_queue : (queues : ℕ) (plan : Plan) (places : ℕ) (f : Frame P H) → IsPoolPlan plan places → IsQueuePlace plan (queue_tried queues plan f)
   tried_is_queue queues plan places f is =
       let n : ℕ = (f.home + queues) % plan.queues in
       ap (role_at plan) (queue_tried_at plan queues f is.shared) ∙ queue_role_at plan places n is (mod-lt (f.home + queues) is.queues)

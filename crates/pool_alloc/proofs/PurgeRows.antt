@@ -1,10 +1,11 @@
 -- The steps of a purge, as they show.
+use Rattle.pool_slots.specs.SlotNames.{of_kind}
 use Rattle.std.proofs.Common.{◌≡◌, ℕ, ◌+◌, ◌*◌, ◌-◌, ◌<◌, ◌≤◌, Bool, true, false, List, length, refl, sym, ap, subst, ◌∙◌, arith, Option, Some, None, inr}
 use Rattle.std.specs.Prelude.{IfSome, nat_lt, if◌then◌else◌, option_map, ◌&&◌}
 use Rattle.std.proofs.lemmas.Bool.{ltb-true, lt-ltb, and_parts, true≢false}
 use Rattle.pool_pages.specs.MakerTold.{MakerTold}
 use Rattle.pool_pages.specs.Told.{Told, PageCall, remapping}
-use Rattle.pool_limits.specs.LimiterTold.{LimiterTold}
+use Rattle.pool_alloc.specs.PartyTold.{PartyTold}
 use Rattle.pool_images.specs.Slots.{Slot, IsClean, forgotten, called, without_image, without_mapped}
 use Rattle.pool_images.specs.declared.image_slot.ImageName.{ImageName}
 use Rattle.pool_images.proofs.Identity.{same_called}
@@ -59,7 +60,7 @@ use Rattle.pool_alloc.proofs.Ways.{Can, kept_part}
 
 -- nothing in hand
 abbrev pub nothing_held : Hand
-nothing_held = record { things = λ t. 0; instances = 0; memories = 0; tables = 0; stacks = 0 }
+nothing_held = record { things = λ t. 0; instances = 0; memories = 0; tables = 0; stacks = 0; heaps = 0 }
 
 -- there are turns where there are slots and memories
 has_some : (per_module : ℕ) (plan : Plan) → 0 < plan.totals.memory → 0 < per_module → has_turns per_module plan ≡ true
@@ -112,20 +113,20 @@ found_as : (t : Thing) (shard : ShardState) (o : Option SlotId) → shard.kind �
 found_as t shard None kind = refl
 found_as t shard (Some k) kind = ap (λ (x : SlotKind). t (pick_unit x (slot_number shard k.0))) kind
 
-module _ {P : Type 0} (maker : MakerTold) (old new : LimiterTold) where
-  abbrev Shows : PurgeCursor → PurgeStep P → PoolCore P → Frame P → Row (PoolCore P) P → Type 0
+module _ {P H : Type 0} (maker : MakerTold) (old new : PartyTold) where
+  abbrev Shows : PurgeCursor → PurgeStep P → PoolCore P H → Frame P H → Row (PoolCore P H) P H → Type 0
   Shows p step c f r = IsReadyRow maker old new c (in_phase (Purge p step) f) r
 
-  abbrev Left : PurgeCursor → PurgeStep P → PoolCore P → ℕ
+  abbrev Left : PurgeCursor → PurgeStep P → PoolCore P H → ℕ
   Left p step c = purge_left (sizes_of c.settings c.plan) p step
 
   -- The purge goes on where it can pick with fewer steps left, or ends, after a shard was changed.
-  to_ready : (p q : PurgeCursor) (step : PurgeStep P) (place : ℕ) (shard : ShardState) (c : PoolCore P) (f : Frame P) (o : Option PurgeCursor) (left : ℕ) → Kept maker old new c (in_phase (Purge p step) f) (with_shard place shard c) (in_phase Idle f) → IsAtRest f → Even maker old new c (in_phase (Purge p step) f) nothing_held (with_shard place shard c) (in_phase Idle f) →
+  to_ready : (p q : PurgeCursor) (step : PurgeStep P) (place : ℕ) (shard : ShardState) (c : PoolCore P H) (f : Frame P H) (o : Option PurgeCursor) (left : ℕ) → Kept maker old new c (in_phase (Purge p step) f) (with_shard place shard c) (in_phase Idle f) → IsAtRest f → Even maker old new c (in_phase (Purge p step) f) nothing_held (with_shard place shard c) (in_phase Idle f) →
       has_turns c.settings.max_memories_per_module c.plan ≡ true → IfSome o (λ n. IsPicking c.settings c.plan n 0 × (picks_of (sizes_of c.settings c.plan) n 0 ≤ left)) → left + 1 ≤ Left p step c → Ready maker old new c (in_phase (Purge p step) f) (with_shard place shard c) (in_phase Idle f) (purge_to q o)
   to_ready p q step place shard c f None left kept rest even has on few = record {
     kept = kept;
     shape = (rest, tt);
-    even = record { places = even.places; instances = even.instances; memories = even.memories; tables = even.tables; stacks = even.stacks };
+    even = record { places = even.places; instances = even.instances; memories = even.memories; tables = even.tables; stacks = even.stacks; heaps = even.heaps };
     fewer = omega (arith, few);
     way = tt;
     searched = λ s. tt;
@@ -135,14 +136,14 @@ module _ {P : Type 0} (maker : MakerTold) (old new : LimiterTold) where
       record {
         kept = kept;
         shape = (refl, (rest, inr on.0));
-        even = record { places = even.places; instances = even.instances; memories = even.memories; tables = even.tables; stacks = even.stacks };
+        even = record { places = even.places; instances = even.instances; memories = even.memories; tables = even.tables; stacks = even.stacks; heaps = even.heaps };
         fewer = omega (arith, few, on.1, number);
         way = tt;
         searched = λ s. tt;
       }
 
   -- A slot is picked by affinity, or none is.
-  affine_ready : (p : PurgeCursor) (tried place : ℕ) (next : ShardState) (o : Option SlotId) (shard : ShardState) (c : PoolCore P) (f : Frame P) → Can maker (Purge p (Pick tried)) c f → has_turns c.settings.max_memories_per_module c.plan ≡ true → IsPicking c.settings c.plan p tried → Kept maker old new c (in_phase (Purge p (Pick tried)) f) (with_shard place next c) (in_phase Idle f) →
+  affine_ready : (p : PurgeCursor) (tried place : ℕ) (next : ShardState) (o : Option SlotId) (shard : ShardState) (c : PoolCore P H) (f : Frame P H) → Can maker (Purge p (Pick tried)) c f → has_turns c.settings.max_memories_per_module c.plan ≡ true → IsPicking c.settings c.plan p tried → Kept maker old new c (in_phase (Purge p (Pick tried)) f) (with_shard place next c) (in_phase Idle f) →
       IfSome o (λ k. IsSlotName c.plan (memory_slot (slot_number shard k.0))) → Even maker old new c (in_phase (Purge p (Pick tried)) f) (record nothing_held { things = λ t. found_count t shard o }) (with_shard place next c) (in_phase Idle f) → Ready maker old new c (in_phase (Purge p (Pick tried)) f) (with_shard place next c) (in_phase Idle f) (affine_picked c.settings.max_memories_per_module c.plan p o shard tried)
   affine_ready p tried place next (Some k) shard c f can has picking kept named even =
       let z : PoolSizes = sizes_of c.settings c.plan in
@@ -154,7 +155,7 @@ module _ {P : Type 0} (maker : MakerTold) (old new : LimiterTold) where
       record {
         kept = kept;
         shape = (refl, (can.frame.shape.0, (record { stripe = at.stripe; memory = at.memory; turn = at.turn; some = at.some }, named, refl)));
-        even = record { places = λ t. omega (arith, even.places t); instances = even.instances; memories = even.memories; tables = even.tables; stacks = even.stacks };
+        even = record { places = λ t. omega (arith, even.places t); instances = even.instances; memories = even.memories; tables = even.tables; stacks = even.stacks; heaps = even.heaps };
         fewer = omega (arith, now, turn, most, picking.tried);
         way = tt;
         searched = λ s. tt;
@@ -163,26 +164,26 @@ module _ {P : Type 0} (maker : MakerTold) (old new : LimiterTold) where
       let z : PoolSizes = sizes_of c.settings c.plan in
       let now : Left p (Pick tried) c ≡ picks_of z p tried = rw has refl in
       let most = allocator_most c.plan (length c.parts) memory_kind p.stripe can.core.plan picking.purging.stripe in
-      let d : PoolCore P = with_shard place next c in
-      let e : Frame P = in_phase (Purge p (Pick tried)) f in
+      let d : PoolCore P H = with_shard place next c in
+      let e : Frame P H = in_phase (Purge p (Pick tried)) f in
       let rest = can.frame.shape.0 in
-      let none : Even maker old new c e nothing_held d (in_phase Idle f) = record { places = λ t. omega (arith, even.places t); instances = even.instances; memories = even.memories; tables = even.tables; stacks = even.stacks } in
+      let none : Even maker old new c e nothing_held d (in_phase Idle f) = record { places = λ t. omega (arith, even.places t); instances = even.instances; memories = even.memories; tables = even.tables; stacks = even.stacks; heaps = even.heaps } in
       either_ready maker old new c e d (in_phase Idle f) (nat_lt (tried + 1) (purged_stripe c.plan p).shards) (goes (Purge p (Pick (tried + 1)))) (purge_to p (behind_memory c.settings.max_memories_per_module c.plan p))
       (λ more.
       let later : Left p (Pick (tried + 1)) c ≡ picks_of z p (tried + 1) = rw has refl in
       record {
         kept = kept;
         shape = (refl, (rest, inr (record { purging = picking.purging; tried = ltb-true _ _ more })));
-        even = record { places = none.places; instances = none.instances; memories = none.memories; tables = none.tables; stacks = none.stacks };
+        even = record { places = none.places; instances = none.instances; memories = none.memories; tables = none.tables; stacks = none.stacks; heaps = none.heaps };
         fewer = omega (arith, now, later, most, picking.tried);
         way = tt;
         searched = λ s. tt;
       })
       (λ last. to_ready p p (Pick tried) place next c f (behind_memory c.settings.max_memories_per_module c.plan p) (memories_left z p) kept rest none has (memory_goes c.settings c.plan (length c.parts) can.core.plan picking.purging.some p picking.purging) (omega (arith, now, most, picking.tried)))
 
-  pick_affine_ready : (b : Bool) (p : PurgeCursor) (tried : ℕ) (c : PoolCore P) (f : Frame P) → Can maker (Purge p (Pick tried)) c f → has_turns c.settings.max_memories_per_module c.plan ≡ b → Shows p (Pick tried) c f (pick_affine_row b p tried c (in_phase Idle f))
+  pick_affine_ready : (b : Bool) (p : PurgeCursor) (tried : ℕ) (c : PoolCore P H) (f : Frame P H) → Can maker (Purge p (Pick tried)) c f → has_turns c.settings.max_memories_per_module c.plan ≡ b → Shows p (Pick tried) c f (pick_affine_row b p tried c (in_phase Idle f))
   pick_affine_ready true p tried c f can has =
-      let e : Frame P = in_phase (Purge p (Pick tried)) f in
+      let e : Frame P H = in_phase (Purge p (Pick tried)) f in
       let slots : 0 < c.plan.totals.memory = ltb-true _ _ (and_parts (nat_lt 0 c.plan.totals.memory) (nat_lt 0 c.settings.max_memories_per_module) has).0 in
       let picking : IsPicking c.settings c.plan p tried = picking_of c.settings c.plan (length c.parts) can.core.plan slots p tried has can.frame.shape.1 in
       let a : Allocator = purged_stripe c.plan p in
@@ -196,90 +197,90 @@ module _ {P : Type 0} (maker : MakerTold) (old new : LimiterTold) where
       affine_ready p tried j next (affine_answer of shard) shard c f can has picking
       (kept_part maker old new c e (with_shard j next c) (in_phase Idle f) (core_with_shard maker j next c can.core place (affine_sound of shard sound) (affine_same of shard sound)) (held_of maker c.settings c.plan e can.frame) refl refl refl refl)
       (told_weaker (λ (k : SlotId). k.0 < shard.capacity) (λ (k : SlotId). IsSlotName c.plan (memory_slot (slot_number shard k.0))) (affine_answer of shard)
-      (λ k within. subst (λ (x : SlotKind). IsSlotName c.plan (record { kind = x; slot = slot_number shard k.0 })) kind (slot_of_shard maker j k.0 c can.core place within).named) (affine_inside of shard sound))
-      (record { places = λ t. omega (arith, kept_shard t j next c (shard_part maker j c can.core place), away_shard t j next c (shard_part maker j c can.core place), affine_counts of shard sound t, found_as t shard (affine_answer of shard) kind); instances = omega (arith, counts_none f.asked); memories = omega arith; tables = omega arith; stacks = omega arith })
+      (λ k within. record { cells = tt; inside = subst (λ (x : SlotKind). slot_number shard k.0 < of_kind x c.plan.totals) kind (slot_of_shard maker j k.0 c can.core place within).inside }) (affine_inside of shard sound))
+      (record { places = λ t. omega (arith, kept_shard t j next c (shard_part maker j c can.core place), away_shard t j next c (shard_part maker j c can.core place), affine_counts of shard sound t, found_as t shard (affine_answer of shard) kind); instances = omega (arith, counts_none f.asked); memories = omega arith; tables = omega arith; stacks = omega arith; heaps = omega arith })
   pick_affine_ready false p tried c f can none =
-      let e : Frame P = in_phase (Purge p (Pick tried)) f in
+      let e : Frame P H = in_phase (Purge p (Pick tried)) f in
       let one : Left p (Pick tried) c ≡ 1 = rw none refl in
       record {
         kept = kept_part maker old new c e c (in_phase Idle f) can.core (held_of maker c.settings c.plan e can.frame) refl refl refl refl;
         shape = (can.frame.shape.0, tt);
-        even = record { places = λ t. omega arith; instances = omega (arith, counts_none f.asked); memories = omega arith; tables = omega arith; stacks = omega arith };
+        even = record { places = λ t. omega arith; instances = omega (arith, counts_none f.asked); memories = omega arith; tables = omega arith; stacks = omega arith; heaps = omega arith };
         fewer = omega (arith, one);
         way = tt;
         searched = λ s. tt;
       }
 
   -- Its region leaves the cell.
-  take_affine_ready : (p : PurgeCursor) (name : SlotName) (c : PoolCore P) (f : Frame P) → Can maker (Purge p (TakeRegion name)) c f → Shows p (TakeRegion name) c f (lifted (λ cell. with_cell name cell c) (take_affine_on p name (cell_named name c) (in_phase Idle f)))
+  take_affine_ready : (p : PurgeCursor) (name : SlotName) (c : PoolCore P H) (f : Frame P H) → Can maker (Purge p (TakeRegion name)) c f → Shows p (TakeRegion name) c f (lifted (λ cell. with_cell name cell c) (take_affine_on p name (cell_named name c) (in_phase Idle f)))
   take_affine_ready p name c f can =
-      let phase : Phase P = Purge p (TakeRegion name) in
-      let e : Frame P = in_phase phase f in
+      let phase : Phase P H = Purge p (TakeRegion name) in
+      let e : Frame P H = in_phase phase f in
       let named : IsSlotName c.plan name = can.frame.shape.1.1 in
       let cell : CellState = cell_named name c in
       let was = sound_cell maker name c can.core named in
-      let there = phase_home maker phase name c f can.core can.fits (omega (arith, slot_once name)) (slot_regions name name) in
+      let there = phase_home maker phase name c f can.core can.fits named.cells (omega (arith, slot_once name)) (slot_regions name name) in
       record {
-        kept = kept_part maker old new c e (with_cell name (cell_emptied cell) c) (in_phase Idle f) (core_with_cell maker name (cell_emptied cell) c can.core named (record { named = was.named; holds = emptied_holds maker c.settings name.kind name.slot named.pooled })) (held_of maker c.settings c.plan e can.frame) refl refl refl refl;
+        kept = kept_part maker old new c e (with_cell name (cell_emptied cell) c) (in_phase Idle f) (core_with_cell maker name (cell_emptied cell) c can.core named (record { named = was.named; holds = emptied_holds maker c.settings name.kind name.slot named.cells })) (held_of maker c.settings c.plan e can.frame) refl refl refl refl;
         shape = (refl, (can.frame.shape.0, (can.frame.shape.1.0, held_in P maker c.settings c.plan name cell.holds named was.holds there, can.frame.shape.1.2)));
-        even = record { places = λ t. let leaves = region_leaves maker t name c can.core named there in omega (arith, leaves.0, leaves.1); instances = omega (arith, counts_none f.asked); memories = omega arith; tables = omega arith; stacks = omega arith };
+        even = record { places = λ t. let leaves = region_leaves maker t name c can.core named there in omega (arith, leaves.0, leaves.1); instances = omega (arith, counts_none f.asked); memories = omega arith; tables = omega arith; stacks = omega arith; heaps = omega arith };
         fewer = omega arith;
         way = tt;
         searched = λ s. tt;
       }
 
   -- What it holds is forgotten.
-  forget_ready : (g : StepGiven) (p : PurgeCursor) (at : TakenSlot) (held : ImageSlot P) (c : PoolCore P) (f : Frame P) → Can maker (Purge p (Forget at held)) c f → Forgets g.fault held g.slot → Shows p (Forget at held) c f (purge_row g p (Forget at held) c (in_phase Idle f))
+  forget_ready : (g : StepGiven H) (p : PurgeCursor) (at : TakenSlot) (held : ImageSlot P) (c : PoolCore P H) (f : Frame P H) → Can maker (Purge p (Forget at held)) c f → Forgets g.fault held g.slot → Shows p (Forget at held) c f (purge_row g p (Forget at held) c (in_phase Idle f))
   forget_ready g p at held c f can told =
-      let e : Frame P = in_phase (Purge p (Forget at held)) f in
+      let e : Frame P H = in_phase (Purge p (Forget at held)) f in
       record {
         kept = kept_part maker old new c e c (in_phase Idle f) can.core (held_of maker c.settings c.plan e can.frame) refl refl refl refl;
         shape = (refl, (can.frame.shape.0, (can.frame.shape.1.0, forgotten_held P maker c.settings c.plan g.fault at.name held g.slot can.frame.shape.1.2 can.frame.shape.1.1 told, can.frame.shape.1.2)));
-        even = record { places = λ t. omega arith; instances = omega (arith, counts_none f.asked); memories = omega arith; tables = omega arith; stacks = omega arith };
+        even = record { places = λ t. omega arith; instances = omega (arith, counts_none f.asked); memories = omega arith; tables = omega arith; stacks = omega arith; heaps = omega arith };
         fewer = omega arith;
         way = tt;
         searched = λ s. tt;
       }
 
   -- The region comes back,
-  put_affine_ready : (p : PurgeCursor) (at : TakenSlot) (held : ImageSlot P) (c : PoolCore P) (f : Frame P) → Can maker (Purge p (PutRegion at held)) c f → Shows p (PutRegion at held) c f (lifted (λ cell. with_cell at.name cell c) (put_affine_on p at.name (cell_of held) (cell_named at.name c) (in_phase Idle f)))
+  put_affine_ready : (p : PurgeCursor) (at : TakenSlot) (held : ImageSlot P) (c : PoolCore P H) (f : Frame P H) → Can maker (Purge p (PutRegion at held)) c f → Shows p (PutRegion at held) c f (lifted (λ cell. with_cell at.name cell c) (put_affine_on p at.name (cell_of held) (cell_named at.name c) (in_phase Idle f)))
   put_affine_ready p at held c f can =
-      let phase : Phase P = Purge p (PutRegion at held) in
-      let e : Frame P = in_phase phase f in
+      let phase : Phase P H = Purge p (PutRegion at held) in
+      let e : Frame P H = in_phase phase f in
       let region = can.frame.shape.1.1 in
-      let gone = phase_gone maker phase at.name c f can.core can.fits at.numbers (omega (arith, unit_once at.name at.numbers)) in
+      let gone = phase_gone maker phase at.name c f can.core can.fits at.numbers region.named.cells (omega (arith, unit_once at.name at.numbers)) in
       let cell : CellState = cell_filled (cell_of held) (cell_named at.name c) in
       record {
         kept = kept_part maker old new c e (with_cell at.name cell c) (in_phase Idle f) (core_with_cell maker at.name cell c can.core region.named (record { named = (sound_cell maker at.name c can.core region.named).named; holds = region.holds })) (held_of maker c.settings c.plan e can.frame) refl refl refl refl;
         shape = (refl, (can.frame.shape.0, (can.frame.shape.1.0, region.named)));
-        even = record { places = λ t. let back = region_returns maker t at.name (cell_of held) c can.core region.named gone.away region.there in omega (arith, back.0, back.1, ap (region_count t at.name) gone.out); instances = omega (arith, counts_none f.asked); memories = omega arith; tables = omega arith; stacks = omega arith };
+        even = record { places = λ t. let back = region_returns maker t at.name (cell_of held) c can.core region.named gone.away region.there in omega (arith, back.0, back.1, ap (region_count t at.name) gone.out); instances = omega (arith, counts_none f.asked); memories = omega arith; tables = omega arith; stacks = omega arith; heaps = omega arith };
         fewer = omega arith;
         way = tt;
         searched = λ s. tt;
       }
 
   -- and the slot is freed.
-  free_affine_ready : (p : PurgeCursor) (name : SlotName) (c : PoolCore P) (f : Frame P) → Can maker (Purge p (Free name)) c f → Shows p (Free name) c f (lifted (λ shard. with_shard (home_of c.plan name).place shard c) (free_affine_on c.settings.max_memories_per_module c.plan p name (shard_at (home_of c.plan name).place c) (in_phase Idle f)))
+  free_affine_ready : (p : PurgeCursor) (name : SlotName) (c : PoolCore P H) (f : Frame P H) → Can maker (Purge p (Free name)) c f → Shows p (Free name) c f (lifted (λ shard. with_shard (home_of c.plan name).place shard c) (free_affine_on c.settings.max_memories_per_module c.plan p name (shard_at (home_of c.plan name).place c) (in_phase Idle f)))
   free_affine_ready p name c f can =
-      let phase : Phase P = Purge p (Free name) in
-      let e : Frame P = in_phase phase f in
+      let phase : Phase P H = Purge p (Free name) in
+      let e : Frame P H = in_phase phase f in
       let j : ℕ = (home_of c.plan name).place in
       let shard : ShardState = shard_at j c in
       let at : IsPurging c.settings c.plan p = can.frame.shape.1.0 in
       let named : IsSlotName c.plan name = can.frame.shape.1.1 in
-      let place = place_of maker c name can.core named in
+      let place = place_of maker c name can.core named.inside in
       let used = (phase_out maker phase name c f can.core can.fits (omega (arith, slot_once name))).used in
       let freed : ShardState = after_free (home_of c.plan name).local 0 shard in
-      let there : IsShardPlace c.plan j = home_place c.plan (length c.parts) name can.core.plan named in
+      let there : IsShardPlace c.plan j = home_place c.plan (length c.parts) name can.core.plan named.inside in
       let next_shard : IsShardOf shard freed = freed_shard (home_of c.plan name).local 0 shard (sound_shard maker j c can.core there) (some_used _ used) (omega arith) in
       let turns : has_turns c.settings.max_memories_per_module c.plan ≡ true = has_some c.settings.max_memories_per_module c.plan at.some (omega (arith, at.memory)) in
       to_ready p p (Free name) j freed c f (behind_turn c.settings.max_memories_per_module c.plan p) (turns_left (sizes_of c.settings c.plan) p)
       (kept_part maker old new c e (with_shard j freed c) (in_phase Idle f) (core_with_shard maker j freed c can.core there next_shard.sound next_shard.same) (held_of maker c.settings c.plan e can.frame) refl refl refl refl)
       can.frame.shape.0
-      (record { places = λ t. omega (arith, kept_shard t j freed c (shard_part maker j c can.core there), away_shard t j freed c (shard_part maker j c can.core there), freed_one t c.plan shard name 0 place used); instances = omega (arith, counts_none f.asked); memories = omega arith; tables = omega arith; stacks = omega arith })
+      (record { places = λ t. omega (arith, kept_shard t j freed c (shard_part maker j c can.core there), away_shard t j freed c (shard_part maker j c can.core there), freed_one t c.plan shard name 0 place used); instances = omega (arith, counts_none f.asked); memories = omega arith; tables = omega arith; stacks = omega arith; heaps = omega arith })
       turns (turn_goes c.settings c.plan (length c.parts) can.core.plan at.some p at) (omega arith)
 
-  pub purge_ready : (g : StepGiven) (p : PurgeCursor) (step : PurgeStep P) (c : PoolCore P) (f : Frame P) → Can maker (Purge p step) c f → PurgeTold g step → Shows p step c f (purge_row g p step c (in_phase Idle f))
+  pub purge_ready : (g : StepGiven H) (p : PurgeCursor) (step : PurgeStep P) (c : PoolCore P H) (f : Frame P H) → Can maker (Purge p step) c f → PurgeTold g step → Shows p step c f (purge_row g p step c (in_phase Idle f))
   purge_ready g p (Pick tried) c f can told = pick_affine_ready (has_turns c.settings.max_memories_per_module c.plan) p tried c f can refl
   purge_ready g p (TakeRegion name) c f can told = take_affine_ready p name c f can
   purge_ready g p (Forget at held) c f can told = forget_ready g p at held c f can told

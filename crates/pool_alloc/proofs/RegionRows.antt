@@ -11,8 +11,8 @@ use Rattle.pool_alloc.specs.TableSteps.{AsksForTable, table_made}
 use Rattle.pool_alloc.specs.TableLeases.{LeasedTable, table_slot, table_taken}
 use Rattle.pool_alloc.specs.PoolTables.{IsTableLease, IsBegunTable}
 use Rattle.pool_slots.specs.declared.plan.Plan.{Plan}
-use Rattle.pool_alloc.proofs.PlanPlaces.{IsShardPlace, home_place, next_is}
-use Rattle.std.proofs.Common.{◌≡◌, ℕ, ◌+◌, ◌<◌, ◌≤◌, Bool, true, false, List, [], ◌∷◌, ◌++◌, length, refl, sym, ap, subst, inl, inr, arith, Option, Some, None, Result, Ok, Err, ◌∙◌}
+use Rattle.pool_alloc.proofs.PlanPlaces.{IsShardPlace, home_place}
+use Rattle.std.proofs.Common.{◌≡◌, ℕ, ◌+◌, ◌<◌, ◌≤◌, Bool, true, false, List, [], ◌∷◌, ◌++◌, length, refl, sym, ap, subst, inl, inr, arith, Option, Some, None, Result, Ok, Err, ◌∙◌, ◌⊎◌}
 use Rattle.std.specs.Prelude.{◌^◌, nat_le, nat_lt, if◌then◌else◌, IfSome, IsSome, IfOk, slice_get, slice_index_or}
 use Rattle.std.proofs.lemmas.List.{length_push, nil_from_length}
 use Rattle.std.proofs.lemmas.List.Elements.{All-push}
@@ -39,12 +39,12 @@ use Rattle.pool_alloc.specs.Reserved.{with_item}
 use Rattle.pool_alloc.specs.Answers.{Empties, InstantiatesAs, InstantiatesFor}
 use Rattle.pool_alloc.specs.Modules.{IfAllocated, IfTable}
 use Rattle.pool_pages.specs.MakerTold.{MakerTold}
-use Rattle.pool_limits.specs.LimiterTold.{LimiterTold}
+use Rattle.pool_alloc.specs.PartyTold.{PartyTold}
 use Rattle.pool_alloc.specs.declared.pool_core.PoolCore.{PoolCore}
 use Rattle.pool_alloc.specs.declared.pool_core.Settings.{Settings}
 use Rattle.pool_alloc.specs.declared.frame.Ending.{Ending}
 use Rattle.pool_alloc.specs.declared.frame.Asked.{Asked}
-use Rattle.pool_alloc.specs.declared.frame.Asked.TheVariants.{Stack as stack_asked}
+use Rattle.pool_alloc.specs.declared.frame.Asked.TheVariants.{Stack as stack_asked, Heap as heap_asked}
 use Rattle.pool_alloc.specs.declared.frame.Frame.{Frame}
 use Rattle.pool_alloc.specs.declared.frame.Phase.{Phase}
 use Rattle.pool_alloc.specs.declared.frame.TakenSlot.{TakenSlot}
@@ -55,13 +55,13 @@ use Rattle.pool_images.specs.Slots.{IsClean, IsLeft}
 use Rattle.std.specs.Prelude.{is_some}
 use Rattle.pool_alloc.specs.Leases.{IsUsable, memory_slot}
 use Rattle.pool_alloc.specs.Own.{made_of, made_of_limits, made_for, memory_made, image_made}
-use Rattle.pool_alloc.specs.Places.{Thing, right_to, both_count, phase_count, phase_instances, phase_memories, region_count, taken_count, phase_tables, phase_stacks, instances_for}
+use Rattle.pool_alloc.specs.Places.{Thing, right_to, both_count, phase_count, phase_instances, phase_memories, region_count, taken_count, phase_tables, phase_stacks, phase_heaps, instances_for}
 use Rattle.pool_alloc.specs.Rows.{in_cell, in_shard, region_next, take_region_on, paged, empty_row, instantiate_row, was_made, make_memory_row, count_object_row, put_back_on, free_one_on, unmapped_next, was_made_table, make_table_row}
 use Rattle.pool_alloc.specs.Searches.{AreEmpty, IsSearchedBy, IsSearchedAt, IsSearched}
-use Rattle.pool_alloc.specs.Sound.{IsCore, IsLeaseOf, IsToGrant, IsAllocating, HasNoneWaiting, IsShapedAt, IsSupported, HasSlot, HasBegun, IsMadeOf, IsNew, IsPoolSlot, MayHold, HasRegion, IsPooled, IsSlotName, IsTableSupported, HasTable, IsMemoryNext, IsTableNext, IsStackNext, IsEnabled, AreLeasesOf}
+use Rattle.pool_alloc.specs.Sound.{IsCore, IsLeaseOf, IsToGrant, IsAllocating, HasNoneWaiting, IsShapedAt, IsSupported, HasSlot, HasBegun, IsMadeOf, IsNew, IsPoolSlot, MayHold, HasRegion, HasCells, IsSlotName, IsTableSupported, HasTable, IsMemoryNext, IsTableNext, IsStackNext, IsEnabled, AreLeasesOf, IsHeapNext}
 use Rattle.pool_alloc.specs.Stages.{Stage, refusing, stage_by, stage_at, Goes, stage_of}
 use Rattle.pool_alloc.specs.Stepping.{is_idle}
-use Rattle.pool_alloc.specs.Steps.{memories_wanted, images_wanted, image_wanted, shard_at, with_shard, with_cell, memory_slots, cell_named, tables_wanted, stacks_wanted, kind_next, kind_by}
+use Rattle.pool_alloc.specs.Steps.{memories_wanted, images_wanted, image_wanted, shard_at, with_shard, with_cell, memory_slots, cell_named, tables_wanted, stacks_wanted, heaps_wanted, IsForInstance, kind_next, kind_by, kind_last}
 use Rattle.pool_alloc.specs.Turns.{Row, gone_to, next}
 use Rattle.pool_alloc.proofs.CoreChanges.{core_with_shard, core_with_cell, core_with_counters}
 use Rattle.pool_alloc.proofs.Hands.{returns_less, none_for_stack, in_phase, held_of, Even, Kept, Ready, IsReadyRow, hand}
@@ -74,7 +74,7 @@ use Rattle.pool_alloc.proofs.SlotIdentity.{IsOneSlot, one_wiped, slot_of_one, sl
 use Rattle.pool_alloc.proofs.ShardFrees.{IsShardOf, freed_shard}
 use Rattle.pool_alloc.proofs.Stages.{picked_is_home, back_is_away, back_is_used}
 use Rattle.pool_alloc.proofs.Telling.{told_both, told_weaker, told_there}
-use Rattle.pool_alloc.proofs.Ways.{Can, searched_back, push_at, aims_grant, aims_back, next_returns, kept_part, same_way, sought_way, granted_stack_way, admitted_way, made_way, next_object}
+use Rattle.pool_alloc.proofs.Ways.{Can, searched_back, push_at, aims_grant, aims_back, next_returns, kept_part, same_way, sought_way, granted_stack_way, memory_fails_way, memory_made_way, admitted_way, made_way, next_object}
 use Rattle.pool_alloc.proofs.PoolParts.{sound_shard, sound_cell, shard_part}
 use Rattle.pool_slots.specs.declared.slot_name.SlotName.{SlotName}
 use Rattle.pool_hall.specs.declared.unit_name.SlotKind.{SlotKind}
@@ -83,7 +83,7 @@ use Rattle.pool_alloc.specs.declared.frame.Object.{Object}
 use Rattle.pool_slots.specs.declared.cells.ImageSlot.{ImageSlot}
 use Rattle.pool_slots.specs.Plans.{home_of}
 use Rattle.pool_slots.specs.CellOf.{cell_of}
-use Rattle.pool_hall.specs.declared.unit_name.SlotKind.TheVariants.{Memory as memory_kind, Table as table_kind, Stack as stack_kind}
+use Rattle.pool_hall.specs.declared.unit_name.SlotKind.TheVariants.{Memory as memory_kind, Table as table_kind, Stack as stack_kind, Heap as heap_kind}
 use Rattle.pool_alloc.specs.declared.frame.Object.TheVariants.{Memory, Table, Stack}
 use Rattle.pool_slots.specs.CellOf.{cell_of}
 use Rattle.pool_alloc.specs.declared.lease.InstanceLease.{InstanceLease}
@@ -149,7 +149,7 @@ name_of name kind = (λ i. record { kind = kind i; slot = name.slot })
 
 pub goes_back : (maker : MakerTold) (s : Settings) (plan : Plan) (name : SlotName) (held : Slot) → HasSlot maker s plan name held → HasRegion maker s plan name (unknown held)
 goes_back maker s plan name held has = record {
-  named = record { pooled = subst IsPooled (sym has.kind) tt; inside = subst (λ (k : SlotKind). name.slot < of_kind k plan.totals) (sym has.kind) has.inside };
+  named = record { cells = subst HasCells (sym has.kind) tt; inside = subst (λ (k : SlotKind). name.slot < of_kind k plan.totals) (sym has.kind) has.inside };
   holds = may_hold maker s name.kind name.slot held has.kind has.region;
   there = refl;
 }
@@ -175,57 +175,73 @@ some_used None e = absurd cc
 some_used (Some x) e = refl
 
 -- An empty cell is one of its slot.
-pub emptied_holds : (maker : MakerTold) (s : Settings) (kind : SlotKind) (i : ℕ) → IsPooled kind → MayHold maker s kind i taken
+pub emptied_holds : (maker : MakerTold) (s : Settings) (kind : SlotKind) (i : ℕ) → HasCells kind → MayHold maker s kind i taken
 emptied_holds maker s memory_kind i pooled = tt
 emptied_holds maker s table_kind i pooled = tt
 emptied_holds maker s stack_kind i pooled = tt
-emptied_holds maker s kind i pooled = absurd pooled
+emptied_holds maker s heap_kind i pooled = absurd pooled
 
--- what is allocated is a memory, a table or a stack
-memory_if : (b : Bool) → (if b then memory_kind else table_kind) ≡ memory_kind → b ≡ true
-memory_if true is = refl
-memory_if false is = let no : ◌≡◌ {A = ℕ} 1 0 = ap kind_number is in absurd (omega arith)
+-- a slot that has a cell is a memory's, a table's or a stack's
+cells_of : (kind : SlotKind) → HasCells kind → (kind ≡ memory_kind) ⊎ ((kind ≡ table_kind) ⊎ (kind ≡ stack_kind))
+cells_of memory_kind cells = inl refl
+cells_of table_kind cells = inr (inl refl)
+cells_of stack_kind cells = inr (inr refl)
+cells_of heap_kind cells = absurd cells
 
-table_if : (b : Bool) → (if b then memory_kind else table_kind) ≡ table_kind → b ≡ false
-table_if true is = let no : ◌≡◌ {A = ℕ} 0 1 = ap kind_number is in absurd (omega arith)
-table_if false is = refl
+-- what is allocated is a memory, a table, a stack or a heap
+memory_if : (b : Bool) (last : SlotKind) → 0 < kind_number last → (if b then memory_kind else last) ≡ memory_kind → b ≡ true
+memory_if true last other is = refl
+memory_if false last other is = absurd (omega (arith, other, ap kind_number is))
 
-stack_if : (b : Bool) → (if b then memory_kind else table_kind) ≡ stack_kind → ⊥
-stack_if true is = let no : ◌≡◌ {A = ℕ} 0 2 = ap kind_number is in omega arith
-stack_if false is = let no : ◌≡◌ {A = ℕ} 1 2 = ap kind_number is in omega arith
+last_if : (b : Bool) (last : SlotKind) → 0 < kind_number last → (if b then memory_kind else last) ≡ last → b ≡ false
+last_if true last other is = absurd (omega (arith, other, ap kind_number is))
+last_if false last other is = refl
+
+never_if : (b : Bool) (last kind : SlotKind) → 0 < kind_number kind → (kind_number last ≡ kind_number kind → ⊥) → (if b then memory_kind else last) ≡ kind → ⊥
+never_if true last kind some other is = omega (arith, some, ap kind_number is)
+never_if false last kind some other is = other (ap kind_number is)
 
 memory_by : (asked : Asked) (n : ℕ) → kind_by asked n ≡ memory_kind → n < length (memories_wanted asked)
 memory_by stack_asked n is = let no : ◌≡◌ {A = ℕ} 2 0 = ap kind_number is in absurd (omega arith)
-memory_by asked n is = ltb-true n (length (memories_wanted asked)) (memory_if (nat_lt n (length (memories_wanted asked))) is)
+memory_by asked n is = ltb-true n (length (memories_wanted asked)) (memory_if (nat_lt n (length (memories_wanted asked))) (kind_last asked) (omega arith) is)
 
-table_by : (asked : Asked) (n : ℕ) → kind_by asked n ≡ table_kind → (length (memories_wanted asked) ≤ n) × (stacks_wanted asked ≡ 0)
+table_by : (asked : Asked) (n : ℕ) → kind_by asked n ≡ table_kind → (length (memories_wanted asked) ≤ n) × IsForInstance asked
 table_by stack_asked n is = let no : ◌≡◌ {A = ℕ} 2 1 = ap kind_number is in absurd (omega arith)
-table_by asked n is = (ltb-false n (length (memories_wanted asked)) (table_if (nat_lt n (length (memories_wanted asked))) is), refl)
+table_by (heap_asked ty) n is = absurd (never_if (nat_lt n 1) heap_kind table_kind (omega arith) (λ same. omega (arith, same)) is)
+table_by asked n is = (ltb-false n (length (memories_wanted asked)) (last_if (nat_lt n (length (memories_wanted asked))) table_kind (omega arith) is), record { no_stack = refl; no_heap = refl })
 
 stack_by : (asked : Asked) (n : ℕ) → kind_by asked n ≡ stack_kind → asked ≡ stack_asked
 stack_by stack_asked n is = refl
-stack_by asked n is = absurd (stack_if (nat_lt n (length (memories_wanted asked))) is)
+stack_by asked n is = absurd (never_if (nat_lt n (length (memories_wanted asked))) (kind_last asked) stack_kind (omega arith) (λ same. omega (arith, same)) is)
+
+heap_by : (asked : Asked) (n : ℕ) → kind_by asked n ≡ heap_kind → (length (memories_wanted asked) ≤ n) × (heaps_wanted asked ≡ 1)
+heap_by stack_asked n is = let no : ◌≡◌ {A = ℕ} 2 3 = ap kind_number is in absurd (omega arith)
+heap_by (heap_asked ty) n is = (ltb-false n 1 (last_if (nat_lt n 1) heap_kind (omega arith) is), refl)
+heap_by asked n is = absurd (never_if (nat_lt n (length (memories_wanted asked))) table_kind heap_kind (omega arith) (λ same. omega (arith, same)) is)
 
 -- a memory is none of a stack's call
 pub no_stack_by : (asked : Asked) (n : ℕ) → n < length (memories_wanted asked) → stacks_wanted asked ≡ 0
 no_stack_by stack_asked n more = absurd (omega (arith, more))
 no_stack_by asked n more = refl
 
-module _ {P : Type 0} where
-  pub memory_next : (f : Frame P) → kind_next f ≡ memory_kind → IsMemoryNext f
+module _ {P H : Type 0} where
+  pub memory_next : (f : Frame P H) → kind_next f ≡ memory_kind → IsMemoryNext f
   memory_next f is = memory_by f.asked (length f.objects.memories.items) is
 
-  pub table_next : (f : Frame P) → kind_next f ≡ table_kind → IsTableNext f
+  pub table_next : (f : Frame P H) → kind_next f ≡ table_kind → IsTableNext f
   table_next f is = table_by f.asked (length f.objects.memories.items) is
 
-  pub stack_next : (f : Frame P) → kind_next f ≡ stack_kind → IsStackNext f
+  pub stack_next : (f : Frame P H) → kind_next f ≡ stack_kind → IsStackNext f
   stack_next f is = stack_by f.asked (length f.objects.memories.items) is
 
-  pub no_stack : (f : Frame P) → IsMemoryNext f → stacks_wanted f.asked ≡ 0
+  pub heap_is_next : (f : Frame P H) → kind_next f ≡ heap_kind → IsHeapNext f
+  heap_is_next f is = heap_by f.asked (length f.objects.memories.items) is
+
+  pub no_stack : (f : Frame P H) → IsMemoryNext f → stacks_wanted f.asked ≡ 0
   no_stack f more = no_stack_by f.asked (length f.objects.memories.items) more
 
   -- What is made of a region that lies in its cell can be made.
-  pub region_is_fresh : (maker : MakerTold) (name : SlotName) (c : PoolCore P) → IsCore maker c → IsSlotName c.plan name → (region : Told) → (cell_named name c).holds ≡ unmapped region → CanUnmap c.settings name region
+  pub region_is_fresh : (maker : MakerTold) (name : SlotName) (c : PoolCore P H) → IsCore maker c → IsSlotName c.plan name → (region : Told) → (cell_named name c).holds ≡ unmapped region → CanUnmap c.settings name region
   region_is_fresh maker name c core named region is =
       let C : SlotKind → Cell → Type 0 = λ k held. MayHold maker c.settings k name.slot held in
       let holds : C name.kind (unmapped region) = subst (C name.kind) is (sound_cell maker name c core named).holds in
@@ -234,20 +250,20 @@ module _ {P : Type 0} where
         plain = λ kind. (let stack : C stack_kind (unmapped region) = subst (λ (k : SlotKind). C k (unmapped region)) kind holds in stack.plain);
       }
 
-  one_told : (s : Settings) (fault : Bool) (new had : Slot) (f : Frame P) → IsMemoryNext f → IfAllocated f (λ decl. InstantiatesFor s decl fault (image_wanted f) had new) → IsOneSlot had new
+  one_told : (s : Settings) (fault : Bool) (new had : Slot) (f : Frame P H) → IsMemoryNext f → IfAllocated f (λ decl. InstantiatesFor s decl fault (image_wanted f) had new) → IsOneSlot had new
   one_told s fault new had f more told =
       told_there (IsOneSlot had new) (memories_wanted f.asked) (length f.objects.memories.items) more
       (told_weaker (λ decl. InstantiatesFor s decl fault (image_wanted f) had new) (λ decl. IsOneSlot had new) (slice_get (memories_wanted f.asked) (length f.objects.memories.items))
       (λ decl tells. one_instantiated fault (minimum_byte_size decl.ty) (hides decl.ty s.tunables had.region.page) (image_wanted f) had new tells) told)
 
-  memory_new : (room : ℕ) (f : Frame P) (had : Slot) (memory : MemoryState) → IsMadeIn room (memories_wanted f.asked) (length f.objects.memories.items) had memory → IfAllocated f (HasBegun (image_wanted f) had) → IfAllocated f (IsNew room (image_wanted f) memory)
+  memory_new : (room : ℕ) (f : Frame P H) (had : Slot) (memory : MemoryState) → IsMadeIn room (memories_wanted f.asked) (length f.objects.memories.items) had memory → IfAllocated f (HasBegun (image_wanted f) had) → IfAllocated f (IsNew room (image_wanted f) memory)
   memory_new room f had memory in_slot begun =
       let B : Slot → Type 0 = λ s. IfAllocated f (HasBegun (image_wanted f) s) in
       told_both (HasBegun (image_wanted f) (slot_of memory)) (IsMadeOf room memory) (IsNew room (image_wanted f) memory) (slice_get (memories_wanted f.asked) (length f.objects.memories.items))
       (λ decl has made. record { slot = has; made = made })
       (subst B (sym in_slot.slot) begun) in_slot.made
 
-  memory_of : (s : Settings) (plan : Plan) (f : Frame P) (memory : MemoryState) → IsAllocating s plan f → IsMemoryNext f → IfAllocated f (IsNew s.max_memory_size (image_wanted f) memory) → IsUsable memory
+  memory_of : (s : Settings) (plan : Plan) (f : Frame P H) (memory : MemoryState) → IsAllocating s plan f → IsMemoryNext f → IfAllocated f (IsNew s.max_memory_size (image_wanted f) memory) → IsUsable memory
   memory_of s plan f memory allocating more new =
       let k : ℕ = length f.objects.memories.items in
       told_there (IsUsable memory) (memories_wanted f.asked) k more
@@ -259,34 +275,34 @@ module _ {P : Type 0} where
         fixed = is.made.fixed;
       }) (allocating.to_grant.supported.each k) new)
 
-module _ {P : Type 0} (maker : MakerTold) (old new : LimiterTold) where
-  abbrev Shows : Phase P → PoolCore P → Frame P → Row (PoolCore P) P → Type 0
+module _ {P H : Type 0} (maker : MakerTold) (old new : PartyTold) where
+  abbrev Shows : Phase P H → PoolCore P H → Frame P H → Row (PoolCore P H) P H → Type 0
   Shows p c f r = IsReadyRow maker old new c (in_phase p f) r
 
   -- The region leaves its cell.
-  abbrev emptied : SlotName → PoolCore P → PoolCore P
+  abbrev emptied : SlotName → PoolCore P H → PoolCore P H
   emptied name c = with_cell name (cell_emptied (cell_named name c)) c
 
-  taken_kept : (name : SlotName) (c : PoolCore P) (f : Frame P) → Can maker (TakeRegion name) c f → Kept maker old new c (in_phase (TakeRegion name) f) (emptied name c) (in_phase Idle f)
+  taken_kept : (name : SlotName) (c : PoolCore P H) (f : Frame P H) → Can maker (TakeRegion name) c f → Kept maker old new c (in_phase (TakeRegion name) f) (emptied name c) (in_phase Idle f)
   taken_kept name c f can =
       let named : IsSlotName c.plan name = can.frame.shape.2 in
       let was = sound_cell maker name c can.core named in
-      kept_part maker old new c (in_phase (TakeRegion name) f) (emptied name c) (in_phase Idle f) (core_with_cell maker name (cell_emptied (cell_named name c)) c can.core named (record { named = was.named; holds = emptied_holds maker c.settings name.kind name.slot named.pooled })) (held_of maker c.settings c.plan (in_phase (TakeRegion name) f) can.frame) refl refl refl refl
+      kept_part maker old new c (in_phase (TakeRegion name) f) (emptied name c) (in_phase Idle f) (core_with_cell maker name (cell_emptied (cell_named name c)) c can.core named (record { named = was.named; holds = emptied_holds maker c.settings name.kind name.slot named.cells })) (held_of maker c.settings c.plan (in_phase (TakeRegion name) f) can.frame) refl refl refl refl
 
-  taken_even : (at : TakenSlot) (c : PoolCore P) (f : Frame P) → Can maker (TakeRegion at.name) c f → at.numbers ≡ cell_numbers (cell_named at.name c) → Even maker old new c (in_phase (TakeRegion at.name) f) (record { things = λ t. taken_count t at; instances = 1; memories = 0; tables = 0; stacks = 0 }) (emptied at.name c) (in_phase Idle f)
-  taken_even at c f can its = record { places = λ t. let leaves = region_leaves maker t at.name c can.core can.frame.shape.2 (picked_is_home maker at.name c f can.core can.fits) in omega (arith, leaves.0, leaves.1, ap (region_count t at.name) its); instances = omega arith; memories = omega arith; tables = omega arith; stacks = omega arith }
+  taken_even : (at : TakenSlot) (c : PoolCore P H) (f : Frame P H) → Can maker (TakeRegion at.name) c f → at.numbers ≡ cell_numbers (cell_named at.name c) → Even maker old new c (in_phase (TakeRegion at.name) f) (record { things = λ t. taken_count t at; instances = 1; memories = 0; tables = 0; stacks = 0; heaps = 0 }) (emptied at.name c) (in_phase Idle f)
+  taken_even at c f can its = record { places = λ t. let leaves = region_leaves maker t at.name c can.core can.frame.shape.2 (picked_is_home maker at.name c f can.frame.shape.2.cells can.core can.fits) in omega (arith, leaves.0, leaves.1, ap (region_count t at.name) its); instances = omega arith; memories = omega arith; tables = omega arith; stacks = omega arith; heaps = omega arith }
 
   -- It is that of a slot of this kind.
-  record HasLeft (kind : SlotKind) (at : TakenSlot) (c : PoolCore P) (f : Frame P) : Type 0 where
+  record HasLeft (kind : SlotKind) (at : TakenSlot) (c : PoolCore P H) (f : Frame P H) : Type 0 where
     can : Can maker (TakeRegion at.name) c f
     numbers : at.numbers ≡ cell_numbers (cell_named at.name c)
     kind_is : at.name.kind ≡ kind
     next : kind_next f ≡ kind
 
-  has_left : (at : TakenSlot) (held : Slot) (c : PoolCore P) (f : Frame P) → HasLeft memory_kind at c f → IsPoolSlot maker c.settings at.name.slot held → HasSlot maker c.settings c.plan at.name held
+  has_left : (at : TakenSlot) (held : Slot) (c : PoolCore P H) (f : Frame P H) → HasLeft memory_kind at c f → IsPoolSlot maker c.settings at.name.slot held → HasSlot maker c.settings c.plan at.name held
   has_left at held c f left of = record { kind = left.kind_is; inside = memory_inside c.plan at.name left.kind_is left.can.frame.shape.2; region = of }
 
-  holds_ready : (at : TakenSlot) (held : Cell) (c : PoolCore P) (f : Frame P) → HasLeft memory_kind at c f → MayHold maker c.settings memory_kind at.name.slot held → is_taken held ≡ false → Ready maker old new c (in_phase (TakeRegion at.name) f) (emptied at.name c) (in_phase Idle f) (region_next c.settings at held)
+  holds_ready : (at : TakenSlot) (held : Cell) (c : PoolCore P H) (f : Frame P H) → HasLeft memory_kind at c f → MayHold maker c.settings memory_kind at.name.slot held → is_taken held ≡ false → Ready maker old new c (in_phase (TakeRegion at.name) f) (emptied at.name c) (in_phase Idle f) (region_next c.settings at held)
   holds_ready at (unmapped region) c f left holds there =
       let can = left.can in
       let s : Settings = c.settings in
@@ -322,7 +338,7 @@ module _ {P : Type 0} (maker : MakerTold) (old new : LimiterTold) where
       }
   holds_ready at taken c f left holds there = absurd cc
 
-  table_holds_ready : (at : TakenSlot) (held : Cell) (c : PoolCore P) (f : Frame P) → HasLeft table_kind at c f → MayHold maker c.settings table_kind at.name.slot held → is_taken held ≡ false → Ready maker old new c (in_phase (TakeRegion at.name) f) (emptied at.name c) (in_phase Idle f) (region_next c.settings at held)
+  table_holds_ready : (at : TakenSlot) (held : Cell) (c : PoolCore P H) (f : Frame P H) → HasLeft table_kind at c f → MayHold maker c.settings table_kind at.name.slot held → is_taken held ≡ false → Ready maker old new c (in_phase (TakeRegion at.name) f) (emptied at.name c) (in_phase Idle f) (region_next c.settings at held)
   table_holds_ready at (unmapped region) c f left holds there =
       let can = left.can in
       let T : SlotKind → Type 0 = λ k. Ready maker old new c (in_phase (TakeRegion at.name) f) (emptied at.name c) (in_phase Idle f) (unmapped_next c.settings k at region) in
@@ -340,7 +356,7 @@ module _ {P : Type 0} (maker : MakerTold) (old new : LimiterTold) where
   table_holds_ready at (previously_used had) c f left holds there = absurd holds
   table_holds_ready at taken c f left holds there = absurd cc
 
-  stack_holds_ready : (at : TakenSlot) (held : Cell) (c : PoolCore P) (f : Frame P) → HasLeft stack_kind at c f → MayHold maker c.settings stack_kind at.name.slot held → is_taken held ≡ false → Ready maker old new c (in_phase (TakeRegion at.name) f) (emptied at.name c) (in_phase Idle f) (region_next c.settings at held)
+  stack_holds_ready : (at : TakenSlot) (held : Cell) (c : PoolCore P H) (f : Frame P H) → HasLeft stack_kind at c f → MayHold maker c.settings stack_kind at.name.slot held → is_taken held ≡ false → Ready maker old new c (in_phase (TakeRegion at.name) f) (emptied at.name c) (in_phase Idle f) (region_next c.settings at held)
   stack_holds_ready at (unmapped region) c f left holds there =
       let can = left.can in
       let T : SlotKind → Type 0 = λ k. Ready maker old new c (in_phase (TakeRegion at.name) f) (emptied at.name c) (in_phase Idle f) (unmapped_next c.settings k at region) in
@@ -350,7 +366,7 @@ module _ {P : Type 0} (maker : MakerTold) (old new : LimiterTold) where
       let made : T stack_kind = record {
         kept = taken_kept at.name c f can;
         shape = (refl, (can.frame.shape.0, can.frame.shape.1, lease_made maker c.settings c.plan at region inside holds, stack_begins maker c.settings at region holds, stack_next f left.next));
-        even = record { places = λ t. omega (arith, even.places t, ap (taken_count t) taken); instances = even.instances; memories = even.memories; tables = even.tables; stacks = even.stacks };
+        even = record { places = λ t. omega (arith, even.places t, ap (taken_count t) taken); instances = even.instances; memories = even.memories; tables = even.tables; stacks = even.stacks; heaps = even.heaps };
         fewer = omega arith;
         way = sought_way maker old new c (in_phase (TakeRegion at.name) f) f.asked f.ending (objects_in f.objects) (stack_next f left.next);
         searched = λ s. tt;
@@ -360,23 +376,23 @@ module _ {P : Type 0} (maker : MakerTold) (old new : LimiterTold) where
   stack_holds_ready at (previously_used had) c f left holds there = absurd holds
   stack_holds_ready at taken c f left holds there = absurd cc
 
-  pub take_region_ready : (name : SlotName) (c : PoolCore P) (f : Frame P) → Can maker (TakeRegion name) c f → Shows (TakeRegion name) c f (in_cell name c (take_region_on c.settings name (cell_named name c) (in_phase Idle f)))
+  pub take_region_ready : (name : SlotName) (c : PoolCore P H) (f : Frame P H) → Can maker (TakeRegion name) c f → Shows (TakeRegion name) c f (in_cell name c (take_region_on c.settings name (cell_named name c) (in_phase Idle f)))
   take_region_ready name c f can =
       let cell : CellState = cell_named name c in
       let at : TakenSlot = record { name = name; numbers = cell_numbers cell } in
-      let there = picked_is_home maker name c f can.core can.fits in
+      let there = picked_is_home maker name c f can.frame.shape.2.cells can.core can.fits in
       let M : SlotKind → Type 0 = λ k. MayHold maker c.settings k name.slot cell.holds in
       let holds : M name.kind = (sound_cell maker name c can.core can.frame.shape.2).holds in
-      elim (next_is f) [
-        | inl memory ↦ let kind : name.kind ≡ memory_kind = can.frame.shape.3 ∙ memory in holds_ready at cell.holds c f (record { can = can; numbers = refl; kind_is = kind; next = memory }) (subst M kind holds) there
+      elim (cells_of name.kind can.frame.shape.2.cells) [
+        | inl memory ↦ holds_ready at cell.holds c f (record { can = can; numbers = refl; kind_is = memory; next = sym can.frame.shape.3 ∙ memory }) (subst M memory holds) there
         | inr rest ↦ elim rest [
-          | inl table ↦ let kind : name.kind ≡ table_kind = can.frame.shape.3 ∙ table in table_holds_ready at cell.holds c f (record { can = can; numbers = refl; kind_is = kind; next = table }) (subst M kind holds) there
-          | inr stack ↦ let kind : name.kind ≡ stack_kind = can.frame.shape.3 ∙ stack in stack_holds_ready at cell.holds c f (record { can = can; numbers = refl; kind_is = kind; next = stack }) (subst M kind holds) there
+          | inl table ↦ table_holds_ready at cell.holds c f (record { can = can; numbers = refl; kind_is = table; next = sym can.frame.shape.3 ∙ table }) (subst M table holds) there
+          | inr stack ↦ stack_holds_ready at cell.holds c f (record { can = can; numbers = refl; kind_is = stack; next = sym can.frame.shape.3 ∙ stack }) (subst M stack holds) there
         ]
       ]
 
   -- A page call of the slot in hand failed, or the call goes on with it.
-  paged_ready : (p phase : Phase P) (fault : Bool) (at : TakenSlot) (had held : Slot) (c : PoolCore P) (f : Frame P) →
+  paged_ready : (p phase : Phase P H) (fault : Bool) (at : TakenSlot) (had held : Slot) (c : PoolCore P H) (f : Frame P H) →
       Can maker p c f →
       HasNoneWaiting f →
       IsAllocating c.settings c.plan (in_phase p f) →
@@ -386,7 +402,7 @@ module _ {P : Type 0} (maker : MakerTold) (old new : LimiterTold) where
       ((t : Thing) → phase_count t p ≡ taken_count t at) →
       ((t : Thing) → phase_count t phase ≡ taken_count t at) →
       (phase_instances p ≡ 1) × (phase_instances phase ≡ 1) →
-      (phase_memories p ≡ 0) × (phase_memories phase ≡ 0) × (phase_tables p ≡ 0) × (phase_tables phase ≡ 0) × (phase_stacks p ≡ 0) × (phase_stacks phase ≡ 0) →
+      (phase_memories p ≡ 0) × (phase_memories phase ≡ 0) × (phase_tables p ≡ 0) × (phase_tables phase ≡ 0) × (phase_stacks p ≡ 0) × (phase_stacks phase ≡ 0) × (phase_heaps p ≡ 0) × (phase_heaps phase ≡ 0) →
       (stage_at p f.asked f.ending (objects_in f.objects) ≡ stage_by f.asked f.ending (objects_in f.objects)) × (stage_at phase f.asked f.ending (objects_in f.objects) ≡ stage_by f.asked f.ending (objects_in f.objects)) →
       (fault ≡ true → IsLeft had held) →
       (fault ≡ false → (is_idle phase ≡ false) × IsShapedAt maker c.settings c.plan phase (gone_to phase f)) →
@@ -396,10 +412,10 @@ module _ {P : Type 0} (maker : MakerTold) (old new : LimiterTold) where
   paged_ready p phase true at had held c f can settled allocating more has one here there counted none stages left shape steps searched = record {
     kept = kept_part maker old new c (in_phase p f) c _ can.core (held_of maker c.settings c.plan (in_phase p f) can.frame) refl refl refl refl;
     shape = (refl, (settled, refl, goes_back maker c.settings c.plan at.name (forgotten held) (has_of_one maker c.settings c.plan at.name had (forgotten held) one has)));
-    even = record { places = λ t. omega (arith, here t); instances = omega (arith, ap (instances_for f.asked) counted.0); memories = omega (arith, none.0); tables = omega (arith, none.2); stacks = omega (arith, none.4) };
+    even = record { places = λ t. omega (arith, here t); instances = omega (arith, ap (instances_for f.asked) counted.0); memories = omega (arith, none.0); tables = omega (arith, none.2); stacks = omega (arith, none.4); heaps = omega (arith, none.6) };
     fewer = omega (arith, steps.1, returns_less f.asked (sizes_of c.settings c.plan) f.objects (no_stack f more));
     way = subst (λ (x : Stage). Goes maker old new c (in_phase p f) x (refusing refusal.PageFault) None) (sym stages.0)
-        (admitted_way maker old new c (in_phase p f) f.asked f.ending (objects_in f.objects) refusal.PageFault allocating.ending (no_stack f more) (inr (inl (record {
+        (memory_fails_way maker old new c (in_phase p f) f.asked f.ending (objects_in f.objects) refusal.PageFault allocating.ending (no_stack f more) (inl (record {
           is = refl;
           number = refl;
           allocating = allocating;
@@ -410,13 +426,13 @@ module _ {P : Type 0} (maker : MakerTold) (old new : LimiterTold) where
           region = has;
           left = left refl;
           has = λ other. omega (arith, here (right_to other));
-        }))));
+        })));
     searched = λ s. tt;
   }
   paged_ready p phase false at had held c f can settled allocating more has one here there counted none stages left shape steps searched = record {
     kept = kept_part maker old new c (in_phase p f) c _ can.core (held_of maker c.settings c.plan (in_phase p f) can.frame) refl refl refl refl;
     shape = shape refl;
-    even = record { places = λ t. omega (arith, here t, there t); instances = omega (arith, ap (instances_for f.asked) counted.0, ap (instances_for f.asked) counted.1); memories = omega (arith, none.0, none.1); tables = omega (arith, none.2, none.3); stacks = omega (arith, none.4, none.5) };
+    even = record { places = λ t. omega (arith, here t, there t); instances = omega (arith, ap (instances_for f.asked) counted.0, ap (instances_for f.asked) counted.1); memories = omega (arith, none.0, none.1); tables = omega (arith, none.2, none.3); stacks = omega (arith, none.4, none.5); heaps = omega (arith, none.6, none.7) };
     fewer = steps.0;
     way = subst (λ (x : Stage). Goes maker old new c (in_phase p f) x (stage_at phase f.asked f.ending (objects_in f.objects)) None) (sym stages.0)
         (subst (λ (x : Stage). Goes maker old new c (in_phase p f) (stage_by f.asked f.ending (objects_in f.objects)) x None) (sym stages.1) (same_way maker old new c (in_phase p f) f.asked f.ending (objects_in f.objects)));
@@ -424,27 +440,27 @@ module _ {P : Type 0} (maker : MakerTold) (old new : LimiterTold) where
   }
 
   -- The slot is emptied.
-  pub empty_ready : (fault : Bool) (held : Slot) (at : TakenSlot) (had : Slot) (c : PoolCore P) (f : Frame P) → Can maker (Empty at had) c f → Empties fault had held → Shows (Empty at had) c f (empty_row fault held at c (in_phase Idle f))
+  pub empty_ready : (fault : Bool) (held : Slot) (at : TakenSlot) (had : Slot) (c : PoolCore P H) (f : Frame P H) → Can maker (Empty at had) c f → Empties fault had held → Shows (Empty at had) c f (empty_row fault held at c (in_phase Idle f))
   empty_ready fault held at had c f can told =
       let one = one_emptied fault had held told in
       paged_ready (Empty at had) (Instantiate at held) fault at had held c f can can.frame.shape.0 can.frame.shape.1 can.frame.shape.3 can.frame.shape.2 one
-      (λ t. refl) (λ t. refl) (refl, refl) (refl, refl, refl, refl, refl, refl) (refl, refl)
+      (λ t. refl) (λ t. refl) (refl, refl) (refl, refl, refl, refl, refl, refl, refl, refl) (refl, refl)
       (left_emptied fault had held told)
       (λ done. (refl, (can.frame.shape.0, can.frame.shape.1, has_of_one maker c.settings c.plan at.name had held one can.frame.shape.2, clean_emptied fault had held told done, can.frame.shape.3)))
       (omega arith, omega arith) (λ s. tt)
 
   -- The slot is instantiated.
-  left_told : (s : Settings) (fault : Bool) (had held : Slot) (f : Frame P) → IsMemoryNext f → IfAllocated f (λ decl. InstantiatesFor s decl fault (image_wanted f) had held) → fault ≡ true → IsLeft had held
+  left_told : (s : Settings) (fault : Bool) (had held : Slot) (f : Frame P H) → IsMemoryNext f → IfAllocated f (λ decl. InstantiatesFor s decl fault (image_wanted f) had held) → fault ≡ true → IsLeft had held
   left_told s fault had held f more told is =
       told_there (IsLeft had held) (memories_wanted f.asked) (length f.objects.memories.items) more
       (told_weaker (λ decl. InstantiatesFor s decl fault (image_wanted f) had held) (λ decl. IsLeft had held) (slice_get (memories_wanted f.asked) (length f.objects.memories.items))
       (λ decl tells. left_instantiated s decl fault (image_wanted f) had held tells is) told)
 
-  pub instantiate_ready : (fault : Bool) (held : Slot) (at : TakenSlot) (had : Slot) (c : PoolCore P) (f : Frame P) → Can maker (Instantiate at had) c f → IfAllocated f (λ decl. InstantiatesFor c.settings decl fault (image_wanted f) had held) → Shows (Instantiate at had) c f (instantiate_row fault held at c (in_phase Idle f))
+  pub instantiate_ready : (fault : Bool) (held : Slot) (at : TakenSlot) (had : Slot) (c : PoolCore P H) (f : Frame P H) → Can maker (Instantiate at had) c f → IfAllocated f (λ decl. InstantiatesFor c.settings decl fault (image_wanted f) had held) → Shows (Instantiate at had) c f (instantiate_row fault held at c (in_phase Idle f))
   instantiate_ready fault held at had c f can told =
       let one = one_told c.settings fault held had (in_phase (Instantiate at had) f) can.frame.shape.4 told in
       paged_ready (Instantiate at had) (MakeMemory at held) fault at had held c f can can.frame.shape.0 can.frame.shape.1 can.frame.shape.4 can.frame.shape.2 one
-      (λ t. refl) (λ t. refl) (refl, refl) (refl, refl, refl, refl, refl, refl) (refl, refl)
+      (λ t. refl) (λ t. refl) (refl, refl) (refl, refl, refl, refl, refl, refl, refl, refl) (refl, refl)
       (left_told c.settings fault had held f can.frame.shape.4 told)
       (λ done. (
         refl,
@@ -460,48 +476,48 @@ module _ {P : Type 0} (maker : MakerTold) (old new : LimiterTold) where
       (omega arith, omega arith) (λ s. tt)
 
   -- The memory is made.
-  made_ready : (at : TakenSlot) (had : Slot) (given : Result Bool LimiterError) (r : Result MemoryState AllocError) (c : PoolCore P) (f : Frame P) → Can maker (MakeMemory at had) c f → IfAllocated f (AsksForMemory given old new) → memory_made c.settings (memories_wanted f.asked) (length f.objects.memories.items) given had ≡ r → IfOk r (IsMadeIn c.settings.max_memory_size (memories_wanted f.asked) (length f.objects.memories.items) had) → Shows (MakeMemory at had) c f (was_made at had r c (in_phase Idle f))
+  made_ready : (at : TakenSlot) (had : Slot) (given : Result Bool LimiterError) (r : Result MemoryState AllocError) (c : PoolCore P H) (f : Frame P H) → Can maker (MakeMemory at had) c f → IfAllocated f (AsksForMemory given old.limiter new.limiter) → memory_made c.settings (memories_wanted f.asked) (length f.objects.memories.items) given had ≡ r → IfOk r (IsMadeIn c.settings.max_memory_size (memories_wanted f.asked) (length f.objects.memories.items) had) → Shows (MakeMemory at had) c f (was_made at had r c (in_phase Idle f))
   made_ready at had given (Ok memory) c f can asked is in_slot =
-      let e : Frame P = in_phase (MakeMemory at had) f in
-      let H : Slot → Type 0 = λ s. HasSlot maker c.settings c.plan at.name s in
+      let e : Frame P H = in_phase (MakeMemory at had) f in
+      let Goal : Slot → Type 0 = λ s. HasSlot maker c.settings c.plan at.name s in
       let begins : IfAllocated f (IsNew c.settings.max_memory_size (image_wanted f) memory) = memory_new c.settings.max_memory_size f had memory in_slot can.frame.shape.3 in
-      let has : H (slot_of memory) = subst H (sym in_slot.slot) can.frame.shape.2 in
+      let has : Goal (slot_of memory) = subst Goal (sym in_slot.slot) can.frame.shape.2 in
       record {
         kept = kept_part maker old new c e c _ can.core (held_of maker c.settings c.plan e can.frame) refl refl refl refl;
         shape = (refl, (can.frame.shape.0, can.frame.shape.1, record { inside = has.inside; slot = has.region; memory = memory_of c.settings c.plan e memory can.frame.shape.1 can.frame.shape.4 begins }, begins, can.frame.shape.4));
-        even = record { places = λ t. omega (arith, ap (λ (n : SlotName). both_count t n at.numbers) (name_of at.name has.kind)); instances = omega arith; memories = omega arith; tables = omega arith; stacks = omega arith };
+        even = record { places = λ t. omega (arith, ap (λ (n : SlotName). both_count t n at.numbers) (name_of at.name has.kind)); instances = omega arith; memories = omega arith; tables = omega arith; stacks = omega arith; heaps = omega arith };
         fewer = omega arith;
-        way = made_way maker old new c e f.asked f.ending (objects_in f.objects) can.frame.shape.1.ending (no_stack f can.frame.shape.4) (inr (refl, inl (memory, record { number = refl; allocating = can.frame.shape.1; next = can.frame.shape.4; given = given; held = had; asked = asked; is = is })));
+        way = memory_made_way maker old new c e f.asked f.ending (objects_in f.objects) memory can.frame.shape.1.ending (no_stack f can.frame.shape.4) (record { number = refl; allocating = can.frame.shape.1; next = can.frame.shape.4; given = given; held = had; asked = asked; is = is });
         searched = λ s. tt;
       }
   made_ready at had given (Err x) c f can asked is in_slot =
-      let e : Frame P = in_phase (MakeMemory at had) f in
+      let e : Frame P H = in_phase (MakeMemory at had) f in
       record {
         kept = kept_part maker old new c e c _ can.core (held_of maker c.settings c.plan e can.frame) refl refl refl refl;
         shape = (refl, (can.frame.shape.0, refl, goes_back maker c.settings c.plan at.name (forgotten had) (has_of_one maker c.settings c.plan at.name had (forgotten had) refl can.frame.shape.2)));
-        even = record { places = λ t. omega arith; instances = omega arith; memories = omega arith; tables = omega arith; stacks = omega arith };
+        even = record { places = λ t. omega arith; instances = omega arith; memories = omega arith; tables = omega arith; stacks = omega arith; heaps = omega arith };
         fewer = omega (arith, returns_less f.asked (sizes_of c.settings c.plan) f.objects (no_stack f can.frame.shape.4));
-        way = admitted_way maker old new c e f.asked f.ending (objects_in f.objects) x can.frame.shape.1.ending (no_stack f can.frame.shape.4) (inr (inr (inl (record { number = refl; allocating = can.frame.shape.1; next = can.frame.shape.4; given = given; held = had; asked = asked; is = is }))));
+        way = memory_fails_way maker old new c e f.asked f.ending (objects_in f.objects) x can.frame.shape.1.ending (no_stack f can.frame.shape.4) (inr (record { number = refl; allocating = can.frame.shape.1; next = can.frame.shape.4; given = given; held = had; asked = asked; is = is }));
         searched = λ s. tt;
       }
 
-  pub make_memory_ready : (given : Result Bool LimiterError) (at : TakenSlot) (had : Slot) (c : PoolCore P) (f : Frame P) → Can maker (MakeMemory at had) c f → IfAllocated f (AsksForMemory given old new) → Shows (MakeMemory at had) c f (make_memory_row given at had c (in_phase Idle f))
+  pub make_memory_ready : (given : Result Bool LimiterError) (at : TakenSlot) (had : Slot) (c : PoolCore P H) (f : Frame P H) → Can maker (MakeMemory at had) c f → IfAllocated f (AsksForMemory given old.limiter new.limiter) → Shows (MakeMemory at had) c f (make_memory_row given at had c (in_phase Idle f))
   make_memory_ready given at had c f can asked =
       made_ready at had given (memory_made c.settings (memories_wanted f.asked) (length f.objects.memories.items) given had) c f can asked refl
       (made_in c.settings (memories_wanted f.asked) (length f.objects.memories.items) given had)
 
   -- The table is made.
-  table_goes_back : (at : TakenSlot) (region : Told) (c : PoolCore P) → HasTable maker c.settings c.plan at.name region → HasRegion maker c.settings c.plan at.name (unmapped region)
+  table_goes_back : (at : TakenSlot) (region : Told) (c : PoolCore P H) → HasTable maker c.settings c.plan at.name region → HasRegion maker c.settings c.plan at.name (unmapped region)
   table_goes_back at region c has =
       record {
-        named = record { pooled = subst IsPooled (sym has.kind) tt; inside = subst (λ (k : SlotKind). at.name.slot < of_kind k c.plan.totals) (sym has.kind) has.inside };
+        named = record { cells = subst HasCells (sym has.kind) tt; inside = subst (λ (k : SlotKind). at.name.slot < of_kind k c.plan.totals) (sym has.kind) has.inside };
         holds = (let M : SlotKind → Type 0 = λ k. MayHold maker c.settings k at.name.slot (unmapped region) in subst M (sym has.kind) has.region);
         there = refl;
       }
 
-  made_table_ready : (at : TakenSlot) (region : Told) (given : Result Bool LimiterError) (r : Result LeasedTable AllocError) (c : PoolCore P) (f : Frame P) → Can maker (MakeTable at region) c f → IfTable f (AsksForTable given old new) → table_made c.settings (tables_wanted f.asked) (length f.objects.tables.items) given at region ≡ r → IfOk r (λ l. IfTable f (IsMadeTable c.settings at region l)) → Shows (MakeTable at region) c f (was_made_table at region r c (in_phase Idle f))
+  made_table_ready : (at : TakenSlot) (region : Told) (given : Result Bool LimiterError) (r : Result LeasedTable AllocError) (c : PoolCore P H) (f : Frame P H) → Can maker (MakeTable at region) c f → IfTable f (AsksForTable given old.limiter new.limiter) → table_made c.settings (tables_wanted f.asked) (length f.objects.tables.items) given at region ≡ r → IfOk r (λ l. IfTable f (IsMadeTable c.settings at region l)) → Shows (MakeTable at region) c f (was_made_table at region r c (in_phase Idle f))
   made_table_ready at region given (Ok lease) c f can asked is made =
-      let e : Frame P = in_phase (MakeTable at region) f in
+      let e : Frame P H = in_phase (MakeTable at region) f in
       let k : ℕ = length f.objects.tables.items in
       let has = can.frame.shape.2 in
       let allocating = can.frame.shape.1 in
@@ -515,47 +531,47 @@ module _ {P : Type 0} (maker : MakerTold) (old new : LimiterTold) where
       record {
         kept = kept_part maker old new c e c _ can.core (held_of maker c.settings c.plan e can.frame) refl refl refl refl;
         shape = (refl, (can.frame.shape.0, allocating, leased, told_weaker B (IsBegunTable c.settings lease) (slice_get (tables_wanted f.asked) k) (λ ty b. b.0.1) begun, can.frame.shape.3));
-        even = record { places = λ t. omega (arith, ap (taken_count t) (slot ∙ named)); instances = omega arith; memories = omega arith; tables = omega arith; stacks = omega arith };
+        even = record { places = λ t. omega (arith, ap (taken_count t) (slot ∙ named)); instances = omega arith; memories = omega arith; tables = omega arith; stacks = omega arith; heaps = omega arith };
         fewer = omega arith;
         way = made_way maker old new c e f.asked f.ending (objects_in f.objects) allocating.ending can.frame.shape.3.1 (inr (refl, inr (lease, record { number = refl; allocating = allocating; next = can.frame.shape.3; given = given; at = at; region = region; asked = asked; is = is })));
         searched = λ s. tt;
       }
   made_table_ready at region given (Err x) c f can asked is made =
-      let e : Frame P = in_phase (MakeTable at region) f in
+      let e : Frame P H = in_phase (MakeTable at region) f in
       record {
         kept = kept_part maker old new c e c _ can.core (held_of maker c.settings c.plan e can.frame) refl refl refl refl;
         shape = (refl, (can.frame.shape.0, refl, table_goes_back at region c can.frame.shape.2));
-        even = record { places = λ t. omega arith; instances = omega arith; memories = omega arith; tables = omega arith; stacks = omega arith };
-        fewer = omega (arith, returns_less f.asked (sizes_of c.settings c.plan) f.objects can.frame.shape.3.1);
+        even = record { places = λ t. omega arith; instances = omega arith; memories = omega arith; tables = omega arith; stacks = omega arith; heaps = omega arith };
+        fewer = omega (arith, returns_less f.asked (sizes_of c.settings c.plan) f.objects can.frame.shape.3.1.no_stack);
         way = admitted_way maker old new c e f.asked f.ending (objects_in f.objects) x can.frame.shape.1.ending can.frame.shape.3.1 (inr (inr (inr (record { number = refl; allocating = can.frame.shape.1; next = can.frame.shape.3; given = given; at = at; region = region; asked = asked; is = is }))));
         searched = λ s. tt;
       }
 
-  pub make_table_ready : (given : Result Bool LimiterError) (at : TakenSlot) (region : Told) (c : PoolCore P) (f : Frame P) → Can maker (MakeTable at region) c f → IfTable f (AsksForTable given old new) → Shows (MakeTable at region) c f (make_table_row given at region c (in_phase Idle f))
+  pub make_table_ready : (given : Result Bool LimiterError) (at : TakenSlot) (region : Told) (c : PoolCore P H) (f : Frame P H) → Can maker (MakeTable at region) c f → IfTable f (AsksForTable given old.limiter new.limiter) → Shows (MakeTable at region) c f (make_table_row given at region c (in_phase Idle f))
   make_table_ready given at region c f can asked =
       made_table_ready at region given (table_made c.settings (tables_wanted f.asked) (length f.objects.tables.items) given at region) c f can asked refl
       (table_made_is c.settings (tables_wanted f.asked) (length f.objects.tables.items) given at region)
 
   -- One object more is counted, and granted.
-  counted_object_ready : (object : Object P) (counters : Counters) (objects : InstanceLease P) (c : PoolCore P) (f : Frame P) →
-      (let d : PoolCore P = record c { counters = counters } in
-      let e : Frame P = in_phase (CountObject object) f in
-      let has : Frame P = record f { phase = Idle; objects = objects; queues = 0 } in
+  counted_object_ready : (object : Object P) (counters : Counters) (objects : InstanceLease P) (c : PoolCore P H) (f : Frame P H) →
+      (let d : PoolCore P H = record c { counters = counters } in
+      let e : Frame P H = in_phase (CountObject object) f in
+      let has : Frame P H = record f { phase = Idle; objects = objects; queues = 0 } in
       Can maker (CountObject object) c f →
       HasNoneWaiting f →
       IsAllocating c.settings c.plan f →
       AreLeasesOf maker c.settings c.plan objects →
       IsToGrant c.settings c.plan f.asked 0 objects →
       objects_in objects ≡ objects_in f.objects + 1 →
-      Even maker old new c e (hand {P = P} next) d has →
+      Even maker old new c e (hand {P = P} {H = H} next) d has →
       1 + objects_left (sizes_of c.settings c.plan) f.asked f.objects ≤ steps_left c e →
-      (counters.core_instances ≤ c.counters.core_instances + 1) × (counters.memories ≤ c.counters.memories + 1) × (counters.tables ≤ c.counters.tables + 1) × (counters.stacks ≤ c.counters.stacks + 1) →
+      (counters.core_instances ≤ c.counters.core_instances + 1) × (counters.memories ≤ c.counters.memories + 1) × (counters.tables ≤ c.counters.tables + 1) × (counters.stacks ≤ c.counters.stacks + 1) × (counters.gc_heaps ≤ c.counters.gc_heaps + 1) →
       stacks_wanted f.asked ≡ 0 →
       stage_of e ≡ stage_by f.asked f.ending (objects_in f.objects + 1) →
       Ready maker old new c e d has next)
   counted_object_ready object counters objects c f can settled allocating leases to_grant long even steps by_one unstacked stage =
-      let e : Frame P = in_phase (CountObject object) f in
-      let has : Frame P = record f { phase = Idle; objects = objects; queues = 0 } in
+      let e : Frame P H = in_phase (CountObject object) f in
+      let has : Frame P H = record f { phase = Idle; objects = objects; queues = 0 } in
       let S : Ending → Type 0 = λ x. IsSearchedBy x (AreEmpty 0 (record c { counters = counters }) has) in
       let W : Stage → ℕ → Type 0 = λ x n. Goes maker old new c e x (stage_by f.asked f.ending n) None in
       record {
@@ -569,6 +585,7 @@ module _ {P : Type 0} (maker : MakerTold) (old new : LimiterTold) where
           memories_by_one = by_one.1;
           tables_by_one = by_one.2;
           stacks_by_one = by_one.3;
+          heaps_by_one = by_one.4;
         };
         shape = (settled, aims_grant c.settings c.plan f.ending f.asked 0 objects allocating.ending to_grant);
         even = even;
@@ -578,7 +595,7 @@ module _ {P : Type 0} (maker : MakerTold) (old new : LimiterTold) where
       }
 
   -- The object is granted.
-  pub count_object_ready : (object : Object P) (c : PoolCore P) (f : Frame P) → Can maker (CountObject object) c f → Shows (CountObject object) c f (count_object_row object c (in_phase Idle f))
+  pub count_object_ready : (object : Object P) (c : PoolCore P H) (f : Frame P H) → Can maker (CountObject object) c f → Shows (CountObject object) c f (count_object_row object c (in_phase Idle f))
   count_object_ready (Memory lease) c f can =
       let allocating = can.frame.shape.1 in
       let was = allocating.to_grant in
@@ -599,7 +616,7 @@ module _ {P : Type 0} (maker : MakerTold) (old new : LimiterTold) where
         begun = (push_at (λ k l. IfSome (slice_get (memories_wanted f.asked) k) (IsNew c.settings.max_memory_size (slice_index_or (images_wanted f.asked) k None) l.memory)) f.objects.memories.items lease was.begun.0 can.frame.shape.3, was.begun.1);
         taken = omega arith;
       })
-      (omega (arith, long)) (record { places = λ t. omega (arith, leased_last t f.objects.memories.items lease); instances = omega arith; memories = omega (arith, long); tables = omega arith; stacks = omega arith }) (omega arith) (omega arith, omega arith, omega arith, omega arith) (no_stack f can.frame.shape.4) refl
+      (omega (arith, long)) (record { places = λ t. omega (arith, leased_last t f.objects.memories.items lease); instances = omega arith; memories = omega (arith, long); tables = omega arith; stacks = omega arith; heaps = omega arith }) (omega arith) (omega arith, omega arith, omega arith, omega arith, omega arith) (no_stack f can.frame.shape.4) refl
   count_object_ready (Table lease) c f can =
       let allocating = can.frame.shape.1 in
       let was = allocating.to_grant in
@@ -615,14 +632,14 @@ module _ {P : Type 0} (maker : MakerTold) (old new : LimiterTold) where
         room = was.room;
         table_room = was.table_room;
         few = was.few;
-        few_tables = omega (arith, allocating.more, can.frame.shape.4.0, can.frame.shape.4.1, was.few, long);
+        few_tables = omega (arith, allocating.more, can.frame.shape.4.0, can.frame.shape.4.1.no_stack, can.frame.shape.4.1.no_heap, was.few, long);
         order = λ less. absurd (omega (arith, less, can.frame.shape.4.0));
         begun = (was.begun.0, push_at (λ k l. IfSome (slice_get (tables_wanted f.asked) k) (IsBegunTable c.settings l)) f.objects.tables.items lease was.begun.1 can.frame.shape.3);
         taken = omega arith;
       })
-      (omega (arith, long)) (record { places = λ t. omega (arith, tables_last t f.objects.tables.items lease); instances = omega arith; memories = omega arith; tables = omega (arith, long); stacks = omega arith }) (omega arith) (omega arith, omega arith, omega arith, omega arith) can.frame.shape.4.1 refl
+      (omega (arith, long)) (record { places = λ t. omega (arith, tables_last t f.objects.tables.items lease); instances = omega arith; memories = omega arith; tables = omega (arith, long); stacks = omega arith; heaps = omega arith }) (omega arith) (omega arith, omega arith, omega arith, omega arith, omega arith) can.frame.shape.4.1.no_stack refl
   count_object_ready (Stack lease) c f can =
-      let e : Frame P = in_phase (CountObject (Stack lease)) f in
+      let e : Frame P H = in_phase (CountObject (Stack lease)) f in
       let allocating = can.frame.shape.1 in
       let stack : f.asked ≡ stack_asked = can.frame.shape.4 in
       let none : objects_in f.objects ≡ 0 = none_for_stack c.settings c.plan f.asked f.queues f.objects allocating.to_grant stack in
@@ -641,46 +658,47 @@ module _ {P : Type 0} (maker : MakerTold) (old new : LimiterTold) where
           memories_by_one = omega arith;
           tables_by_one = omega arith;
           stacks_by_one = omega arith;
+          heaps_by_one = omega arith;
         };
         shape = (record { settled = can.frame.shape.0; no_memories = no_memories; no_tables = no_tables }, (can.frame.shape.2, can.frame.shape.3, stack));
-        even = record { places = λ t. omega arith; instances = omega (arith, ap (λ (a : Asked). instances_for a 1) stack, ap (λ (a : Asked). instances_for a 0) stack); memories = omega arith; tables = omega arith; stacks = omega arith };
+        even = record { places = λ t. omega arith; instances = omega (arith, ap (λ (a : Asked). instances_for a 1) stack, ap (λ (a : Asked). instances_for a 0) stack); memories = omega arith; tables = omega arith; stacks = omega arith; heaps = omega arith };
         fewer = omega arith;
         way = granted_stack_way maker old new c e f.asked f.ending (objects_in f.objects) lease stack allocating.ending enabled;
         searched = λ s. tt;
       }
 
   -- The region of a slot is put back,
-  pub put_back_ready : (at : TakenSlot) (held : ImageSlot P) (c : PoolCore P) (f : Frame P) → Can maker (PutBack at held) c f → Shows (PutBack at held) c f (in_cell at.name c (put_back_on at.name (cell_of held) (cell_named at.name c) (in_phase Idle f)))
+  pub put_back_ready : (at : TakenSlot) (held : ImageSlot P) (c : PoolCore P H) (f : Frame P H) → Can maker (PutBack at held) c f → Shows (PutBack at held) c f (in_cell at.name c (put_back_on at.name (cell_of held) (cell_named at.name c) (in_phase Idle f)))
   put_back_ready at held c f can =
-      let e : Frame P = in_phase (PutBack at held) f in
-      let gone = back_is_away maker at held c f can.core can.fits in
+      let e : Frame P H = in_phase (PutBack at held) f in
+      let gone = back_is_away maker at held c f can.frame.shape.2.named.cells can.core can.fits in
       let region = can.frame.shape.2 in
       let cell : CellState = cell_filled (cell_of held) (cell_named at.name c) in
       record {
         kept = kept_part maker old new c e (with_cell at.name cell c) (in_phase Idle f) (core_with_cell maker at.name cell c can.core region.named (record { named = (sound_cell maker at.name c can.core region.named).named; holds = region.holds })) (held_of maker c.settings c.plan e can.frame) refl refl refl refl;
-        shape = (refl, (can.frame.shape.0, can.frame.shape.1, region.named));
-        even = record { places = λ t. let back = region_returns maker t at.name (cell_of held) c can.core region.named gone.away region.there in omega (arith, back.0, back.1, ap (region_count t at.name) gone.out); instances = omega arith; memories = omega arith; tables = omega arith; stacks = omega arith };
+        shape = (refl, (can.frame.shape.0, can.frame.shape.1, region.named.inside));
+        even = record { places = λ t. let back = region_returns maker t at.name (cell_of held) c can.core region.named gone.away region.there in omega (arith, back.0, back.1, ap (region_count t at.name) gone.out); instances = omega arith; memories = omega arith; tables = omega arith; stacks = omega arith; heaps = omega arith };
         fewer = omega arith;
         way = same_way maker old new c e f.asked f.ending (objects_in f.objects);
         searched = λ s. tt;
       }
 
   -- and the slot freed.
-  pub free_one_ready : (name : SlotName) (c : PoolCore P) (f : Frame P) → Can maker (FreeOne name) c f → Shows (FreeOne name) c f (in_shard (home_of c.plan name).place c (free_one_on c.plan name (shard_at (home_of c.plan name).place c) (in_phase Idle f)))
+  pub free_one_ready : (name : SlotName) (c : PoolCore P H) (f : Frame P H) → Can maker (FreeOne name) c f → Shows (FreeOne name) c f (in_shard (home_of c.plan name).place c (free_one_on c.plan name (shard_at (home_of c.plan name).place c) (in_phase Idle f)))
   free_one_ready name c f can =
-      let e : Frame P = in_phase (FreeOne name) f in
+      let e : Frame P H = in_phase (FreeOne name) f in
       let j : ℕ = (home_of c.plan name).place in
       let shard : ShardState = shard_at j c in
-      let named : IsSlotName c.plan name = can.frame.shape.2 in
-      let place = place_of maker c name can.core named in
+      let inside : name.slot < of_kind name.kind c.plan.totals = can.frame.shape.2 in
+      let place = place_of maker c name can.core inside in
       let used = back_is_used maker name c f can in
       let freed : ShardState = after_free (home_of c.plan name).local 0 shard in
-      let there : IsShardPlace c.plan j = home_place c.plan (length c.parts) name can.core.plan named in
+      let there : IsShardPlace c.plan j = home_place c.plan (length c.parts) name can.core.plan inside in
       let next_shard : IsShardOf shard freed = freed_shard (home_of c.plan name).local 0 shard (sound_shard maker j c can.core there) (some_used _ used) (omega arith) in
       record {
         kept = kept_part maker old new c e (with_shard j freed c) (in_phase Idle f) (core_with_shard maker j freed c can.core there next_shard.sound next_shard.same) (held_of maker c.settings c.plan e can.frame) refl refl refl refl;
         shape = (can.frame.shape.0, aims_back c.settings c.plan f.ending f.asked f.queues f.objects can.frame.shape.1);
-        even = record { places = λ t. omega (arith, kept_shard t j freed c (shard_part maker j c can.core there), away_shard t j freed c (shard_part maker j c can.core there), freed_one t c.plan shard name 0 place used); instances = omega arith; memories = omega arith; tables = omega arith; stacks = omega arith };
+        even = record { places = λ t. omega (arith, kept_shard t j freed c (shard_part maker j c can.core there), away_shard t j freed c (shard_part maker j c can.core there), freed_one t c.plan shard name 0 place used); instances = omega arith; memories = omega arith; tables = omega arith; stacks = omega arith; heaps = omega arith };
         fewer = omega (arith, next_returns (sizes_of c.settings c.plan) f.ending f.queues f.asked f.objects can.frame.shape.1);
         way = same_way maker old new c e f.asked f.ending (objects_in f.objects);
         searched = λ s. searched_back f.ending _ can.frame.shape.1;

@@ -7,7 +7,7 @@ use Rattle.std.proofs.lemmas.List.Sums.{sum_by-append, sum_by-remove}
 use Rattle.std.proofs.lemmas.List.Elements.{All-nil, All-append, All-head, All-tail, All-same, All-get_or}
 use Rattle.pool_pages.specs.MakerTold.{MakerTold}
 use Rattle.pool_pages.specs.Told.{decommitting}
-use Rattle.pool_limits.specs.LimiterTold.{LimiterTold}
+use Rattle.pool_alloc.specs.PartyTold.{PartyTold}
 use Rattle.pool_images.specs.Slots.{Slot, IsClean}
 use Rattle.pool_images.proofs.Identity.{same_called, same_faulted}
 use Rattle.pool_hall.specs.declared.unit_name.SlotKind.{SlotKind}
@@ -64,7 +64,7 @@ use Rattle.pool_alloc.proofs.Ways.{Can, kept_part}
 
 -- these slots in hand
 abbrev holding : List FreedSlot → Hand
-holding slots = record { things = λ t. freed_count t slots; instances = 0; memories = 0; tables = 0; stacks = 0 }
+holding slots = record { things = λ t. freed_count t slots; instances = 0; memories = 0; tables = 0; stacks = 0; heaps = 0 }
 
 freed_appended : (t : Thing) (xs ys : List FreedSlot) → freed_count t (xs ++ ys) ≡ freed_count t xs + freed_count t ys
 freed_appended t xs ys = sum_by-append (λ (x : FreedSlot). slot_count t x.name) xs ys
@@ -107,15 +107,15 @@ record Stands (plan : Plan) (r : ReleaseCursor) : Type 0 where
 stands : (plan : Plan) (r : ReleaseCursor) (left : ℕ) → IsReleasing plan r left → Stands plan r
 stands plan r left is = record { stripe = is.stripe; room = omega (arith, is.room); same_room = is.taken_room }
 
-module _ {P : Type 0} (maker : MakerTold) (old new : LimiterTold) where
-  abbrev Shows : ReleaseStep P → PoolCore P → Frame P → Row (PoolCore P) P → Type 0
+module _ {P H : Type 0} (maker : MakerTold) (old new : PartyTold) where
+  abbrev Shows : ReleaseStep P → PoolCore P H → Frame P H → Row (PoolCore P H) P H → Type 0
   Shows step c f r = IsReadyRow maker old new c (in_phase (Release step) f) r
 
-  abbrev StepsOf : ReleaseStep P → PoolCore P → ℕ
+  abbrev StepsOf : ReleaseStep P → PoolCore P H → ℕ
   StepsOf step c = release_left (sizes_of c.settings c.plan) step
 
   -- What is so where a step of a release left the pool d and goes on with these slots in hand, with so many steps left.
-  record Going (step : ReleaseStep P) (slots : List FreedSlot) (left : ℕ) (c d : PoolCore P) (f : Frame P) : Type 0 where
+  record Going (step : ReleaseStep P) (slots : List FreedSlot) (left : ℕ) (c d : PoolCore P H) (f : Frame P H) : Type 0 where
     kept : Kept maker old new c (in_phase (Release step) f) d (in_phase Idle f)
     rest : IsAtRest f
     even : Even maker old new c (in_phase (Release step) f) (holding slots) d (in_phase Idle f)
@@ -125,14 +125,14 @@ module _ {P : Type 0} (maker : MakerTold) (old new : LimiterTold) where
     sound : IsPoolPlan c.plan (length c.parts)
 
   -- it goes on so, or ends
-  on_way : (step : ReleaseStep P) (c : PoolCore P) (f : Frame P) → stage_of_release step ≡ releasing_stage → Goes maker old new c (in_phase (Release step) f) (stage_of_release step) releasing_stage None
+  on_way : (step : ReleaseStep P) (c : PoolCore P H) (f : Frame P H) → stage_of_release step ≡ releasing_stage → Goes maker old new c (in_phase (Release step) f) (stage_of_release step) releasing_stage None
   on_way step c f is = subst (λ (x : Stage). Goes maker old new c (in_phase (Release step) f) x releasing_stage None) (sym is) tt
 
-  end_way : (step : ReleaseStep P) (n : ℕ) (c : PoolCore P) (f : Frame P) → stage_of_release step ≡ releasing_stage → Goes maker old new c (in_phase (Release step) f) (stage_of_release step) no_call (Some (answer.Released n))
+  end_way : (step : ReleaseStep P) (n : ℕ) (c : PoolCore P H) (f : Frame P H) → stage_of_release step ≡ releasing_stage → Goes maker old new c (in_phase (Release step) f) (stage_of_release step) no_call (Some (answer.Released n))
   end_way step n c f is = subst (λ (x : Stage). Goes maker old new c (in_phase (Release step) f) x no_call (Some (answer.Released n))) (sym is) tt
 
   -- A stripe is done.
-  behind_ready : (step : ReleaseStep P) (r : ReleaseCursor) (left : ℕ) (c d : PoolCore P) (f : Frame P) → Going step [] left c d f → Stands c.plan r → stripes_left (sizes_of c.settings c.plan) r ≤ left → Ready maker old new c (in_phase (Release step) f) d (in_phase Idle f) (behind_stripe c.plan r)
+  behind_ready : (step : ReleaseStep P) (r : ReleaseCursor) (left : ℕ) (c d : PoolCore P H) (f : Frame P H) → Going step [] left c d f → Stands c.plan r → stripes_left (sizes_of c.settings c.plan) r ≤ left → Ready maker old new c (in_phase (Release step) f) d (in_phase Idle f) (behind_stripe c.plan r)
   behind_ready step r left c d f going at few =
       let z : PoolSizes = sizes_of c.settings c.plan in
       let q : ReleaseCursor = record r { stripe = r.stripe + 1; taken = record r.taken { items = [] }; failed = false } in
@@ -156,7 +156,7 @@ module _ {P : Type 0} (maker : MakerTold) (old new : LimiterTold) where
       record {
         kept = going.kept;
         shape = (refl, (going.rest, subst F (sym going.plan) there));
-        even = record { places = going.even.places; instances = going.even.instances; memories = going.even.memories; tables = going.even.tables; stacks = going.even.stacks };
+        even = record { places = going.even.places; instances = going.even.instances; memories = going.even.memories; tables = going.even.tables; stacks = going.even.stacks; heaps = going.even.heaps };
         fewer = omega (arith, going.few, few, drop_sum (stripe_bound z) c.plan.memories (r.stripe + 1) no_allocator inside);
         way = on_way step c f going.stage;
         searched = λ s. tt;
@@ -164,14 +164,14 @@ module _ {P : Type 0} (maker : MakerTold) (old new : LimiterTold) where
       (λ last. record {
         kept = going.kept;
         shape = (going.rest, tt);
-        even = record { places = going.even.places; instances = going.even.instances; memories = going.even.memories; tables = going.even.tables; stacks = going.even.stacks };
+        even = record { places = going.even.places; instances = going.even.instances; memories = going.even.memories; tables = going.even.tables; stacks = going.even.stacks; heaps = going.even.heaps };
         fewer = omega (arith, going.few);
         way = end_way step r.released c f going.stage;
         searched = λ s. tt;
       })
 
   -- These slots are to be freed.
-  free_ready : (step : ReleaseStep P) (slots : List FreedSlot) (r : ReleaseCursor) (left : ℕ) (c d : PoolCore P) (f : Frame P) → Going step slots left c d f → Stands c.plan r → All (IsFreedOf c.plan) slots → All (λ x. x.name.kind ≡ memory_kind) slots → length slots ≤ (released_stripe c.plan r).capacity → length slots ≤ length r.local.items → length slots + stripes_left (sizes_of c.settings c.plan) r ≤ left → Ready maker old new c (in_phase (Release step) f) d (in_phase Idle f) (free_first c.plan slots r)
+  free_ready : (step : ReleaseStep P) (slots : List FreedSlot) (r : ReleaseCursor) (left : ℕ) (c d : PoolCore P H) (f : Frame P H) → Going step slots left c d f → Stands c.plan r → All (IsFreedOf c.plan) slots → All (λ x. x.name.kind ≡ memory_kind) slots → length slots ≤ (released_stripe c.plan r).capacity → length slots ≤ length r.local.items → length slots + stripes_left (sizes_of c.settings c.plan) r ≤ left → Ready maker old new c (in_phase (Release step) f) d (in_phase Idle f) (free_first c.plan slots r)
   free_ready step [] r left c d f going at of kinds few all steps = behind_ready step r left c d f going at (omega (arith, steps))
   free_ready step (x ∷ rest) r left c d f going at of kinds few all steps =
       let M : FreedSlot → Type 0 = λ x. x.name.kind ≡ memory_kind in
@@ -193,14 +193,14 @@ module _ {P : Type 0} (maker : MakerTold) (old new : LimiterTold) where
       record {
         kept = going.kept;
         shape = (refl, (going.rest, subst F (sym going.plan) there));
-        even = record { places = λ t. omega (arith, going.even.places t, freed_first t x rest); instances = going.even.instances; memories = going.even.memories; tables = going.even.tables; stacks = going.even.stacks };
+        even = record { places = λ t. omega (arith, going.even.places t, freed_first t x rest); instances = going.even.instances; memories = going.even.memories; tables = going.even.tables; stacks = going.even.stacks; heaps = going.even.heaps };
         fewer = omega (arith, going.few, steps);
         way = on_way step c f going.stage;
         searched = λ s. tt;
       }
 
   -- Those from a place on may still be decommitted.
-  drain_ready : (step : ReleaseStep P) (r : ReleaseCursor) (k left : ℕ) (c d : PoolCore P) (f : Frame P) → Going step r.taken.items left c d f → IsReleasing c.plan r 0 → drains_left (sizes_of c.settings c.plan) r k ≤ left → Ready maker old new c (in_phase (Release step) f) d (in_phase Idle f) (drain_from c.plan r k)
+  drain_ready : (step : ReleaseStep P) (r : ReleaseCursor) (k left : ℕ) (c d : PoolCore P H) (f : Frame P H) → Going step r.taken.items left c d f → IsReleasing c.plan r 0 → drains_left (sizes_of c.settings c.plan) r k ≤ left → Ready maker old new c (in_phase (Release step) f) d (in_phase Idle f) (drain_from c.plan r k)
   drain_ready step r k left c d f going at steps =
       let n : ℕ = k + not_resident (drop k r.taken.items) in
       let F : Plan → Type 0 = λ y. IsReleaseAt {P = P} maker d.settings y (TakeRegion r n) in
@@ -211,7 +211,7 @@ module _ {P : Type 0} (maker : MakerTold) (old new : LimiterTold) where
       record {
         kept = going.kept;
         shape = (refl, (going.rest, subst F (sym going.plan) there));
-        even = record { places = going.even.places; instances = going.even.instances; memories = going.even.memories; tables = going.even.tables; stacks = going.even.stacks };
+        even = record { places = going.even.places; instances = going.even.instances; memories = going.even.memories; tables = going.even.tables; stacks = going.even.stacks; heaps = going.even.heaps };
         fewer = omega (arith, going.few, steps, one_drained k r.taken.items no_slot inside);
         way = on_way step c f going.stage;
         searched = λ s. tt;
@@ -219,11 +219,11 @@ module _ {P : Type 0} (maker : MakerTold) (old new : LimiterTold) where
       (λ last. free_ready step r.taken.items r left c d f going (stands c.plan r 0 at) at.taken at.memories (omega (arith, at.few)) at.all (omega (arith, steps)))
 
   -- Room is reserved.
-  reserve_ready : (wants : Bool) (c : PoolCore P) (f : Frame P) → Can maker (Release Reserve) c f → Shows Reserve c f (reserve_row wants c (in_phase Idle f))
+  reserve_ready : (wants : Bool) (c : PoolCore P H) (f : Frame P H) → Can maker (Release Reserve) c f → Shows Reserve c f (reserve_row wants c (in_phase Idle f))
   reserve_ready true c f can = record {
     kept = kept_part maker old new c (in_phase (Release Reserve) f) c (in_phase Idle f) can.core (held_of maker c.settings c.plan (in_phase (Release Reserve) f) can.frame) refl refl refl refl;
     shape = (can.frame.shape.0, tt);
-    even = record { places = λ t. omega arith; instances = omega (arith, counts_none f.asked); memories = omega arith; tables = omega arith; stacks = omega arith };
+    even = record { places = λ t. omega arith; instances = omega (arith, counts_none f.asked); memories = omega arith; tables = omega arith; stacks = omega arith; heaps = omega arith };
     fewer = omega arith;
     way = refl;
     searched = λ s. tt;
@@ -252,16 +252,16 @@ module _ {P : Type 0} (maker : MakerTold) (old new : LimiterTold) where
             ),
           ),
         );
-        even = record { places = λ t. omega arith; instances = omega (arith, counts_none f.asked); memories = omega arith; tables = omega arith; stacks = omega arith };
+        even = record { places = λ t. omega arith; instances = omega (arith, counts_none f.asked); memories = omega arith; tables = omega arith; stacks = omega arith; heaps = omega arith };
         fewer = omega (arith, drop_sum (stripe_bound z) c.plan.memories 0 no_allocator can.core.plan.stripes);
         way = tt;
         searched = λ s. tt;
       }
 
   -- A shard's warm slots are taken.
-  take_warm_ready : (r : ReleaseCursor) (j : ℕ) (c : PoolCore P) (f : Frame P) → Can maker (Release (TakeWarm r j)) c f → Shows (TakeWarm r j) c f (lifted (λ shard. with_shard ((released_stripe c.plan r).first_place + j) shard c) (take_warm_on c.plan r j (shard_at ((released_stripe c.plan r).first_place + j) c) (in_phase Idle f)))
+  take_warm_ready : (r : ReleaseCursor) (j : ℕ) (c : PoolCore P H) (f : Frame P H) → Can maker (Release (TakeWarm r j)) c f → Shows (TakeWarm r j) c f (lifted (λ shard. with_shard ((released_stripe c.plan r).first_place + j) shard c) (take_warm_on c.plan r j (shard_at ((released_stripe c.plan r).first_place + j) c) (in_phase Idle f)))
   take_warm_ready r j c f can =
-      let e : Frame P = in_phase (Release (TakeWarm r j)) f in
+      let e : Frame P H = in_phase (Release (TakeWarm r j)) f in
       let z : PoolSizes = sizes_of c.settings c.plan in
       let a : Allocator = released_stripe c.plan r in
       let at : IsReleasing c.plan r (slots_left a j) = can.frame.shape.1.0 in
@@ -269,7 +269,7 @@ module _ {P : Type 0} (maker : MakerTold) (old new : LimiterTold) where
       let p : ℕ = a.first_place + j in
       let shard : ShardState = shard_at p c in
       let next : ShardState = after_take_warm shard in
-      let d : PoolCore P = with_shard p next c in
+      let d : PoolCore P H = with_shard p next c in
       let place : IsShardPlace c.plan p = record { allocator = a; index = j; role = stripe_role c.plan (length c.parts) r.stripe j can.core.plan at.stripe inside } in
       let sound = sound_shard maker p c can.core place in
       let is = planned_shard maker p c can.core place in
@@ -290,12 +290,12 @@ module _ {P : Type 0} (maker : MakerTold) (old new : LimiterTold) where
         taken_room = at.taken_room;
       } in
       let kept = kept_part maker old new c e d (in_phase Idle f) (core_with_shard maker p next c can.core place (warm_sound shard sound) (warm_same shard)) (held_of maker c.settings c.plan e can.frame) refl refl refl refl in
-      let even : Even maker old new c e (holding q.taken.items) d (in_phase Idle f) = record { places = λ t. omega (arith, kept_shard t p next c (shard_part maker p c can.core place), away_shard t p next c (shard_part maker p c can.core place), warm_counts t shard sound kind, freed_appended t r.taken.items (slots_outside shard)); instances = omega (arith, counts_none f.asked); memories = omega arith; tables = omega arith; stacks = omega arith } in
+      let even : Even maker old new c e (holding q.taken.items) d (in_phase Idle f) = record { places = λ t. omega (arith, kept_shard t p next c (shard_part maker p c can.core place), away_shard t p next c (shard_part maker p c can.core place), warm_counts t shard sound kind, freed_appended t r.taken.items (slots_outside shard)); instances = omega (arith, counts_none f.asked); memories = omega arith; tables = omega arith; stacks = omega arith; heaps = omega arith } in
       either_ready maker old new c e d (in_phase Idle f) (nat_lt (j + 1) a.shards) (goes (Release (TakeWarm q (j + 1)))) (drain_from c.plan q 0)
       (λ more. record {
         kept = kept;
         shape = (refl, (can.frame.shape.0, (now, ltb-true _ _ more)));
-        even = record { places = even.places; instances = even.instances; memories = even.memories; tables = even.tables; stacks = even.stacks };
+        even = record { places = even.places; instances = even.instances; memories = even.memories; tables = even.tables; stacks = even.stacks; heaps = even.heaps };
         fewer = omega (arith, most, inside);
         way = tt;
         searched = λ s. tt;
@@ -306,30 +306,30 @@ module _ {P : Type 0} (maker : MakerTold) (old new : LimiterTold) where
       (omega (arith, residents_few q.taken.items, now.few)))
 
   -- The region of a slot leaves its cell.
-  take_resident_ready : (r : ReleaseCursor) (k : ℕ) (c : PoolCore P) (f : Frame P) → Can maker (Release (TakeRegion r k)) c f → Shows (TakeRegion r k) c f (lifted (λ cell. with_cell (nth_taken r k).name cell c) (take_resident_on r k (nth_taken r k).name (cell_named (nth_taken r k).name c) (in_phase Idle f)))
+  take_resident_ready : (r : ReleaseCursor) (k : ℕ) (c : PoolCore P H) (f : Frame P H) → Can maker (Release (TakeRegion r k)) c f → Shows (TakeRegion r k) c f (lifted (λ cell. with_cell (nth_taken r k).name cell c) (take_resident_on r k (nth_taken r k).name (cell_named (nth_taken r k).name c) (in_phase Idle f)))
   take_resident_ready r k c f can =
-      let phase : Phase P = Release (TakeRegion r k) in
-      let e : Frame P = in_phase phase f in
+      let phase : Phase P H = Release (TakeRegion r k) in
+      let e : Frame P H = in_phase phase f in
       let at : IsReleasing c.plan r 0 = can.frame.shape.1.0 in
       let inside : k < length r.taken.items = can.frame.shape.1.1 in
       let name : SlotName = (nth_taken r k).name in
       let named : IsSlotName c.plan name = (All-get_or (IsFreedOf c.plan) r.taken.items k no_slot inside at.taken).named in
       let cell : CellState = cell_named name c in
       let was = sound_cell maker name c can.core named in
-      let there = phase_home maker phase name c f can.core can.fits (omega (arith, freed_at (right_to name) r k inside, slot_once name)) (freed_regions name r.taken.items) in
+      let there = phase_home maker phase name c f can.core can.fits named.cells (omega (arith, freed_at (right_to name) r k inside, slot_once name)) (freed_regions name r.taken.items) in
       record {
-        kept = kept_part maker old new c e (with_cell name (cell_emptied cell) c) (in_phase Idle f) (core_with_cell maker name (cell_emptied cell) c can.core named (record { named = was.named; holds = emptied_holds maker c.settings name.kind name.slot named.pooled })) (held_of maker c.settings c.plan e can.frame) refl refl refl refl;
+        kept = kept_part maker old new c e (with_cell name (cell_emptied cell) c) (in_phase Idle f) (core_with_cell maker name (cell_emptied cell) c can.core named (record { named = was.named; holds = emptied_holds maker c.settings name.kind name.slot named.cells })) (held_of maker c.settings c.plan e can.frame) refl refl refl refl;
         shape = (refl, (can.frame.shape.0, record { releasing = at; place = inside; named = refl; region = held_in P maker c.settings c.plan name cell.holds named was.holds there }));
-        even = record { places = λ t. let leaves = region_leaves maker t name c can.core named there in omega (arith, leaves.0, leaves.1, freed_at t r k inside); instances = omega (arith, counts_none f.asked); memories = omega arith; tables = omega arith; stacks = omega arith };
+        even = record { places = λ t. let leaves = region_leaves maker t name c can.core named there in omega (arith, leaves.0, leaves.1, freed_at t r k inside); instances = omega (arith, counts_none f.asked); memories = omega arith; tables = omega arith; stacks = omega arith; heaps = omega arith };
         fewer = omega arith;
         way = tt;
         searched = λ s. tt;
       }
 
   -- It is decommitted.
-  decommit_ready : (g : StepGiven) (r : ReleaseCursor) (k : ℕ) (at : TakenSlot) (held : ImageSlot P) (c : PoolCore P) (f : Frame P) → Can maker (Release (Decommit r k at held)) c f → Drains c.settings g.fault held g.slot → Shows (Decommit r k at held) c f (release_row g (Decommit r k at held) c (in_phase Idle f))
+  decommit_ready : (g : StepGiven H) (r : ReleaseCursor) (k : ℕ) (at : TakenSlot) (held : ImageSlot P) (c : PoolCore P H) (f : Frame P H) → Can maker (Release (Decommit r k at held)) c f → Drains c.settings g.fault held g.slot → Shows (Decommit r k at held) c f (release_row g (Decommit r k at held) c (in_phase Idle f))
   decommit_ready g r k at held c f can told =
-      let e : Frame P = in_phase (Release (Decommit r k at held)) f in
+      let e : Frame P H = in_phase (Release (Decommit r k at held)) f in
       let has = can.frame.shape.1 in
       let was : IsReleasing c.plan r 0 = has.releasing in
       let kind : at.name.kind ≡ memory_kind = ap (λ (n : SlotName). n.kind) (sym has.named) ∙ All-get_or (λ (x : FreedSlot). x.name.kind ≡ memory_kind) r.taken.items k no_slot has.place was.memories in
@@ -347,27 +347,27 @@ module _ {P : Type 0} (maker : MakerTold) (old new : LimiterTold) where
             },
           ),
         );
-        even = record { places = λ t. omega arith; instances = omega (arith, counts_none f.asked); memories = omega arith; tables = omega arith; stacks = omega arith };
+        even = record { places = λ t. omega arith; instances = omega (arith, counts_none f.asked); memories = omega arith; tables = omega arith; stacks = omega arith; heaps = omega arith };
         fewer = omega arith;
         way = tt;
         searched = λ s. tt;
       }
 
   -- The region comes back,
-  put_resident_ready : (r : ReleaseCursor) (k : ℕ) (at : TakenSlot) (held : ImageSlot P) (c : PoolCore P) (f : Frame P) → Can maker (Release (PutRegion r k at held)) c f → Shows (PutRegion r k at held) c f (lifted (λ cell. with_cell at.name cell c) (put_resident_on c.plan r k (cell_of held) (cell_named at.name c) (in_phase Idle f)))
+  put_resident_ready : (r : ReleaseCursor) (k : ℕ) (at : TakenSlot) (held : ImageSlot P) (c : PoolCore P H) (f : Frame P H) → Can maker (Release (PutRegion r k at held)) c f → Shows (PutRegion r k at held) c f (lifted (λ cell. with_cell at.name cell c) (put_resident_on c.plan r k (cell_of held) (cell_named at.name c) (in_phase Idle f)))
   put_resident_ready r k at held c f can =
-      let phase : Phase P = Release (PutRegion r k at held) in
-      let e : Frame P = in_phase phase f in
+      let phase : Phase P H = Release (PutRegion r k at held) in
+      let e : Frame P H = in_phase phase f in
       let z : PoolSizes = sizes_of c.settings c.plan in
       let has = can.frame.shape.1 in
       let region = has.region in
-      let gone = phase_gone maker phase at.name c f can.core can.fits at.numbers (omega (arith, unit_once at.name at.numbers)) in
+      let gone = phase_gone maker phase at.name c f can.core can.fits at.numbers region.named.cells (omega (arith, unit_once at.name at.numbers)) in
       let cell : CellState = cell_filled (cell_of held) (cell_named at.name c) in
       drain_ready (PutRegion r k at held) r (k + 1) (drains_left z r (k + 1)) c (with_cell at.name cell c) f
       (record {
         kept = kept_part maker old new c e (with_cell at.name cell c) (in_phase Idle f) (core_with_cell maker at.name cell c can.core region.named (record { named = (sound_cell maker at.name c can.core region.named).named; holds = region.holds })) (held_of maker c.settings c.plan e can.frame) refl refl refl refl;
         rest = can.frame.shape.0;
-        even = record { places = λ t. let back = region_returns maker t at.name (cell_of held) c can.core region.named gone.away region.there in omega (arith, back.0, back.1, ap (region_count t at.name) gone.out, freed_at t r k has.place, ap (slot_count t) has.named); instances = omega (arith, counts_none f.asked); memories = omega arith; tables = omega arith; stacks = omega arith };
+        even = record { places = λ t. let back = region_returns maker t at.name (cell_of held) c can.core region.named gone.away region.there in omega (arith, back.0, back.1, ap (region_count t at.name) gone.out, freed_at t r k has.place, ap (slot_count t) has.named); instances = omega (arith, counts_none f.asked); memories = omega arith; tables = omega arith; stacks = omega arith; heaps = omega arith };
         few = omega arith;
         stage = refl;
         plan = refl;
@@ -376,27 +376,27 @@ module _ {P : Type 0} (maker : MakerTold) (old new : LimiterTold) where
       has.releasing (omega arith)
 
   -- and in the end each slot is freed.
-  free_taken_ready : (r : ReleaseCursor) (x : FreedSlot) (c : PoolCore P) (f : Frame P) → Can maker (Release (Free r x)) c f → Shows (Free r x) c f (lifted (λ shard. with_shard (home_of c.plan x.name).place shard c) (free_taken_on c.plan r x (shard_at (home_of c.plan x.name).place c) (in_phase Idle f)))
+  free_taken_ready : (r : ReleaseCursor) (x : FreedSlot) (c : PoolCore P H) (f : Frame P H) → Can maker (Release (Free r x)) c f → Shows (Free r x) c f (lifted (λ shard. with_shard (home_of c.plan x.name).place shard c) (free_taken_on c.plan r x (shard_at (home_of c.plan x.name).place c) (in_phase Idle f)))
   free_taken_ready r x c f can =
-      let phase : Phase P = Release (Free r x) in
-      let e : Frame P = in_phase phase f in
+      let phase : Phase P H = Release (Free r x) in
+      let e : Frame P H = in_phase phase f in
       let z : PoolSizes = sizes_of c.settings c.plan in
       let at : IsReleasing c.plan r 0 = can.frame.shape.1.0 in
       let of : IsFreedOf c.plan x = can.frame.shape.1.1 in
       let j : ℕ = (home_of c.plan x.name).place in
       let shard : ShardState = shard_at j c in
       let bytes : ℕ = bytes_kept r x in
-      let place = place_of maker c x.name can.core of.named in
+      let place = place_of maker c x.name can.core of.named.inside in
       let used = (phase_out maker phase x.name c f can.core can.fits (omega (arith, slot_once x.name))).used in
       let freed : ShardState = after_free (home_of c.plan x.name).local bytes shard in
-      let there : IsShardPlace c.plan j = home_place c.plan (length c.parts) x.name can.core.plan of.named in
+      let there : IsShardPlace c.plan j = home_place c.plan (length c.parts) x.name can.core.plan of.named.inside in
       let next_shard : IsShardOf shard freed = freed_shard (home_of c.plan x.name).local bytes shard (sound_shard maker j c can.core there) (some_used _ used) (omega (arith, kept_few r.failed x.bytes, of.bytes)) in
       let was = stands c.plan r 0 at in
       free_ready (Free r x) r.taken.items (releasing r x) (length r.taken.items + stripes_left z r) c (with_shard j freed c) f
       (record {
         kept = kept_part maker old new c e (with_shard j freed c) (in_phase Idle f) (core_with_shard maker j freed c can.core there next_shard.sound next_shard.same) (held_of maker c.settings c.plan e can.frame) refl refl refl refl;
         rest = can.frame.shape.0;
-        even = record { places = λ t. omega (arith, kept_shard t j freed c (shard_part maker j c can.core there), away_shard t j freed c (shard_part maker j c can.core there), freed_one t c.plan shard x.name bytes place used); instances = omega (arith, counts_none f.asked); memories = omega arith; tables = omega arith; stacks = omega arith };
+        even = record { places = λ t. omega (arith, kept_shard t j freed c (shard_part maker j c can.core there), away_shard t j freed c (shard_part maker j c can.core there), freed_one t c.plan shard x.name bytes place used); instances = omega (arith, counts_none f.asked); memories = omega arith; tables = omega arith; stacks = omega arith; heaps = omega arith };
         few = omega arith;
         stage = refl;
         plan = refl;
@@ -404,7 +404,7 @@ module _ {P : Type 0} (maker : MakerTold) (old new : LimiterTold) where
       })
       (record { stripe = was.stripe; room = was.room; same_room = was.same_room }) at.taken at.memories (omega (arith, at.few)) at.all (omega arith)
 
-  pub release_ready : (g : StepGiven) (step : ReleaseStep P) (c : PoolCore P) (f : Frame P) → Can maker (Release step) c f → ReleaseTold c.settings g step → Shows step c f (release_row g step c (in_phase Idle f))
+  pub release_ready : (g : StepGiven H) (step : ReleaseStep P) (c : PoolCore P H) (f : Frame P H) → Can maker (Release step) c f → ReleaseTold c.settings g step → Shows step c f (release_row g step c (in_phase Idle f))
   release_ready g Reserve c f can told = reserve_ready g.wants c f can
   release_ready g (TakeWarm r j) c f can told = take_warm_ready r j c f can
   release_ready g (TakeRegion r k) c f can told = take_resident_ready r k c f can

@@ -11,10 +11,10 @@ use Rattle.pool_pages.specs.declared.unsupported.Unsupported.{Unsupported}
 use Rattle.pool_images.specs.Images.{Image}
 use Rattle.pool_images.specs.Slots.{FitsInto}
 use Rattle.std.specs.Option.{option_or}
-use Rattle.pool_alloc.specs.Refusals.{first_refused, offset_refused, number_refused, memory_refused, tables_refused, long_table, size_refused, objects_refused, module_refused}
+use Rattle.pool_alloc.specs.Refusals.{first_refused, offset_refused, number_refused, memory_refused, tables_refused, long_table, size_refused, objects_refused, module_refused, type_refused}
 use Rattle.pool_alloc.specs.declared.frame.Asked.{Asked}
 use Rattle.pool_alloc.specs.declared.frame.Asked.TheVariants.{Module as module_asked}
-use Rattle.pool_alloc.specs.Steps.{no_module, info_wanted, memories_wanted, images_wanted, tables_wanted}
+use Rattle.pool_alloc.specs.Steps.{no_module, info_wanted, memories_wanted, images_wanted, tables_wanted, plain_decl, IsModule}
 use Rattle.pool_alloc.specs.Sound.{IsSupported, AreSupported, IsTableSupported, AreTablesSupported, AreImagesOf}
 use Rattle.pool_alloc.specs.declared.pool_core.Settings.{Settings}
 use Rattle.pool_alloc.proofs.Telling.{told_both}
@@ -89,6 +89,19 @@ supported s total info images small of e =
     )
 
 -- the same of a module that is asked for
-pub asked_supported : (s : Settings) (total : ℕ) (asked : Asked) → s.max_memories_per_module < 2 ^ 32 → AreImagesOf s (memories_wanted asked) (images_wanted asked) → module_refused s total (info_wanted asked) ≡ None → AreSupported s (memories_wanted asked) (images_wanted asked) × AreTablesSupported s total (tables_wanted asked)
-asked_supported s total (module_asked m) small of e = supported s total m.info (images_wanted (module_asked m)) small of e
-asked_supported s total asked small of e = supported s total no_module [] small of e
+pub asked_supported : (s : Settings) (total : ℕ) (asked : Asked) → s.max_memories_per_module < 2 ^ 32 → IsModule asked → AreImagesOf s (memories_wanted asked) (images_wanted asked) → module_refused s total (info_wanted asked) ≡ None → AreSupported s (memories_wanted asked) (images_wanted asked) × AreTablesSupported s total (tables_wanted asked)
+asked_supported s total (module_asked m) small is of e = supported s total m.info (images_wanted (module_asked m)) small of e
+asked_supported s total asked small is of e = absurd is
+
+-- and of the memory of a heap
+pub heap_supported : (s : Settings) (ty : MemoryType) → ty.page_size_log2 < 64 → type_refused s ty ≡ None → AreSupported s (plain_decl ty ∷ []) []
+heap_supported s ty log2 e =
+    let both = no_refusal (refused_limits ty.limits) (memory_refused s ty) e in
+    record {
+      few = omega arith;
+      each = one (record { page_log2 = log2; limits = both.0; minimum = fits_slot s (plain_decl ty).ty both.1; image_fits = tt });
+    }
+  where
+    one : IsSupported s (plain_decl ty) None → (k : ℕ) → IfSome (slice_get (plain_decl ty ∷ []) k) (λ decl. IsSupported s decl (get_or [] k None))
+    one is zero = is
+    one is (suc k) = tt

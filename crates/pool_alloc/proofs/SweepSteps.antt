@@ -1,4 +1,5 @@
 -- What the code of a step of a purge needs, and of a release.
+use Rattle.pool_slots.specs.SlotNames.{of_kind}
 use Rattle.std.specs.List.{AllByRecursion}
 use Rattle.std.proofs.Common.{◌≡◌, ℕ, ◌+◌, ◌*◌, ◌^◌, ◌<◌, ◌≤◌, Bool, true, false, length, refl, sym, subst, ap, ◌∙◌, arith}
 use Rattle.std.specs.Prelude.{nat_lt}
@@ -8,7 +9,7 @@ use Rattle.pool_pages.specs.Count.{count, rounded_up}
 use Rattle.pool_pages.specs.MakerTold.{MakerTold}
 use Rattle.pool_images.specs.Slots.{Slot, SlotIdentity, IsClean, IsRangeOf}
 use Rattle.pool_hall.specs.declared.unit_name.SlotKind.{SlotKind}
-use Rattle.pool_hall.specs.declared.unit_name.SlotKind.TheVariants.{Memory as memory_kind, Table as table_kind, Stack as stack_kind}
+use Rattle.pool_hall.specs.declared.unit_name.SlotKind.TheVariants.{Memory as memory_kind, Table as table_kind, Stack as stack_kind, Heap as heap_kind}
 use Rattle.pool_index.specs.Shard.{ShardState}
 use Rattle.pool_slots.specs.Cells.{Cell, IsCleanOnceUsed, is_taken, unmapped, unknown, previously_used, taken}
 use Rattle.pool_slots.specs.CellOf.{cell_of}
@@ -24,7 +25,7 @@ use Rattle.pool_alloc.specs.Freeing.{HasHome}
 use Rattle.pool_alloc.specs.Places.{right_to, region_of, phase_count}
 use Rattle.pool_alloc.specs.Purges.{purged_stripe}
 use Rattle.pool_alloc.specs.Releases.{released_stripe, nth_taken}
-use Rattle.pool_alloc.specs.Sound.{IsCore, IsPooled, IsPoolPlan, IsStripe, IsSettings, IsSlotName, IsFreedOf, IsPurging, IsReleasing, IsPoolSlot, MayHold, HasRegion, slots_left}
+use Rattle.pool_alloc.specs.Sound.{IsCore, HasCells, IsPoolPlan, IsStripe, IsSettings, IsSlotName, IsFreedOf, IsPurging, IsReleasing, IsPoolSlot, MayHold, HasRegion, slots_left}
 use Rattle.pool_alloc.specs.Steps.{shard_at, cell_named}
 use Rattle.pool_alloc.specs.declared.frame.Frame.{Frame}
 use Rattle.pool_alloc.specs.declared.frame.FreedSlot.{FreedSlot}
@@ -54,11 +55,11 @@ use Rattle.pool_alloc.proofs.WarmTakes.{warm_few}
 use Rattle.pool_alloc.proofs.Ways.{Can}
 
 -- the shards of the allocators of a kind that the pool has
-pub placed_of : (plan : Plan) (places : ℕ) (kind : SlotKind) → IsPoolPlan plan places → IsPooled kind → AllByRecursion IsPlacedAllocator (allocators_of plan kind)
-placed_of plan places memory_kind is pooled = each_weaker IsStripe IsPlacedAllocator plan.memories (λ a stripe. stripe.placed) is.shards
-placed_of plan places table_kind is pooled = each_weaker IsStripe IsPlacedAllocator plan.tables (λ a shards. shards.placed) is.table_shards
-placed_of plan places stack_kind is pooled = each_weaker IsStripe IsPlacedAllocator plan.stacks (λ a shards. shards.placed) is.stack_shards
-placed_of plan places kind is pooled = absurd pooled
+pub placed_of : (plan : Plan) (places : ℕ) (kind : SlotKind) → IsPoolPlan plan places → AllByRecursion IsPlacedAllocator (allocators_of plan kind)
+placed_of plan places memory_kind is = each_weaker IsStripe IsPlacedAllocator plan.memories (λ a stripe. stripe.placed) is.shards
+placed_of plan places table_kind is = each_weaker IsStripe IsPlacedAllocator plan.tables (λ a shards. shards.placed) is.table_shards
+placed_of plan places stack_kind is = each_weaker IsStripe IsPlacedAllocator plan.stacks (λ a shards. shards.placed) is.stack_shards
+placed_of plan places heap_kind is = each_weaker IsStripe IsPlacedAllocator plan.heaps (λ a shards. shards.placed) is.heap_shards
 
 -- a slot of a release is a memory
 drain_kind : {plan : Plan} (r : ReleaseCursor) (k : ℕ) (at : TakenSlot) → IsReleasing plan r 0 → k < length r.taken.items → (nth_taken r k).name ≡ at.name → at.name.kind ≡ memory_kind
@@ -77,12 +78,6 @@ can_decommit maker s i slot page sound of =
     }
 
 module _ {P : Type 0} (maker : MakerTold) where
-  can_place_of : (name : SlotName) (c : PoolCore P) → IsCore maker c → IsSlotName c.plan name → CanPlace c.plan name
-  can_place_of name c core named = omega (arith, cell_inside c.plan (length c.parts) name core.plan named, core.plan.small)
-
-  can_take_of : (name : SlotName) (c : PoolCore P) → IsCore maker c → IsSlotName c.plan name → is_taken (cell_named name c).holds ≡ false → CanTakeOf name c
-  can_take_of name c core named there = (can_place_of name c core named, cell_part maker name c core named, there)
-
   clean_by : (s : Settings) (kind : SlotKind) (i : ℕ) (held : ImageSlot P) → kind ≡ memory_kind → MayHold maker s kind i (cell_of held) → IsCleanOnceUsed (cell_of held)
   clean_by s kind i held is holds = by_cell (cell_of held) (subst (λ (k : SlotKind). MayHold maker s k i (cell_of held)) is holds)
     where
@@ -91,18 +86,6 @@ module _ {P : Type 0} (maker : MakerTold) where
       by_cell (unknown slot) holds = tt
       by_cell (previously_used slot) holds = holds.1
       by_cell taken holds = tt
-
-  can_put_of : (name : SlotName) (held : ImageSlot P) (c : PoolCore P) → IsCore maker c → HasRegion maker c.settings c.plan name (cell_of held) → name.kind ≡ memory_kind → CanPutOf name held c
-  can_put_of name held c core has kind = (can_place_of name c core has.named, cell_part maker name c core has.named, clean_by c.settings name.kind name.slot held kind has.holds)
-
-  can_free_of : (name : SlotName) (phase : Phase P) (c : PoolCore P) (f : Frame P) → Can maker phase c f → IsSlotName c.plan name → 1 ≤ phase_count (right_to name) phase → CanFreeOf name c
-  can_free_of name phase c f can named some = (
-    shard_part maker (home_of c.plan name).place c can.core (home_place c.plan (length c.parts) name can.core.plan named),
-    record {
-      home = record { placed = placed_of c.plan (length c.parts) name.kind can.core.plan named.pooled; has = has_home c.plan (length c.parts) name can.core.plan named };
-      used = some_used _ (phase_out maker phase name c f can.core can.fits some).used;
-    },
-  )
 
   can_forget : (s : Settings) (name : SlotName) (held : ImageSlot P) → name.kind ≡ memory_kind → MayHold maker s name.kind name.slot (cell_of held) → CanForget held
   can_forget s name (Unmapped region) kind holds = tt
@@ -118,7 +101,26 @@ module _ {P : Type 0} (maker : MakerTold) where
       (can_decommit maker s name.slot slot page sound is.0, is.1)
   can_drain s name Taken page sound kind holds = tt
 
-  pub can_purge : (p : PurgeCursor) (step : PurgeStep P) (c : PoolCore P) (f : Frame P) → Can maker (Purge p step) c f → CanPurge p step c
+module _ {P H : Type 0} (maker : MakerTold) where
+  can_place_of : (name : SlotName) (c : PoolCore P H) → IsCore maker c → IsSlotName c.plan name → CanPlace c.plan name
+  can_place_of name c core named = omega (arith, cell_inside c.plan (length c.parts) name core.plan named, core.plan.small)
+
+  can_take_of : (name : SlotName) (c : PoolCore P H) → IsCore maker c → IsSlotName c.plan name → is_taken (cell_named name c).holds ≡ false → CanTakeOf name c
+  can_take_of name c core named there = (can_place_of name c core named, cell_part maker name c core named, there)
+
+  can_put_of : (name : SlotName) (held : ImageSlot P) (c : PoolCore P H) → IsCore maker c → HasRegion maker c.settings c.plan name (cell_of held) → name.kind ≡ memory_kind → CanPutOf name held c
+  can_put_of name held c core has kind = (can_place_of name c core has.named, cell_part maker name c core has.named, clean_by maker c.settings name.kind name.slot held kind has.holds)
+
+  pub can_free_of : (name : SlotName) (phase : Phase P H) (c : PoolCore P H) (f : Frame P H) → Can maker phase c f → name.slot < of_kind name.kind c.plan.totals → 1 ≤ phase_count (right_to name) phase → CanFreeOf name c
+  can_free_of name phase c f can inside some = (
+    shard_part maker (home_of c.plan name).place c can.core (home_place c.plan (length c.parts) name can.core.plan inside),
+    record {
+      home = record { placed = placed_of c.plan (length c.parts) name.kind can.core.plan; has = has_home c.plan (length c.parts) name can.core.plan inside };
+      used = some_used _ (phase_out maker phase name c f can.core can.fits some).used;
+    },
+  )
+
+  pub can_purge : (p : PurgeCursor) (step : PurgeStep P) (c : PoolCore P H) (f : Frame P H) → Can maker (Purge p step) c f → CanPurge p step c
   can_purge p (purging_step.Pick tried) c f can = λ has.
       let slots : 0 < c.plan.totals.memory = ltb-true _ _ (and_parts (nat_lt 0 c.plan.totals.memory) (nat_lt 0 c.settings.max_memories_per_module) has).0 in
       let picking = picking_of c.settings c.plan (length c.parts) can.core.plan slots p tried has can.frame.shape.1 in
@@ -132,16 +134,16 @@ module _ {P : Type 0} (maker : MakerTold) where
         shard = shard_part maker (a.first_place + tried) c can.core place;
       }
   can_purge p (purging_step.TakeRegion name) c f can =
-      can_take_of name c can.core can.frame.shape.1.1 (phase_home maker (Purge p (purging_step.TakeRegion name)) name c f can.core can.fits (omega (arith, slot_once name)) (slot_regions name name))
-  can_purge p (purging_step.Forget at held) c f can = let has = can.frame.shape.1.1 in (can_forget c.settings at.name held can.frame.shape.1.2 has.holds, has.there)
+      can_take_of name c can.core can.frame.shape.1.1 (phase_home maker (Purge p (purging_step.TakeRegion name)) name c f can.core can.fits can.frame.shape.1.1.cells (omega (arith, slot_once name)) (slot_regions name name))
+  can_purge p (purging_step.Forget at held) c f can = let has = can.frame.shape.1.1 in (can_forget maker c.settings at.name held can.frame.shape.1.2 has.holds, has.there)
   can_purge p (purging_step.PutRegion at held) c f can = can_put_of at.name held c can.core can.frame.shape.1.1 can.frame.shape.1.2
   can_purge p (purging_step.Free name) c f can =
       let at : IsPurging c.settings c.plan p = can.frame.shape.1.0 in (
         record { stripe = at.stripe; few = can.core.plan.few; memory = at.memory; turn = at.turn },
-        can_free_of name (Purge p (purging_step.Free name)) c f can can.frame.shape.1.1 (omega (arith, slot_once name)),
+        can_free_of name (Purge p (purging_step.Free name)) c f can can.frame.shape.1.1.inside (omega (arith, slot_once name)),
       )
 
-  pub can_release : (step : ReleaseStep P) (c : PoolCore P) (f : Frame P) → Can maker (Release step) c f → CanRelease step c
+  pub can_release : (step : ReleaseStep P) (c : PoolCore P H) (f : Frame P H) → Can maker (Release step) c f → CanRelease step c
   can_release releasing_step.Reserve c f can = can.core.plan.few
   can_release (releasing_step.TakeWarm r j) c f can =
       let at = can.frame.shape.1.0 in
@@ -163,14 +165,14 @@ module _ {P : Type 0} (maker : MakerTold) where
       let inside : k < length r.taken.items = can.frame.shape.1.1 in
       let name : SlotName = (nth_taken r k).name in
       let named : IsSlotName c.plan name = (All-get_or (IsFreedOf c.plan) r.taken.items k no_slot inside at.taken).named in
-      (inside, can_take_of name c can.core named (phase_home maker (Release (releasing_step.TakeRegion r k)) name c f can.core can.fits (omega (arith, freed_at (right_to name) r k inside, slot_once name)) (freed_regions name r.taken.items)))
+      (inside, can_take_of name c can.core named (phase_home maker (Release (releasing_step.TakeRegion r k)) name c f can.core can.fits named.cells (omega (arith, freed_at (right_to name) r k inside, slot_once name)) (freed_regions name r.taken.items)))
   can_release (releasing_step.Decommit r k at held) c f can =
       let has = can.frame.shape.1 in
-      (can_drain c.settings at.name held can.core.page can.core.settings (drain_kind r k at has.releasing has.place has.named) has.region.holds, has.region.there)
+      (can_drain maker c.settings at.name held can.core.page can.core.settings (drain_kind r k at has.releasing has.place has.named) has.region.holds, has.region.there)
   can_release (releasing_step.PutRegion r k at held) c f can =
       let has = can.frame.shape.1 in
       (record { stripe = has.releasing.stripe; few = can.core.plan.few }, has.place, can_put_of at.name held c can.core has.region (drain_kind r k at has.releasing has.place has.named))
   can_release (releasing_step.Free r x) c f can =
       let at : IsReleasing c.plan r 0 = can.frame.shape.1.0 in
       let of : IsFreedOf c.plan x = can.frame.shape.1.1 in
-      (record { stripe = at.stripe; few = can.core.plan.few }, of.bytes, can_free_of x.name (Release (releasing_step.Free r x)) c f can of.named (omega (arith, slot_once x.name)))
+      (record { stripe = at.stripe; few = can.core.plan.few }, of.bytes, can_free_of x.name (Release (releasing_step.Free r x)) c f can of.named.inside (omega (arith, slot_once x.name)))

@@ -188,8 +188,8 @@ module _ (maker : MakerTold) (s : Settings) (plan : Plan) (sound : IsSettings s)
   pub filled_stays : {G : Type 0} (told : G → StoreTold) (leads : G → StoreCall → G → Type 0) (at count : ℕ) (e : elem.Element) (old new : LeasedTable) (before after : G) (result : Result (Unit {0}) GcTableError) → IsFilled told leads at count e old new before after result → IsTableLease maker s plan old → IsTableLease maker s plan new
   filled_stays told leads at count e old new before after result is l =
       elim (cases_lt old.table.size (at + count)) [
-        | inl outside ↦ same_lease old new is.set.same (is.set.outside outside).1 l
-        | inr inside ↦ set_lease told leads at count e old new before after result is.set.same (is.set.inside (omega (arith, inside))) (omega (arith, inside)) is.region l
+        | inl outside ↦ same_lease old new is.same (is.set.outside outside).1 l
+        | inr inside ↦ set_lease told leads at count e old new before after result is.same (is.set.inside (omega (arith, inside))) (omega (arith, inside)) is.region l
       ]
 
   allowed_makes : (Same Grown : Type 0) (past : Bool) (failure : Option GrowError) → AllowedMakes Same Grown (λ e. ⊥) past failure → Same ⊎ Grown

@@ -55,7 +55,7 @@ next_added {X} of xs i d inside =
     ∙ ap all_calls (sym (map-append of (take i xs) (get_or xs i d ∷ [])))
     ∙ ap (λ (l : List X). all_calls (map of l)) (sym (take_more xs i d inside))
 
-pub parts_more : {P : Type 0} (parts : List (PoolPart P)) (i : ℕ) (d : PoolPart P) → i < length parts → added (calls_of_parts (take i parts)) (part_calls (get_or parts i d)) ≡ calls_of_parts (take (i + 1) parts)
+pub parts_more : {P H : Type 0} (parts : List (PoolPart P H)) (i : ℕ) (d : PoolPart P H) → i < length parts → added (calls_of_parts (take i parts)) (part_calls (get_or parts i d)) ≡ calls_of_parts (take (i + 1) parts)
 parts_more parts i d inside = next_added part_calls parts i d inside
 
 pub leases_more : (leases : List Lease) (i : ℕ) (d : Lease) → i < length leases → added (calls_of_leases (take i leases)) (slot_of (get_or leases i d).memory).region.calls ≡ calls_of_leases (take (i + 1) leases)

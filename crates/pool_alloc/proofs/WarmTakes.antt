@@ -1,4 +1,5 @@
 -- All warm slots of a shard are taken: they are used then, and are those of the pool.
+use Rattle.pool_slots.specs.SlotNames.{of_kind}
 use Rattle.std.proofs.Common.{◌≡◌, ℕ, zero, suc, ◌+◌, ◌*◌, ◌^◌, ◌<◌, ◌≤◌, List, [], ◌∷◌, length, refl, sym, ap, subst, ◌∙◌, arith, Option, Some, None, All}
 use Rattle.std.specs.Prelude.{map, slice_set, is_some}
 use Rattle.std.proofs.lemmas.List.{length-map, length-set}
@@ -63,14 +64,14 @@ pub outside_kinds : (s : ShardState) (es : List WarmSlot) → All (λ x. x.name.
 outside_kinds s [] = All-nil _
 outside_kinds s (e ∷ es) = All-cons (λ (x : FreedSlot). x.name.kind ≡ memory_kind) (slot_outside (known_outside s (with_bytes e))) (outside s es) refl (outside_kinds s es)
 
-module _ {P : Type 0} (maker : MakerTold) (p : ℕ) (c : PoolCore P) (core : IsCore maker c) (place : IsShardPlace c.plan p) (kind : (shard_at p c).kind ≡ memory_kind) where
+module _ {P H : Type 0} (maker : MakerTold) (p : ℕ) (c : PoolCore P H) (core : IsCore maker c) (place : IsShardPlace c.plan p) (kind : (shard_at p c).kind ≡ memory_kind) where
   each_outside : (es : List WarmSlot) (v : List (Option (Option MemoryInModule))) → length v ≡ (shard_at p c).capacity → Free es v → All (λ e. e.bytes ≤ 2 ^ 32) es → All (IsFreedOf c.plan) (outside (shard_at p c) es)
   each_outside [] v long f bytes = All-nil _
   each_outside (e ∷ es) v long f bytes =
       let s : ShardState = shard_at p c in
       let B : WarmSlot → Type 0 = λ x. x.bytes ≤ 2 ^ 32 in
       let within : e.slot.0 < s.capacity = omega (arith, f.within zero e (omega arith), long) in
-      let named : IsSlotName c.plan (memory_slot (slot_number s e.slot.0)) = subst (λ (k : SlotKind). IsSlotName c.plan (record { kind = k; slot = slot_number s e.slot.0 })) kind (slot_of_shard maker p e.slot.0 c core place within).named in
+      let named : IsSlotName c.plan (memory_slot (slot_number s e.slot.0)) = record { cells = tt; inside = subst (λ (k : SlotKind). slot_number s e.slot.0 < of_kind k c.plan.totals) kind (slot_of_shard maker p e.slot.0 c core place within).inside } in
       All-cons (IsFreedOf c.plan) (slot_outside (known_outside s (with_bytes e))) (outside s es) (record { named = named; bytes = All-head B e es bytes })
       (each_outside es (slice_set v e.slot.0 (Some e.affinity)) (length-set v e.slot.0 (Some e.affinity) ∙ long) (free_after e es v f) (All-tail B e es bytes))
 

@@ -1,19 +1,20 @@
 -- What all rows share: the pool and the frame with one part changed, how a call goes on at its stage, and the steps that are
 -- left of a request.
 use Rattle.pool_slots.specs.declared.plan.Plan.{Plan}
-use Rattle.std.proofs.Common.{◌≡◌, ℕ, ◌+◌, ◌*◌, ◌-◌, ◌<◌, ◌≤◌, Bool, true, false, List, [], ◌∷◌, ◌++◌, length, zero, suc, refl, sym, ap, subst, inl, inr, arith, Some, None}
+use Rattle.std.proofs.Common.{◌≡◌, ℕ, ◌+◌, ◌*◌, ◌-◌, ◌<◌, ◌≤◌, Bool, true, false, List, [], ◌∷◌, ◌++◌, length, zero, suc, refl, sym, ap, subst, inl, inr, arith, Some, None, ◌⊎◌, Ok, Err}
 use Rattle.std.specs.Prelude.{nat_lt, if◌then◌else◌, slice_get, IfSome}
 use Rattle.std.proofs.lemmas.Bool.{ltb-true}
 use Rattle.pool_pages.specs.MakerTold.{MakerTold}
-use Rattle.pool_limits.specs.LimiterTold.{LimiterTold}
+use Rattle.pool_alloc.specs.PartyTold.{PartyTold}
 use Rattle.pool_alloc.specs.Bounds.{PoolSizes, allocation_bound, give_back_bound, return_bound, flush_bound, returns_left, objects_left, picks_left, next_left, all_shards, flushed_allocators}
 use Rattle.pool_alloc.specs.Objects.{objects_in, objects_wanted}
 use Rattle.pool_alloc.specs.declared.lease.InstanceLease.{InstanceLease}
 use Rattle.pool_slots.specs.declared.errors.AllocError.{AllocError}
 use Rattle.pool_alloc.specs.Searches.{IsSearchedBy}
 use Rattle.pool_alloc.specs.Sound.{IsCore, Aims, IsToGrant}
-use Rattle.pool_alloc.specs.Stages.{Progress, admitted, no_call, refusing, progress_by, stage_by, FindsNone, Follows, Raises, Goes}
-use Rattle.pool_alloc.specs.Steps.{stacks_wanted}
+use Rattle.pool_memory.specs.Memories.{MemoryState}
+use Rattle.pool_alloc.specs.Stages.{Progress, admitted, no_call, refusing, progress_by, stage_by, FindsNone, IsPageFaulted, Makes, Follows, Raises, Goes}
+use Rattle.pool_alloc.specs.Steps.{stacks_wanted, IsForInstance}
 use Rattle.pool_alloc.specs.Stepping.{CanStep}
 use Rattle.pool_alloc.specs.Turns.{is_granting, answer_of}
 use Rattle.pool_alloc.specs.declared.pool_core.Counters.{Counters}
@@ -26,7 +27,7 @@ use Rattle.pool_alloc.specs.declared.frame.Grant.TheVariants.{Stack}
 use Rattle.pool_alloc.specs.declared.frame.Outcome.TheVariants as answer
 use Rattle.pool_alloc.specs.declared.frame.Frame.{Frame}
 use Rattle.pool_alloc.specs.declared.frame.Asked.{Asked}
-use Rattle.pool_alloc.specs.declared.frame.Asked.TheVariants.{Stack as stack_asked}
+use Rattle.pool_alloc.specs.declared.frame.Asked.TheVariants.{Stack as stack_asked, Heap as heap_asked}
 use Rattle.pool_alloc.specs.declared.frame.Phase.{Phase}
 use Rattle.pool_alloc.proofs.Hands.{one_more, in_phase, is_admitted, Held, Kept}
 
@@ -130,14 +131,14 @@ next_returns z (refused x) queues asked objects back = refl
 pub next_queue : (z : PoolSizes) (queues flush more : ℕ) → queues < z.queues → flush ≤ 3 * z.slots + all_shards (flushed_allocators z.plan) → flush + (z.shards - 0 + ((z.queues - (queues + 1)) * (flush_bound z + z.shards) + more)) + 1 ≤ (z.queues - queues) * (flush_bound z + z.shards) + more
 next_queue z queues flush more below few = omega (arith, one_more (z.queues - queues) (z.queues - (queues + 1)) (flush_bound z + z.shards) (omega arith))
 
-module _ {P : Type 0} where
+module _ {P H : Type 0} where
   -- the frame of a step may make it
-  abbrev pub Can : MakerTold → Phase P → PoolCore P → Frame P → Type 0
+  abbrev pub Can : MakerTold → Phase P H → PoolCore P H → Frame P H → Type 0
   Can maker p c f = CanStep maker c (in_phase p f)
 
-module _ {P : Type 0} (maker : MakerTold) (old new : LimiterTold) (d : PoolCore P) (e : Frame P) where
+module _ {P H : Type 0} (maker : MakerTold) (old new : PartyTold) (d : PoolCore P H) (e : Frame P H) where
   -- a part was changed
-  pub kept_part : (c : PoolCore P) (f : Frame P) → IsCore maker c → Held maker c.settings c.plan f → f.asked ≡ e.asked → c.settings ≡ d.settings → c.plan ≡ d.plan → c.counters ≡ d.counters → Kept maker old new d e c f
+  pub kept_part : (c : PoolCore P H) (f : Frame P H) → IsCore maker c → Held maker c.settings c.plan f → f.asked ≡ e.asked → c.settings ≡ d.settings → c.plan ≡ d.plan → c.counters ≡ d.counters → Kept maker old new d e c f
   kept_part c f core held asked settings plan counters = record {
     core = core;
     held = held;
@@ -148,11 +149,13 @@ module _ {P : Type 0} (maker : MakerTold) (old new : LimiterTold) (d : PoolCore 
     memories_by_one = omega (arith, ap (λ (n : Counters). n.memories) counters);
     tables_by_one = omega (arith, ap (λ (n : Counters). n.tables) counters);
     stacks_by_one = omega (arith, ap (λ (n : Counters). n.stacks) counters);
+    heaps_by_one = omega (arith, ap (λ (n : Counters). n.gc_heaps) counters);
   }
 
   -- a call stays at its stage,
   pub same_way : (asked : Asked) (ending : Ending) (n : ℕ) → Goes maker old new d e (stage_by asked ending n) (stage_by asked ending n) None
   same_way stack_asked granted n = tt
+  same_way (heap_asked ty) granted n = inl refl
   same_way asked granted n = inl refl
   same_way asked returned n = tt
   same_way asked (refused x) n = refl
@@ -161,8 +164,22 @@ module _ {P : Type 0} (maker : MakerTold) (old new : LimiterTold) (d : PoolCore 
   pub fails_way : (asked : Asked) (ending : Ending) (n : ℕ) (x : AllocError) → ending ≡ granted → Raises maker old new d e (progress_by asked n) x → Goes maker old new d e (stage_by asked ending n) (refusing x) None
   fails_way asked ending n x is raised = let W : Ending → Type 0 = λ y. Goes maker old new d e (stage_by asked y n) (refusing x) None in subst W (sym is) raised
 
+  -- as one for a memory, which a module has or a heap,
+  pub memory_fails_way : (asked : Asked) (ending : Ending) (n : ℕ) (x : AllocError) → ending ≡ granted → stacks_wanted asked ≡ 0 → IsPageFaulted maker d e n x ⊎ Makes old new d e n (Err x) → Goes maker old new d e (stage_by asked ending n) (refusing x) None
+  memory_fails_way stack_asked ending n x is none raised = absurd (omega (arith, none))
+  memory_fails_way (heap_asked ty) ending n x is none raised =
+      fails_way (heap_asked ty) ending n x is (elim raised [
+        | inl faulted ↦ inr (inl faulted)
+        | inr made ↦ inr (inr (inl made))
+      ])
+  memory_fails_way asked ending n x is none raised =
+      fails_way asked ending n x is (elim raised [
+        | inl faulted ↦ inr (inl faulted)
+        | inr made ↦ inr (inr (inl made))
+      ])
+
   -- as one for a module that is tested,
-  pub admitted_way : (asked : Asked) (ending : Ending) (n : ℕ) (x : AllocError) → ending ≡ granted → stacks_wanted asked ≡ 0 → Raises maker old new d e (admitted n) x → Goes maker old new d e (stage_by asked ending n) (refusing x) None
+  pub admitted_way : (asked : Asked) (ending : Ending) (n : ℕ) (x : AllocError) → ending ≡ granted → IsForInstance asked → Raises maker old new d e (admitted n) x → Goes maker old new d e (stage_by asked ending n) (refusing x) None
   admitted_way asked ending n x is none raised = fails_way asked ending n x is (let R : Progress → Type 0 = λ p. Raises maker old new d e p x in subst R (sym (is_admitted asked n none)) raised)
 
   -- or for want of a slot,
@@ -171,7 +188,12 @@ module _ {P : Type 0} (maker : MakerTold) (old new : LimiterTold) (d : PoolCore 
   full_way asked ending n x is none found = fails_way asked ending n x is (inl found)
 
   -- an object more is made,
-  pub made_way : (asked : Asked) (ending : Ending) (n : ℕ) → ending ≡ granted → stacks_wanted asked ≡ 0 → Follows old new d e (admitted n) (admitted (n + 1)) → Goes maker old new d e (stage_by asked ending n) (stage_by asked ending (n + 1)) None
+  pub memory_made_way : (asked : Asked) (ending : Ending) (n : ℕ) (memory : MemoryState) → ending ≡ granted → stacks_wanted asked ≡ 0 → Makes old new d e n (Ok memory) → Goes maker old new d e (stage_by asked ending n) (stage_by asked ending (n + 1)) None
+  memory_made_way stack_asked ending n memory is none made = absurd (omega (arith, none))
+  memory_made_way (heap_asked ty) ending n memory is none made = let W : Ending → Type 0 = λ y. Goes maker old new d e (stage_by (heap_asked ty) y n) (stage_by (heap_asked ty) y (n + 1)) None in subst W (sym is) (inr (refl, (memory, made)))
+  memory_made_way asked ending n memory is none made = let W : Ending → Type 0 = λ y. Goes maker old new d e (stage_by asked y n) (stage_by asked y (n + 1)) None in subst W (sym is) (inr (refl, inl (memory, made)))
+
+  pub made_way : (asked : Asked) (ending : Ending) (n : ℕ) → ending ≡ granted → IsForInstance asked → Follows old new d e (admitted n) (admitted (n + 1)) → Goes maker old new d e (stage_by asked ending n) (stage_by asked ending (n + 1)) None
   made_way asked ending n is none follows =
       let W : Ending → Type 0 = λ y. Goes maker old new d e (stage_by asked y n) (stage_by asked y (n + 1)) None in
       let F : Progress → Progress → Type 0 = λ p q. Follows old new d e p q in

@@ -1,16 +1,16 @@
 -- A pool with all that have something of it: each of them fits, and no two have a slot.
 use Rattle.pool_pages.specs.MakerTold.{MakerTold}
-use Rattle.std.proofs.Common.{◌≢◌, ℕ, zero, suc, ◌+◌, ◌<◌, ◌≤◌, List, [], ◌∷◌, length, refl, ap, arith, All}
+use Rattle.std.proofs.Common.{◌≡◌, ◌≢◌, ℕ, zero, suc, ◌+◌, ◌<◌, ◌≤◌, List, [], ◌∷◌, length, refl, ap, arith, All}
 use Rattle.std.specs.Prelude.{sum_by, slice_index_or}
 use Rattle.std.proofs.lemmas.List.Elements.{All-head, All-tail}
 use Rattle.std.proofs.lemmas.List.Sums.{sum_by-cons, get_or-le-sum_by}
 use Rattle.pool_slots.specs.declared.slot_name.SlotName.{SlotName}
-use Rattle.pool_alloc.specs.Places.{right_to, region_of}
+use Rattle.pool_alloc.specs.Places.{right_to, region_of, kept_count}
 use Rattle.pool_alloc.specs.Sound.{IsCore, FitsCore}
-use Rattle.pool_alloc.specs.Whole.{Holding, HasSlots, AddUp, held_by, IsPartitioned}
+use Rattle.pool_alloc.specs.Whole.{Holding, HasSlots, AddUp, held_by, times_warm, IsPartitioned}
 use Rattle.pool_alloc.specs.declared.pool_core.PoolCore.{PoolCore}
 use Rattle.pool_alloc.specs.declared.frame.Frame.{Frame}
-use Rattle.pool_alloc.proofs.Held.{frame_regions, kept_regions}
+use Rattle.pool_alloc.proofs.Held.{frame_regions, kept_regions, not_warm}
 use Rattle.pool_alloc.proofs.KeptCounts.{out_once}
 
 -- two different ones have no more together than all
@@ -43,9 +43,9 @@ others_have_slots k (h ∷ hs) (suc i) d slots below =
       others_have_slots k hs i d (All-tail HasSlots h hs slots) (omega (arith, below)),
     )
 
-module _ {P : Type 0} where
+module _ {P H : Type 0} where
   -- A call of one of them fits the pool.
-  pub whole_fits : (c : PoolCore P) (f : Frame P) (hs : List Holding) (i : ℕ) (d rest : Holding) → IsPartitioned (λ h. h) c hs → All HasSlots hs → i < length hs → AddUp (held_by f) rest (slice_index_or hs i d) → HasSlots rest → FitsCore c f
+  pub whole_fits : (c : PoolCore P H) (f : Frame P H) (hs : List Holding) (i : ℕ) (d rest : Holding) → IsPartitioned (λ h. h) c hs → All HasSlots hs → i < length hs → AddUp (held_by f) rest (slice_index_or hs i d) → HasSlots rest → FitsCore c f
   whole_fits c f hs i d rest whole each below is slots = record {
     once = λ t. omega (arith, whole.places t, is.places t, get_or-le-sum_by (λ (h : Holding). h.places t) hs i d below);
     others = λ k. omega (arith, whole.places (right_to k), whole.places (region_of k), is.places (right_to k), is.places (region_of k), slots k, others_have_slots k hs i d each below, kept_regions k c);
@@ -54,13 +54,18 @@ module _ {P : Type 0} where
     memories = omega (arith, whole.memories, is.memories, get_or-le-sum_by (λ (h : Holding). h.memories) hs i d below);
     tables = omega (arith, whole.tables, is.tables, get_or-le-sum_by (λ (h : Holding). h.tables) hs i d below);
     stacks = omega (arith, whole.stacks, is.stacks, get_or-le-sum_by (λ (h : Holding). h.stacks) hs i d below);
+    heaps = omega (arith, whole.heaps, is.heaps, get_or-le-sum_by (λ (h : Holding). h.heaps) hs i d below);
   }
 
   -- No slot is with two of them.
-  pub slots_apart : (maker : MakerTold) (c : PoolCore P) (hs : List Holding) (i j : ℕ) (k : SlotName) (d : Holding) → IsCore maker c → IsPartitioned (λ h. h) c hs → i < length hs → j < length hs → i ≢ j → (slice_index_or hs i d).places (right_to k) + (slice_index_or hs j d).places (right_to k) ≤ 1
+  pub slots_apart : (maker : MakerTold) (c : PoolCore P H) (hs : List Holding) (i j : ℕ) (k : SlotName) (d : Holding) → IsCore maker c → IsPartitioned (λ h. h) c hs → i < length hs → j < length hs → i ≢ j → (slice_index_or hs i d).places (right_to k) + (slice_index_or hs j d).places (right_to k) ≤ 1
   slots_apart maker c hs i j k d core whole below also other =
       omega (arith, whole.places (right_to k), (out_once maker k c core).0, two_of_sum (λ (h : Holding). h.places (right_to k)) hs i j d below also other)
 
+  -- A slot that is with one of them, or in a queue, isn't warm.
+  pub held_not_warm : (maker : MakerTold) (c : PoolCore P H) (hs : List Holding) (k : SlotName) → IsCore maker c → IsPartitioned (λ h. h) c hs → 0 < kept_count (right_to k) c + sum_by (λ h. h.places (right_to k)) hs → times_warm k c ≡ 0
+  held_not_warm maker c hs k core whole some = not_warm maker k c core (omega (arith, some, whole.places (right_to k)))
+
   -- A call has the slot of each of its regions.
-  pub call_has_slots : (f : Frame P) → HasSlots (held_by f)
+  pub call_has_slots : (f : Frame P H) → HasSlots (held_by f)
   call_has_slots f k = frame_regions k f

@@ -10,6 +10,8 @@ use Rattle.pool_images.specs.Slots.{Slot, IsClean, IsLeft, IsBegun, IsSized, Has
 use Rattle.pool_limits.specs.Growth.{memory_answer}
 use Rattle.pool_limits.specs.Exchanges.{Exchange, may_grow}
 use Rattle.pool_limits.specs.LimiterTold.{LimiterTold, after_answer}
+use Rattle.pool_slots.specs.HeapsTold.{HeapsTold}
+use Rattle.pool_alloc.specs.PartyTold.{MakesHeap}
 use Rattle.pool_limits.specs.declared.errors.LimiterError.{LimiterError}
 use Rattle.pool_memory.specs.Making.{minimum_asked, maximum_asked, minimum_question}
 use Rattle.pool_memory.specs.Static.{CanHold}
@@ -29,7 +31,7 @@ use Rattle.pool_alloc.specs.declared.frame.Phase.{Phase}
 use Rattle.pool_alloc.specs.declared.frame.Object.{Object}
 use Rattle.pool_alloc.specs.declared.frame.Object.TheVariants.{Memory}
 use Rattle.pool_alloc.specs.declared.frame.TakenSlot.{TakenSlot}
-use Rattle.pool_alloc.specs.declared.frame.Phase.TheVariants.{Empty, Instantiate, MakeMemory, MakeTable, Reset, Flush}
+use Rattle.pool_alloc.specs.declared.frame.Phase.TheVariants.{Empty, Instantiate, MakeMemory, MakeTable, MakeHeap, Reset, Flush}
 use Rattle.pool_alloc.specs.declared.frame.Phase.TheVariants.{Purge, Release}
 use Rattle.pool_pages.specs.Told.{decommitting}
 use Rattle.pool_images.specs.Orders.{removing}
@@ -106,11 +108,11 @@ abbrev pub FollowsRun : Bool → Queue → Queue → Type 0
 FollowsRun fault old new = AreInOrder (first_slot old.ranges) (run_of (first_slot old.ranges) old.ranges) (not fault) old.slots new.slots
 
 -- a step of a flush, where it decommits ranges
-abbrev pub FlushTold : FlushStep → StepGiven → Queue → Type 0
+abbrev pub FlushTold : {H : Type 0} → FlushStep → StepGiven H → Queue → Type 0
 FlushTold run g local = Decommits g.fault local g.queue
 FlushTold _ g local = Unit {0}
 
-abbrev pub FlushPlanned : FlushStep → StepGiven → Queue → Type 0
+abbrev pub FlushPlanned : {H : Type 0} → FlushStep → StepGiven H → Queue → Type 0
 FlushPlanned run g local = FollowsRun g.fault local g.queue
 FlushPlanned _ g local = Unit {0}
 
@@ -151,34 +153,35 @@ module _ {P : Type 0} where
   FollowsDrain s fault (PreviouslyUsed old) new = Follows (decommitting old.base.bytes s.max_memory_size ∷ []) (not fault) old.region new.region
   FollowsDrain s fault Taken new = Unit {0}
 
+module _ {P H : Type 0} where
   -- by the step of a purge, and of a release
-  abbrev pub PurgeTold : StepGiven → PurgeStep P → Type 0
+  abbrev pub PurgeTold : StepGiven H → PurgeStep P → Type 0
   PurgeTold g (purging_step.Forget at held) = Forgets g.fault held g.slot
   PurgeTold g _ = Unit {0}
 
-  abbrev pub PurgePlanned : StepGiven → PurgeStep P → Type 0
+  abbrev pub PurgePlanned : StepGiven H → PurgeStep P → Type 0
   PurgePlanned g (purging_step.Forget at held) = FollowsForget g.fault held g.slot
   PurgePlanned g _ = Unit {0}
 
-  abbrev pub ReleaseTold : Settings → StepGiven → ReleaseStep P → Type 0
+  abbrev pub ReleaseTold : Settings → StepGiven H → ReleaseStep P → Type 0
   ReleaseTold s g (releasing_step.Decommit r k at held) = Drains s g.fault held g.slot
   ReleaseTold s g _ = Unit {0}
 
-  abbrev pub ReleasePlanned : Settings → StepGiven → ReleaseStep P → Type 0
+  abbrev pub ReleasePlanned : Settings → StepGiven H → ReleaseStep P → Type 0
   ReleasePlanned s g (releasing_step.Decommit r k at held) = FollowsDrain s g.fault held g.slot
   ReleasePlanned s g _ = Unit {0}
 
   -- an object is reset
-  abbrev pub ResetTold : Settings → StepGiven → Object P → Type 0
+  abbrev pub ResetTold : Settings → StepGiven H → Object P → Type 0
   ResetTold s g (Memory lease) = Resets g.fault s.keep_resident.bytes (slot_taken lease) (slot_of lease.memory) g.slot
   ResetTold s g _ = Unit {0}
 
-  abbrev pub ResetPlanned : Settings → StepGiven → Object P → Type 0
+  abbrev pub ResetPlanned : Settings → StepGiven H → Object P → Type 0
   ResetPlanned s g (Memory lease) = FollowsReset s.keep_resident.bytes g.fault (slot_of lease.memory) g.slot
   ResetPlanned s g _ = Unit {0}
 
   -- the given answers may come in this phase
-  abbrev pub MayBeTold : Settings → StepGiven → Phase P → Frame P → Type 0
+  abbrev pub MayBeTold : Settings → StepGiven H → Phase P H → Frame P H → Type 0
   MayBeTold s g (Empty at held) f = Empties g.fault held g.slot
   MayBeTold s g (Instantiate at held) f = IfAllocated f (λ decl. InstantiatesFor s decl g.fault (image_wanted f) held g.slot)
   MayBeTold s g (Reset object) f = ResetTold s g object
@@ -188,20 +191,25 @@ module _ {P : Type 0} where
   MayBeTold s g _ f = Unit {0}
 
   -- what the step makes of the limiter: only the making of a memory or a table asks it
-  abbrev pub AsksOf : LimiterTold → LimiterTold → StepGiven → Phase P → Frame P → Type 0
+  abbrev pub AsksOf : LimiterTold → LimiterTold → StepGiven H → Phase P H → Frame P H → Type 0
   AsksOf old new g (MakeMemory at held) f = IfAllocated f (AsksForMemory g.limiter old new)
   AsksOf old new g (MakeTable at region) f = IfTable f (AsksForTable g.limiter old new)
   AsksOf old new g _ f = new ≡ old
 
+  -- and of the maker of heaps: only the making of a heap asks it
+  abbrev pub MakesOf : HeapsTold → HeapsTold → StepGiven H → Phase P H → Type 0
+  MakesOf old new g (MakeHeap at) = MakesHeap g.heap old new
+  MakesOf old new g _ = new ≡ old
+
   -- What passes between the step and the limiter, of which this is told: the making of a memory or a table asks it once,
   -- and no other step speaks to it.
-  abbrev pub LimiterHears : (List Exchange → Type 0) → StepGiven → Phase P → Frame P → Type 0
+  abbrev pub LimiterHears : (List Exchange → Type 0) → StepGiven H → Phase P H → Frame P H → Type 0
   LimiterHears Passes g (MakeMemory at held) f = IfAllocated f (λ decl. Passes (may_grow (minimum_question decl.ty) g.limiter ∷ []))
   LimiterHears Passes g (MakeTable at region) f = IfTable f (λ ty. Passes (may_grow (making_question ty) g.limiter ∷ []))
   LimiterHears Passes g _ f = Passes []
 
   -- whether a page call of the step failed is as the regions' plans say, where they are told
-  abbrev pub IsPlanned : Settings → StepGiven → Phase P → Frame P → Type 0
+  abbrev pub IsPlanned : Settings → StepGiven H → Phase P H → Frame P H → Type 0
   IsPlanned s g (Empty at held) f = Follows (wiping held) (not g.fault) held.region g.slot.region
   IsPlanned s g (Instantiate at held) f = IfAllocated f (λ decl. FollowsPlanFor s decl g.fault (image_wanted f) held g.slot)
   IsPlanned s g (Reset object) f = ResetPlanned s g object

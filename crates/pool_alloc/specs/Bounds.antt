@@ -11,7 +11,7 @@ use Rattle.pool_slots.specs.declared.slot_name.SlotName.{SlotName}
 use Rattle.pool_slots.specs.declared.plan.Allocator.{Allocator}
 use Rattle.pool_slots.specs.declared.plan.Plan.{Plan}
 use Rattle.pool_alloc.specs.Steps.{queues_searched}
-use Rattle.pool_alloc.specs.declared.frame.Grant.TheVariants.{Instance, Stack, Component}
+use Rattle.pool_alloc.specs.declared.frame.Grant.TheVariants.{Instance, Stack, Heap, Component}
 use Rattle.pool_alloc.specs.declared.pool_core.PoolCore.{PoolCore}
 use Rattle.pool_alloc.specs.declared.frame.Call.{Call}
 use Rattle.pool_alloc.specs.declared.frame.Call.TheVariants as call
@@ -20,9 +20,9 @@ use Rattle.pool_alloc.specs.declared.frame.Ending.TheVariants.{Granted as grante
 use Rattle.pool_alloc.specs.declared.frame.Frame.{Frame}
 use Rattle.pool_alloc.specs.declared.frame.FreedSlot.{FreedSlot}
 use Rattle.pool_alloc.specs.declared.frame.Asked.{Asked}
-use Rattle.pool_alloc.specs.declared.frame.Asked.TheVariants.{Module as module_asked, Stack as stack_asked}
+use Rattle.pool_alloc.specs.declared.frame.Asked.TheVariants.{Module as module_asked, Stack as stack_asked, Heap as heap_asked}
 use Rattle.pool_alloc.specs.declared.frame.Phase.{Phase}
-use Rattle.pool_alloc.specs.declared.frame.Phase.TheVariants.{Idle, Key, Validate, TestStack, CountInstance, Pick, TakeQueue, TakeRegion, Empty, Instantiate, MakeMemory, MakeTable, CountObject, PutBack, FreeOne, UncountObject, Reset, Merge, Flush, UncountInstance, ValidateComponent, CountComponent, UncountComponent, Purge, Release}
+use Rattle.pool_alloc.specs.declared.frame.Phase.TheVariants.{Idle, Key, Validate, TestStack, TestHeap, CountInstance, Pick, TakeQueue, TakeRegion, Empty, Instantiate, MakeMemory, MakeTable, CountObject, TakeHeap, MakeHeap, CountHeap, PutNoHeap, PutBack, FreeOne, UncountObject, UncountHeap, PutHeap, FreeHeap, Reset, Merge, Flush, UncountInstance, ValidateComponent, CountComponent, UncountComponent, Purge, Release}
 use Rattle.std.specs.Prelude.{drop}
 use Rattle.pool_alloc.specs.Purges.{has_turns, purged_stripe}
 use Rattle.pool_alloc.specs.Releases.{released_stripe}
@@ -56,13 +56,17 @@ all_shards (a ∷ more) = a.shards + all_shards more
 abbrev pub flushed_allocators : Plan → List Allocator
 flushed_allocators plan = plan.memories ++ (plan.tables ++ plan.stacks)
 
--- the slots of the pool
+-- all allocators
+abbrev pub searched_allocators : Plan → List Allocator
+searched_allocators plan = flushed_allocators plan ++ plan.heaps
+
+-- the slots of the pool that are flushed
 abbrev pub all_slots : Plan → ℕ
 all_slots plan = plan.totals.memory + plan.totals.table + plan.totals.stack
 
 -- the sizes of a pool
 abbrev pub sizes_of : Settings → Plan → PoolSizes
-sizes_of s plan = record { shards = most_shards (flushed_allocators plan); queues = queues_searched plan; slots = all_slots plan; per_module = s.max_memories_per_module; plan = plan }
+sizes_of s plan = record { shards = most_shards (searched_allocators plan); queues = queues_searched plan; slots = all_slots plan; per_module = s.max_memories_per_module; plan = plan }
 
 -- A flush, with the step that begins it: three steps for each slot, and one for each shard. (Without tables and stacks it makes fewer.)
 abbrev pub flush_bound : PoolSizes → ℕ
@@ -79,6 +83,10 @@ give_back_bound z = 4 + flush_bound z
 -- an instance with so many objects, which may all be given back where it is refused in the end
 abbrev pub instance_bound : PoolSizes → ℕ → ℕ
 instance_bound z objects = 3 + objects * (allocation_bound z + give_back_bound z)
+
+-- a heap with its memory, of which the memory may be given back
+abbrev pub heap_bound : PoolSizes → ℕ
+heap_bound z = 1 + 2 * (allocation_bound z + give_back_bound z)
 
 -- the end of an instance with so many objects
 abbrev pub return_bound : PoolSizes → ℕ → ℕ
@@ -172,22 +180,25 @@ next_left z granted queues asked objects = if nat_lt (objects_in objects) (objec
 next_left z returned queues asked objects = returns_left z objects
 next_left z (refused e) queues asked objects = returns_left z objects
 
-module _ {P : Type 0} where
+module _ {P H : Type 0} where
   -- at most how many steps a call makes, on a pool of these sizes and on this one
-  abbrev pub bound_of_call : PoolSizes → Call P → ℕ
+  abbrev pub bound_of_call : PoolSizes → Call P H → ℕ
   bound_of_call z call.Key = 1
   bound_of_call z (call.Module m) = instance_bound z (objects_wanted (module_asked m))
   bound_of_call z (call.Component info) = 3
   bound_of_call z call.Stack = 1 + allocation_bound z
+  bound_of_call z (call.Heap ty) = heap_bound z
   bound_of_call z (call.GiveBack (Instance lease)) = return_bound z (objects_in lease)
   bound_of_call z (call.GiveBack Component) = 1
   bound_of_call z (call.GiveBack (Stack lease)) = return_bound z 1
+  bound_of_call z (call.GiveBack (Heap lease memory)) = return_bound z 2
   bound_of_call z (call.Purge id) = purge_bound z
   bound_of_call z call.Release = release_bound z
 
-  abbrev pub bound_of : PoolCore P → Call P → ℕ
+  abbrev pub bound_of : PoolCore P H → Call P H → ℕ
   bound_of c call = bound_of_call (sizes_of c.settings c.plan) call
 
+module _ {P : Type 0} where
   -- at most how many steps a purge still makes, and a release
   abbrev pub purge_left : PoolSizes → PurgeCursor → PurgeStep P → ℕ
   purge_left z p (purging_step.Pick tried) = if has_turns z.per_module z.plan then ((purged_stripe z.plan p).capacity - p.turn) * (z.shards + 4) + (z.shards - tried) + memories_left z p else 1
@@ -204,12 +215,14 @@ module _ {P : Type 0} where
   release_left z (releasing_step.PutRegion r k at held) = 1 + drains_left z r (k + 1)
   release_left z (releasing_step.Free r x) = 1 + length r.taken.items + stripes_left z r
 
+module _ {P H : Type 0} where
   -- at most how many steps the frame's call still makes, on a pool of these sizes, in each phase
-  abbrev pub steps_at : PoolSizes → Phase P → Frame P → ℕ
+  abbrev pub steps_at : PoolSizes → Phase P H → Frame P H → ℕ
   steps_at z Idle f = 0
   steps_at z Key f = 1
   steps_at z Validate f = instance_bound z (objects_wanted f.asked)
   steps_at z TestStack f = 1 + allocation_bound z
+  steps_at z TestHeap f = heap_bound z
   steps_at z CountInstance f = 2 + objects_wanted f.asked * (allocation_bound z + give_back_bound z)
   steps_at z (Pick tried) f = picks_left z f.queues tried f.asked f.objects
   steps_at z TakeQueue f = queues_left z f.queues f.asked f.objects
@@ -219,9 +232,16 @@ module _ {P : Type 0} where
   steps_at z (MakeMemory at held) f = 3 + objects_left z f.asked f.objects
   steps_at z (MakeTable at region) f = 3 + objects_left z f.asked f.objects
   steps_at z (CountObject object) f = 1 + objects_left z f.asked f.objects
+  steps_at z (TakeHeap name) f = 6 + objects_left z f.asked f.objects
+  steps_at z (MakeHeap at) f = 5 + objects_left z f.asked f.objects
+  steps_at z (CountHeap lease) f = 1
+  steps_at z (PutNoHeap at) f = 2 + returns_left z f.objects
   steps_at z (PutBack at held) f = 2 + returns_left z f.objects
   steps_at z (FreeOne name) f = 1 + returns_left z f.objects
   steps_at z (UncountObject object) f = give_back_bound z + returns_left z f.objects
+  steps_at z (UncountHeap lease memory) f = 3 + give_back_bound z + returns_left z f.objects
+  steps_at z (PutHeap lease memory) f = 2 + give_back_bound z + returns_left z f.objects
+  steps_at z (FreeHeap name memory) f = 1 + give_back_bound z + returns_left z f.objects
   steps_at z (Reset object) f = 1 + flush_bound z + returns_left z f.objects
   steps_at z Merge f = flush_bound z + returns_left z f.objects
   steps_at z Flush f = flush_left z f.local f.freed + next_left z f.ending f.queues f.asked f.objects
@@ -233,5 +253,5 @@ module _ {P : Type 0} where
   steps_at z (Release step) f = release_left z step
 
   -- at most how many steps the frame's call still makes
-  abbrev pub steps_left : PoolCore P → Frame P → ℕ
+  abbrev pub steps_left : PoolCore P H → Frame P H → ℕ
   steps_left c f = steps_at (sizes_of c.settings c.plan) f.phase f

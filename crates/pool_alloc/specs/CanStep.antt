@@ -31,7 +31,8 @@ use Rattle.pool_alloc.specs.Reserved.{Reserved}
 use Rattle.pool_alloc.specs.Rows.{FlushStep, run, zero, put, free, flush_step}
 use Rattle.pool_slots.specs.QueueMerges.{CanMerge}
 use Rattle.pool_slots.specs.Parts.{IsAt, IsShardPart, IsCellPart}
-use Rattle.pool_alloc.specs.Steps.{IsModule, memories_wanted, tables_wanted, image_wanted, IsQueuePart, allocator_for, queues_searched, shard_at, cell_named, queue_at, freed_of, first_shard, shard_tried, queue_tried}
+use Rattle.pool_slots.specs.HeapLists.{IsHere, IsOut}
+use Rattle.pool_alloc.specs.Steps.{IsModule, HasMemories, IsHeapAsked, IsHeapsPart, heaps_at, memories_wanted, tables_wanted, image_wanted, IsQueuePart, allocator_for, queues_searched, shard_at, cell_named, queue_at, freed_of, first_shard, shard_tried, queue_tried}
 use Rattle.pool_alloc.specs.declared.pool_core.PoolCore.{PoolCore}
 use Rattle.pool_alloc.specs.declared.pool_core.Settings.{Settings}
 use Rattle.pool_alloc.specs.declared.frame.Frame.{Frame}
@@ -41,7 +42,7 @@ use Rattle.pool_slots.specs.PlainSlots.{IsPlain}
 use Rattle.pool_alloc.specs.StackLeases.{LeasedStack, stack_slot}
 use Rattle.pool_alloc.specs.declared.frame.Asked.{Asked}
 use Rattle.pool_alloc.specs.declared.frame.Phase.{Phase}
-use Rattle.pool_alloc.specs.declared.frame.Phase.TheVariants.{Idle, Key, Validate, TestStack, CountInstance, Pick, TakeQueue, TakeRegion, Empty, Instantiate, MakeMemory, MakeTable, CountObject, PutBack, FreeOne, UncountObject, Reset, Merge, Flush, UncountInstance, ValidateComponent, CountComponent, UncountComponent, Purge, Release}
+use Rattle.pool_alloc.specs.declared.frame.Phase.TheVariants.{Idle, Key, Validate, TestStack, TestHeap, CountInstance, Pick, TakeQueue, TakeRegion, Empty, Instantiate, MakeMemory, MakeTable, CountObject, TakeHeap, MakeHeap, CountHeap, PutNoHeap, PutBack, FreeOne, UncountObject, UncountHeap, PutHeap, FreeHeap, Reset, Merge, Flush, UncountInstance, ValidateComponent, CountComponent, UncountComponent, Purge, Release}
 use Rattle.pool_images.specs.Slots.{IsRangeOf}
 use Rattle.pool_slots.specs.declared.cells.ImageSlot.{ImageSlot}
 use Rattle.pool_slots.specs.declared.cells.ImageSlot.TheVariants.{Unmapped, Unknown, PreviouslyUsed, Taken}
@@ -58,11 +59,12 @@ use Rattle.pool_alloc.specs.declared.release.ReleaseStep.TheVariants as releasin
 abbrev pub CanPlace : Plan → SlotName → Type 0
 CanPlace plan name = cell_place plan name < 2 ^ 32
 
--- the plan has the allocators of a stripe's memories, of tables and of stacks
+-- the plan has the allocators of a stripe's memories, of tables, of stacks and of heaps
 pub record HasAllocators (plan : Plan) (stripe : ℕ) : Type 0 where
   pub memories : stripe < length plan.memories
   pub tables : 0 < length plan.tables
   pub stacks : 0 < length plan.stacks
+  pub heaps : 0 < length plan.heaps
 
 pub record CanTryShard (plan : Plan) (a : Allocator) (tried : ℕ) : Type 0 where
   pub inside : tried < a.shards
@@ -94,9 +96,9 @@ pub record CanTakeRegion (s : Settings) (name : SlotName) (cell : CellState) : T
   pub there : is_taken cell.holds ≡ false
   pub fresh : (region : Told) → cell.holds ≡ unmapped region → CanUnmap s name region
 
--- a memory of the module is the next one
+-- a memory of the module or of the heap is the next one
 pub record HasNext (call : Asked) (granted : ℕ) : Type 0 where
-  pub asked : IsModule call
+  pub asked : HasMemories call
   pub images : HasImages call
   pub small : granted < 2 ^ 32
   pub more : granted < length (memories_wanted call)
@@ -182,37 +184,49 @@ pub record CanDecommit (s : Settings) (held : Slot) : Type 0 where
   pub bounded : s.max_memory_size < 2 ^ 64
   pub range : IsRangeOf (count s.page 0) (count s.page s.max_memory_size) held
 
-module _ {P : Type 0} where
+module _ {P H : Type 0} where
   -- just the next part of a flush
-  abbrev pub CanFlush : FlushStep → PoolCore P → Frame P → Type 0
+  abbrev pub CanFlush : FlushStep → PoolCore P H → Frame P H → Type 0
   CanFlush run c f = (0 < length f.local.ranges) × HasOwners f.local
   CanFlush (zero kind) c f = f.local.ranges ≡ []
   CanFlush (put kind) c f = ((m : Queued) → first_of_kind kind f.local.slots ≡ Some m → CanPlace c.plan m.name × IsAt IsCellPart (cell_place c.plan m.name) c.parts) × CanPutNext f.local f.freed
   CanFlush free c f = IsAt IsShardPart (first_shard c.plan f.freed.items) c.parts × CanFree c.plan f.freed.items (shard_at (first_shard c.plan f.freed.items) c)
 
   -- a slot's cell is there, and a region lies in it; and likewise one that the region comes back into
-  abbrev pub CanTakeOf : SlotName → PoolCore P → Type 0
+  abbrev pub CanTakeOf : SlotName → PoolCore P H → Type 0
   CanTakeOf name c = CanPlace c.plan name × IsAt IsCellPart (cell_place c.plan name) c.parts × (is_taken (cell_named name c).holds ≡ false)
 
-  abbrev pub CanPutOf : SlotName → ImageSlot P → PoolCore P → Type 0
+  abbrev pub CanPutOf : SlotName → ImageSlot P → PoolCore P H → Type 0
   CanPutOf name held c = CanPlace c.plan name × IsAt IsCellPart (cell_place c.plan name) c.parts × IsCleanOnceUsed (cell_of held)
 
-  abbrev pub CanFreeOf : SlotName → PoolCore P → Type 0
+  abbrev pub CanFreeOf : SlotName → PoolCore P H → Type 0
   CanFreeOf name c = IsAt IsShardPart (home_of c.plan name).place c.parts × CanFreeOne name c.plan (shard_at (home_of c.plan name).place c)
 
+  -- the list of heaps is there, and a slot's entry is, or it is out
+  pub record CanTakeHeapOf (slot : ℕ) (c : PoolCore P H) : Type 0 where
+    pub list : IsAt IsHeapsPart c.plan.heap_list c.parts
+    pub inside : slot < length (heaps_at c)
+    pub here : IsHere slot (heaps_at c)
+
+  pub record CanPutHeapOf (slot : ℕ) (c : PoolCore P H) : Type 0 where
+    pub list : IsAt IsHeapsPart c.plan.heap_list c.parts
+    pub out : IsOut slot (heaps_at c)
+
   -- a purge can pick from the shard of its stripe with this number
-  pub record CanPickAffine (c : PoolCore P) (p : PurgeCursor) (j : ℕ) : Type 0 where
+  pub record CanPickAffine (c : PoolCore P H) (p : PurgeCursor) (j : ℕ) : Type 0 where
     pub going : CanGoOn c.settings c.plan p
     pub tried : j < (purged_stripe c.plan p).shards
     pub placed : IsPlacedAllocator (purged_stripe c.plan p)
     pub shard : IsAt IsShardPart ((purged_stripe c.plan p).first_place + j) c.parts
 
+module _ {P : Type 0} where
   -- what a slot holds can be forgotten
   abbrev pub CanForget : ImageSlot P → Type 0
   CanForget (PreviouslyUsed held) = IsClean held
   CanForget _ = Unit {0}
 
-  abbrev pub CanPurge : PurgeCursor → PurgeStep P → PoolCore P → Type 0
+module _ {P H : Type 0} where
+  abbrev pub CanPurge : PurgeCursor → PurgeStep P → PoolCore P H → Type 0
   CanPurge p (purging_step.Pick tried) c = has_turns c.settings.max_memories_per_module c.plan ≡ true → CanPickAffine c p tried
   CanPurge p (purging_step.TakeRegion name) c = CanTakeOf name c
   CanPurge p (purging_step.Forget at held) c = CanForget held × (is_taken (cell_of held) ≡ false)
@@ -220,7 +234,7 @@ module _ {P : Type 0} where
   CanPurge p (purging_step.Free name) c = CanGoOn c.settings c.plan p × CanFreeOf name c
 
   -- a release can take the warm slots of a shard
-  pub record CanTakeWarm (c : PoolCore P) (r : ReleaseCursor) (j : ℕ) : Type 0 where
+  pub record CanTakeWarm (c : PoolCore P H) (r : ReleaseCursor) (j : ℕ) : Type 0 where
     pub going : CanEndStripe c.plan r
     pub inside : j < (released_stripe c.plan r).shards
     pub placed : IsPlacedAllocator (released_stripe c.plan r)
@@ -228,13 +242,15 @@ module _ {P : Type 0} where
     pub local : length r.local.items + length (shard_at ((released_stripe c.plan r).first_place + j) c).warm ≤ r.local.room
     pub taken : length r.taken.items + length (shard_at ((released_stripe c.plan r).first_place + j) c).warm ≤ r.taken.room
 
+module _ {P : Type 0} where
   -- what a slot holds can be decommitted
   abbrev pub CanDrain : Settings → ImageSlot P → Type 0
   CanDrain s (Unknown held) = CanDecommit s held
   CanDrain s (PreviouslyUsed held) = CanDecommit s held × IsClean held
   CanDrain s _ = Unit {0}
 
-  abbrev pub CanRelease : ReleaseStep P → PoolCore P → Type 0
+module _ {P H : Type 0} where
+  abbrev pub CanRelease : ReleaseStep P → PoolCore P H → Type 0
   CanRelease releasing_step.Reserve c = length c.plan.memories < 2 ^ 32
   CanRelease (releasing_step.TakeWarm r j) c = CanTakeWarm c r j
   CanRelease (releasing_step.TakeRegion r k) c = (k < length r.taken.items) × CanTakeOf (nth_taken r k).name c
@@ -243,11 +259,12 @@ module _ {P : Type 0} where
   CanRelease (releasing_step.Free r x) c = CanEndStripe c.plan r × (x.bytes ≤ 2 ^ 32) × CanFreeOf x.name c
 
   -- in each phase
-  abbrev pub CanStepAt : Phase P → PoolCore P → Frame P → Type 0
+  abbrev pub CanStepAt : Phase P H → PoolCore P H → Frame P H → Type 0
   CanStepAt Idle c f = Unit {0}
   CanStepAt Key c f = (0 < length c.plan.memories) × (length c.plan.memories < 2 ^ 32)
   CanStepAt Validate c f = CanValidate (memories_wanted f.asked)
   CanStepAt TestStack c f = Unit {0}
+  CanStepAt TestHeap c f = IsHeapAsked f.asked
   CanStepAt CountInstance c f = c.counters.core_instances + 1 < 2 ^ 64
   CanStepAt (Pick tried) c f = HasAllocators c.plan f.stripe × CanTryShard c.plan (allocator_for c.plan f) tried × IsAt IsShardPart (shard_tried tried c.plan f) c.parts × (length f.objects.memories.items < 2 ^ 32)
   CanStepAt TakeQueue c f = (f.queues < queues_searched c.plan) × HasAllocators c.plan f.stripe × CanTryQueue c.plan f.home × IsAt IsQueuePart (queue_tried f.queues c.plan f) c.parts × IsSpareOf (queue_at (queue_tried f.queues c.plan f) c) f.local
@@ -260,10 +277,17 @@ module _ {P : Type 0} where
   CanStepAt (CountObject (Table lease)) c f = (c.counters.tables + 1 < 2 ^ 64) × (length f.objects.tables.items < f.objects.tables.room)
   CanStepAt (CountObject (Stack lease)) c f = c.counters.stacks + 1 < 2 ^ 64
   CanStepAt (PutBack at held) c f = CanPlace c.plan at.name × IsAt IsCellPart (cell_place c.plan at.name) c.parts × IsCleanOnceUsed (cell_of held)
+  CanStepAt (TakeHeap name) c f = CanTakeHeapOf name.slot c
+  CanStepAt (MakeHeap at) c f = Unit {0}
+  CanStepAt (CountHeap lease) c f = (c.counters.gc_heaps + 1 < 2 ^ 64) × (0 < length f.objects.memories.items)
+  CanStepAt (PutNoHeap at) c f = CanPutHeapOf at.name.slot c
   CanStepAt (FreeOne name) c f = IsAt IsShardPart (home_of c.plan name).place c.parts × CanFreeOne name c.plan (shard_at (home_of c.plan name).place c)
   CanStepAt (UncountObject (Memory lease)) c f = 0 < c.counters.memories
   CanStepAt (UncountObject (Table lease)) c f = 0 < c.counters.tables
   CanStepAt (UncountObject (Stack lease)) c f = 0 < c.counters.stacks
+  CanStepAt (UncountHeap lease memory) c f = 0 < c.counters.gc_heaps
+  CanStepAt (PutHeap lease memory) c f = CanPutHeapOf lease.index c
+  CanStepAt (FreeHeap name memory) c f = CanFreeOf name c
   CanStepAt (Reset (Memory lease)) c f = CanReset c.settings (slot_of lease.memory) f.local
   CanStepAt (Reset (Table lease)) c f = CanResetTable c.settings lease f.local
   CanStepAt (Reset (Stack lease)) c f = CanResetStack c.settings lease f.local

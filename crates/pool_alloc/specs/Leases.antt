@@ -1,5 +1,5 @@
 -- What is granted, and how a lease is changed.
-use Rattle.std.specs.Prelude.{◌≡◌, ℕ, ◌+◌, ◌≤◌, List, length, slice_index_or, slice_set, false, Option, Some, Result, OnOk, OnErr}
+use Rattle.std.specs.Prelude.{◌≡◌, ℕ, ◌+◌, ◌≤◌, List, [], ◌∷◌, length, slice_index_or, slice_set, false, Option, Some, Result, OnOk, OnErr}
 use Rattle.pool_images.specs.Slots.{IsInUse}
 use Rattle.pool_limits.specs.Exchanges.{Exchange}
 use Rattle.pool_limits.specs.LimiterTold.{LimiterTold}
@@ -22,6 +22,11 @@ pub record Lease : Type 0 where
 -- the name of a memory slot
 abbrev pub memory_slot : ℕ → SlotName
 memory_slot slot = record { kind = memory_kind; slot = slot }
+
+-- the index of the first of these memories; where there is none, it doesn't matter which
+abbrev pub first_index : List Lease → ℕ
+first_index [] = 0
+first_index (lease ∷ rest) = lease.index
 
 -- the slot with those numbers
 abbrev pub slot_taken : Lease → TakenSlot

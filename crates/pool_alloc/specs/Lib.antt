@@ -4,8 +4,11 @@ pub mod Asked
 pub mod Bounds
 pub mod Calls
 pub mod CanStep
+pub mod Closing
 pub mod Freeing
 pub mod Guards
+pub mod HeapLeases
+pub mod Holding
 pub mod InTurn
 pub mod Leases
 pub mod Made
@@ -18,6 +21,7 @@ pub mod OnDemandRefusals
 pub mod OnDemandStacks
 pub mod Own
 pub mod PartFlows
+pub mod PartyTold
 pub mod Places
 pub mod PoolStacks
 pub mod PoolTables

@@ -3,20 +3,21 @@ use Rattle.std.specs.Prelude.{◌≡◌, ◌⊎◌, ℕ, ◌+◌, ◌*◌, ◌<�
 use Rattle.pool_pages.specs.Count.{count, rounded_up}
 use Rattle.pool_pages.specs.MakerTold.{MakerTold, Planned}
 use Rattle.pool_pages.specs.SettingsRules.{slab_stripes}
-use Rattle.pool_pages.specs.Told.{Rose}
+use Rattle.pool_pages.specs.Told.{Told, Rose}
 use Rattle.pool_pages.specs.declared.bad_config.BadConfig.{BadConfig}
 use Rattle.pool_pages.specs.declared.config.PoolingAllocationConfig.{PoolingAllocationConfig}
 use Rattle.pool_pages.specs.declared.module_types.Tunables.{Tunables}
 use Rattle.pool_pages.specs.declared.module_types.MemoryKind.TheVariants.{LinearMemory}
 use Rattle.pool_pages.specs.declared.offered.Offered.{Offered}
 use Rattle.pool_slots.specs.PartsMade.{AreMadeTo, lists_some_making, fails_some_slot, SomeGivenUp}
-use Rattle.pool_slots.specs.PlansMade.{heaps_from, places_planned}
+use Rattle.pool_slots.specs.PlansMade.{places_planned}
 use Rattle.pool_slots.specs.StripedPlans.{divided, IsStripedPlanOf}
 use Rattle.pool_slots.specs.declared.part_maker.PartSettings.{PartSettings}
 use Rattle.pool_slots.specs.declared.slot_name.OfKinds.{OfKinds}
 use Rattle.pool_slots.specs.declared.striped_plan.StripedPlanSettings.{StripedPlanSettings}
 use Rattle.pool_slots.specs.declared.errors.PoolNewError.{PoolNewError}
 use Rattle.pool_slots.specs.declared.errors.PoolNewError.TheVariants as refused
+use Rattle.pool_alloc.specs.Calls.{lists_made}
 use Rattle.pool_alloc.specs.declared.pool_core.PoolCore.{PoolCore}
 use Rattle.pool_alloc.specs.declared.pool_core.Settings.{Settings}
 
@@ -47,9 +48,9 @@ settings_of page config tunables offered = record {
   tunables = record { tunables = tunables; kind = LinearMemory };
 }
 
--- How many slots of each kind there are: memories, tables and stacks.
+-- How many slots of each kind there are.
 abbrev pub slots_of : PoolingAllocationConfig → OfKinds
-slots_of config = record { memory = config.limits.total_memories; table = config.limits.total_tables; stack = config.limits.total_stacks; heap = 0 }
+slots_of config = record { memory = config.limits.total_memories; table = config.limits.total_tables; stack = config.limits.total_stacks; heap = config.limits.total_gc_heaps }
 
 -- Memories lie in as many stripes as the slab has. The slots of each stripe and of each other kind are divided among about as
 -- many shards as are asked for, and there are as many queues.
@@ -73,14 +74,15 @@ part_settings page config offered = record {
   queue_room = 2 * config.decommit_batch_size;
 }
 
--- Each place has the part that the plan has there, as it is made: slots are cold and have their regions in their cells, and
--- queues are empty. Nothing is counted.
-pub record IsMadeCore {P : Type 0} (maker : MakerTold) (config : PoolingAllocationConfig) (tunables : Tunables) (offered : Offered) (shards : ℕ) (c : PoolCore P) : Type 0 where
+-- Each place has the part that the plan has there, as it is made: slots are cold and have their regions in their cells,
+-- queues are empty, and no heap is made. Nothing is counted, and there are lists to close the pool with.
+pub record IsMadeCore {P H : Type 0} (maker : MakerTold) (config : PoolingAllocationConfig) (tunables : Tunables) (offered : Offered) (shards : ℕ) (c : PoolCore P H) : Type 0 where
   pub settings : c.settings ≡ settings_of maker.page config tunables offered
   pub plan : IsStripedPlanOf (plan_settings maker.page config tunables offered shards) c.plan
   pub few : places_planned (divided (plan_settings maker.page config tunables offered shards)) < 2 ^ 32
-  pub parts : AreMadeTo c.plan (plan_settings maker.page config tunables offered shards).num_stripes maker (part_settings maker.page config offered) (heaps_from (divided (plan_settings maker.page config tunables offered shards))) c.parts
-  pub counters : c.counters ≡ record { key = 0; core_instances = 0; component_instances = 0; memories = 0; tables = 0; stacks = 0 }
+  pub parts : AreMadeTo c.plan (plan_settings maker.page config tunables offered shards).num_stripes maker (part_settings maker.page config offered) (places_planned (divided (plan_settings maker.page config tunables offered shards))) c.parts
+  pub spare : c.spare ≡ Some (lists_made c.settings)
+  pub counters : c.counters ≡ record { key = 0; core_instances = 0; component_instances = 0; memories = 0; tables = 0; stacks = 0; gc_heaps = 0 }
 
 -- The making of the region of some slot is listed as one that fails.
 abbrev pub lists_making : PoolingAllocationConfig → List Planned → Bool
@@ -91,8 +93,8 @@ abbrev pub fails_slots : ℕ → PoolingAllocationConfig → Tunables → Offere
 fails_slots page config tunables offered shards plan = fails_some_slot (plan_settings page config tunables offered shards) (part_settings page config offered) plan
 
 -- A region was made and given up, as the first call on it failed.
-abbrev pub GivesUpRegion : PoolingAllocationConfig → Tunables → Offered → ℕ → MakerTold → Type 0
-GivesUpRegion config tunables offered shards maker = SomeGivenUp (plan_settings maker.page config tunables offered shards) (part_settings maker.page config offered) maker
+abbrev pub GivesUpRegion : {P : Type 0} → (P → Told) → PoolingAllocationConfig → Tunables → Offered → ℕ → MakerTold → Type 0
+GivesUpRegion told config tunables offered shards maker = SomeGivenUp told (plan_settings maker.page config tunables offered shards) (part_settings maker.page config offered) maker
 
 -- No pool is made where a rule of the settings is broken, and then the refusal names the first.
 abbrev pub IsRefusedFor : Option BadConfig → PoolNewError → Type 0
@@ -100,7 +102,7 @@ IsRefusedFor broken (refused.BadConfig rule) = broken ≡ Some rule
 IsRefusedFor broken _ = broken ≡ None
 
 -- Of the refusals, only a page fault raises the maker's count of faults. It doesn't where a region was given up: that fault
--- counts with the region, which is gone.
+-- raised the count of the region, which is gone.
 abbrev pub CountsFault : Type 0 → ℕ → ℕ → PoolNewError → Type 0
 CountsFault given_up old new refused.PageFault = Rose old new ⊎ (given_up × (new ≡ old))
 CountsFault given_up old new _ = new ≡ old

@@ -12,11 +12,11 @@ abbrev pub HasImages : Asked → Type 0
 HasImages (module_asked m) = IfSome m.images (λ images. length images ≡ length m.info.memories)
 HasImages _ = Unit {0}
 
-module _ {P : Type 0} where
+module _ {P H : Type 0} where
   -- the memory that is allocated
-  abbrev pub IfAllocated : Frame P → (MemoryDecl → Type 0) → Type 0
+  abbrev pub IfAllocated : Frame P H → (MemoryDecl → Type 0) → Type 0
   IfAllocated f Q = IfSome (slice_get (memories_wanted f.asked) (length f.objects.memories.items)) Q
 
   -- and the table
-  abbrev pub IfTable : Frame P → (TableType → Type 0) → Type 0
+  abbrev pub IfTable : Frame P H → (TableType → Type 0) → Type 0
   IfTable f Q = IfSome (slice_get (tables_wanted f.asked) (length f.objects.tables.items)) Q

@@ -3,7 +3,7 @@ use Rattle.std.specs.Prelude.{ℕ, ◌+◌, length, Option}
 use Rattle.pool_alloc.specs.declared.frame.Asked.{Asked}
 use Rattle.pool_alloc.specs.Leases.{slot_taken}
 use Rattle.pool_alloc.specs.Reserved.{no_room}
-use Rattle.pool_alloc.specs.Steps.{memories_wanted, tables_wanted, stacks_wanted}
+use Rattle.pool_alloc.specs.Steps.{memories_wanted, tables_wanted, stacks_wanted, heaps_wanted}
 use Rattle.pool_alloc.specs.StackLeases.{stack_taken}
 use Rattle.pool_alloc.specs.TableLeases.{table_taken}
 use Rattle.pool_alloc.specs.declared.frame.Object.{Object}
@@ -13,7 +13,7 @@ use Rattle.pool_alloc.specs.declared.lease.InstanceLease.{InstanceLease}
 
 -- how many objects a request is for
 abbrev pub objects_wanted : Asked → ℕ
-objects_wanted asked = length (memories_wanted asked) + length (tables_wanted asked) + stacks_wanted asked
+objects_wanted asked = length (memories_wanted asked) + length (tables_wanted asked) + stacks_wanted asked + heaps_wanted asked
 
 module _ {P : Type 0} where
   -- how many of them are there, and nothing of them

@@ -1,6 +1,6 @@
 -- What an allocation on demand answers, and what it leaves of the maker: the object's own refusal, with nothing asked of the
 -- maker; or the object; or a refusal that may be given at any object.
-use Rattle.std.specs.Prelude.{◌≡◌, ℕ, ◌^◌, ◌-◌, true, false, Option, Some, None, Result, Ok, Err, Bool, IfOk, IfSome, MatchResult}
+use Rattle.std.specs.Prelude.{◌≡◌, ℕ, ◌^◌, ◌-◌, true, false, Option, Some, None, Result, Ok, Err, Bool, IfOk, IfErr, IfSome, IsSome, MatchResult}
 use Rattle.pool_pages.specs.MakerTold.{MakerTold}
 use Rattle.pool_pages.specs.Told.{Rose, risen}
 use Rattle.pool_memory.specs.Creators.{HasFaulted}
@@ -59,12 +59,13 @@ IsHeapRefusal old new refusal.HeapFault = Rose old new
 IsHeapRefusal old new _ = ⊥
 
 -- A heap over the memory with this index, which is in no slot and which no store uses, or its refusal; and what that leaves
--- of its maker.
+-- of its maker. One that tells which makings fail doesn't want memory.
 pub record IsHeapTurn {X : Type 0} (memory : ℕ) (index_of memory_of : X → ℕ) (is_attached : X → Bool) (result : Result X AllocError) (old new : HeapsTold) : Type 0 where
   pub heap : IfOk result (λ lease. (index_of lease ≡ no_slot) × ((memory_of lease ≡ memory) × (is_attached lease ≡ false)))
   pub maker : new ≡ record old { made = risen old.made; faults = new.faults }
   pub faults : MatchResult result (λ _. new.faults ≡ old.faults) (IsHeapRefusal old.faults new.faults)
   pub planned : IfSome old.plan (λ plan. MatchResult result (λ _. fails_next plan old ≡ false) (λ e. e ≡ refusal.HeapFault → fails_next plan old ≡ true))
+  pub wants : IsSome old.plan → IfErr result (λ e. e ≡ refusal.HeapFault)
 
 -- as many are live as there may be
 abbrev pub IsLimit : AllocError → Type 0

@@ -16,6 +16,8 @@ use Rattle.pool_slots.specs.Colourings.{stripe_colour}
 use Rattle.pool_slots.specs.SlotQueues.{Queue, Queued, with_slot}
 use Rattle.pool_slots.specs.declared.queued_range.QueuedRange.{QueuedRange}
 use Rattle.pool_slots.specs.declared.queued_range.QueueKind.TheVariants as queued
+use Rattle.pool_slots.specs.declared.heap_maker.HeapMakeFault.{HeapMakeFault}
+use Rattle.pool_slots.specs.declared.heap_maker.HeapMakeFault.TheVariants as no_heap
 use Rattle.pool_slots.specs.declared.errors.AllocError.{AllocError}
 use Rattle.pool_slots.specs.declared.errors.AllocError.TheVariants as refusal
 use Rattle.pool_alloc.specs.Leases.{memory_slot}
@@ -60,6 +62,11 @@ refusal_of (unmade.Unsupported u) = refusal.Unsupported u
 refusal_of (unmade.LimiterDenied min) = refusal.LimiterDenied false min
 refusal_of (unmade.LimiterFault e) = refusal.LimiterFault e
 refusal_of unmade.PageFault = refusal.PageFault
+
+-- and why a heap isn't
+abbrev pub heap_refusal : HeapMakeFault → AllocError
+heap_refusal no_heap.Memory = refusal.Memory
+heap_refusal no_heap.HeapFault = refusal.HeapFault
 
 -- the memory in a slot, or that the slot hasn't the room
 abbrev pub made_of : MemoryType → Result Static (Slot × Unsupported) → Result MemoryState AllocError

@@ -2,12 +2,13 @@
 -- once.
 use Rattle.std.specs.Prelude.{ℕ, ◌+◌, List, length, sum_by}
 use Rattle.pool_slots.specs.SlotQueues.{Queued}
-use Rattle.pool_alloc.specs.Leases.{Lease, memory_slot}
+use Rattle.pool_alloc.specs.HeapLeases.{LeasedHeap, heap_slot_taken}
+use Rattle.pool_alloc.specs.Leases.{Lease, memory_slot, slot_taken}
 use Rattle.pool_alloc.specs.declared.pool_core.PoolCore.{PoolCore}
 use Rattle.pool_alloc.specs.declared.frame.Frame.{Frame}
 use Rattle.pool_alloc.specs.declared.frame.FreedSlot.{FreedSlot}
 use Rattle.pool_alloc.specs.declared.frame.Phase.{Phase}
-use Rattle.pool_alloc.specs.declared.frame.Phase.TheVariants.{Idle, Key, Validate, TestStack, CountInstance, TakeRegion, Empty, Instantiate, MakeMemory, MakeTable, CountObject, PutBack, FreeOne, UncountObject, Reset, ValidateComponent, CountComponent, UncountComponent}
+use Rattle.pool_alloc.specs.declared.frame.Phase.TheVariants.{Idle, Key, Validate, TestStack, TestHeap, CountInstance, TakeRegion, Empty, Instantiate, MakeMemory, MakeTable, CountObject, TakeHeap, MakeHeap, CountHeap, PutNoHeap, PutBack, FreeOne, UncountObject, UncountHeap, PutHeap, FreeHeap, Reset, ValidateComponent, CountComponent, UncountComponent}
 use Rattle.pool_hall.specs.Sum.{total}
 use Rattle.pool_hall.specs.declared.unit_name.UnitName.{UnitName}
 use Rattle.pool_slots.specs.RegionCells.{right_to as unit_right, region_of as unit_region}
@@ -18,7 +19,7 @@ use Rattle.pool_slots.specs.declared.slot_name.SlotName.{SlotName}
 use Rattle.pool_alloc.specs.Objects.{slot_of_object}
 use Rattle.pool_alloc.specs.TableLeases.{LeasedTable, table_slot}
 use Rattle.pool_alloc.specs.declared.frame.Asked.{Asked}
-use Rattle.pool_alloc.specs.declared.frame.Asked.TheVariants.{Stack as stack_asked}
+use Rattle.pool_alloc.specs.declared.frame.Asked.TheVariants.{Stack as stack_asked, Heap as heap_asked}
 use Rattle.pool_alloc.specs.declared.frame.Object.{Object}
 use Rattle.pool_alloc.specs.declared.frame.Object.TheVariants.{Memory, Table, Stack}
 use Rattle.pool_alloc.specs.declared.frame.TakenSlot.{TakenSlot}
@@ -55,6 +56,10 @@ both_count t name numbers = slot_count t name + region_count t name numbers
 abbrev pub taken_count : Thing → TakenSlot → ℕ
 taken_count t at = both_count t at.name at.numbers
 
+-- and a heap with its memory
+abbrev pub heap_count : {H : Type 0} → Thing → LeasedHeap H → Lease → ℕ
+heap_count t lease memory = taken_count t (heap_slot_taken lease) + taken_count t (slot_taken memory)
+
 -- what slots in a queue weigh, with their regions; and likewise leases of memories and of tables; and slots that are to be freed
 abbrev pub queued_count : Thing → List Queued → ℕ
 queued_count t slots = total t (units_of_slots slots)
@@ -68,19 +73,21 @@ tables_count t leases = sum_by (λ l. both_count t (table_slot l.index) l.number
 abbrev pub freed_count : Thing → List FreedSlot → ℕ
 freed_count t slots = sum_by (λ x. slot_count t x.name) slots
 
--- a call for a stack counts no instance
+-- a call for a stack or a heap counts no instance
 abbrev pub instances_for : Asked → ℕ → ℕ
 instances_for stack_asked n = 0
+instances_for (heap_asked ty) n = 0
 instances_for _ n = n
 
-module _ {P : Type 0} where
+module _ {P H : Type 0} where
   -- what the pool's parts have given out, and what its queues keep of that
-  abbrev pub away_count : Thing → PoolCore P → ℕ
+  abbrev pub away_count : Thing → PoolCore P H → ℕ
   away_count t c = total t (all_away c.parts)
 
-  abbrev pub kept_count : Thing → PoolCore P → ℕ
+  abbrev pub kept_count : Thing → PoolCore P H → ℕ
   kept_count t c = total t (all_kept c.parts)
 
+module _ {P : Type 0} where
   -- what an instance has
   abbrev pub instance_count : Thing → InstanceLease P → ℕ
   instance_count t lease = leased_count t lease.memories.items + tables_count t lease.tables.items
@@ -101,8 +108,9 @@ module _ {P : Type 0} where
   release_count t (releasing_step.PutRegion r k at held) = taken_count t at + freed_count t (remove r.taken.items k)
   release_count t (releasing_step.Free r x) = slot_count t x.name + freed_count t r.taken.items
 
+module _ {P H : Type 0} where
   -- what a call has taken for its next step
-  abbrev pub phase_count : Thing → Phase P → ℕ
+  abbrev pub phase_count : Thing → Phase P H → ℕ
   phase_count t (TakeRegion name) = slot_count t name
   phase_count t (Empty at held) = taken_count t at
   phase_count t (Instantiate at held) = taken_count t at
@@ -112,21 +120,29 @@ module _ {P : Type 0} where
   phase_count t (PutBack at held) = taken_count t at
   phase_count t (FreeOne name) = slot_count t name
   phase_count t (UncountObject object) = taken_count t (slot_of_object object)
+  phase_count t (TakeHeap name) = slot_count t name
+  phase_count t (MakeHeap at) = taken_count t at
+  phase_count t (CountHeap lease) = taken_count t (heap_slot_taken lease)
+  phase_count t (PutNoHeap at) = taken_count t at
+  phase_count t (UncountHeap lease memory) = heap_count t lease memory
+  phase_count t (PutHeap lease memory) = heap_count t lease memory
+  phase_count t (FreeHeap name memory) = slot_count t name + taken_count t (slot_taken memory)
   phase_count t (Reset object) = taken_count t (slot_of_object object)
   phase_count t (Purge p step) = purge_count t step
   phase_count t (Release step) = release_count t step
   phase_count t _ = 0
 
   -- what a party's call has
-  abbrev pub frame_count : Thing → Frame P → ℕ
+  abbrev pub frame_count : Thing → Frame P H → ℕ
   frame_count t f = instance_count t f.objects + queued_count t f.local.slots + freed_count t f.freed.items + phase_count t f.phase
 
-  -- how many instances a call has counted, how many components, how many memories, how many tables, and how many stacks
-  abbrev pub phase_instances : Phase P → ℕ
+  -- how many instances a call has counted, how many components, how many memories, tables, stacks and heaps
+  abbrev pub phase_instances : Phase P H → ℕ
   phase_instances Idle = 0
   phase_instances Key = 0
   phase_instances Validate = 0
   phase_instances TestStack = 0
+  phase_instances TestHeap = 0
   phase_instances CountInstance = 0
   phase_instances (ValidateComponent info) = 0
   phase_instances CountComponent = 0
@@ -135,13 +151,14 @@ module _ {P : Type 0} where
   phase_instances (Release step) = 0
   phase_instances _ = 1
 
-  abbrev pub phase_components : Phase P → ℕ
+  abbrev pub phase_components : Phase P H → ℕ
   phase_components UncountComponent = 1
   phase_components _ = 0
 
-  abbrev pub frame_instances : Frame P → ℕ
+  abbrev pub frame_instances : Frame P H → ℕ
   frame_instances f = instances_for f.asked (phase_instances f.phase)
 
+module _ {P : Type 0} where
   abbrev pub memory_in : Object P → ℕ
   memory_in (Memory lease) = 1
   memory_in _ = 0
@@ -154,20 +171,28 @@ module _ {P : Type 0} where
   stack_in (Stack lease) = 1
   stack_in _ = 0
 
-  abbrev pub phase_memories : Phase P → ℕ
+module _ {P H : Type 0} where
+  abbrev pub phase_memories : Phase P H → ℕ
   phase_memories (UncountObject object) = memory_in object
+  phase_memories (UncountHeap lease memory) = 1
+  phase_memories (PutHeap lease memory) = 1
+  phase_memories (FreeHeap name memory) = 1
   phase_memories _ = 0
 
-  abbrev pub frame_memories : Frame P → ℕ
+  abbrev pub frame_memories : Frame P H → ℕ
   frame_memories f = length f.objects.memories.items + phase_memories f.phase
 
-  abbrev pub phase_tables : Phase P → ℕ
+  abbrev pub phase_tables : Phase P H → ℕ
   phase_tables (UncountObject object) = table_in object
   phase_tables _ = 0
 
-  abbrev pub frame_tables : Frame P → ℕ
+  abbrev pub frame_tables : Frame P H → ℕ
   frame_tables f = length f.objects.tables.items + phase_tables f.phase
 
-  abbrev pub phase_stacks : Phase P → ℕ
+  abbrev pub phase_stacks : Phase P H → ℕ
   phase_stacks (UncountObject object) = stack_in object
   phase_stacks _ = 0
+
+  abbrev pub phase_heaps : Phase P H → ℕ
+  phase_heaps (UncountHeap lease memory) = 1
+  phase_heaps _ = 0

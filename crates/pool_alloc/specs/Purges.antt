@@ -79,17 +79,18 @@ module _ {P : Type 0} where
   after_forgetting fault (PreviouslyUsed old) slot = known_after fault slot
   after_forgetting fault Taken slot = Taken
 
+module _ {P H : Type 0} where
   -- A purge goes on there, or ends.
-  abbrev pub purge_to : PurgeCursor → Option PurgeCursor → Turn P
+  abbrev pub purge_to : PurgeCursor → Option PurgeCursor → Turn P H
   purge_to p (Some next) = goes (Purge next (Pick 0))
   purge_to p None = ends (answer.Purged p.purged)
 
   -- A slot is picked from a shard: it gave one, the next is tried, or after the last there is none.
-  abbrev pub affine_picked : ℕ → Plan → PurgeCursor → Option SlotId → ShardState → ℕ → Turn P
+  abbrev pub affine_picked : ℕ → Plan → PurgeCursor → Option SlotId → ShardState → ℕ → Turn P H
   affine_picked per_module plan p (Some slot) shard tried = goes (Purge (found_one p) (TakeRegion (memory_slot (slot_number shard slot.0))))
   affine_picked per_module plan p None shard tried = if nat_lt (tried + 1) (purged_stripe plan p).shards then goes (Purge p (Pick (tried + 1))) else purge_to p (behind_memory per_module plan p)
 
-  abbrev pub pick_affine_on : ℕ → Plan → PurgeCursor → ℕ → ShardState → Frame P → Row ShardState P
+  abbrev pub pick_affine_on : ℕ → Plan → PurgeCursor → ℕ → ShardState → Frame P H → Row ShardState P H
   pick_affine_on per_module plan p tried shard f = record {
     part = after_affine_pick (purged_memory p) shard;
     frame = f;
@@ -97,28 +98,28 @@ module _ {P : Type 0} where
   }
 
   -- A purge without turns is one step, that changes nothing.
-  abbrev pub pick_affine_row : Bool → PurgeCursor → ℕ → PoolCore P → Frame P → Row (PoolCore P) P
+  abbrev pub pick_affine_row : Bool → PurgeCursor → ℕ → PoolCore P H → Frame P H → Row (PoolCore P H) P H
   pick_affine_row true p tried c f =
       let place : ℕ = (purged_stripe c.plan p).first_place + tried in
       lifted (λ shard. with_shard place shard c) (pick_affine_on c.settings.max_memories_per_module c.plan p tried (shard_at place c) f)
   pick_affine_row false p tried c f = record { part = c; frame = f; turn = ends (answer.Purged p.purged) }
 
   -- The region of the slot leaves its cell, and comes back.
-  abbrev pub take_affine_on : PurgeCursor → SlotName → CellState → Frame P → Row CellState P
+  abbrev pub take_affine_on : PurgeCursor → SlotName → CellState → Frame P H → Row CellState P H
   take_affine_on p name cell f = record { part = cell_emptied cell; frame = f; turn = goes (Purge p (Forget (record { name = name; numbers = cell_numbers cell }) (image_in cell.holds))) }
 
-  abbrev pub put_affine_on : PurgeCursor → SlotName → Cell → CellState → Frame P → Row CellState P
+  abbrev pub put_affine_on : PurgeCursor → SlotName → Cell → CellState → Frame P H → Row CellState P H
   put_affine_on p name held cell f = record { part = cell_filled held cell; frame = f; turn = goes (Purge p (Free name)) }
 
   -- The slot is freed. Nothing of it is resident.
-  abbrev pub free_affine_on : ℕ → Plan → PurgeCursor → SlotName → ShardState → Frame P → Row ShardState P
+  abbrev pub free_affine_on : ℕ → Plan → PurgeCursor → SlotName → ShardState → Frame P H → Row ShardState P H
   free_affine_on per_module plan p name shard f = record {
     part = after_free (home_of plan name).local 0 shard;
     frame = f;
     turn = purge_to p (behind_turn per_module plan p);
   }
 
-  abbrev pub purge_row : StepGiven → PurgeCursor → PurgeStep P → PoolCore P → Frame P → Row (PoolCore P) P
+  abbrev pub purge_row : StepGiven H → PurgeCursor → PurgeStep P → PoolCore P H → Frame P H → Row (PoolCore P H) P H
   purge_row g p (Pick tried) c f = pick_affine_row (has_turns c.settings.max_memories_per_module c.plan) p tried c f
   purge_row g p (TakeRegion name) c f = lifted (λ cell. with_cell name cell c) (take_affine_on p name (cell_named name c) f)
   purge_row g p (Forget at held) c f = record { part = c; frame = f; turn = goes (Purge p (PutRegion at (after_forgetting g.fault held g.slot))) }

@@ -11,6 +11,8 @@ use Rattle.pool_pages.specs.declared.module_types.Part.{Part}
 use Rattle.pool_pages.specs.declared.table_type.TableType.{TableType}
 use Rattle.pool_pages.specs.declared.unsupported.Unsupported.{Unsupported}
 use Rattle.pool_pages.specs.declared.unsupported.Unsupported.TheVariants.{ImageOffset, MemoriesPerModule, MemoryUnrepresentable, MemoryExceedsSlot, MemoryShared, TablesPerModule, TotalTables, TableExceedsSlot, InstanceSize, ComponentInstances, ComponentMemories, ComponentTables, ComponentSize}
+use Rattle.pool_alloc.specs.declared.frame.Asked.{Asked}
+use Rattle.pool_alloc.specs.declared.frame.Asked.TheVariants.{Heap as heap_asked}
 use Rattle.pool_alloc.specs.declared.pool_core.Settings.{Settings}
 
 -- the refusal of the first memory or table of which a rule is broken
@@ -78,6 +80,11 @@ module_refused s total info = option_or (objects_refused s total info.memories i
 -- The first rule that a memory breaks that is asked for by itself: its minimum is within its maximum, and it fits a slot.
 abbrev pub type_refused : Settings → MemoryType → Option Unsupported
 type_refused s ty = option_or (refused_limits ty.limits) (memory_refused s ty)
+
+-- the first rule that the memory of a heap breaks
+abbrev pub heap_refused : Settings → Asked → Option Unsupported
+heap_refused s (heap_asked ty) = type_refused s ty
+heap_refused s _ = None
 
 -- how many bytes a component takes, as far as 64 bits tell it: its own and those of its instances
 abbrev pub component_size : ComponentInfo → ℕ

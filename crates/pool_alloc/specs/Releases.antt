@@ -79,40 +79,41 @@ bytes_kept r x = if r.failed then x.bytes else 0
 abbrev pub releasing : ReleaseCursor → FreedSlot → ReleaseCursor
 releasing r x = record r { released = if r.failed then r.released else min (r.released + x.bytes) (2 ^ 64 - 1) }
 
-module _ {P : Type 0} where
+module _ {P H : Type 0} where
   -- A stripe is done: the next follows, or the release ends.
-  abbrev pub behind_stripe : Plan → ReleaseCursor → Turn P
+  abbrev pub behind_stripe : Plan → ReleaseCursor → Turn P H
   behind_stripe plan r =
       if nat_lt (r.stripe + 1) (length plan.memories)
       then goes (Release (TakeWarm (record r { stripe = r.stripe + 1; taken = record r.taken { items = [] }; failed = false }) 0))
       else ends (answer.Released r.released)
 
   -- The first of these slots is freed, or the stripe is done.
-  abbrev pub free_first : Plan → List FreedSlot → ReleaseCursor → Turn P
+  abbrev pub free_first : Plan → List FreedSlot → ReleaseCursor → Turn P H
   free_first plan [] r = behind_stripe plan r
   free_first plan (x ∷ rest) r = goes (Release (Free (record r { taken = record r.taken { items = rest } }) x))
 
   -- The next slot that keeps bytes resident is decommitted, from this place on, or else all are freed.
-  abbrev pub drain_at : Plan → ReleaseCursor → ℕ → Turn P
+  abbrev pub drain_at : Plan → ReleaseCursor → ℕ → Turn P H
   drain_at plan r k = if nat_lt k (length r.taken.items) then goes (Release (TakeRegion r k)) else free_first plan r.taken.items r
 
-  abbrev pub drain_from : Plan → ReleaseCursor → ℕ → Turn P
+  abbrev pub drain_from : Plan → ReleaseCursor → ℕ → Turn P H
   drain_from plan r k = drain_at plan r (k + not_resident (drop k r.taken.items))
 
   -- Room is reserved, or there was no memory for it.
-  abbrev pub reserve_row : Bool → PoolCore P → Frame P → Row (PoolCore P) P
+  abbrev pub reserve_row : Bool → PoolCore P H → Frame P H → Row (PoolCore P H) P H
   reserve_row true c f = record { part = c; frame = f; turn = ends (answer.Refused refusal.Memory) }
   reserve_row false c f = record { part = c; frame = f; turn = goes (Release (TakeWarm (release_begun c.plan) 0)) }
 
-  abbrev pub warm_taken : Plan → ReleaseCursor → ℕ → Turn P
+  abbrev pub warm_taken : Plan → ReleaseCursor → ℕ → Turn P H
   warm_taken plan r j = if nat_lt (j + 1) (released_stripe plan r).shards then goes (Release (TakeWarm r (j + 1))) else drain_from plan r 0
 
-  abbrev pub take_warm_on : Plan → ReleaseCursor → ℕ → ShardState → Frame P → Row ShardState P
+  abbrev pub take_warm_on : Plan → ReleaseCursor → ℕ → ShardState → Frame P H → Row ShardState P H
   take_warm_on plan r j shard f = record { part = after_take_warm shard; frame = f; turn = warm_taken plan (taking shard r) j }
 
-  abbrev pub take_resident_on : ReleaseCursor → ℕ → SlotName → CellState → Frame P → Row CellState P
+  abbrev pub take_resident_on : ReleaseCursor → ℕ → SlotName → CellState → Frame P H → Row CellState P H
   take_resident_on r k name cell f = record { part = cell_emptied cell; frame = f; turn = goes (Release (Decommit r k (record { name = name; numbers = cell_numbers cell }) (image_in cell.holds))) }
 
+module _ {P : Type 0} where
   -- A slot goes back in the state that it had. A region that was never used has nothing to decommit.
   abbrev pub after_decommit : ImageSlot P → Slot → ImageSlot P
   after_decommit (Unmapped region) slot = Unmapped region
@@ -120,17 +121,18 @@ module _ {P : Type 0} where
   after_decommit (PreviouslyUsed old) slot = PreviouslyUsed slot
   after_decommit Taken slot = Taken
 
-  abbrev pub put_resident_on : Plan → ReleaseCursor → ℕ → Cell → CellState → Frame P → Row CellState P
+module _ {P H : Type 0} where
+  abbrev pub put_resident_on : Plan → ReleaseCursor → ℕ → Cell → CellState → Frame P H → Row CellState P H
   put_resident_on plan r k held cell f = record { part = cell_filled held cell; frame = f; turn = drain_from plan r (k + 1) }
 
-  abbrev pub free_taken_on : Plan → ReleaseCursor → FreedSlot → ShardState → Frame P → Row ShardState P
+  abbrev pub free_taken_on : Plan → ReleaseCursor → FreedSlot → ShardState → Frame P H → Row ShardState P H
   free_taken_on plan r x shard f = record {
     part = after_free (home_of plan x.name).local (bytes_kept r x) shard;
     frame = f;
     turn = free_first plan r.taken.items (releasing r x);
   }
 
-  abbrev pub release_row : StepGiven → ReleaseStep P → PoolCore P → Frame P → Row (PoolCore P) P
+  abbrev pub release_row : StepGiven H → ReleaseStep P → PoolCore P H → Frame P H → Row (PoolCore P H) P H
   release_row g Reserve c f = reserve_row g.wants c f
   release_row g (TakeWarm r j) c f =
       let place : ℕ = (released_stripe c.plan r).first_place + j in

@@ -18,20 +18,20 @@ abbrev pub IsSearchedBy : Ending → Type 0 → Type 0
 IsSearchedBy granted known = known
 IsSearchedBy _ known = Unit {0}
 
-module _ {P : Type 0} where
+module _ {P H : Type 0} where
   -- so it is of the first n shards that are tried, and the first n queues that are taken are empty
-  abbrev pub AreFull : ℕ → PoolCore P → Frame P → Type 0
+  abbrev pub AreFull : ℕ → PoolCore P H → Frame P H → Type 0
   AreFull n c f = (j : ℕ) → j < n → HasNoSlot (shard_at (shard_tried j c.plan f) c)
 
-  abbrev pub AreEmpty : ℕ → PoolCore P → Frame P → Type 0
+  abbrev pub AreEmpty : ℕ → PoolCore P H → Frame P H → Type 0
   AreEmpty n c f = (j : ℕ) → j < n → (queue_at (queue_tried j c.plan f) c).slots ≡ []
 
   -- Where the next shard is tried, those tried before are full, and the queues that were taken before are empty.
-  abbrev pub IsSearchedAt : Phase P → PoolCore P → Frame P → Type 0
+  abbrev pub IsSearchedAt : Phase P H → PoolCore P H → Frame P H → Type 0
   IsSearchedAt (Pick tried) c f = AreEmpty f.queues c f × AreFull tried c f
   IsSearchedAt TakeQueue c f = AreEmpty f.queues c f × AreFull (allocator_for c.plan f).shards c f
   IsSearchedAt Flush c f = IsSearchedBy f.ending (AreEmpty f.queues c f)
   IsSearchedAt _ c f = Unit {0}
 
-  abbrev pub IsSearched : PoolCore P → Frame P → Type 0
+  abbrev pub IsSearched : PoolCore P H → Frame P H → Type 0
   IsSearched c f = IsSearchedAt f.phase c f

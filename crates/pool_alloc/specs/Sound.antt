@@ -7,7 +7,7 @@ use Rattle.pool_pages.specs.MemoryTypes.{minimum_byte_size, refused_limits}
 use Rattle.pool_pages.specs.declared.module_types.MemoryDecl.{MemoryDecl}
 use Rattle.pool_images.specs.Images.{Image}
 use Rattle.pool_images.specs.Slots.{Slot, IsClean, IsBegun, FitsInto}
-use Rattle.pool_hall.specs.declared.unit_name.SlotKind.TheVariants.{Memory as memory_kind, Table as table_kind, Stack as stack_kind}
+use Rattle.pool_hall.specs.declared.unit_name.SlotKind.TheVariants.{Memory as memory_kind, Table as table_kind, Stack as stack_kind, Heap as heap_kind}
 use Rattle.pool_memory.specs.Memories.{MemoryState, slot_of as image_slot_of}
 use Rattle.pool_memory.specs.Making.{maximum_asked}
 use Rattle.pool_memory.specs.Static.{CanHold, static_capacity}
@@ -15,6 +15,7 @@ use Rattle.pool_slots.specs.Cells.{Cell, IsCell, IsSlotOf, is_taken}
 use Rattle.pool_slots.specs.Colourings.{coloured_region, stripe_colour}
 use Rattle.pool_slots.specs.CellOf.{cell_of}
 use Rattle.pool_slots.specs.SlotNames.{of_kind}
+use Rattle.pool_slots.specs.declared.slot_name.RegionNumbers.{RegionNumbers}
 use Rattle.pool_slots.specs.declared.slot_name.SlotName.{SlotName}
 use Rattle.pool_hall.specs.declared.unit_name.SlotKind.{SlotKind}
 use Rattle.pool_alloc.specs.Objects.{objects_in, objects_wanted}
@@ -24,14 +25,15 @@ use Rattle.pool_alloc.specs.declared.lease.InstanceLease.{InstanceLease}
 use Rattle.pool_slots.specs.RegionCells.{CellState}
 use Rattle.pool_slots.specs.ListUnits.{IsShardOf}
 use Rattle.pool_slots.specs.Parts.{part_at}
-use Rattle.pool_slots.specs.Plans.{Role, shard_role, cell_role, queue_role, role_at, IsPlacedAllocator, IsPlanned}
+use Rattle.pool_slots.specs.Plans.{Role, shard_role, cell_role, queue_role, heaps_role, role_at, IsPlacedAllocator, IsPlanned}
 use Rattle.pool_slots.specs.declared.plan.Allocator.{Allocator}
 use Rattle.pool_slots.specs.declared.plan.Plan.{Plan}
 use Rattle.pool_slots.specs.declared.part.PoolPart.{PoolPart}
 use Rattle.pool_slots.specs.declared.part.PoolPart.TheVariants as part
 use Rattle.pool_slots.specs.SlotQueues.{Queue, Queued, HasOwners, IsQueue, owner}
 use Rattle.pool_alloc.specs.Reserved.{Reserved}
-use Rattle.pool_alloc.specs.Leases.{Lease, IsUsable}
+use Rattle.pool_alloc.specs.HeapLeases.{IsHeapLease, heap_numbers}
+use Rattle.pool_alloc.specs.Leases.{Lease, IsUsable, first_index}
 use Rattle.pool_pages.specs.Told.{Told}
 use Rattle.pool_pages.specs.declared.table_type.TableType.{TableType}
 use Rattle.pool_slots.specs.declared.queued_range.QueuedRange.{QueuedRange}
@@ -40,18 +42,18 @@ use Rattle.pool_alloc.specs.PoolTables.{IsPoolTable, IsInTableCell, IsTableRegio
 use Rattle.pool_alloc.specs.Modules.{HasImages, IfAllocated, IfTable}
 use Rattle.pool_alloc.specs.RangeRuns.{IsGrouped}
 use Rattle.pool_alloc.specs.Turns.{is_granting, is_flushed}
-use Rattle.pool_alloc.specs.Steps.{memories_wanted, images_wanted, image_wanted, memory_slots, queues_searched, allocator_for, tables_wanted, stacks_wanted, kind_next, IsModule}
-use Rattle.pool_alloc.specs.Places.{Thing, right_to, region_of, kept_count, away_count, frame_count, frame_instances, frame_memories, frame_tables, phase_stacks, phase_instances, phase_components}
+use Rattle.pool_alloc.specs.Steps.{memories_wanted, images_wanted, image_wanted, memory_slots, queues_searched, allocator_for, tables_wanted, stacks_wanted, heaps_wanted, IsForInstance, IsHeapAsked, kind_next, IsModule}
+use Rattle.pool_alloc.specs.Places.{Thing, right_to, region_of, kept_count, away_count, frame_count, frame_instances, frame_memories, frame_tables, phase_stacks, phase_heaps, phase_instances, phase_components}
 use Rattle.pool_alloc.specs.declared.pool_core.PoolCore.{PoolCore}
 use Rattle.pool_alloc.specs.declared.pool_core.Settings.{Settings}
 use Rattle.pool_alloc.specs.declared.frame.Ending.{Ending}
 use Rattle.pool_alloc.specs.declared.frame.Ending.TheVariants.{Granted as granted, Returned as returned, Refused as refused}
 use Rattle.pool_alloc.specs.declared.frame.Frame.{Frame}
 use Rattle.pool_alloc.specs.declared.frame.Asked.{Asked}
-use Rattle.pool_alloc.specs.declared.frame.Asked.TheVariants.{Stack as stack_asked}
+use Rattle.pool_alloc.specs.declared.frame.Asked.TheVariants.{Stack as stack_asked, Heap as heap_asked}
 use Rattle.pool_alloc.specs.declared.frame.FreedSlot.{FreedSlot}
 use Rattle.pool_alloc.specs.declared.frame.Phase.{Phase}
-use Rattle.pool_alloc.specs.declared.frame.Phase.TheVariants.{Idle, Key, Validate, TestStack, CountInstance, Pick, TakeQueue, TakeRegion, Empty, Instantiate, MakeMemory, MakeTable, CountObject, PutBack, FreeOne, UncountObject, Reset, Merge, Flush, UncountInstance, ValidateComponent, CountComponent, UncountComponent, Purge, Release}
+use Rattle.pool_alloc.specs.declared.frame.Phase.TheVariants.{Idle, Key, Validate, TestStack, TestHeap, CountInstance, Pick, TakeQueue, TakeRegion, Empty, Instantiate, MakeMemory, MakeTable, CountObject, TakeHeap, MakeHeap, CountHeap, PutNoHeap, PutBack, FreeOne, UncountObject, UncountHeap, PutHeap, FreeHeap, Reset, Merge, Flush, UncountInstance, ValidateComponent, CountComponent, UncountComponent, Purge, Release}
 use Rattle.std.specs.Prelude.{◌-◌, drop}
 use Rattle.pool_alloc.specs.Purges.{purged_stripe}
 use Rattle.pool_alloc.specs.Releases.{slots_in, released_stripe, nth_taken}
@@ -82,20 +84,20 @@ pub record IsSettings (s : Settings) : Type 0 where
   pub stack_whole : s.stack_size % s.page ≡ 0
   pub stack_few : s.stack_size ≤ 2 ^ 32
 
--- the kinds of slots that the pool has
-abbrev pub IsPooled : SlotKind → Type 0
-IsPooled memory_kind = Unit {0}
-IsPooled table_kind = Unit {0}
-IsPooled stack_kind = Unit {0}
-IsPooled _ = ⊥
+-- slots of this kind have regions, which lie in cells
+abbrev pub HasCells : SlotKind → Type 0
+HasCells memory_kind = Unit {0}
+HasCells table_kind = Unit {0}
+HasCells stack_kind = Unit {0}
+HasCells heap_kind = ⊥
 
--- the allocator of a stripe, of tables or of stacks has shards, whose places are numbers of 32 bits
+-- the allocator of a stripe, of tables, of stacks or of heaps has shards, whose places are numbers of 32 bits
 pub record IsStripe (a : Allocator) : Type 0 where
   pub some : 0 < a.shards
   pub placed : IsPlacedAllocator a
 
 -- The plan is right for a pool with so many places. It has stripes, each with shards, and with slots where there are any; shards
--- of tables and of stacks; queues that all parties share; and slots of no other kinds.
+-- of tables, of stacks and of heaps; and queues that all parties share.
 pub record IsPoolPlan (plan : Plan) (places : ℕ) : Type 0 where
   pub planned : IsPlanned plan places
   pub small : places < 2 ^ 32
@@ -107,9 +109,10 @@ pub record IsPoolPlan (plan : Plan) (places : ℕ) : Type 0 where
   pub table_shards : AllByRecursion IsStripe plan.tables
   pub stacks : 0 < length plan.stacks
   pub stack_shards : AllByRecursion IsStripe plan.stacks
+  pub heaps : 0 < length plan.heaps
+  pub heap_shards : AllByRecursion IsStripe plan.heaps
   pub queues : 0 < plan.queues
   pub shared : plan.owned ≡ false
-  pub pooled : (kind : SlotKind) → 0 < of_kind kind plan.totals → IsPooled kind
 
 -- the region of memory slot i of the pool as it is made, in the colour of its stripe where there are two or more
 abbrev pub memory_region : MakerTold → Settings → ℕ → Told
@@ -119,10 +122,14 @@ memory_region maker s i = coloured_region s.num_stripes maker s.behaviour (count
 abbrev pub IsPoolSlot : MakerTold → Settings → ℕ → Slot → Type 0
 IsPoolSlot maker s i slot = IsSlotOf (memory_region maker s i) (stripe_colour s.num_stripes i) s.max_memory_size slot
 
--- the name of one of the pool's slots
+-- the name of one of the pool's slots that have cells, and of one of those that have none
 pub record IsSlotName (plan : Plan) (name : SlotName) : Type 0 where
-  pub pooled : IsPooled name.kind
+  pub cells : HasCells name.kind
   pub inside : name.slot < of_kind name.kind plan.totals
+
+pub record IsHeapName (plan : Plan) (name : SlotName) : Type 0 where
+  pub kind : name.kind ≡ heap_kind
+  pub inside : name.slot < plan.totals.heap
 
 -- by its kind, what the cell of a slot may hold, and its cell
 abbrev pub MayHold : MakerTold → Settings → SlotKind → ℕ → Cell → Type 0
@@ -173,21 +180,22 @@ pub record IsShared (maker : MakerTold) (s : Settings) (q : Queue) : Type 0 wher
   pub queue : IsQueue q
   pub grouped : IsGrouped q
 
--- The part has a role: it is a shard of an allocator, the cell of a slot, or a queue.
-abbrev pub IsPartFor : {P : Type 0} → MakerTold → Settings → Role → PoolPart P → Type 0
+-- The part has a role: it is a shard of an allocator, the cell of a slot, a queue, or the list of heaps.
+abbrev pub IsPartFor : {P H : Type 0} → MakerTold → Settings → Role → PoolPart P H → Type 0
 IsPartFor maker s (shard_role a j) (part.Shard shard) = IsShardOf a j shard
 IsPartFor maker s (cell_role name) (part.Memory cell) = (name.kind ≡ memory_kind) × IsCellOf maker s name cell
 IsPartFor maker s (cell_role name) (part.Table cell) = (name.kind ≡ table_kind) × IsCellOf maker s name cell
 IsPartFor maker s (cell_role name) (part.Stack cell) = (name.kind ≡ stack_kind) × IsCellOf maker s name cell
 IsPartFor maker s queue_role (part.Queue queue) = IsShared maker s queue
+IsPartFor maker s (heaps_role n) (part.Heaps heaps) = length heaps ≡ n
 IsPartFor maker s _ _ = ⊥
 
 -- the part at a place is what the plan has the place for
-abbrev pub IsPartAt : {P : Type 0} → MakerTold → Settings → Plan → ℕ → PoolPart P → Type 0
+abbrev pub IsPartAt : {P H : Type 0} → MakerTold → Settings → Plan → ℕ → PoolPart P H → Type 0
 IsPartAt maker s plan p x = IsPartFor maker s (role_at plan p) x
 
 -- what holds of the pool's parts between steps, whatever parties do
-pub record IsCore {P : Type 0} (maker : MakerTold) (c : PoolCore P) : Type 0 where
+pub record IsCore {P H : Type 0} (maker : MakerTold) (c : PoolCore P H) : Type 0 where
   pub settings : IsSettings c.settings
   pub page : c.settings.page ≡ maker.page
   pub plan : IsPoolPlan c.plan (length c.parts)
@@ -307,13 +315,14 @@ AreBegun s asked lease =
     ((k : ℕ) → IfSome (slice_get lease.memories.items k) (λ lease. IfSome (slice_get (memories_wanted asked) k) (IsNew s.max_memory_size (slice_index_or (images_wanted asked) k None) lease.memory)))
     × ((k : ℕ) → IfSome (slice_get lease.tables.items k) (λ lease. IfSome (slice_get (tables_wanted asked) k) (IsBegunTable s lease)))
 
--- stacks are enabled, where one is asked for
+-- stacks are enabled where one is asked for, and there is a collector where a heap is
 abbrev pub IsEnabled : Settings → Asked → Type 0
 IsEnabled s stack_asked = 0 < s.stack_size
+IsEnabled s (heap_asked ty) = s.tunables.tunables.collector ≡ true
 IsEnabled s _ = Unit {0}
 
--- A call that is to be granted an instance or a stack: its module is supported, what it was granted so far begins as asked, memories
--- first, and it has taken no more queues than there are.
+-- A call that is to be granted an instance, a stack or a heap: its module, or the heap's memory, is supported, what it was
+-- granted so far begins as asked, memories first, and it has taken no more queues than there are.
 pub record IsToGrant {P : Type 0} (s : Settings) (plan : Plan) (asked : Asked) (queues : ℕ) (objects : InstanceLease P) : Type 0 where
   pub supported : AreSupported s (memories_wanted asked) (images_wanted asked)
   pub tables : AreTablesSupported s plan.totals.table (tables_wanted asked)
@@ -404,50 +413,62 @@ IsReleaseAt maker s plan (releasing_step.Decommit r k at held) = IsDraining make
 IsReleaseAt maker s plan (releasing_step.PutRegion r k at held) = IsDraining maker s plan r k at.name (cell_of held)
 IsReleaseAt maker s plan (releasing_step.Free r x) = IsReleasing plan r 0 × IsFreedOf plan x × (x.name.kind ≡ memory_kind)
 
-module _ {P : Type 0} where
-  abbrev pub HasNoneWaiting : Frame P → Type 0
+module _ {P H : Type 0} where
+  abbrev pub HasNoneWaiting : Frame P H → Type 0
   HasNoneWaiting f = NothingWaits f.local f.freed
 
-  abbrev pub IsAtRest : Frame P → Type 0
+  abbrev pub IsAtRest : Frame P H → Type 0
   IsAtRest f = NothingHeld f.local f.freed f.objects
 
-  abbrev pub IsAiming : Settings → Plan → Frame P → Type 0
+  abbrev pub IsAiming : Settings → Plan → Frame P H → Type 0
   IsAiming s plan f = Aims s plan f.ending f.asked f.queues f.objects
 
-  abbrev pub IsAllocating : Settings → Plan → Frame P → Type 0
+  abbrev pub IsAllocating : Settings → Plan → Frame P H → Type 0
   IsAllocating s plan f = GrantsMore s plan f.ending f.asked f.queues f.objects
 
-  -- a memory is allocated, a table, or a stack
-  abbrev pub IsMemoryNext : Frame P → Type 0
+  -- a memory is allocated, a table, a stack, or a heap, for which its memory was granted before
+  abbrev pub IsMemoryNext : Frame P H → Type 0
   IsMemoryNext f = length f.objects.memories.items < length (memories_wanted f.asked)
 
-  abbrev pub IsTableNext : Frame P → Type 0
-  IsTableNext f = (length (memories_wanted f.asked) ≤ length f.objects.memories.items) × (stacks_wanted f.asked ≡ 0)
+  abbrev pub IsTableNext : Frame P H → Type 0
+  IsTableNext f = (length (memories_wanted f.asked) ≤ length f.objects.memories.items) × IsForInstance f.asked
 
-  abbrev pub IsStackNext : Frame P → Type 0
+  abbrev pub IsStackNext : Frame P H → Type 0
   IsStackNext f = f.asked ≡ stack_asked
 
+  abbrev pub IsHeapNext : Frame P H → Type 0
+  IsHeapNext f = (length (memories_wanted f.asked) ≤ length f.objects.memories.items) × (heaps_wanted f.asked ≡ 1)
+
   -- something is given back
-  abbrev pub IsReturning : Frame P → Type 0
+  abbrev pub IsReturning : Frame P H → Type 0
   IsReturning f = is_granting f.ending ≡ false
 
   -- the freed slots and those still queued have room
-  abbrev pub HasFreedRoom : Settings → Frame P → Type 0
+  abbrev pub HasFreedRoom : Settings → Frame P H → Type 0
   HasFreedRoom s f = (f.freed.room ≡ 2 * s.batch) × (length f.freed.items + length f.local.slots ≤ 2 * s.batch)
 
-  abbrev pub IsRequested : Frame P → Type 0
+  abbrev pub IsRequested : Frame P H → Type 0
   IsRequested f = IsRequest f.ending f.asked f.queues
 
   -- a stack is asked for, from the first shard on
-  abbrev pub IsStackRequested : Frame P → Type 0
+  abbrev pub IsStackRequested : Frame P H → Type 0
   IsStackRequested f = (f.ending ≡ granted) × (f.queues ≡ 0) × (f.asked ≡ stack_asked)
 
+  -- a heap is asked for, likewise
+  abbrev pub IsHeapRequested : Frame P H → Type 0
+  IsHeapRequested f = (f.ending ≡ granted) × (f.queues ≡ 0) × IsHeapAsked f.asked
+
+  -- the slot of a heap is out of the list of heaps, and notes the memory that was granted for it
+  abbrev pub NotesFirst : RegionNumbers → Frame P H → Type 0
+  NotesFirst numbers f = numbers ≡ heap_numbers (first_index f.objects.memories.items)
+
   -- What a frame has in each phase.
-  abbrev pub IsShapedAt : MakerTold → Settings → Plan → Phase P → Frame P → Type 0
+  abbrev pub IsShapedAt : MakerTold → Settings → Plan → Phase P H → Frame P H → Type 0
   IsShapedAt maker s plan Idle f = IsAtRest f
   IsShapedAt maker s plan Key f = IsAtRest f
   IsShapedAt maker s plan Validate f = IsAtRest f × IsRequested f × AreImagesOf s (memories_wanted f.asked) (images_wanted f.asked)
   IsShapedAt maker s plan TestStack f = IsAtRest f × IsStackRequested f
+  IsShapedAt maker s plan TestHeap f = IsAtRest f × IsHeapRequested f
   IsShapedAt maker s plan CountInstance f = IsAtRest f × IsRequested f × AreSupported s (memories_wanted f.asked) (images_wanted f.asked) × (f.objects.memories.room ≡ length (memories_wanted f.asked)) × (f.objects.tables.room ≡ length (tables_wanted f.asked)) × AreTablesSupported s plan.totals.table (tables_wanted f.asked)
   IsShapedAt maker s plan (Pick tried) f = HasNoneWaiting f × IsAllocating s plan f × (tried < (allocator_for plan f).shards)
   IsShapedAt maker s plan TakeQueue f = HasNoneWaiting f × IsAllocating s plan f × (f.queues < queues_searched plan)
@@ -459,13 +480,20 @@ module _ {P : Type 0} where
   IsShapedAt maker s plan (CountObject (Memory lease)) f = HasNoneWaiting f × IsAllocating s plan f × IsLeaseOf maker s plan lease × IfAllocated f (IsNew s.max_memory_size (image_wanted f) lease.memory) × IsMemoryNext f
   IsShapedAt maker s plan (CountObject (Table lease)) f = HasNoneWaiting f × IsAllocating s plan f × IsTableLease maker s plan lease × IfTable f (IsBegunTable s lease) × IsTableNext f
   IsShapedAt maker s plan (CountObject (Stack lease)) f = HasNoneWaiting f × IsAllocating s plan f × IsStackLease maker s plan lease × IsNewStack s lease × IsStackNext f
+  IsShapedAt maker s plan (TakeHeap name) f = HasNoneWaiting f × IsAllocating s plan f × IsHeapName plan name × IsHeapNext f
+  IsShapedAt maker s plan (MakeHeap at) f = HasNoneWaiting f × IsAllocating s plan f × IsHeapName plan at.name × NotesFirst at.numbers f × IsHeapNext f
+  IsShapedAt maker s plan (CountHeap lease) f = HasNoneWaiting f × IsAllocating s plan f × IsHeapLease plan lease × NotesFirst lease.numbers f × IsHeapNext f
+  IsShapedAt maker s plan (PutNoHeap at) f = HasNoneWaiting f × IsReturning f × IsHeapName plan at.name
   IsShapedAt maker s plan (PutBack at held) f = HasNoneWaiting f × IsReturning f × HasRegion maker s plan at.name (cell_of held)
-  IsShapedAt maker s plan (FreeOne name) f = HasNoneWaiting f × IsReturning f × IsSlotName plan name
+  IsShapedAt maker s plan (FreeOne name) f = HasNoneWaiting f × IsReturning f × (name.slot < of_kind name.kind plan.totals)
   IsShapedAt maker s plan (UncountObject object) f = HasNoneWaiting f × IsReturning f × IsObjectOf maker s plan object
+  IsShapedAt maker s plan (UncountHeap lease memory) f = HasNoneWaiting f × IsReturning f × IsHeapLease plan lease × IsLeaseOf maker s plan memory
+  IsShapedAt maker s plan (PutHeap lease memory) f = HasNoneWaiting f × IsReturning f × IsHeapLease plan lease × IsLeaseOf maker s plan memory
+  IsShapedAt maker s plan (FreeHeap name memory) f = HasNoneWaiting f × IsReturning f × IsHeapName plan name × IsLeaseOf maker s plan memory
   IsShapedAt maker s plan (Reset object) f = HasNoneWaiting f × IsReturning f × IsObjectOf maker s plan object
   IsShapedAt maker s plan Merge f = IsReturning f × (f.freed.items ≡ []) × (length f.local.slots ≡ 1) × (0 < length f.local.ranges) × (length f.local.ranges + 1 ≤ s.batch)
   IsShapedAt maker s plan Flush f = IsAiming s plan f × (is_flushed f ≡ false)
-  IsShapedAt maker s plan UncountInstance f = IsAtRest f × IsReturning f × (stacks_wanted f.asked ≡ 0)
+  IsShapedAt maker s plan UncountInstance f = IsAtRest f × IsReturning f × IsForInstance f.asked
   IsShapedAt maker s plan (ValidateComponent info) f = IsAtRest f
   IsShapedAt maker s plan CountComponent f = IsAtRest f
   IsShapedAt maker s plan UncountComponent f = IsAtRest f × IsReturning f
@@ -473,7 +501,7 @@ module _ {P : Type 0} where
   IsShapedAt maker s plan (Release step) f = IsAtRest f × IsReleaseAt maker s plan step
 
   -- What holds of a party's frame between steps, over a pool with these settings and this plan.
-  pub record IsFrame (maker : MakerTold) (s : Settings) (plan : Plan) (f : Frame P) : Type 0 where
+  pub record IsFrame (maker : MakerTold) (s : Settings) (plan : Plan) (f : Frame P H) : Type 0 where
     pub stripe : f.stripe < length plan.memories
     pub queue : IsLocal maker s f.local
     pub freed_room : HasFreedRoom s f
@@ -484,7 +512,7 @@ module _ {P : Type 0} where
 
   -- What the frame has fits what the pool has given out: that is with the frame, in a queue, or with others, who have no
   -- region without its slot. What the frame has counted is counted.
-  pub record FitsCore (c : PoolCore P) (f : Frame P) : Type 0 where
+  pub record FitsCore (c : PoolCore P H) (f : Frame P H) : Type 0 where
     pub once : (t : Thing) → kept_count t c + frame_count t f ≤ away_count t c
     pub others : (name : SlotName) → away_count (region_of name) c + (kept_count (right_to name) c + frame_count (right_to name) f) ≤ away_count (right_to name) c + (kept_count (region_of name) c + frame_count (region_of name) f)
     pub instances : frame_instances f ≤ c.counters.core_instances
@@ -492,3 +520,4 @@ module _ {P : Type 0} where
     pub memories : frame_memories f ≤ c.counters.memories
     pub tables : frame_tables f ≤ c.counters.tables
     pub stacks : phase_stacks f.phase ≤ c.counters.stacks
+    pub heaps : phase_heaps f.phase ≤ c.counters.gc_heaps

@@ -23,7 +23,7 @@ use Rattle.pool_alloc.specs.declared.pool_core.PoolCore.{PoolCore}
 use Rattle.pool_alloc.specs.declared.metrics.Metrics.{Metrics}
 use Rattle.pool_alloc.specs.declared.frame.Frame.{Frame}
 use Rattle.pool_alloc.specs.declared.frame.Phase.{Phase}
-use Rattle.pool_alloc.specs.declared.frame.Phase.TheVariants.{Empty, Instantiate, MakeMemory, MakeTable, CountObject, PutBack, UncountObject, Reset}
+use Rattle.pool_alloc.specs.declared.frame.Phase.TheVariants.{Empty, Instantiate, MakeMemory, MakeTable, CountObject, PutBack, UncountObject, UncountHeap, PutHeap, FreeHeap, Reset}
 use Rattle.pool_alloc.specs.declared.frame.Phase.TheVariants.{Purge, Release}
 use Rattle.pool_alloc.specs.declared.purge.PurgeStep.{PurgeStep}
 use Rattle.pool_alloc.specs.declared.purge.PurgeStep.TheVariants as purging_step
@@ -31,29 +31,29 @@ use Rattle.pool_alloc.specs.declared.release.ReleaseStep.{ReleaseStep}
 use Rattle.pool_alloc.specs.declared.release.ReleaseStep.TheVariants as releasing_step
 
 -- how many slots of a kind are warm in the shards, and how many bytes those keep resident, up to the ends of their types
-abbrev pub warm_in : {P : Type 0} → SlotKind → PoolPart P → ℕ
+abbrev pub warm_in : {P H : Type 0} → SlotKind → PoolPart P H → ℕ
 warm_in kind (part.Shard s) = if same_kind kind s.kind then length s.warm else 0
 warm_in kind _ = 0
 
-abbrev pub warm_slots : {P : Type 0} → SlotKind → List (PoolPart P) → ℕ
+abbrev pub warm_slots : {P H : Type 0} → SlotKind → List (PoolPart P H) → ℕ
 warm_slots kind parts = min (sum_by (warm_in kind) parts) (2 ^ 32 - 1)
 
-abbrev pub resident_in : {P : Type 0} → SlotKind → PoolPart P → ℕ
+abbrev pub resident_in : {P H : Type 0} → SlotKind → PoolPart P H → ℕ
 resident_in kind (part.Shard s) = if same_kind kind s.kind then resident_bytes s else 0
 resident_in kind _ = 0
 
-abbrev pub resident_sum : {P : Type 0} → SlotKind → List (PoolPart P) → ℕ
+abbrev pub resident_sum : {P H : Type 0} → SlotKind → List (PoolPart P H) → ℕ
 resident_sum kind parts = min (sum_by (resident_in kind) parts) (2 ^ 64 - 1)
 
 -- the calls on the regions that lie in a part: in a cell, or in a queue
-abbrev pub part_calls : {P : Type 0} → PoolPart P → PageCalls
+abbrev pub part_calls : {P H : Type 0} → PoolPart P H → PageCalls
 part_calls (part.Memory cell) = calls_in cell.holds
 part_calls (part.Table cell) = calls_in cell.holds
 part_calls (part.Stack cell) = calls_in cell.holds
 part_calls (part.Queue q) = calls_held q.slots
 part_calls _ = no_calls
 
-abbrev pub calls_of_parts : {P : Type 0} → List (PoolPart P) → PageCalls
+abbrev pub calls_of_parts : {P H : Type 0} → List (PoolPart P H) → PageCalls
 calls_of_parts parts = all_calls (map part_calls parts)
 
 -- the calls on the region of a table, none where it has none
@@ -75,11 +75,12 @@ calls_of_tables leases = all_calls (map table_calls leases)
 abbrev pub calls_of_instance : {P : Type 0} → InstanceLease P → PageCalls
 calls_of_instance lease = added (calls_of_leases lease.memories.items) (calls_of_tables lease.tables.items)
 
-module _ {P : Type 0} where
+module _ {P H : Type 0} where
   -- the calls on the regions in the pool's parts, together
-  abbrev pub calls_kept : PoolCore P → PageCalls
+  abbrev pub calls_kept : PoolCore P H → PageCalls
   calls_kept c = calls_of_parts c.parts
 
+module _ {P : Type 0} where
   -- the calls on the region that a purge has taken for its next step, and a release
   abbrev pub calls_in_purge : PurgeStep P → PageCalls
   calls_in_purge (purging_step.Forget at held) = calls_in (cell_of held)
@@ -91,8 +92,9 @@ module _ {P : Type 0} where
   calls_in_release (releasing_step.PutRegion r k at held) = calls_in (cell_of held)
   calls_in_release _ = no_calls
 
+module _ {P H : Type 0} where
   -- the calls on the region that a call has taken for its next step, and on all that it has
-  abbrev pub calls_in_phase : Phase P → PageCalls
+  abbrev pub calls_in_phase : Phase P H → PageCalls
   calls_in_phase (Empty at held) = held.region.calls
   calls_in_phase (Instantiate at held) = held.region.calls
   calls_in_phase (MakeMemory at held) = held.region.calls
@@ -100,23 +102,26 @@ module _ {P : Type 0} where
   calls_in_phase (CountObject object) = calls_of_object object
   calls_in_phase (PutBack at held) = calls_in (cell_of held)
   calls_in_phase (UncountObject object) = calls_of_object object
+  calls_in_phase (UncountHeap lease memory) = (slot_of memory.memory).region.calls
+  calls_in_phase (PutHeap lease memory) = (slot_of memory.memory).region.calls
+  calls_in_phase (FreeHeap name memory) = (slot_of memory.memory).region.calls
   calls_in_phase (Reset object) = calls_of_object object
   calls_in_phase (Purge p step) = calls_in_purge step
   calls_in_phase (Release step) = calls_in_release step
   calls_in_phase _ = no_calls
 
-  abbrev pub calls_in_frame : Frame P → PageCalls
+  abbrev pub calls_in_frame : Frame P H → PageCalls
   calls_in_frame f = added (calls_of_instance f.objects) (added (calls_held f.local.slots) (calls_in_phase f.phase))
 
   -- the pool's numbers
-  abbrev pub metrics_of : PoolCore P → Metrics
+  abbrev pub metrics_of : PoolCore P H → Metrics
   metrics_of c = record {
     core_instances = c.counters.core_instances;
     component_instances = c.counters.component_instances;
     memories = c.counters.memories;
     tables = c.counters.tables;
     stacks = c.counters.stacks;
-    gc_heaps = 0;
+    gc_heaps = c.counters.gc_heaps;
     unused_warm_memories = warm_slots memory_kind c.parts;
     unused_memory_bytes_resident = resident_sum memory_kind c.parts;
     unused_warm_tables = warm_slots table_kind c.parts;

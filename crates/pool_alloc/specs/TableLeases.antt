@@ -36,10 +36,14 @@ table_slot slot = record { kind = slot_kind.Table; slot = slot }
 abbrev pub table_taken : LeasedTable → TakenSlot
 table_taken l = record { name = table_slot l.index; numbers = l.numbers }
 
--- the table lies in a region, and its elements are of the type that its kind says
+-- its elements are of the type that its kind says
+abbrev pub HasType : {P : Type 0} → Table P → Type 0
+HasType table = element_type_of table ≡ type_of (table_view table).kind
+
+-- so are they, and the table lies in a region
 pub record IsOverRegion {P : Type 0} (table : Table P) : Type 0 where
   pub static : IsStatic table
-  pub element_type : element_type_of table ≡ type_of (table_view table).kind
+  pub element_type : HasType table
 
 -- a region with other bytes
 abbrev pub IsSameRegion : Told → Told → Type 0
@@ -58,9 +62,9 @@ CanBeSet kind uninitialised = ⊥
 CanBeSet kind e = elem.IsElement kind e
 
 -- the answer to a look at one element
-abbrev pub IsElementAt : LeasedTable → ℕ → Result Element Trap → Type 0
-IsElementAt l at (Ok e) = (at < l.table.size) × IfSome l.table.elements (λ es. slice_get es at ≡ Some (element_of e))
-IsElementAt l at (Err trap) = (trap ≡ TableOutOfBounds) × (l.table.size ≤ at)
+abbrev pub IsElementAt : TableView → ℕ → Result Element Trap → Type 0
+IsElementAt t at (Ok e) = (at < t.size) × IfSome t.elements (λ es. slice_get es at ≡ Some (element_of e))
+IsElementAt t at (Err trap) = (trap ≡ TableOutOfBounds) × (t.size ≤ at)
 
 -- so many elements from a place on were set, or as many as the store let through; only of GC references it is told
 abbrev pub SetsElements : {G : Type 0} → (G → StoreTold) → (G → StoreCall → G → Type 0) → ℕ → ℕ → elem.Element → TableView → TableView → G → G → Result (Unit {0}) GcTableError → Type 0
@@ -76,14 +80,14 @@ pub record LiesInRegion (t : TableView) : Type 0 where
   pub lies : LiesThere t
 
 -- so many elements of the table were set, or it is as before where they pass its size
-pub record IsSet {G : Type 0} (told : G → StoreTold) (leads : G → StoreCall → G → Type 0) (at count : ℕ) (e : elem.Element) (old new : LeasedTable) (before after : G) (result : Result (Unit {0}) GcTableError) : Type 0 where
-  pub same : new ≡ record old { table = new.table }
-  pub inside : at + count ≤ old.table.size → SetsElements told leads at count e old.table new.table before after result
-  pub outside : old.table.size < at + count → (result ≡ Err (failed.Trap TableOutOfBounds)) × (new.table ≡ old.table) × (after ≡ before)
+pub record IsSet {G : Type 0} (told : G → StoreTold) (leads : G → StoreCall → G → Type 0) (at count : ℕ) (e : elem.Element) (old new : TableView) (before after : G) (result : Result (Unit {0}) GcTableError) : Type 0 where
+  pub inside : at + count ≤ old.size → SetsElements told leads at count e old new before after result
+  pub outside : old.size < at + count → (result ≡ Err (failed.Trap TableOutOfBounds)) × (new ≡ old) × (after ≡ before)
 
--- the same, and it still lies in its region
+-- the same of a lease, whose table still lies in its region
 pub record IsFilled {G : Type 0} (told : G → StoreTold) (leads : G → StoreCall → G → Type 0) (at count : ℕ) (e : elem.Element) (old new : LeasedTable) (before after : G) (result : Result (Unit {0}) GcTableError) : Type 0 where
-  pub set : IsSet told leads at count e old new before after result
+  pub same : new ≡ record old { table = new.table }
+  pub set : IsSet told leads at count e old.table new.table before after result
   pub region : LiesInRegion new.table
 
 -- The table was asked to grow by so many elements, and this was the answer. The limiter was in the first of these states,

@@ -4,17 +4,17 @@ use Rattle.std.specs.Prelude.{◌&&◌, ◌==◌, List, [], ◌∷◌, length, B
 use Rattle.pool_slots.specs.declared.errors.AllocError.{AllocError}
 use Rattle.pool_slots.specs.declared.errors.AllocError.TheVariants as refusal
 use Rattle.pool_slots.specs.declared.errors.ConcurrencyKind.{ConcurrencyKind}
-use Rattle.pool_slots.specs.declared.errors.ConcurrencyKind.TheVariants.{MemoryStripe, Tables, Fibers}
+use Rattle.pool_slots.specs.declared.errors.ConcurrencyKind.TheVariants.{MemoryStripe, Tables, Fibers, GcHeaps}
 use Rattle.pool_alloc.specs.Objects.{objects_in, objects_wanted, no_objects}
 use Rattle.pool_hall.specs.declared.unit_name.SlotKind.{SlotKind}
-use Rattle.pool_hall.specs.declared.unit_name.SlotKind.TheVariants.{Table as table_kind, Stack as stack_kind}
+use Rattle.pool_hall.specs.declared.unit_name.SlotKind.TheVariants.{Table as table_kind, Stack as stack_kind, Heap as heap_kind}
 use Rattle.pool_alloc.specs.Leases.{Lease}
 use Rattle.pool_alloc.specs.TableLeases.{LeasedTable}
-use Rattle.pool_alloc.specs.Steps.{queues_searched, allocator_for, kind_next}
+use Rattle.pool_alloc.specs.Steps.{queues_next, allocator_for, kind_next}
 use Rattle.pool_alloc.specs.declared.pool_core.PoolCore.{PoolCore}
 use Rattle.pool_slots.specs.declared.plan.Plan.{Plan}
 use Rattle.pool_alloc.specs.declared.frame.Asked.{Asked}
-use Rattle.pool_alloc.specs.declared.frame.Asked.TheVariants.{Nothing as nothing_asked, Stack as stack_asked}
+use Rattle.pool_alloc.specs.declared.frame.Asked.TheVariants.{Nothing as nothing_asked, Stack as stack_asked, Heap as heap_asked}
 use Rattle.pool_alloc.specs.declared.frame.Frame.{Frame}
 use Rattle.pool_alloc.specs.declared.frame.Phase.{Phase}
 use Rattle.pool_alloc.specs.declared.frame.Phase.TheVariants.{Idle, Pick, TakeQueue, UncountObject, Flush, UncountInstance}
@@ -28,44 +28,45 @@ use Rattle.pool_alloc.specs.declared.frame.Outcome.TheVariants as answer
 -- How a call goes on: with this phase; it ends; with what its ending says is next; with the next part of a flush, or with
 -- what is next once that is done; with the next queue of a search through so many, or with this refusal after the last;
 -- or it stays as it is, where no call is under way.
-pub data Turn (P : Type 0) : Type 0 where
-  goes : Phase P → Turn P
-  ends : Outcome P → Turn P
-  next : Turn P
-  flush : Turn P
-  search : ℕ → AllocError → Turn P
-  stays : Turn P
+pub data Turn (P H : Type 0) : Type 0 where
+  goes : Phase P H → Turn P H
+  ends : Outcome P H → Turn P H
+  next : Turn P H
+  flush : Turn P H
+  search : ℕ → AllocError → Turn P H
+  stays : Turn P H
 
 -- what a row gives: what it leaves of a part, or of the whole pool; the frame; and the turn
-pub record Row (X P : Type 0) : Type 0 where
+pub record Row (X P H : Type 0) : Type 0 where
   pub part : X
-  pub frame : Frame P
-  pub turn : Turn P
+  pub frame : Frame P H
+  pub turn : Turn P H
 
 -- the row of a part in something greater
-abbrev pub lifted : {X Y P : Type 0} → (X → Y) → Row X P → Row Y P
+abbrev pub lifted : {X Y P H : Type 0} → (X → Y) → Row X P H → Row Y P H
 lifted into r = record { part = into r.part; frame = r.frame; turn = r.turn }
 
 -- what a turn leaves of the frame, and the answer to the call where it ends with this step
-pub record Left (P : Type 0) : Type 0 where
-  pub frame : Frame P
-  pub outcome : Option (Outcome P)
+pub record Left (P H : Type 0) : Type 0 where
+  pub frame : Frame P H
+  pub outcome : Option (Outcome P H)
 
 -- what a step leaves, of one part and of the pool
-pub record PartAfter (X P : Type 0) : Type 0 where
+pub record PartAfter (X P H : Type 0) : Type 0 where
   pub part : X
-  pub frame : Frame P
-  pub outcome : Option (Outcome P)
+  pub frame : Frame P H
+  pub outcome : Option (Outcome P H)
 
-pub record After (P : Type 0) : Type 0 where
-  pub core : PoolCore P
-  pub frame : Frame P
-  pub outcome : Option (Outcome P)
+pub record After (P H : Type 0) : Type 0 where
+  pub core : PoolCore P H
+  pub frame : Frame P H
+  pub outcome : Option (Outcome P H)
 
 -- what it is that the pool has no more of
 abbrev pub limit_of : SlotKind → ℕ → ConcurrencyKind
 limit_of table_kind stripe = Tables
 limit_of stack_kind stripe = Fibers
+limit_of heap_kind stripe = GcHeaps
 limit_of _ stripe = MemoryStripe stripe
 
 -- the call is to end with a grant
@@ -73,65 +74,66 @@ abbrev pub is_granting : Ending → Bool
 is_granting granted = true
 is_granting _ = false
 
-module _ {P : Type 0} where
+module _ {P H : Type 0} where
   -- the call fails: what it was granted so far is what it gives back
-  abbrev pub failing : AllocError → Frame P → Frame P
+  abbrev pub failing : AllocError → Frame P H → Frame P H
   failing e f = record f { ending = refused e }
 
   -- a step more was made, and this is the next
-  abbrev pub gone_to : Phase P → Frame P → Frame P
+  abbrev pub gone_to : Phase P H → Frame P H → Frame P H
   gone_to phase f = record f { phase = phase; step_count = (f.step_count + 1) % 2 ^ 64 }
 
-  abbrev pub goes_to : Frame P → Phase P → Left P
+  abbrev pub goes_to : Frame P H → Phase P H → Left P H
   goes_to f phase = record { frame = gone_to phase f; outcome = None }
 
   -- a call that ends leaves nothing of itself but the number of its steps
-  abbrev pub ends_with : Frame P → Outcome P → Left P
+  abbrev pub ends_with : Frame P H → Outcome P H → Left P H
   ends_with f outcome = record { frame = record f { phase = Idle; asked = nothing_asked; ending = returned; queues = 0; step_count = (f.step_count + 1) % 2 ^ 64 }; outcome = Some outcome }
 
   -- the answer that a call ends with once all is given back
-  abbrev pub answer_of : Ending → Outcome P
+  abbrev pub answer_of : Ending → Outcome P H
   answer_of (refused e) = answer.Refused e
   answer_of _ = answer.Returned
 
-  -- Where no object is left, the instance is given back; a call for a stack counts none, and ends.
-  abbrev pub all_returned : Asked → Frame P → Left P
+  -- Where no object is left, the instance is given back; a call for a stack or a heap counts none, and ends.
+  abbrev pub all_returned : Asked → Frame P H → Left P H
   all_returned stack_asked f = ends_with f (answer_of f.ending)
+  all_returned (heap_asked ty) f = ends_with f (answer_of f.ending)
   all_returned _ f = goes_to f UncountInstance
 
   -- the next of these memories is given back, or of these tables, or else all of them are
-  abbrev pub returned_next : List Lease → List LeasedTable → Frame P → Left P
+  abbrev pub returned_next : List Lease → List LeasedTable → Frame P H → Left P H
   returned_next (lease ∷ rest) tables f = goes_to (record f { objects = record f.objects { memories = record f.objects.memories { items = rest } } }) (UncountObject (Memory lease))
   returned_next [] (lease ∷ rest) f = goes_to (record f { objects = record f.objects { tables = record f.objects.tables { items = rest } } }) (UncountObject (Table lease))
   returned_next [] [] f = all_returned f.asked f
 
   -- a slot is picked for the next object of the instance, or the instance is whole
-  abbrev pub granted_next : Frame P → Left P
+  abbrev pub granted_next : Frame P H → Left P H
   granted_next f =
       if nat_lt (objects_in f.objects) (objects_wanted f.asked)
       then goes_to f (Pick 0)
       else ends_with (record f { objects = no_objects }) (answer.Granted (Instance f.objects))
 
-  abbrev pub next_by : Ending → Frame P → Left P
+  abbrev pub next_by : Ending → Frame P H → Left P H
   next_by granted f = granted_next f
   next_by returned f = returned_next f.objects.memories.items f.objects.tables.items f
   next_by (refused e) f = returned_next f.objects.memories.items f.objects.tables.items f
 
   -- the local queue is flushed, and its slots are free
-  abbrev pub is_flushed : Frame P → Bool
+  abbrev pub is_flushed : Frame P H → Bool
   is_flushed f = (length f.local.slots == 0) && (length f.freed.items == 0)
 
-  abbrev pub flush_next : Frame P → Left P
+  abbrev pub flush_next : Frame P H → Left P H
   flush_next f = if is_flushed f then next_by f.ending f else goes_to f Flush
 
-  abbrev pub search_next : ℕ → AllocError → Frame P → Left P
+  abbrev pub search_next : ℕ → AllocError → Frame P H → Left P H
   search_next queues e f =
       if nat_lt f.queues queues
       then goes_to f TakeQueue
       else returned_next f.objects.memories.items f.objects.tables.items (failing e f)
 
   -- what a turn leaves
-  abbrev pub after : Frame P → Turn P → Left P
+  abbrev pub after : Frame P H → Turn P H → Left P H
   after f (goes phase) = goes_to f phase
   after f (ends outcome) = ends_with f outcome
   after f next = next_by f.ending f
@@ -140,19 +142,19 @@ module _ {P : Type 0} where
   after f stays = record { frame = f; outcome = None }
 
   -- the search for a slot: the refusal for room, where the allocator has so many slots, and its turn
-  abbrev pub no_slot_left : Plan → Frame P → AllocError
+  abbrev pub no_slot_left : Plan → Frame P H → AllocError
   no_slot_left plan f = refusal.Limit (record { limit = (allocator_for plan f).capacity; kind = limit_of (kind_next f) f.stripe })
 
-  abbrev pub slot_search : Plan → Frame P → Turn P
-  slot_search plan f = search (queues_searched plan) (no_slot_left plan f)
+  abbrev pub slot_search : Plan → Frame P H → Turn P H
+  slot_search plan f = search (queues_next plan f) (no_slot_left plan f)
 
   -- what a step leaves of one part, by its row
-  abbrev pub part_after : {X : Type 0} → Row X P → PartAfter X P
-  part_after r = let l : Left P = after r.frame r.turn in record { part = r.part; frame = l.frame; outcome = l.outcome }
+  abbrev pub part_after : {X : Type 0} → Row X P H → PartAfter X P H
+  part_after r = let l : Left P H = after r.frame r.turn in record { part = r.part; frame = l.frame; outcome = l.outcome }
 
   -- and of the pool
-  abbrev pub finished : PoolCore P → Left P → After P
+  abbrev pub finished : PoolCore P H → Left P H → After P H
   finished c l = record { core = c; frame = l.frame; outcome = l.outcome }
 
-  abbrev pub stepped : Row (PoolCore P) P → After P
+  abbrev pub stepped : Row (PoolCore P H) P H → After P H
   stepped r = finished r.part (after r.frame r.turn)

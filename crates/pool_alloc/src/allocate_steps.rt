@@ -17,15 +17,18 @@ use crate::part_steps;
 use crate::pool_core::PoolCore;
 use crate::table_lease::TableLease;
 use pool_pages::Pages;
-use pool_slots::{AllocError, ConcurrencyKind, ImageSlot, PoolConcurrencyLimitError, SlotName};
+use pool_slots::{
+    AllocError, ConcurrencyKind, GcHeap, ImageSlot, PoolConcurrencyLimitError, SlotName,
+};
 use std::alloc::Global;
 
-impl<P: Pages> PoolCore<P> {
+impl<P: Pages, H: GcHeap> PoolCore<P, H> {
     // Draws a number from the key counter: it gives the party its stripe.
-    pub(crate) fn draw_key(&mut self, frame: &mut Frame<P>) -> Option<Outcome<P>>
+    #[inline(never)]
+    pub(crate) fn draw_key(&mut self, frame: &mut Frame<P, H>) -> Option<Outcome<P, H>>
         requires some { 0 < length self.old.plan.memories }
         requires few { length self.old.plan.memories < 2 ^ 32 }
-        ensures { ◌≡◌ {A = After P} (record { core = self.new; frame = frame.new; outcome = result }) (stepped (key_row self.old frame.old)) }
+        ensures { ◌≡◌ {A = After P H} (record { core = self.new; frame = frame.new; outcome = result }) (stepped (key_row self.old frame.old)) }
     {
         let drawn = self.counters.key;
         self.counters.key = drawn.wrapping_add(1);
@@ -34,13 +37,14 @@ impl<P: Pages> PoolCore<P> {
     }
 
     // Counts the instance, also where there are too many.
+    #[inline(never)]
     pub(crate) fn count_instance(
         &mut self,
         alloc: Global,
-        frame: &mut Frame<P>,
-    ) -> Option<Outcome<P>>
+        frame: &mut Frame<P, H>,
+    ) -> Option<Outcome<P, H>>
         requires { self.old.counters.core_instances + 1 < 2 ^ 64 }
-        ensures { ◌≡◌ {A = After P} (record { core = self.new; frame = frame.new; outcome = result }) (stepped (count_instance_row self.old frame.old)) }
+        ensures { ◌≡◌ {A = After P H} (record { core = self.new; frame = frame.new; outcome = result }) (stepped (count_instance_row self.old frame.old)) }
     {
         let count = self.counters.core_instances;
         let limit = self.settings.max_core_instances;
@@ -56,12 +60,13 @@ impl<P: Pages> PoolCore<P> {
     }
 
     // Picks a slot from the shard that is so many after the home shard.
-    pub(crate) fn pick(&mut self, frame: &mut Frame<P>, tried: u32) -> Option<Outcome<P>>
+    #[inline(never)]
+    pub(crate) fn pick(&mut self, frame: &mut Frame<P, H>, tried: u32) -> Option<Outcome<P, H>>
         requires plan { HasAllocators self.old.plan frame.old.stripe }
         requires tries { CanTryShard self.old.plan (allocator_for self.old.plan frame.old) tried }
         requires shard { IsAt IsShardPart (shard_tried tried self.old.plan frame.old) self.old.parts }
         requires few { length frame.old.objects.memories.items < 2 ^ 32 }
-        ensures { ◌≡◌ {A = After P} (record { core = self.new; frame = frame.new; outcome = result }) (stepped (in_shard (shard_tried tried self.old.plan frame.old) self.old (pick_on self.old.plan tried (shard_at (shard_tried tried self.old.plan frame.old) self.old) frame.old))) }
+        ensures { ◌≡◌ {A = After P H} (record { core = self.new; frame = frame.new; outcome = result }) (stepped (in_shard (shard_tried tried self.old.plan frame.old) self.old (pick_on self.old.plan tried (shard_at (shard_tried tried self.old.plan frame.old) self.old) frame.old))) }
     {
         let place = frame.allocator(&self.plan).shard_tried(frame.home, tried);
         let part = self.parts.at(place);
@@ -69,13 +74,18 @@ impl<P: Pages> PoolCore<P> {
     }
 
     // Takes the whole next queue. It is flushed where it holds something.
-    pub(crate) fn take_queue(&mut self, alloc: Global, frame: &mut Frame<P>) -> Option<Outcome<P>>
+    #[inline(never)]
+    pub(crate) fn take_queue(
+        &mut self,
+        alloc: Global,
+        frame: &mut Frame<P, H>,
+    ) -> Option<Outcome<P, H>>
         requires taken { frame.old.queues < queues_searched self.old.plan }
         requires plan { HasAllocators self.old.plan frame.old.stripe }
         requires tries { CanTryQueue self.old.plan frame.old.home }
         requires queue { IsAt IsQueuePart (queue_tried frame.old.queues self.old.plan frame.old) self.old.parts }
         requires spare { IsSpareOf (queue_at (queue_tried frame.old.queues self.old.plan frame.old) self.old) frame.old.local }
-        ensures { ◌≡◌ {A = After P} (record { core = self.new; frame = frame.new; outcome = result }) (stepped (in_queue (queue_tried frame.old.queues self.old.plan frame.old) self.old (take_queue_on self.old.plan (queue_at (queue_tried frame.old.queues self.old.plan frame.old) self.old) frame.old))) }
+        ensures { ◌≡◌ {A = After P H} (record { core = self.new; frame = frame.new; outcome = result }) (stepped (in_queue (queue_tried frame.old.queues self.old.plan frame.old) self.old (take_queue_on self.old.plan (queue_at (queue_tried frame.old.queues self.old.plan frame.old) self.old) frame.old))) }
     {
         let place = self.plan.queue_tried(frame.home, frame.queues);
         let part = self.parts.at(place);
@@ -83,11 +93,16 @@ impl<P: Pages> PoolCore<P> {
     }
 
     // Takes the region of a slot out of its cell.
-    pub(crate) fn take_region(&mut self, frame: &mut Frame<P>, name: SlotName) -> Option<Outcome<P>>
+    #[inline(never)]
+    pub(crate) fn take_region(
+        &mut self,
+        frame: &mut Frame<P, H>,
+        name: SlotName,
+    ) -> Option<Outcome<P, H>>
         requires place { CanPlace self.old.plan name }
         requires cell { IsAt IsCellPart (cell_place self.old.plan name) self.old.parts }
         requires can { CanTakeRegion self.old.settings name (cell_named name self.old) }
-        ensures { ◌≡◌ {A = After P} (record { core = self.new; frame = frame.new; outcome = result }) (stepped (in_cell name self.old (take_region_on self.old.settings name (cell_named name self.old) frame.old))) }
+        ensures { ◌≡◌ {A = After P H} (record { core = self.new; frame = frame.new; outcome = result }) (stepped (in_cell name self.old (take_region_on self.old.settings name (cell_named name self.old) frame.old))) }
     {
         let place = self.plan.cell_place(name);
         let part = self.parts.at(place);
@@ -95,14 +110,15 @@ impl<P: Pages> PoolCore<P> {
     }
 
     // Grants an object. The search for the next one's slot begins anew.
+    #[inline(never)]
     pub(crate) fn count_object(
         &mut self,
         alloc: Global,
-        frame: &mut Frame<P>,
+        frame: &mut Frame<P, H>,
         object: Object<P>,
-    ) -> Option<Outcome<P>>
+    ) -> Option<Outcome<P, H>>
         requires { CanStepAt (Phase.CountObject object) self.old frame.old }
-        ensures { ◌≡◌ {A = After P} (record { core = self.new; frame = frame.new; outcome = result }) (stepped (count_object_row object self.old frame.old)) }
+        ensures { ◌≡◌ {A = After P H} (record { core = self.new; frame = frame.new; outcome = result }) (stepped (count_object_row object self.old frame.old)) }
     {
         match object {
             Object::Memory(lease) => self.count_memory(alloc, frame, lease),
@@ -114,12 +130,12 @@ impl<P: Pages> PoolCore<P> {
     fn count_memory(
         &mut self,
         alloc: Global,
-        frame: &mut Frame<P>,
+        frame: &mut Frame<P, H>,
         lease: MemoryLease<P>,
-    ) -> Option<Outcome<P>>
+    ) -> Option<Outcome<P, H>>
         requires count { self.old.counters.memories + 1 < 2 ^ 64 }
         requires room { length frame.old.objects.memories.items < frame.old.objects.memories.room }
-        ensures { ◌≡◌ {A = After P} (record { core = self.new; frame = frame.new; outcome = result }) (stepped (count_object_row (Object.Memory lease) self.old frame.old)) }
+        ensures { ◌≡◌ {A = After P H} (record { core = self.new; frame = frame.new; outcome = result }) (stepped (count_object_row (Object.Memory lease) self.old frame.old)) }
     {
         self.counters.memories += 1;
         frame.objects.memories.push(lease);
@@ -130,12 +146,12 @@ impl<P: Pages> PoolCore<P> {
     fn count_table(
         &mut self,
         alloc: Global,
-        frame: &mut Frame<P>,
+        frame: &mut Frame<P, H>,
         lease: TableLease<P>,
-    ) -> Option<Outcome<P>>
+    ) -> Option<Outcome<P, H>>
         requires count { self.old.counters.tables + 1 < 2 ^ 64 }
         requires room { length frame.old.objects.tables.items < frame.old.objects.tables.room }
-        ensures { ◌≡◌ {A = After P} (record { core = self.new; frame = frame.new; outcome = result }) (stepped (count_object_row (Object.Table lease) self.old frame.old)) }
+        ensures { ◌≡◌ {A = After P H} (record { core = self.new; frame = frame.new; outcome = result }) (stepped (count_object_row (Object.Table lease) self.old frame.old)) }
     {
         self.counters.tables += 1;
         frame.objects.tables.push(lease);
@@ -144,16 +160,17 @@ impl<P: Pages> PoolCore<P> {
     }
 
     // Puts the region of a slot back after a failure.
+    #[inline(never)]
     pub(crate) fn put_back(
         &mut self,
-        frame: &mut Frame<P>,
+        frame: &mut Frame<P, H>,
         at: TakenSlot,
         held: ImageSlot<P>,
-    ) -> Option<Outcome<P>>
+    ) -> Option<Outcome<P, H>>
         requires place { CanPlace self.old.plan at.name }
         requires cell { IsAt IsCellPart (cell_place self.old.plan at.name) self.old.parts }
         requires clean { IsCleanOnceUsed (cell_of held) }
-        ensures { ◌≡◌ {A = After P} (record { core = self.new; frame = frame.new; outcome = result }) (stepped (in_cell at.name self.old (put_back_on at.name (cell_of held) (cell_named at.name self.old) frame.old))) }
+        ensures { ◌≡◌ {A = After P H} (record { core = self.new; frame = frame.new; outcome = result }) (stepped (in_cell at.name self.old (put_back_on at.name (cell_of held) (cell_named at.name self.old) frame.old))) }
     {
         let place = self.plan.cell_place(at.name);
         let part = self.parts.at(place);
@@ -161,15 +178,16 @@ impl<P: Pages> PoolCore<P> {
     }
 
     // Frees the slot then.
+    #[inline(never)]
     pub(crate) fn free_one(
         &mut self,
         alloc: Global,
-        frame: &mut Frame<P>,
+        frame: &mut Frame<P, H>,
         name: SlotName,
-    ) -> Option<Outcome<P>>
+    ) -> Option<Outcome<P, H>>
         requires shard { IsAt IsShardPart (home_of self.old.plan name).place self.old.parts }
         requires can { CanFreeOne name self.old.plan (shard_at (home_of self.old.plan name).place self.old) }
-        ensures { ◌≡◌ {A = After P} (record { core = self.new; frame = frame.new; outcome = result }) (stepped (in_shard (home_of self.old.plan name).place self.old (free_one_on self.old.plan name (shard_at (home_of self.old.plan name).place self.old) frame.old))) }
+        ensures { ◌≡◌ {A = After P H} (record { core = self.new; frame = frame.new; outcome = result }) (stepped (in_shard (home_of self.old.plan name).place self.old (free_one_on self.old.plan name (shard_at (home_of self.old.plan name).place self.old) frame.old))) }
     {
         let place = home(&self.plan, name).place;
         let part = self.parts.at(place);

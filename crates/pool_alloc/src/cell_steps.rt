@@ -16,19 +16,19 @@ use crate::stack_steps::stack_made;
 use pool_images::MemoryImageSlot;
 use pool_index::SlotKind;
 use pool_pages::{PageRegion, Pages};
-use pool_slots::{HeldSlot, ImageSlot, QueuedSlot, RegionCell, SlotName, stripe_colour};
+use pool_slots::{GcHeap, HeldSlot, ImageSlot, QueuedSlot, RegionCell, SlotName, stripe_colour};
 use std::alloc::Global;
 
 // Takes the region of a slot out of its cell. An image slot is made of a region that was never used.
-pub(crate) fn take_region<P: Pages>(
+pub(crate) fn take_region<P: Pages, H: GcHeap>(
     cell: &mut RegionCell<P>,
     settings: &Settings,
-    frame: &mut Frame<P>,
+    frame: &mut Frame<P, H>,
     name: SlotName,
-) -> Option<Outcome<P>>
+) -> Option<Outcome<P, H>>
     requires there { is_taken cell.old.holds ≡ false }
     requires fresh { (region : _) → cell.old.holds ≡ unmapped region → CanUnmap settings.now name region }
-    ensures { ◌≡◌ {A = PartAfter CellState P} (record { part = cell.new; frame = frame.new; outcome = result }) (part_after (take_region_on settings.now name cell.old frame.old)) }
+    ensures { ◌≡◌ {A = PartAfter CellState P H} (record { part = cell.new; frame = frame.new; outcome = result }) (part_after (take_region_on settings.now name cell.old frame.old)) }
 {
     let (held, numbers) = cell.take();
     let at = TakenSlot { name, numbers };
@@ -42,7 +42,11 @@ pub(crate) fn take_region<P: Pages>(
 }
 
 // What comes next with a region that lies in its cell as it was made, or that is a table's or a stack's. Heaps have no cells.
-fn unmapped_next<P: Pages>(settings: &Settings, at: TakenSlot, region: PageRegion<P>) -> Phase<P>
+fn unmapped_next<P: Pages, H: GcHeap>(
+    settings: &Settings,
+    at: TakenSlot,
+    region: PageRegion<P>,
+) -> Phase<P, H>
     requires { CanUnmap settings.now at.name region }
     ensures { goes result ≡ unmapped_next settings.now at.name.kind at region }
 {
@@ -75,29 +79,29 @@ fn image_slot_of<P: Pages>(
 }
 
 // Puts the region of a slot back after a failure.
-pub(crate) fn put_back<P: Pages>(
+pub(crate) fn put_back<P: Pages, H: GcHeap>(
     cell: &mut RegionCell<P>,
-    frame: &mut Frame<P>,
+    frame: &mut Frame<P, H>,
     name: SlotName,
     held: ImageSlot<P>,
-) -> Option<Outcome<P>>
+) -> Option<Outcome<P, H>>
     requires { IsCleanOnceUsed (cell_of held) }
-    ensures { ◌≡◌ {A = PartAfter CellState P} (record { part = cell.new; frame = frame.new; outcome = result }) (part_after (put_back_on name (cell_of held) cell.old frame.old)) }
+    ensures { ◌≡◌ {A = PartAfter CellState P H} (record { part = cell.new; frame = frame.new; outcome = result }) (part_after (put_back_on name (cell_of held) cell.old frame.old)) }
 {
     cell.put(held);
     frame.go(Phase::FreeOne(name))
 }
 
 // Puts the region of a slot back that was in the local queue. The slot waits to be freed then.
-pub(crate) fn put_region<P: Pages>(
+pub(crate) fn put_region<P: Pages, H: GcHeap>(
     cell: &mut RegionCell<P>,
     alloc: Global,
-    frame: &mut Frame<P>,
+    frame: &mut Frame<P, H>,
     item: QueuedSlot<P>,
-) -> Option<Outcome<P>>
+) -> Option<Outcome<P, H>>
     requires settled { IsSettled item }
     requires room { length frame.old.freed.items < frame.old.freed.room }
-    ensures { ◌≡◌ {A = PartAfter CellState P} (record { part = cell.new; frame = frame.new; outcome = result }) (part_after (region_put item cell.old frame.old)) }
+    ensures { ◌≡◌ {A = PartAfter CellState P H} (record { part = cell.new; frame = frame.new; outcome = result }) (part_after (region_put item cell.old frame.old)) }
 {
     let name = item.name();
     let bytes = item.bytes;

@@ -8,16 +8,17 @@ use crate::frame_turns::answer_of;
 use crate::pool_core::PoolCore;
 use crate::size_rules::component_refused;
 use pool_pages::{ComponentInfo, Pages};
-use pool_slots::{AllocError, ConcurrencyKind, PoolConcurrencyLimitError};
+use pool_slots::{AllocError, ConcurrencyKind, GcHeap, PoolConcurrencyLimitError};
 
 // A component has nothing of the pool. It is tested, and counted while it is granted.
-impl<P: Pages> PoolCore<P> {
+impl<P: Pages, H: GcHeap> PoolCore<P, H> {
+    #[inline(never)]
     pub(crate) fn test_component(
         &mut self,
-        frame: &mut Frame<P>,
+        frame: &mut Frame<P, H>,
         info: &ComponentInfo,
-    ) -> Option<Outcome<P>>
-        ensures { ◌≡◌ {A = After P} (record { core = self.new; frame = frame.new; outcome = result }) (stepped (validate_component_row info.now self.old frame.old)) }
+    ) -> Option<Outcome<P, H>>
+        ensures { ◌≡◌ {A = After P H} (record { core = self.new; frame = frame.new; outcome = result }) (stepped (validate_component_row info.now self.old frame.old)) }
     {
         match component_refused(&self.settings, info) {
             Some(rule) => self.refuse_at_once(frame, AllocError::Unsupported(rule)),
@@ -26,9 +27,10 @@ impl<P: Pages> PoolCore<P> {
     }
 
     // Counts the component, also where there are too many.
-    pub(crate) fn count_component(&mut self, frame: &mut Frame<P>) -> Option<Outcome<P>>
+    #[inline(never)]
+    pub(crate) fn count_component(&mut self, frame: &mut Frame<P, H>) -> Option<Outcome<P, H>>
         requires { self.old.counters.component_instances + 1 < 2 ^ 64 }
-        ensures { ◌≡◌ {A = After P} (record { core = self.new; frame = frame.new; outcome = result }) (stepped (count_component_row self.old frame.old)) }
+        ensures { ◌≡◌ {A = After P H} (record { core = self.new; frame = frame.new; outcome = result }) (stepped (count_component_row self.old frame.old)) }
     {
         let count = self.counters.component_instances;
         let limit = self.settings.max_component_instances;
@@ -43,9 +45,10 @@ impl<P: Pages> PoolCore<P> {
         frame.go(Phase::UncountComponent)
     }
 
-    pub(crate) fn uncount_component(&mut self, frame: &mut Frame<P>) -> Option<Outcome<P>>
+    #[inline(never)]
+    pub(crate) fn uncount_component(&mut self, frame: &mut Frame<P, H>) -> Option<Outcome<P, H>>
         requires { 0 < self.old.counters.component_instances }
-        ensures { ◌≡◌ {A = After P} (record { core = self.new; frame = frame.new; outcome = result }) (stepped (uncount_component_row self.old frame.old)) }
+        ensures { ◌≡◌ {A = After P H} (record { core = self.new; frame = frame.new; outcome = result }) (stepped (uncount_component_row self.old frame.old)) }
     {
         self.counters.component_instances -= 1;
         frame.end(answer_of(frame.ending))

@@ -16,16 +16,17 @@ use crate::pool_core::PoolCore;
 use crate::reserved::ReservedList;
 use pool_index::SlotKind;
 use pool_pages::Pages;
-use pool_slots::{DecommitQueue, QueuedSlot};
+use pool_slots::{DecommitQueue, GcHeap, QueuedSlot};
 use std::alloc::Global;
 
-impl<P: Pages> PoolCore<P> {
+impl<P: Pages, H: GcHeap> PoolCore<P, H> {
     // Appends the local queue to the home queue.
-    pub(crate) fn merge(&mut self, alloc: Global, frame: &mut Frame<P>) -> Option<Outcome<P>>
+    #[inline(never)]
+    pub(crate) fn merge(&mut self, alloc: Global, frame: &mut Frame<P, H>) -> Option<Outcome<P, H>>
         requires tries { CanTryQueue self.old.plan frame.old.home }
         requires queue { IsAt IsQueuePart (queue_tried 0 self.old.plan frame.old) self.old.parts }
         requires can { CanMerge (queue_at (queue_tried 0 self.old.plan frame.old) self.old) frame.old.local }
-        ensures { ◌≡◌ {A = After P} (record { core = self.new; frame = frame.new; outcome = result }) (stepped (in_queue (queue_tried 0 self.old.plan frame.old) self.old (merge_on self.old.settings (queue_at (queue_tried 0 self.old.plan frame.old) self.old) frame.old))) }
+        ensures { ◌≡◌ {A = After P H} (record { core = self.new; frame = frame.new; outcome = result }) (stepped (in_queue (queue_tried 0 self.old.plan frame.old) self.old (merge_on self.old.settings (queue_at (queue_tried 0 self.old.plan frame.old) self.old) frame.old))) }
     {
         let place = self.plan.queue_tried(frame.home, 0);
         let part = self.parts.at(place);
@@ -33,9 +34,10 @@ impl<P: Pages> PoolCore<P> {
     }
 
     // The next part of a flush.
-    pub(crate) fn flush(&mut self, alloc: Global, frame: &mut Frame<P>) -> Option<Outcome<P>>
+    #[inline(never)]
+    pub(crate) fn flush(&mut self, alloc: Global, frame: &mut Frame<P, H>) -> Option<Outcome<P, H>>
         requires { CanFlush (flush_step frame.old.local frame.old.freed.items) self.old frame.old }
-        ensures { (g : StepGiven) × FlushTold (flush_step frame.old.local frame.old.freed.items) g frame.old.local × FlushPlanned (flush_step frame.old.local frame.old.freed.items) g frame.old.local × (◌≡◌ {A = After P} (record { core = self.new; frame = frame.new; outcome = result }) (stepped (flush_row (flush_step frame.old.local frame.old.freed.items) g.queue self.old frame.old))) }
+        ensures { (g : StepGiven H) × FlushTold (flush_step frame.old.local frame.old.freed.items) g frame.old.local × FlushPlanned (flush_step frame.old.local frame.old.freed.items) g frame.old.local × (◌≡◌ {A = After P H} (record { core = self.new; frame = frame.new; outcome = result }) (stepped (flush_row (flush_step frame.old.local frame.old.freed.items) g.queue self.old frame.old))) }
     {
         if frame.local.raw_len() > 0 {
             return self.decommit(alloc, frame);
@@ -45,7 +47,12 @@ impl<P: Pages> PoolCore<P> {
     }
 
     // The same where no ranges are left: the slots of one kind are zeroed where that has to be, put back and freed.
-    fn settle(&mut self, alloc: Global, frame: &mut Frame<P>, kind: SlotKind) -> Option<Outcome<P>>
+    fn settle(
+        &mut self,
+        alloc: Global,
+        frame: &mut Frame<P, H>,
+        kind: SlotKind,
+    ) -> Option<Outcome<P, H>>
         requires none { frame.old.local.ranges ≡ [] }
         requires can { CanFlush (settled_step kind frame.old.local.slots) self.old frame.old }
         ensures { SettlesTo (settled_step kind frame.old.local.slots) self.old frame.old (record { core = self.new; frame = frame.new; outcome = result }) }
@@ -60,9 +67,9 @@ impl<P: Pages> PoolCore<P> {
     fn put_next(
         &mut self,
         alloc: Global,
-        frame: &mut Frame<P>,
+        frame: &mut Frame<P, H>,
         kind: SlotKind,
-    ) -> Option<Outcome<P>>
+    ) -> Option<Outcome<P, H>>
         requires none { frame.old.local.ranges ≡ [] }
         requires can { CanFlush (put_step kind frame.old.local.slots) self.old frame.old }
         ensures { SettlesTo (put_step kind frame.old.local.slots) self.old frame.old (record { core = self.new; frame = frame.new; outcome = result }) }
@@ -74,10 +81,10 @@ impl<P: Pages> PoolCore<P> {
     }
 
     // Decommits the next ranges of one slot.
-    fn decommit(&mut self, alloc: Global, frame: &mut Frame<P>) -> Option<Outcome<P>>
+    fn decommit(&mut self, alloc: Global, frame: &mut Frame<P, H>) -> Option<Outcome<P, H>>
         requires some { 0 < length frame.old.local.ranges }
         requires owners { HasOwners frame.old.local }
-        ensures { (fault : Bool) × (queue : Queue) × Decommits fault frame.old.local queue × FollowsRun fault frame.old.local queue × (◌≡◌ {A = After P} (record { core = self.new; frame = frame.new; outcome = result }) (stepped (decommit_row queue self.old frame.old))) }
+        ensures { (fault : Bool) × (queue : Queue) × Decommits fault frame.old.local queue × FollowsRun fault frame.old.local queue × (◌≡◌ {A = After P H} (record { core = self.new; frame = frame.new; outcome = result }) (stepped (decommit_row queue self.old frame.old))) }
     {
         let _fault = frame.local.decommit_run().is_err();
         frame.flush(alloc)
@@ -87,14 +94,14 @@ impl<P: Pages> PoolCore<P> {
     fn put_region(
         &mut self,
         alloc: Global,
-        frame: &mut Frame<P>,
+        frame: &mut Frame<P, H>,
         item: QueuedSlot<P>,
-    ) -> Option<Outcome<P>>
+    ) -> Option<Outcome<P, H>>
         requires place { CanPlace self.old.plan item.name }
         requires cell { IsAt IsCellPart (cell_place self.old.plan item.name) self.old.parts }
         requires settled { IsSettled item }
         requires room { length frame.old.freed.items < frame.old.freed.room }
-        ensures { ◌≡◌ {A = After P} (record { core = self.new; frame = frame.new; outcome = result }) (stepped (in_cell item.name self.old (region_put item (cell_named item.name self.old) frame.old))) }
+        ensures { ◌≡◌ {A = After P H} (record { core = self.new; frame = frame.new; outcome = result }) (stepped (in_cell item.name self.old (region_put item (cell_named item.name self.old) frame.old))) }
     {
         let place = self.plan.cell_place(item.name());
         let part = self.parts.at(place);
@@ -102,10 +109,10 @@ impl<P: Pages> PoolCore<P> {
     }
 
     // Frees the slots of the first shard that has some of them.
-    fn free(&mut self, alloc: Global, frame: &mut Frame<P>) -> Option<Outcome<P>>
+    fn free(&mut self, alloc: Global, frame: &mut Frame<P, H>) -> Option<Outcome<P, H>>
         requires shard { IsAt IsShardPart (first_shard self.old.plan frame.old.freed.items) self.old.parts }
         requires can { CanFree self.old.plan frame.old.freed.items (shard_at (first_shard self.old.plan frame.old.freed.items) self.old) }
-        ensures { ◌≡◌ {A = After P} (record { core = self.new; frame = frame.new; outcome = result }) (stepped (free_row self.old frame.old)) }
+        ensures { ◌≡◌ {A = After P H} (record { core = self.new; frame = frame.new; outcome = result }) (stepped (free_row self.old frame.old)) }
     {
         let place = first_shard(&self.plan, &frame.freed);
         let part = self.parts.at(place);

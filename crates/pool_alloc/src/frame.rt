@@ -1,3 +1,4 @@
+use crate::heap_lease::HeapLease;
 use crate::lease::{InstanceLease, MemoryLease};
 use crate::purge::{PurgeCursor, PurgeStep};
 use crate::release::ReleaseStep;
@@ -5,8 +6,8 @@ use crate::reserved::ReservedList;
 use crate::stack_lease::StackLease;
 use crate::table_lease::TableLease;
 use pool_images::{MemoryImageSlot, ModuleMemoryImages};
-use pool_pages::{CompiledModuleId, ComponentInfo, ModuleInfo, PageRegion, Pages};
-use pool_slots::{AllocError, DecommitQueue, ImageSlot, RegionNumbers, SlotName};
+use pool_pages::{CompiledModuleId, ComponentInfo, MemoryType, ModuleInfo, PageRegion, Pages};
+use pool_slots::{AllocError, DecommitQueue, GcHeap, ImageSlot, RegionNumbers, SlotName};
 use std::marker::Model;
 use std::sync::Arc;
 
@@ -32,16 +33,18 @@ impl Model for ModuleCall {
 
 /// What a party holds after a call that was granted.
 #[derive(Drop)]
-pub enum Grant<P: Pages> {
+pub enum Grant<P: Pages, H: GcHeap> {
     Instance(InstanceLease<P>),
     /// It holds nothing, and counts.
     Component,
     Stack(StackLease<P>),
+    /// A heap, and the memory that it lies in.
+    Heap(HeapLease<H>, MemoryLease<P>),
 }
 
 /// A call of a party on the core.
 #[derive(Drop)]
-pub enum Call<P: Pages> {
+pub enum Call<P: Pages, H: GcHeap> {
     /// Gives the party its stripe.
     Key,
     /// Asks for an instance.
@@ -50,7 +53,9 @@ pub enum Call<P: Pages> {
     Component(ComponentInfo),
     /// Asks for a fiber's stack.
     Stack,
-    GiveBack(Grant<P>),
+    /// Asks for a heap of a garbage collector, with a memory of this type.
+    Heap(MemoryType),
+    GiveBack(Grant<P, H>),
     /// Forgets what warm slots hold of a compiled module.
     Purge(CompiledModuleId),
     /// Gives the memory back that warm slots keep resident.
@@ -59,9 +64,9 @@ pub enum Call<P: Pages> {
 
 /// The answer to a call, which comes with its last step.
 #[derive(Drop)]
-pub enum Outcome<P: Pages> {
+pub enum Outcome<P: Pages, H: GcHeap> {
     Key,
-    Granted(Grant<P>),
+    Granted(Grant<P, H>),
     Returned,
     /// How many slots were purged.
     Purged(u64),
@@ -70,13 +75,15 @@ pub enum Outcome<P: Pages> {
     Refused(AllocError),
 }
 
-/// What a call is about: what it asks for, or the stack that it gives back.
+/// What a call is about: what it asks for, or the stack or the heap that it gives back.
 #[derive(Drop)]
 pub enum Asked {
     /// An instance is given back, or nothing is asked for.
     Nothing,
     Module(ModuleCall),
     Stack,
+    /// A heap with a memory of this type.
+    Heap(MemoryType),
 }
 
 /// What a call is to end with, as far as it went. A step that fails sets it.
@@ -111,7 +118,7 @@ pub enum Object<P: Pages> {
 
 /// The step that a party makes next, with what it has taken for it.
 #[derive(Drop)]
-pub enum Phase<P: Pages> {
+pub enum Phase<P: Pages, H: GcHeap> {
     /// No call is under way.
     Idle,
     /// Draw a number from the key counter.
@@ -120,6 +127,8 @@ pub enum Phase<P: Pages> {
     Validate,
     /// Test whether stacks are enabled.
     TestStack,
+    /// Test whether there is a collector, and the type of the heap's memory, and reserve the list for the memory.
+    TestHeap,
     CountInstance,
     /// Pick a slot from the shard that is so many after the home shard.
     Pick(u32),
@@ -134,12 +143,25 @@ pub enum Phase<P: Pages> {
     /// Ask the limiter, and make the table.
     MakeTable(TakenSlot, PageRegion<P>),
     CountObject(Object<P>),
+    /// Take the heap of a slot out of the list of heaps, where the slot has one.
+    TakeHeap(SlotName),
+    /// Make a heap for a slot that had none.
+    MakeHeap(TakenSlot),
+    CountHeap(HeapLease<H>),
+    /// Put a slot back into the list of heaps for which no heap could be made.
+    PutNoHeap(TakenSlot),
     /// Put the region of a slot back after a failure. Nothing is known of a memory's.
     PutBack(TakenSlot, ImageSlot<P>),
     /// Free the slot then.
     FreeOne(SlotName),
     /// Count what is given back as no grant any more.
     UncountObject(Object<P>),
+    /// Count a heap as no grant any more. This is its memory.
+    UncountHeap(HeapLease<H>, MemoryLease<P>),
+    /// Put it back into the list of heaps.
+    PutHeap(HeapLease<H>, MemoryLease<P>),
+    /// Free its slot then.
+    FreeHeap(SlotName, MemoryLease<P>),
     Reset(Object<P>),
     /// Append the local queue to the home queue.
     Merge,
@@ -158,9 +180,16 @@ pub enum Phase<P: Pages> {
     Release(ReleaseStep<P>),
 }
 
+/// What a frame reserves, so that its steps take no memory: its queue, and the list of slots that it is to free.
+#[derive(Drop)]
+pub struct FrameLists<P: Pages> {
+    pub local: DecommitQueue<P>,
+    pub freed: ReservedList<FreedSlot>,
+}
+
 /// A party's place in the core: its home, its stripe, a queue of its own, and what its call has picked or taken.
 #[derive(Drop)]
-pub struct Frame<P: Pages> {
+pub struct Frame<P: Pages, H: GcHeap> {
     /// The number of the party's home, of which its home shard and its home queue follow.
     pub home: u32,
     /// The stripe in which the party's memories lie.
@@ -177,7 +206,7 @@ pub struct Frame<P: Pages> {
     pub local: DecommitQueue<P>,
     /// The slots whose regions are back in their cells, and which aren't free yet.
     pub freed: ReservedList<FreedSlot>,
-    pub phase: Phase<P>,
+    pub phase: Phase<P, H>,
     /// How many steps the call under way made so far, or the last one. Counts modulo 2^64.
     pub step_count: u64,
 }

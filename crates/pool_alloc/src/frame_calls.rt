@@ -5,7 +5,7 @@ ghost use Rattle.pool_alloc.specs.Sound.{IsFrame};
 ghost use Rattle.pool_slots.specs.declared.plan.Plan.{Plan};
 ghost use Rattle.pool_alloc.specs.declared.pool_core.Settings.{Settings};
 ghost use Rattle.pool_alloc.specs.Sums.{calls_in_frame, calls_in_phase, calls_of_object};
-ghost use Rattle.pool_alloc.specs.Steps.{memories_wanted, wanted, tables_wanted, stacks_wanted, kind_next, wanted_of};
+ghost use Rattle.pool_alloc.specs.Steps.{memories_wanted, wanted, tables_wanted, stacks_wanted, heaps_wanted, kind_last, kind_next, wanted_of};
 ghost use Rattle.pool_alloc.specs.Objects.{objects_wanted};
 
 use crate::frame::{Asked, Call, Ending, Frame, Grant, Object, Phase};
@@ -13,10 +13,11 @@ use crate::purge::{PurgeCursor, PurgeStep};
 use crate::release::ReleaseStep;
 use pool_index::{MemoryInModule, SlotKind};
 use pool_pages::{DefinedMemoryIndex, PageCalls, Pages};
+use pool_slots::GcHeap;
 
-impl<P: Pages> Frame<P> {
+impl<P: Pages, H: GcHeap> Frame<P, H> {
     /// Begins a call. Takes no memory.
-    pub fn begin(&mut self, call: Call<P>)
+    pub fn begin(&mut self, call: Call<P, H>)
         requires { IsIdle self.old }
         ensures value { self.new ≡ begun_call call self.old }
         ensures sound { (maker : MakerTold) (s : Settings) (plan : Plan) → IsFrame maker s plan self.old → MayBegin maker s plan call self.old → IsFrame maker s plan self.new }
@@ -45,6 +46,13 @@ impl<P: Pages> Frame<P> {
                 self.enter(Phase::TestStack);
                 self.step_count = 0;
             }
+            Call::Heap(ty) => {
+                self.asked = Asked::Heap(ty);
+                self.ending = Ending::Granted;
+                self.queues = 0;
+                self.enter(Phase::TestHeap);
+                self.step_count = 0;
+            }
             Call::GiveBack(grant) => self.give_back(grant),
             Call::Purge(id) => {
                 self.enter(Phase::Purge(PurgeCursor::new(id), PurgeStep::Pick(0)));
@@ -58,8 +66,8 @@ impl<P: Pages> Frame<P> {
     }
 
     // The objects of an instance are given back in order, and then the instance. A component is counted off, and a stack is given
-    // back at once.
-    fn give_back(&mut self, grant: Grant<P>)
+    // back at once. A heap is given back, and then its memory.
+    fn give_back(&mut self, grant: Grant<P, H>)
         ensures { self.new ≡ gives_back grant self.old }
     {
         match grant {
@@ -79,6 +87,12 @@ impl<P: Pages> Frame<P> {
                 self.asked = Asked::Stack;
                 self.ending = Ending::Returned;
                 self.enter(Phase::UncountObject(Object::Stack(lease)));
+                self.step_count = 0;
+            }
+            Grant::Heap(lease, memory) => {
+                self.asked = Asked::Heap(*memory.memory.ty());
+                self.ending = Ending::Returned;
+                self.enter(Phase::UncountHeap(lease, memory));
                 self.step_count = 0;
             }
         }
@@ -105,6 +119,7 @@ impl<P: Pages> Frame<P> {
     {
         match &self.asked {
             Asked::Module(call) => call.info.memories.len(),
+            Asked::Heap(_) => 1,
             _ => 0,
         }
     }
@@ -128,14 +143,26 @@ impl<P: Pages> Frame<P> {
         }
     }
 
+    // Whether a heap is, likewise.
+    fn heaps_wanted(&self) -> u128
+        ensures { result ≡ heaps_wanted self.now.asked }
+    {
+        match &self.asked {
+            Asked::Heap(_) => 1,
+            _ => 0,
+        }
+    }
+
     // How many objects the request is for.
     pub(crate) fn objects_wanted(&self) -> u128
         ensures { result ≡ objects_wanted self.now.asked }
     {
-        self.memories_wanted() as u128 + self.tables_wanted() as u128 + self.stacks_wanted()
+        let memories = self.memories_wanted() as u128;
+        let tables = self.tables_wanted() as u128;
+        memories + tables + self.stacks_wanted() + self.heaps_wanted()
     }
 
-    // What is allocated: a stack, or for a module a memory until there are all, and then a table.
+    // What is allocated: a stack, or a memory until there are all, and then a table or the heap.
     pub(crate) fn kind_next(&self) -> SlotKind
         ensures { result ≡ kind_next self.now }
     {
@@ -146,12 +173,21 @@ impl<P: Pages> Frame<P> {
     }
 
     fn object_next(&self) -> SlotKind
-        ensures { result ≡ (if nat_lt (length self.now.objects.memories.items) (length (memories_wanted self.now.asked)) then SlotKind.Memory else SlotKind.Table) }
+        ensures { result ≡ (if nat_lt (length self.now.objects.memories.items) (length (memories_wanted self.now.asked)) then SlotKind.Memory else kind_last self.now.asked) }
     {
         if self.objects.memories.len() < self.memories_wanted() {
             SlotKind::Memory
         } else {
-            SlotKind::Table
+            self.kind_last()
+        }
+    }
+
+    fn kind_last(&self) -> SlotKind
+        ensures { result ≡ kind_last self.now.asked }
+    {
+        match &self.asked {
+            Asked::Heap(_) => SlotKind::Heap,
+            _ => SlotKind::Table,
         }
     }
 
@@ -178,7 +214,7 @@ impl<P: Pages> Frame<P> {
     }
 }
 
-impl<P: Pages> Phase<P> {
+impl<P: Pages, H: GcHeap> Phase<P, H> {
     // The calls made so far on the region that the next step is made on.
     fn page_calls(&self) -> PageCalls
         ensures { result ≡ calls_in_phase self.now }
@@ -191,6 +227,9 @@ impl<P: Pages> Phase<P> {
             Phase::PutBack(_, held) => held.page_calls(),
             Phase::CountObject(object) => object.page_calls(),
             Phase::UncountObject(object) => object.page_calls(),
+            Phase::UncountHeap(_, memory) => memory.page_calls(),
+            Phase::PutHeap(_, memory) => memory.page_calls(),
+            Phase::FreeHeap(_, memory) => memory.page_calls(),
             Phase::Reset(object) => object.page_calls(),
             Phase::Purge(_, step) => step.page_calls(),
             Phase::Release(step) => step.page_calls(),

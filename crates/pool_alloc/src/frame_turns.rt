@@ -7,12 +7,12 @@ use crate::frame::{Asked, Ending, Frame, Grant, Object, Outcome, Phase};
 use crate::lease::InstanceLease;
 use pool_index::SlotKind;
 use pool_pages::Pages;
-use pool_slots::{AllocError, Allocator, ConcurrencyKind, Plan, PoolConcurrencyLimitError};
+use pool_slots::{AllocError, Allocator, ConcurrencyKind, GcHeap, Plan, PoolConcurrencyLimitError};
 use std::alloc::Global;
 use std::mem;
 
 // How a step's turn takes the call on. A turn changes no part of the pool.
-impl<P: Pages> Frame<P> {
+impl<P: Pages, H: GcHeap> Frame<P, H> {
     // The call fails: what it was granted so far is what it gives back.
     pub(crate) fn fail(&mut self, error: AllocError)
         ensures { self.new ≡ failing error self.old }
@@ -21,8 +21,8 @@ impl<P: Pages> Frame<P> {
     }
 
     // The call goes on with this phase.
-    pub(crate) fn go(&mut self, phase: Phase<P>) -> Option<Outcome<P>>
-        ensures { ◌≡◌ {A = Left P} (record { frame = self.new; outcome = result }) (goes_to self.old phase) }
+    pub(crate) fn go(&mut self, phase: Phase<P, H>) -> Option<Outcome<P, H>>
+        ensures { ◌≡◌ {A = Left P H} (record { frame = self.new; outcome = result }) (goes_to self.old phase) }
     {
         self.step_count = self.step_count.wrapping_add(1);
         self.enter(phase);
@@ -31,7 +31,7 @@ impl<P: Pages> Frame<P> {
 
     // The phase is this one. A step has taken the one before out, so that there is nothing to drop, and no room for it is
     // prepared.
-    pub(crate) fn enter(&mut self, phase: Phase<P>)
+    pub(crate) fn enter(&mut self, phase: Phase<P, H>)
         ensures { self.new ≡ record self.old { phase = phase } }
     {
         match mem::replace(&mut self.phase, phase) {
@@ -41,8 +41,8 @@ impl<P: Pages> Frame<P> {
     }
 
     // The call ends with this answer, and leaves nothing of itself but the number of its steps.
-    pub(crate) fn end(&mut self, outcome: Outcome<P>) -> Option<Outcome<P>>
-        ensures { ◌≡◌ {A = Left P} (record { frame = self.new; outcome = result }) (ends_with self.old outcome) }
+    pub(crate) fn end(&mut self, outcome: Outcome<P, H>) -> Option<Outcome<P, H>>
+        ensures { ◌≡◌ {A = Left P H} (record { frame = self.new; outcome = result }) (ends_with self.old outcome) }
     {
         self.step_count = self.step_count.wrapping_add(1);
         self.enter(Phase::Idle);
@@ -53,8 +53,8 @@ impl<P: Pages> Frame<P> {
     }
 
     // What the ending says is next.
-    pub(crate) fn next(&mut self, alloc: Global) -> Option<Outcome<P>>
-        ensures { ◌≡◌ {A = Left P} (record { frame = self.new; outcome = result }) (after self.old next) }
+    pub(crate) fn next(&mut self, alloc: Global) -> Option<Outcome<P, H>>
+        ensures { ◌≡◌ {A = Left P H} (record { frame = self.new; outcome = result }) (after self.old next) }
     {
         match self.ending {
             Ending::Granted => self.grant_next(alloc),
@@ -64,8 +64,8 @@ impl<P: Pages> Frame<P> {
     }
 
     // A slot is picked for the next object of the instance, or the instance is granted.
-    fn grant_next(&mut self, alloc: Global) -> Option<Outcome<P>>
-        ensures { ◌≡◌ {A = Left P} (record { frame = self.new; outcome = result }) (granted_next self.old) }
+    fn grant_next(&mut self, alloc: Global) -> Option<Outcome<P, H>>
+        ensures { ◌≡◌ {A = Left P H} (record { frame = self.new; outcome = result }) (granted_next self.old) }
     {
         let granted = self.objects.memories.len() as u128 + self.objects.tables.len() as u128;
         if granted < self.objects_wanted() {
@@ -76,8 +76,8 @@ impl<P: Pages> Frame<P> {
     }
 
     // The next object is given back, or else the instance.
-    pub(crate) fn return_next(&mut self) -> Option<Outcome<P>>
-        ensures { ◌≡◌ {A = Left P} (record { frame = self.new; outcome = result }) (returned_next self.old.objects.memories.items self.old.objects.tables.items self.old) }
+    pub(crate) fn return_next(&mut self) -> Option<Outcome<P, H>>
+        ensures { ◌≡◌ {A = Left P H} (record { frame = self.new; outcome = result }) (returned_next self.old.objects.memories.items self.old.objects.tables.items self.old) }
     {
         match self.objects.memories.pop_first() {
             Some(lease) => self.go(Phase::UncountObject(Object::Memory(lease))),
@@ -86,8 +86,8 @@ impl<P: Pages> Frame<P> {
     }
 
     // The same where no memory is left.
-    fn return_table(&mut self) -> Option<Outcome<P>>
-        ensures { ◌≡◌ {A = Left P} (record { frame = self.new; outcome = result }) (returned_next [] self.old.objects.tables.items self.old) }
+    fn return_table(&mut self) -> Option<Outcome<P, H>>
+        ensures { ◌≡◌ {A = Left P H} (record { frame = self.new; outcome = result }) (returned_next [] self.old.objects.tables.items self.old) }
     {
         match self.objects.tables.pop_first() {
             Some(lease) => self.go(Phase::UncountObject(Object::Table(lease))),
@@ -95,19 +95,19 @@ impl<P: Pages> Frame<P> {
         }
     }
 
-    // Where no object is left, the instance is given back. A call for a stack counts none, and ends.
-    fn return_all(&mut self) -> Option<Outcome<P>>
-        ensures { ◌≡◌ {A = Left P} (record { frame = self.new; outcome = result }) (all_returned self.old.asked self.old) }
+    // Where no object is left, the instance is given back. A call for a stack or a heap counts none, and ends.
+    fn return_all(&mut self) -> Option<Outcome<P, H>>
+        ensures { ◌≡◌ {A = Left P H} (record { frame = self.new; outcome = result }) (all_returned self.old.asked self.old) }
     {
         match &self.asked {
-            Asked::Stack => self.end(answer_of(self.ending)),
+            Asked::Stack | Asked::Heap(_) => self.end(answer_of(self.ending)),
             _ => self.go(Phase::UncountInstance),
         }
     }
 
     // The next part of a flush, or what is next once it is done.
-    pub(crate) fn flush(&mut self, alloc: Global) -> Option<Outcome<P>>
-        ensures { ◌≡◌ {A = Left P} (record { frame = self.new; outcome = result }) (after self.old flush) }
+    pub(crate) fn flush(&mut self, alloc: Global) -> Option<Outcome<P, H>>
+        ensures { ◌≡◌ {A = Left P H} (record { frame = self.new; outcome = result }) (after self.old flush) }
     {
         if self.is_flushed() {
             return self.next(alloc);
@@ -115,27 +115,27 @@ impl<P: Pages> Frame<P> {
         self.go(Phase::Flush)
     }
 
-    fn is_flushed(&self) -> bool
+    pub(crate) fn is_flushed(&self) -> bool
         ensures { result ≡ is_flushed self.now }
     {
         self.local.is_empty() && self.freed.is_empty()
     }
 
     // The search for a slot goes on.
-    pub(crate) fn search_slot(&mut self, plan: &Plan) -> Option<Outcome<P>>
+    pub(crate) fn search_slot(&mut self, plan: &Plan) -> Option<Outcome<P, H>>
         requires { HasAllocators plan.now self.old.stripe }
-        ensures { ◌≡◌ {A = Left P} (record { frame = self.new; outcome = result }) (after self.old (slot_search plan.now self.old)) }
+        ensures { ◌≡◌ {A = Left P H} (record { frame = self.new; outcome = result }) (after self.old (slot_search plan.now self.old)) }
     {
         let refusal = AllocError::Limit(PoolConcurrencyLimitError {
             limit: self.allocator(plan).capacity as usize,
             kind: limit_of(self.kind_next(), self.stripe),
         });
-        self.search(plan.queues_for(SlotKind::Memory), refusal)
+        self.search(plan.queues_for(self.kind_next()), refusal)
     }
 
     // The next queue of a search through so many, or this refusal after the last.
-    fn search(&mut self, queues: u32, refusal: AllocError) -> Option<Outcome<P>>
-        ensures { ◌≡◌ {A = Left P} (record { frame = self.new; outcome = result }) (after self.old (search queues refusal)) }
+    fn search(&mut self, queues: u32, refusal: AllocError) -> Option<Outcome<P, H>>
+        ensures { ◌≡◌ {A = Left P H} (record { frame = self.new; outcome = result }) (after self.old (search queues refusal)) }
     {
         if self.queues < queues {
             return self.go(Phase::TakeQueue);
@@ -152,13 +152,14 @@ impl<P: Pages> Frame<P> {
         match self.kind_next() {
             SlotKind::Table => plan.tables.as_slice()[0],
             SlotKind::Stack => plan.stacks.as_slice()[0],
+            SlotKind::Heap => plan.heaps.as_slice()[0],
             _ => plan.memories.as_slice()[self.stripe as usize],
         }
     }
 }
 
 // The answer that a call ends with once all is given back.
-pub(crate) fn answer_of<P: Pages>(ending: Ending) -> Outcome<P>
+pub(crate) fn answer_of<P: Pages, H: GcHeap>(ending: Ending) -> Outcome<P, H>
     ensures { result ≡ answer_of ending }
 {
     match ending {
@@ -174,13 +175,14 @@ fn limit_of(kind: SlotKind, stripe: u32) -> ConcurrencyKind
     match kind {
         SlotKind::Table => ConcurrencyKind::Tables,
         SlotKind::Stack => ConcurrencyKind::Fibers,
+        SlotKind::Heap => ConcurrencyKind::GcHeaps,
         _ => ConcurrencyKind::MemoryStripe(stripe),
     }
 }
 
-// Drops a phase that was left before it was over.
+// Drops a phase that was left before it was over, or that isn't entered.
 #[cold]
 #[inline(never)]
-fn drop_phase<P: Pages>(left: Phase<P>) {
+pub(crate) fn drop_phase<P: Pages, H: GcHeap>(left: Phase<P, H>) {
     mem::drop(left);
 }

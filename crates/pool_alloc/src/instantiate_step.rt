@@ -14,7 +14,7 @@ use crate::frame::{Asked, Frame, ModuleCall, Outcome, Phase, TakenSlot};
 use crate::pool_core::PoolCore;
 use pool_images::{MemoryImage, MemoryImageSlot};
 use pool_pages::{DefinedMemoryIndex, MemoryTunables, MemoryType, Pages};
-use pool_slots::{AllocError, ImageSlot};
+use pool_slots::{AllocError, GcHeap, ImageSlot};
 use std::sync::Arc;
 
 impl ModuleCall {
@@ -31,18 +31,19 @@ impl ModuleCall {
     }
 }
 
-impl<P: Pages> PoolCore<P> {
+impl<P: Pages, H: GcHeap> PoolCore<P, H> {
     // Instantiates an image slot for the memory that is allocated.
+    #[inline(never)]
     pub(crate) fn instantiate(
         &mut self,
-        frame: &mut Frame<P>,
+        frame: &mut Frame<P, H>,
         at: TakenSlot,
         held: MemoryImageSlot<P>,
-    ) -> Option<Outcome<P>>
+    ) -> Option<Outcome<P, H>>
         requires next { HasNext frame.old.asked (length frame.old.objects.memories.items) }
         requires clean { IsClean held }
         requires can { IfAllocated frame.old (CanBegin held (image_wanted frame.old)) }
-        ensures { (fault : Bool) × (after : Slot) × IfAllocated frame.old (λ decl. InstantiatesFor self.old.settings decl fault (image_wanted frame.old) held after) × IfAllocated frame.old (λ decl. FollowsPlanFor self.old.settings decl fault (image_wanted frame.old) held after) × (◌≡◌ {A = After P} (record { core = self.new; frame = frame.new; outcome = result }) (stepped (instantiate_row fault after at self.old frame.old))) }
+        ensures { (fault : Bool) × (after : Slot) × IfAllocated frame.old (λ decl. InstantiatesFor self.old.settings decl fault (image_wanted frame.old) held after) × IfAllocated frame.old (λ decl. FollowsPlanFor self.old.settings decl fault (image_wanted frame.old) held after) × (◌≡◌ {A = After P H} (record { core = self.new; frame = frame.new; outcome = result }) (stepped (instantiate_row fault after at self.old frame.old))) }
     {
         let mut held = held;
         let fault = self.begin(frame, &mut held);
@@ -50,7 +51,7 @@ impl<P: Pages> PoolCore<P> {
     }
 
     // Whether a page call failed.
-    fn begin(&self, frame: &Frame<P>, held: &mut MemoryImageSlot<P>) -> bool
+    fn begin(&self, frame: &Frame<P, H>, held: &mut MemoryImageSlot<P>) -> bool
         requires next { HasNext frame.now.asked (length frame.now.objects.memories.items) }
         requires clean { IsClean held.old }
         requires can { IfAllocated frame.now (CanBegin held.old (image_wanted frame.now)) }
@@ -65,6 +66,7 @@ impl<P: Pages> PoolCore<P> {
                 let image = call.image(memory);
                 begin_memory(&decl.ty, &self.settings.tunables, image, held)
             }
+            Asked::Heap(ty) => begin_memory(ty, &self.settings.tunables, None, held),
         }
     }
 }
@@ -92,13 +94,13 @@ fn begin_memory<P: Pages>(
 }
 
 // What comes after an instantiation.
-fn begun<P: Pages>(
-    frame: &mut Frame<P>,
+fn begun<P: Pages, H: GcHeap>(
+    frame: &mut Frame<P, H>,
     fault: bool,
     at: TakenSlot,
     held: MemoryImageSlot<P>,
-) -> Option<Outcome<P>>
-    ensures { (c : PoolCore P) → ◌≡◌ {A = After P} (record { core = c; frame = frame.new; outcome = result }) (stepped (instantiate_row fault held at c frame.old)) }
+) -> Option<Outcome<P, H>>
+    ensures { (c : PoolCore P H) → ◌≡◌ {A = After P H} (record { core = c; frame = frame.new; outcome = result }) (stepped (instantiate_row fault held at c frame.old)) }
 {
     let mut held = held;
     if fault {

@@ -3,6 +3,7 @@
 
 mod allocate_steps;
 mod cell_steps;
+mod closing;
 mod component_steps;
 mod flush_steps;
 mod frame;
@@ -10,6 +11,8 @@ mod frame_calls;
 mod frame_turns;
 mod freeing;
 mod given_answer;
+mod heap_lease;
+mod heap_steps;
 mod holders;
 mod instance_allocator;
 mod instantiate_step;
@@ -55,7 +58,10 @@ mod validate_step;
 mod validations;
 mod warm_slots;
 
-pub use frame::{Asked, Call, Frame, Grant, ModuleCall, Object, Outcome, Phase, TakenSlot};
+pub use frame::{
+    Asked, Call, Frame, FrameLists, Grant, ModuleCall, Object, Outcome, Phase, TakenSlot,
+};
+pub use heap_lease::HeapLease;
 pub use instance_allocator::InstanceAllocator;
 pub use lease::{InstanceLease, MemoryLease};
 pub use metrics::Metrics;
@@ -71,5 +77,6 @@ pub use request::InstanceAllocationRequest;
 pub use reserved::ReservedList;
 pub use size_rules::instance_size;
 pub use stack_lease::StackLease;
-pub use table_element::Element;
+pub use table_element::{Element, element_at, set_elements};
 pub use table_lease::TableLease;
+pub use validate_step::offsets_refused;

@@ -22,23 +22,24 @@ use pool_images::MemoryImageSlot;
 use pool_limits::ResourceLimiter;
 use pool_memory::{Memory, MemoryError, StaticMemory};
 use pool_pages::{MemoryType, Pages};
-use pool_slots::{AllocError, ImageSlot, MemoryAllocationIndex};
+use pool_slots::{AllocError, GcHeap, ImageSlot, MemoryAllocationIndex};
 
 // A memory in its slot, or the slot of a memory that is refused.
 type Making<P> = Result<Memory<(), StaticMemory<P>>, (MemoryImageSlot<P>, MemoryError)>;
 
-impl<P: Pages> PoolCore<P> {
+impl<P: Pages, H: GcHeap> PoolCore<P, H> {
     // Asks the limiter, and makes the memory.
+    #[inline(never)]
     pub(crate) fn make_memory<L: ResourceLimiter>(
         &mut self,
-        frame: &mut Frame<P>,
+        frame: &mut Frame<P, H>,
         at: TakenSlot,
         held: MemoryImageSlot<P>,
         limiter: &mut L,
-    ) -> Option<Outcome<P>>
+    ) -> Option<Outcome<P, H>>
         requires next { HasNext frame.old.asked (length frame.old.objects.memories.items) }
         requires can { IfAllocated frame.old (CanMake self.old.settings held) }
-        ensures { (answer : Result Bool LimiterError) × IfAllocated frame.old (AsksForMemory answer (L.told limiter.old) (L.told limiter.new)) × IfAllocated frame.old (λ decl. Exchanged L.leads (may_grow (minimum_question decl.ty) answer ∷ []) limiter.old limiter.new) × (◌≡◌ {A = After P} (record { core = self.new; frame = frame.new; outcome = result }) (stepped (make_memory_row answer at held self.old frame.old))) }
+        ensures { (answer : Result Bool LimiterError) × IfAllocated frame.old (AsksForMemory answer (L.told limiter.old) (L.told limiter.new)) × IfAllocated frame.old (λ decl. Exchanged L.leads (may_grow (minimum_question decl.ty) answer ∷ []) limiter.old limiter.new) × (◌≡◌ {A = After P H} (record { core = self.new; frame = frame.new; outcome = result }) (stepped (make_memory_row answer at held self.old frame.old))) }
     {
         let making = self.make(frame, held, limiter);
         was_made(frame, at, making)
@@ -47,7 +48,7 @@ impl<P: Pages> PoolCore<P> {
     // The memory that is allocated.
     fn make<L: ResourceLimiter>(
         &self,
-        frame: &Frame<P>,
+        frame: &Frame<P, H>,
         held: MemoryImageSlot<P>,
         limiter: &mut L,
     ) -> Making<P>
@@ -64,6 +65,7 @@ impl<P: Pages> PoolCore<P> {
                 let decl = &call.info.memories.as_slice()[memory];
                 make_memory(&decl.ty, &self.settings, held, limiter)
             }
+            Asked::Heap(ty) => make_memory(ty, &self.settings, held, limiter),
         }
     }
 }
@@ -93,8 +95,12 @@ fn make_memory<P: Pages, L: ResourceLimiter>(
 }
 
 // What comes after a making.
-fn was_made<P: Pages>(frame: &mut Frame<P>, at: TakenSlot, making: Making<P>) -> Option<Outcome<P>>
-    ensures { (c : PoolCore P) → ◌≡◌ {A = After P} (record { core = c; frame = frame.new; outcome = result }) (stepped (made_by at making c frame.old)) }
+fn was_made<P: Pages, H: GcHeap>(
+    frame: &mut Frame<P, H>,
+    at: TakenSlot,
+    making: Making<P>,
+) -> Option<Outcome<P, H>>
+    ensures { (c : PoolCore P H) → ◌≡◌ {A = After P H} (record { core = c; frame = frame.new; outcome = result }) (stepped (made_by at making c frame.old)) }
 {
     let phase = match making {
         Ok(memory) => Phase::CountObject(Object::Memory(MemoryLease {

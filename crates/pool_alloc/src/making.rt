@@ -4,12 +4,12 @@ ghost use Rattle.pool_pages.specs.MakerTold.{MakerTold};
 ghost use Rattle.pool_pages.specs.SettingsRules.{first_broken_rule, slab_stripes, IsWithinRules};
 ghost use Rattle.pool_slots.specs.Colourings.{RaisesUnlessGivenUp, RaisesBehindUnlessGivenUp};
 ghost use Rattle.pool_slots.specs.Makings.{IsListedPoolFault};
-ghost use Rattle.pool_alloc.specs.Calls.{frame_made};
+ghost use Rattle.pool_alloc.specs.Calls.{frame_made, frame_over, lists_made};
 ghost use Rattle.pool_alloc.specs.Made.{settings_of, slots_of, part_settings, lists_making, fails_slots, GivesUpRegion, IsMadeCore, IsRefusedFor, CountsFault, NeedsFault, NeedsListed};
 ghost use Rattle.pool_alloc.specs.Sound.{IsCore, IsFrame};
 ghost use Rattle.pool_alloc.specs.Whole.{IsUntouched};
 
-use crate::frame::{Asked, Ending, Frame, Phase};
+use crate::frame::{Asked, Ending, Frame, FrameLists, Phase};
 use crate::lease::InstanceLease;
 use crate::parts::Parts;
 use crate::pool_core::{Counters, PoolCore, Settings};
@@ -20,18 +20,18 @@ use pool_pages::{
     PoolingAllocationConfig, Tunables,
 };
 use pool_slots::{
-    DecommitQueue, OfKinds, PartSettings, PoolNewError, StripedPlanSettings, make_parts,
+    DecommitQueue, GcHeap, OfKinds, PartSettings, PoolNewError, StripedPlanSettings, make_parts,
     make_striped_plan,
 };
 use std::alloc::{AllocError, Global};
 
-impl<P: Pages> PoolCore<P> {
+impl<P: Pages, H: GcHeap> PoolCore<P, H> {
     /// Makes a pool with the regions of its memory slots, none of which is accessible, of its table slots, all of which are, and
     /// of its stack slots, of which the first page is hidden, of the behaviour that is offered. Where the pool uses two
     /// protection keys or more, memories lie in stripes, and each region is given the colour of its stripe.
     /// The page is the maker's. Tests the rules of the settings first, so that nothing is made where one is broken. As
-    /// yet resets are plain, also where dirty pages are offered. All memory that its steps need is taken now, but for the
-    /// lists of what an instance is granted and of what a release takes.
+    /// yet resets are plain, also where dirty pages are offered. No heap is made yet. All memory that its steps need is taken
+    /// now, but for heaps, and for the lists of what a module or a heap is granted and of what a release takes.
     pub fn new<M: PageMaker<Region = P>>(
         alloc: Global,
         config: &PoolingAllocationConfig,
@@ -49,9 +49,9 @@ impl<P: Pages> PoolCore<P> {
         ensures refused { IfErr result (IsRefusedFor (first_broken_rule config.now tunables.now page shards offered.now)) }
         ensures maker { M.told maker.new ≡ record (M.told maker.old) { behind = (M.told maker.new).behind; faults = (M.told maker.new).faults } }
         ensures borrows { M.borrows maker.new ≡ M.borrows maker.old }
-        ensures faults { MatchResult result (λ _. (M.told maker.new).faults ≡ (M.told maker.old).faults) (CountsFault (GivesUpRegion config.now tunables.now offered.now shards (M.told maker.old)) (M.told maker.old).faults (M.told maker.new).faults) }
+        ensures faults { MatchResult result (λ _. (M.told maker.new).faults ≡ (M.told maker.old).faults) (CountsFault (GivesUpRegion P.told config.now tunables.now offered.now shards (M.told maker.old)) (M.told maker.old).faults (M.told maker.new).faults) }
         ensures listed { IfOk result (λ _. lists_making config.now (M.told maker.old).listed ≡ false) }
-        ensures behind { MatchResult result (λ _. (M.told maker.new).behind ≡ (M.told maker.old).behind) (NeedsFault (GivesUpRegion config.now tunables.now offered.now shards (M.told maker.old)) (lists_making config.now (M.told maker.old).listed) (M.told maker.old).behind (M.told maker.new).behind) }
+        ensures behind { MatchResult result (λ _. (M.told maker.new).behind ≡ (M.told maker.old).behind) (NeedsFault (GivesUpRegion P.told config.now tunables.now offered.now shards (M.told maker.old)) (lists_making config.now (M.told maker.old).listed) (M.told maker.old).behind (M.told maker.new).behind) }
         ensures planned { MatchResult result (λ _. IfSome (M.told maker.old).plan (λ plan. fails_slots page config.now tunables.now offered.now shards plan ≡ false)) (λ e. IfSome (M.told maker.old).plan (λ plan. NeedsListed (fails_slots page config.now tunables.now offered.now shards plan) e)) }
     {
         if let Err(rule) = config.check_rules(tunables, page.get(), shards, offered) {
@@ -78,9 +78,9 @@ impl<P: Pages> PoolCore<P> {
         ensures untouched { IfOk result IsUntouched }
         ensures maker { M.told maker.new ≡ record (M.told maker.old) { behind = (M.told maker.new).behind; faults = (M.told maker.new).faults } }
         ensures borrows { M.borrows maker.new ≡ M.borrows maker.old }
-        ensures faults { MatchResult result (λ _. (M.told maker.new).faults ≡ (M.told maker.old).faults) (RaisesUnlessGivenUp (GivesUpRegion config.now tunables.now offered.now shards (M.told maker.old)) (M.told maker.old).faults (M.told maker.new).faults) }
+        ensures faults { MatchResult result (λ _. (M.told maker.new).faults ≡ (M.told maker.old).faults) (RaisesUnlessGivenUp (GivesUpRegion P.told config.now tunables.now offered.now shards (M.told maker.old)) (M.told maker.old).faults (M.told maker.new).faults) }
         ensures listed { IfOk result (λ _. lists_making config.now (M.told maker.old).listed ≡ false) }
-        ensures behind { MatchResult result (λ _. (M.told maker.new).behind ≡ (M.told maker.old).behind) (RaisesBehindUnlessGivenUp (GivesUpRegion config.now tunables.now offered.now shards (M.told maker.old)) (lists_making config.now (M.told maker.old).listed) (M.told maker.old).behind (M.told maker.new).behind) }
+        ensures behind { MatchResult result (λ _. (M.told maker.new).behind ≡ (M.told maker.old).behind) (RaisesBehindUnlessGivenUp (GivesUpRegion P.told config.now tunables.now offered.now shards (M.told maker.old)) (lists_making config.now (M.told maker.old).listed) (M.told maker.old).behind (M.told maker.new).behind) }
         ensures planned { MatchResult result (λ _. IfSome (M.told maker.old).plan (λ plan. fails_slots page config.now tunables.now offered.now shards plan ≡ false)) (λ e. IfSome (M.told maker.old).plan (λ plan. IsListedPoolFault (fails_slots page config.now tunables.now offered.now shards plan) e)) }
     {
         let _bytes = page.get();
@@ -88,6 +88,9 @@ impl<P: Pages> PoolCore<P> {
         let settings = settings_of(page, config, tunables, offered, stripes);
         let numbers = plan_settings(config, stripes, shards);
         let Ok(plan) = make_striped_plan(alloc, &numbers) else {
+            return Err(PoolNewError::Memory);
+        };
+        let Ok(spare) = frame_lists(alloc, &settings) else {
             return Err(PoolNewError::Memory);
         };
         let parts = part_settings(page, config, offered);
@@ -104,33 +107,55 @@ impl<P: Pages> PoolCore<P> {
                 memories: 0,
                 tables: 0,
                 stacks: 0,
+                gc_heaps: 0,
             },
             settings,
             plan,
+            spare: Some(spare),
         })
     }
 
     /// A party's frame, at home in the shard and the queue that its home's number gives, without a call.
-    pub fn frame(&self, alloc: Global, home: u32) -> Result<Frame<P>, AllocError>
+    pub fn frame(&self, alloc: Global, home: u32) -> Result<Frame<P, H>, AllocError>
         requires { self.now.settings.batch ≤ 4096 }
         ensures made { IfOk result (λ f. f ≡ frame_made home self.now.settings) }
         ensures sound { IfOk result (λ f. (maker : MakerTold) → IsCore maker self.now → IsFrame maker self.now.settings self.now.plan f) }
     {
-        let room = 2 * self.settings.batch;
-        let local = DecommitQueue::new(alloc, room, room)?;
-        let freed = ReservedList::with_room(alloc, room)?;
-        Ok(Frame {
-            home,
-            stripe: 0,
-            asked: Asked::Nothing,
-            ending: Ending::Returned,
-            objects: InstanceLease::none(alloc),
-            queues: 0,
-            local,
-            freed,
-            phase: Phase::Idle,
-            step_count: 0,
-        })
+        let lists = frame_lists(alloc, &self.settings)?;
+        Ok(frame_over(alloc, home, lists))
+    }
+}
+
+// The lists of a frame, with room for twice a batch.
+fn frame_lists<P: Pages>(alloc: Global, settings: &Settings) -> Result<FrameLists<P>, AllocError>
+    requires { settings.now.batch ≤ 4096 }
+    ensures { IfOk result (λ l. l ≡ lists_made settings.now) }
+{
+    let room = 2 * settings.batch;
+    let local = DecommitQueue::new(alloc, room, room)?;
+    let freed = ReservedList::with_room(alloc, room)?;
+    Ok(FrameLists { local, freed })
+}
+
+// A frame with these lists, without a call. Takes no memory.
+pub(crate) fn frame_over<P: Pages, H: GcHeap>(
+    alloc: Global,
+    home: u32,
+    lists: FrameLists<P>,
+) -> Frame<P, H>
+    ensures { result ≡ frame_over home lists }
+{
+    Frame {
+        home,
+        stripe: 0,
+        asked: Asked::Nothing,
+        ending: Ending::Returned,
+        objects: InstanceLease::none(alloc),
+        queues: 0,
+        local: lists.local,
+        freed: lists.freed,
+        phase: Phase::Idle,
+        step_count: 0,
     }
 }
 
@@ -203,7 +228,7 @@ fn rounded_to_16(bytes: usize) -> usize
     bytes.div_ceil(16) * 16
 }
 
-// How many slots of each kind there are, shards and queues. Heaps have no slots as yet.
+// How many slots of each kind there are, shards and queues.
 fn plan_settings(
     config: &PoolingAllocationConfig,
     num_stripes: u32,
@@ -216,7 +241,7 @@ fn plan_settings(
             memory: config.limits.total_memories,
             table: config.limits.total_tables,
             stack: config.limits.total_stacks,
-            heap: 0,
+            heap: config.limits.total_gc_heaps,
         },
         num_stripes,
         requested_shards: shards,

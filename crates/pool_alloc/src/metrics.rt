@@ -1,9 +1,12 @@
-ghost use Rattle.std.specs.Prelude.{◌≡◌, Some, None, if◌then◌else◌};
+ghost use Rattle.std.specs.Prelude.{◌≡◌, List, Some, None, if◌then◌else◌};
 ghost use Rattle.pool_alloc.specs.Sums.{metrics_of, calls_kept, resident_sum};
+ghost use Rattle.pool_alloc.specs.Whole.{CountsGrants, IsPartitioned, held_by_grant};
+ghost use Rattle.pool_alloc.specs.declared.frame.Grant.{Grant};
 
 use crate::pool_core::PoolCore;
 use pool_index::SlotKind;
 use pool_pages::{PageCalls, Pages};
+use pool_slots::GcHeap;
 
 /// The numbers of a pool: how many of each thing are live, how many free slots were used before, and how many bytes
 /// those keep resident.
@@ -24,10 +27,11 @@ pub struct Metrics {
     pub unused_stack_bytes_resident: Option<usize>,
 }
 
-impl<P: Pages> PoolCore<P> {
-    /// The pool's numbers. It has no heaps yet.
+impl<P: Pages, H: GcHeap> PoolCore<P, H> {
+    /// The pool's numbers. A call under way counts what it holds, as if that were granted.
     pub fn metrics(&self) -> Metrics
-        ensures { result ≡ metrics_of self.now }
+        ensures numbers { result ≡ metrics_of self.now }
+        ensures grants { (grants : List (Grant P H)) → IsPartitioned held_by_grant self.now grants → CountsGrants grants result }
     {
         Metrics {
             core_instances: self.counters.core_instances,
@@ -35,7 +39,7 @@ impl<P: Pages> PoolCore<P> {
             memories: self.counters.memories as usize,
             tables: self.counters.tables as usize,
             stacks: self.counters.stacks as usize,
-            gc_heaps: 0,
+            gc_heaps: self.counters.gc_heaps as usize,
             unused_warm_memories: self.parts.unused_warm_slots(SlotKind::Memory),
             unused_memory_bytes_resident: self.parts.unused_bytes_resident(SlotKind::Memory),
             unused_warm_tables: self.parts.unused_warm_slots(SlotKind::Table),

@@ -50,7 +50,7 @@ impl<M: PageMaker, C: RuntimeMemoryCreator<M>, R: ResourceLimiter, K: HeapMaker>
     ghost use Rattle.pool_alloc.specs.OnDemandAnswers.{Allocates, IsHeapTurn};
     ghost use Rattle.pool_alloc.specs.OnDemandInstances.{IsMemoryTurn, IsTableTurn, GrantsInstance};
     ghost use Rattle.pool_alloc.specs.OnDemandStacks.{IsStackMade, AsksForStack, stack_room};
-    ghost use Rattle.pool_alloc.specs.OnDemandRefusals.{module_refused, type_refused, stack_refused};
+    ghost use Rattle.pool_alloc.specs.OnDemandRefusals.{module_refused, type_refused, stack_refused, refused_by};
     ghost use Rattle.pool_alloc.specs.Requests.{if_leads};
 
     ghost page = { λ seat. (M.told seat.maker).page };
@@ -76,7 +76,10 @@ impl<M: PageMaker, C: RuntimeMemoryCreator<M>, R: ResourceLimiter, K: HeapMaker>
         _home: ShardId,
         _seat: &mut OnDemandSeat<M>,
         _info: &ComponentInfo,
-    ) -> Result<(), AllocError> {
+    ) -> Result<(), AllocError>
+        ensures answer { result ≡ refused_by None }
+        ensures seat { _seat.new ≡ _seat.old }
+    {
         Ok(())
     }
 
@@ -85,7 +88,10 @@ impl<M: PageMaker, C: RuntimeMemoryCreator<M>, R: ResourceLimiter, K: HeapMaker>
         _home: ShardId,
         _seat: &mut OnDemandSeat<M>,
         info: &ModuleInfo,
-    ) -> Result<(), AllocError> {
+    ) -> Result<(), AllocError>
+        ensures answer { result ≡ refused_by (module_refused info.now) }
+        ensures seat { _seat.new ≡ _seat.old }
+    {
         refused_by(module_refused(info))
     }
 
@@ -94,7 +100,10 @@ impl<M: PageMaker, C: RuntimeMemoryCreator<M>, R: ResourceLimiter, K: HeapMaker>
         _home: ShardId,
         _seat: &mut OnDemandSeat<M>,
         ty: &MemoryType,
-    ) -> Result<(), AllocError> {
+    ) -> Result<(), AllocError>
+        ensures answer { result ≡ refused_by (type_refused ty.now) }
+        ensures seat { _seat.new ≡ _seat.old }
+    {
         refused_by(type_refused(ty))
     }
 
@@ -167,7 +176,10 @@ impl<M: PageMaker, C: RuntimeMemoryCreator<M>, R: ResourceLimiter, K: HeapMaker>
         _seat: &mut OnDemandSeat<M>,
         heaps: &mut K,
         memory: MemoryAllocationIndex,
-    ) -> Result<OnDemandHeap<K::Heap>, AllocError> {
+    ) -> Result<OnDemandHeap<K::Heap>, AllocError>
+        ensures turn { IsHeapTurn memory.0 (λ lease. lease.index.0) (λ lease. lease.memory.0) (λ lease. K.Heap.attached lease.heap) result (K.told heaps.old) (K.told heaps.new) }
+        ensures seat { _seat.new ≡ _seat.old }
+    {
         match heaps.new_gc_heap(alloc) {
             Ok(heap) => Ok(OnDemandHeap {
                 index: GcHeapAllocationIndex::default(),

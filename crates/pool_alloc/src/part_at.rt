@@ -7,13 +7,13 @@ ghost use Rattle.pool_slots.specs.Parts.{part_at};
 
 use crate::parts::Parts;
 use pool_pages::Pages;
-use pool_slots::PoolPart;
+use pool_slots::{GcHeap, PoolPart};
 
-impl<P: Pages> Parts<P> {
+impl<P: Pages, H: GcHeap> Parts<P, H> {
     // The part at a place. When the borrow ends, the list has there what was written through it.
-    pub(crate) fn at(&mut self, place: u32) -> &mut PoolPart<P>
+    pub(crate) fn at(&mut self, place: u32) -> &mut PoolPart<P, H>
         requires { place < length self.old }
-        ensures* writes_back { sem 𝓛 (follows (the_row P.row P.Pages) (part_row P.row P.Pages) self.entry.ghost_name result.ghost_name (slice_set self.old place)) }
+        ensures* writes_back { sem 𝓛 (follows (the_row P.row H.row P.Pages H.GcHeap) (part_row P.row H.row P.Pages H.GcHeap) self.entry.ghost_name result.ghost_name (slice_set self.old place)) }
         ensures value { result.now ≡ part_at place self.old }
     {
         &mut self.list[place as usize]

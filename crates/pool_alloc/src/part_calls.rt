@@ -1,25 +1,29 @@
-//! Calls on one part, for a purge and for a release.
-ghost use Rattle.std.specs.Prelude.{◌≡◌, ◌+◌, ◌≤◌, ◌^◌, length, IsSome, option_map};
+//! Calls on one part, for a purge, for a release, and for heaps.
+ghost use Rattle.std.specs.Prelude.{◌≡◌, ◌+◌, ◌<◌, ◌≤◌, ◌^◌, false, length, IsSome, IfSome, option_map};
 ghost use Rattle.pool_index.specs.Shard.{use_of, affine_answer, after_affine_pick, after_free, after_take_warm, slot_number};
 ghost use Rattle.pool_slots.specs.Cells.{IsCleanOnceUsed};
 ghost use Rattle.pool_slots.specs.CellOf.{cell_of};
+ghost use Rattle.pool_slots.specs.HeapLists.{IsHere, IsOut, heap_in, heap_taken, heap_returned};
 ghost use Rattle.pool_slots.specs.Parts.{IsShardPart, IsCellPart, cell_of_part};
 ghost use Rattle.pool_slots.specs.RegionCells.{cell_numbers, cell_emptied, cell_filled};
 ghost use Rattle.pool_alloc.specs.Purges.{image_in};
 ghost use Rattle.pool_alloc.specs.Releases.{taking};
-ghost use Rattle.pool_alloc.specs.Steps.{shard_in, part_holding};
+ghost use Rattle.pool_alloc.specs.Steps.{IsHeapsPart, shard_in, heaps_in, part_holding};
 
 use crate::release::ReleaseCursor;
 use crate::shard_steps::free_of;
 use crate::warm_slots::{pick_affine, take_warm};
 use pool_index::{MemoryInModule, SlotId};
 use pool_pages::Pages;
-use pool_slots::{ImageSlot, PoolPart, RegionCell, RegionNumbers};
+use pool_slots::{GcHeap, ImageSlot, MemoryAllocationIndex, PoolPart, RegionCell, RegionNumbers};
 use std::marker::Brand;
 use std::sync::ledger::Blank;
 
 // Picks a slot of a shard by affinity, and gives its number in the pool.
-pub(crate) fn pick_affine_in<P: Pages>(part: &mut PoolPart<P>, of: MemoryInModule) -> Option<u32>
+pub(crate) fn pick_affine_in<P: Pages, H: GcHeap>(
+    part: &mut PoolPart<P, H>,
+    of: MemoryInModule,
+) -> Option<u32>
     requires shard { IsShardPart part.old }
     ensures answer { result ≡ option_map (λ k. slot_number (shard_in part.old) k.0) (affine_answer of (shard_in part.old)) }
     ensures after { part.new ≡ PoolPart.Shard (after_affine_pick of (shard_in part.old)) }
@@ -31,7 +35,10 @@ pub(crate) fn pick_affine_in<P: Pages>(part: &mut PoolPart<P>, of: MemoryInModul
 }
 
 // Takes all warm slots of a shard.
-pub(crate) fn take_warm_in<P: Pages>(part: &mut PoolPart<P>, cursor: &mut ReleaseCursor)
+pub(crate) fn take_warm_in<P: Pages, H: GcHeap>(
+    part: &mut PoolPart<P, H>,
+    cursor: &mut ReleaseCursor,
+)
     requires shard { IsShardPart part.old }
     requires local { length cursor.old.local.items + length (shard_in part.old).warm ≤ cursor.old.local.room }
     requires taken { length cursor.old.taken.items + length (shard_in part.old).warm ≤ cursor.old.taken.room }
@@ -45,7 +52,7 @@ pub(crate) fn take_warm_in<P: Pages>(part: &mut PoolPart<P>, cursor: &mut Releas
 }
 
 // Frees a used slot of a shard, which keeps so many bytes resident.
-pub(crate) fn free_in<P: Pages>(part: &mut PoolPart<P>, slot: SlotId, bytes: usize)
+pub(crate) fn free_in<P: Pages, H: GcHeap>(part: &mut PoolPart<P, H>, slot: SlotId, bytes: usize)
     requires shard { IsShardPart part.old }
     requires used { IsSome (use_of (shard_in part.old) slot.0) }
     requires bytes { bytes ≤ 2 ^ 32 }
@@ -58,7 +65,9 @@ pub(crate) fn free_in<P: Pages>(part: &mut PoolPart<P>, slot: SlotId, bytes: usi
 }
 
 // Takes what a cell holds, with the numbers of its region.
-pub(crate) fn take_image_in<P: Pages>(part: &mut PoolPart<P>) -> (ImageSlot<P>, RegionNumbers)
+pub(crate) fn take_image_in<P: Pages, H: GcHeap>(
+    part: &mut PoolPart<P, H>,
+) -> (ImageSlot<P>, RegionNumbers)
     requires cell { IsCellPart part.old }
     ensures held { result.0 ≡ image_in (cell_of_part part.old).holds }
     ensures numbers { result.1 ≡ cell_numbers (cell_of_part part.old) }
@@ -81,7 +90,7 @@ fn take_image<P: Pages>(cell: &mut RegionCell<P>) -> (ImageSlot<P>, RegionNumber
 }
 
 // Puts it back.
-pub(crate) fn put_image_in<P: Pages>(part: &mut PoolPart<P>, held: ImageSlot<P>)
+pub(crate) fn put_image_in<P: Pages, H: GcHeap>(part: &mut PoolPart<P, H>, held: ImageSlot<P>)
     requires cell { IsCellPart part.old }
     requires clean { IsCleanOnceUsed (cell_of held) }
     ensures { part.new ≡ part_holding (cell_filled (cell_of held) (cell_of_part part.old)) part.old }
@@ -90,6 +99,44 @@ pub(crate) fn put_image_in<P: Pages>(part: &mut PoolPart<P>, held: ImageSlot<P>)
         PoolPart::Memory(cell) => cell.put(held),
         PoolPart::Table(cell) => cell.put(held),
         PoolPart::Stack(cell) => cell.put(held),
+        _ => unreachable!(),
+    }
+}
+
+// Takes the heap of a slot out of the list of heaps, where the slot has one. The slot notes the memory.
+pub(crate) fn take_heap_in<P: Pages, H: GcHeap>(
+    part: &mut PoolPart<P, H>,
+    slot: u32,
+    memory: MemoryAllocationIndex,
+) -> Option<H>
+    requires list { IsHeapsPart part.old }
+    requires inside { slot < length (heaps_in part.old) }
+    requires here { IsHere slot (heaps_in part.old) }
+    ensures heap { result ≡ heap_in slot (heaps_in part.old) }
+    ensures detached { IfSome result (λ heap. H.attached heap ≡ false) }
+    ensures after { part.new ≡ PoolPart.Heaps (heap_taken slot memory (heaps_in part.old)) }
+{
+    match part {
+        PoolPart::Heaps(heaps) => heaps.take(slot, memory),
+        _ => unreachable!(),
+    }
+}
+
+// Puts a heap back, or nothing.
+pub(crate) fn put_heap_in<P: Pages, H: GcHeap>(
+    part: &mut PoolPart<P, H>,
+    slot: u32,
+    heap: Option<H>,
+)
+    requires list { IsHeapsPart part.old }
+    requires out { IsOut slot (heaps_in part.old) }
+    requires detached { IfSome heap (λ heap. H.attached heap ≡ false) }
+    ensures { part.new ≡ PoolPart.Heaps (heap_returned slot heap (heaps_in part.old)) }
+{
+    match part {
+        PoolPart::Heaps(heaps) => {
+            let _memory = heaps.put(slot, heap);
+        }
         _ => unreachable!(),
     }
 }

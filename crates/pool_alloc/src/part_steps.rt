@@ -8,6 +8,7 @@ ghost use Rattle.pool_slots.specs.Parts.{IsShardPart, IsCellPart, cell_of_part};
 ghost use Rattle.pool_slots.specs.SlotQueues.{IsSpareOf, IsSettled, same_kind};
 ghost use Rattle.pool_slots.specs.declared.part.PoolPart.{PoolPart};
 ghost use Rattle.pool_alloc.specs.CanStep.{CanTryShard, CanUnmap, HasAllocators};
+ghost use Rattle.pool_alloc.specs.Closing.{has_free};
 ghost use Rattle.pool_alloc.specs.Freeing.{AreUsedInTurn, HasHome, CanBeFreed};
 ghost use Rattle.pool_alloc.specs.Rows.{pick_on, free_one_on, free_on, take_region_on, put_back_on, region_put, take_queue_on, merge_on};
 ghost use Rattle.pool_alloc.specs.Sums.{warm_in, resident_in, part_calls};
@@ -19,22 +20,22 @@ use crate::pool_core::Settings;
 use crate::{cell_steps, queue_steps, shard_steps};
 use pool_index::{Shard, SlotKind};
 use pool_pages::{PageCalls, Pages};
-use pool_slots::{ImageSlot, Plan, PoolPart, QueuedSlot, SlotName};
+use pool_slots::{GcHeap, ImageSlot, Plan, PoolPart, QueuedSlot, SlotName};
 use std::alloc::Global;
 
 // The steps that change one part, on that part alone.
 
-pub(crate) fn pick<P: Pages>(
-    part: &mut PoolPart<P>,
+pub(crate) fn pick<P: Pages, H: GcHeap>(
+    part: &mut PoolPart<P, H>,
     plan: &Plan,
-    frame: &mut Frame<P>,
+    frame: &mut Frame<P, H>,
     tried: u32,
-) -> Option<Outcome<P>>
+) -> Option<Outcome<P, H>>
     requires shard { IsShardPart part.old }
     requires plan { HasAllocators plan.now frame.old.stripe }
     requires tries { CanTryShard plan.now (allocator_for plan.now frame.old) tried }
     requires few { length frame.old.objects.memories.items < 2 ^ 32 }
-    ensures { ◌≡◌ {A = PartAfter (PoolPart P) P} (record { part = part.new; frame = frame.new; outcome = result }) (part_after (lifted (λ x. PoolPart.Shard x) (pick_on plan.now tried (shard_in part.old) frame.old))) }
+    ensures { ◌≡◌ {A = PartAfter (PoolPart P H) P H} (record { part = part.new; frame = frame.new; outcome = result }) (part_after (lifted (λ x. PoolPart.Shard x) (pick_on plan.now tried (shard_in part.old) frame.old))) }
 {
     match part {
         PoolPart::Shard(shard) => shard_steps::pick(shard, plan, frame, tried),
@@ -42,17 +43,17 @@ pub(crate) fn pick<P: Pages>(
     }
 }
 
-pub(crate) fn free_one<P: Pages>(
-    part: &mut PoolPart<P>,
+pub(crate) fn free_one<P: Pages, H: GcHeap>(
+    part: &mut PoolPart<P, H>,
     plan: &Plan,
     alloc: Global,
-    frame: &mut Frame<P>,
+    frame: &mut Frame<P, H>,
     name: SlotName,
-) -> Option<Outcome<P>>
+) -> Option<Outcome<P, H>>
     requires shard { IsShardPart part.old }
     requires home { HasHome plan.now name }
     requires used { IsSome (use_of (shard_in part.old) (home_of plan.now name).local.0) }
-    ensures { ◌≡◌ {A = PartAfter (PoolPart P) P} (record { part = part.new; frame = frame.new; outcome = result }) (part_after (lifted (λ x. PoolPart.Shard x) (free_one_on plan.now name (shard_in part.old) frame.old))) }
+    ensures { ◌≡◌ {A = PartAfter (PoolPart P H) P H} (record { part = part.new; frame = frame.new; outcome = result }) (part_after (lifted (λ x. PoolPart.Shard x) (free_one_on plan.now name (shard_in part.old) frame.old))) }
 {
     match part {
         PoolPart::Shard(shard) => shard_steps::free_one(shard, plan, alloc, frame, name),
@@ -60,17 +61,17 @@ pub(crate) fn free_one<P: Pages>(
     }
 }
 
-pub(crate) fn free<P: Pages>(
-    part: &mut PoolPart<P>,
+pub(crate) fn free<P: Pages, H: GcHeap>(
+    part: &mut PoolPart<P, H>,
     plan: &Plan,
     alloc: Global,
-    frame: &mut Frame<P>,
+    frame: &mut Frame<P, H>,
     place: u32,
-) -> Option<Outcome<P>>
+) -> Option<Outcome<P, H>>
     requires shard { IsShardPart part.old }
     requires used { AreUsedInTurn plan.now (freed_of plan.now place frame.old.freed.items) (shard_in part.old) }
     requires each { All (CanBeFreed plan.now) frame.old.freed.items }
-    ensures { ◌≡◌ {A = PartAfter (PoolPart P) P} (record { part = part.new; frame = frame.new; outcome = result }) (part_after (lifted (λ x. PoolPart.Shard x) (free_on plan.now place (shard_in part.old) frame.old))) }
+    ensures { ◌≡◌ {A = PartAfter (PoolPart P H) P H} (record { part = part.new; frame = frame.new; outcome = result }) (part_after (lifted (λ x. PoolPart.Shard x) (free_on plan.now place (shard_in part.old) frame.old))) }
 {
     match part {
         PoolPart::Shard(shard) => shard_steps::free(shard, plan, alloc, frame, place),
@@ -78,16 +79,16 @@ pub(crate) fn free<P: Pages>(
     }
 }
 
-pub(crate) fn take_region<P: Pages>(
-    part: &mut PoolPart<P>,
+pub(crate) fn take_region<P: Pages, H: GcHeap>(
+    part: &mut PoolPart<P, H>,
     settings: &Settings,
-    frame: &mut Frame<P>,
+    frame: &mut Frame<P, H>,
     name: SlotName,
-) -> Option<Outcome<P>>
+) -> Option<Outcome<P, H>>
     requires cell { IsCellPart part.old }
     requires there { is_taken (cell_of_part part.old).holds ≡ false }
     requires fresh { (region : _) → (cell_of_part part.old).holds ≡ unmapped region → CanUnmap settings.now name region }
-    ensures { ◌≡◌ {A = PartAfter (PoolPart P) P} (record { part = part.new; frame = frame.new; outcome = result }) (part_after (lifted (λ x. part_holding x part.old) (take_region_on settings.now name (cell_of_part part.old) frame.old))) }
+    ensures { ◌≡◌ {A = PartAfter (PoolPart P H) P H} (record { part = part.new; frame = frame.new; outcome = result }) (part_after (lifted (λ x. part_holding x part.old) (take_region_on settings.now name (cell_of_part part.old) frame.old))) }
 {
     match part {
         PoolPart::Memory(cell) => cell_steps::take_region(cell, settings, frame, name),
@@ -97,15 +98,15 @@ pub(crate) fn take_region<P: Pages>(
     }
 }
 
-pub(crate) fn put_back<P: Pages>(
-    part: &mut PoolPart<P>,
-    frame: &mut Frame<P>,
+pub(crate) fn put_back<P: Pages, H: GcHeap>(
+    part: &mut PoolPart<P, H>,
+    frame: &mut Frame<P, H>,
     name: SlotName,
     held: ImageSlot<P>,
-) -> Option<Outcome<P>>
+) -> Option<Outcome<P, H>>
     requires cell { IsCellPart part.old }
     requires clean { IsCleanOnceUsed (cell_of held) }
-    ensures { ◌≡◌ {A = PartAfter (PoolPart P) P} (record { part = part.new; frame = frame.new; outcome = result }) (part_after (lifted (λ x. part_holding x part.old) (put_back_on name (cell_of held) (cell_of_part part.old) frame.old))) }
+    ensures { ◌≡◌ {A = PartAfter (PoolPart P H) P H} (record { part = part.new; frame = frame.new; outcome = result }) (part_after (lifted (λ x. part_holding x part.old) (put_back_on name (cell_of held) (cell_of_part part.old) frame.old))) }
 {
     match part {
         PoolPart::Memory(cell) => cell_steps::put_back(cell, frame, name, held),
@@ -115,16 +116,16 @@ pub(crate) fn put_back<P: Pages>(
     }
 }
 
-pub(crate) fn put_region<P: Pages>(
-    part: &mut PoolPart<P>,
+pub(crate) fn put_region<P: Pages, H: GcHeap>(
+    part: &mut PoolPart<P, H>,
     alloc: Global,
-    frame: &mut Frame<P>,
+    frame: &mut Frame<P, H>,
     item: QueuedSlot<P>,
-) -> Option<Outcome<P>>
+) -> Option<Outcome<P, H>>
     requires cell { IsCellPart part.old }
     requires settled { IsSettled item }
     requires room { length frame.old.freed.items < frame.old.freed.room }
-    ensures { ◌≡◌ {A = PartAfter (PoolPart P) P} (record { part = part.new; frame = frame.new; outcome = result }) (part_after (lifted (λ x. part_holding x part.old) (region_put item (cell_of_part part.old) frame.old))) }
+    ensures { ◌≡◌ {A = PartAfter (PoolPart P H) P H} (record { part = part.new; frame = frame.new; outcome = result }) (part_after (lifted (λ x. part_holding x part.old) (region_put item (cell_of_part part.old) frame.old))) }
 {
     match part {
         PoolPart::Memory(cell) => cell_steps::put_region(cell, alloc, frame, item),
@@ -134,17 +135,17 @@ pub(crate) fn put_region<P: Pages>(
     }
 }
 
-pub(crate) fn take_queue<P: Pages>(
-    part: &mut PoolPart<P>,
+pub(crate) fn take_queue<P: Pages, H: GcHeap>(
+    part: &mut PoolPart<P, H>,
     plan: &Plan,
     alloc: Global,
-    frame: &mut Frame<P>,
-) -> Option<Outcome<P>>
+    frame: &mut Frame<P, H>,
+) -> Option<Outcome<P, H>>
     requires queue { IsQueuePart part.old }
     requires spare { IsSpareOf (queue_in part.old) frame.old.local }
     requires taken { frame.old.queues + 1 < 2 ^ 32 }
     requires plan { HasAllocators plan.now frame.old.stripe }
-    ensures { ◌≡◌ {A = PartAfter (PoolPart P) P} (record { part = part.new; frame = frame.new; outcome = result }) (part_after (lifted (λ x. PoolPart.Queue x) (take_queue_on plan.now (queue_in part.old) frame.old))) }
+    ensures { ◌≡◌ {A = PartAfter (PoolPart P H) P H} (record { part = part.new; frame = frame.new; outcome = result }) (part_after (lifted (λ x. PoolPart.Queue x) (take_queue_on plan.now (queue_in part.old) frame.old))) }
 {
     match part {
         PoolPart::Queue(queue) => queue_steps::take_queue(queue, plan, alloc, frame),
@@ -152,15 +153,15 @@ pub(crate) fn take_queue<P: Pages>(
     }
 }
 
-pub(crate) fn merge<P: Pages>(
-    part: &mut PoolPart<P>,
+pub(crate) fn merge<P: Pages, H: GcHeap>(
+    part: &mut PoolPart<P, H>,
     settings: &Settings,
     alloc: Global,
-    frame: &mut Frame<P>,
-) -> Option<Outcome<P>>
+    frame: &mut Frame<P, H>,
+) -> Option<Outcome<P, H>>
     requires queue { IsQueuePart part.old }
     requires can { CanMerge (queue_in part.old) frame.old.local }
-    ensures { ◌≡◌ {A = PartAfter (PoolPart P) P} (record { part = part.new; frame = frame.new; outcome = result }) (part_after (lifted (λ x. PoolPart.Queue x) (merge_on settings.now (queue_in part.old) frame.old))) }
+    ensures { ◌≡◌ {A = PartAfter (PoolPart P H) P H} (record { part = part.new; frame = frame.new; outcome = result }) (part_after (lifted (λ x. PoolPart.Queue x) (merge_on settings.now (queue_in part.old) frame.old))) }
 {
     match part {
         PoolPart::Queue(queue) => queue_steps::merge(queue, settings, alloc, frame),
@@ -169,7 +170,7 @@ pub(crate) fn merge<P: Pages>(
 }
 
 // How many of a part's slots are warm, if they are of this kind.
-pub(crate) fn warm_in<P: Pages>(kind: SlotKind, part: &PoolPart<P>) -> u32
+pub(crate) fn warm_in<P: Pages, H: GcHeap>(kind: SlotKind, part: &PoolPart<P, H>) -> u32
     ensures { result ≡ warm_in kind part.now }
 {
     match part {
@@ -189,7 +190,7 @@ fn warm_slots(kind: SlotKind, shard: &Shard) -> u32
 }
 
 // How many bytes they keep resident.
-pub(crate) fn resident_in<P: Pages>(kind: SlotKind, part: &PoolPart<P>) -> usize
+pub(crate) fn resident_in<P: Pages, H: GcHeap>(kind: SlotKind, part: &PoolPart<P, H>) -> usize
     ensures { result ≡ resident_in kind part.now }
 {
     match part {
@@ -208,8 +209,18 @@ fn bytes_resident(kind: SlotKind, shard: &Shard) -> usize
     }
 }
 
+// Whether none of the part's slots is used.
+pub(crate) fn has_free<P: Pages, H: GcHeap>(part: &PoolPart<P, H>) -> bool
+    ensures { result ≡ has_free part.now }
+{
+    match part {
+        PoolPart::Shard(shard) => shard.is_empty(),
+        _ => true,
+    }
+}
+
 // The calls made so far on the regions that lie in a part.
-pub(crate) fn part_calls<P: Pages>(part: &PoolPart<P>) -> PageCalls
+pub(crate) fn part_calls<P: Pages, H: GcHeap>(part: &PoolPart<P, H>) -> PageCalls
     ensures { result ≡ part_calls part.now }
 {
     match part {

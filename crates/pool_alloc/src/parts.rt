@@ -1,29 +1,30 @@
 ghost use Rattle.std.specs.Prelude.{◌≡◌};
+ghost use Rattle.pool_alloc.specs.Closing.{all_free};
 ghost use Rattle.pool_alloc.specs.Sums.{warm_slots, resident_sum, calls_of_parts};
 
 use crate::part_steps;
 use pool_index::SlotKind;
 use pool_pages::{PageCalls, Pages};
-use pool_slots::PoolPart;
+use pool_slots::{GcHeap, PoolPart};
 use std::marker::Model;
 
 /// The parts of the pool, by their places.
 #[derive(Drop)]
-pub struct Parts<P: Pages> {
-    pub(crate) list: Vec<PoolPart<P>>,
+pub struct Parts<P: Pages, H: GcHeap> {
+    pub(crate) list: Vec<PoolPart<P, H>>,
 }
 
-impl<P: Pages> Model for Parts<P> {
+impl<P: Pages, H: GcHeap> Model for Parts<P, H> {
     ghost use Rattle.std.specs.Prelude.{List};
     ghost use Rattle.pool_slots.specs.declared.part.PoolPart.{PoolPart};
 
-    ghost Value = { List (PoolPart P) };
+    ghost Value = { List (PoolPart P H) };
 
     ghost view = { λ p. p.list.items };
 }
 
-impl<P: Pages> Parts<P> {
-    pub fn new(list: Vec<PoolPart<P>>) -> Self
+impl<P: Pages, H: GcHeap> Parts<P, H> {
+    pub fn new(list: Vec<PoolPart<P, H>>) -> Self
         ensures { result ≡ list.items }
     {
         Parts { list }
@@ -49,6 +50,13 @@ impl<P: Pages> Parts<P> {
             bytes = bytes.saturating_add(part_steps::resident_in(kind, part));
         }
         bytes
+    }
+
+    /// Whether no slot is used.
+    pub fn is_empty(&self) -> bool
+        ensures { result ≡ all_free self.now }
+    {
+        self.list.iter().all(|part| part_steps::has_free(part))
     }
 
     /// The calls made so far on the regions that lie in cells and queues, together.

@@ -1,6 +1,7 @@
+use crate::frame::FrameLists;
 use crate::parts::Parts;
 use pool_pages::{DecommitBehavior, HostAlignedByteCount, MemoryTunables, PageSize, Pages};
-use pool_slots::Plan;
+use pool_slots::{GcHeap, Plan};
 
 /// How many grants of a kind there are, and how many calls on the key counter there were.
 #[derive(Clone, Copy, Debug, PartialEq, Eq)]
@@ -12,6 +13,7 @@ pub struct Counters {
     pub memories: u64,
     pub tables: u64,
     pub stacks: u64,
+    pub gc_heaps: u64,
 }
 
 /// What is the same for the whole life of a core.
@@ -59,11 +61,13 @@ pub struct Settings {
 /// A pooling allocator without locks: its parts and its counters. Parties make
 /// calls on it step by step, each in a frame of its own.
 #[derive(Drop)]
-pub struct PoolCore<P: Pages> {
-    /// The shards, the cells of the slots, and the queues, where the plan has them.
-    pub parts: Parts<P>,
+pub struct PoolCore<P: Pages, H: GcHeap> {
+    /// The shards, the cells of the slots, the queues, and the list of heaps, where the plan has them.
+    pub parts: Parts<P, H>,
     pub counters: Counters,
     pub settings: Settings,
     /// Each stripe has an allocator of memories.
     pub plan: Plan,
+    /// The lists of a frame that no party has. The pool is closed with them, so that this takes no memory.
+    pub spare: Option<FrameLists<P>>,
 }

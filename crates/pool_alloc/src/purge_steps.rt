@@ -17,18 +17,19 @@ use crate::pool_core::{PoolCore, Settings};
 use crate::purge::{PurgeCursor, PurgeStep};
 use pool_images::MemoryImageSlot;
 use pool_pages::Pages;
-use pool_slots::{ImageSlot, Plan, SlotName};
+use pool_slots::{GcHeap, ImageSlot, Plan, SlotName};
 
-impl<P: Pages> PoolCore<P> {
+impl<P: Pages, H: GcHeap> PoolCore<P, H> {
     // A step of a purge.
+    #[inline(never)]
     pub(crate) fn purge(
         &mut self,
-        frame: &mut Frame<P>,
+        frame: &mut Frame<P, H>,
         cursor: PurgeCursor,
         step: PurgeStep<P>,
-    ) -> Option<Outcome<P>>
+    ) -> Option<Outcome<P, H>>
         requires { CanPurge cursor step self.old }
-        ensures { (g : StepGiven) × PurgeTold g step × PurgePlanned g step × (◌≡◌ {A = After P} (record { core = self.new; frame = frame.new; outcome = result }) (stepped (purge_row g cursor step self.old frame.old))) }
+        ensures { (g : StepGiven H) × PurgeTold g step × PurgePlanned g step × (◌≡◌ {A = After P H} (record { core = self.new; frame = frame.new; outcome = result }) (stepped (purge_row g cursor step self.old frame.old))) }
     {
         match step {
             PurgeStep::Pick(tried) => self.pick_affine(frame, cursor, tried),
@@ -42,12 +43,12 @@ impl<P: Pages> PoolCore<P> {
     // Picks a warm slot that was used for the memory last, from the shard of the stripe with this number.
     fn pick_affine(
         &mut self,
-        frame: &mut Frame<P>,
+        frame: &mut Frame<P, H>,
         cursor: PurgeCursor,
         tried: u32,
-    ) -> Option<Outcome<P>>
+    ) -> Option<Outcome<P, H>>
         requires { CanPurge cursor (PurgeStep.Pick tried) self.old }
-        ensures { (g : StepGiven) → ◌≡◌ {A = After P} (record { core = self.new; frame = frame.new; outcome = result }) (stepped (purge_row g cursor (PurgeStep.Pick tried) self.old frame.old)) }
+        ensures { (g : StepGiven H) → ◌≡◌ {A = After P H} (record { core = self.new; frame = frame.new; outcome = result }) (stepped (purge_row g cursor (PurgeStep.Pick tried) self.old frame.old)) }
     {
         if !self.has_turns() {
             return frame.end(Outcome::Purged(cursor.purged));
@@ -70,12 +71,12 @@ impl<P: Pages> PoolCore<P> {
     // Takes the region of the slot that was found.
     fn take_affine(
         &mut self,
-        frame: &mut Frame<P>,
+        frame: &mut Frame<P, H>,
         cursor: PurgeCursor,
         name: SlotName,
-    ) -> Option<Outcome<P>>
+    ) -> Option<Outcome<P, H>>
         requires { CanTakeOf name self.old }
-        ensures { (g : StepGiven) → ◌≡◌ {A = After P} (record { core = self.new; frame = frame.new; outcome = result }) (stepped (purge_row g cursor (PurgeStep.TakeRegion name) self.old frame.old)) }
+        ensures { (g : StepGiven H) → ◌≡◌ {A = After P H} (record { core = self.new; frame = frame.new; outcome = result }) (stepped (purge_row g cursor (PurgeStep.TakeRegion name) self.old frame.old)) }
     {
         let place = self.plan.cell_place(name);
         let part = self.parts.at(place);
@@ -87,13 +88,13 @@ impl<P: Pages> PoolCore<P> {
     // Puts it back.
     fn put_affine(
         &mut self,
-        frame: &mut Frame<P>,
+        frame: &mut Frame<P, H>,
         cursor: PurgeCursor,
         at: TakenSlot,
         held: ImageSlot<P>,
-    ) -> Option<Outcome<P>>
+    ) -> Option<Outcome<P, H>>
         requires { CanPutOf at.name held self.old }
-        ensures { (g : StepGiven) → ◌≡◌ {A = After P} (record { core = self.new; frame = frame.new; outcome = result }) (stepped (purge_row g cursor (PurgeStep.PutRegion at held) self.old frame.old)) }
+        ensures { (g : StepGiven H) → ◌≡◌ {A = After P H} (record { core = self.new; frame = frame.new; outcome = result }) (stepped (purge_row g cursor (PurgeStep.PutRegion at held) self.old frame.old)) }
     {
         let place = self.plan.cell_place(at.name);
         let part = self.parts.at(place);
@@ -104,13 +105,13 @@ impl<P: Pages> PoolCore<P> {
     // Frees the slot. Nothing of it is resident.
     fn free_affine(
         &mut self,
-        frame: &mut Frame<P>,
+        frame: &mut Frame<P, H>,
         cursor: PurgeCursor,
         name: SlotName,
-    ) -> Option<Outcome<P>>
+    ) -> Option<Outcome<P, H>>
         requires going { CanGoOn self.old.settings self.old.plan cursor }
         requires slot { CanFreeOf name self.old }
-        ensures { (g : StepGiven) → ◌≡◌ {A = After P} (record { core = self.new; frame = frame.new; outcome = result }) (stepped (purge_row g cursor (PurgeStep.Free name) self.old frame.old)) }
+        ensures { (g : StepGiven H) → ◌≡◌ {A = After P H} (record { core = self.new; frame = frame.new; outcome = result }) (stepped (purge_row g cursor (PurgeStep.Free name) self.old frame.old)) }
     {
         let home = home(&self.plan, name);
         let part = self.parts.at(home.place);
@@ -124,24 +125,28 @@ impl<P: Pages> PoolCore<P> {
 }
 
 // A slot was found.
-fn found<P: Pages>(frame: &mut Frame<P>, cursor: PurgeCursor, slot: u32) -> Option<Outcome<P>>
-    ensures { ◌≡◌ {A = Left P} (record { frame = frame.new; outcome = result }) (after frame.old (goes (Phase.Purge (found_one cursor) (PurgeStep.TakeRegion (memory_slot slot))))) }
+fn found<P: Pages, H: GcHeap>(
+    frame: &mut Frame<P, H>,
+    cursor: PurgeCursor,
+    slot: u32,
+) -> Option<Outcome<P, H>>
+    ensures { ◌≡◌ {A = Left P H} (record { frame = frame.new; outcome = result }) (after frame.old (goes (Phase.Purge (found_one cursor) (PurgeStep.TakeRegion (memory_slot slot))))) }
 {
     let step = PurgeStep::TakeRegion(memory_slot(slot));
     frame.go(Phase::Purge(cursor.found_one(), step))
 }
 
 // The shard had none: the next is tried, or after the last the purge goes on behind the memory.
-fn missed<P: Pages>(
+fn missed<P: Pages, H: GcHeap>(
     settings: &Settings,
     plan: &Plan,
-    frame: &mut Frame<P>,
+    frame: &mut Frame<P, H>,
     cursor: PurgeCursor,
     tried: u32,
-) -> Option<Outcome<P>>
+) -> Option<Outcome<P, H>>
     requires going { CanGoOn settings.now plan.now cursor }
     requires tried { tried < (purged_stripe plan.now cursor).shards }
-    ensures { ◌≡◌ {A = Left P} (record { frame = frame.new; outcome = result }) (after frame.old (if nat_lt (tried + 1) (purged_stripe plan.now cursor).shards then goes (Phase.Purge cursor (PurgeStep.Pick (tried + 1))) else purge_to cursor (behind_memory settings.now.max_memories_per_module plan.now cursor))) }
+    ensures { ◌≡◌ {A = Left P H} (record { frame = frame.new; outcome = result }) (after frame.old (if nat_lt (tried + 1) (purged_stripe plan.now cursor).shards then goes (Phase.Purge cursor (PurgeStep.Pick (tried + 1))) else purge_to cursor (behind_memory settings.now.max_memories_per_module plan.now cursor))) }
 {
     let shards = cursor.allocator(plan).shards;
     if tried + 1 < shards {
@@ -151,12 +156,12 @@ fn missed<P: Pages>(
 }
 
 // The purge goes on there, or ends.
-fn purge_to<P: Pages>(
-    frame: &mut Frame<P>,
+fn purge_to<P: Pages, H: GcHeap>(
+    frame: &mut Frame<P, H>,
     cursor: PurgeCursor,
     next: Option<PurgeCursor>,
-) -> Option<Outcome<P>>
-    ensures { ◌≡◌ {A = Left P} (record { frame = frame.new; outcome = result }) (after frame.old (purge_to cursor next)) }
+) -> Option<Outcome<P, H>>
+    ensures { ◌≡◌ {A = Left P H} (record { frame = frame.new; outcome = result }) (after frame.old (purge_to cursor next)) }
 {
     match next {
         Some(next) => frame.go(Phase::Purge(next, PurgeStep::Pick(0))),
@@ -165,15 +170,15 @@ fn purge_to<P: Pages>(
 }
 
 // What the slot holds is forgotten.
-fn forget<P: Pages>(
-    frame: &mut Frame<P>,
+fn forget<P: Pages, H: GcHeap>(
+    frame: &mut Frame<P, H>,
     cursor: PurgeCursor,
     at: TakenSlot,
     held: ImageSlot<P>,
-) -> Option<Outcome<P>>
+) -> Option<Outcome<P, H>>
     requires can { CanForget held }
     requires there { is_taken (cell_of held) ≡ false }
-    ensures { (fault : Bool) × (slot : Slot) × Forgets fault held slot × FollowsForget fault held slot × (◌≡◌ {A = Left P} (record { frame = frame.new; outcome = result }) (after frame.old (goes (Phase.Purge cursor (PurgeStep.PutRegion at (after_forgetting fault held slot)))))) }
+    ensures { (fault : Bool) × (slot : Slot) × Forgets fault held slot × FollowsForget fault held slot × (◌≡◌ {A = Left P H} (record { frame = frame.new; outcome = result }) (after frame.old (goes (Phase.Purge cursor (PurgeStep.PutRegion at (after_forgetting fault held slot)))))) }
 {
     let left = forgotten(held);
     frame.go(Phase::Purge(cursor, PurgeStep::PutRegion(at, left)))

@@ -8,20 +8,20 @@ ghost use Rattle.pool_alloc.specs.CanStep.{HasAllocators};
 use crate::frame::{Frame, Outcome};
 use crate::pool_core::Settings;
 use pool_pages::Pages;
-use pool_slots::{DecommitQueue, Plan};
+use pool_slots::{DecommitQueue, GcHeap, Plan};
 use std::alloc::Global;
 
 // Takes a whole queue. It is flushed where it holds something.
-pub(crate) fn take_queue<P: Pages>(
+pub(crate) fn take_queue<P: Pages, H: GcHeap>(
     queue: &mut DecommitQueue<P>,
     plan: &Plan,
     alloc: Global,
-    frame: &mut Frame<P>,
-) -> Option<Outcome<P>>
+    frame: &mut Frame<P, H>,
+) -> Option<Outcome<P, H>>
     requires spare { IsSpareOf queue.old frame.old.local }
     requires taken { frame.old.queues + 1 < 2 ^ 32 }
     requires plan { HasAllocators plan.now frame.old.stripe }
-    ensures { ◌≡◌ {A = PartAfter Queue P} (record { part = queue.new; frame = frame.new; outcome = result }) (part_after (take_queue_on plan.now queue.old frame.old)) }
+    ensures { ◌≡◌ {A = PartAfter Queue P H} (record { part = queue.new; frame = frame.new; outcome = result }) (part_after (take_queue_on plan.now queue.old frame.old)) }
 {
     queue.take(&mut frame.local);
     frame.queues += 1;
@@ -33,14 +33,14 @@ pub(crate) fn take_queue<P: Pages>(
 }
 
 // Appends the local queue to the home queue. Where that has as many ranges as a batch then, it is flushed whole.
-pub(crate) fn merge<P: Pages>(
+pub(crate) fn merge<P: Pages, H: GcHeap>(
     queue: &mut DecommitQueue<P>,
     settings: &Settings,
     alloc: Global,
-    frame: &mut Frame<P>,
-) -> Option<Outcome<P>>
+    frame: &mut Frame<P, H>,
+) -> Option<Outcome<P, H>>
     requires { CanMerge queue.old frame.old.local }
-    ensures { ◌≡◌ {A = PartAfter Queue P} (record { part = queue.new; frame = frame.new; outcome = result }) (part_after (merge_on settings.now queue.old frame.old)) }
+    ensures { ◌≡◌ {A = PartAfter Queue P H} (record { part = queue.new; frame = frame.new; outcome = result }) (part_after (merge_on settings.now queue.old frame.old)) }
 {
     if queue.merge(&mut frame.local, settings.batch) {
         frame.flush(alloc)

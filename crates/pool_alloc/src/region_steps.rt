@@ -13,17 +13,18 @@ use crate::pool_core::PoolCore;
 use crate::table_lease::TableLease;
 use pool_images::MemoryImageSlot;
 use pool_pages::Pages;
-use pool_slots::{AllocError, ImageSlot};
+use pool_slots::{AllocError, GcHeap, ImageSlot};
 
-impl<P: Pages> PoolCore<P> {
+impl<P: Pages, H: GcHeap> PoolCore<P, H> {
     // Empties an image slot of which nothing is known.
+    #[inline(never)]
     pub(crate) fn empty(
         &mut self,
-        frame: &mut Frame<P>,
+        frame: &mut Frame<P, H>,
         at: TakenSlot,
         held: MemoryImageSlot<P>,
-    ) -> Option<Outcome<P>>
-        ensures { (fault : Bool) × (after : Slot) × Empties fault held after × Follows (wiping held) (not fault) held.region after.region × (◌≡◌ {A = After P} (record { core = self.new; frame = frame.new; outcome = result }) (stepped (empty_row fault after at self.old frame.old))) }
+    ) -> Option<Outcome<P, H>>
+        ensures { (fault : Bool) × (after : Slot) × Empties fault held after × Follows (wiping held) (not fault) held.region after.region × (◌≡◌ {A = After P H} (record { core = self.new; frame = frame.new; outcome = result }) (stepped (empty_row fault after at self.old frame.old))) }
     {
         let mut held = held;
         let phase = match held.reset_with_anon_memory() {
@@ -38,13 +39,14 @@ impl<P: Pages> PoolCore<P> {
     }
 
     // An object that is given back is no grant any more.
+    #[inline(never)]
     pub(crate) fn uncount_object(
         &mut self,
-        frame: &mut Frame<P>,
+        frame: &mut Frame<P, H>,
         object: Object<P>,
-    ) -> Option<Outcome<P>>
+    ) -> Option<Outcome<P, H>>
         requires { CanStepAt (Phase.UncountObject object) self.old frame.old }
-        ensures { ◌≡◌ {A = After P} (record { core = self.new; frame = frame.new; outcome = result }) (stepped (uncount_object_row object self.old frame.old)) }
+        ensures { ◌≡◌ {A = After P H} (record { core = self.new; frame = frame.new; outcome = result }) (stepped (uncount_object_row object self.old frame.old)) }
     {
         match object {
             Object::Memory(lease) => self.uncount_memory(frame, lease),
@@ -53,25 +55,34 @@ impl<P: Pages> PoolCore<P> {
         }
     }
 
-    fn uncount_memory(&mut self, frame: &mut Frame<P>, lease: MemoryLease<P>) -> Option<Outcome<P>>
+    fn uncount_memory(
+        &mut self,
+        frame: &mut Frame<P, H>,
+        lease: MemoryLease<P>,
+    ) -> Option<Outcome<P, H>>
         requires { 0 < self.old.counters.memories }
-        ensures { ◌≡◌ {A = After P} (record { core = self.new; frame = frame.new; outcome = result }) (stepped (uncount_object_row (Object.Memory lease) self.old frame.old)) }
+        ensures { ◌≡◌ {A = After P H} (record { core = self.new; frame = frame.new; outcome = result }) (stepped (uncount_object_row (Object.Memory lease) self.old frame.old)) }
     {
         self.counters.memories -= 1;
         frame.go(Phase::Reset(Object::Memory(lease)))
     }
 
-    fn uncount_table(&mut self, frame: &mut Frame<P>, lease: TableLease<P>) -> Option<Outcome<P>>
+    fn uncount_table(
+        &mut self,
+        frame: &mut Frame<P, H>,
+        lease: TableLease<P>,
+    ) -> Option<Outcome<P, H>>
         requires { 0 < self.old.counters.tables }
-        ensures { ◌≡◌ {A = After P} (record { core = self.new; frame = frame.new; outcome = result }) (stepped (uncount_object_row (Object.Table lease) self.old frame.old)) }
+        ensures { ◌≡◌ {A = After P H} (record { core = self.new; frame = frame.new; outcome = result }) (stepped (uncount_object_row (Object.Table lease) self.old frame.old)) }
     {
         self.counters.tables -= 1;
         frame.go(Phase::Reset(Object::Table(lease)))
     }
 
-    pub(crate) fn uncount_instance(&mut self, frame: &mut Frame<P>) -> Option<Outcome<P>>
+    #[inline(never)]
+    pub(crate) fn uncount_instance(&mut self, frame: &mut Frame<P, H>) -> Option<Outcome<P, H>>
         requires { 0 < self.old.counters.core_instances }
-        ensures { ◌≡◌ {A = After P} (record { core = self.new; frame = frame.new; outcome = result }) (stepped (uncount_instance_row self.old frame.old)) }
+        ensures { ◌≡◌ {A = After P H} (record { core = self.new; frame = frame.new; outcome = result }) (stepped (uncount_instance_row self.old frame.old)) }
     {
         self.counters.core_instances -= 1;
         frame.end(answer_of(frame.ending))

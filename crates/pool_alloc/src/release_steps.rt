@@ -19,19 +19,20 @@ use crate::reserved::ReservedList;
 use pool_images::MemoryImageSlot;
 use pool_index::Taken;
 use pool_pages::{HostAlignedByteCount, Pages};
-use pool_slots::{AllocError, Allocator, ImageSlot, Plan};
+use pool_slots::{AllocError, Allocator, GcHeap, ImageSlot, Plan};
 use std::alloc::Global;
 
-impl<P: Pages> PoolCore<P> {
+impl<P: Pages, H: GcHeap> PoolCore<P, H> {
     // A step of a release.
+    #[inline(never)]
     pub(crate) fn release(
         &mut self,
         alloc: Global,
-        frame: &mut Frame<P>,
+        frame: &mut Frame<P, H>,
         step: ReleaseStep<P>,
-    ) -> Option<Outcome<P>>
+    ) -> Option<Outcome<P, H>>
         requires { CanRelease step self.old }
-        ensures { (g : StepGiven) × ReleaseTold self.old.settings g step × ReleasePlanned self.old.settings g step × (◌≡◌ {A = After P} (record { core = self.new; frame = frame.new; outcome = result }) (stepped (release_row g step self.old frame.old))) }
+        ensures { (g : StepGiven H) × ReleaseTold self.old.settings g step × ReleasePlanned self.old.settings g step × (◌≡◌ {A = After P H} (record { core = self.new; frame = frame.new; outcome = result }) (stepped (release_row g step self.old frame.old))) }
     {
         match step {
             ReleaseStep::Reserve => self.reserve(alloc, frame),
@@ -48,9 +49,9 @@ impl<P: Pages> PoolCore<P> {
     }
 
     // Reserves room for the slots of all stripes.
-    fn reserve(&mut self, alloc: Global, frame: &mut Frame<P>) -> Option<Outcome<P>>
+    fn reserve(&mut self, alloc: Global, frame: &mut Frame<P, H>) -> Option<Outcome<P, H>>
         requires { length self.old.plan.memories < 2 ^ 32 }
-        ensures { (wants : Bool) × (◌≡◌ {A = After P} (record { core = self.new; frame = frame.new; outcome = result }) (stepped (reserve_row wants self.old frame.old))) }
+        ensures { (wants : Bool) × (◌≡◌ {A = After P H} (record { core = self.new; frame = frame.new; outcome = result }) (stepped (reserve_row wants self.old frame.old))) }
     {
         let room = slots_in(self.plan.memories.as_slice());
         let Ok(local) = Taken::new(alloc, room) else {
@@ -72,12 +73,12 @@ impl<P: Pages> PoolCore<P> {
     // Takes all warm slots of the shard of the stripe with this number.
     fn take_warm(
         &mut self,
-        frame: &mut Frame<P>,
+        frame: &mut Frame<P, H>,
         cursor: ReleaseCursor,
         shard: u32,
-    ) -> Option<Outcome<P>>
+    ) -> Option<Outcome<P, H>>
         requires { CanTakeWarm self.old cursor shard }
-        ensures { (g : StepGiven) → ◌≡◌ {A = After P} (record { core = self.new; frame = frame.new; outcome = result }) (stepped (release_row g (ReleaseStep.TakeWarm cursor shard) self.old frame.old)) }
+        ensures { (g : StepGiven H) → ◌≡◌ {A = After P H} (record { core = self.new; frame = frame.new; outcome = result }) (stepped (release_row g (ReleaseStep.TakeWarm cursor shard) self.old frame.old)) }
     {
         let mut cursor = cursor;
         let allocator = cursor.allocator(&self.plan);
@@ -92,13 +93,13 @@ impl<P: Pages> PoolCore<P> {
     // Takes the region of the slot at this place of those that were taken.
     fn take_resident(
         &mut self,
-        frame: &mut Frame<P>,
+        frame: &mut Frame<P, H>,
         cursor: ReleaseCursor,
         at: usize,
-    ) -> Option<Outcome<P>>
+    ) -> Option<Outcome<P, H>>
         requires inside { at < length cursor.taken.items }
         requires can { CanTakeOf (nth_taken cursor at).name self.old }
-        ensures { (g : StepGiven) → ◌≡◌ {A = After P} (record { core = self.new; frame = frame.new; outcome = result }) (stepped (release_row g (ReleaseStep.TakeRegion cursor at) self.old frame.old)) }
+        ensures { (g : StepGiven H) → ◌≡◌ {A = After P H} (record { core = self.new; frame = frame.new; outcome = result }) (stepped (release_row g (ReleaseStep.TakeRegion cursor at) self.old frame.old)) }
     {
         let name = cursor.slot(at).name;
         let place = self.plan.cell_place(name);
@@ -111,16 +112,16 @@ impl<P: Pages> PoolCore<P> {
     // Puts it back, in the state that it had. The next slot with resident bytes follows.
     fn put_resident(
         &mut self,
-        frame: &mut Frame<P>,
+        frame: &mut Frame<P, H>,
         cursor: ReleaseCursor,
         at: usize,
         slot: TakenSlot,
         held: ImageSlot<P>,
-    ) -> Option<Outcome<P>>
+    ) -> Option<Outcome<P, H>>
         requires going { CanEndStripe self.old.plan cursor }
         requires inside { at < length cursor.taken.items }
         requires can { CanPutOf slot.name held self.old }
-        ensures { (g : StepGiven) → ◌≡◌ {A = After P} (record { core = self.new; frame = frame.new; outcome = result }) (stepped (release_row g (ReleaseStep.PutRegion cursor at slot held) self.old frame.old)) }
+        ensures { (g : StepGiven H) → ◌≡◌ {A = After P H} (record { core = self.new; frame = frame.new; outcome = result }) (stepped (release_row g (ReleaseStep.PutRegion cursor at slot held) self.old frame.old)) }
     {
         let place = self.plan.cell_place(slot.name);
         let part = self.parts.at(place);
@@ -131,14 +132,14 @@ impl<P: Pages> PoolCore<P> {
     // Frees a slot. It keeps nothing resident where all decommits of the stripe succeeded.
     fn free_taken(
         &mut self,
-        frame: &mut Frame<P>,
+        frame: &mut Frame<P, H>,
         cursor: ReleaseCursor,
         slot: FreedSlot,
-    ) -> Option<Outcome<P>>
+    ) -> Option<Outcome<P, H>>
         requires going { CanEndStripe self.old.plan cursor }
         requires bytes { slot.bytes ≤ 2 ^ 32 }
         requires can { CanFreeOf slot.name self.old }
-        ensures { (g : StepGiven) → ◌≡◌ {A = After P} (record { core = self.new; frame = frame.new; outcome = result }) (stepped (release_row g (ReleaseStep.Free cursor slot) self.old frame.old)) }
+        ensures { (g : StepGiven H) → ◌≡◌ {A = After P H} (record { core = self.new; frame = frame.new; outcome = result }) (stepped (release_row g (ReleaseStep.Free cursor slot) self.old frame.old)) }
     {
         let mut cursor = cursor;
         let home = home(&self.plan, slot.name);
@@ -162,15 +163,15 @@ fn slots_in(allocators: &[Allocator]) -> usize
 }
 
 // The next slot with resident bytes is decommitted, from this place on, or else all are freed.
-fn drain_from<P: Pages>(
+fn drain_from<P: Pages, H: GcHeap>(
     plan: &Plan,
-    frame: &mut Frame<P>,
+    frame: &mut Frame<P, H>,
     cursor: ReleaseCursor,
     from: usize,
-) -> Option<Outcome<P>>
+) -> Option<Outcome<P, H>>
     requires going { CanEndStripe plan.now cursor }
     requires inside { from ≤ length cursor.taken.items }
-    ensures { ◌≡◌ {A = Left P} (record { frame = frame.new; outcome = result }) (after frame.old (drain_from plan.now cursor from)) }
+    ensures { ◌≡◌ {A = Left P H} (record { frame = frame.new; outcome = result }) (after frame.old (drain_from plan.now cursor from)) }
 {
     let next = cursor.next_resident(from);
     if next < cursor.taken.len() {
@@ -180,13 +181,13 @@ fn drain_from<P: Pages>(
 }
 
 // The first slot is freed, or the stripe is done.
-fn free_first<P: Pages>(
+fn free_first<P: Pages, H: GcHeap>(
     plan: &Plan,
-    frame: &mut Frame<P>,
+    frame: &mut Frame<P, H>,
     cursor: ReleaseCursor,
-) -> Option<Outcome<P>>
+) -> Option<Outcome<P, H>>
     requires { CanEndStripe plan.now cursor }
-    ensures { ◌≡◌ {A = Left P} (record { frame = frame.new; outcome = result }) (after frame.old (free_first plan.now cursor.taken.items cursor)) }
+    ensures { ◌≡◌ {A = Left P H} (record { frame = frame.new; outcome = result }) (after frame.old (free_first plan.now cursor.taken.items cursor)) }
 {
     let mut cursor = cursor;
     match cursor.taken.pop_first() {
@@ -196,14 +197,14 @@ fn free_first<P: Pages>(
 }
 
 // The next stripe follows, or the release ends.
-fn behind_stripe<P: Pages>(
+fn behind_stripe<P: Pages, H: GcHeap>(
     plan: &Plan,
-    frame: &mut Frame<P>,
+    frame: &mut Frame<P, H>,
     cursor: ReleaseCursor,
-) -> Option<Outcome<P>>
+) -> Option<Outcome<P, H>>
     requires going { CanEndStripe plan.now cursor }
     requires none { cursor.taken.items ≡ [] }
-    ensures { ◌≡◌ {A = Left P} (record { frame = frame.new; outcome = result }) (after frame.old (behind_stripe plan.now cursor)) }
+    ensures { ◌≡◌ {A = Left P H} (record { frame = frame.new; outcome = result }) (after frame.old (behind_stripe plan.now cursor)) }
 {
     let mut cursor = cursor;
     if cursor.stripe + 1 < plan.memories.len() as u32 {
@@ -215,17 +216,17 @@ fn behind_stripe<P: Pages>(
 }
 
 // The whole region of a slot is decommitted.
-fn decommit<P: Pages>(
+fn decommit<P: Pages, H: GcHeap>(
     settings: &Settings,
-    frame: &mut Frame<P>,
+    frame: &mut Frame<P, H>,
     cursor: ReleaseCursor,
     at: usize,
     slot: TakenSlot,
     held: ImageSlot<P>,
-) -> Option<Outcome<P>>
+) -> Option<Outcome<P, H>>
     requires can { CanDrain settings.now held }
     requires there { is_taken (cell_of held) ≡ false }
-    ensures { (fault : Bool) × (left : Slot) × Drains settings.now fault held left × FollowsDrain settings.now fault held left × (◌≡◌ {A = Left P} (record { frame = frame.new; outcome = result }) (after frame.old (goes (Phase.Release (ReleaseStep.PutRegion (record cursor { failed = cursor.failed || fault }) at slot (after_decommit held left)))))) }
+    ensures { (fault : Bool) × (left : Slot) × Drains settings.now fault held left × FollowsDrain settings.now fault held left × (◌≡◌ {A = Left P H} (record { frame = frame.new; outcome = result }) (after frame.old (goes (Phase.Release (ReleaseStep.PutRegion (record cursor { failed = cursor.failed || fault }) at slot (after_decommit held left)))))) }
 {
     let mut cursor = cursor;
     let (fault, left) = drained(settings, held);

@@ -16,19 +16,20 @@ use crate::table_lease::TableLease;
 use crate::table_steps::reset_table;
 use pool_images::{MemoryImageSlot, Ranges};
 use pool_pages::Pages;
-use pool_slots::{HeldSlot, ImageSlot, QueueKind, QueuedSlot};
+use pool_slots::{GcHeap, HeldSlot, ImageSlot, QueueKind, QueuedSlot};
 use std::alloc::Global;
 
-impl<P: Pages> PoolCore<P> {
+impl<P: Pages, H: GcHeap> PoolCore<P, H> {
     // Resets an object into the local queue.
+    #[inline(never)]
     pub(crate) fn reset(
         &mut self,
         alloc: Global,
-        frame: &mut Frame<P>,
+        frame: &mut Frame<P, H>,
         object: Object<P>,
-    ) -> Option<Outcome<P>>
+    ) -> Option<Outcome<P, H>>
         requires { CanStepAt (Phase.Reset object) self.old frame.old }
-        ensures { (g : StepGiven) × ResetTold self.old.settings g object × ResetPlanned self.old.settings g object × (◌≡◌ {A = After P} (record { core = self.new; frame = frame.new; outcome = result }) (stepped (reset_row g object self.old frame.old))) }
+        ensures { (g : StepGiven H) × ResetTold self.old.settings g object × ResetPlanned self.old.settings g object × (◌≡◌ {A = After P H} (record { core = self.new; frame = frame.new; outcome = result }) (stepped (reset_row g object self.old frame.old))) }
     {
         match object {
             Object::Memory(lease) => self.reset_memory(alloc, frame, lease),
@@ -41,11 +42,11 @@ impl<P: Pages> PoolCore<P> {
     fn reset_table(
         &mut self,
         alloc: Global,
-        frame: &mut Frame<P>,
+        frame: &mut Frame<P, H>,
         lease: TableLease<P>,
-    ) -> Option<Outcome<P>>
+    ) -> Option<Outcome<P, H>>
         requires { CanResetTable self.old.settings lease frame.old.local }
-        ensures { ◌≡◌ {A = After P} (record { core = self.new; frame = frame.new; outcome = result }) (stepped (table_reset_row lease self.old frame.old)) }
+        ensures { ◌≡◌ {A = After P H} (record { core = self.new; frame = frame.new; outcome = result }) (stepped (table_reset_row lease self.old frame.old)) }
     {
         let keep = self.settings.table_keep_resident;
         reset_table(self.settings.page, keep, lease, &mut frame.local);
@@ -57,11 +58,11 @@ impl<P: Pages> PoolCore<P> {
     fn reset_memory(
         &mut self,
         alloc: Global,
-        frame: &mut Frame<P>,
+        frame: &mut Frame<P, H>,
         lease: MemoryLease<P>,
-    ) -> Option<Outcome<P>>
+    ) -> Option<Outcome<P, H>>
         requires { CanReset self.old.settings (slot_of lease.memory) frame.old.local }
-        ensures { (fault : Bool) × (after : Slot) × Resets fault self.old.settings.keep_resident.bytes (slot_taken lease) (slot_of lease.memory) after × FollowsReset self.old.settings.keep_resident.bytes fault (slot_of lease.memory) after × (◌≡◌ {A = After P} (record { core = self.new; frame = frame.new; outcome = result }) (stepped (was_reset fault after lease self.old frame.old))) }
+        ensures { (fault : Bool) × (after : Slot) × Resets fault self.old.settings.keep_resident.bytes (slot_taken lease) (slot_of lease.memory) after × FollowsReset self.old.settings.keep_resident.bytes fault (slot_of lease.memory) after × (◌≡◌ {A = After P H} (record { core = self.new; frame = frame.new; outcome = result }) (stepped (was_reset fault after lease self.old frame.old))) }
     {
         let at = slot_taken(&lease);
         let mut slot = lease.memory.unwrap_static_image();
@@ -102,12 +103,12 @@ fn slot_taken<P: Pages>(lease: &MemoryLease<P>) -> TakenSlot
 }
 
 // What comes after a reset.
-pub(crate) fn was_reset<P: Pages>(
+pub(crate) fn was_reset<P: Pages, H: GcHeap>(
     alloc: Global,
     batch: usize,
-    frame: &mut Frame<P>,
-) -> Option<Outcome<P>>
-    ensures { ◌≡◌ {A = Left P} (record { frame = frame.new; outcome = result }) (after frame.old (reset_turn batch frame.old.local)) }
+    frame: &mut Frame<P, H>,
+) -> Option<Outcome<P, H>>
+    ensures { ◌≡◌ {A = Left P H} (record { frame = frame.new; outcome = result }) (after frame.old (reset_turn batch frame.old.local)) }
 {
     let ranges = frame.local.raw_len();
     if ranges == 0 || batch <= ranges {

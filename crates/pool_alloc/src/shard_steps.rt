@@ -2,31 +2,31 @@ ghost use Rattle.std.specs.Prelude.{◌≡◌, ◌+◌, ◌<◌, ◌≤◌, ◌^
 ghost use Rattle.pool_index.specs.Shard.{ShardState, IsShard, IsSameShard, use_of, pick_answer, after_pick, after_free, slot_number};
 ghost use Rattle.pool_alloc.specs.CanStep.{HasAllocators, CanTryShard};
 ghost use Rattle.pool_alloc.specs.Freeing.{AreUsedInTurn, HasHome, CanBeFreed};
-ghost use Rattle.pool_alloc.specs.Rows.{picked, pick_on, free_one_on, free_on};
+ghost use Rattle.pool_alloc.specs.Rows.{taken_next, picked, pick_on, free_one_on, free_on};
 ghost use Rattle.pool_slots.specs.Plans.{home_of};
 ghost use Rattle.pool_alloc.specs.Steps.{freed_of, allocator_for};
 ghost use Rattle.pool_alloc.specs.Turns.{Left, PartAfter, after, part_after, goes, slot_search};
 
 use crate::frame::{Frame, Outcome, Phase};
 use crate::freeing::{free_all, home};
-use pool_index::{MemoryInModule, Shard, SlotId, Steps};
+use pool_index::{MemoryInModule, Shard, SlotId, SlotKind, Steps};
 use pool_pages::Pages;
-use pool_slots::{Plan, SlotName};
+use pool_slots::{GcHeap, Plan, SlotName};
 use std::alloc::Global;
 use std::marker::Brand;
 use std::sync::ledger::{Blank, Ledger};
 
 // Picks a slot from a shard, which is so many after the home shard.
-pub(crate) fn pick<P: Pages>(
+pub(crate) fn pick<P: Pages, H: GcHeap>(
     shard: &mut Shard,
     plan: &Plan,
-    frame: &mut Frame<P>,
+    frame: &mut Frame<P, H>,
     tried: u32,
-) -> Option<Outcome<P>>
+) -> Option<Outcome<P, H>>
     requires plan { HasAllocators plan.now frame.old.stripe }
     requires tries { CanTryShard plan.now (allocator_for plan.now frame.old) tried }
     requires few { length frame.old.objects.memories.items < 2 ^ 32 }
-    ensures { ◌≡◌ {A = PartAfter ShardState P} (record { part = shard.new; frame = frame.new; outcome = result }) (part_after (pick_on plan.now tried shard.old frame.old)) }
+    ensures { ◌≡◌ {A = PartAfter ShardState P H} (record { part = shard.new; frame = frame.new; outcome = result }) (part_after (pick_on plan.now tried shard.old frame.old)) }
 {
     match pick_of::<Brand>(shard, frame.wanted(), Blank::new(1)) {
         Some(slot) => go_to_slot(plan, frame, slot),
@@ -35,19 +35,37 @@ pub(crate) fn pick<P: Pages>(
 }
 
 // The shard had this slot.
-fn go_to_slot<P: Pages>(plan: &Plan, frame: &mut Frame<P>, slot: u32) -> Option<Outcome<P>>
+fn go_to_slot<P: Pages, H: GcHeap>(
+    plan: &Plan,
+    frame: &mut Frame<P, H>,
+    slot: u32,
+) -> Option<Outcome<P, H>>
     requires { HasAllocators plan.now frame.old.stripe }
-    ensures { ◌≡◌ {A = Left P} (record { frame = frame.new; outcome = result }) (after frame.old (goes (Phase.TakeRegion (record { kind = (allocator_for plan.now frame.old).kind; slot = slot })))) }
+    ensures { ◌≡◌ {A = Left P H} (record { frame = frame.new; outcome = result }) (after frame.old (goes (taken_next (allocator_for plan.now frame.old).kind (record { kind = (allocator_for plan.now frame.old).kind; slot = slot })))) }
 {
     let kind = frame.allocator(plan).kind;
-    frame.go(Phase::TakeRegion(SlotName { kind, slot }))
+    frame.go(taken_next(SlotName { kind, slot }))
+}
+
+// What is taken of a slot that was picked: its heap, or its region.
+fn taken_next<P: Pages, H: GcHeap>(name: SlotName) -> Phase<P, H>
+    ensures { result ≡ taken_next name.kind name }
+{
+    match name.kind {
+        SlotKind::Heap => Phase::TakeHeap(name),
+        _ => Phase::TakeRegion(name),
+    }
 }
 
 // The shard had no slot: the next is tried, unless it was the last.
-fn pick_next<P: Pages>(plan: &Plan, frame: &mut Frame<P>, tried: u32) -> Option<Outcome<P>>
+fn pick_next<P: Pages, H: GcHeap>(
+    plan: &Plan,
+    frame: &mut Frame<P, H>,
+    tried: u32,
+) -> Option<Outcome<P, H>>
     requires plan { HasAllocators plan.now frame.old.stripe }
     requires tries { CanTryShard plan.now (allocator_for plan.now frame.old) tried }
-    ensures { ◌≡◌ {A = Left P} (record { frame = frame.new; outcome = result }) (after frame.old (if nat_lt (tried + 1) (allocator_for plan.now frame.old).shards then goes (Phase.Pick (tried + 1)) else slot_search plan.now frame.old)) }
+    ensures { ◌≡◌ {A = Left P H} (record { frame = frame.new; outcome = result }) (after frame.old (if nat_lt (tried + 1) (allocator_for plan.now frame.old).shards then goes (Phase.Pick (tried + 1)) else slot_search plan.now frame.old)) }
 {
     let shards = frame.allocator(plan).shards;
     if tried + 1 < shards {
@@ -57,16 +75,16 @@ fn pick_next<P: Pages>(plan: &Plan, frame: &mut Frame<P>, tried: u32) -> Option<
 }
 
 // Frees a slot of a shard. Nothing is known of it.
-pub(crate) fn free_one<P: Pages>(
+pub(crate) fn free_one<P: Pages, H: GcHeap>(
     shard: &mut Shard,
     plan: &Plan,
     alloc: Global,
-    frame: &mut Frame<P>,
+    frame: &mut Frame<P, H>,
     name: SlotName,
-) -> Option<Outcome<P>>
+) -> Option<Outcome<P, H>>
     requires home { HasHome plan.now name }
     requires used { IsSome (use_of shard.old (home_of plan.now name).local.0) }
-    ensures { ◌≡◌ {A = PartAfter ShardState P} (record { part = shard.new; frame = frame.new; outcome = result }) (part_after (free_one_on plan.now name shard.old frame.old)) }
+    ensures { ◌≡◌ {A = PartAfter ShardState P H} (record { part = shard.new; frame = frame.new; outcome = result }) (part_after (free_one_on plan.now name shard.old frame.old)) }
 {
     let local = home(plan, name).local;
     free_of::<Brand>(shard, local, 0, Blank::new(1));
@@ -74,16 +92,16 @@ pub(crate) fn free_one<P: Pages>(
 }
 
 // Frees all slots that wait to be freed and are at home in the shard, which has this place.
-pub(crate) fn free<P: Pages>(
+pub(crate) fn free<P: Pages, H: GcHeap>(
     shard: &mut Shard,
     plan: &Plan,
     alloc: Global,
-    frame: &mut Frame<P>,
+    frame: &mut Frame<P, H>,
     place: u32,
-) -> Option<Outcome<P>>
+) -> Option<Outcome<P, H>>
     requires used { AreUsedInTurn plan.now (freed_of plan.now place frame.old.freed.items) shard.old }
     requires each { All (CanBeFreed plan.now) frame.old.freed.items }
-    ensures { ◌≡◌ {A = PartAfter ShardState P} (record { part = shard.new; frame = frame.new; outcome = result }) (part_after (free_on plan.now place shard.old frame.old)) }
+    ensures { ◌≡◌ {A = PartAfter ShardState P H} (record { part = shard.new; frame = frame.new; outcome = result }) (part_after (free_on plan.now place shard.old frame.old)) }
 {
     free_all(shard, plan, place, &mut frame.freed);
     frame.flush(alloc)

@@ -17,13 +17,18 @@ use crate::reset_step::was_reset;
 use crate::stack_lease::StackLease;
 use pool_images::Ranges;
 use pool_pages::{HostAlignedByteCount, PageRegion, Pages};
-use pool_slots::{AllocError, DecommitQueue, QueueKind, Stack};
+use pool_slots::{AllocError, DecommitQueue, GcHeap, QueueKind, Stack};
 use std::alloc::Global;
 
-impl<P: Pages> PoolCore<P> {
+impl<P: Pages, H: GcHeap> PoolCore<P, H> {
     // Tests whether stacks are enabled.
-    pub(crate) fn test_stack(&mut self, alloc: Global, frame: &mut Frame<P>) -> Option<Outcome<P>>
-        ensures { ◌≡◌ {A = After P} (record { core = self.new; frame = frame.new; outcome = result }) (stepped (test_stack_row self.old frame.old)) }
+    #[inline(never)]
+    pub(crate) fn test_stack(
+        &mut self,
+        alloc: Global,
+        frame: &mut Frame<P, H>,
+    ) -> Option<Outcome<P, H>>
+        ensures { ◌≡◌ {A = After P H} (record { core = self.new; frame = frame.new; outcome = result }) (stepped (test_stack_row self.old frame.old)) }
     {
         if self.settings.stack_size == 0 {
             return self.refuse_at_once(frame, AllocError::StacksDisabled);
@@ -35,11 +40,11 @@ impl<P: Pages> PoolCore<P> {
     // Grants a stack, with which its call ends.
     pub(crate) fn count_stack(
         &mut self,
-        frame: &mut Frame<P>,
+        frame: &mut Frame<P, H>,
         lease: StackLease<P>,
-    ) -> Option<Outcome<P>>
+    ) -> Option<Outcome<P, H>>
         requires { self.old.counters.stacks + 1 < 2 ^ 64 }
-        ensures { ◌≡◌ {A = After P} (record { core = self.new; frame = frame.new; outcome = result }) (stepped (count_object_row (Object.Stack lease) self.old frame.old)) }
+        ensures { ◌≡◌ {A = After P H} (record { core = self.new; frame = frame.new; outcome = result }) (stepped (count_object_row (Object.Stack lease) self.old frame.old)) }
     {
         self.counters.stacks += 1;
         frame.end(Outcome::Granted(Grant::Stack(lease)))
@@ -47,11 +52,11 @@ impl<P: Pages> PoolCore<P> {
 
     pub(crate) fn uncount_stack(
         &mut self,
-        frame: &mut Frame<P>,
+        frame: &mut Frame<P, H>,
         lease: StackLease<P>,
-    ) -> Option<Outcome<P>>
+    ) -> Option<Outcome<P, H>>
         requires { 0 < self.old.counters.stacks }
-        ensures { ◌≡◌ {A = After P} (record { core = self.new; frame = frame.new; outcome = result }) (stepped (uncount_object_row (Object.Stack lease) self.old frame.old)) }
+        ensures { ◌≡◌ {A = After P H} (record { core = self.new; frame = frame.new; outcome = result }) (stepped (uncount_object_row (Object.Stack lease) self.old frame.old)) }
     {
         self.counters.stacks -= 1;
         frame.go(Phase::Reset(Object::Stack(lease)))
@@ -61,11 +66,11 @@ impl<P: Pages> PoolCore<P> {
     pub(crate) fn reset_stack(
         &mut self,
         alloc: Global,
-        frame: &mut Frame<P>,
+        frame: &mut Frame<P, H>,
         lease: StackLease<P>,
-    ) -> Option<Outcome<P>>
+    ) -> Option<Outcome<P, H>>
         requires { CanResetStack self.old.settings lease frame.old.local }
-        ensures { ◌≡◌ {A = After P} (record { core = self.new; frame = frame.new; outcome = result }) (stepped (stack_reset_row lease self.old frame.old)) }
+        ensures { ◌≡◌ {A = After P H} (record { core = self.new; frame = frame.new; outcome = result }) (stepped (stack_reset_row lease self.old frame.old)) }
     {
         let keep = self.settings.stack_keep_resident;
         reset_stack(keep, lease, &mut frame.local);

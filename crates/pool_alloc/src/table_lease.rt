@@ -1,11 +1,11 @@
 ghost use Rattle.std.specs.Prelude.{◌≡◌, ◌<◌, length, slice_index_or};
 ghost use Rattle.pool_table.specs.Elements.{type_of};
 ghost use Rattle.pool_alloc.specs.Leases.{IsChanged};
-ghost use Rattle.pool_alloc.specs.TableLeases.{LeasedTable, element_of, CanBeSet, IsElementAt, IsSet, IsFilled, IsLengthened};
+ghost use Rattle.pool_alloc.specs.TableLeases.{LeasedTable, element_of, CanBeSet, IsElementAt, IsFilled, IsLengthened};
 ghost use Rattle.pool_alloc.specs.Sums.{table_calls};
 
 use crate::reserved::ReservedList;
-use crate::table_element::Element;
+use crate::table_element::{Element, element_at, set_elements};
 use pool_limits::{GrowFault, ResourceLimiter, Trap};
 use pool_pages::{PageCalls, Pages, TableElementType};
 use pool_slots::{RegionNumbers, TableAllocationIndex};
@@ -55,40 +55,9 @@ impl<P: Pages> TableLease<P> {
 
     /// The element at `at`.
     pub fn get(&self, at: u64) -> Result<Element, Trap>
-        ensures { IsElementAt self.now at result }
+        ensures { IsElementAt self.now.table at result }
     {
-        match self.table.element_type() {
-            TableElementType::Func => match self.table.get_func(at)? {
-                Some(function) => Ok(Element::Func(function)),
-                None => Ok(Element::Uninitialised),
-            },
-            TableElementType::GcRef => Ok(Element::Gc(self.table.get_gc_ref(at)?)),
-            TableElementType::Cont => Ok(Element::Cont(self.table.get_cont(at)?)),
-        }
-    }
-
-    fn set_elements<G: GcStore>(
-        &mut self,
-        store: &mut G,
-        at: u64,
-        element: Element,
-        len: u64,
-    ) -> Result<(), GcTableError>
-        requires { CanBeSet self.old.table.kind (element_of element) }
-        ensures { IsSet G.told G.leads at len (element_of element) self.old self.new store.old store.new result }
-    {
-        match element {
-            Element::Func(function) => match self.table.fill_func(at, function, len) {
-                Ok(()) => Ok(()),
-                Err(trap) => Err(GcTableError::Trap(trap)),
-            },
-            Element::Gc(reference) => self.table.fill_gc_ref(store, at, reference, len),
-            Element::Cont(continuation) => match self.table.fill_cont(at, continuation, len) {
-                Ok(()) => Ok(()),
-                Err(trap) => Err(GcTableError::Trap(trap)),
-            },
-            Element::Uninitialised => unreachable!(),
-        }
+        element_at(&self.table, at)
     }
 
     /// Sets `len` elements from `at` on, or nothing where they pass the table's size. For each GC reference the store is
@@ -103,7 +72,7 @@ impl<P: Pages> TableLease<P> {
         requires { CanBeSet self.old.table.kind (element_of element) }
         ensures { IsFilled G.told G.leads at len (element_of element) self.old self.new store.old store.new result }
     {
-        let result = self.set_elements(store, at, element, len);
+        let result = set_elements(&mut self.table, store, at, element, len);
         let _region = self.table.region();
         result
     }

@@ -19,7 +19,7 @@ use pool_images::Ranges;
 use pool_limits::ResourceLimiter;
 use pool_pages::{HostAlignedByteCount, PageRegion, PageSize, Pages, TableType, Tunables};
 use pool_slots::{
-    AllocError, DecommitQueue, HeldSlot, ImageSlot, PlainSlot, QueueKind, QueuedSlot,
+    AllocError, DecommitQueue, GcHeap, HeldSlot, ImageSlot, PlainSlot, QueueKind, QueuedSlot,
     TableAllocationIndex, data_size,
 };
 use pool_table::{ElementSize, Table, TableError};
@@ -27,18 +27,19 @@ use pool_table::{ElementSize, Table, TableError};
 /// A table in its slot, or the region of one that is refused.
 type TableMaking<P> = Result<TableLease<P>, (PageRegion<P>, AllocError)>;
 
-impl<P: Pages> PoolCore<P> {
+impl<P: Pages, H: GcHeap> PoolCore<P, H> {
     // Asks the limiter, and makes the table.
+    #[inline(never)]
     pub(crate) fn make_table<L: ResourceLimiter>(
         &mut self,
-        frame: &mut Frame<P>,
+        frame: &mut Frame<P, H>,
         at: TakenSlot,
         region: PageRegion<P>,
         limiter: &mut L,
-    ) -> Option<Outcome<P>>
+    ) -> Option<Outcome<P, H>>
         requires next { HasTableNext frame.old.asked (length frame.old.objects.tables.items) }
         requires can { IfTable frame.old (CanMakeTable self.old.settings region) }
-        ensures { (answer : Result Bool LimiterError) × IfTable frame.old (AsksForTable answer (L.told limiter.old) (L.told limiter.new)) × IfTable frame.old (λ ty. Exchanged L.leads (may_grow (making_question ty) answer ∷ []) limiter.old limiter.new) × (◌≡◌ {A = After P} (record { core = self.new; frame = frame.new; outcome = result }) (stepped (make_table_row answer at region self.old frame.old))) }
+        ensures { (answer : Result Bool LimiterError) × IfTable frame.old (AsksForTable answer (L.told limiter.old) (L.told limiter.new)) × IfTable frame.old (λ ty. Exchanged L.leads (may_grow (making_question ty) answer ∷ []) limiter.old limiter.new) × (◌≡◌ {A = After P H} (record { core = self.new; frame = frame.new; outcome = result }) (stepped (make_table_row answer at region self.old frame.old))) }
     {
         let making = self.make_next_table(frame, at, region, limiter);
         table_made(frame, at, making)
@@ -47,7 +48,7 @@ impl<P: Pages> PoolCore<P> {
     // The table that is allocated.
     fn make_next_table<L: ResourceLimiter>(
         &self,
-        frame: &Frame<P>,
+        frame: &Frame<P, H>,
         at: TakenSlot,
         region: PageRegion<P>,
         limiter: &mut L,
@@ -58,7 +59,7 @@ impl<P: Pages> PoolCore<P> {
     {
         let table = frame.objects.tables.len();
         match &frame.asked {
-            Asked::Nothing | Asked::Stack => unreachable!(),
+            Asked::Nothing | Asked::Stack | Asked::Heap(_) => unreachable!(),
             Asked::Module(call) => {
                 let ty = &call.info.tables.as_slice()[table];
                 make_table_of(ty, &self.settings, at, region, limiter)
@@ -87,12 +88,12 @@ fn make_table_of<P: Pages, L: ResourceLimiter>(
 }
 
 // What comes after a making.
-fn table_made<P: Pages>(
-    frame: &mut Frame<P>,
+fn table_made<P: Pages, H: GcHeap>(
+    frame: &mut Frame<P, H>,
     at: TakenSlot,
     making: TableMaking<P>,
-) -> Option<Outcome<P>>
-    ensures { (c : PoolCore P) → ◌≡◌ {A = After P} (record { core = c; frame = frame.new; outcome = result }) (stepped (table_made_by at making c frame.old)) }
+) -> Option<Outcome<P, H>>
+    ensures { (c : PoolCore P H) → ◌≡◌ {A = After P H} (record { core = c; frame = frame.new; outcome = result }) (stepped (table_made_by at making c frame.old)) }
 {
     let phase = match making {
         Ok(lease) => Phase::CountObject(Object::Table(lease)),

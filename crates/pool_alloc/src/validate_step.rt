@@ -9,6 +9,7 @@ ghost use Rattle.pool_alloc.specs.Turns.{After, stepped};
 ghost use Rattle.std.specs.Option.{option_or};
 
 use crate::frame::{Asked, Frame, Outcome, Phase};
+use crate::frame_turns::drop_phase;
 use crate::lease::InstanceLease;
 use crate::pool_core::{PoolCore, Settings};
 use crate::reserved::ReservedList;
@@ -17,52 +18,66 @@ use crate::table_rules::{long_table, table_limits_refused, tables_refused};
 use pool_pages::{
     ImageDecl, MemoryDecl, MemoryType, ModuleInfo, PageSize, Pages, TableType, Unsupported,
 };
-use pool_slots::AllocError;
+use pool_slots::{AllocError, GcHeap};
 use std::alloc::Global;
 
-impl<P: Pages> PoolCore<P> {
+impl<P: Pages, H: GcHeap> PoolCore<P, H> {
     // Tests the module, and reserves the lists of what is to be granted.
-    pub(crate) fn validate(&mut self, alloc: Global, frame: &mut Frame<P>) -> Option<Outcome<P>>
+    #[inline(never)]
+    pub(crate) fn validate(
+        &mut self,
+        alloc: Global,
+        frame: &mut Frame<P, H>,
+    ) -> Option<Outcome<P, H>>
         requires { CanValidate (memories_wanted frame.old.asked) }
-        ensures { (wants : Bool) × (◌≡◌ {A = After P} (record { core = self.new; frame = frame.new; outcome = result }) (stepped (validate_row wants self.old frame.old))) }
+        ensures { (wants : Bool) × (◌≡◌ {A = After P H} (record { core = self.new; frame = frame.new; outcome = result }) (stepped (validate_row wants self.old frame.old))) }
     {
         match self.module_refused(frame) {
             Some(rule) => self.refuse_at_once(frame, AllocError::Unsupported(rule)),
-            None => self.reserve_grants(alloc, frame),
+            None => self.reserve_grants(alloc, frame, Phase::CountInstance),
         }
     }
 
     // The call ends with a refusal before anything is granted.
     pub(crate) fn refuse_at_once(
         &mut self,
-        frame: &mut Frame<P>,
+        frame: &mut Frame<P, H>,
         error: AllocError,
-    ) -> Option<Outcome<P>>
-        ensures { ◌≡◌ {A = After P} (record { core = self.new; frame = frame.new; outcome = result }) (stepped (refused_at_once error self.old frame.old)) }
+    ) -> Option<Outcome<P, H>>
+        ensures { ◌≡◌ {A = After P H} (record { core = self.new; frame = frame.new; outcome = result }) (stepped (refused_at_once error self.old frame.old)) }
     {
         frame.end(Outcome::Refused(error))
     }
 
-    fn reserve_grants(&mut self, alloc: Global, frame: &mut Frame<P>) -> Option<Outcome<P>>
-        ensures { (wants : Bool) × (◌≡◌ {A = After P} (record { core = self.new; frame = frame.new; outcome = result }) (stepped (validated None wants self.old frame.old))) }
+    // The lists of what is to be granted are reserved, and this phase is next.
+    pub(crate) fn reserve_grants(
+        &mut self,
+        alloc: Global,
+        frame: &mut Frame<P, H>,
+        next: Phase<P, H>,
+    ) -> Option<Outcome<P, H>>
+        ensures { (wants : Bool) × (◌≡◌ {A = After P H} (record { core = self.new; frame = frame.new; outcome = result }) (stepped (validated None wants next self.old frame.old))) }
     {
         match room_for(alloc, frame.memories_wanted(), frame.tables_wanted()) {
             Ok(objects) => {
                 frame.objects = objects;
-                frame.go(Phase::CountInstance)
+                frame.go(next)
             }
-            Err(_) => self.refuse_at_once(frame, AllocError::Memory),
+            Err(_) => {
+                drop_phase(next);
+                self.refuse_at_once(frame, AllocError::Memory)
+            }
         }
     }
 
     // The first rule that the module breaks.
-    fn module_refused(&self, frame: &Frame<P>) -> Option<Unsupported>
+    fn module_refused(&self, frame: &Frame<P, H>) -> Option<Unsupported>
         requires { CanValidate (memories_wanted frame.now.asked) }
         ensures { result ≡ module_refused self.now.settings self.now.plan.totals.table (info_wanted frame.now.asked) }
     {
         let total = self.plan.totals.table;
         match &frame.asked {
-            Asked::Nothing | Asked::Stack => None,
+            Asked::Nothing | Asked::Stack | Asked::Heap(_) => None,
             Asked::Module(call) => module_refused(&self.settings, total, &call.info),
         }
     }
@@ -134,8 +149,9 @@ fn tables_broken(settings: &Settings, total: u32, tables: &[TableType]) -> Optio
     long_table(settings, tables)
 }
 
+/// The refusal of the first memory of which the image begins inside a page.
 #[tactic(auto, using(crate::proofs::Refusing::refused_here, crate::proofs::Refusing::refused_later, crate::proofs::Refusing::refused_nowhere))]
-fn offsets_refused(page: PageSize, decls: &[MemoryDecl]) -> Option<Unsupported>
+pub fn offsets_refused(page: PageSize, decls: &[MemoryDecl]) -> Option<Unsupported>
     ensures { result ≡ first_refused (λ d. offset_refused page d.image) decls.now }
 {
     for decl in decls {

@@ -8,10 +8,10 @@ use crate::pool_core::{PoolCore, Settings};
 use crate::size_rules::component_refused;
 use crate::validate_step::{memory_refused, module_refused};
 use pool_pages::{ComponentInfo, MemoryType, ModuleInfo, Pages, Unsupported};
-use pool_slots::AllocError;
+use pool_slots::{AllocError, GcHeap};
 
 // What the pool refuses whatever is live. The refusals tell the first rule that is broken. No call takes memory.
-impl<P: Pages> PoolCore<P> {
+impl<P: Pages, H: GcHeap> PoolCore<P, H> {
     /// Tests a component: how many core instances, memories and tables it has, and how many bytes it takes.
     pub fn validate_component(&self, info: &ComponentInfo) -> Result<(), AllocError>
         ensures { result ≡ refused_by (component_refused self.now.settings info.now) }
@@ -36,7 +36,7 @@ impl<P: Pages> PoolCore<P> {
     }
 }
 
-fn type_refused(settings: &Settings, ty: &MemoryType) -> Option<Unsupported>
+pub(crate) fn type_refused(settings: &Settings, ty: &MemoryType) -> Option<Unsupported>
     requires { ty.now.page_size_log2 < 64 }
     ensures { result ≡ type_refused settings.now ty.now }
 {

@@ -1,80 +1,69 @@
 use Rattle.std.proofs.Common.{refl, sym, ◌∙◌}
 use Rattle.pool_limits.specs.Exchanges.{Exchanged}
-use Rattle.pool_alloc.specs.declared.frame.Phase.TheVariants.{Idle, Key, Validate, TestStack, CountInstance, Pick, TakeQueue, TakeRegion, Empty, Instantiate, MakeMemory, MakeTable, CountObject, PutBack, FreeOne, UncountObject, Reset, Merge, Flush, UncountInstance, ValidateComponent, CountComponent, UncountComponent, Purge, Release}
+use Rattle.pool_alloc.specs.declared.frame.Phase.TheVariants.{Idle, Validate, Flush, Key, CountInstance, TestStack, Pick, TakeQueue, TakeRegion, FreeOne, Merge, UncountInstance, ValidateComponent, CountComponent, UncountComponent, TestHeap, TakeHeap, CountHeap, PutNoHeap, MakeHeap}
 use Rattle.pool_alloc.proofs.Advancing.{nothing_told, by_row, quiet, idle_row}
+use Rattle.pool_alloc.proofs.Holding.{of_frame}
 use Rattle.pool_alloc.proofs.pool_core.PoolCore.advance.Goals as goal
 
-pub returns-in-Idle : goal.returns-in-Idle
-returns-in-Idle g c = quiet g.L.ResourceLimiter.leads c.args.limiter.now _ nothing_told (Idle) c.args.self.now c.args.frame.now _ c.replace.new.dest (sym c.replace.ensures.value ∙ c.in-Idle.is) c.replace.ensures.after tt tt refl refl (idle_row nothing_told c.args.self.now c.args.frame.now c.replace.new.dest c.replace.ensures.after)
+pub returns-in-Idle-clause-row : goal.returns-in-Idle-clause-row
+returns-in-Idle-clause-row g c = quiet g.L.ResourceLimiter.leads c.args.limiter.now _ nothing_told (Idle) c.args.self.now c.args.frame.now _ c.replace-phase.new.dest (sym c.replace-phase.ensures.value ∙ c.in-Idle.is) c.replace-phase.ensures.after tt tt refl refl refl (idle_row nothing_told c.args.self.now c.args.frame.now c.replace-phase.new.dest c.replace-phase.ensures.after)
 
-pub returns-in-Validate : goal.returns-in-Validate
-returns-in-Validate g c = quiet g.L.ResourceLimiter.leads c.args.limiter.now _ (record nothing_told { wants = c.validate.ensures.0 }) (Validate) c.args.self.now c.args.frame.now _ c.replace.new.dest (sym c.replace.ensures.value ∙ c.in-Validate.is) c.replace.ensures.after tt tt refl refl c.validate.ensures.1
+pub returns-in-Validate-clause-row : goal.returns-in-Validate-clause-row
+returns-in-Validate-clause-row g c = quiet g.L.ResourceLimiter.leads c.args.limiter.now _ (record nothing_told { wants = c.validate.ensures.0 }) (Validate) c.args.self.now c.args.frame.now _ c.replace-phase.new.dest (sym c.replace-phase.ensures.value ∙ c.in-Validate.is) c.replace-phase.ensures.after tt tt refl refl refl c.validate.ensures.1
 
-pub returns-in-Empty : goal.returns-in-Empty
-returns-in-Empty g c = quiet g.L.ResourceLimiter.leads c.args.limiter.now _ (record nothing_told { fault = c.empty.ensures.0; slot = c.empty.ensures.1 }) (Empty c.in-Empty.at c.in-Empty.held) c.args.self.now c.args.frame.now _ c.replace.new.dest (sym c.replace.ensures.value ∙ c.in-Empty.is) c.replace.ensures.after c.empty.ensures.2 c.empty.ensures.3 refl refl c.empty.ensures.4
+pub returns-in-Flush-clause-row : goal.returns-in-Flush-clause-row
+returns-in-Flush-clause-row g c = quiet g.L.ResourceLimiter.leads c.args.limiter.now _ c.flush.ensures.0 (Flush) c.args.self.now c.args.frame.now _ c.replace-phase.new.dest (sym c.replace-phase.ensures.value ∙ c.in-Flush.is) c.replace-phase.ensures.after c.flush.ensures.1 c.flush.ensures.2 refl refl refl c.flush.ensures.3
 
-pub returns-in-Instantiate : goal.returns-in-Instantiate
-returns-in-Instantiate g c = quiet g.L.ResourceLimiter.leads c.args.limiter.now _ (record nothing_told { fault = c.instantiate.ensures.0; slot = c.instantiate.ensures.1 }) (Instantiate c.in-Instantiate.at c.in-Instantiate.held) c.args.self.now c.args.frame.now _ c.replace.new.dest (sym c.replace.ensures.value ∙ c.in-Instantiate.is) c.replace.ensures.after c.instantiate.ensures.2 c.instantiate.ensures.3 refl refl c.instantiate.ensures.4
+pub returns-in-Key-clause-row : goal.returns-in-Key-clause-row
+returns-in-Key-clause-row g c = quiet g.L.ResourceLimiter.leads c.args.limiter.now _ nothing_told (Key) c.args.self.now c.args.frame.now _ c.replace-phase.new.dest (sym c.replace-phase.ensures.value ∙ c.in-Key.is) c.replace-phase.ensures.after tt tt refl refl refl c.draw_key.ensures
 
-pub returns-in-Reset : goal.returns-in-Reset
-returns-in-Reset g c = quiet g.L.ResourceLimiter.leads c.args.limiter.now _ c.reset.ensures.0 (Reset c.in-Reset.object) c.args.self.now c.args.frame.now _ c.replace.new.dest (sym c.replace.ensures.value ∙ c.in-Reset.is) c.replace.ensures.after c.reset.ensures.1 c.reset.ensures.2 refl refl c.reset.ensures.3
+pub returns-in-CountInstance-clause-row : goal.returns-in-CountInstance-clause-row
+returns-in-CountInstance-clause-row g c = quiet g.L.ResourceLimiter.leads c.args.limiter.now _ nothing_told (CountInstance) c.args.self.now c.args.frame.now _ c.replace-phase.new.dest (sym c.replace-phase.ensures.value ∙ c.in-CountInstance.is) c.replace-phase.ensures.after tt tt refl refl refl c.count_instance.ensures
 
-pub returns-in-Flush : goal.returns-in-Flush
-returns-in-Flush g c = quiet g.L.ResourceLimiter.leads c.args.limiter.now _ c.flush.ensures.0 (Flush) c.args.self.now c.args.frame.now _ c.replace.new.dest (sym c.replace.ensures.value ∙ c.in-Flush.is) c.replace.ensures.after c.flush.ensures.1 c.flush.ensures.2 refl refl c.flush.ensures.3
+pub returns-in-TestStack-clause-row : goal.returns-in-TestStack-clause-row
+returns-in-TestStack-clause-row g c = quiet g.L.ResourceLimiter.leads c.args.limiter.now _ nothing_told (TestStack) c.args.self.now c.args.frame.now _ c.replace-phase.new.dest (sym c.replace-phase.ensures.value ∙ c.in-TestStack.is) c.replace-phase.ensures.after tt tt refl refl refl c.test_stack.ensures
 
-pub returns-in-Key : goal.returns-in-Key
-returns-in-Key g c = quiet g.L.ResourceLimiter.leads c.args.limiter.now _ nothing_told (Key) c.args.self.now c.args.frame.now _ c.replace.new.dest (sym c.replace.ensures.value ∙ c.in-Key.is) c.replace.ensures.after tt tt refl refl c.draw_key.ensures
+pub returns-in-Pick-clause-row : goal.returns-in-Pick-clause-row
+returns-in-Pick-clause-row g c = quiet g.L.ResourceLimiter.leads c.args.limiter.now _ nothing_told (Pick c.in-Pick.tried) c.args.self.now c.args.frame.now _ c.replace-phase.new.dest (sym c.replace-phase.ensures.value ∙ c.in-Pick.is) c.replace-phase.ensures.after tt tt refl refl refl c.pick.ensures
 
-pub returns-in-CountInstance : goal.returns-in-CountInstance
-returns-in-CountInstance g c = quiet g.L.ResourceLimiter.leads c.args.limiter.now _ nothing_told (CountInstance) c.args.self.now c.args.frame.now _ c.replace.new.dest (sym c.replace.ensures.value ∙ c.in-CountInstance.is) c.replace.ensures.after tt tt refl refl c.count_instance.ensures
+pub returns-in-TakeQueue-clause-row : goal.returns-in-TakeQueue-clause-row
+returns-in-TakeQueue-clause-row g c = quiet g.L.ResourceLimiter.leads c.args.limiter.now _ nothing_told (TakeQueue) c.args.self.now c.args.frame.now _ c.replace-phase.new.dest (sym c.replace-phase.ensures.value ∙ c.in-TakeQueue.is) c.replace-phase.ensures.after tt tt refl refl refl c.take_queue.ensures
 
-pub returns-in-TestStack : goal.returns-in-TestStack
-returns-in-TestStack g c = quiet g.L.ResourceLimiter.leads c.args.limiter.now _ nothing_told (TestStack) c.args.self.now c.args.frame.now _ c.replace.new.dest (sym c.replace.ensures.value ∙ c.in-TestStack.is) c.replace.ensures.after tt tt refl refl c.test_stack.ensures
+pub returns-in-TakeRegion-clause-row : goal.returns-in-TakeRegion-clause-row
+returns-in-TakeRegion-clause-row g c = quiet g.L.ResourceLimiter.leads c.args.limiter.now _ nothing_told (TakeRegion c.in-TakeRegion.name) c.args.self.now c.args.frame.now _ c.replace-phase.new.dest (sym c.replace-phase.ensures.value ∙ c.in-TakeRegion.is) c.replace-phase.ensures.after tt tt refl refl refl c.take_region.ensures
 
-pub returns-in-Pick : goal.returns-in-Pick
-returns-in-Pick g c = quiet g.L.ResourceLimiter.leads c.args.limiter.now _ nothing_told (Pick c.in-Pick.tried) c.args.self.now c.args.frame.now _ c.replace.new.dest (sym c.replace.ensures.value ∙ c.in-Pick.is) c.replace.ensures.after tt tt refl refl c.pick.ensures
+pub returns-in-FreeOne-clause-row : goal.returns-in-FreeOne-clause-row
+returns-in-FreeOne-clause-row g c = quiet g.L.ResourceLimiter.leads c.args.limiter.now _ nothing_told (FreeOne c.in-FreeOne.name) c.args.self.now c.args.frame.now _ c.replace-phase.new.dest (sym c.replace-phase.ensures.value ∙ c.in-FreeOne.is) c.replace-phase.ensures.after tt tt refl refl refl c.free_one.ensures
 
-pub returns-in-TakeQueue : goal.returns-in-TakeQueue
-returns-in-TakeQueue g c = quiet g.L.ResourceLimiter.leads c.args.limiter.now _ nothing_told (TakeQueue) c.args.self.now c.args.frame.now _ c.replace.new.dest (sym c.replace.ensures.value ∙ c.in-TakeQueue.is) c.replace.ensures.after tt tt refl refl c.take_queue.ensures
+pub returns-in-Merge-clause-row : goal.returns-in-Merge-clause-row
+returns-in-Merge-clause-row g c = quiet g.L.ResourceLimiter.leads c.args.limiter.now _ nothing_told (Merge) c.args.self.now c.args.frame.now _ c.replace-phase.new.dest (sym c.replace-phase.ensures.value ∙ c.in-Merge.is) c.replace-phase.ensures.after tt tt refl refl refl c.merge.ensures
 
-pub returns-in-TakeRegion : goal.returns-in-TakeRegion
-returns-in-TakeRegion g c = quiet g.L.ResourceLimiter.leads c.args.limiter.now _ nothing_told (TakeRegion c.in-TakeRegion.name) c.args.self.now c.args.frame.now _ c.replace.new.dest (sym c.replace.ensures.value ∙ c.in-TakeRegion.is) c.replace.ensures.after tt tt refl refl c.take_region.ensures
+pub returns-in-UncountInstance-clause-row : goal.returns-in-UncountInstance-clause-row
+returns-in-UncountInstance-clause-row g c = quiet g.L.ResourceLimiter.leads c.args.limiter.now _ nothing_told (UncountInstance) c.args.self.now c.args.frame.now _ c.replace-phase.new.dest (sym c.replace-phase.ensures.value ∙ c.in-UncountInstance.is) c.replace-phase.ensures.after tt tt refl refl refl c.uncount_instance.ensures
 
-pub returns-in-CountObject : goal.returns-in-CountObject
-returns-in-CountObject g c = quiet g.L.ResourceLimiter.leads c.args.limiter.now _ nothing_told (CountObject c.in-CountObject.object) c.args.self.now c.args.frame.now _ c.replace.new.dest (sym c.replace.ensures.value ∙ c.in-CountObject.is) c.replace.ensures.after tt tt refl refl c.count_object.ensures
+pub returns-in-ValidateComponent-clause-row : goal.returns-in-ValidateComponent-clause-row
+returns-in-ValidateComponent-clause-row g c = quiet g.L.ResourceLimiter.leads c.args.limiter.now _ nothing_told (ValidateComponent c.in-ValidateComponent.info) c.args.self.now c.args.frame.now _ c.replace-phase.new.dest (sym c.replace-phase.ensures.value ∙ c.in-ValidateComponent.is) c.replace-phase.ensures.after tt tt refl refl refl c.test_component.ensures
 
-pub returns-in-PutBack : goal.returns-in-PutBack
-returns-in-PutBack g c = quiet g.L.ResourceLimiter.leads c.args.limiter.now _ nothing_told (PutBack c.in-PutBack.at c.in-PutBack.held) c.args.self.now c.args.frame.now _ c.replace.new.dest (sym c.replace.ensures.value ∙ c.in-PutBack.is) c.replace.ensures.after tt tt refl refl c.put_back.ensures
+pub returns-in-CountComponent-clause-row : goal.returns-in-CountComponent-clause-row
+returns-in-CountComponent-clause-row g c = quiet g.L.ResourceLimiter.leads c.args.limiter.now _ nothing_told (CountComponent) c.args.self.now c.args.frame.now _ c.replace-phase.new.dest (sym c.replace-phase.ensures.value ∙ c.in-CountComponent.is) c.replace-phase.ensures.after tt tt refl refl refl c.count_component.ensures
 
-pub returns-in-FreeOne : goal.returns-in-FreeOne
-returns-in-FreeOne g c = quiet g.L.ResourceLimiter.leads c.args.limiter.now _ nothing_told (FreeOne c.in-FreeOne.name) c.args.self.now c.args.frame.now _ c.replace.new.dest (sym c.replace.ensures.value ∙ c.in-FreeOne.is) c.replace.ensures.after tt tt refl refl c.free_one.ensures
+pub returns-in-UncountComponent-clause-row : goal.returns-in-UncountComponent-clause-row
+returns-in-UncountComponent-clause-row g c = quiet g.L.ResourceLimiter.leads c.args.limiter.now _ nothing_told (UncountComponent) c.args.self.now c.args.frame.now _ c.replace-phase.new.dest (sym c.replace-phase.ensures.value ∙ c.in-UncountComponent.is) c.replace-phase.ensures.after tt tt refl refl refl c.uncount_component.ensures
 
-pub returns-in-UncountObject : goal.returns-in-UncountObject
-returns-in-UncountObject g c = quiet g.L.ResourceLimiter.leads c.args.limiter.now _ nothing_told (UncountObject c.in-UncountObject.object) c.args.self.now c.args.frame.now _ c.replace.new.dest (sym c.replace.ensures.value ∙ c.in-UncountObject.is) c.replace.ensures.after tt tt refl refl c.uncount_object.ensures
+pub returns-in-TestHeap-clause-row : goal.returns-in-TestHeap-clause-row
+returns-in-TestHeap-clause-row g c = quiet g.L.ResourceLimiter.leads c.args.limiter.now _ (record nothing_told { wants = c.test_heap.ensures.0 }) (TestHeap) c.args.self.now c.args.frame.now _ c.replace-phase.new.dest (sym c.replace-phase.ensures.value ∙ c.in-TestHeap.is) c.replace-phase.ensures.after tt tt refl refl refl c.test_heap.ensures.1
 
-pub returns-in-Merge : goal.returns-in-Merge
-returns-in-Merge g c = quiet g.L.ResourceLimiter.leads c.args.limiter.now _ nothing_told (Merge) c.args.self.now c.args.frame.now _ c.replace.new.dest (sym c.replace.ensures.value ∙ c.in-Merge.is) c.replace.ensures.after tt tt refl refl c.merge.ensures
+pub returns-in-TakeHeap-clause-row : goal.returns-in-TakeHeap-clause-row
+returns-in-TakeHeap-clause-row g c = quiet g.L.ResourceLimiter.leads c.args.limiter.now _ nothing_told (TakeHeap c.in-TakeHeap.name) c.args.self.now c.args.frame.now _ c.replace-phase.new.dest (sym c.replace-phase.ensures.value ∙ c.in-TakeHeap.is) c.replace-phase.ensures.after tt tt refl refl refl c.take_heap.ensures
 
-pub returns-in-UncountInstance : goal.returns-in-UncountInstance
-returns-in-UncountInstance g c = quiet g.L.ResourceLimiter.leads c.args.limiter.now _ nothing_told (UncountInstance) c.args.self.now c.args.frame.now _ c.replace.new.dest (sym c.replace.ensures.value ∙ c.in-UncountInstance.is) c.replace.ensures.after tt tt refl refl c.uncount_instance.ensures
+pub returns-in-CountHeap-clause-row : goal.returns-in-CountHeap-clause-row
+returns-in-CountHeap-clause-row g c = quiet g.L.ResourceLimiter.leads c.args.limiter.now _ nothing_told (CountHeap c.in-CountHeap.lease) c.args.self.now c.args.frame.now _ c.replace-phase.new.dest (sym c.replace-phase.ensures.value ∙ c.in-CountHeap.is) c.replace-phase.ensures.after tt tt refl refl refl c.count_heap.ensures
 
-pub returns-in-MakeMemory : goal.returns-in-MakeMemory
-returns-in-MakeMemory g c = by_row (λ passed. Exchanged g.L.ResourceLimiter.leads passed c.args.limiter.now c.make_memory.new.limiter) _ _ (record nothing_told { limiter = c.make_memory.ensures.0 }) (MakeMemory c.in-MakeMemory.at c.in-MakeMemory.held) c.args.self.now c.args.frame.now _ c.replace.new.dest (sym c.replace.ensures.value ∙ c.in-MakeMemory.is) c.replace.ensures.after tt tt c.make_memory.ensures.1 c.make_memory.ensures.2 c.make_memory.ensures.3
+pub returns-in-PutNoHeap-clause-row : goal.returns-in-PutNoHeap-clause-row
+returns-in-PutNoHeap-clause-row g c = quiet g.L.ResourceLimiter.leads c.args.limiter.now _ nothing_told (PutNoHeap c.in-PutNoHeap.at) c.args.self.now c.args.frame.now _ c.replace-phase.new.dest (sym c.replace-phase.ensures.value ∙ c.in-PutNoHeap.is) c.replace-phase.ensures.after tt tt refl refl refl c.put_no_heap.ensures
 
-pub returns-in-MakeTable : goal.returns-in-MakeTable
-returns-in-MakeTable g c = by_row (λ passed. Exchanged g.L.ResourceLimiter.leads passed c.args.limiter.now c.make_table.new.limiter) _ _ (record nothing_told { limiter = c.make_table.ensures.0 }) (MakeTable c.in-MakeTable.at c.in-MakeTable.region) c.args.self.now c.args.frame.now _ c.replace.new.dest (sym c.replace.ensures.value ∙ c.in-MakeTable.is) c.replace.ensures.after tt tt c.make_table.ensures.1 c.make_table.ensures.2 c.make_table.ensures.3
+pub returns-in-MakeHeap-clause-row : goal.returns-in-MakeHeap-clause-row
+returns-in-MakeHeap-clause-row g c = by_row (λ passed. Exchanged g.L.ResourceLimiter.leads passed c.args.limiter.now c.args.limiter.now) _ _ (record nothing_told { heap = c.make_heap.ensures.0 }) (MakeHeap c.in-MakeHeap.at) c.args.self.now c.args.frame.now _ c.replace-phase.new.dest (sym c.replace-phase.ensures.value ∙ c.in-MakeHeap.is) c.replace-phase.ensures.after tt tt refl c.make_heap.ensures.1 refl c.make_heap.ensures.2
 
-pub returns-in-ValidateComponent : goal.returns-in-ValidateComponent
-returns-in-ValidateComponent g c = quiet g.L.ResourceLimiter.leads c.args.limiter.now _ nothing_told (ValidateComponent c.in-ValidateComponent.info) c.args.self.now c.args.frame.now _ c.replace.new.dest (sym c.replace.ensures.value ∙ c.in-ValidateComponent.is) c.replace.ensures.after tt tt refl refl c.test_component.ensures
-
-pub returns-in-CountComponent : goal.returns-in-CountComponent
-returns-in-CountComponent g c = quiet g.L.ResourceLimiter.leads c.args.limiter.now _ nothing_told (CountComponent) c.args.self.now c.args.frame.now _ c.replace.new.dest (sym c.replace.ensures.value ∙ c.in-CountComponent.is) c.replace.ensures.after tt tt refl refl c.count_component.ensures
-
-pub returns-in-UncountComponent : goal.returns-in-UncountComponent
-returns-in-UncountComponent g c = quiet g.L.ResourceLimiter.leads c.args.limiter.now _ nothing_told (UncountComponent) c.args.self.now c.args.frame.now _ c.replace.new.dest (sym c.replace.ensures.value ∙ c.in-UncountComponent.is) c.replace.ensures.after tt tt refl refl c.uncount_component.ensures
-
-pub returns-in-Purge : goal.returns-in-Purge
-returns-in-Purge g c = quiet g.L.ResourceLimiter.leads c.args.limiter.now _ c.purge.ensures.0 (Purge c.in-Purge.cursor c.in-Purge.step) c.args.self.now c.args.frame.now _ c.replace.new.dest (sym c.replace.ensures.value ∙ c.in-Purge.is) c.replace.ensures.after c.purge.ensures.1 c.purge.ensures.2 refl refl c.purge.ensures.3
-
-pub returns-in-Release : goal.returns-in-Release
-returns-in-Release g c = quiet g.L.ResourceLimiter.leads c.args.limiter.now _ c.release.ensures.0 (Release c.in-Release.step) c.args.self.now c.args.frame.now _ c.replace.new.dest (sym c.replace.ensures.value ∙ c.in-Release.is) c.replace.ensures.after c.release.ensures.1 c.release.ensures.2 refl refl c.release.ensures.3
+pub returns-in_default-clause-row : goal.returns-in_default-clause-row
+returns-in_default-clause-row g c = of_frame (λ passed. Exchanged g.L.ResourceLimiter.leads passed c.args.limiter.now c.advance_holding.new.limiter) _ _ c.args.self.now c.args.frame.now _ c.replace-phase.result c.replace-phase.ensures.value (c.advance_holding.ensures _)

@@ -1,4 +1,4 @@
-use Rattle.pool_alloc.proofs.Wholes.{whole_fits, slots_apart, call_has_slots}
+use Rattle.pool_alloc.proofs.Wholes.{whole_fits, slots_apart, held_not_warm, call_has_slots}
 use Rattle.pool_alloc.proofs.pool_core.PoolCore.holders_law.Goals as goal
 
 pub returns-clause-slots : goal.returns-clause-slots
@@ -9,3 +9,6 @@ returns-clause-fits g c = λ holders i d rest whole slots below is more. whole_f
 
 pub returns-clause-apart : goal.returns-clause-apart
 returns-clause-apart g c = λ maker holders i j k d core whole below also other. slots_apart maker c.args.self.now holders i j k d core whole below also other
+
+pub returns-clause-warm : goal.returns-clause-warm
+returns-clause-warm g c = λ maker holders k core whole some. held_not_warm maker c.args.self.now holders k core whole some

@@ -2,4 +2,4 @@ use Rattle.pool_alloc.proofs.Alone.{refused_same}
 use Rattle.pool_alloc.proofs.pool_core.PoolCore.refused_requests_change_no_count.Goals as goal
 
 pub returns : goal.returns
-returns g c maker m before a e can may steps refused = refused_same maker c.args.self.now c.args.frame.now m before a e can may steps refused
+returns g c maker asks before a e is can may steps refused = refused_same maker c.args.self.now c.args.frame.now asks before a e is can may steps refused

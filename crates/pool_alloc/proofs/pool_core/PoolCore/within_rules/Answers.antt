@@ -1,11 +1,13 @@
 use Rattle.std.proofs.Common.{◌≡◌, ℕ, ◌<◌, ◌≤◌, refl, sym, ap, subst, ◌∙◌, arith}
-use Rattle.std.specs.Prelude.{false}
+use Rattle.std.specs.Prelude.{false, Some}
+use Rattle.pool_alloc.specs.declared.frame.FrameLists.{FrameLists}
 use Rattle.pool_pages.specs.MakerTold.{MakerTold}
 use Rattle.pool_pages.specs.SettingsRules.{IsWithinRules}
 use Rattle.pool_slots.specs.PartsMade.{HaveGuards}
 use Rattle.pool_slots.specs.declared.part_maker.PartSettings.{PartSettings}
 use Rattle.pool_slots.specs.declared.striped_plan.StripedPlanSettings.{StripedPlanSettings}
 use Rattle.pool_alloc.specs.Made.{settings_of}
+use Rattle.pool_alloc.proofs.Advancing.{told_of_none}
 use Rattle.pool_alloc.proofs.MadeNumbers.{fails_in, fault_in, listed_as, raises_in, behind_in, plan_in, few_in, parts_in}
 use Rattle.pool_alloc.proofs.MadePools.{made_core, made_untouched}
 use Rattle.pool_alloc.proofs.Striping.{slab_kept}
@@ -23,13 +25,16 @@ make_parts-requires-clause-guards g c = subst (λ (z : StripedPlanSettings). Hav
     (λ some. subst (λ (s : PartSettings). s.stack_len.page ≤ s.stack_len.bytes) (sym c.part_settings-parts.ensures) (omega arith))
 
 pub returns-in-Err-clause-faults : goal.returns-in-Err-clause-faults
-returns-in-Err-clause-faults g c = raises_in c.args.page c.args.config.now c.args.tunables.now c.args.offered.now c.args.shards c.num_stripes-stripes.result c.plan_settings-numbers.result c.part_settings-parts.result c.num_stripes-stripes.ensures.value c.plan_settings-numbers.ensures c.part_settings-parts.ensures (g.M.PageMaker.told c.args.maker.now) c.requires.page (g.M.PageMaker.told c.args.maker.now).faults (g.M.PageMaker.told c.make_parts.new.maker).faults c.in-Err.refusal c.in-Err.ensures.faults
+returns-in-Err-clause-faults g c = raises_in c.args.page c.args.config.now c.args.tunables.now c.args.offered.now c.args.shards c.num_stripes-stripes.result c.plan_settings-numbers.result c.part_settings-parts.result c.num_stripes-stripes.ensures.value c.plan_settings-numbers.ensures c.part_settings-parts.ensures (g.M.PageMaker.told c.args.maker.now) c.requires.page g.P.Pages.told (g.M.PageMaker.told c.args.maker.now).faults (g.M.PageMaker.told c.make_parts.new.maker).faults c.in-Err.refusal c.in-Err.ensures.faults
 
 pub returns-in-Err-clause-behind : goal.returns-in-Err-clause-behind
-returns-in-Err-clause-behind g c = behind_in c.args.page c.args.config.now c.args.tunables.now c.args.offered.now c.args.shards c.num_stripes-stripes.result c.plan_settings-numbers.result c.part_settings-parts.result c.num_stripes-stripes.ensures.value c.plan_settings-numbers.ensures c.part_settings-parts.ensures (g.M.PageMaker.told c.args.maker.now) c.requires.page (g.M.PageMaker.told c.args.maker.now).listed (g.M.PageMaker.told c.args.maker.now).behind (g.M.PageMaker.told c.make_parts.new.maker).behind c.in-Err.refusal c.in-Err.ensures.behind
+returns-in-Err-clause-behind g c = behind_in c.args.page c.args.config.now c.args.tunables.now c.args.offered.now c.args.shards c.num_stripes-stripes.result c.plan_settings-numbers.result c.part_settings-parts.result c.num_stripes-stripes.ensures.value c.plan_settings-numbers.ensures c.part_settings-parts.ensures (g.M.PageMaker.told c.args.maker.now) c.requires.page g.P.Pages.told (g.M.PageMaker.told c.args.maker.now).listed (g.M.PageMaker.told c.args.maker.now).behind (g.M.PageMaker.told c.make_parts.new.maker).behind c.in-Err.refusal c.in-Err.ensures.behind
 
 pub returns-in-Err-clause-planned : goal.returns-in-Err-clause-planned
 returns-in-Err-clause-planned g c = fault_in c.args.page c.args.config.now c.args.tunables.now c.args.offered.now c.args.shards c.num_stripes-stripes.result c.plan_settings-numbers.result c.part_settings-parts.result c.num_stripes-stripes.ensures.value c.plan_settings-numbers.ensures c.part_settings-parts.ensures c.in-Err.refusal (g.M.PageMaker.told c.args.maker.now).plan c.in-Err.ensures.planned
+
+pub returns-in_default-frame_lists-clause-planned : goal.returns-in_default-frame_lists-clause-planned
+returns-in_default-frame_lists-clause-planned g c = told_of_none (g.M.PageMaker.told c.args.maker.now).plan
 
 pub returns-clause-listed : goal.returns-clause-listed
 returns-clause-listed g c = sym (listed_as c.args.page c.args.config.now c.args.tunables.now c.args.offered.now c.args.shards c.num_stripes-stripes.result c.plan_settings-numbers.result c.part_settings-parts.result c.num_stripes-stripes.ensures.value c.plan_settings-numbers.ensures c.part_settings-parts.ensures (g.M.PageMaker.told c.args.maker.now).listed) ∙ c.in-Ok-make_parts.ensures.listed
@@ -43,6 +48,7 @@ returns-clause-made g c = record {
   plan = plan_in c.args.page c.args.config.now c.args.tunables.now c.args.offered.now c.args.shards c.num_stripes-stripes.result c.plan_settings-numbers.result c.part_settings-parts.result c.num_stripes-stripes.ensures.value c.plan_settings-numbers.ensures c.part_settings-parts.ensures (g.M.PageMaker.told c.args.maker.now) c.requires.page c.in-Ok.plan c.in-Ok.ensures.plan;
   few = few_in c.args.page c.args.config.now c.args.tunables.now c.args.offered.now c.args.shards c.num_stripes-stripes.result c.plan_settings-numbers.result c.part_settings-parts.result c.num_stripes-stripes.ensures.value c.plan_settings-numbers.ensures c.part_settings-parts.ensures (g.M.PageMaker.told c.args.maker.now) c.requires.page c.in-Ok.ensures.bounded;
   parts = rw c.new.ensures (parts_in c.args.page c.args.config.now c.args.tunables.now c.args.offered.now c.args.shards c.num_stripes-stripes.result c.plan_settings-numbers.result c.part_settings-parts.result c.num_stripes-stripes.ensures.value c.plan_settings-numbers.ensures c.part_settings-parts.ensures (g.M.PageMaker.told c.args.maker.now) c.requires.page c.in-Ok.plan c.in-Ok-make_parts.list.items c.in-Ok-make_parts.ensures.made);
+  spare = ap (λ (x : FrameLists g.row.P.Denot). Some x) c.in-Ok-frame_lists.ensures;
   counters = refl;
 }
 
